@@ -1,0 +1,77 @@
+ghost use Rattle.std.specs.Prelude.{◌≡◌, ◌+◌, ◌<◌, ◌≤◌, ◌^◌, ◌↔◌, IsSome, IfSome};
+ghost use Rattle.kw_bits.specs.BitVector.{IsBitVector};
+ghost use Rattle.kw_bits.specs.Operators as op;
+
+use std::marker::Model;
+
+/// A bit vector: a width from 1 to 128 and a number below 2 to that width.
+#[derive(Clone, Copy, Debug, PartialEq, Eq)]
+pub struct Bits {
+    width: u32,
+    number: u128,
+}
+
+impl Model for Bits {
+    ghost use Rattle.kw_bits.specs.BitVector.{BitVector, IsBitVector};
+
+    ghost Value = { BitVector };
+
+    ghost view = { λ b. record { width = b.width; number = b.number } };
+
+    ghost invariant = { λ b. IsBitVector b.width b.number };
+
+    ghost inverse = { λ b. record { width = b.width; number = b.number } };
+}
+
+impl Bits {
+    /// The widest bit vector has this many bits.
+    pub const MAX_WIDTH: u32 = 128;
+
+    /// The bit vector of this width and number, if there is one.
+    pub fn new(width: u32, number: u128) -> Option<Bits>
+        ensures some { IsSome result ↔ IsBitVector width number }
+        ensures width { IfSome result (λ b. b.width ≡ width) }
+        ensures number { IfSome result (λ b. b.number ≡ number) }
+    {
+        if width == 0 || width > Bits::MAX_WIDTH || number > mask(width) {
+            return None;
+        }
+        Some(Bits { width, number })
+    }
+
+    /// How many bits there are.
+    pub fn width(self) -> u32
+        ensures width { result ≡ self.width }
+        ensures bits { IsBitVector self.width self.number }
+    {
+        self.width
+    }
+
+    /// The bits as a number, bit 0 the lowest.
+    pub fn number(self) -> u128
+        ensures number { result ≡ self.number }
+        ensures bits { IsBitVector self.width self.number }
+    {
+        self.number
+    }
+
+    /// The sum, modulo 2 to the width.
+    pub fn add(self, b: Bits) -> Bits
+        requires { self.width ≡ b.width }
+        ensures { result ≡ op.add self b }
+    {
+        Bits {
+            width: self.width,
+            number: self.number.wrapping_add(b.number) & mask(self.width),
+        }
+    }
+}
+
+// The number whose low bits, as many as the width, are 1.
+fn mask(width: u32) -> u128
+    requires some { 1 ≤ width }
+    requires most { width ≤ 128 }
+    ensures { result + 1 ≡ 2 ^ width }
+{
+    u128::MAX >> (128 - width)
+}

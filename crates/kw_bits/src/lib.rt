@@ -1,0 +1,14 @@
+//! Bit vectors of 1 to 128 bits, and what every crate shares: the want of memory and the list type.
+//!
+//! Contracts see a `Bits` as its width and its number, and cite the operators of `specs/Operators.antt`,
+//! which are those of SMT-LIB's theory of bit vectors and of BTOR2. They see a `Sequence` as the list
+//! of its items. Every other crate stands on this one.
+#![tactic(auto)]
+
+mod bit_vector;
+mod memory;
+mod sequence;
+
+pub use bit_vector::Bits;
+pub use memory::NoMemory;
+pub use sequence::{Sequence, Text};
