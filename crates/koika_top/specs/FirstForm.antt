@@ -1,0 +1,1 @@
+-- Which bytes spell which design in the first form of a source.

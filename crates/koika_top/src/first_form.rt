@@ -1,0 +1,1 @@
+//! The reader of the first form of a source.

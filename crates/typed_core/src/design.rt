@@ -1,0 +1,86 @@
+use crate::action::Action;
+use kw_bits::{Bits, Sequence, Text};
+use std::marker::Model;
+
+/// A register: its name, its width and its first value.
+#[derive(Debug, Drop)]
+pub struct RegDecl {
+    pub name: Text,
+    pub width: u32,
+    pub first: Bits,
+}
+
+/// An input: its name and its width.
+#[derive(Debug, Drop)]
+pub struct InputDecl {
+    pub name: Text,
+    pub width: u32,
+}
+
+/// A table from numbers below 2 to its input width to bit vectors of its output width.
+#[derive(Debug, Drop)]
+pub struct TableSpec {
+    pub in_width: u32,
+    pub out_width: u32,
+    pub entries: Sequence<Bits>,
+}
+
+/// A rule: its name and its body.
+#[derive(Debug, Drop)]
+pub struct Rule {
+    pub name: Text,
+    pub body: Action,
+}
+
+/// Where the scheduler goes on.
+#[derive(Clone, Copy, Debug, PartialEq, Eq)]
+pub enum Next {
+    /// At the node of this number.
+    Node(u32),
+    /// At the end of the cycle.
+    End,
+}
+
+/// A node of the scheduler: the rule that it tries, and where it goes on if the rule fires and if not.
+#[derive(Clone, Copy, Debug, PartialEq, Eq)]
+pub struct Node {
+    pub rule: u32,
+    pub yes: Next,
+    pub no: Next,
+}
+
+/// What a design is made of. Node 0 is the scheduler's root.
+#[derive(Debug, Drop)]
+pub struct Parts {
+    pub regs: Sequence<RegDecl>,
+    pub inputs: Sequence<InputDecl>,
+    pub tables: Sequence<TableSpec>,
+    pub rules: Sequence<Rule>,
+    pub nodes: Sequence<Node>,
+}
+
+/// A valid design, seen by contracts as its parts.
+#[derive(Debug, Drop)]
+pub struct Design {
+    pub regs: Sequence<RegDecl>,
+    pub inputs: Sequence<InputDecl>,
+    pub tables: Sequence<TableSpec>,
+    pub rules: Sequence<Rule>,
+    pub nodes: Sequence<Node>,
+}
+
+impl Model for Design {
+    ghost use Rattle.typed_core.specs.declared.design.Parts.{Parts};
+    ghost use Rattle.typed_core.specs.contracts.action.Action as action;
+    ghost use Rattle.std.specs.Coded.{codes};
+
+    ghost Value = { Parts };
+
+    ghost coded = { Prim.hlevel (codes, action.the_row.coded) };
+
+    ghost use Rattle.typed_core.specs.Valid.{IsValid};
+
+    ghost view = { λ d. record { regs = d.regs; inputs = d.inputs; tables = d.tables; rules = d.rules; nodes = d.nodes } };
+
+    ghost invariant = { λ d. IsValid (record { regs = d.regs; inputs = d.inputs; tables = d.tables; rules = d.rules; nodes = d.nodes }) };
+}

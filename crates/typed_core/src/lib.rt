@@ -1,0 +1,16 @@
+//! The core language: designs whose rules are actions on bit vectors.
+//!
+//! `specs/Alone.antt` says what a rule does when it runs alone, `specs/Clash.antt` which two accesses
+//! cannot share a cycle, `specs/Valid.antt` which designs are valid. A `Design` is valid by its type.
+//! The checker's lowering makes designs; every engine runs them.
+#![tactic(auto)]
+
+mod access;
+mod action;
+mod design;
+mod run_alone;
+
+pub use access::{Access, Event, Events};
+pub use action::{Action, TwoOp};
+pub use design::{Design, InputDecl, Next, Node, Parts, RegDecl, Rule, TableSpec};
+pub use run_alone::{Alone, Outcome};
