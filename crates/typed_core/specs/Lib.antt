@@ -1,3 +1,4 @@
 pub mod Clash
 pub mod Alone
 pub mod Valid
+pub mod Fits
