@@ -69,11 +69,11 @@ seen port register [] start = start
 seen port register (e ∷ events) start =
     seen port register events (if is_write_below port register e.access then e.value else start)
 
--- a read sees what it sees and is noted with that
-abbrev pub read : Surroundings → ℕ → ℕ → Part
-read s port register events =
+-- a read comes to the value that it sees, and is noted with it
+abbrev pub read : List BitVector → ℕ → ℕ → Part
+read regs port register events =
     let access : Access = record { write = false; port = port; register = register } in
-    let value = seen port register events (slice_index_or s.regs register unit) in
+    let value = seen port register events (slice_index_or regs register unit) in
     note (record { access = access; value = value }) value events
 
 -- some event refuses the access
@@ -94,7 +94,7 @@ two Add a b = op.add a b
 abbrev pub evaluate : Surroundings → Action → Part
 evaluate s (Const value) = give value
 evaluate s (Two' operator p a q b) = evaluate s a >>= λ x. evaluate s b >>= λ y. give (two operator x y)
-evaluate s (Read port register) = read s port register
+evaluate s (Read port register) = read s.regs port register
 evaluate s (Write' port register p a) = evaluate s a >>= λ value. write port register value
 
 -- a body that comes to a value reached its end
@@ -108,8 +108,11 @@ alone s body =
     let end = evaluate s body [] in
     record { events = end.events; outcome = outcome_of end.ending }
 
+-- the registers after an event: a register that is written has the value
+abbrev pub after_one : List BitVector → Event → List BitVector
+after_one regs e = if e.access.write then slice_set regs e.access.register e.value else regs
+
 -- the registers after the events: each that was written has the value of its last write
 abbrev pub after : List Event → List BitVector → List BitVector
 after [] regs = regs
-after (e ∷ events) regs =
-    after events (if e.access.write then slice_set regs e.access.register e.value else regs)
+after (e ∷ events) regs = after events (after_one regs e)

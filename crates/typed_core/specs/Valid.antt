@@ -45,6 +45,14 @@ HasWidth regs (Read port register) width = IsPort port × HasRegister regs regis
 HasWidth regs (Write' port register p a) width =
     IsPort port × (width ≡ 0) × ((held : ℕ) × HasRegister regs register held × HasWidth regs a held)
 
+-- the action is typed: it has a width, which is 0 for one that comes to no value
+abbrev pub IsTyped : List RegDecl → Action → Type 0
+IsTyped regs action = (width : ℕ) × HasWidth regs action width
+
+-- the action may be an operand: it comes to a value
+abbrev pub IsOperand : List RegDecl → Action → Type 0
+IsOperand regs action = (width : ℕ) × HasWidth regs action width × (1 ≤ width)
+
 -- a register's first value has its width
 abbrev pub IsRegister : RegDecl → Type 0
 IsRegister decl = HasBits decl.width decl.first

@@ -1,3 +1,6 @@
+ghost use Rattle.std.specs.Prelude.{◌≡◌};
+ghost use Rattle.typed_core.specs.Clash.{clashes};
+
 use kw_bits::{Bits, Sequence};
 
 /// A read or a write of a register at a port.
@@ -9,6 +12,20 @@ pub struct Access {
     pub port: u32,
     /// The register's number.
     pub register: u32,
+}
+
+impl Access {
+    /// Whether this access cannot follow an earlier one in a cycle.
+    pub fn clashes_after(&self, earlier: &Access) -> bool
+        ensures { result ≡ clashes self.now earlier.now }
+    {
+        self.register == earlier.register
+            && match (self.write, earlier.write) {
+                (false, false) => false,
+                (true, false) => self.port < earlier.port,
+                (false, true) | (true, true) => self.port <= earlier.port,
+            }
+    }
 }
 
 /// An access that a rule made, with the value that was read or written.
