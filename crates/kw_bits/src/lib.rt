@@ -7,6 +7,7 @@
 
 mod bit_vector;
 mod memory;
+mod operators;
 mod same;
 mod sequence;
 
