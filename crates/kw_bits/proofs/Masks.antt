@@ -1,7 +1,6 @@
 -- What a mask of low ones does to a number.
-use Rattle.std.proofs.Common.{◌≡◌, ℕ, ◌+◌, ◌-◌, ◌*◌, ◌/◌, ◌%◌, ◌^◌, ◌<◌, ◌≤◌, bit_and, arith, subst, sym, ap, ◌∙◌}
+use Rattle.std.proofs.Common.{◌≡◌, ℕ, ◌+◌, ◌-◌, ◌*◌, ◌/◌, ◌%◌, ◌^◌, ◌<◌, bit_and, arith, sym, ap, ◌∙◌}
 use Rattle.std.proofs.lemmas.Nat.{and_mask, pow-add, pow_pos, shr_high}
-use Rattle.std.proofs.Math.Pow.{mod-mod-pow}
 
 product_of_next : (m y : ℕ) → 0 < y → (m + 1) * y - 1 ≡ m * y + (y - 1)
 product_of_next m y h = omega arith
@@ -24,9 +23,3 @@ pub and_ones : (n w ones : ℕ) → ones + 1 ≡ 2 ^ w → bit_and n ones ≡ n 
 and_ones n w ones h =
     let e : ones ≡ 2 ^ w - 1 = omega arith in
     ap (bit_and n) e ∙ and_mask n w
-
--- the same of a number that a machine word has cut already
-pub and_ones_of_word : (n w ones : ℕ) → w ≤ 128 → ones + 1 ≡ 2 ^ w → bit_and (n % 2 ^ 128) ones ≡ n % 2 ^ w
-and_ones_of_word n w ones within h =
-    let e : 128 - w + w ≡ 128 = omega arith in
-    and_ones (n % 2 ^ 128) w ones h ∙ subst (λ (k : ℕ). n % 2 ^ k % 2 ^ w ≡ n % 2 ^ w) e (mod-mod-pow n (128 - w) w)

@@ -1,11 +1,10 @@
-ghost use Rattle.std.specs.Prelude.{◌≡◌, ◌+◌, ◌<◌, ◌≤◌, ◌^◌, ◌↔◌, IsSome, IfSome};
+ghost use Rattle.std.specs.Prelude.{◌≡◌, ◌+◌, ◌%◌, ◌<◌, ◌≤◌, ◌^◌, ◌↔◌, IsSome, IfSome};
 ghost use Rattle.kw_bits.specs.BitVector.{IsBitVector};
-ghost use Rattle.kw_bits.specs.Operators as op;
 
 use std::marker::Model;
 
 /// A bit vector: a width from 1 to 128 and a number below 2 to that width.
-#[derive(Clone, Copy, Debug, PartialEq, Eq)]
+#[derive(Clone, Copy, Debug, PartialEq, Eq, Hash)]
 pub struct Bits {
     width: u32,
     number: u128,
@@ -55,20 +54,29 @@ impl Bits {
         self.number
     }
 
-    /// The sum, modulo 2 to the width.
-    pub fn add(self, b: Bits) -> Bits
-        requires { self.width ≡ b.width }
-        ensures { result ≡ op.add self b }
+    /// The bit vector of this width and number.
+    pub(crate) fn from_parts(width: u32, number: u128) -> Bits
+        requires { IsBitVector width number }
+        ensures { result ≡ record { width = width; number = number } }
+    {
+        Bits { width, number }
+    }
+
+    /// The bit vector of a word's low bits, as many as the width.
+    pub(crate) fn low_bits(width: u32, word: u128) -> Bits
+        requires some { 1 ≤ width }
+        requires most { width ≤ 128 }
+        ensures { result ≡ record { width = width; number = word % 2 ^ width } }
     {
         Bits {
-            width: self.width,
-            number: self.number.wrapping_add(b.number) & mask(self.width),
+            width,
+            number: word & mask(width),
         }
     }
 }
 
-// The number whose low bits, as many as the width, are 1.
-fn mask(width: u32) -> u128
+/// The number whose low bits, as many as the width, are 1.
+pub(crate) fn mask(width: u32) -> u128
     requires some { 1 ≤ width }
     requires most { width ≤ 128 }
     ensures { result + 1 ≡ 2 ^ width }

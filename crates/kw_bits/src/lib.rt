@@ -7,8 +7,11 @@
 
 mod bit_vector;
 mod memory;
+mod operators;
+mod same;
 mod sequence;
 
 pub use bit_vector::Bits;
 pub use memory::NoMemory;
+pub use same::Same;
 pub use sequence::{Sequence, Text};

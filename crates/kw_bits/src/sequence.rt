@@ -1,6 +1,7 @@
 ghost use Rattle.std.specs.Prelude.{◌≡◌, ◌+◌, ◌<◌, ℕ, List, [], ◌∷◌, ◌++◌, length, slice_index_or, slice_set, IfOk, OnOk, OnErr, IsTrue, ◌↔◌};
 
 use crate::memory::NoMemory;
+use crate::same::Same;
 use std::alloc::Global;
 use std::marker::Model;
 
@@ -104,5 +105,38 @@ impl<T: Copy> Sequence<T> {
     {
         self.items.extend_from_slice(items)?;
         Ok(())
+    }
+}
+
+impl<T: PartialEq> PartialEq for Sequence<T> {
+    ghost use Rattle.std.specs.Cmp.Lexicographic.{pointwise, lists_per};
+
+    ghost eq = { pointwise T.eq };
+
+    ghost laws = { lists_per T.laws };
+
+    fn eq(&self, other: &Sequence<T>) -> bool {
+        self.items == other.items
+    }
+}
+
+impl<T: Eq> Eq for Sequence<T> {
+    ghost use Rattle.std.specs.Cmp.Lexicographic.{lists_equiv};
+
+    ghost laws = { lists_equiv T.Eq.laws };
+}
+
+impl<T: Same> Same for Sequence<T> {
+    ghost use Rattle.std.specs.Cmp.Lexicographic.{pointwise_decides};
+
+    ghost same = { pointwise_decides T.same };
+}
+
+impl<T: Same> Sequence<T> {
+    /// Whether two lists have the same items in the same order.
+    pub fn is_same(&self, other: &Sequence<T>) -> bool
+        ensures { IsTrue result ↔ (self.now ≡ other.now) }
+    {
+        self == other
     }
 }

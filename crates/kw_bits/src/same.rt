@@ -1,0 +1,20 @@
+ghost use Rattle.std.specs.Prelude.{◌≡◌, ◌↔◌, true};
+
+use crate::bit_vector::Bits;
+
+/// A type whose `==` answers whether two values are one and the same to contracts.
+pub trait Same: PartialEq {
+    ghost same: { (x y : Self) → (Self.eq x y ≡ true) ↔ (x ≡ y) };
+}
+
+impl Same for u8 {
+    ghost use Rattle.std.proofs.Common.{rules};
+
+    ghost same = { λ x y. Prim.search rules };
+}
+
+impl Same for Bits {
+    ghost use Rattle.std.proofs.Common.{rules};
+
+    ghost same = { λ x y. Prim.search rules };
+}
