@@ -5,14 +5,25 @@
 //! crate reads its whole input and writes its whole answer through `read_all` and `write_all`.
 #![tactic(auto)]
 
+mod calls;
 mod failed;
+mod mem_sink;
+mod mem_source;
 mod reading;
 mod sink;
 mod source;
+mod std_sink;
+mod std_source;
+#[cfg(test)]
+mod tests;
 mod writing;
 
 pub use failed::Failed;
+pub use mem_sink::MemSink;
+pub use mem_source::MemSource;
 pub use reading::{ReadAll, read_all};
 pub use sink::Sink;
 pub use source::Source;
+pub use std_sink::StdSink;
+pub use std_source::StdSource;
 pub use writing::{WriteFault, write_all};
