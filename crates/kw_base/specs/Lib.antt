@@ -1,0 +1,4 @@
+pub mod Fault
+pub mod FaultLine
+pub mod Names
+pub mod Place

@@ -1,0 +1,16 @@
+//! What every reader of a text shares: places and faults, the line that tells a fault, and numbered names.
+//!
+//! Contracts cite the place of a byte in `specs/Place.antt`, the fault line in `specs/FaultLine.antt` and
+//! the number of a name in `specs/Names.antt`. They see a `Names` as the list of its names in order of
+//! first sight. The readers of designs, stimuli and circuit texts call this crate.
+#![tactic(auto)]
+
+mod fault;
+mod names;
+mod place;
+#[cfg(test)]
+mod tests;
+
+pub use fault::{Fault, Refusal, fault_line};
+pub use names::{Added, Names};
+pub use place::{Place, place_of};
