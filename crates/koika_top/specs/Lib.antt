@@ -1,1 +1,2 @@
+pub mod FirstTokens
 pub mod FirstForm

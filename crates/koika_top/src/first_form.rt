@@ -1,1 +1,6 @@
 //! The reader of the first form of a source.
+
+mod class;
+mod form;
+mod number;
+mod token;

@@ -1,0 +1,98 @@
+-- The tokens of a source of the first form, and how a text is cut into them: at each place the longest token, as
+-- in C (ISO/IEC 9899, 6.4). Comments, other symbols and literals in base h or b are left out: no source of the form
+-- has them, and none of them begins or ends a token of one.
+use Rattle.std.specs.Prelude.{◌≡◌, ◌≢◌, ℕ, ◌+◌, ◌-◌, ◌*◌, ◌≤◌, Bool, false, ◌==◌, ◌||◌, IsTrue, List, [], ◌∷◌, ◌++◌, length, fold, codes}
+use Rattle.std.specs.List.{AllPass, list_any}
+use Rattle.std.specs.Char.{is_ascii_digit, is_ascii_alphabetic, is_ascii_alphanumeric}
+use Rattle.kw_bits.specs.BitVector.{BitVector, IsBitVector}
+use Rattle.koika_top.specs.declared.first_form.class.Class.{Class}
+use Rattle.koika_top.specs.declared.first_form.class.Class.TheVariants as class
+use Rattle.koika_top.specs.declared.first_form.token.Token.{Token}
+use Rattle.koika_top.specs.declared.first_form.token.Token.TheVariants.{Word, Number, Literal, Symbol}
+
+-- a space, a tab, a line feed or a carriage return
+abbrev pub is_blank : ℕ → Bool
+is_blank b = b == 32 || b == 9 || b == 10 || b == 13
+
+-- a letter or `_`, with which a word begins
+abbrev pub begins_word : ℕ → Bool
+begins_word b = is_ascii_alphabetic b || b == 95
+
+-- a letter, a digit or `_`, with which it goes on
+abbrev pub continues_word : ℕ → Bool
+continues_word b = is_ascii_alphanumeric b || b == 95
+
+-- the bytes of a class
+abbrev pub is_of : Class → ℕ → Bool
+is_of class.Blank b = is_blank b
+is_of class.Digit b = is_ascii_digit b
+is_of class.Word b = continues_word b
+
+-- the bytes don't go on with one that passes
+abbrev pub StopsAt : (ℕ → Bool) → List ℕ → Type 0
+StopsAt passes [] = Unit {0}
+StopsAt passes (b ∷ bs) = passes b ≡ false
+
+-- a symbol of the form
+abbrev pub is_symbol : ℕ → Bool
+is_symbol b = list_any (λ symbol. symbol == b) (codes "{}();:,=+")
+
+-- names and keywords are words
+abbrev pub IsWord : List ℕ → Type 0
+IsWord [] = ⊥
+IsWord (b ∷ bs) = IsTrue (begins_word b) × AllPass continues_word bs
+
+-- one or more decimal digits
+abbrev pub AreDigits : List ℕ → Type 0
+AreDigits [] = ⊥
+AreDigits (b ∷ bs) = AllPass is_ascii_digit (b ∷ bs)
+
+-- the number that decimal digits write; leading zeros are allowed
+abbrev pub value_of : List ℕ → ℕ
+value_of digits = fold (λ value digit. 10 * value + (digit - 48)) 0 digits
+
+-- a literal is its width, `'d` and its value
+pub record IsLiteral (bytes : List ℕ) (value : BitVector) : Type 0 where
+  pub width : List ℕ
+  pub number : List ℕ
+  pub parts : bytes ≡ width ++ codes "'d" ++ number
+  pub width_digits : AreDigits width
+  pub number_digits : AreDigits number
+  pub means : value ≡ record { width = value_of width; number = value_of number }
+
+-- the bytes are the token's text
+abbrev pub Spells : List ℕ → Token → Type 0
+Spells bytes (Word word) = (bytes ≡ word) × IsWord word
+Spells bytes (Number value) = AreDigits bytes × (value ≡ value_of bytes)
+Spells bytes (Literal value) = IsLiteral bytes value
+Spells bytes (Symbol byte) = (bytes ≡ byte ∷ []) × IsTrue (is_symbol byte)
+
+-- the bytes are some token's text, within its limits or not
+abbrev pub IsTokenText : List ℕ → Type 0
+IsTokenText bytes = (token : Token) × Spells bytes token
+
+-- a word has at most 64 bytes, a number fits 32 bits, and a literal is a bit vector
+abbrev pub IsWithinLimits : Token → Type 0
+IsWithinLimits (Word word) = length word ≤ 64
+IsWithinLimits (Number value) = value ≤ 4294967295
+IsWithinLimits (Literal value) = IsBitVector value.width value.number
+IsWithinLimits (Symbol byte) = Unit {0}
+
+-- no more of what follows the bytes makes a token's text with them
+abbrev pub IsLongest : List ℕ → List ℕ → Type 0
+IsLongest bytes rest = (more after : List ℕ) → rest ≡ more ++ after → more ≢ [] → ¬ IsTokenText (bytes ++ more)
+
+-- blanks, the longest token that stands behind them, and the rest
+pub record Begins (text : List ℕ) (token : Token) (rest : List ℕ) : Type 0 where
+  pub blanks : List ℕ
+  pub bytes : List ℕ
+  pub parts : text ≡ blanks ++ bytes ++ rest
+  pub blank : AllPass is_blank blanks
+  pub spelled : Spells bytes token
+  pub limits : IsWithinLimits token
+  pub longest : IsLongest bytes rest
+
+-- the text is these tokens in order, with blanks before each and behind the last
+abbrev pub IsCut : List ℕ → List Token → Type 0
+IsCut text [] = AllPass is_blank text
+IsCut text (token ∷ tokens) = (rest : List ℕ) × Begins text token rest × IsCut rest tokens
