@@ -1,2 +1,4 @@
 pub mod FirstTokens
 pub mod FirstForm
+pub mod Report
+pub mod Rows

@@ -5,3 +5,4 @@
 #![tactic(auto)]
 
 mod first_form;
+mod report;
