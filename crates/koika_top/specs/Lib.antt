@@ -1,4 +1,4 @@
 pub mod FirstTokens
 pub mod FirstForm
 pub mod Report
-pub mod Rows
+pub mod Words

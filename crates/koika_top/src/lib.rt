@@ -6,3 +6,5 @@
 
 mod first_form;
 mod report;
+mod simulate;
+mod words;

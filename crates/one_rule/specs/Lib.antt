@@ -1,3 +1,4 @@
 pub mod Cycle
 pub mod Run
 pub mod Evaluation
+pub mod Rows

@@ -2,6 +2,7 @@ ghost use Rattle.std.specs.Prelude.{◌≡◌, ◌<◌, ℕ, [], ◌∷◌, ◌+
 ghost use Rattle.std.specs.List.{list_any};
 ghost use Rattle.typed_core.specs.Alone.{after, after_one};
 ghost use Rattle.typed_core.specs.Fits.{FitsRegisters, EventsFit};
+ghost use Rattle.one_rule.specs.Rows.{RowFits};
 ghost use Rattle.one_rule.specs.Cycle.{clash_after, clash_with, cycle, events_clash, fires, flags, has_fired, is_at, pass, root, visit, walk_of};
 
 use crate::interpreter::alone;
@@ -20,7 +21,7 @@ pub fn slow_cycle(
 ) -> Result<Row, NoMemory>
     requires registers { FitsRegisters design.now.regs regs.now }
     ensures cycle { IfOk result (λ row. row ≡ cycle design.now inputs.now regs.now) }
-    ensures fits { IfOk result (λ row. FitsRegisters design.now.regs row.regs) }
+    ensures fits { IfOk result (λ row. RowFits design.now row) }
 {
     let walk = walk_of(alloc, design, inputs, regs)?;
     let fired = flags(alloc, design.rules.len(), &walk.past)?;
@@ -169,7 +170,8 @@ fn apply_one(event: &Event, regs: &mut Regs)
 
 #[tactic(auto, using(crate::proofs::Flags::map_range_more))]
 fn flags(alloc: Global, rules: usize, past: &Sequence<Fired>) -> Result<FiredSet, NoMemory>
-    ensures { IfOk result (λ fired. fired ≡ flags rules past.now) }
+    ensures flags { IfOk result (λ fired. fired ≡ flags rules past.now) }
+    ensures count { IfOk result (λ fired. length fired ≡ rules) }
 {
     let mut fired = FiredSet::new(alloc);
     for rule in 0..rules {

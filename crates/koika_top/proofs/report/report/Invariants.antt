@@ -1,6 +1,6 @@
 use Rattle.std.proofs.Common.{◌≡◌, ◌++◌, drop}
 use Rattle.koika_top.specs.Report.{lines_from, report}
-use Rattle.koika_top.specs.Rows.{RowsFit}
+use Rattle.one_rule.specs.Rows.{RowsFit}
 use Rattle.koika_top.proofs.report.report.Given as goal
 
 abbrev pub invariant-loop-cycle : goal.invariant-loop-cycle
