@@ -1,6 +1,7 @@
 ghost use Rattle.std.specs.Prelude.{◌≡◌, ◌↔◌, true};
 
 use crate::bit_vector::Bits;
+use crate::host::HostKind;
 
 /// A type whose `==` answers whether two values are one and the same to contracts.
 pub trait Same: PartialEq {
@@ -14,6 +15,18 @@ impl Same for u8 {
 }
 
 impl Same for Bits {
+    ghost use Rattle.std.proofs.Common.{rules};
+
+    ghost same = { λ x y. Prim.search rules };
+}
+
+impl Same for u32 {
+    ghost use Rattle.std.proofs.Common.{rules};
+
+    ghost same = { λ x y. Prim.search rules };
+}
+
+impl Same for HostKind {
     ghost use Rattle.std.proofs.Common.{rules};
 
     ghost same = { λ x y. Prim.search rules };
