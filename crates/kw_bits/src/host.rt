@@ -83,3 +83,55 @@ fn gray(x: Bits) -> Bits
 {
     Bits::from_parts(x.width(), x.number() ^ (x.number() >> 1))
 }
+
+#[cfg(test)]
+mod tests {
+    use super::HostKind;
+    use crate::Bits;
+    use std::process::Abort;
+
+    const KINDS: [HostKind; 5] = [
+        HostKind::Popcount,
+        HostKind::Parity,
+        HostKind::Reverse,
+        HostKind::LeadingZeros,
+        HostKind::Gray,
+    ];
+
+    // A width, a number and what the kinds answer, in the order of `KINDS`, after Python's integers.
+    #[rattlefmt::skip]
+    const ANSWERS: [(u32, u128, [u128; 5]); 11] = [
+        (1, 0, [0, 0, 0, 1, 0]),
+        (1, 1, [1, 1, 1, 0, 1]),
+        (2, 1, [1, 1, 2, 1, 1]),
+        (5, 6, [2, 0, 0xc, 2, 5]),
+        (7, 0x7f, [7, 1, 0x7f, 0, 0x40]),
+        (8, 0, [0, 0, 0, 8, 0]),
+        (8, 1, [1, 1, 0x80, 7, 1]),
+        (8, 3, [2, 0, 0xc0, 6, 2]),
+        (8, 7, [3, 1, 0xe0, 5, 4]),
+        (8, 0x96, [4, 0, 0x69, 0, 0xdd]),
+        (8, 0xff, [8, 0, 0xff, 0, 0x80]),
+    ];
+
+    fn check(rt: &impl Abort, width: u32, number: u128, want: [u128; 5]) {
+        assert!(rt; width <= HostKind::MAX_IN_WIDTH);
+        let x = Bits::new(width, number).expect(rt, "a bit vector");
+        for (kind, wanted) in KINDS.into_iter().zip(want) {
+            let got = kind.value(x);
+            assert_eq!(rt;
+                got.number(),
+                wanted,
+                "{kind:?} of {number} at width {width}"
+            );
+            assert_eq!(rt; got.width(), kind.out_width(width), "{kind:?}");
+        }
+    }
+
+    #[test]
+    fn kinds_answer(rt: HostRuntime) {
+        for (width, number, want) in ANSWERS {
+            check(&rt, width, number, want);
+        }
+    }
+}
