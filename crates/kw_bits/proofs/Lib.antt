@@ -1,3 +1,6 @@
+pub mod Counts
+pub mod OperatorLaws
 pub mod Masks
-pub mod Words
+pub mod Reversal
 pub mod Signs
+pub mod Words

@@ -55,6 +55,10 @@ or_within w a b p q = record { some_bit = p.some_bit; no_wider = p.no_wider; in_
 pub xor_within : (w a b : ℕ) → IsBitVector w a → IsBitVector w b → IsBitVector w (bit_xor a b)
 xor_within w a b p q = record { some_bit = p.some_bit; no_wider = p.no_wider; in_range = xor_lt w a b p.in_range q.in_range }
 
+-- and so does a smaller number
+pub lower_within : (w a b : ℕ) → IsBitVector w a → b ≤ a → IsBitVector w b
+lower_within w a b p h = record { some_bit = p.some_bit; no_wider = p.no_wider; in_range = omega arith }
+
 -- a number of a width is one of each greater width
 pub within_wider : (w v a : ℕ) → IsBitVector w a → w ≤ v → v ≤ 128 → IsBitVector v a
 within_wider w v a p h most =

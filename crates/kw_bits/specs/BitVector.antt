@@ -11,3 +11,7 @@ pub record IsBitVector (width number : ℕ) : Type 0 where
   pub some_bit : 1 ≤ width
   pub no_wider : width ≤ 128
   pub in_range : number < 2 ^ width
+
+-- the same of a record of both
+abbrev pub IsBits : BitVector → Type 0
+IsBits a = IsBitVector a.width a.number

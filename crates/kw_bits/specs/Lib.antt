@@ -1,2 +1,4 @@
 pub mod BitVector
+pub mod Host
+pub mod Laws
 pub mod Operators

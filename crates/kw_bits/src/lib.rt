@@ -6,12 +6,15 @@
 #![tactic(auto)]
 
 mod bit_vector;
+mod host;
+pub mod laws;
 mod memory;
 mod operators;
 mod same;
 mod sequence;
 
 pub use bit_vector::Bits;
+pub use host::HostKind;
 pub use memory::NoMemory;
 pub use same::Same;
 pub use sequence::{Sequence, Text};

@@ -257,3 +257,6 @@ impl Bits {
         }
     }
 }
+
+#[cfg(test)]
+mod tests;

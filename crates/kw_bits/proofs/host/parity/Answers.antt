@@ -1,0 +1,8 @@
+use Rattle.std.proofs.Common.{rules}
+use Rattle.kw_bits.specs.Host.{value, answer, out_width}
+use Rattle.kw_bits.specs.Operators.{redxor}
+use Rattle.kw_bits.proofs.host.parity.Goals as goal
+
+pub returns : goal.returns
+unfolding value answer out_width redxor
+returns c = search rules
