@@ -1,6 +1,7 @@
 -- What several reads took together, and several writes wrote.
 use Rattle.std.proofs.Common.{◌≡◌, ℕ, ◌+◌, ◌-◌, ◌<◌, ◌≤◌, List, [], ◌∷◌, ◌++◌, length, take, drop, None, Some, IfSome, OnSome, append_assoc, ◌↔◌, sym, ap, subst, ◌∙◌, append-nil, arith, length-append}
 use Rattle.std.proofs.Math.Seq.{take-add}
+use Rattle.std.proofs.lemmas.List.{take_rest}
 use Rattle.std.proofs.KnownBytes.{Appends-trans, Consumes-trans}
 use Rattle.std.specs.Io.KnownBytes.{Appends, Consumes, IsAtEnd}
 use Rattle.std.specs.declared.option.Option.{Option}
@@ -45,7 +46,9 @@ length_left (Some all) (Some rest) bytes limit taken long =
     let joined = ap length taken ∙ length-append bytes rest in
     omega arith
 
--- what is written behind the first bytes of a list, out of its rest, makes more of its first bytes
-pub Appends-next : (old mid new : Option (List ℕ)) (bytes : List ℕ) (n more : ℕ) → Appends old mid (take n bytes) → Appends mid new (take more (drop n bytes)) → Appends old new (take (n + more) bytes)
-Appends-next old mid new bytes n more first second =
-    subst (Appends old new) (sym (take-add n more bytes)) (Appends-trans old mid new (take n bytes) (take more (drop n bytes)) first second)
+-- what is written of the rest of a list, behind its first bytes, makes more of its first bytes
+pub appends_next : (old mid new : Option (List ℕ)) (bytes : List ℕ) (n more : ℕ) → Appends old mid (take n bytes) → Appends mid new (take more (take (length bytes - n) (drop n bytes))) → Appends old new (take (n + more) bytes)
+appends_next old mid new bytes n more first second =
+    let joined : take n bytes ++ take more (take (length bytes - n) (drop n bytes)) ≡ take (n + more) bytes =
+    ap (λ rest. take n bytes ++ take more rest) (take_rest bytes n) ∙ sym (take-add n more bytes) in
+    subst (Appends old new) joined (Appends-trans old mid new _ _ first second)

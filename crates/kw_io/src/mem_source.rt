@@ -1,6 +1,4 @@
-ghost use Rattle.std.specs.Prelude.{◌≡◌, ◌↔◌, ◌≤◌, ◌<◌, ◌++◌, Some, length, min, take, drop, IsErr, IfOk, IfSome, OnOk, OnErr, []};
-ghost use Rattle.std.specs.Io.KnownBytes.{Consumes, Keeps};
-ghost use Rattle.kw_io.specs.Faults.{Rose, one_more};
+ghost use Rattle.std.specs.Prelude.{◌≡◌, ◌↔◌, ◌≤◌, ◌<◌, ◌++◌, Some, length, min, take, drop, IsErr, IfOk, OnErr, []};
 ghost use Rattle.kw_io.specs.InMemory.{IsNextListed, after_failure, after_success};
 
 use crate::calls::Calls;

@@ -22,6 +22,7 @@ impl fmt::Display for WriteFault {
 impl Error for WriteFault {}
 
 /// Writes all bytes in order, in as many pieces as the sink wants, and takes no memory.
+#[tactic(auto, using(crate::proofs::Portions::appends_next))]
 pub fn write_all<K: Sink>(sink: &mut K, bytes: &[u8]) -> Result<(), WriteFault>
     ensures all { OnOk result (Appends (K.written sink.old) (K.written sink.new) bytes.now) }
     ensures some { IfErr result (λ fault.
