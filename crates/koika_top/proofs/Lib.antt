@@ -1,1 +1,6 @@
 pub mod Numbers
+pub mod Members
+pub mod Runs
+pub mod Fronts
+pub mod Longest
+pub mod Results

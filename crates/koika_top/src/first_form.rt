@@ -2,5 +2,6 @@
 
 mod class;
 mod form;
+mod keyword;
 mod number;
 mod token;
