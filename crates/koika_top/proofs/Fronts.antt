@@ -163,7 +163,7 @@ spelled_stops : (bytes rest : List ℕ) (token : Token) → Spells bytes token �
 spelled_stops [] rest token h = absurd (spelled_some token h)
 spelled_stops (b ∷ bs) rest token h = false_from_ne_true (is_blank b) (begins_no_blank token b (spelled_begins (b ∷ bs) token h))
 
-front_stops : (text : List ℕ) (token : Token) (rest : List ℕ) → IsFront text token rest → StopsAt is_blank text
+pub front_stops : (text : List ℕ) (token : Token) (rest : List ℕ) → IsFront text token rest → StopsAt is_blank text
 front_stops text token rest h = subst (λ (l : List ℕ). StopsAt is_blank l) (sym h.parts) (spelled_stops h.bytes rest token h.spelled)
 
 -- what a text begins with stands behind all its blanks

@@ -3,4 +3,5 @@ pub mod Members
 pub mod Runs
 pub mod Fronts
 pub mod Longest
+pub mod Cuts
 pub mod Results
