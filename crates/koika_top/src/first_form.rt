@@ -5,4 +5,5 @@ mod cut;
 mod form;
 mod keyword;
 mod number;
+mod shape;
 mod token;
