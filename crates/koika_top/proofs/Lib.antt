@@ -1,3 +1,9 @@
 pub mod Numbers
 pub mod Hex
 pub mod Simulation
+pub mod Members
+pub mod Runs
+pub mod Fronts
+pub mod Longest
+pub mod Cuts
+pub mod Results

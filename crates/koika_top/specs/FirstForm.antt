@@ -46,10 +46,13 @@ sum_tokens register left (Some right) = operand_tokens register left ++ symbols 
 abbrev pub register_tokens : List ℕ → ℕ → BitVector → List Token
 register_tokens name width first = keyword "reg" ++ Word name ∷ symbols ":" ++ keyword "bits" ++ Number width ∷ symbols "=" ++ Literal first ∷ symbols ";"
 
+-- write0 ( NAME , SUM )
+abbrev pub write_tokens : List ℕ → Operand → Option Operand → List Token
+write_tokens register left right = keyword "write0" ++ symbols "(" ++ Word register ∷ symbols "," ++ sum_tokens register left right ++ symbols ")"
+
 -- rule NAME { write0 ( NAME , SUM ) }
 abbrev pub rule_tokens : List ℕ → List ℕ → Operand → Option Operand → List Token
-rule_tokens name register left right =
-    keyword "rule" ++ Word name ∷ symbols "{" ++ keyword "write0" ++ symbols "(" ++ Word register ∷ symbols "," ++ sum_tokens register left right ++ symbols ")}"
+rule_tokens name register left right = keyword "rule" ++ Word name ∷ symbols "{" ++ write_tokens register left right ++ symbols "}"
 
 -- schedule { NAME ; }
 abbrev pub schedule_tokens : List ℕ → List Token

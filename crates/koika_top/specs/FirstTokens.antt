@@ -12,7 +12,7 @@ use Rattle.koika_top.specs.declared.first_form.token.Token.TheVariants.{Word, Nu
 
 -- a space, a tab, a line feed or a carriage return
 abbrev pub is_blank : ℕ → Bool
-is_blank b = b == 32 || b == 9 || b == 10 || b == 13
+is_blank b = list_any (λ blank. blank == b) (32 ∷ 9 ∷ 10 ∷ 13 ∷ [])
 
 -- a letter or `_`, with which a word begins
 abbrev pub begins_word : ℕ → Bool
@@ -82,15 +82,21 @@ IsWithinLimits (Symbol byte) = Unit {0}
 abbrev pub IsLongest : List ℕ → List ℕ → Type 0
 IsLongest bytes rest = (more after : List ℕ) → rest ≡ more ++ after → more ≢ [] → ¬ IsTokenText (bytes ++ more)
 
--- blanks, the longest token that stands behind them, and the rest
-pub record Begins (text : List ℕ) (token : Token) (rest : List ℕ) : Type 0 where
-  pub blanks : List ℕ
+-- the text begins with the token, within its limits and as long as it goes, and the rest follows
+pub record IsFront (text : List ℕ) (token : Token) (rest : List ℕ) : Type 0 where
   pub bytes : List ℕ
-  pub parts : text ≡ blanks ++ bytes ++ rest
-  pub blank : AllPass is_blank blanks
+  pub parts : text ≡ bytes ++ rest
   pub spelled : Spells bytes token
   pub limits : IsWithinLimits token
   pub longest : IsLongest bytes rest
+
+-- the same behind blanks
+pub record Begins (text : List ℕ) (token : Token) (rest : List ℕ) : Type 0 where
+  pub blanks : List ℕ
+  pub behind : List ℕ
+  pub parts : text ≡ blanks ++ behind
+  pub blank : AllPass is_blank blanks
+  pub front : IsFront behind token rest
 
 -- the text is these tokens in order, with blanks before each and behind the last
 abbrev pub IsCut : List ℕ → List Token → Type 0

@@ -25,6 +25,13 @@ impl Class {
         }
     }
 
+    /// Whether all bytes of a text are of the class.
+    pub(crate) fn fills(self, text: &[u8]) -> bool
+        ensures { IsTrue result ↔ AllPass (is_of self) text.now }
+    {
+        text.iter().all(|byte| self.has(*byte))
+    }
+
     /// The bytes of the class at the front of a text, as many as there are, and the rest.
     pub(crate) fn split(self, text: &[u8]) -> (&[u8], &[u8])
         ensures parts { text.now ≡ result.0.now ++ result.1.now }

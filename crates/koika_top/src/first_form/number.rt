@@ -15,6 +15,14 @@ pub(crate) fn number(digits: &[u8]) -> Option<u128>
     Some(value)
 }
 
+/// The same, if it is below 2^32.
+pub(crate) fn short_number(digits: &[u8]) -> Option<u32>
+    requires { AllPass is_ascii_digit digits.now }
+    ensures { SomeIff result (value_of digits.now < 2 ^ 32) (value_of digits.now) }
+{
+    u32::try_from(number(digits)?).ok()
+}
+
 // The number that one more digit makes, if it is below 2^128.
 fn with_digit(value: u128, digit: u8) -> Option<u128>
     requires { 48 ≤ digit }

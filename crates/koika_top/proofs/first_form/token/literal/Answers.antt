@@ -1,0 +1,9 @@
+use Rattle.std.proofs.Common.{arith}
+use Rattle.std.proofs.Math.Pow.{pow_mono}
+use Rattle.koika_top.specs.FirstTokens.{value_of}
+use Rattle.koika_top.proofs.first_form.token.literal.Goals as goal
+
+pub returns-in_err-number-clause-none : goal.returns-in_err-number-clause-none
+returns-in_err-number-clause-none c =
+    rw c.from_residual-in_err-number.ensures
+    (λ is. c.in_err-number.ensures (omega (arith, is.in_range, pow_mono is.no_wider)))
