@@ -2,3 +2,4 @@ pub mod FirstTokens
 pub mod FirstForm
 pub mod Report
 pub mod Words
+pub mod Answer

@@ -4,7 +4,13 @@
 //! read and what was written to it. The program's `main` calls `run`.
 #![tactic(auto)]
 
+mod answer;
 mod first_form;
 mod report;
+mod run;
 mod simulate;
+mod status;
 mod words;
+
+pub use answer::Answer;
+pub use status::Status;

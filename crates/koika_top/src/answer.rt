@@ -1,0 +1,102 @@
+ghost use Rattle.std.specs.Prelude.{◌≡◌, ◌≤◌, ◌<◌, ◌⊎◌, ◌||◌, ◌*◌, List, ℕ, IfOk, length, map, string_bytes, ◌≢◌};
+ghost use Rattle.std.specs.Io.KnownBytes.{Appends};
+ghost use Rattle.kw_io.specs.Faults.{Rose};
+ghost use Rattle.koika_top.specs.Answer.{AnswersSource, AppendsFront, is_too_long, longest_source, status_of, text_of, fault_of_source};
+
+use crate::first_form::read_design;
+use crate::report::report;
+use crate::simulate::simulate;
+use crate::status::Status;
+use kw_base::{Fault, fault_line};
+use kw_bits::{NoMemory, Text};
+use kw_io::{Sink, write_all};
+use std::alloc::Global;
+use typed_core::Design;
+
+/// A source may have this many bytes.
+pub(crate) const LONGEST_SOURCE: usize = 1_048_576;
+
+// A run may have this many cycles, and this many register values and rule flags.
+const MOST_CYCLES: u32 = 65_536;
+
+const MOST_VALUES: usize = 4_194_304;
+
+/// What the program answers to its words and its source.
+#[derive(Debug, Drop)]
+pub enum Answer {
+    /// The words aren't understood.
+    Usage,
+    /// The source is refused.
+    Refused(Fault),
+    /// This text.
+    Written(Text),
+}
+
+/// The answer to a source whose design is to run for these cycles.
+pub(crate) fn answer_source(alloc: Global, cycles: u32, source: &[u8]) -> Result<Answer, NoMemory>
+    requires { length source.now ≤ longest_source }
+    ensures { IfOk result (λ answer. AnswersSource cycles source.now answer) }
+{
+    let Some(design) = read_design(alloc, source)? else {
+        return Ok(Answer::Refused(fault_of_source(60)));
+    };
+    if is_too_long(cycles, &design) {
+        return Ok(Answer::Refused(fault_of_source(45)));
+    }
+    let rows = simulate(alloc, &design, cycles)?;
+    let text = report(alloc, &design, &rows)?;
+    Ok(Answer::Written(text))
+}
+
+/// The fault of this number that speaks of the whole source.
+pub(crate) fn fault_of_source(number: u32) -> Fault
+    ensures { result ≡ fault_of_source number }
+{
+    Fault {
+        number,
+        line: 0,
+        column: 0,
+    }
+}
+
+fn is_too_long(cycles: u32, design: &Design) -> bool
+    ensures { result ≡ is_too_long cycles design.now }
+{
+    cycles > MOST_CYCLES
+        || cycles as usize * design.regs.len() > MOST_VALUES
+        || cycles as usize * design.rules.len() > MOST_VALUES
+}
+
+/// Writes the text that tells an answer.
+pub(crate) fn write_answer<K: Sink>(alloc: Global, answer: &Answer, sink: &mut K) -> Status
+    ensures status { (result ≡ status_of answer.now) ⊎ ((result ≡ Status.WriteFault) ⊎ (result ≡ Status.NoMemory)) }
+    ensures all { result ≡ status_of answer.now → Appends (K.written sink.old) (K.written sink.new) (text_of answer.now) }
+    ensures front { AppendsFront (K.written sink.old) (K.written sink.new) (text_of answer.now) }
+    ensures cause { result ≡ Status.WriteFault → Rose (K.faults sink.old) (K.faults sink.new) }
+{
+    match answer {
+        Answer::Usage => write_text(
+            sink,
+            b"usage: koika check|print|sim|compile|btorsim|gen\n",
+            Status::Usage,
+        ),
+        Answer::Refused(fault) => match fault_line(alloc, *fault) {
+            Ok(line) => write_text(sink, line.as_slice(), Status::Refused),
+            Err(NoMemory) => Status::NoMemory,
+        },
+        Answer::Written(text) => write_text(sink, text.as_slice(), Status::Done),
+    }
+}
+
+// Writes a text; the status is this one unless a write fails.
+fn write_text<K: Sink>(sink: &mut K, text: &[u8], status: Status) -> Status
+    ensures status { (result ≡ status) ⊎ (result ≡ Status.WriteFault) }
+    ensures all { result ≢ Status.WriteFault → Appends (K.written sink.old) (K.written sink.new) text.now }
+    ensures front { AppendsFront (K.written sink.old) (K.written sink.new) text.now }
+    ensures cause { status ≢ Status.WriteFault → result ≡ Status.WriteFault → Rose (K.faults sink.old) (K.faults sink.new) }
+{
+    match write_all(sink, text) {
+        Ok(()) => status,
+        Err(_) => Status::WriteFault,
+    }
+}
