@@ -7,3 +7,5 @@ pub mod Fronts
 pub mod Longest
 pub mod Cuts
 pub mod Results
+pub mod Shapes
+pub mod Designs

@@ -1,4 +1,4 @@
-ghost use Rattle.std.specs.Prelude.{◌≡◌, ◌≢◌, ℕ, List, [], ◌∷◌, ◌++◌, Option, MatchOption};
+ghost use Rattle.std.specs.Prelude.{◌≡◌, ◌≢◌, ℕ, List, [], ◌∷◌, ◌++◌, Option, MatchOption, IsTrue, ◌↔◌};
 ghost use Rattle.kw_bits.specs.BitVector.{BitVector};
 ghost use Rattle.koika_top.specs.declared.first_form.token.Token.{Token};
 ghost use Rattle.koika_top.specs.declared.first_form.form.Operand.{Operand};
@@ -9,6 +9,7 @@ use crate::first_form::token::Token;
 use kw_bits::{Bits, Text};
 
 /// The places of `reg NAME : bits NUM = LIT ;`.
+#[derive(Debug, Drop)]
 pub(crate) struct RegisterPlaces<'a> {
     pub name: &'a Text,
     pub width: u32,
@@ -16,6 +17,7 @@ pub(crate) struct RegisterPlaces<'a> {
 }
 
 /// The places of `rule NAME { write0 ( NAME , SUM ) }` but for the register's.
+#[derive(Debug, Drop)]
 pub(crate) struct RulePlaces<'a> {
     pub name: &'a Text,
     pub left: Operand,
@@ -55,8 +57,15 @@ pub(crate) fn read_rule<'a>(tokens: &'a [Token], register: &[u8]) -> Option<(Rul
     Some((RulePlaces { name, left, right }, rest))
 }
 
-/// What follows the schedule of this rule, which stands first.
-pub(crate) fn after_schedule<'a>(tokens: &'a [Token], rule: &[u8]) -> Option<&'a [Token]>
+/// Whether the tokens are the schedule of this rule.
+pub(crate) fn is_schedule(tokens: &[Token], rule: &[u8]) -> bool
+    ensures { IsTrue result ↔ (tokens.now ≡ schedule_tokens rule.now) }
+{
+    after_schedule(tokens, rule).is_some_and(|rest| rest.is_empty())
+}
+
+// What follows the schedule of this rule, which stands first.
+fn after_schedule<'a>(tokens: &'a [Token], rule: &[u8]) -> Option<&'a [Token]>
     ensures { MatchOption result
         ((rest : List Token) → tokens.now ≢ schedule_tokens rule.now ++ rest)
         (λ rest. tokens.now ≡ schedule_tokens rule.now ++ rest.now) }
