@@ -1,12 +1,10 @@
 -- The design that a well formed form spells is valid.
-use Rattle.std.proofs.Common.{◌≡◌, ◌≢◌, ◌⊎◌, ℕ, zero, suc, ◌<◌, ◌≤◌, List, [], ◌∷◌, length, get_or, All, Option, Some, None, refl, sym, subst, inl, inr, arith}
+use Rattle.std.proofs.Common.{◌≡◌, ◌⊎◌, ℕ, zero, suc, List, [], ◌∷◌, All, Option, Some, None, refl, sym, subst, inl, inr, arith}
 use Rattle.std.specs.Prelude.{slice_get, AllPairs, IfSome}
-use Rattle.kw_bits.specs.BitVector.{BitVector}
-use Rattle.typed_core.specs.Valid.{IsWidth, HasBits, HasRegister, HasWidth, IsRegister, IsTable, IsNode, IsContinuation, Continues, IsPath, TryOthers, IsValid}
-use Rattle.typed_core.specs.declared.action.TwoOp.{TwoOp}
+use Rattle.typed_core.specs.Valid.{IsWidth, HasWidth, IsRegister, IsNode, Continues, IsPath, TryOthers, IsValid}
 use Rattle.typed_core.specs.declared.action.TwoOp.TheVariants.{Add}
 use Rattle.typed_core.specs.declared.action.Action.{Action}
-use Rattle.typed_core.specs.declared.action.Action.TheVariants.{Const, Two', Read, Write'}
+use Rattle.typed_core.specs.declared.action.Action.TheVariants.{Two', Write'}
 use Rattle.typed_core.specs.declared.design.RegDecl.{RegDecl}
 use Rattle.typed_core.specs.declared.design.Rule.{Rule}
 use Rattle.typed_core.specs.declared.design.Node.{Node}
@@ -41,12 +39,11 @@ sum_width f l (Some r) _ some left right is = absurd is
 
 body_width : (f : Form) (body : Action) → IsWellFormed f → IsBody f.left f.right body → HasWidth (declared f) body 0
 unfolding declared
-body_width f (Write' port register p a) well is =
-    (
-      omega (arith, is.0),
-      refl,
-      (f.width, (record { name = f.register; width = f.width; first = f.first }, rw is.1 refl, refl), sum_width f f.left f.right a well.width well.left well.right is.2)
-    )
+body_width f (Write' port register p a) well is = (
+  omega (arith, is.0),
+  refl,
+  (f.width, (record { name = f.register; width = f.width; first = f.first }, rw is.1 refl, refl), sum_width f f.left f.right a well.width well.left well.right is.2),
+)
 body_width f _ well is = absurd is
 
 single : List Node

@@ -1,14 +1,15 @@
 -- Tokens that fill in a place of the form fill it in one way.
-use Rattle.std.proofs.Common.{◌≡◌, ◌≢◌, ℕ, false, List, [], ◌∷◌, ◌++◌, Option, Some, None, refl, sym, ap, subst, ◌∙◌, append_assoc}
+use Rattle.std.proofs.Common.{◌≡◌, ℕ, false, List, ◌∷◌, ◌++◌, Option, Some, None, refl, sym, ap, subst, ◌∙◌, append_assoc, length, ◌≤◌, arith}
 use Rattle.std.specs.Prelude.{◌==◌}
 use Rattle.std.proofs.lemmas.Bool.{eqb-false}
+use Rattle.std.proofs.lemmas.List.{length-append}
 use Rattle.kw_bits.specs.BitVector.{BitVector}
 use Rattle.koika_top.specs.declared.first_form.token.Token.{Token}
-use Rattle.koika_top.specs.declared.first_form.token.Token.TheVariants.{Word, Number, Literal, Symbol}
+use Rattle.koika_top.specs.declared.first_form.token.Token.TheVariants.{Symbol}
 use Rattle.koika_top.specs.declared.first_form.form.Operand.{Operand}
 use Rattle.koika_top.specs.declared.first_form.form.Operand.TheVariants.{Constant, Register}
 use Rattle.koika_top.specs.declared.first_form.form.Form.{Form}
-use Rattle.koika_top.specs.FirstForm.{symbols, operand_tokens, sum_tokens, write_tokens, register_tokens, rule_tokens, schedule_tokens, tokens_of}
+use Rattle.koika_top.specs.FirstForm.{symbols, operand_tokens, sum_tokens, register_tokens, rule_tokens, schedule_tokens, tokens_of}
 
 two_symbols : (b c : ℕ) (x y : List Token) → (b == c) ≡ false → Symbol b ∷ x ≡ Symbol c ∷ y → ⊥
 two_symbols b c x y differ e = let same : b ≡ c = cc in eqb-false b c differ same
@@ -62,3 +63,31 @@ same_rule register n m l k r s x y e =
     let same = same_sum register l k r s (symbols "}" ++ x) (symbols "}" ++ y) sums in
     let last : symbols "}" ++ x ≡ symbols "}" ++ y = same.2 in
     (name, same.0, same.1, cc)
+
+-- tokens fill in one form
+pub same_form : (f g : Form) → tokens_of f ≡ tokens_of g → f ≡ g
+same_form f g e =
+    let whole : register_tokens f.register f.width f.first ++ (rule_tokens f.rule f.register f.left f.right ++ schedule_tokens f.rule)
+    ≡ register_tokens g.register g.width g.first ++ (rule_tokens g.rule g.register g.left g.right ++ schedule_tokens g.rule) = e in
+    let register : f.register ≡ g.register = cc in
+    let width : f.width ≡ g.width = cc in
+    let first : f.first ≡ g.first = cc in
+    let behind : rule_tokens f.rule f.register f.left f.right ++ schedule_tokens f.rule ≡ rule_tokens g.rule f.register g.left g.right ++ schedule_tokens g.rule =
+    behind_register (tokens_of f) f.register f.register f.width f.first _ g refl refl e in
+    let same = same_rule f.register f.rule g.rule f.left g.left f.right g.right _ _ behind in
+    λ i. record { register = register i; width = width i; first = first i; rule = same.0 i; left = same.1 i; right = same.2 i }
+
+few_operand_tokens : (register : List ℕ) (o : Operand) → length (operand_tokens register o) ≤ 4
+few_operand_tokens register (Constant value) = omega arith
+few_operand_tokens register Register = omega arith
+
+few_sum_tokens : (register : List ℕ) (l : Operand) (r : Option Operand) → length (sum_tokens register l r) ≤ 9
+few_sum_tokens register l None = omega (arith, few_operand_tokens register l)
+few_sum_tokens register l (Some r) =
+    omega (arith, few_operand_tokens register l, few_operand_tokens register r, length-append (operand_tokens register l ++ symbols "+") (operand_tokens register r), length-append (operand_tokens register l) (symbols "+"))
+
+-- a form has few tokens
+pub few_tokens : (f : Form) → length (tokens_of f) ≤ 31
+few_tokens f =
+    let sum = sum_tokens f.register f.left f.right in
+    omega (arith, few_sum_tokens f.register f.left f.right, length-append (sum ++ symbols ")" ++ symbols "}") (schedule_tokens f.rule), length-append (sum ++ symbols ")") (symbols "}"), length-append sum (symbols ")"))

@@ -42,7 +42,10 @@ pub(crate) fn read_register(tokens: &[Token]) -> Option<(RegisterPlaces<'_>, &[T
 }
 
 /// The rule that stands first and writes this register, and what follows.
-pub(crate) fn read_rule<'a>(tokens: &'a [Token], register: &[u8]) -> Option<(RulePlaces<'a>, &'a [Token])>
+pub(crate) fn read_rule<'a>(
+    tokens: &'a [Token],
+    register: &[u8],
+) -> Option<(RulePlaces<'a>, &'a [Token])>
     ensures { MatchOption result
         ((name : List ℕ) (left : Operand) (right : Option Operand) (rest : List Token) → tokens.now ≢ rule_tokens name register.now left right ++ rest)
         (λ x. tokens.now ≡ rule_tokens x.0.name.now register.now x.0.left x.0.right ++ x.1.now) }
@@ -78,7 +81,10 @@ fn after_schedule<'a>(tokens: &'a [Token], rule: &[u8]) -> Option<&'a [Token]>
 }
 
 // The operands of the write of a sum to this register that stands first, and what follows.
-fn read_write<'a>(tokens: &'a [Token], register: &[u8]) -> Option<(Operand, Option<Operand>, &'a [Token])>
+fn read_write<'a>(
+    tokens: &'a [Token],
+    register: &[u8],
+) -> Option<(Operand, Option<Operand>, &'a [Token])>
     ensures { MatchOption result
         ((left : Operand) (right : Option Operand) (rest : List Token) → tokens.now ≢ write_tokens register.now left right ++ rest)
         (λ x. tokens.now ≡ write_tokens register.now x.0 x.1 ++ x.2.now) }
@@ -90,7 +96,10 @@ fn read_write<'a>(tokens: &'a [Token], register: &[u8]) -> Option<(Operand, Opti
 }
 
 // The operands of the sum that stands first, and what follows its `)`.
-fn read_sum<'a>(tokens: &'a [Token], register: &[u8]) -> Option<(Operand, Option<Operand>, &'a [Token])>
+fn read_sum<'a>(
+    tokens: &'a [Token],
+    register: &[u8],
+) -> Option<(Operand, Option<Operand>, &'a [Token])>
     ensures { MatchOption result
         ((left : Operand) (right : Option Operand) (rest : List Token) → tokens.now ≢ sum_tokens register.now left right ++ symbols ")" ++ rest)
         (λ x. tokens.now ≡ sum_tokens register.now x.0 x.1 ++ symbols ")" ++ x.2.now) }
