@@ -66,3 +66,14 @@ pub too_many : (text : List ℕ) (tokens : List Token) (rest : List ℕ) (most :
 too_many text tokens rest most begun many all few cut =
     let out = begun.out all cut in
     absurd (omega (arith, length-append tokens out.0, ap length out.1))
+
+-- a text is cut in one way
+pub same_cut : (text : List ℕ) (ts us : List Token) → IsCut text ts → IsCut text us → ts ≡ us
+same_cut text [] [] h g = refl
+same_cut text [] (u ∷ us) h g = absurd (blanks_no_token text u g.0 h g.1)
+same_cut text (t ∷ ts) [] h g = absurd (blanks_no_token text t h.0 g h.1)
+same_cut text (t ∷ ts) (u ∷ us) h g =
+    let same = same_begins text t h.0 u g.0 h.1 g.1 in
+    let first : t ≡ u = same.0 in
+    let others : ts ≡ us = same_cut h.0 ts us h.2 (subst (λ (l : List ℕ). IsCut l us) (sym same.1) g.2) in
+    cc

@@ -1,16 +1,16 @@
 -- The texts of tokens: which byte they begin with, that they are one token's, and that the longest is the only one.
-use Rattle.std.proofs.Common.{◌≡◌, ◌≢◌, ◌⊎◌, ℕ, zero, suc, ◌<◌, ◌≤◌, Bool, true, false, ◌||◌, List, [], ◌∷◌, ◌++◌, length, get_or, codes, refl, sym, ap, subst, ◌∙◌, inl, inr, arith, append_assoc}
-use Rattle.std.specs.Prelude.{IsTrue, ◌==◌}
-use Rattle.std.specs.List.{AllPass, list_any}
-use Rattle.std.specs.Char.{is_ascii_digit, is_ascii_alphabetic, is_ascii_alphanumeric}
-use Rattle.std.proofs.lemmas.Bool.{both_ways, or_cases, false_from_ne_true}
+use Rattle.std.proofs.Common.{◌≡◌, ℕ, Bool, true, false, List, [], ◌∷◌, ◌++◌, length, get_or, codes, refl, sym, ap, subst, ◌∙◌, inl, inr, arith, append_assoc}
+use Rattle.std.specs.Prelude.{◌==◌}
+use Rattle.std.specs.List.{AllPass}
+use Rattle.std.specs.Char.{is_ascii_digit}
+use Rattle.std.proofs.lemmas.Bool.{both_ways, false_from_ne_true}
 use Rattle.std.proofs.lemmas.Bool.Decides.{nat_tests}
 use Rattle.std.proofs.lemmas.List.{append-nil}
-use Rattle.kw_bits.specs.BitVector.{BitVector, IsBitVector}
+use Rattle.kw_bits.specs.BitVector.{BitVector}
 use Rattle.koika_top.specs.declared.first_form.token.Token.{Token}
 use Rattle.koika_top.specs.declared.first_form.token.Token.TheVariants.{Word, Number, Literal, Symbol}
-use Rattle.koika_top.specs.FirstTokens.{is_blank, begins_word, continues_word, is_symbol, StopsAt, IsWord, AreDigits, value_of, IsLiteral, Spells, IsTokenText, IsWithinLimits, IsLongest, IsFront, Begins}
-use Rattle.koika_top.proofs.Runs.{AllPass-head, AllPass-tail, AllPass-back, same_run, fronts, fails_among}
+use Rattle.koika_top.specs.FirstTokens.{is_blank, begins_word, continues_word, is_symbol, StopsAt, IsWord, AreDigits, IsLiteral, Spells, IsWithinLimits, IsLongest, IsFront, Begins}
+use Rattle.koika_top.proofs.Runs.{AllPass-head, AllPass-back, same_run, fronts, fails_among}
 
 -- ---- what a token begins with
 
@@ -131,13 +131,13 @@ same_bytes : (a x b y : List ℕ) (t u : Token) → Spells a t → IsLongest a x
 same_bytes a x b y t u h hl g gl e =
     elim (fronts a x b y e) [
       | inl (m, longer, rest) ↦
-        let none = goes_no_further a x m y u hl rest (subst (λ (l : List ℕ). Spells l u) longer g) in
-        let same : a ≡ b = sym (append-nil a) ∙ sym (longer ∙ ap (λ (l : List ℕ). a ++ l) none) in
-        (same, rest ∙ ap (λ (l : List ℕ). l ++ y) none)
+          let none = goes_no_further a x m y u hl rest (subst (λ (l : List ℕ). Spells l u) longer g) in
+          let same : a ≡ b = sym (append-nil a) ∙ sym (longer ∙ ap (λ (l : List ℕ). a ++ l) none) in
+          (same, rest ∙ ap (λ (l : List ℕ). l ++ y) none)
       | inr (m, longer, rest) ↦
-        let none = goes_no_further b y m x t gl rest (subst (λ (l : List ℕ). Spells l t) longer h) in
-        let same : a ≡ b = longer ∙ ap (λ (l : List ℕ). b ++ l) none ∙ append-nil b in
-        (same, sym (rest ∙ ap (λ (l : List ℕ). l ++ x) none))
+          let none = goes_no_further b y m x t gl rest (subst (λ (l : List ℕ). Spells l t) longer h) in
+          let same : a ≡ b = longer ∙ ap (λ (l : List ℕ). b ++ l) none ∙ append-nil b in
+          (same, sym (rest ∙ ap (λ (l : List ℕ). l ++ x) none))
     ]
 
 -- what stands at the front of a text is the only token there

@@ -10,3 +10,5 @@ pub mod Results
 pub mod OneDesign
 pub mod OneAnswer
 pub mod Statuses
+pub mod Shapes
+pub mod Designs

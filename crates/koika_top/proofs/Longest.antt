@@ -1,14 +1,13 @@
 -- What a reader takes at the front of a text is as long as a token goes.
-use Rattle.std.proofs.Common.{◌≡◌, ◌≢◌, ℕ, zero, suc, ◌<◌, Bool, true, false, List, [], ◌∷◌, ◌++◌, length, get_or, codes, refl, sym, ap, subst, ◌∙◌, append_assoc}
-use Rattle.std.specs.Prelude.{IsTrue}
+use Rattle.std.proofs.Common.{◌≡◌, ◌≢◌, ℕ, Bool, true, false, List, [], ◌∷◌, ◌++◌, get_or, codes, refl, sym, ap, subst, ◌∙◌, append_assoc}
 use Rattle.std.specs.List.{AllPass}
 use Rattle.std.specs.Char.{is_ascii_digit}
 use Rattle.std.proofs.lemmas.Bool.{both_ways}
 use Rattle.koika_top.specs.declared.first_form.token.Token.{Token}
 use Rattle.koika_top.specs.declared.first_form.token.Token.TheVariants.{Word, Number, Literal, Symbol}
-use Rattle.koika_top.specs.FirstTokens.{begins_word, continues_word, is_symbol, StopsAt, IsWord, AreDigits, value_of, IsLiteral, Spells, IsTokenText, IsLongest}
+use Rattle.koika_top.specs.FirstTokens.{begins_word, continues_word, is_symbol, StopsAt, IsWord, AreDigits, value_of, IsLiteral, Spells, IsLongest}
 use Rattle.koika_top.proofs.Runs.{AllPass-head, AllPass-tail, AllPass-back, same_run}
-use Rattle.koika_top.proofs.Fronts.{begins, spelled_begins, digit_no_word, symbol_no_word, symbol_no_digit, begins_continues, AreDigits-all, number_no_literal, literal_parts}
+use Rattle.koika_top.proofs.Fronts.{spelled_begins, digit_no_word, symbol_no_word, symbol_no_digit, begins_continues, AreDigits-all, literal_parts}
 
 -- no token's text goes on with a byte of the rest
 GoesOn : List ℕ → List ℕ → Type 0
@@ -102,12 +101,11 @@ literal_whole text width rest number rest' e f = e ∙ ap (λ (l : List ℕ). wi
 -- a literal's width, `'d` and its value
 pub literal_front : (text width rest number rest' : List ℕ) → AreDigits width → AreDigits number → StopsAt is_ascii_digit rest' → text ≡ width ++ rest → rest ≡ codes "'d" ++ number ++ rest'
     → let bytes = width ++ codes "'d" ++ number in (text ≡ bytes ++ rest') × IsLiteral bytes (record { width = value_of width; number = value_of number }) × IsLongest bytes rest'
-literal_front text width rest number rest' h g stops e f =
-    (
-      literal_whole text width rest number rest' e f,
-      record { width = width; number = number; parts = refl; width_digits = h; number_digits = g; means = refl },
-      literal_longest width number rest' h stops
-    )
+literal_front text width rest number rest' h g stops e f = (
+  literal_whole text width rest number rest' e f,
+  record { width = width; number = number; parts = refl; width_digits = h; number_digits = g; means = refl },
+  literal_longest width number rest' h stops,
+)
 
 -- ---- a symbol
 

@@ -3,7 +3,7 @@
 use Rattle.std.specs.Prelude.{◌≡◌, ◌≢◌, ℕ, List, [], ◌∷◌, ◌++◌, map, codes, Contains, Option, Some, None, IfSome}
 use Prim.Native.String.{String}
 use Rattle.kw_bits.specs.BitVector.{BitVector}
-use Rattle.typed_core.specs.Valid.{IsWidth}
+use Rattle.typed_core.specs.Valid.{IsWidth, HasBits}
 use Rattle.typed_core.specs.declared.action.TwoOp.TheVariants.{Add}
 use Rattle.typed_core.specs.declared.action.Action.{Action}
 use Rattle.typed_core.specs.declared.action.Action.TheVariants.{Const, Two', Read, Write'}
@@ -62,10 +62,10 @@ schedule_tokens rule = keyword "schedule" ++ symbols "{" ++ Word rule ∷ symbol
 abbrev pub tokens_of : Form → List Token
 tokens_of f = register_tokens f.register f.width f.first ++ rule_tokens f.rule f.register f.left f.right ++ schedule_tokens f.rule
 
--- an operand has this width; the register does
-abbrev pub OperandHasWidth : ℕ → Operand → Type 0
-OperandHasWidth width (Constant value) = value.width ≡ width
-OperandHasWidth width Register = Unit {0}
+-- a literal operand has this width; the register has its own
+abbrev pub OperandHasBits : ℕ → Operand → Type 0
+OperandHasBits width (Constant value) = HasBits width value
+OperandHasBits width Register = Unit {0}
 
 -- the names are no keywords and differ, and all that is put in the register has its width
 pub record IsWellFormed (f : Form) : Type 0 where
@@ -73,9 +73,9 @@ pub record IsWellFormed (f : Form) : Type 0 where
   pub rule : ¬ IsKeyword f.rule
   pub differ : f.register ≢ f.rule
   pub width : IsWidth f.width
-  pub first : f.first.width ≡ f.width
-  pub left : OperandHasWidth f.width f.left
-  pub right : IfSome f.right (OperandHasWidth f.width)
+  pub first : HasBits f.width f.first
+  pub left : OperandHasBits f.width f.left
+  pub right : IfSome f.right (OperandHasBits f.width)
 
 -- the text fills in the form so
 pub record Fills (text : List ℕ) (f : Form) : Type 0 where

@@ -1,4 +1,4 @@
-ghost use Rattle.std.specs.Prelude.{◌≡◌, ◌≢◌, ℕ, List, [], ◌∷◌, ◌++◌, Option, MatchOption};
+ghost use Rattle.std.specs.Prelude.{◌≡◌, ◌≢◌, ℕ, List, [], ◌∷◌, ◌++◌, Option, MatchOption, IsTrue, ◌↔◌};
 ghost use Rattle.kw_bits.specs.BitVector.{BitVector};
 ghost use Rattle.koika_top.specs.declared.first_form.token.Token.{Token};
 ghost use Rattle.koika_top.specs.declared.first_form.form.Operand.{Operand};
@@ -9,6 +9,7 @@ use crate::first_form::token::Token;
 use kw_bits::{Bits, Text};
 
 /// The places of `reg NAME : bits NUM = LIT ;`.
+#[derive(Debug, Drop)]
 pub(crate) struct RegisterPlaces<'a> {
     pub name: &'a Text,
     pub width: u32,
@@ -16,6 +17,7 @@ pub(crate) struct RegisterPlaces<'a> {
 }
 
 /// The places of `rule NAME { write0 ( NAME , SUM ) }` but for the register's.
+#[derive(Debug, Drop)]
 pub(crate) struct RulePlaces<'a> {
     pub name: &'a Text,
     pub left: Operand,
@@ -40,7 +42,10 @@ pub(crate) fn read_register(tokens: &[Token]) -> Option<(RegisterPlaces<'_>, &[T
 }
 
 /// The rule that stands first and writes this register, and what follows.
-pub(crate) fn read_rule<'a>(tokens: &'a [Token], register: &[u8]) -> Option<(RulePlaces<'a>, &'a [Token])>
+pub(crate) fn read_rule<'a>(
+    tokens: &'a [Token],
+    register: &[u8],
+) -> Option<(RulePlaces<'a>, &'a [Token])>
     ensures { MatchOption result
         ((name : List ℕ) (left : Operand) (right : Option Operand) (rest : List Token) → tokens.now ≢ rule_tokens name register.now left right ++ rest)
         (λ x. tokens.now ≡ rule_tokens x.0.name.now register.now x.0.left x.0.right ++ x.1.now) }
@@ -55,8 +60,15 @@ pub(crate) fn read_rule<'a>(tokens: &'a [Token], register: &[u8]) -> Option<(Rul
     Some((RulePlaces { name, left, right }, rest))
 }
 
-/// What follows the schedule of this rule, which stands first.
-pub(crate) fn after_schedule<'a>(tokens: &'a [Token], rule: &[u8]) -> Option<&'a [Token]>
+/// Whether the tokens are the schedule of this rule.
+pub(crate) fn is_schedule(tokens: &[Token], rule: &[u8]) -> bool
+    ensures { IsTrue result ↔ (tokens.now ≡ schedule_tokens rule.now) }
+{
+    after_schedule(tokens, rule).is_some_and(|rest| rest.is_empty())
+}
+
+// What follows the schedule of this rule, which stands first.
+fn after_schedule<'a>(tokens: &'a [Token], rule: &[u8]) -> Option<&'a [Token]>
     ensures { MatchOption result
         ((rest : List Token) → tokens.now ≢ schedule_tokens rule.now ++ rest)
         (λ rest. tokens.now ≡ schedule_tokens rule.now ++ rest.now) }
@@ -69,7 +81,10 @@ pub(crate) fn after_schedule<'a>(tokens: &'a [Token], rule: &[u8]) -> Option<&'a
 }
 
 // The operands of the write of a sum to this register that stands first, and what follows.
-fn read_write<'a>(tokens: &'a [Token], register: &[u8]) -> Option<(Operand, Option<Operand>, &'a [Token])>
+fn read_write<'a>(
+    tokens: &'a [Token],
+    register: &[u8],
+) -> Option<(Operand, Option<Operand>, &'a [Token])>
     ensures { MatchOption result
         ((left : Operand) (right : Option Operand) (rest : List Token) → tokens.now ≢ write_tokens register.now left right ++ rest)
         (λ x. tokens.now ≡ write_tokens register.now x.0 x.1 ++ x.2.now) }
@@ -81,7 +96,10 @@ fn read_write<'a>(tokens: &'a [Token], register: &[u8]) -> Option<(Operand, Opti
 }
 
 // The operands of the sum that stands first, and what follows its `)`.
-fn read_sum<'a>(tokens: &'a [Token], register: &[u8]) -> Option<(Operand, Option<Operand>, &'a [Token])>
+fn read_sum<'a>(
+    tokens: &'a [Token],
+    register: &[u8],
+) -> Option<(Operand, Option<Operand>, &'a [Token])>
     ensures { MatchOption result
         ((left : Operand) (right : Option Operand) (rest : List Token) → tokens.now ≢ sum_tokens register.now left right ++ symbols ")" ++ rest)
         (λ x. tokens.now ≡ sum_tokens register.now x.0 x.1 ++ symbols ")" ++ x.2.now) }

@@ -21,10 +21,7 @@ pub(crate) enum Token {
 }
 
 /// The token that a text begins with behind blanks, and the rest.
-pub(crate) fn next_token(
-    alloc: Global,
-    text: &[u8],
-) -> Result<Option<(Token, &[u8])>, NoMemory>
+pub(crate) fn next_token(alloc: Global, text: &[u8]) -> Result<Option<(Token, &[u8])>, NoMemory>
     ensures found { IfOk result (λ next. IfSome next (λ x. Begins text.now x.0 x.1.now)) }
     ensures none { IfOk result (λ next. IfNone next ((token : Token) (rest : List ℕ) → Begins text.now token rest → ⊥)) }
 {

@@ -1,6 +1,6 @@
 use Rattle.std.proofs.Common.{arith}
 use Rattle.std.proofs.lemmas.List.{length_push}
-use Rattle.koika_top.proofs.Cuts.{begun_more, ends_found, ends_none, too_many}
+use Rattle.koika_top.proofs.Cuts.{begun_more, ends_found, ends_none}
 use Rattle.koika_top.proofs.first_form.cut.cut.Goals as goal
 
 pub returns-in-None-clause-found : goal.returns-in-None-clause-found

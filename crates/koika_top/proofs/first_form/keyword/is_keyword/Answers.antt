@@ -10,8 +10,7 @@ pub returns : goal.returns
 returns c =
     let word = c.args.word.now in
     let test = λ (keyword : List ℕ). bytes_eq keyword word in
-    let value : c.contains.result ≡ list_any test keywords = c.contains.ensures.value in
-    (
+    let value : c.contains.result ≡ list_any test keywords = c.contains.ensures.value in (
       λ yes. Contains-from_any test word (λ keyword same. (bytes_eq-Decides keyword word).0 same) keywords (sym value ∙ yes),
-      λ among. value ∙ any_at-Contains test word ((bytes_eq-Decides word word).1 refl) keywords among
+      λ among. value ∙ any_at-Contains test word ((bytes_eq-Decides word word).1 refl) keywords among,
     )

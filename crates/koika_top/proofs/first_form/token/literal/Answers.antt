@@ -1,6 +1,5 @@
 use Rattle.std.proofs.Common.{arith}
 use Rattle.std.proofs.Math.Pow.{pow_mono}
-use Rattle.koika_top.specs.FirstTokens.{value_of}
 use Rattle.koika_top.proofs.first_form.token.literal.Goals as goal
 
 pub returns-in_err-number-clause-none : goal.returns-in_err-number-clause-none

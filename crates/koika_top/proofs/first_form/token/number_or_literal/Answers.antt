@@ -1,4 +1,4 @@
-use Rattle.std.proofs.Common.{◌++◌, codes, ap, subst, sym, refl, arith}
+use Rattle.std.proofs.Common.{◌++◌, codes, subst, refl, arith}
 use Rattle.kw_bits.specs.BitVector.{BitVector, IsBitVector}
 use Rattle.koika_top.specs.FirstTokens.{value_of}
 use Rattle.koika_top.specs.declared.first_form.token.Token.TheVariants.{Number, Literal}
