@@ -1,8 +1,8 @@
-//! Bit vectors of 1 to 128 bits, and what every crate shares: the want of memory and the list type.
+//! Bit vectors of 1 to 128 bits, the host functions, and what every crate shares: the want of memory and the list type.
 //!
-//! Contracts see a `Bits` as its width and its number, and cite the operators of `specs/Operators.antt`,
-//! which are those of SMT-LIB's theory of bit vectors and of BTOR2. They see a `Sequence` as the list
-//! of its items. Every other crate stands on this one.
+//! Contracts see a `Bits` as its width and its number, and cite the operators of `specs/Operators.antt`, which are those
+//! of SMT-LIB's theory of bit vectors and of BTOR2, and the answers of `specs/Host.antt`. They see a `Sequence` as the
+//! list of its items. Proofs above cite the laws of `proofs/OperatorLaws.antt`. Every other crate stands on this one.
 #![tactic(auto)]
 
 mod bit_vector;

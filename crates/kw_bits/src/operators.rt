@@ -81,10 +81,11 @@ impl Bits {
         requires { self.width ≡ b.width }
         ensures { result ≡ op.sll self b }
     {
-        if b.number() >= self.width() as u128 {
-            return Bits::from_parts(self.width(), 0);
+        if b.number() < self.width() as u128 {
+            Bits::low_bits(self.width(), self.number() << b.number())
+        } else {
+            Bits::from_parts(self.width(), 0)
         }
-        Bits::low_bits(self.width(), self.number() << b.number())
     }
 
     /// Shifted down by b places, with zeros above. An amount of the width or more gives 0.
