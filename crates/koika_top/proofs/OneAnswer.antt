@@ -36,8 +36,8 @@ one_form f d e g h =
     record {
       alike = one_form_alike f d e g h;
       names = λ flags.
-        ap (λ rules. fired_names rules flags) g.rules ∙ names-same (record { name = f.rule; body = g.body }) (record { name = f.rule; body = h.body }) refl flags
-        ∙ sym (ap (λ rules. fired_names rules flags) h.rules);
+          ap (λ rules. fired_names rules flags) g.rules ∙ names-same (record { name = f.rule; body = g.body }) (record { name = f.rule; body = h.body }) refl flags
+          ∙ sym (ap (λ rules. fired_names rules flags) h.rules);
     }
 
 one_design : (source : List ℕ) (d e : Parts) → OneForm source → IsFirstForm source d → IsFirstForm source e → AreOne d e

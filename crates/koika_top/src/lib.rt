@@ -6,11 +6,12 @@
 
 mod answer;
 mod first_form;
+mod program;
 mod report;
-mod run;
 mod simulate;
 mod status;
 mod words;
 
 pub use answer::Answer;
+pub use program::run;
 pub use status::Status;

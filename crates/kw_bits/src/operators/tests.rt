@@ -1,4 +1,4 @@
-// The expected numbers are what Z3 4.8.12 answers for SMT-LIB's operators; Python's integers agree.
+// The expected numbers are what Z3 4.8.12 answers for SMT-LIB's operators; for one and two operands of one width Python's integers agree.
 ghost use Rattle.std.specs.Prelude.{◌≡◌};
 
 use crate::Bits;

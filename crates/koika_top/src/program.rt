@@ -72,7 +72,7 @@ enum Unanswered {
 
 impl From<NoMemory> for Unanswered {
     ghost use Rattle.std.specs.Prelude.{◌≡◌};
-    ghost use Rattle.koika_top.specs.declared.run.Unanswered.TheVariants as unanswered;
+    ghost use Rattle.koika_top.specs.declared.program.Unanswered.TheVariants as unanswered;
 
     ghost from_gives = { λ _ e. e ≡ unanswered.NoMemory };
 
