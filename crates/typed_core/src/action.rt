@@ -1,20 +1,70 @@
 use kw_bits::Bits;
 
+/// An operator with one operand.
+#[derive(Clone, Copy, Debug, PartialEq, Eq)]
+pub enum OneOp {
+    Not,
+    Neg,
+    RedAnd,
+    RedOr,
+    RedXor,
+}
+
 /// An operator with two operands.
 #[derive(Clone, Copy, Debug, PartialEq, Eq)]
 pub enum TwoOp {
+    And,
+    Or,
+    Xor,
     Add,
+    Sub,
+    Mul,
+    Sll,
+    Srl,
+    Sra,
+    EqBits,
+    Ult,
+    Ulte,
+    Slt,
+    Slte,
+    /// The left operand's bits stand above the right one's.
+    Concat,
 }
 
-/// What a rule does: an expression that may read and write registers.
+/// What a rule does: an expression over bit vectors that may read and write registers.
 ///
-/// A write's value is evaluated before the write, operands from left to right.
+/// Parts are evaluated from left to right, a write's value before the write.
 #[derive(Debug, Drop)]
 pub enum Action {
+    /// No value.
+    Unit,
     Const(Bits),
+    /// The value of the `Let` this many bodies further out, 0 for the innermost.
+    Local(u32),
+    /// The input of this number.
+    Input(u32),
+    One(OneOp, Box<Action>),
     Two(TwoOp, Box<Action>, Box<Action>),
+    /// The bits from the upper bound, which comes first, down to the lower, both included.
+    Slice(Box<Action>, u32, u32),
+    /// Zeros above, up to this width.
+    Zext(Box<Action>, u32),
+    /// The highest bit above, up to this width.
+    Sext(Box<Action>, u32),
+    /// The entry of the table of this number.
+    Table(u32, Box<Action>),
+    /// The answer of the host function of this number.
+    Host(u32, Box<Action>),
+    /// A value, and a body in which it is `Local(0)`.
+    Let(Box<Action>, Box<Action>),
+    /// A condition of one bit, the action where it is 1 and the action where it is 0.
+    If(Box<Action>, Box<Action>, Box<Action>),
+    /// One action after another; the value is the second's.
+    Seq(Box<Action>, Box<Action>),
     /// A port and a register.
     Read(u32, u32),
     /// A port, a register and the value.
     Write(u32, u32, Box<Action>),
+    /// Ends the rule without effect.
+    Abort,
 }

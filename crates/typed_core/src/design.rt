@@ -1,5 +1,5 @@
 use crate::action::Action;
-use kw_bits::{Bits, Sequence, Text};
+use kw_bits::{Bits, HostKind, Sequence, Text};
 use std::marker::Model;
 
 /// A register: its name, its width and its first value.
@@ -23,6 +23,13 @@ pub struct TableSpec {
     pub in_width: u32,
     pub out_width: u32,
     pub entries: Sequence<Bits>,
+}
+
+/// A host function: what it answers and how many bits its input has.
+#[derive(Clone, Copy, Debug, PartialEq, Eq)]
+pub struct HostSpec {
+    pub kind: HostKind,
+    pub in_width: u32,
 }
 
 /// A rule: its name and its body.
@@ -55,6 +62,7 @@ pub struct Parts {
     pub regs: Sequence<RegDecl>,
     pub inputs: Sequence<InputDecl>,
     pub tables: Sequence<TableSpec>,
+    pub hosts: Sequence<HostSpec>,
     pub rules: Sequence<Rule>,
     pub nodes: Sequence<Node>,
 }
@@ -65,6 +73,7 @@ pub struct Design {
     pub regs: Sequence<RegDecl>,
     pub inputs: Sequence<InputDecl>,
     pub tables: Sequence<TableSpec>,
+    pub hosts: Sequence<HostSpec>,
     pub rules: Sequence<Rule>,
     pub nodes: Sequence<Node>,
 }
@@ -80,7 +89,7 @@ impl Model for Design {
 
     ghost use Rattle.typed_core.specs.Valid.{IsValid};
 
-    ghost view = { λ d. record { regs = d.regs; inputs = d.inputs; tables = d.tables; rules = d.rules; nodes = d.nodes } };
+    ghost view = { λ d. record { regs = d.regs; inputs = d.inputs; tables = d.tables; hosts = d.hosts; rules = d.rules; nodes = d.nodes } };
 
-    ghost invariant = { λ d. IsValid (record { regs = d.regs; inputs = d.inputs; tables = d.tables; rules = d.rules; nodes = d.nodes }) };
+    ghost invariant = { λ d. IsValid (record { regs = d.regs; inputs = d.inputs; tables = d.tables; hosts = d.hosts; rules = d.rules; nodes = d.nodes }) };
 }

@@ -11,6 +11,6 @@ mod design;
 mod run_alone;
 
 pub use access::{Access, Event, Events};
-pub use action::{Action, TwoOp};
-pub use design::{Design, InputDecl, Next, Node, Parts, RegDecl, Rule, TableSpec};
+pub use action::{Action, OneOp, TwoOp};
+pub use design::{Design, HostSpec, InputDecl, Next, Node, Parts, RegDecl, Rule, TableSpec};
 pub use run_alone::{Alone, Outcome};
