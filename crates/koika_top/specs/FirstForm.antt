@@ -83,19 +83,19 @@ pub record Fills (text : List ℕ) (f : Form) : Type 0 where
   pub well_formed : IsWellFormed f
 
 -- the action is this operand, and this sum, of register 0
-abbrev pub IsOperand : Operand → Action → Type 0
-IsOperand (Constant value) action = action ≡ Const value
-IsOperand Register action = action ≡ Read 0 0
+abbrev pub IsOperandOf : Operand → Action → Type 0
+IsOperandOf (Constant value) action = action ≡ Const value
+IsOperandOf Register action = action ≡ Read 0 0
 
-abbrev pub IsSum : Operand → Option Operand → Action → Type 0
-IsSum left None action = IsOperand left action
-IsSum left (Some right) (Two' Add p a q b) = IsOperand left a × IsOperand right b
-IsSum left (Some right) action = ⊥
+abbrev pub IsSumOf : Operand → Option Operand → Action → Type 0
+IsSumOf left None action = IsOperandOf left action
+IsSumOf left (Some right) (Two' Add p a q b) = IsOperandOf left a × IsOperandOf right b
+IsSumOf left (Some right) action = ⊥
 
 -- the action writes this sum to register 0 at port 0
-abbrev pub IsBody : Operand → Option Operand → Action → Type 0
-IsBody left right (Write' port register p value) = (port ≡ 0) × (register ≡ 0) × IsSum left right value
-IsBody left right action = ⊥
+abbrev pub IsBodyOf : Operand → Option Operand → Action → Type 0
+IsBodyOf left right (Write' port register p value) = (port ≡ 0) × (register ≡ 0) × IsSumOf left right value
+IsBodyOf left right action = ⊥
 
 -- the design has the register, the rule and nothing else; the scheduler tries the rule
 pub record IsDesignOf (f : Form) (design : Parts) : Type 0 where
@@ -103,7 +103,7 @@ pub record IsDesignOf (f : Form) (design : Parts) : Type 0 where
   pub inputs : design.inputs ≡ []
   pub tables : design.tables ≡ []
   pub body : Action
-  pub writes : IsBody f.left f.right body
+  pub writes : IsBodyOf f.left f.right body
   pub rules : design.rules ≡ record { name = f.rule; body = body } ∷ []
   pub nodes : design.nodes ≡ record { rule = 0; yes = next.End; no = next.End } ∷ []
 

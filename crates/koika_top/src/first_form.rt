@@ -9,13 +9,13 @@ ghost use Rattle.koika_top.specs.FirstForm.{IsFirstForm};
 
 mod class;
 mod cut;
+mod decimal;
 mod form;
 mod keyword;
-mod number;
 mod shape;
 mod token;
 
-use crate::first_form::cut::cut;
+use crate::first_form::cut::cut_into_tokens;
 use crate::first_form::form::Form;
 use kw_bits::NoMemory;
 use std::alloc::Global;
@@ -26,7 +26,7 @@ pub(crate) fn read_design(alloc: Global, text: &[u8]) -> Result<Option<Design>, 
     ensures spelled { IfOk result (λ read. IfSome read (λ design. IsFirstForm text.now design)) }
     ensures refused { IfOk result (λ read. IfNone read ((design : Parts) → IsFirstForm text.now design → ⊥)) }
 {
-    let Some(tokens) = cut(alloc, text)? else {
+    let Some(tokens) = cut_into_tokens(alloc, text)? else {
         return Ok(None);
     };
     let Some(form) = Form::read(alloc, tokens.as_slice())? else {
