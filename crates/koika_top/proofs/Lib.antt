@@ -9,3 +9,5 @@ pub mod Cuts
 pub mod Results
 pub mod Shapes
 pub mod Designs
+pub mod Unique
+pub mod SameReports

@@ -1,7 +1,7 @@
 -- The tokens of a source of the first form, and how a text is cut into them: the longest token at each place, as C
 -- has it (ISO/IEC 9899, 6.4). The language's other tokens and its comments are left out. That changes no text's
 -- being of the form: where one of them begins, or is longer than a token here, the text isn't of the form.
-use Rattle.std.specs.Prelude.{◌≡◌, ◌≢◌, ℕ, ◌+◌, ◌-◌, ◌*◌, ◌≤◌, Bool, false, ◌==◌, ◌||◌, IsTrue, List, [], ◌∷◌, ◌++◌, length, fold, codes}
+use Rattle.std.specs.Prelude.{◌≡◌, ◌≢◌, ℕ, ◌≤◌, Bool, false, ◌==◌, ◌||◌, IsTrue, List, [], ◌∷◌, ◌++◌, length, codes}
 use Rattle.std.specs.List.{AllPass, list_any}
 use Rattle.std.specs.Char.{is_ascii_digit, is_ascii_alphabetic, is_ascii_alphanumeric}
 use Rattle.kw_bits.specs.BitVector.{BitVector, IsBitVector}

@@ -3,9 +3,9 @@
 //! `specs/FirstTokens.antt` says how a text is cut into tokens, `specs/FirstForm.antt` which texts are of the
 //! form and which design each spells. The run of the program reads its source with it.
 
-ghost use Rattle.std.specs.Prelude.{IfOk, IfSome, IfNone};
+ghost use Rattle.std.specs.Prelude.{ℕ, List, IfOk, IfSome, IfNone};
 ghost use Rattle.typed_core.specs.declared.design.Parts.{Parts};
-ghost use Rattle.koika_top.specs.FirstForm.{IsFirstForm};
+ghost use Rattle.koika_top.specs.FirstForm.{IsFirstForm, AreSame};
 
 mod class;
 mod cut;
@@ -37,3 +37,8 @@ pub(crate) fn read_design(alloc: Global, text: &[u8]) -> Result<Option<Design>, 
     }
     Ok(Some(form.design(alloc)?))
 }
+
+/// A text spells one design at most, up to where the parts of its rule lie in memory.
+pub fn spells_one_design()
+    ensures { (text : List ℕ) (d e : Parts) → IsFirstForm text d → IsFirstForm text e → AreSame d e }
+{}

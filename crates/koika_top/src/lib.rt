@@ -8,3 +8,5 @@ mod first_form;
 mod report;
 mod simulate;
 mod words;
+
+pub use first_form::spells_one_design;
