@@ -13,6 +13,8 @@ mod decimal;
 mod form;
 mod keyword;
 mod shape;
+#[cfg(test)]
+mod tests;
 mod token;
 
 use crate::first_form::cut::cut_into_tokens;
