@@ -12,3 +12,5 @@ pub mod OneAnswer
 pub mod Statuses
 pub mod Shapes
 pub mod Designs
+pub mod Unique
+pub mod SameReports
