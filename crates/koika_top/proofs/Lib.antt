@@ -7,7 +7,6 @@ pub mod Fronts
 pub mod Longest
 pub mod Cuts
 pub mod Results
-pub mod OneDesign
 pub mod OneAnswer
 pub mod Statuses
 pub mod Shapes
