@@ -13,7 +13,7 @@ use Rattle.typed_core.specs.declared.design.Parts.{Parts}
 use Rattle.koika_top.specs.declared.first_form.form.Operand.{Operand}
 use Rattle.koika_top.specs.declared.first_form.form.Operand.TheVariants.{Constant, Register}
 use Rattle.koika_top.specs.declared.first_form.form.Form.{Form}
-use Rattle.koika_top.specs.FirstForm.{OperandHasBits, IsWellFormed, IsOperand, IsSum, IsBody, IsDesignOf}
+use Rattle.koika_top.specs.FirstForm.{OperandHasBits, IsWellFormed, IsOperandOf, IsSumOf, IsBodyOf, IsDesignOf}
 
 -- what holds of the one item of a list holds of all
 one_holds : {X : Type 0} (P : X → Type 0) (x : X) → P x → All P (x ∷ [])
@@ -26,18 +26,18 @@ none_hold P k d lt = absurd (omega arith)
 declared : Form → List RegDecl
 declared f = record { name = f.register; width = f.width; first = f.first } ∷ []
 
-operand_width : (f : Form) (o : Operand) (a : Action) → OperandHasBits f.width o → IsOperand o a → HasWidth (declared f) a f.width
+operand_width : (f : Form) (o : Operand) (a : Action) → OperandHasBits f.width o → IsOperandOf o a → HasWidth (declared f) a f.width
 unfolding declared
 operand_width f (Constant value) a bits e = subst (λ (x : Action). HasWidth (declared f) x f.width) (sym e) bits
 operand_width f Register a bits e = subst (λ (x : Action). HasWidth (declared f) x f.width) (sym e) (omega arith, (record { name = f.register; width = f.width; first = f.first }, refl, refl))
 
-sum_width : (f : Form) (l : Operand) (r : Option Operand) (a : Action) → IsWidth f.width → OperandHasBits f.width l → IfSome r (OperandHasBits f.width) → IsSum l r a → HasWidth (declared f) a f.width
+sum_width : (f : Form) (l : Operand) (r : Option Operand) (a : Action) → IsWidth f.width → OperandHasBits f.width l → IfSome r (OperandHasBits f.width) → IsSumOf l r a → HasWidth (declared f) a f.width
 unfolding declared
 sum_width f l None a some left right is = operand_width f l a left is
 sum_width f l (Some r) (Two' Add p a q b) some left right is = (f.width, f.width, operand_width f l a left is.0, operand_width f r b right is.1, some.0, some.0, (refl, refl))
 sum_width f l (Some r) _ some left right is = absurd is
 
-body_width : (f : Form) (body : Action) → IsWellFormed f → IsBody f.left f.right body → HasWidth (declared f) body 0
+body_width : (f : Form) (body : Action) → IsWellFormed f → IsBodyOf f.left f.right body → HasWidth (declared f) body 0
 unfolding declared
 body_width f (Write' port register p a) well is = (
   omega (arith, is.0),
@@ -70,7 +70,7 @@ single_once (to ∷ path) h = absurd (goes_nowhere to h.0)
 spelled : Form → Action → Parts
 spelled f body = record { regs = declared f; inputs = []; tables = []; rules = record { name = f.rule; body = body } ∷ []; nodes = single }
 
-spelled_valid : (f : Form) (body : Action) → IsWellFormed f → IsBody f.left f.right body → IsValid (spelled f body)
+spelled_valid : (f : Form) (body : Action) → IsWellFormed f → IsBodyOf f.left f.right body → IsValid (spelled f body)
 unfolding spelled declared single
 spelled_valid f body well is = record {
   few_registers = omega arith;

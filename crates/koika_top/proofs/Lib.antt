@@ -7,8 +7,9 @@ pub mod Fronts
 pub mod Longest
 pub mod Cuts
 pub mod Results
-pub mod OneDesign
 pub mod OneAnswer
 pub mod Statuses
 pub mod Shapes
 pub mod Designs
+pub mod Unique
+pub mod SameReports

@@ -3,7 +3,7 @@ use Rattle.std.proofs.Common.{◌≡◌, ℕ, ◌+◌, ◌-◌, ◌*◌, ◌<◌
 use Rattle.std.specs.List.{fold}
 use Rattle.std.proofs.lemmas.List.{take-append-drop}
 use Rattle.std.proofs.lemmas.List.Sums.{fold-append, fold_more}
-use Rattle.koika_top.specs.FirstTokens.{value_of}
+use Rattle.koika_top.specs.Words.{value_of}
 
 abbrev step : ℕ → ℕ → ℕ
 step value digit = 10 * value + (digit - 48)

@@ -4,7 +4,7 @@ use Rattle.std.specs.Prelude.{IfSome}
 use Rattle.kw_io.specs.Portions.{TakesAll}
 use Rattle.std.specs.Io.KnownBytes.{IsAtEnd}
 use Rattle.koika_top.specs.Answer.{AppendsFront, IsAnswer, IsFailure, status_of, text_of}
-use Rattle.koika_top.proofs.OneAnswer.{OneForm, one_answer}
+use Rattle.koika_top.proofs.OneAnswer.{one_answer}
 use Rattle.koika_top.specs.declared.answer.Answer.{Answer}
 use Rattle.koika_top.specs.declared.status.Status.{Status}
 use Rattle.koika_top.specs.declared.status.Status.TheVariants as status
@@ -13,16 +13,16 @@ failed : (result : Status) → (result ≡ status.WriteFault) ⊎ (result ≡ st
 failed result h = inr h
 
 -- the status is that of every answer, unless something failed
-pub status_of_each : (left : Option (List ℕ)) (words : List (List ℕ)) (mine : Answer) (result : Status) → ((source : List ℕ) → OneForm source) → IfSome left (λ bytes. IsAnswer words bytes mine) → (result ≡ status_of mine) ⊎ ((result ≡ status.WriteFault) ⊎ (result ≡ status.NoMemory)) → IfSome left (λ bytes. (answer : Answer) → IsAnswer words bytes answer → (result ≡ status_of answer) ⊎ IsFailure result)
-status_of_each None words mine result one h s = tt
-status_of_each (Some bytes) words mine result one h (inl e) = λ answer k. inl (e ∙ (one_answer words bytes mine answer (one bytes) h k).status)
-status_of_each (Some bytes) words mine result one h (inr f) = λ answer k. inr (failed result f)
+pub status_of_each : (left : Option (List ℕ)) (words : List (List ℕ)) (mine : Answer) (result : Status) → IfSome left (λ bytes. IsAnswer words bytes mine) → (result ≡ status_of mine) ⊎ ((result ≡ status.WriteFault) ⊎ (result ≡ status.NoMemory)) → IfSome left (λ bytes. (answer : Answer) → IsAnswer words bytes answer → (result ≡ status_of answer) ⊎ IsFailure result)
+status_of_each None words mine result h s = tt
+status_of_each (Some bytes) words mine result h (inl e) = λ answer k. inl (e ∙ (one_answer words bytes mine answer h k).status)
+status_of_each (Some bytes) words mine result h (inr f) = λ answer k. inr (failed result f)
 
 -- what was written is a front of the text of every answer
-pub front_of_each : (left : Option (List ℕ)) (words : List (List ℕ)) (mine : Answer) (old new : Option (List ℕ)) → ((source : List ℕ) → OneForm source) → IfSome left (λ bytes. IsAnswer words bytes mine) → AppendsFront old new (text_of mine) → IfSome left (λ bytes. (answer : Answer) → IsAnswer words bytes answer → AppendsFront old new (text_of answer))
-front_of_each None words mine old new one h f = tt
-front_of_each (Some bytes) words mine old new one h f =
-    λ answer k. subst (λ (text : List ℕ). AppendsFront old new text) (one_answer words bytes mine answer (one bytes) h k).text f
+pub front_of_each : (left : Option (List ℕ)) (words : List (List ℕ)) (mine : Answer) (old new : Option (List ℕ)) → IfSome left (λ bytes. IsAnswer words bytes mine) → AppendsFront old new (text_of mine) → IfSome left (λ bytes. (answer : Answer) → IsAnswer words bytes answer → AppendsFront old new (text_of answer))
+front_of_each None words mine old new h f = tt
+front_of_each (Some bytes) words mine old new h f =
+    λ answer k. subst (λ (text : List ℕ). AppendsFront old new text) (one_answer words bytes mine answer h k).text f
 
 -- a source of which all was taken is at its end
 pub at_end : (old new : Option (List ℕ)) (bytes : List ℕ) → TakesAll old new bytes → IfSome old (λ _. IsAtEnd new)

@@ -1,6 +1,6 @@
 -- What the program answers to the words of its command line and to the bytes of its source, and the text of an
 -- answer. Later commands and refusals are further cases of these definitions.
-use Rattle.std.specs.Prelude.{◌≡◌, ℕ, ◌*◌, ◌<◌, ◌≤◌, ◌⊎◌, ◌||◌, nat_lt, Bool, false, true, List, [], ◌∷◌, ◌++◌, length, map, codes, MatchOption, Option, string_bytes}
+use Rattle.std.specs.Prelude.{◌≡◌, ℕ, ◌*◌, ◌<◌, ◌≤◌, ◌⊎◌, ◌||◌, nat_lt, Bool, false, true, List, [], ◌∷◌, ◌++◌, length, codes, MatchOption, Option}
 use Rattle.std.specs.Io.KnownBytes.{Appends}
 use Rattle.kw_base.specs.declared.fault.Fault.{Fault}
 use Rattle.kw_base.specs.FaultLine.{line_of_fault}

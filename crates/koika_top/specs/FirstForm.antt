@@ -3,11 +3,13 @@
 use Rattle.std.specs.Prelude.{◌≡◌, ◌≢◌, ℕ, List, [], ◌∷◌, ◌++◌, map, codes, Contains, Option, Some, None, IfSome}
 use Prim.Native.String.{String}
 use Rattle.kw_bits.specs.BitVector.{BitVector}
+use Rattle.typed_core.specs.Alone.{Surroundings, alone}
 use Rattle.typed_core.specs.Valid.{IsWidth, HasBits}
 use Rattle.typed_core.specs.declared.action.TwoOp.TheVariants.{Add}
 use Rattle.typed_core.specs.declared.action.Action.{Action}
 use Rattle.typed_core.specs.declared.action.Action.TheVariants.{Const, Two', Read, Write'}
 use Rattle.typed_core.specs.declared.design.Next.TheVariants as next
+use Rattle.typed_core.specs.declared.design.Rule.{Rule}
 use Rattle.typed_core.specs.declared.design.Parts.{Parts}
 use Rattle.koika_top.specs.declared.first_form.token.Token.{Token}
 use Rattle.koika_top.specs.declared.first_form.token.Token.TheVariants.{Word, Number, Literal, Symbol}
@@ -83,19 +85,19 @@ pub record Fills (text : List ℕ) (f : Form) : Type 0 where
   pub well_formed : IsWellFormed f
 
 -- the action is this operand, and this sum, of register 0
-abbrev pub IsOperand : Operand → Action → Type 0
-IsOperand (Constant value) action = action ≡ Const value
-IsOperand Register action = action ≡ Read 0 0
+abbrev pub IsOperandOf : Operand → Action → Type 0
+IsOperandOf (Constant value) action = action ≡ Const value
+IsOperandOf Register action = action ≡ Read 0 0
 
-abbrev pub IsSum : Operand → Option Operand → Action → Type 0
-IsSum left None action = IsOperand left action
-IsSum left (Some right) (Two' Add p a q b) = IsOperand left a × IsOperand right b
-IsSum left (Some right) action = ⊥
+abbrev pub IsSumOf : Operand → Option Operand → Action → Type 0
+IsSumOf left None action = IsOperandOf left action
+IsSumOf left (Some right) (Two' Add p a q b) = IsOperandOf left a × IsOperandOf right b
+IsSumOf left (Some right) action = ⊥
 
 -- the action writes this sum to register 0 at port 0
-abbrev pub IsBody : Operand → Option Operand → Action → Type 0
-IsBody left right (Write' port register p value) = (port ≡ 0) × (register ≡ 0) × IsSum left right value
-IsBody left right action = ⊥
+abbrev pub IsBodyOf : Operand → Option Operand → Action → Type 0
+IsBodyOf left right (Write' port register p value) = (port ≡ 0) × (register ≡ 0) × IsSumOf left right value
+IsBodyOf left right action = ⊥
 
 -- the design has the register, the rule and nothing else; the scheduler tries the rule
 pub record IsDesignOf (f : Form) (design : Parts) : Type 0 where
@@ -103,10 +105,19 @@ pub record IsDesignOf (f : Form) (design : Parts) : Type 0 where
   pub inputs : design.inputs ≡ []
   pub tables : design.tables ≡ []
   pub body : Action
-  pub writes : IsBody f.left f.right body
+  pub writes : IsBodyOf f.left f.right body
   pub rules : design.rules ≡ record { name = f.rule; body = body } ∷ []
   pub nodes : design.nodes ≡ record { rule = 0; yes = next.End; no = next.End } ∷ []
 
 -- the text is of the first form and spells this design
 abbrev pub IsFirstForm : List ℕ → Parts → Type 0
 IsFirstForm text design = (f : Form) × Fills text f × IsDesignOf f design
+
+-- the designs differ in nothing but where the bodies of their rules lie in memory, so each body does the same alone
+pub record AreSame (d e : Parts) : Type 0 where
+  pub regs : d.regs ≡ e.regs
+  pub inputs : d.inputs ≡ e.inputs
+  pub tables : d.tables ≡ e.tables
+  pub names : map (λ (rule : Rule). rule.name) d.rules ≡ map (λ (rule : Rule). rule.name) e.rules
+  pub bodies : (s : Surroundings) → map (λ (rule : Rule). alone s rule.body) d.rules ≡ map (λ (rule : Rule). alone s rule.body) e.rules
+  pub nodes : d.nodes ≡ e.nodes

@@ -1,10 +1,11 @@
--- The tokens of a source of the first form, and how a text is cut into them: at each place the longest token, as
--- in C (ISO/IEC 9899, 6.4). Comments, other symbols and literals in base h or b are left out: no source of the form
--- has them, and none of them begins or ends a token of one.
-use Rattle.std.specs.Prelude.{◌≡◌, ◌≢◌, ℕ, ◌+◌, ◌-◌, ◌*◌, ◌≤◌, Bool, false, ◌==◌, ◌||◌, IsTrue, List, [], ◌∷◌, ◌++◌, length, fold, codes}
+-- The tokens of a source of the first form, and how a text is cut into them: the longest token at each place, as C
+-- has it (ISO/IEC 9899, 6.4). The language's other tokens and its comments are left out. That changes no text's
+-- being of the form: where one of them begins, or is longer than a token here, the text isn't of the form.
+use Rattle.std.specs.Prelude.{◌≡◌, ◌≢◌, ℕ, ◌≤◌, Bool, false, ◌==◌, ◌||◌, IsTrue, List, [], ◌∷◌, ◌++◌, length, codes}
 use Rattle.std.specs.List.{AllPass, list_any}
 use Rattle.std.specs.Char.{is_ascii_digit, is_ascii_alphabetic, is_ascii_alphanumeric}
 use Rattle.kw_bits.specs.BitVector.{BitVector, IsBitVector}
+use Rattle.koika_top.specs.Words.{value_of}
 use Rattle.koika_top.specs.declared.first_form.class.Class.{Class}
 use Rattle.koika_top.specs.declared.first_form.class.Class.TheVariants as class
 use Rattle.koika_top.specs.declared.first_form.token.Token.{Token}
@@ -46,10 +47,6 @@ IsWord (b ∷ bs) = IsTrue (begins_word b) × AllPass continues_word bs
 abbrev pub AreDigits : List ℕ → Type 0
 AreDigits [] = ⊥
 AreDigits (b ∷ bs) = AllPass is_ascii_digit (b ∷ bs)
-
--- the number that decimal digits write; leading zeros are allowed
-abbrev pub value_of : List ℕ → ℕ
-value_of digits = fold (λ value digit. 10 * value + (digit - 48)) 0 digits
 
 -- a literal is its width, `'d` and its value
 pub record IsLiteral (bytes : List ℕ) (value : BitVector) : Type 0 where

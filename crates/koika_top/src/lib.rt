@@ -13,5 +13,6 @@ mod status;
 mod words;
 
 pub use answer::Answer;
+pub use first_form::spells_one_design;
 pub use program::run;
 pub use status::Status;

@@ -12,7 +12,10 @@ use std::alloc::Global;
 pub(crate) const MOST_TOKENS: usize = 31;
 
 /// The tokens that a text is cut into, if it is and they aren't more than a source of the form has.
-pub(crate) fn cut(alloc: Global, text: &[u8]) -> Result<Option<Sequence<Token>>, NoMemory>
+pub(crate) fn cut_into_tokens(
+    alloc: Global,
+    text: &[u8],
+) -> Result<Option<Sequence<Token>>, NoMemory>
     ensures found { IfOk result (λ cut. IfSome cut (IsCut text.now)) }
     ensures none { IfOk result (λ cut. IfNone cut ((tokens : List Token) → length tokens ≤ MOST_TOKENS → ¬ IsCut text.now tokens)) }
 {

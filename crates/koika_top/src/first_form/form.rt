@@ -27,7 +27,7 @@ pub(crate) struct Form {
 }
 
 impl Operand {
-    ghost use Rattle.koika_top.specs.FirstForm.{OperandHasBits, IsOperand};
+    ghost use Rattle.koika_top.specs.FirstForm.{OperandHasBits, IsOperandOf};
 
     // Whether it fits a register of this width.
     fn has_width(self, width: u32) -> bool
@@ -41,7 +41,7 @@ impl Operand {
 
     // The action that it is.
     fn action(self) -> Action
-        ensures { IsOperand self result }
+        ensures { IsOperandOf self result }
     {
         match self {
             Operand::Constant(value) => Action::Const(value),
@@ -53,7 +53,7 @@ impl Operand {
 impl Form {
     ghost use Rattle.typed_core.specs.Valid.{HasBits};
     ghost use Rattle.koika_top.specs.declared.first_form.form.Form.{Form};
-    ghost use Rattle.koika_top.specs.FirstForm.{tokens_of, IsKeyword, OperandHasBits, IsWellFormed, IsSum, IsBody, IsDesignOf};
+    ghost use Rattle.koika_top.specs.FirstForm.{tokens_of, IsKeyword, OperandHasBits, IsWellFormed, IsSumOf, IsBodyOf, IsDesignOf};
 
     /// The form that all these tokens fill in.
     pub(crate) fn read(alloc: Global, tokens: &[Token]) -> Result<Option<Form>, NoMemory>
@@ -107,7 +107,7 @@ impl Form {
 
     // The action that the rule's sum is.
     fn sum(&self, alloc: Global) -> Result<Action, NoMemory>
-        ensures { IfOk result (IsSum self.now.left self.now.right) }
+        ensures { IfOk result (IsSumOf self.now.left self.now.right) }
     {
         let left = self.left.action();
         match self.right {

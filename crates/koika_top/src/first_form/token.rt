@@ -2,11 +2,12 @@ ghost use Rattle.std.specs.Prelude.{◌≡◌, ◌≢◌, ◌++◌, List, ℕ, I
 ghost use Rattle.std.specs.List.{AllPass};
 ghost use Rattle.std.specs.Char.{is_ascii_digit};
 ghost use Rattle.kw_bits.specs.BitVector.{IsBitVector};
-ghost use Rattle.koika_top.specs.FirstTokens.{AreDigits, StopsAt, IsFront, Begins, value_of, begins_word};
+ghost use Rattle.koika_top.specs.FirstTokens.{AreDigits, StopsAt, IsFront, Begins, begins_word};
+ghost use Rattle.koika_top.specs.Words.{value_of};
 ghost use Rattle.koika_top.specs.declared.first_form.token.Token.{Token};
 
 use crate::first_form::class::{Class, begins_word, is_symbol};
-use crate::first_form::number::{number, short_number};
+use crate::first_form::decimal::{long_value, short_value};
 use kw_bits::{Bits, NoMemory, Text};
 use std::alloc::Global;
 
@@ -69,7 +70,7 @@ fn number_or_literal(text: &[u8]) -> Option<(Token, &[u8])>
 {
     let (digits, rest) = Class::Digit.split(text);
     match literal_value(rest) {
-        None => Some((Token::Number(short_number(digits)?), rest)),
+        None => Some((Token::Number(short_value(digits)?), rest)),
         Some((value, rest)) => Some((Token::Literal(literal(digits, value)?), rest)),
     }
 }
@@ -102,5 +103,5 @@ fn literal(width: &[u8], value: &[u8]) -> Option<Bits>
     ensures bits { IfSome result (λ bits. IsBitVector bits.width bits.number) }
     ensures none { IfNone result (¬ IsBitVector (value_of width.now) (value_of value.now)) }
 {
-    Bits::new(short_number(width)?, number(value)?)
+    Bits::new(short_value(width)?, long_value(value)?)
 }

@@ -1,4 +1,4 @@
-use Rattle.std.proofs.Common.{◌≡◌, ◌++◌, ◌≤◌}
+use Rattle.std.proofs.Common.{◌≡◌, ◌++◌}
 use Rattle.koika_top.specs.Report.{hex, hex_digits}
 use Rattle.koika_top.proofs.report.push_hex.Given as goal
 

@@ -1,7 +1,6 @@
-use Rattle.std.proofs.Common.{◌≡◌, [], ◌∷◌, ◌++◌, sym, ap, ◌∙◌, subst, arith}
+use Rattle.std.proofs.Common.{◌≡◌, [], ◌∷◌, ◌++◌, ap, ◌∙◌, arith}
 use Rattle.one_rule.specs.declared.rows.Row.{Row}
 use Rattle.one_rule.specs.Cycle.{cycle}
-use Rattle.one_rule.specs.Rows.{RowFits, RowsFit}
 use Rattle.koika_top.proofs.Simulation.{run_step, RowsFit-push}
 use Rattle.koika_top.proofs.simulate.simulate.Goals as goal
 

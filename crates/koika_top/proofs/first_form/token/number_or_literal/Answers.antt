@@ -1,31 +1,31 @@
 use Rattle.std.proofs.Common.{◌++◌, codes, subst, refl, arith}
 use Rattle.kw_bits.specs.BitVector.{BitVector, IsBitVector}
-use Rattle.koika_top.specs.FirstTokens.{value_of}
+use Rattle.koika_top.specs.Words.{value_of}
 use Rattle.koika_top.specs.declared.first_form.token.Token.TheVariants.{Number, Literal}
 use Rattle.koika_top.proofs.Longest.{digits_is, number_longest, literal_front}
 use Rattle.koika_top.proofs.Fronts.{no_other}
 use Rattle.koika_top.proofs.first_form.token.number_or_literal.Goals as goal
 
-pub returns-in_err-short_number-in-None-clause-none : goal.returns-in_err-short_number-in-None-clause-none
-returns-in_err-short_number-in-None-clause-none c =
+pub returns-in_err-short_value-in-None-clause-none : goal.returns-in_err-short_value-in-None-clause-none
+returns-in_err-short_value-in-None-clause-none c =
     let digits = c.split.result.0.now in
     let rest = c.split.result.1.now in
     let are = digits_is c.args.text.now digits rest c.requires c.split.ensures.parts c.split.ensures.front c.split.ensures.rest in
     let longest = number_longest digits rest are c.split.ensures.rest c.in-None.ensures.none in
-    let beyond = c.in_err-short_number-in-None.ensures in
+    let beyond = c.in_err-short_value-in-None.ensures in
     rw c.from_residual.ensures
     (no_other c.args.text.now digits rest (Number (value_of digits)) c.split.ensures.parts (are, refl) longest (λ short. beyond (omega arith)))
 
-pub returns-in_ok-short_number-in-None-clause-found : goal.returns-in_ok-short_number-in-None-clause-found
-returns-in_ok-short_number-in-None-clause-found c =
+pub returns-in_ok-short_value-in-None-clause-found : goal.returns-in_ok-short_value-in-None-clause-found
+returns-in_ok-short_value-in-None-clause-found c =
     let digits = c.split.result.0.now in
     let rest = c.split.result.1.now in
     let are = digits_is c.args.text.now digits rest c.requires c.split.ensures.parts c.split.ensures.front c.split.ensures.rest in
     record {
       bytes = digits;
       parts = c.split.ensures.parts;
-      spelled = (are, c.in_ok-short_number-in-None.ensures.1);
-      limits = omega (arith, c.in_ok-short_number-in-None.ensures);
+      spelled = (are, c.in_ok-short_value-in-None.ensures.1);
+      limits = omega (arith, c.in_ok-short_value-in-None.ensures);
       longest = number_longest digits rest are c.split.ensures.rest c.in-None.ensures.none;
     }
 

@@ -1,7 +1,7 @@
 use Rattle.std.proofs.Common.{arith}
 use Rattle.std.proofs.lemmas.List.{length_push}
 use Rattle.koika_top.proofs.Cuts.{begun_more, ends_found, ends_none}
-use Rattle.koika_top.proofs.first_form.cut.cut.Goals as goal
+use Rattle.koika_top.proofs.first_form.cut.cut_into_tokens.Goals as goal
 
 pub returns-in-None-clause-found : goal.returns-in-None-clause-found
 returns-in-None-clause-found c =

@@ -1,6 +1,6 @@
 use Rattle.std.proofs.Common.{◌+◌, arith}
 use Rattle.koika_top.proofs.Numbers.{value_of_more, value_of-take-le}
-use Rattle.koika_top.proofs.first_form.number.number.Goals as goal
+use Rattle.koika_top.proofs.first_form.decimal.long_value.Goals as goal
 
 pub returns-in_err-value : goal.returns-in_err-value
 returns-in_err-value c =

@@ -1,10 +1,10 @@
 ghost use Rattle.std.specs.Prelude.{◌≡◌, ◌+◌, ◌-◌, ◌*◌, ◌<◌, ◌≤◌, ◌^◌, SomeIff, IsTrue};
 ghost use Rattle.std.specs.List.{AllPass};
 ghost use Rattle.std.specs.Char.{is_ascii_digit};
-ghost use Rattle.koika_top.specs.FirstTokens.{value_of};
+ghost use Rattle.koika_top.specs.Words.{value_of};
 
 /// The number that decimal digits write, if it is below 2^128.
-pub(crate) fn number(digits: &[u8]) -> Option<u128>
+pub(crate) fn long_value(digits: &[u8]) -> Option<u128>
     requires { AllPass is_ascii_digit digits.now }
     ensures { SomeIff result (value_of digits.now < 2 ^ 128) (value_of digits.now) }
 {
@@ -16,11 +16,11 @@ pub(crate) fn number(digits: &[u8]) -> Option<u128>
 }
 
 /// The same, if it is below 2^32.
-pub(crate) fn short_number(digits: &[u8]) -> Option<u32>
+pub(crate) fn short_value(digits: &[u8]) -> Option<u32>
     requires { AllPass is_ascii_digit digits.now }
     ensures { SomeIff result (value_of digits.now < 2 ^ 32) (value_of digits.now) }
 {
-    u32::try_from(number(digits)?).ok()
+    u32::try_from(long_value(digits)?).ok()
 }
 
 // The number that one more digit makes, if it is below 2^128.
