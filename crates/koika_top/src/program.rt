@@ -7,6 +7,9 @@ ghost use Rattle.kw_base.specs.declared.fault.Fault.{Fault as FaultRecord};
 ghost use Rattle.kw_base.specs.FaultLine.{line_of_fault};
 ghost use Rattle.koika_top.specs.declared.answer.Answer.{Answer as AnyAnswer};
 
+#[cfg(test)]
+mod tests;
+
 use crate::answer::{Answer, LONGEST_SOURCE, answer_source, fault_of_source, write_answer};
 use crate::status::Status;
 use crate::words::cycles_of;

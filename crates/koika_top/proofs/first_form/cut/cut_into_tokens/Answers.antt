@@ -1,5 +1,6 @@
 use Rattle.std.proofs.Common.{arith}
 use Rattle.std.proofs.lemmas.List.{length_push}
+use Rattle.koika_top.specs.declared.first_form.cut.TheConstants.{MOST_TOKENS}
 use Rattle.koika_top.proofs.Cuts.{begun_more, ends_found, ends_none}
 use Rattle.koika_top.proofs.first_form.cut.cut_into_tokens.Goals as goal
 
@@ -10,7 +11,7 @@ returns-in-None-clause-found c =
 pub returns-in-None-clause-none : goal.returns-in-None-clause-none
 returns-in-None-clause-none c =
     let nothing = rw c.in-None.is at c.in_ok-next_token.ensures.none in
-    ends_none c.args.text.now c.loop.tokens c.loop.rest.now c.tokens_before.result 31 c.loop.invariant.begun nothing c.tokens_before.ensures.none
+    ends_none c.args.text.now c.loop.tokens c.loop.rest.now c.tokens_before.result MOST_TOKENS c.loop.invariant.begun nothing c.tokens_before.ensures.none
 
 pub loop-preserved : goal.loop-preserved
 loop-preserved c =

@@ -1,0 +1,238 @@
+use crate::{Status, run};
+use kw_bits::NoMemory;
+use kw_io::{MemSink, MemSource};
+use std::alloc::Global;
+use std::process::Abort;
+use std::test::Fail;
+
+const COUNTER: &str =
+    "reg count : bits 8 = 8'd0; rule incr { write0(count, read0(count) + 8'd1) } schedule { incr; }";
+
+const USAGE: &str = "usage: koika check|print|sim|compile|btorsim|gen\n";
+
+const TWO_CYCLES: &str = "@0 - count=00\n@1 incr count=01\n@2 incr count=02\n";
+
+// What a run over memory comes to.
+#[derive(Debug, Drop)]
+struct Ended {
+    status: Status,
+    written: Vec<u8>,
+}
+
+// Runs the program over memory, in pieces of the same length, with calls of the source and the sink that fail.
+fn run_in_memory(
+    alloc: Global,
+    words: &[&str],
+    text: &[u8],
+    piece: usize,
+    failing_reads: &[u64],
+    failing_writes: &[u64],
+) -> Result<Ended, NoMemory> {
+    let mut owned = Vec::new(alloc);
+    for word in words {
+        owned.push(String::from_str(alloc, word)?)?;
+    }
+    let text = Vec::from_slice(alloc, text)?;
+    let piece = piece.max(1);
+    let mut source = MemSource::new(text, piece, Vec::from_slice(alloc, failing_reads)?);
+    let mut sink = MemSink::new(alloc, 4096, piece, Vec::from_slice(alloc, failing_writes)?)?;
+    let status = run(alloc, owned.as_slice(), &mut source, &mut sink);
+    Ok(Ended {
+        status,
+        written: Vec::from_slice(alloc, sink.written())?,
+    })
+}
+
+fn expect(
+    rt: &impl Abort,
+    alloc: Global,
+    words: &[&str],
+    text: &str,
+    status: Status,
+    written: &str,
+) -> Result<(), NoMemory> {
+    let ended = run_in_memory(alloc, words, text.as_bytes(), 7, &[], &[])?;
+    assert_eq!(rt; ended.status, status, "for {text}");
+    assert_eq!(rt; ended.written.as_slice(), written.as_bytes(), "for {text}");
+    Ok(())
+}
+
+#[test]
+fn counter_counts(rt: HostRuntime) -> Result<(), Fail> {
+    let wide =
+        "reg x : bits 128 = 128'd340282366920938463463374607431768211455; rule up { write0(x, read0(x) + 128'd1) } schedule { up; }";
+    let wraps =
+        "reg count : bits 8 = 8'd255; rule incr { write0(count, read0(count) + 8'd1) } schedule { incr; }";
+    let table = [
+        ("2", COUNTER, TWO_CYCLES),
+        ("0", COUNTER, "@0 - count=00\n"),
+        ("1", wraps, "@0 - count=ff\n@1 incr count=00\n"),
+        (
+            "1",
+            wide,
+            "@0 - x=ffffffffffffffffffffffffffffffff\n@1 up x=00000000000000000000000000000000\n",
+        ),
+        (
+            "0000000001",
+            "reg r:bits 1=1'd1;rule s{write0(r,1'd0)}schedule{s;}",
+            "@0 - r=1\n@1 s r=0\n",
+        ),
+    ];
+    for (cycles, source, report) in table {
+        expect(
+            &rt,
+            rt.alloc(),
+            &["sim", "--cycles", cycles],
+            source,
+            Status::Done,
+            report,
+        )?;
+    }
+    Ok(())
+}
+
+#[test]
+fn words_that_are_not_understood(rt: HostRuntime) -> Result<(), Fail> {
+    let alloc = rt.alloc();
+    expect(&rt, alloc, &["sim"], COUNTER, Status::Usage, USAGE)?;
+    expect(&rt, alloc, &[], COUNTER, Status::Usage, USAGE)?;
+    expect(
+        &rt,
+        alloc,
+        &["sim", "--cycles"],
+        COUNTER,
+        Status::Usage,
+        USAGE,
+    )?;
+    let twice = ["sim", "--cycles", "2", "--cycles", "2"];
+    expect(&rt, alloc, &twice, COUNTER, Status::Usage, USAGE)?;
+    for number in [
+        "-1",
+        "+1",
+        "",
+        "4294967296",
+        "00000000001",
+        "1 ",
+        "0x1",
+        "1e1",
+    ] {
+        expect(
+            &rt,
+            alloc,
+            &["sim", "--cycles", number],
+            COUNTER,
+            Status::Usage,
+            USAGE,
+        )?;
+    }
+    for command in ["check", "Sim", "simulate"] {
+        expect(
+            &rt,
+            alloc,
+            &[command, "--cycles", "2"],
+            COUNTER,
+            Status::Usage,
+            USAGE,
+        )?;
+    }
+    expect(
+        &rt,
+        alloc,
+        &["sim", "--cycles=2"],
+        COUNTER,
+        Status::Usage,
+        USAGE,
+    )?;
+    Ok(())
+}
+
+#[test]
+fn sources_that_are_refused(rt: HostRuntime) -> Result<(), Fail> {
+    let table = [
+        ("2", "", "fault 60 at 0:0\n"),
+        ("4294967295", "schedule { }", "fault 60 at 0:0\n"),
+        ("65537", COUNTER, "fault 45 at 0:0\n"),
+        ("4294967295", COUNTER, "fault 45 at 0:0\n"),
+        (
+            "2",
+            "reg x : bits 129 = 128'd1; rule a { write0(x, 128'd1) } schedule { a; }",
+            "fault 60 at 0:0\n",
+        ),
+        (
+            "2",
+            "reg x : bits 8 = 8'd256; rule a { write0(x, 8'd1) } schedule { a; }",
+            "fault 60 at 0:0\n",
+        ),
+        (
+            "2",
+            "reg x : bits 8 = 8'd0; rule a { write0(z, 8'd1) } schedule { a; }",
+            "fault 60 at 0:0\n",
+        ),
+    ];
+    for (cycles, source, line) in table {
+        expect(
+            &rt,
+            rt.alloc(),
+            &["sim", "--cycles", cycles],
+            source,
+            Status::Refused,
+            line,
+        )?;
+    }
+    Ok(())
+}
+
+#[test]
+fn long_sources(rt: HostRuntime) -> Result<(), Fail> {
+    let alloc = rt.alloc();
+    for (blanks, status, written) in [
+        (1_048_577, Status::Refused, "fault 40 at 0:0\n"),
+        (1_048_576, Status::Refused, "fault 60 at 0:0\n"),
+    ] {
+        let text = vec![in alloc; b' '; blanks]?;
+        let ended = run_in_memory(
+            alloc,
+            &["sim", "--cycles", "65537"],
+            text.as_slice(),
+            65536,
+            &[],
+            &[],
+        )?;
+        assert_eq!(rt; ended.status, status);
+        assert_eq!(rt; ended.written.as_slice(), written.as_bytes());
+    }
+    Ok(())
+}
+
+// A read that fails leaves nothing written; a write that fails, exactly what the calls before it wrote.
+#[test]
+fn each_call_fails_in_turn(rt: HostRuntime) -> Result<(), Fail> {
+    let alloc = rt.alloc();
+    let words = ["sim", "--cycles", "2"];
+    for piece in [1, 3, 7] {
+        for call in 1..100 {
+            let ended = run_in_memory(alloc, &words, COUNTER.as_bytes(), piece, &[call], &[])?;
+            if ended.status == Status::Done {
+                assert_eq!(rt; ended.written.as_slice(), TWO_CYCLES.as_bytes());
+                break;
+            }
+            assert_eq!(rt; ended.status, Status::ReadFault);
+            assert!(rt; ended.written.is_empty());
+        }
+        for call in 1..100 {
+            let ended = run_in_memory(alloc, &words, COUNTER.as_bytes(), piece, &[], &[call])?;
+            if ended.status == Status::Done {
+                assert_eq!(rt; ended.written.as_slice(), TWO_CYCLES.as_bytes());
+                break;
+            }
+            assert_eq!(rt; ended.status, Status::WriteFault);
+            let before = piece.saturating_mul(call as usize - 1);
+            let expected = TWO_CYCLES.as_bytes();
+            assert_eq!(rt;
+                ended.written.as_slice(),
+                &expected[..before.min(expected.len())]
+            );
+        }
+    }
+    Ok(())
+}
