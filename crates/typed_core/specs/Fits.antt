@@ -3,8 +3,9 @@ use Rattle.std.specs.Prelude.{◌≡◌, ℕ, ◌≤◌, List, [], ◌∷◌, le
 use Rattle.std.specs.List.{AllByRecursion}
 use Rattle.kw_bits.specs.BitVector.{BitVector, IsBits}
 use Rattle.typed_core.specs.Alone.{Ending, Value, Stop, Surroundings, unit}
-use Rattle.typed_core.specs.Valid.{Declarations, HasBits, HasInput, HasRegister, IsHost, IsTable}
+use Rattle.typed_core.specs.Valid.{Declarations, HasBits, HasInput, HasRegister, IsHost, IsOperand, IsTable, IsTyped}
 use Rattle.typed_core.specs.declared.access.Event.{Event}
+use Rattle.typed_core.specs.declared.action.Action.{Action}
 use Rattle.typed_core.specs.declared.design.InputDecl.{InputDecl}
 use Rattle.typed_core.specs.declared.design.RegDecl.{RegDecl}
 
@@ -49,3 +50,11 @@ pub record FitsWidth (width : ℕ) (value : BitVector) : Type 0 where
 abbrev pub EndingFits : ℕ → Ending → Type 0
 EndingFits width (Value value) = FitsWidth width value
 EndingFits width (Stop outcome) = Unit {0}
+
+-- the action can be evaluated with these values of the names that are bound round it
+abbrev pub CanEvaluate : Declarations → Action → List BitVector → Type 0
+CanEvaluate d action values = (widths : List ℕ) × FitsLocals widths values × IsTyped d action widths
+
+-- and comes to a value unless the rule ends in it
+abbrev pub CanBeOperand : Declarations → Action → List BitVector → Type 0
+CanBeOperand d action values = (widths : List ℕ) × FitsLocals widths values × IsOperand d action widths
