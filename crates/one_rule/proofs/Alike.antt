@@ -15,6 +15,8 @@ use Rattle.one_rule.specs.declared.walk.Walk.{Walk}
 -- the designs have the same registers and the same scheduler, and as many rules, each of which does the same alone
 pub record AreAlike (d e : Parts) : Type 0 where
   pub regs : d.regs ≡ e.regs
+  pub tables : d.tables ≡ e.tables
+  pub hosts : d.hosts ≡ e.hosts
   pub nodes : d.nodes ≡ e.nodes
   pub rules : length d.rules ≡ length e.rules
   pub bodies : (s : Surroundings) (rule : ℕ) → alone_if s (slice_get d.rules rule) ≡ alone_if s (slice_get e.rules rule)
@@ -26,9 +28,15 @@ visited node walk run =
     then record { regs = after run.events walk.regs; past = walk.past ++ record { rule = node.rule; events = run.events } ∷ []; at = node.yes }
     else record { regs = walk.regs; past = walk.past; at = node.no }
 
+alone_on-alike : (d e : Parts) → AreAlike d e → (inputs regs : List BitVector) (rule : ℕ) → alone_on d inputs regs rule ≡ alone_on e inputs regs rule
+alone_on-alike d e h inputs regs rule =
+    h.bodies (record { tables = d.tables; hosts = d.hosts; inputs = inputs; regs = regs }) rule
+    ∙ ap (λ tables. alone_if (record { tables = tables; hosts = d.hosts; inputs = inputs; regs = regs }) (slice_get e.rules rule)) h.tables
+    ∙ ap (λ hosts. alone_if (record { tables = e.tables; hosts = hosts; inputs = inputs; regs = regs }) (slice_get e.rules rule)) h.hosts
+
 visit-alike : (d e : Parts) → AreAlike d e → (inputs : List BitVector) (node : Node) (walk : Walk) → visit d inputs node walk ≡ visit e inputs node walk
 unfolding visited
-visit-alike d e h inputs node walk = ap (visited node walk) (h.bodies (record { inputs = inputs; regs = walk.regs }) node.rule)
+visit-alike d e h inputs node walk = ap (visited node walk) (alone_on-alike d e h inputs walk.regs node.rule)
 
 pass-alike : (d e : Parts) → AreAlike d e → (inputs : List BitVector) (number : ℕ) (node : Node) (walk : Walk) → pass d inputs number node walk ≡ pass e inputs number node walk
 pass-alike d e h inputs number node walk = ap (λ (w : Walk). if is_at number walk.at then w else walk) (visit-alike d e h inputs node walk)

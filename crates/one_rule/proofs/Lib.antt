@@ -1,2 +1,3 @@
 pub mod Flags
 pub mod Alike
+pub mod Came

@@ -25,7 +25,8 @@ alone_if s (Some rule) = alone s rule.body
 alone_if s None = record { events = []; outcome = Done }
 
 abbrev pub alone_on : Parts → List BitVector → List BitVector → ℕ → Alone
-alone_on design inputs regs rule = alone_if (record { inputs = inputs; regs = regs }) (slice_get design.rules rule)
+alone_on design inputs regs rule =
+    alone_if (record { tables = design.tables; hosts = design.hosts; inputs = inputs; regs = regs }) (slice_get design.rules rule)
 
 abbrev pub is_done : Outcome → Bool
 is_done Done = true

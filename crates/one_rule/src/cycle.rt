@@ -1,10 +1,12 @@
 ghost use Rattle.std.specs.Prelude.{◌≡◌, ◌<◌, ℕ, [], ◌∷◌, ◌++◌, IfOk, OnOk, length, slice_get, Some};
 ghost use Rattle.std.specs.List.{list_any};
 ghost use Rattle.typed_core.specs.Alone.{after, after_one};
-ghost use Rattle.typed_core.specs.Fits.{FitsRegisters, EventsFit};
+ghost use Rattle.typed_core.specs.Fits.{EventsFit, FitsInputs, FitsRegisters};
+ghost use Rattle.one_rule.specs.Externs.{AreOf};
 ghost use Rattle.one_rule.specs.Rows.{RowFits};
 ghost use Rattle.one_rule.specs.Cycle.{clash_after, clash_with, cycle, events_clash, fires, flags, has_fired, is_at, pass, root, visit, walk_of};
 
+use crate::externs::Externs;
 use crate::interpreter::alone;
 use crate::rows::{FiredSet, Inputs, Regs, Row};
 use crate::walk::{Fired, Walk};
@@ -16,14 +18,17 @@ use typed_core::{Access, Alone, Design, Event, Events, Next, Node, Outcome};
 pub fn slow_cycle(
     alloc: Global,
     design: &Design,
+    externs: &Externs,
     inputs: &Inputs,
     regs: &Regs,
 ) -> Result<Row, NoMemory>
+    requires externs { AreOf externs.now design.now }
+    requires inputs { FitsInputs design.now.inputs inputs.now }
     requires registers { FitsRegisters design.now.regs regs.now }
     ensures cycle { IfOk result (λ row. row ≡ cycle design.now inputs.now regs.now) }
     ensures fits { IfOk result (λ row. RowFits design.now row) }
 {
-    let walk = walk_of(alloc, design, inputs, regs)?;
+    let walk = walk_of(alloc, design, externs, inputs, regs)?;
     let fired = flags(alloc, design.rules.len(), &walk.past)?;
     Ok(Row {
         regs: walk.regs,
@@ -31,7 +36,15 @@ pub fn slow_cycle(
     })
 }
 
-fn walk_of(alloc: Global, design: &Design, inputs: &Inputs, regs: &Regs) -> Result<Walk, NoMemory>
+fn walk_of(
+    alloc: Global,
+    design: &Design,
+    externs: &Externs,
+    inputs: &Inputs,
+    regs: &Regs,
+) -> Result<Walk, NoMemory>
+    requires externs { AreOf externs.now design.now }
+    requires inputs { FitsInputs design.now.inputs inputs.now }
     requires registers { FitsRegisters design.now.regs regs.now }
     ensures walk { IfOk result (λ walk. walk ≡ walk_of design.now inputs.now regs.now) }
     ensures fits { IfOk result (λ walk. FitsRegisters design.now.regs walk.regs) }
@@ -43,7 +56,7 @@ fn walk_of(alloc: Global, design: &Design, inputs: &Inputs, regs: &Regs) -> Resu
         at: root(nodes),
     };
     for (number, node) in nodes.iter().enumerate() {
-        pass(alloc, design, inputs, number, node, &mut walk)?;
+        pass(alloc, design, externs, inputs, number, node, &mut walk)?;
     }
     Ok(walk)
 }
@@ -52,18 +65,21 @@ fn walk_of(alloc: Global, design: &Design, inputs: &Inputs, regs: &Regs) -> Resu
 fn pass(
     alloc: Global,
     design: &Design,
+    externs: &Externs,
     inputs: &Inputs,
     number: usize,
     node: &Node,
     walk: &mut Walk,
 ) -> Result<(), NoMemory>
+    requires externs { AreOf externs.now design.now }
     requires rule { node.now.rule < length design.now.rules }
+    requires inputs { FitsInputs design.now.inputs inputs.now }
     requires registers { FitsRegisters design.now.regs walk.old.regs }
     ensures pass { OnOk result (walk.new ≡ pass design.now inputs.now number node.now walk.old) }
     ensures fits { OnOk result (FitsRegisters design.now.regs walk.new.regs) }
 {
     if is_at(number, walk.at) {
-        visit(alloc, design, inputs, node, walk)
+        visit(alloc, design, externs, inputs, node, walk)
     } else {
         Ok(())
     }
@@ -92,16 +108,19 @@ fn is_at(number: usize, at: Next) -> bool
 fn visit(
     alloc: Global,
     design: &Design,
+    externs: &Externs,
     inputs: &Inputs,
     node: &Node,
     walk: &mut Walk,
 ) -> Result<(), NoMemory>
+    requires externs { AreOf externs.now design.now }
     requires rule { node.now.rule < length design.now.rules }
+    requires inputs { FitsInputs design.now.inputs inputs.now }
     requires registers { FitsRegisters design.now.regs walk.old.regs }
     ensures visit { OnOk result (walk.new ≡ visit design.now inputs.now node.now walk.old) }
     ensures fits { OnOk result (FitsRegisters design.now.regs walk.new.regs) }
 {
-    let run = alone(alloc, design, node.rule, inputs, &walk.regs)?;
+    let run = alone(alloc, design, externs, node.rule, inputs, &walk.regs)?;
     if fires(&walk.past, &run) {
         apply(design, &run.events, &mut walk.regs);
         walk.past.push(Fired {

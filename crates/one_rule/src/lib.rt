@@ -5,11 +5,13 @@
 #![tactic(auto)]
 
 mod cycle;
+mod externs;
 mod interpreter;
 mod rows;
 mod walk;
 
 pub use cycle::slow_cycle;
+pub use externs::Externs;
 pub use interpreter::alone;
 pub use rows::{FiredSet, Inputs, Regs, Row, Rows};
 pub use walk::{Fired, Walk};

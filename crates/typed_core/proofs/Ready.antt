@@ -5,7 +5,7 @@ use Rattle.std.proofs.lemmas.Option.{slice_get_within}
 use Rattle.kw_bits.specs.BitVector.{BitVector}
 use Rattle.typed_core.specs.Alone.{Ending, Value, Progress, Surroundings, evaluate, unit}
 use Rattle.typed_core.specs.Fits.{CanBeOperand, CanEvaluate, EventsFit, FitsDeclarations, FitsLocals, FitsRegisters}
-use Rattle.typed_core.specs.Valid.{Declarations, HasBits, HasHost, HasTable, HasWidth, IsOperand, IsTyped, TwoHasWidth}
+use Rattle.typed_core.specs.Valid.{Declarations, HasBits, HasHost, HasTable, HasWidth, IsOperand, IsTyped, TakesTwo, TwoHasWidth}
 use Rattle.typed_core.specs.declared.access.Event.{Event}
 use Rattle.typed_core.specs.declared.action.OneOp.{OneOp}
 use Rattle.typed_core.specs.declared.action.TwoOp.{TwoOp}
@@ -118,10 +118,6 @@ second_ready d part operator p a q b values is ready =
     let operand : CanEvaluate d (action.Two' operator p a q b) values → CanBeOperand d b values =
     λ (widths, l, (width, (left, right, t, u, some, others, rest))). (widths, l, (right, u, others)) in
     operand (subst (λ (x : Action). CanEvaluate d x values) is ready)
-
--- two operands of these widths have a result
-abbrev pub TakesTwo : TwoOp → BitVector → BitVector → Type 0
-TakesTwo operator x y = (width : ℕ) × TwoHasWidth operator x.width y.width width
 
 pub two_ready : (d : Declarations) (s : Surroundings) (part : Action) (operator : TwoOp) (p : _) (a : Action) (q : _) (b : Action) (values : List BitVector) (x y : BitVector) → part ≡ action.Two' operator p a q b → FitsDeclarations d s → CanEvaluate d part values → CameTo d s a values x → CameTo d s b values y → TakesTwo operator x y
 two_ready d s part operator p a q b values x y is fits ready c e =

@@ -83,6 +83,10 @@ TwoHasWidth Slt left right width = (left ≡ right) × (width ≡ 1)
 TwoHasWidth Slte left right width = (left ≡ right) × (width ≡ 1)
 TwoHasWidth Concat left right width = (left + right ≤ 128) × (width ≡ left + right)
 
+-- the operator has a result on these operands
+abbrev pub TakesTwo : TwoOp → BitVector → BitVector → Type 0
+TakesTwo operator x y = (width : ℕ) × TwoHasWidth operator x.width y.width width
+
 -- The action comes to a value of this width, or to none where the width is 0, with names of these widths bound round
 -- it, the innermost first. Operands come to values.
 abbrev pub HasWidth : Declarations → Action → List ℕ → ℕ → Type 0

@@ -2,7 +2,7 @@ use Rattle.std.proofs.Common.{◌≡◌, ◌+◌, ◌∷◌, drop, subst, sym, a
 use Rattle.std.proofs.lemmas.List.{drop_more}
 use Rattle.typed_core.specs.Alone.{after}
 use Rattle.typed_core.specs.Fits.{EventsFit}
-use Rattle.typed_core.proofs.Typed.{after_one_fits}
+use Rattle.typed_core.proofs.Events.{after_one_fits}
 use Rattle.one_rule.proofs.cycle.apply.Goals as goal
 
 pub loop-event-preserved : goal.loop-event-preserved

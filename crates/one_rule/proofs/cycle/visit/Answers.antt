@@ -1,4 +1,4 @@
-use Rattle.typed_core.proofs.Typed.{after_fits}
+use Rattle.typed_core.proofs.Events.{after_fits}
 use Rattle.one_rule.proofs.cycle.visit.Goals as goal
 
 pub returns-in_ok-push-clause-fits : goal.returns-in_ok-push-clause-fits
