@@ -12,10 +12,13 @@ program=crates/koika_cli/out/koika_cli
 room=$(mktemp -d)
 trap 'rm -rf "$room"' EXIT
 
-unit=seconds
+# What a run costs, and what a cycle or a byte of it does: names, and how many of them make what `cost` prints.
+of_run=milliseconds run_scale=1000
+of_part=nanoseconds part_scale=1000000000
 if perf stat -x, -e instructions:u -o "$room/count" true 2>/dev/null &&
     awk -F, '/instructions/ && $1 + 0 > 0 { found = 1 } END { exit !found }' "$room/count"; then
-    unit=instructions
+    of_run=instructions run_scale=1
+    of_part=instructions part_scale=1
 fi
 
 # Runs the program on a source for some cycles. A refusal is an answer, too.
@@ -23,17 +26,17 @@ answer() {
     "$program" sim --cycles "$2" <"$1" >"$room/answer" || [ $? = 2 ]
 }
 
-# What such a run costs. The seconds are the least mean in five turns of twenty runs.
+# What such a run costs, in instructions or in seconds. The seconds are the least mean in five turns of fifty runs.
 cost() {
-    if [ "$unit" = instructions ]; then
+    if [ "$of_run" = instructions ]; then
         perf stat -x, -e instructions:u -o "$room/count" "$program" sim --cycles "$2" <"$1" >"$room/answer" || [ $? = 2 ]
         awk -F, '/instructions/ { print $1 }' "$room/count"
         return
     fi
     local TIMEFORMAT='%3U %3S'
     for _ in {1..5}; do
-        { time for _ in {1..20}; do answer "$1" "$2"; done; } 2>&1
-    done | awk '{ mean = ($1 + $2) / 20 } NR == 1 || mean < least { least = mean } END { printf "%.6f\n", least }'
+        { time for _ in {1..50}; do answer "$1" "$2"; done; } 2>&1
+    done | awk '{ mean = ($1 + $2) / 50 } NR == 1 || mean < least { least = mean } END { printf "%.6f\n", least }'
 }
 
 bytes() {
@@ -54,29 +57,32 @@ longer() {
         { print }' "$counter"
 }
 
-echo "| cycles of the counter | bytes written | $unit | $unit per cycle, start aside |"
+# The costs of a run and of its parts, the start of the program aside, as two columns.
+columns() {
+    awk -v taken="$1" -v start="$2" -v parts="$3" -v run="$run_scale" -v part="$part_scale" 'BEGIN {
+        printf "%.6g | %s", taken * run, (parts ? sprintf("%.3g", (taken - start) * part / parts) : "")
+    }'
+}
+
+echo "| cycles of the counter | bytes written | $of_run | $of_part per cycle, the start aside |"
 echo "|---|---|---|---|"
 start=$(cost "$counter" 0)
 for cycles in 0 1000 10000 65536; do
     taken=$(cost "$counter" "$cycles")
     answer "$counter" "$cycles"
-    awk -v cycles="$cycles" -v written="$(bytes "$room/answer")" -v taken="$taken" -v start="$start" 'BEGIN {
-        printf "| %d | %d | %s | %s |\n", cycles, written, taken, cycles ? sprintf("%.4g", (taken - start) / cycles) : ""
-    }'
+    echo "| $cycles | $(bytes "$room/answer") | $(columns "$taken" "$start" "$cycles") |"
 done
 
 echo
-echo "| source, run for one cycle | bytes | $unit | $unit per byte, start aside | answer |"
+echo "| source, run for one cycle | bytes | $of_run | $of_part per byte, the start aside | answer |"
 echo "|---|---|---|---|---|"
 while IFS=: read -r what byte part; do
     for size in 262144 524288 1048576; do
         longer "$byte" $((size - $(bytes "$counter"))) "$part" >"$room/source"
         taken=$(cost "$room/source" 1)
         answer "$room/source" 1
-        awk -v what="$what" -v size="$(bytes "$room/source")" -v taken="$taken" -v start="$start" '{
-            printf "| %s | %d | %s | %.4g | %s |\n", what, size, taken, (taken - start) / size, /^fault/ ? $0 : "the report"
-            exit
-        }' "$room/answer"
+        said=$(awk '{ print /^fault/ ? $0 : "the report"; exit }' "$room/answer")
+        echo "| $what | $(bytes "$room/source") | $(columns "$taken" "$start" "$size") | $said |"
     done
 done <<'SOURCES'
 blanks before the counter: :reg

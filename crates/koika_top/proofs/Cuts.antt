@@ -5,7 +5,8 @@ use Rattle.std.specs.Prelude.{IfSome, IfNone}
 use Rattle.std.proofs.lemmas.Bool.{both_ways}
 use Rattle.std.proofs.lemmas.List.{append-nil, length-append}
 use Rattle.koika_top.specs.declared.first_form.token.Token.{Token}
-use Rattle.koika_top.specs.FirstTokens.{is_blank, StopsAt, IsFront, Begins, IsCut}
+use Rattle.koika_top.specs.FirstTokens.{is_blank, IsFront, Begins, IsCut}
+use Rattle.koika_top.specs.Class.{StopsAt}
 use Rattle.koika_top.proofs.Runs.{AllPass-head, AllPass-back}
 use Rattle.koika_top.proofs.Fronts.{same_front, front_stops, behind_blanks, nothing_in_front}
 

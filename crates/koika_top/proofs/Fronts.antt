@@ -9,7 +9,8 @@ use Rattle.std.proofs.lemmas.List.{append-nil}
 use Rattle.kw_bits.specs.BitVector.{BitVector}
 use Rattle.koika_top.specs.declared.first_form.token.Token.{Token}
 use Rattle.koika_top.specs.declared.first_form.token.Token.TheVariants.{Word, Number, Literal, Symbol}
-use Rattle.koika_top.specs.FirstTokens.{is_blank, begins_word, continues_word, is_symbol, StopsAt, IsWord, AreDigits, IsLiteral, Spells, IsWithinLimits, IsLongest, IsFront, Begins}
+use Rattle.koika_top.specs.FirstTokens.{is_blank, begins_word, continues_word, is_symbol, IsWord, AreDigits, IsLiteral, Spells, IsWithinLimits, IsLongest, IsFront, Begins}
+use Rattle.koika_top.specs.Class.{StopsAt}
 use Rattle.koika_top.proofs.Runs.{AllPass-head, AllPass-back, same_run, fronts, fails_among}
 
 -- ---- what a token begins with

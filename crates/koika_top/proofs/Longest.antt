@@ -5,7 +5,8 @@ use Rattle.std.specs.Char.{is_ascii_digit}
 use Rattle.std.proofs.lemmas.Bool.{both_ways}
 use Rattle.koika_top.specs.declared.first_form.token.Token.{Token}
 use Rattle.koika_top.specs.declared.first_form.token.Token.TheVariants.{Word, Number, Literal, Symbol}
-use Rattle.koika_top.specs.FirstTokens.{begins_word, continues_word, is_symbol, StopsAt, IsWord, AreDigits, IsLiteral, Spells, IsLongest}
+use Rattle.koika_top.specs.FirstTokens.{begins_word, continues_word, is_symbol, IsWord, AreDigits, IsLiteral, Spells, IsLongest}
+use Rattle.koika_top.specs.Class.{StopsAt}
 use Rattle.koika_top.specs.Words.{value_of}
 use Rattle.koika_top.proofs.Runs.{AllPass-head, AllPass-tail, AllPass-back, same_run}
 use Rattle.koika_top.proofs.Fronts.{spelled_begins, digit_no_word, symbol_no_word, symbol_no_digit, begins_continues, AreDigits-all, literal_parts}

@@ -3,7 +3,7 @@ use Rattle.std.proofs.Common.{◌≡◌, ◌⊎◌, ℕ, suc, Bool, true, false,
 use Rattle.std.specs.Prelude.{◌==◌}
 use Rattle.std.specs.List.{AllPass, list_any, list_all}
 use Rattle.std.proofs.lemmas.Bool.{both_ways, or_cases, and_parts, not-true, eqb-true}
-use Rattle.koika_top.specs.FirstTokens.{StopsAt}
+use Rattle.koika_top.specs.Class.{StopsAt}
 
 pub AllPass-head : (p : ℕ → Bool) (x : ℕ) (xs : List ℕ) → AllPass p (x ∷ xs) → p x ≡ true
 AllPass-head p x xs h = h 0 x (omega arith)

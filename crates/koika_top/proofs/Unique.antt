@@ -1,6 +1,7 @@
 -- A text spells one design at most.
 use Rattle.std.proofs.Common.{◌≡◌, ℕ, List, [], ◌∷◌, map, Option, Some, None, sym, ap, subst, ◌∙◌}
 use Rattle.typed_core.specs.Alone.{Surroundings, Part, ◌>>=◌, write, evaluate, outcome_of, alone}
+use Rattle.typed_core.specs.Valid.{IsValid}
 use Rattle.typed_core.specs.declared.action.TwoOp.TheVariants.{Add}
 use Rattle.typed_core.specs.declared.action.Action.{Action}
 use Rattle.typed_core.specs.declared.action.Action.TheVariants.{Two', Write'}
@@ -13,6 +14,7 @@ use Rattle.koika_top.specs.declared.first_form.form.Form.{Form}
 use Rattle.koika_top.specs.FirstForm.{tokens_of, Fills, IsOperandOf, IsSumOf, IsBodyOf, IsDesignOf, IsFirstForm, AreSame}
 use Rattle.koika_top.proofs.Cuts.{same_cut}
 use Rattle.koika_top.proofs.Shapes.{same_form}
+use Rattle.koika_top.proofs.Designs.{design_valid}
 
 -- a text fills in the form in one way
 pub same_filled : (text : List ℕ) (f g : Form) → Fills text f → Fills text g → f ≡ g
@@ -59,3 +61,7 @@ same_design f d e h g = record {
 pub same_spelled : (text : List ℕ) (d e : Parts) → IsFirstForm text d → IsFirstForm text e → AreSame d e
 same_spelled text d e (f, fills, is) (f', fills', is') =
     same_design f d e is (subst (λ (x : Form). IsDesignOf x e) (sym (same_filled text f f' fills fills')) is')
+
+-- and it is valid
+pub spelled_valid : (text : List ℕ) (d : Parts) → IsFirstForm text d → IsValid d
+spelled_valid text d (f, fills, is) = design_valid f d fills.well_formed is

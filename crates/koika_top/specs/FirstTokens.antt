@@ -1,13 +1,11 @@
 -- The tokens of a source of the first form, and how a text is cut into them: the longest token at each place, as C
 -- has it (ISO/IEC 9899, 6.4). The language's other tokens and its comments are left out. That changes no text's
 -- being of the form: where one of them begins, or is longer than a token here, the text isn't of the form.
-use Rattle.std.specs.Prelude.{◌≡◌, ◌≢◌, ℕ, ◌≤◌, Bool, false, ◌==◌, ◌||◌, IsTrue, List, [], ◌∷◌, ◌++◌, length, codes}
+use Rattle.std.specs.Prelude.{◌≡◌, ◌≢◌, ℕ, ◌≤◌, Bool, ◌==◌, ◌||◌, IsTrue, List, [], ◌∷◌, ◌++◌, length, codes}
 use Rattle.std.specs.List.{AllPass, list_any}
 use Rattle.std.specs.Char.{is_ascii_digit, is_ascii_alphabetic, is_ascii_alphanumeric}
 use Rattle.kw_bits.specs.BitVector.{BitVector, IsBitVector}
 use Rattle.koika_top.specs.Words.{value_of}
-use Rattle.koika_top.specs.declared.first_form.class.Class.{Class}
-use Rattle.koika_top.specs.declared.first_form.class.Class.TheVariants as class
 use Rattle.koika_top.specs.declared.first_form.token.Token.{Token}
 use Rattle.koika_top.specs.declared.first_form.token.Token.TheVariants.{Word, Number, Literal, Symbol}
 
@@ -22,17 +20,6 @@ begins_word b = is_ascii_alphabetic b || b == 95
 -- a letter, a digit or `_`, with which it goes on
 abbrev pub continues_word : ℕ → Bool
 continues_word b = is_ascii_alphanumeric b || b == 95
-
--- the bytes of a class
-abbrev pub is_of : Class → ℕ → Bool
-is_of class.Blank b = is_blank b
-is_of class.Digit b = is_ascii_digit b
-is_of class.Word b = continues_word b
-
--- the bytes don't go on with one that passes
-abbrev pub StopsAt : (ℕ → Bool) → List ℕ → Type 0
-StopsAt passes [] = Unit {0}
-StopsAt passes (b ∷ bs) = passes b ≡ false
 
 -- a symbol of the form
 abbrev pub is_symbol : ℕ → Bool

@@ -1,6 +1,7 @@
 ghost use Rattle.std.specs.Prelude.{◌≡◌, ◌++◌, ◌||◌, ◌==◌, IsTrue, ◌↔◌};
 ghost use Rattle.std.specs.List.{AllPass};
-ghost use Rattle.koika_top.specs.FirstTokens.{is_blank, begins_word, continues_word, is_symbol, is_of, StopsAt};
+ghost use Rattle.koika_top.specs.FirstTokens.{is_blank, begins_word, continues_word, is_symbol};
+ghost use Rattle.koika_top.specs.Class.{is_of, StopsAt};
 
 /// A class of bytes that stand in a row.
 #[derive(Clone, Copy, Debug, PartialEq, Eq)]

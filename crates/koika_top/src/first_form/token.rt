@@ -2,7 +2,8 @@ ghost use Rattle.std.specs.Prelude.{◌≡◌, ◌≢◌, ◌++◌, List, ℕ, I
 ghost use Rattle.std.specs.List.{AllPass};
 ghost use Rattle.std.specs.Char.{is_ascii_digit};
 ghost use Rattle.kw_bits.specs.BitVector.{IsBitVector};
-ghost use Rattle.koika_top.specs.FirstTokens.{AreDigits, StopsAt, IsFront, Begins, begins_word};
+ghost use Rattle.koika_top.specs.FirstTokens.{AreDigits, IsFront, Begins, begins_word};
+ghost use Rattle.koika_top.specs.Class.{StopsAt};
 ghost use Rattle.koika_top.specs.Words.{value_of};
 ghost use Rattle.koika_top.specs.declared.first_form.token.Token.{Token};
 
