@@ -1,7 +1,7 @@
 -- The design that a well formed form spells is valid.
 use Rattle.std.proofs.Common.{◌≡◌, ◌⊎◌, ℕ, zero, suc, List, [], ◌∷◌, All, Option, Some, None, refl, sym, subst, inl, inr, arith}
 use Rattle.std.specs.Prelude.{slice_get, AllPairs, IfSome}
-use Rattle.typed_core.specs.Valid.{IsWidth, HasWidth, IsRegister, IsNode, Continues, IsPath, TryOthers, IsValid}
+use Rattle.typed_core.specs.Valid.{Declarations, IsWidth, HasWidth, IsRegister, IsNode, Continues, IsPath, TryOthers, IsValid}
 use Rattle.typed_core.specs.declared.action.TwoOp.TheVariants.{Add}
 use Rattle.typed_core.specs.declared.action.Action.{Action}
 use Rattle.typed_core.specs.declared.action.Action.TheVariants.{Two', Write'}
@@ -26,23 +26,28 @@ none_hold P k d lt = absurd (omega arith)
 declared : Form → List RegDecl
 declared f = record { name = f.register; width = f.width; first = f.first } ∷ []
 
-operand_width : (f : Form) (o : Operand) (a : Action) → OperandHasBits f.width o → IsOperandOf o a → HasWidth (declared f) a f.width
-unfolding declared
-operand_width f (Constant value) a bits e = subst (λ (x : Action). HasWidth (declared f) x f.width) (sym e) bits
-operand_width f Register a bits e = subst (λ (x : Action). HasWidth (declared f) x f.width) (sym e) (omega arith, (record { name = f.register; width = f.width; first = f.first }, refl, refl))
+declares : Form → Declarations
+declares f = record { regs = declared f; inputs = []; tables = []; hosts = [] }
 
-sum_width : (f : Form) (l : Operand) (r : Option Operand) (a : Action) → IsWidth f.width → OperandHasBits f.width l → IfSome r (OperandHasBits f.width) → IsSumOf l r a → HasWidth (declared f) a f.width
-unfolding declared
+operand_width : (f : Form) (o : Operand) (a : Action) → OperandHasBits f.width o → IsOperandOf o a → HasWidth (declares f) a [] f.width
+unfolding declared declares
+operand_width f (Constant value) a bits e = subst (λ (x : Action). HasWidth (declares f) x [] f.width) (sym e) bits
+operand_width f Register a bits e = subst (λ (x : Action). HasWidth (declares f) x [] f.width) (sym e) (omega arith, (record { name = f.register; width = f.width; first = f.first }, refl, refl))
+
+sum_width : (f : Form) (l : Operand) (r : Option Operand) (a : Action) → IsWidth f.width → OperandHasBits f.width l → IfSome r (OperandHasBits f.width) → IsSumOf l r a → HasWidth (declares f) a [] f.width
+unfolding declared declares
 sum_width f l None a some left right is = operand_width f l a left is
 sum_width f l (Some r) (Two' Add p a q b) some left right is = (f.width, f.width, operand_width f l a left is.0, operand_width f r b right is.1, some.0, some.0, (refl, refl))
 sum_width f l (Some r) _ some left right is = absurd is
 
-body_width : (f : Form) (body : Action) → IsWellFormed f → IsBodyOf f.left f.right body → HasWidth (declared f) body 0
-unfolding declared
+body_width : (f : Form) (body : Action) → IsWellFormed f → IsBodyOf f.left f.right body → HasWidth (declares f) body [] 0
+unfolding declared declares
 body_width f (Write' port register p a) well is = (
+  f.width,
+  sum_width f f.left f.right a well.width well.left well.right is.2,
   omega (arith, is.0),
+  (record { name = f.register; width = f.width; first = f.first }, rw is.1 refl, refl),
   refl,
-  (f.width, (record { name = f.register; width = f.width; first = f.first }, rw is.1 refl, refl), sum_width f f.left f.right a well.width well.left well.right is.2),
 )
 body_width f _ well is = absurd is
 
@@ -68,25 +73,26 @@ single_once [] h = λ i j d low high. absurd (omega arith)
 single_once (to ∷ path) h = absurd (goes_nowhere to h.0)
 
 spelled : Form → Action → Parts
-spelled f body = record { regs = declared f; inputs = []; tables = []; rules = record { name = f.rule; body = body } ∷ []; nodes = single }
+spelled f body = record { regs = declared f; inputs = []; tables = []; hosts = []; rules = record { name = f.rule; body = body } ∷ []; nodes = single }
 
 spelled_valid : (f : Form) (body : Action) → IsWellFormed f → IsBodyOf f.left f.right body → IsValid (spelled f body)
-unfolding spelled declared single
+unfolding spelled declared declares single
 spelled_valid f body well is = record {
   few_registers = omega arith;
   registers = one_holds IsRegister _ well.first;
   few_inputs = omega arith;
   inputs = none_hold _;
   tables = none_hold _;
+  hosts = none_hold _;
   few_rules = omega arith;
-  rules = one_holds (λ (rule : Rule). HasWidth (declared f) rule.body 0) (record { name = f.rule; body = body }) (body_width f body well is);
+  rules = one_holds (λ (rule : Rule). HasWidth (declares f) rule.body [] 0) (record { name = f.rule; body = body }) (body_width f body well is);
   few_nodes = omega arith;
   nodes = single_nodes;
   once = single_once;
 }
 
 pub design_valid : (f : Form) (design : Parts) → IsWellFormed f → IsDesignOf f design → IsValid design
-unfolding spelled declared single
+unfolding spelled declared declares single
 design_valid f design well is =
-    let same : design ≡ spelled f is.body = λ i. record { regs = is.regs i; inputs = is.inputs i; tables = is.tables i; rules = is.rules i; nodes = is.nodes i } in
+    let same : design ≡ spelled f is.body = λ i. record { regs = is.regs i; inputs = is.inputs i; tables = is.tables i; hosts = is.hosts i; rules = is.rules i; nodes = is.nodes i } in
     subst IsValid (sym same) (spelled_valid f is.body well is.writes)

@@ -30,6 +30,8 @@ alone_if_is s (rule ∷ rules) (suc k) = alone_if_is s rules k
 same_alike : (d e : Parts) → AreSame d e → AreAlike d e
 same_alike d e h = record {
   regs = h.regs;
+  tables = h.tables;
+  hosts = h.hosts;
   nodes = h.nodes;
   rules = sym (length-map d.rules (λ (rule : Rule). rule.name)) ∙ ap length h.names ∙ length-map e.rules (λ (rule : Rule). rule.name);
   bodies = λ s k. alone_if_is s d.rules k ∙ ap (λ runs. run_if runs k) (h.bodies s) ∙ sym (alone_if_is s e.rules k);

@@ -25,10 +25,10 @@ same_operand_action (Constant value) a b h g = h ∙ sym g
 same_operand_action Register a b h g = h ∙ sym g
 
 -- the values of a sum are the same, wherever its operands lie
-same_sum_value : (l : Operand) (r : Option Operand) (a b : Action) → IsSumOf l r a → IsSumOf l r b → (s : Surroundings) → evaluate s a ≡ evaluate s b
-same_sum_value l None a b h g s = ap (evaluate s) (same_operand_action l a b h g)
+same_sum_value : (l : Operand) (r : Option Operand) (a b : Action) → IsSumOf l r a → IsSumOf l r b → (s : Surroundings) → evaluate s a [] ≡ evaluate s b []
+same_sum_value l None a b h g s = ap (λ (x : Action). evaluate s x []) (same_operand_action l a b h g)
 same_sum_value l (Some r) (Two' Add p a q b) (Two' Add p' a' q' b') h g s =
-    ap (λ (x : Action). evaluate s (Two' Add p x q b)) (same_operand_action l a a' h.0 g.0) ∙ ap (λ (y : Action). evaluate s (Two' Add p a' q y)) (same_operand_action r b b' h.1 g.1)
+    ap (λ (x : Action). evaluate s (Two' Add p x q b) []) (same_operand_action l a a' h.0 g.0) ∙ ap (λ (y : Action). evaluate s (Two' Add p a' q y) []) (same_operand_action r b b' h.1 g.1)
 same_sum_value l (Some r) (Two' Add p a q b) _ h g s = absurd g
 same_sum_value l (Some r) _ b h g s = absurd h
 
@@ -37,7 +37,7 @@ same_body_run : (l : Operand) (r : Option Operand) (a b : Action) → IsBodyOf l
 same_body_run l r (Write' port register p a) (Write' port' register' p' b) h g s =
     let at_port : port ≡ port' = h.0 ∙ sym g.0 in
     let of_register : register ≡ register' = h.1 ∙ sym g.1 in
-    ap (λ (v : Part). do_write port register v) (same_sum_value l r a b h.2 g.2 s) ∙ ap (λ (n : ℕ). do_write n register (evaluate s b)) at_port ∙ ap (λ (n : ℕ). do_write port' n (evaluate s b)) of_register
+    ap (λ (v : Part). do_write port register v) (same_sum_value l r a b h.2 g.2 s) ∙ ap (λ (n : ℕ). do_write n register (evaluate s b [])) at_port ∙ ap (λ (n : ℕ). do_write port' n (evaluate s b [])) of_register
   where
     do_write : ℕ → ℕ → Part → Alone
     do_write n m v = let end = (v >>= λ value. write n m value) [] in record { events = end.events; outcome = outcome_of end.ending }
@@ -49,6 +49,7 @@ same_design f d e h g = record {
   regs = h.regs ∙ sym g.regs;
   inputs = h.inputs ∙ sym g.inputs;
   tables = h.tables ∙ sym g.tables;
+  hosts = h.hosts ∙ sym g.hosts;
   names = ap (map (λ (rule : Rule). rule.name)) h.rules ∙ sym (ap (map (λ (rule : Rule). rule.name)) g.rules);
   bodies = λ s.
       ap (map (λ (rule : Rule). alone s rule.body)) h.rules

@@ -104,6 +104,7 @@ pub record IsDesignOf (f : Form) (design : Parts) : Type 0 where
   pub regs : design.regs ≡ record { name = f.register; width = f.width; first = f.first } ∷ []
   pub inputs : design.inputs ≡ []
   pub tables : design.tables ≡ []
+  pub hosts : design.hosts ≡ []
   pub body : Action
   pub writes : IsBodyOf f.left f.right body
   pub rules : design.rules ≡ record { name = f.rule; body = body } ∷ []
@@ -118,6 +119,7 @@ pub record AreSame (d e : Parts) : Type 0 where
   pub regs : d.regs ≡ e.regs
   pub inputs : d.inputs ≡ e.inputs
   pub tables : d.tables ≡ e.tables
+  pub hosts : d.hosts ≡ e.hosts
   pub names : map (λ (rule : Rule). rule.name) d.rules ≡ map (λ (rule : Rule). rule.name) e.rules
   pub bodies : (s : Surroundings) → map (λ (rule : Rule). alone s rule.body) d.rules ≡ map (λ (rule : Rule). alone s rule.body) e.rules
   pub nodes : d.nodes ≡ e.nodes

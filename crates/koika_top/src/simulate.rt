@@ -4,21 +4,23 @@ ghost use Rattle.one_rule.specs.Run.{first_values, opening, run_of};
 ghost use Rattle.typed_core.specs.Fits.{FitsRegisters};
 
 use kw_bits::NoMemory;
-use one_rule::{FiredSet, Inputs, Regs, Row, Rows, slow_cycle};
+use one_rule::{Externs, FiredSet, Inputs, Regs, Row, Rows, slow_cycle};
 use std::alloc::Global;
 use std::mem;
 use typed_core::Design;
 
 /// The run of a design without inputs for this many cycles, by whole rules.
 pub(crate) fn simulate(alloc: Global, design: &Design, cycles: u32) -> Result<Rows, NoMemory>
+    requires { design.now.inputs ≡ [] }
     ensures run { IfOk result (λ rows. rows ≡ run_of design.now (λ _. []) cycles) }
     ensures fit { IfOk result (λ rows. RowsFit design.now rows) }
 {
+    let externs = Externs::new(alloc, design)?;
     let inputs = Inputs::new(alloc);
     let mut rows = Rows::new(alloc);
     let mut last = opening(alloc, design)?;
     for _cycle in 0..cycles {
-        let next = slow_cycle(alloc, design, &inputs, &last.regs)?;
+        let next = slow_cycle(alloc, design, &externs, &inputs, &last.regs)?;
         rows.push(mem::replace(&mut last, next))?;
     }
     rows.push(last)?;

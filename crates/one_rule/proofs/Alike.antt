@@ -1,6 +1,6 @@
 -- Designs whose rules do the same have the same runs.
-use Rattle.std.proofs.Common.{map, false, replicate, ◌≡◌, ℕ, zero, suc, ◌+◌, List, [], ◌∷◌, ◌++◌, length, refl, sym, ap, ◌∙◌}
-use Rattle.std.specs.Prelude.{if◌then◌else◌, slice_get, Option, ◌-◌}
+use Rattle.std.proofs.Common.{map, false, replicate, ◌≡◌, ℕ, zero, suc, ◌+◌, List, [], ◌∷◌, ◌++◌, length, refl, ap, ◌∙◌}
+use Rattle.std.specs.Prelude.{if◌then◌else◌, slice_get, ◌-◌}
 use Rattle.kw_bits.specs.BitVector.{BitVector}
 use Rattle.typed_core.specs.Alone.{Surroundings, after}
 use Rattle.typed_core.specs.declared.run_alone.Alone.{Alone}

@@ -1,5 +1,5 @@
 -- Where an operand came to, for the interpreter's proof.
-use Rattle.std.proofs.Common.{◌≡◌, List, Option, Some, Result, Ok, Err, sym, ap, ◌∙◌, subst}
+use Rattle.std.proofs.Common.{◌≡◌, List, Some, Result, Ok, sym, ap, ◌∙◌, subst}
 use Rattle.kw_bits.specs.BitVector.{BitVector}
 use Rattle.typed_core.specs.Alone.{Ending, Surroundings, evaluate}
 use Rattle.typed_core.specs.Fits.{CanEvaluate, EventsFit, FitsDeclarations}

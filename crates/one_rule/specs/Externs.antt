@@ -1,5 +1,5 @@
 -- What the actions of a design ask of the outside: its tables, and its host functions.
-use Rattle.std.specs.Prelude.{◌≡◌, List, map}
+use Rattle.std.specs.Prelude.{◌≡◌, List}
 use Rattle.ext_table.specs.Table.{LookupTable}
 use Rattle.kw_bits.specs.BitVector.{BitVector}
 use Rattle.typed_core.specs.Alone.{Surroundings}

@@ -144,6 +144,7 @@ impl Form {
             regs: one(alloc, register)?,
             inputs: Sequence::new(alloc),
             tables: Sequence::new(alloc),
+            hosts: Sequence::new(alloc),
             rules: one(alloc, rule)?,
             nodes: one(alloc, node)?,
         })

@@ -1,12 +1,12 @@
-use Rattle.std.proofs.Common.{◌≡◌, rules, subst, sym, ap, ◌∙◌, arith}
+use Rattle.std.proofs.Common.{rules, subst, sym, ap, ◌∙◌}
 use Rattle.std.proofs.lemmas.List.{get_or_read}
 use Rattle.typed_core.specs.declared.action.Action.{Action, the_lemmas}
-use Rattle.typed_core.specs.Fits.{CanBeOperand, CanEvaluate, EventsFit}
+use Rattle.typed_core.specs.Fits.{CanBeOperand, CanEvaluate}
 use Rattle.kw_bits.specs.BitVector.{BitVector}
 use Rattle.typed_core.specs.Alone.{unit}
 use Rattle.typed_core.specs.Valid.{declarations}
 use Rattle.typed_core.proofs.Ready.{arms_ready, body_ready, events_after, first_operand, first_ready, host_ready, input_ready, local_ready, operand_value, read_ready, second_ready, sequence_ready, sext_ready, slice_ready, table_ready, two_ready, zext_ready}
-use Rattle.one_rule.specs.Evaluation.{operand_progress, progress_of}
+use Rattle.one_rule.specs.Evaluation.{progress_of}
 use Rattle.one_rule.specs.declared.interpreter.Ending.TheVariants as ending
 use Rattle.one_rule.specs.Scenes.{surroundings_of}
 use Rattle.one_rule.proofs.Came.{after_first, came}
