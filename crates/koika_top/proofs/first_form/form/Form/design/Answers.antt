@@ -12,6 +12,7 @@ invariant_of-result c =
       regs = c.in_ok-one.ensures;
       inputs = c.new-2.ensures;
       tables = c.new-3.ensures;
+      hosts = c.new-4.ensures;
       body = Write 0 0 c.in_ok-new.field-0;
       writes = (refl, refl, sum);
       rules = c.in_ok-one-2.ensures;
