@@ -1,0 +1,129 @@
+ghost use Rattle.std.specs.Prelude.{◌≡◌, ◌^◌, ◌↔◌, length, slice_get, Some, IsOk, IfOk};
+ghost use Rattle.kw_bits.specs.Laws.{HasWidth};
+ghost use Rattle.ext_table.specs.Table.{HaveWidth, IsInputWidth, IsTable};
+
+use kw_bits::Bits;
+use std::error::Error;
+use std::fmt;
+use std::marker::Model;
+
+/// A table from bit vectors of 1 to 12 bits to bit vectors of one width, with an entry for each input.
+#[derive(Debug, Drop)]
+pub struct Table {
+    in_width: u32,
+    out_width: u32,
+    entries: Vec<Bits>,
+}
+
+impl Model for Table {
+    ghost use Rattle.ext_table.specs.Table.{LookupTable, IsTable};
+
+    ghost Value = { LookupTable };
+
+    ghost view = { λ t. record { in_width = t.in_width; out_width = t.out_width; entries = t.entries.items } };
+
+    ghost invariant = { λ t. IsTable (record { in_width = t.in_width; out_width = t.out_width; entries = t.entries.items }) };
+}
+
+impl Table {
+    /// The widest input has this many bits.
+    pub const MAX_IN_WIDTH: u32 = 12;
+
+    /// The table of these entries, in order of the input. A table of `in_width` bits needs 2 to the `in_width` of them.
+    pub fn new(in_width: u32, out_width: u32, entries: Vec<Bits>) -> Result<Table, TableLength>
+        requires input { IsInputWidth in_width }
+        requires entries { HaveWidth out_width entries.items }
+        ensures ok { IsOk result ↔ (length entries.items ≡ 2 ^ in_width) }
+        ensures table { IfOk result
+            (λ table. table ≡ record { in_width = in_width; out_width = out_width; entries = entries.items }) }
+    {
+        if entries.len() != 1 << in_width {
+            return Err(TableLength);
+        }
+        Ok(Table {
+            in_width,
+            out_width,
+            entries,
+        })
+    }
+
+    /// How many bits an input has.
+    pub fn in_width(&self) -> u32
+        ensures width { result ≡ self.now.in_width }
+        ensures table { IsTable self.now }
+    {
+        self.in_width
+    }
+
+    /// How many bits an entry has.
+    pub fn out_width(&self) -> u32
+        ensures width { result ≡ self.now.out_width }
+        ensures table { IsTable self.now }
+    {
+        self.out_width
+    }
+
+    /// The entry of this input.
+    pub fn look(&self, x: Bits) -> Bits
+        requires { x.width ≡ self.now.in_width }
+        ensures entry { slice_get self.now.entries x.number ≡ Some result }
+        ensures width { HasWidth result self.now.out_width }
+    {
+        self.entries[x.number() as usize]
+    }
+}
+
+/// There isn't an entry for each input, or there are more.
+#[derive(Clone, Copy, Debug, PartialEq, Eq)]
+pub struct TableLength;
+
+impl fmt::Display for TableLength {
+    fn fmt<W: fmt::Write>(&self, f: &mut fmt::Formatter<W>) -> fmt::Result {
+        f.write_str("a table needs one entry for each input")
+    }
+}
+
+impl Error for TableLength {}
+
+#[cfg(test)]
+mod tests {
+    use crate::{Table, TableLength};
+    use kw_bits::Bits;
+    use std::alloc::Global;
+    use std::test::Fail;
+
+    fn crosses_threads<T: Send + Sync>(_: &T) {}
+
+    fn entries(alloc: Global, numbers: &[u128]) -> Result<Vec<Bits>, Fail>
+        ensures { IfOk result (λ entries. HaveWidth 4 entries.items) }
+    {
+        let mut entries = Vec::new(alloc);
+        for number in numbers {
+            entries.push(Bits::new(4, *number).ok_or("more than four bits")?)?;
+        }
+        Ok(entries)
+    }
+
+    #[test]
+    fn an_input_has_its_entry(rt: HostRuntime) -> Result<(), Fail> {
+        let table = Table::new(2, 4, entries(rt.alloc(), &[9, 3, 0, 15])?)?;
+        crosses_threads(&table);
+        assert_eq!(rt; (table.in_width(), table.out_width()), (2, 4));
+        for (input, want) in [(0, 9), (1, 3), (2, 0), (3, 15)] {
+            let x = Bits::new(2, input).ok_or("more than two bits")?;
+            assert_eq!(rt; table.look(x).number(), want, "at {input}");
+        }
+        Ok(())
+    }
+
+    #[test]
+    fn another_count_of_entries_is_refused(rt: HostRuntime) -> Result<(), Fail> {
+        for numbers in [&[9, 3, 0][..], &[9, 3, 0, 15, 9]] {
+            let table = Table::new(2, 4, entries(rt.alloc(), numbers)?);
+            assert_eq!(rt; table.err(), Some(TableLength));
+        }
+        let text = format!(in rt.alloc(); "{TableLength}")?;
+        assert_eq!(rt; text.as_str(), "a table needs one entry for each input");
+        Ok(())
+    }
+}
