@@ -1,0 +1,12 @@
+pub mod Cuts
+pub mod Fronts
+pub mod KeywordTable
+pub mod Longest
+pub mod LongestNumeral
+pub mod Numerals
+pub mod Runs
+pub mod Shapes
+pub mod Spans
+pub mod SymbolTable
+pub mod Unique
+pub mod UniquePieces

@@ -1,0 +1,115 @@
+-- A text begins with one piece or with one fault, and is cut in one way.
+use Rattle.std.proofs.Common.{◌≡◌, ◌≢◌, ℕ, List, ◌++◌, length, sym, ap, ◌∙◌, subst, arith, ⊎_elim, ◌⊎◌}
+use Rattle.kw_bits.specs.BitVector.{IsBitVector}
+use Rattle.koika_syntax.specs.Lexemes.{Shape, HasShape, LiteralParts, IsLongest}
+use Rattle.koika_syntax.specs.Tokens.{IsToken, width_of, value_of, Piece, bytes_of, IsPiece}
+use Rattle.koika_syntax.specs.TokenFaults.{IsWrong, BeginsStray, BeginsWrong, BeginsFaulty}
+use Rattle.koika_syntax.specs.declared.token.TokenKind.{TokenKind}
+use Rattle.koika_syntax.specs.declared.token.TokenKind.TheVariants as kinds
+use Rattle.koika_syntax.proofs.KeywordTable.{length-keyword_text}
+use Rattle.koika_syntax.proofs.Unique.{same_longest, same_shape, same_parts, shape_of, HasShape-token, same_token}
+
+-- a piece is a lexeme
+pub shape_of_piece : (piece : Piece) → IsPiece piece → (shape : Shape) × HasShape shape (bytes_of piece)
+shape_of_piece (Piece.gap bytes) is = ⊎_elim (λ h. (Shape.blank, h)) (λ h. (Shape.comment, h)) is
+shape_of_piece (Piece.token kind bytes) is = (shape_of kind, HasShape-token kind bytes is)
+
+not_blank : (kind : TokenKind) → Shape.blank ≢ shape_of kind
+not_blank kinds.Name = λ e. cc
+not_blank (kinds.Number n) = λ e. cc
+not_blank (kinds.Literal bits) = λ e. cc
+not_blank (kinds.Keyword keyword) = λ e. cc
+not_blank (kinds.Symbol symbol) = λ e. cc
+
+not_comment : (kind : TokenKind) → Shape.comment ≢ shape_of kind
+not_comment kinds.Name = λ e. cc
+not_comment (kinds.Number n) = λ e. cc
+not_comment (kinds.Literal bits) = λ e. cc
+not_comment (kinds.Keyword keyword) = λ e. cc
+not_comment (kinds.Symbol symbol) = λ e. cc
+
+gap_not_token : (kind : TokenKind) (bytes : List ℕ) → HasShape Shape.blank bytes ⊎ HasShape Shape.comment bytes → IsToken kind bytes → ⊥
+gap_not_token kind bytes gap is =
+    ⊎_elim
+    (λ blank. not_blank kind (same_shape Shape.blank (shape_of kind) bytes blank (HasShape-token kind bytes is)))
+    (λ comment. not_comment kind (same_shape Shape.comment (shape_of kind) bytes comment (HasShape-token kind bytes is)))
+    gap
+
+-- bytes are one piece
+same_piece : (p q : Piece) → bytes_of p ≡ bytes_of q → IsPiece p → IsPiece q → p ≡ q
+same_piece (Piece.gap a) (Piece.gap b) same is is' = ap Piece.gap same
+same_piece (Piece.gap a) (Piece.token k b) same is is' = absurd (gap_not_token k a is (subst (IsToken k) (sym same) is'))
+same_piece (Piece.token k a) (Piece.gap b) same is is' = absurd (gap_not_token k b is' (subst (IsToken k) same is))
+same_piece (Piece.token k a) (Piece.token j b) same is is' =
+    let kind = same_token k j a is (subst (IsToken j) (sym same) is') in (λ i. Piece.token (kind i) (same i))
+
+-- a text begins with one piece
+pub same_front : (p q : Piece) (ys vs : List ℕ) → bytes_of p ++ ys ≡ bytes_of q ++ vs → IsPiece p → IsLongest (bytes_of p) ys → IsPiece q → IsLongest (bytes_of q) vs → (p ≡ q) × (ys ≡ vs)
+same_front p q ys vs whole is longest is' longest' =
+    let s = shape_of_piece p is in
+    let t = shape_of_piece q is' in
+    let same = same_longest s.0 t.0 (bytes_of p) ys (bytes_of q) vs whole s.1 longest t.1 longest' in
+    (same_piece p q same.0 is is', same.1)
+
+token_not_wrong : (kind : TokenKind) (bytes : List ℕ) (number offset : ℕ) → IsToken kind bytes → IsWrong (shape_of kind) bytes number offset → ⊥
+token_not_wrong kinds.Name bytes number offset is wrong = omega (arith, is.1, wrong.0)
+token_not_wrong (kinds.Number n) bytes number offset is wrong = omega (arith, is.1, is.2, wrong.0)
+token_not_wrong (kinds.Literal bits) bytes number offset (parts, literal, of) (other, literal', absent, _, _) =
+    absurd (absent (subst (λ (p : LiteralParts). IsBitVector (width_of p) (value_of p)) (same_parts parts other bytes literal literal') of.in_range))
+token_not_wrong (kinds.Keyword keyword) bytes number offset is wrong = omega (arith, wrong.0, ap length is, length-keyword_text keyword)
+token_not_wrong (kinds.Symbol symbol) bytes number offset is wrong = wrong
+
+piece_not_wrong : (piece : Piece) (shape : Shape) (number offset : ℕ) → IsPiece piece → HasShape shape (bytes_of piece) → IsWrong shape (bytes_of piece) number offset → ⊥
+piece_not_wrong (Piece.gap bytes) shape number offset is has wrong =
+    ⊎_elim
+    (λ blank. let w : ⊥ = subst (λ (s : Shape). IsWrong s bytes number offset) (same_shape shape Shape.blank bytes has blank) wrong in w)
+    (λ comment. let w : ⊥ = subst (λ (s : Shape). IsWrong s bytes number offset) (same_shape shape Shape.comment bytes has comment) wrong in w)
+    is
+piece_not_wrong (Piece.token kind bytes) shape number offset is has wrong =
+    token_not_wrong kind bytes number offset is
+    (subst (λ (s : Shape). IsWrong s bytes number offset) (same_shape shape (shape_of kind) bytes has (HasShape-token kind bytes is)) wrong)
+
+-- a text that begins with a piece doesn't begin with a fault
+pub piece_not_faulty : (piece : Piece) (after text : List ℕ) (number offset : ℕ) → text ≡ bytes_of piece ++ after → IsPiece piece → IsLongest (bytes_of piece) after → BeginsFaulty text number offset → ⊥
+piece_not_faulty piece after text number offset front is longest faulty =
+    let s = shape_of_piece piece is in
+    ⊎_elim
+    (λ (stray : BeginsStray text number offset). stray.stray s.0 (bytes_of piece) after front s.1)
+    (λ (wrong : BeginsWrong text number offset).
+    let same = same_longest wrong.shape s.0 wrong.bytes wrong.after (bytes_of piece) after (sym wrong.front ∙ front) wrong.lexeme wrong.longest s.1 longest in
+    piece_not_wrong piece wrong.shape number offset is (subst (HasShape wrong.shape) same.0 wrong.lexeme)
+    (subst (λ bytes. IsWrong wrong.shape bytes number offset) same.0 wrong.wrong))
+    faulty
+
+wrong_once : (shape : Shape) (bytes : List ℕ) (n o m p : ℕ) → IsWrong shape bytes n o → IsWrong shape bytes m p → (n ≡ m) × (o ≡ p)
+wrong_once Shape.blank bytes n o m p wrong wrong' = absurd wrong
+wrong_once Shape.comment bytes n o m p wrong wrong' = absurd wrong
+wrong_once Shape.word bytes n o m p wrong wrong' = (wrong.1 ∙ sym wrong'.1, wrong.2 ∙ sym wrong'.2)
+wrong_once Shape.number bytes n o m p wrong wrong' = (wrong.1 ∙ sym wrong'.1, wrong.2 ∙ sym wrong'.2)
+wrong_once Shape.literal bytes n o m p wrong wrong' = (wrong.3 ∙ sym wrong'.3, wrong.4 ∙ sym wrong'.4)
+wrong_once Shape.unfinished bytes n o m p wrong wrong' = (wrong.0 ∙ sym wrong'.0, wrong.1 ∙ sym wrong'.1)
+wrong_once Shape.symbol bytes n o m p wrong wrong' = absurd wrong
+
+same_wrong : (text : List ℕ) (n o m p : ℕ) → BeginsWrong text n o → BeginsWrong text m p → (n ≡ m) × (o ≡ p)
+same_wrong text n o m p a b =
+    let same = same_longest a.shape b.shape a.bytes a.after b.bytes b.after (sym a.front ∙ b.front) a.lexeme a.longest b.lexeme b.longest in
+    let has = subst (HasShape b.shape) (sym same.0) b.lexeme in
+    let shape = same_shape b.shape a.shape a.bytes has a.lexeme in
+    let at_bytes = subst (λ bytes. IsWrong b.shape bytes m p) (sym same.0) b.wrong in
+    wrong_once a.shape a.bytes n o m p a.wrong (subst (λ (s : Shape). IsWrong s a.bytes m p) shape at_bytes)
+
+-- a text begins with one fault
+pub same_fault : (text : List ℕ) (n o m p : ℕ) → BeginsFaulty text n o → BeginsFaulty text m p → (n ≡ m) × (o ≡ p)
+same_fault text n o m p a b =
+    ⊎_elim
+    (λ (stray : BeginsStray text n o).
+    ⊎_elim
+    (λ (other : BeginsStray text m p). (stray.number_is ∙ sym other.number_is, stray.offset_is ∙ sym other.offset_is))
+    (λ (other : BeginsWrong text m p). absurd (stray.stray other.shape other.bytes other.after other.front other.lexeme))
+    b)
+    (λ (wrong : BeginsWrong text n o).
+    ⊎_elim
+    (λ (other : BeginsStray text m p). absurd (other.stray wrong.shape wrong.bytes wrong.after wrong.front wrong.lexeme))
+    (λ (other : BeginsWrong text m p). same_wrong text n o m p wrong other)
+    b)
+    a

@@ -1,0 +1,42 @@
+-- The keywords of a design's text, each with its bytes. This project's own text form.
+use Rattle.std.specs.Prelude.{ℕ, List, codes}
+use Rattle.koika_syntax.specs.declared.keyword.Keyword.{Keyword}
+use Rattle.koika_syntax.specs.declared.keyword.Keyword.TheVariants as keywords
+
+-- the bytes of a keyword
+abbrev pub keyword_text : Keyword → List ℕ
+keyword_text keywords.Reg = codes "reg"
+keyword_text keywords.Input = codes "input"
+keyword_text keywords.Enum = codes "enum"
+keyword_text keywords.Struct = codes "struct"
+keyword_text keywords.Table = codes "table"
+keyword_text keywords.Host = codes "host"
+keyword_text keywords.Fun = codes "fun"
+keyword_text keywords.Rule = codes "rule"
+keyword_text keywords.Schedule = codes "schedule"
+keyword_text keywords.Try = codes "try"
+keyword_text keywords.Then = codes "then"
+keyword_text keywords.Else = codes "else"
+keyword_text keywords.If = codes "if"
+keyword_text keywords.Let = codes "let"
+keyword_text keywords.Bits = codes "bits"
+keyword_text keywords.Unit = codes "unit"
+keyword_text keywords.Abort = codes "abort"
+keyword_text keywords.Pack = codes "pack"
+keyword_text keywords.Unpack = codes "unpack"
+keyword_text keywords.Update = codes "update"
+keyword_text keywords.Zext = codes "zext"
+keyword_text keywords.Sext = codes "sext"
+keyword_text keywords.Slt = codes "slt"
+keyword_text keywords.Sle = codes "sle"
+keyword_text keywords.Sgt = codes "sgt"
+keyword_text keywords.Sge = codes "sge"
+keyword_text keywords.Read0 = codes "read0"
+keyword_text keywords.Read1 = codes "read1"
+keyword_text keywords.Read2 = codes "read2"
+keyword_text keywords.Read3 = codes "read3"
+keyword_text keywords.Write0 = codes "write0"
+keyword_text keywords.Write1 = codes "write1"
+keyword_text keywords.Write2 = codes "write2"
+keyword_text keywords.Write3 = codes "write3"
+keyword_text keywords.Assert = codes "assert"

@@ -1,0 +1,41 @@
+-- What the calls that read one lexeme answer: the piece that a text begins with, or the fault.
+use Rattle.std.specs.Prelude.{◌≡◌, ℕ, ◌<◌, List, ◌++◌, length, Option, None, Some, Result, Ok, Err}
+use Rattle.koika_syntax.specs.Lexemes.{IsLongest}
+use Rattle.koika_syntax.specs.Tokens.{Piece, IsPiece}
+use Rattle.koika_syntax.specs.TokenFaults.{BeginsFaulty}
+use Rattle.koika_syntax.specs.declared.lexeme.Flaw.{Flaw}
+use Rattle.koika_syntax.specs.declared.lexeme.Flaw.TheVariants as flaws
+use Rattle.koika_syntax.specs.declared.lexeme.Lexeme.{Lexeme}
+use Rattle.koika_syntax.specs.declared.token.TokenKind.{TokenKind}
+
+-- the piece of these bytes: a token of a kind, or else a blank or a comment
+abbrev pub piece_of : Option TokenKind → List ℕ → Piece
+piece_of None bytes = Piece.gap bytes
+piece_of (Some kind) bytes = Piece.token kind bytes
+
+-- the text begins with the piece, and it is the longest lexeme there
+pub record BeginsWithPiece (text : List ℕ) (lexeme : Lexeme) : Type 0 where
+  pub bytes : List ℕ
+  pub after : List ℕ
+  pub front : text ≡ bytes ++ after
+  pub some_byte : 0 < length bytes
+  pub len : lexeme.len ≡ length bytes
+  pub piece : IsPiece (piece_of lexeme.token bytes)
+  pub longest : IsLongest bytes after
+
+-- the number of the fault
+abbrev pub number_of : Flaw → ℕ
+number_of (flaws.Byte offset) = 10
+number_of flaws.Range = 13
+number_of flaws.LongName = 14
+
+-- how many bytes behind the text's first byte the fault stands
+abbrev pub offset_of : Flaw → ℕ
+offset_of (flaws.Byte offset) = offset
+offset_of flaws.Range = 0
+offset_of flaws.LongName = 0
+
+-- the answer is what the text begins with
+abbrev pub IsAnswer : List ℕ → Result Lexeme Flaw → Type 0
+IsAnswer text (Ok lexeme) = BeginsWithPiece text lexeme
+IsAnswer text (Err flaw) = BeginsFaulty text (number_of flaw) (offset_of flaw)

@@ -1,0 +1,6 @@
+pub mod Keywords
+pub mod Symbols
+pub mod Lexemes
+pub mod Tokens
+pub mod TokenFaults
+pub mod LexemeAnswers

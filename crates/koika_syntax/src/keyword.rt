@@ -1,0 +1,146 @@
+ghost use Rattle.std.specs.Prelude.{◌≡◌, ◌≢◌, ◌↔◌, IsTrue, IfSome, IfNone};
+ghost use Rattle.koika_syntax.specs.Keywords.{keyword_text};
+
+/// A word that is no name.
+#[derive(Clone, Copy, Debug, PartialEq, Eq)]
+pub enum Keyword {
+    Reg,
+    Input,
+    Enum,
+    Struct,
+    Table,
+    Host,
+    Fun,
+    Rule,
+    Schedule,
+    Try,
+    Then,
+    Else,
+    If,
+    Let,
+    Bits,
+    Unit,
+    Abort,
+    Pack,
+    Unpack,
+    Update,
+    Zext,
+    Sext,
+    Slt,
+    Sle,
+    Sgt,
+    Sge,
+    Read0,
+    Read1,
+    Read2,
+    Read3,
+    Write0,
+    Write1,
+    Write2,
+    Write3,
+    Assert,
+}
+
+// Every keyword, in the order of the declaration.
+const KEYWORDS: [Keyword; 35] = [
+    Keyword::Reg,
+    Keyword::Input,
+    Keyword::Enum,
+    Keyword::Struct,
+    Keyword::Table,
+    Keyword::Host,
+    Keyword::Fun,
+    Keyword::Rule,
+    Keyword::Schedule,
+    Keyword::Try,
+    Keyword::Then,
+    Keyword::Else,
+    Keyword::If,
+    Keyword::Let,
+    Keyword::Bits,
+    Keyword::Unit,
+    Keyword::Abort,
+    Keyword::Pack,
+    Keyword::Unpack,
+    Keyword::Update,
+    Keyword::Zext,
+    Keyword::Sext,
+    Keyword::Slt,
+    Keyword::Sle,
+    Keyword::Sgt,
+    Keyword::Sge,
+    Keyword::Read0,
+    Keyword::Read1,
+    Keyword::Read2,
+    Keyword::Read3,
+    Keyword::Write0,
+    Keyword::Write1,
+    Keyword::Write2,
+    Keyword::Write3,
+    Keyword::Assert,
+];
+
+impl Keyword {
+    /// The bytes of the keyword.
+    pub fn text(self) -> &'static [u8]
+        ensures { result.now ≡ keyword_text self }
+    {
+        match self {
+            Keyword::Reg => b"reg",
+            Keyword::Input => b"input",
+            Keyword::Enum => b"enum",
+            Keyword::Struct => b"struct",
+            Keyword::Table => b"table",
+            Keyword::Host => b"host",
+            Keyword::Fun => b"fun",
+            Keyword::Rule => b"rule",
+            Keyword::Schedule => b"schedule",
+            Keyword::Try => b"try",
+            Keyword::Then => b"then",
+            Keyword::Else => b"else",
+            Keyword::If => b"if",
+            Keyword::Let => b"let",
+            Keyword::Bits => b"bits",
+            Keyword::Unit => b"unit",
+            Keyword::Abort => b"abort",
+            Keyword::Pack => b"pack",
+            Keyword::Unpack => b"unpack",
+            Keyword::Update => b"update",
+            Keyword::Zext => b"zext",
+            Keyword::Sext => b"sext",
+            Keyword::Slt => b"slt",
+            Keyword::Sle => b"sle",
+            Keyword::Sgt => b"sgt",
+            Keyword::Sge => b"sge",
+            Keyword::Read0 => b"read0",
+            Keyword::Read1 => b"read1",
+            Keyword::Read2 => b"read2",
+            Keyword::Read3 => b"read3",
+            Keyword::Write0 => b"write0",
+            Keyword::Write1 => b"write1",
+            Keyword::Write2 => b"write2",
+            Keyword::Write3 => b"write3",
+            Keyword::Assert => b"assert",
+        }
+    }
+
+    /// The keyword that a word is, if it is one.
+    pub(crate) fn of_word(word: &[u8]) -> Option<Keyword>
+        ensures found { IfSome result (λ keyword. word.now ≡ keyword_text keyword) }
+        ensures absent { IfNone result ((keyword : Keyword) → word.now ≢ keyword_text keyword) }
+    {
+        for keyword in KEYWORDS {
+            if keyword.is_spelled(word) {
+                return Some(keyword);
+            }
+        }
+        None
+    }
+
+    // Whether a word has the bytes of the keyword.
+    fn is_spelled(self, word: &[u8]) -> bool
+        ensures { IsTrue result ↔ (word.now ≡ keyword_text self) }
+    {
+        word == self.text()
+    }
+}

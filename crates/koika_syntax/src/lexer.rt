@@ -1,0 +1,61 @@
+ghost use Rattle.std.specs.Prelude.{◌≡◌, ◌+◌, ◌<◌, ◌≤◌, List, length, drop, All, IfOk};
+ghost use Rattle.kw_base.specs.Place.{place_at};
+ghost use Rattle.kw_base.specs.Fault.{fault_at, IfFault, IsOkUnlessNoMemory, IsFaultUnlessNoMemory};
+ghost use Rattle.kw_base.specs.declared.fault.Fault.{Fault};
+ghost use Rattle.koika_syntax.specs.LexemeAnswers.{IsAnswer, number_of, offset_of};
+ghost use Rattle.koika_syntax.specs.Tokens.{AreTokensOf, StandsIn, AreAscending};
+ghost use Rattle.koika_syntax.specs.TokenFaults.{IsFirstFault};
+
+use crate::Token;
+use crate::lexeme::{Flaw, Lexeme, lexeme_of};
+use kw_base::{Fault, Refusal, place_of};
+use std::alloc::Global;
+
+/// The tokens of a text, or its first fault: 10 at a byte that begins or continues no token, 13 at a
+/// number or a literal out of its range, 14 at a name of more than 64 bytes.
+pub fn lex(alloc: Global, text: &[u8]) -> Result<Vec<Token>, Refusal>
+    requires { length text.now ≤ 1048576 }
+    ensures tokens { IfOk result (λ found. AreTokensOf found.items text.now) }
+    ensures spans { IfOk result (λ found. All (StandsIn text.now) found.items) }
+    ensures ascending { IfOk result (λ found. AreAscending found.items) }
+    ensures fault { IfFault result (IsFirstFault text.now) }
+
+    // The tokens of a text are one list, its first fault is one, and no text has both.
+    ensures accepted { (tokens : List Token) → AreTokensOf tokens text.now → IsOkUnlessNoMemory result (λ found. found.items ≡ tokens) }
+    ensures refused { (fault : Fault) → IsFirstFault text.now fault → IsFaultUnlessNoMemory result fault }
+{
+    let mut tokens = Vec::new(alloc);
+    let mut offset = 0;
+    while offset < text.len() {
+        let lexeme = match lexeme_at(text, offset) {
+            Ok(lexeme) => lexeme,
+            Err(flaw) => return Err(Refusal::Fault(fault_of(text, offset, flaw))),
+        };
+        let end = offset + lexeme.len;
+        if let Some(kind) = lexeme.token {
+            tokens.push(Token {
+                kind,
+                start: offset as u32,
+                end: end as u32,
+            })?;
+        }
+        offset = end;
+    }
+    Ok(tokens)
+}
+
+// What the text behind an offset begins with.
+fn lexeme_at(text: &[u8], offset: usize) -> Result<Lexeme, Flaw>
+    requires { offset < length text.now }
+    ensures { IsAnswer (drop offset text.now) result }
+{
+    lexeme_of(&text[offset..])
+}
+
+// The fault that a flaw of the text behind an offset is.
+fn fault_of(text: &[u8], offset: usize, flaw: Flaw) -> Fault
+    requires { offset + offset_of flaw ≤ length text.now }
+    ensures { result ≡ fault_at (number_of flaw) (place_at text.now (offset + offset_of flaw)) }
+{
+    Fault::new(flaw.number(), place_of(text, offset + flaw.offset()))
+}
