@@ -10,7 +10,7 @@ schedule { incr; }
 // Sources of the form.
 static READ: [&str; 8] = [
     "reg r:bits 1=1'd0;rule s{write0(r,1'd1)}schedule{s;}",
-    "\t reg _ \r\n: bits 3 = 3'd7; rule R2 { write0 ( _ , read0 ( _ ) ) } schedule { R2 ; } \n",
+    "\t reg _ \r\n: bits 3 = 3'd7; rule r2 { write0 ( _ , read0 ( _ ) ) } schedule { r2 ; } \n",
     "reg a : bits 8 = 8'd255; rule b { write0(a, 8'd1 + read0(a)) } schedule { b; }",
     "reg a : bits 8 = 8'd0; rule b { write0(a, read0(a) + read0(a)) } schedule { b; }",
     "reg a : bits 00128 = 0128'd00340282366920938463463374607431768211455; rule b { write0(a, 128'd1 + 128'd2) } schedule { b; }",
