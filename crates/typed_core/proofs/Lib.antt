@@ -1,3 +1,4 @@
 pub mod Events
 pub mod Values
 pub mod Typed
+pub mod Widths

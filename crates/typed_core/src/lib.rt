@@ -9,6 +9,7 @@ mod access;
 mod action;
 mod design;
 mod run_alone;
+mod width;
 
 pub use access::{Access, Event, Events};
 pub use action::{Action, OneOp, TwoOp};
