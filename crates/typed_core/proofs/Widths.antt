@@ -141,3 +141,8 @@ module _ (d : Declarations) (locals : List ℕ) (x : Action) (r : Option ℕ) wh
   finds_write {port} {register} {p} {a} held is ta h =
       at_form (action.Write' port register p a) _ is (λ w t. (held, ta, t.0, t.1, t.2))
       (λ w (v, ua, at_port, reg, u). (at_port, rw (HasWidth-same d a locals held v ta ua) reg, u)) h
+
+-- a search finds the width that there is
+pub Finds-only : (d : Declarations) (a : Action) (locals : List ℕ) (w : ℕ) (r : Option ℕ) → Finds (HasWidth d a locals) r → HasWidth d a locals w → r ≡ Some w
+Finds-only d a locals w None f t = absurd (f w t)
+Finds-only d a locals w (Some v) f t = ap (λ (n : ℕ). Some n) (HasWidth-same d a locals v w f t)

@@ -3,3 +3,4 @@ pub mod Alone
 pub mod Valid
 pub mod Fits
 pub mod Width
+pub mod Paths

@@ -9,6 +9,8 @@ mod access;
 mod action;
 mod design;
 mod run_alone;
+mod schedule;
+mod validity;
 mod width;
 
 pub use access::{Access, Event, Events};
