@@ -2,3 +2,5 @@ pub mod Events
 pub mod Values
 pub mod Typed
 pub mod Ready
+pub mod Widths
+pub mod Paths

@@ -154,6 +154,10 @@ pub record IsNode (rules nodes number : ℕ) (node : Node) : Type 0 where
   pub yes : IsContinuation nodes number node.yes
   pub no : IsContinuation nodes number node.no
 
+-- each of the nodes is valid
+abbrev pub AreNodes : ℕ → List Node → Type 0
+AreNodes rules nodes = (number : ℕ) (node : Node) → slice_get nodes number ≡ Some node → IsNode rules (length nodes) number node
+
 -- the second node is a continuation of the first
 abbrev pub Continues : List Node → ℕ → ℕ → Type 0
 Continues nodes from to = (node : Node) × (slice_get nodes from ≡ Some node) × ((node.yes ≡ next.Node to) ⊎ (node.no ≡ next.Node to))
@@ -167,6 +171,10 @@ IsPath nodes from (to ∷ path) = Continues nodes from to × IsPath nodes to pat
 abbrev pub TryOthers : List Node → ℕ → ℕ → Type 0
 TryOthers nodes a b = (m n : Node) → slice_get nodes a ≡ Some m → slice_get nodes b ≡ Some n → m.rule ≢ n.rule
 
+-- no rule stands twice on a path from the root
+abbrev pub TriesNoneTwice : List Node → Type 0
+TriesNoneTwice nodes = (path : List ℕ) → IsPath nodes 0 path → AllPairs (TryOthers nodes) (0 ∷ path)
+
 -- a design of these parts is valid
 pub record IsValid (parts : Parts) : Type 0 where
   pub few_registers : length parts.regs ≤ 256
@@ -178,6 +186,5 @@ pub record IsValid (parts : Parts) : Type 0 where
   pub few_rules : length parts.rules ≤ 256
   pub rules : All (λ (rule : Rule). HasWidth (declarations parts) rule.body [] 0) parts.rules
   pub few_nodes : length parts.nodes ≤ 1024
-  pub nodes : (number : ℕ) (node : Node) → slice_get parts.nodes number ≡ Some node → IsNode (length parts.rules) (length parts.nodes) number node
-  -- no rule stands twice on a path from the root
-  pub once : (path : List ℕ) → IsPath parts.nodes 0 path → AllPairs (TryOthers parts.nodes) (0 ∷ path)
+  pub nodes : AreNodes (length parts.rules) parts.nodes
+  pub once : TriesNoneTwice parts.nodes

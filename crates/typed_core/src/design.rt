@@ -1,4 +1,7 @@
+ghost use Rattle.std.specs.Prelude.{◌≡◌, ◌↔◌, IsSome, IfSome};
+
 use crate::action::Action;
+use crate::validity::is_valid;
 use kw_bits::{Bits, HostKind, Sequence, Text};
 use std::marker::Model;
 
@@ -92,4 +95,34 @@ impl Model for Design {
     ghost view = { λ d. record { regs = d.regs; inputs = d.inputs; tables = d.tables; hosts = d.hosts; rules = d.rules; nodes = d.nodes } };
 
     ghost invariant = { λ d. IsValid (record { regs = d.regs; inputs = d.inputs; tables = d.tables; hosts = d.hosts; rules = d.rules; nodes = d.nodes }) };
+}
+
+impl Design {
+    ghost use Rattle.typed_core.specs.Valid.{IsValid};
+
+    /// The design of these parts, if they are valid.
+    pub fn new(parts: Parts) -> Option<Design>
+        ensures some { IsSome result ↔ IsValid parts }
+        ensures parts { IfSome result (λ design. design ≡ parts) }
+    {
+        if !is_valid(&parts) {
+            return None;
+        }
+        let Parts {
+            regs,
+            inputs,
+            tables,
+            hosts,
+            rules,
+            nodes,
+        } = parts;
+        Some(Design {
+            regs,
+            inputs,
+            tables,
+            hosts,
+            rules,
+            nodes,
+        })
+    }
 }

@@ -9,6 +9,9 @@ mod access;
 mod action;
 mod design;
 mod run_alone;
+mod schedule;
+mod validity;
+mod width;
 
 pub use access::{Access, Event, Events};
 pub use action::{Action, OneOp, TwoOp};
