@@ -1,3 +1,4 @@
 pub mod Flags
 pub mod Alike
 pub mod Came
+pub mod RunLaws
