@@ -2,3 +2,4 @@ pub mod Flags
 pub mod Alike
 pub mod Came
 pub mod RunLaws
+pub mod Walks

@@ -6,3 +6,16 @@ ghost use Rattle.one_rule.specs.Laws as law;
 pub fn a_run_has_a_row_more_than_its_cycles()
     ensures { law.RowsAreCycles }
 {}
+
+/// No rule fires twice in a cycle.
+#[tactic(auto, using(crate::proofs::Walks::fires_once))]
+pub fn a_rule_fires_once_in_a_cycle()
+    ensures { law.FiresOnce }
+{}
+
+/// A rule that is on no path from the root of the scheduler doesn't fire.
+#[tactic(auto, using(crate::proofs::Walks::fires_on_path))]
+pub fn a_rule_on_no_path_does_not_fire()
+    ensures cycle { law.FiresOnPath }
+    ensures run { law.FiresOnPathInRuns }
+{}
