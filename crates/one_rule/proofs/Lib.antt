@@ -3,3 +3,4 @@ pub mod Alike
 pub mod Came
 pub mod RunLaws
 pub mod Walks
+pub mod Kept

@@ -19,3 +19,11 @@ pub fn a_rule_on_no_path_does_not_fire()
     ensures cycle { law.FiresOnPath }
     ensures run { law.FiresOnPathInRuns }
 {}
+
+/// A rule that is visited and doesn't fire aborts, or makes a write that its own events refuse, or has an event
+/// that clashes with one of a rule that fired before; a rule that fires does none of these.
+pub fn a_rule_fires_unless_it_is_kept()
+    ensures visit { law.VisitFiresUnlessKept }
+    ensures unless { law.FiresUnlessKept }
+    ensures never_both { law.FiresIfNotKept }
+{}
