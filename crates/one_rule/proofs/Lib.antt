@@ -1,3 +1,6 @@
 pub mod Flags
 pub mod Alike
 pub mod Came
+pub mod RunLaws
+pub mod Walks
+pub mod Kept

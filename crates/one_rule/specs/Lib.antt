@@ -4,3 +4,4 @@ pub mod Evaluation
 pub mod Rows
 pub mod Externs
 pub mod Scenes
+pub mod Laws
