@@ -9,6 +9,8 @@ mod externs;
 mod interpreter;
 mod laws;
 mod rows;
+#[cfg(test)]
+mod tests;
 mod walk;
 
 pub use cycle::slow_cycle;
