@@ -8,9 +8,11 @@
 mod access;
 mod action;
 mod design;
+mod laws;
 mod run_alone;
 
 pub use access::{Access, Event, Events};
 pub use action::{Action, OneOp, TwoOp};
 pub use design::{Design, HostSpec, InputDecl, Next, Node, Parts, RegDecl, Rule, TableSpec};
+pub use laws::accesses_clash_by_their_ports;
 pub use run_alone::{Alone, Outcome};
