@@ -4,3 +4,4 @@ pub mod Came
 pub mod RunLaws
 pub mod Walks
 pub mod Kept
+pub mod Fitting

@@ -1,6 +1,6 @@
 -- What holds of every cycle and every run, after the one-rule-at-a-time semantics of Koika (Bourgeat et al.,
 -- PLDI 2020). It adds nothing to what a cycle and a run are.
-use Rattle.std.specs.Prelude.{◌≡◌, ◌≢◌, ℕ, ◌+◌, ◌⊎◌, true, false, List, [], ◌∷◌, length, take, slice_get, slice_index_or, AllPairs, Any, Contains, Some}
+use Rattle.std.specs.Prelude.{◌≡◌, ◌≢◌, ℕ, ◌+◌, ◌≤◌, ◌⊎◌, true, false, List, [], ◌∷◌, length, take, slice_get, slice_index_or, AllPairs, Any, Contains, Some}
 use Rattle.std.specs.List.{AllByRecursion}
 use Rattle.kw_bits.specs.BitVector.{BitVector}
 use Rattle.typed_core.specs.Clash.{clashes}
@@ -10,8 +10,10 @@ use Rattle.typed_core.specs.declared.run_alone.Alone.{Alone}
 use Rattle.typed_core.specs.declared.run_alone.Outcome.TheVariants.{Abort, OwnClash}
 use Rattle.typed_core.specs.declared.design.Node.{Node}
 use Rattle.typed_core.specs.declared.design.Parts.{Parts}
+use Rattle.typed_core.specs.Fits.{FitsInputs}
 use Rattle.typed_core.specs.Valid.{IsPath, IsValid}
 use Rattle.one_rule.specs.Cycle.{alone_on, cycle, fires, has_fired, is_at, root, walk_of, walk_past}
+use Rattle.one_rule.specs.Rows.{RowsFit}
 use Rattle.one_rule.specs.Run.{InputsByCycle, run_of}
 use Rattle.one_rule.specs.declared.rows.Row.{Row}
 use Rattle.one_rule.specs.declared.walk.Fired.{Fired}
@@ -74,3 +76,7 @@ abbrev pub VisitFiresUnlessKept : Type 0
 VisitFiresUnlessKept = (design : Parts) (inputs regs : List BitVector) (number : ℕ) (node : Node) → slice_get design.nodes number ≡ Some node → is_at number (walk_to design inputs regs number).at ≡ true
     → has_fired (walk_of design inputs regs).past node.rule ≡ false
     → IsKept (walk_to design inputs regs number).past (alone_on design inputs (walk_to design inputs regs number).regs node.rule)
+
+-- each row of a run of a valid design fits it, where the inputs of each of its cycles do
+abbrev pub RunsFit : Type 0
+RunsFit = (design : Parts) (inputs : InputsByCycle) (cycles : ℕ) → IsValid design → ((k : ℕ) → 1 ≤ k → k ≤ cycles → FitsInputs design.inputs (inputs k)) → RowsFit design (run_of design inputs cycles)

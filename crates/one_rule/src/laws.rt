@@ -27,3 +27,8 @@ pub fn a_rule_fires_unless_it_is_kept()
     ensures unless { law.FiresUnlessKept }
     ensures never_both { law.FiresIfNotKept }
 {}
+
+/// Each row of a run has a value of its width for each register and a flag for each rule.
+pub fn each_row_of_a_run_fits()
+    ensures { law.RunsFit }
+{}

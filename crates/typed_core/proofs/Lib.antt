@@ -4,3 +4,4 @@ pub mod Typed
 pub mod Ready
 pub mod Widths
 pub mod Paths
+pub mod ClashLaws

@@ -8,6 +8,7 @@
 mod access;
 mod action;
 mod design;
+mod laws;
 mod run_alone;
 mod schedule;
 mod validity;
@@ -16,4 +17,5 @@ mod width;
 pub use access::{Access, Event, Events};
 pub use action::{Action, OneOp, TwoOp};
 pub use design::{Design, HostSpec, InputDecl, Next, Node, Parts, RegDecl, Rule, TableSpec};
+pub use laws::accesses_clash_by_their_ports;
 pub use run_alone::{Alone, Outcome};

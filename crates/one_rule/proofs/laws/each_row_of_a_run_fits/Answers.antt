@@ -1,0 +1,5 @@
+use Rattle.one_rule.proofs.Fitting.{runs_fit}
+use Rattle.one_rule.proofs.laws.each_row_of_a_run_fits.Goals as goal
+
+pub returns : goal.returns
+returns c = runs_fit
