@@ -278,3 +278,28 @@ fn long_names_and_values(rt: HostRuntime) -> Result<(), Fail> {
     assert_eq!(rt; tokens[0].kind, TokenKind::Literal(bits));
     Ok(())
 }
+
+// Expects six tokens of each of so many lines.
+fn expect_lines(rt: &impl Abort, alloc: Global, lines: usize, want: usize) -> Result<(), Fail> {
+    let mut text = Text::new(alloc);
+    for _ in 0..lines {
+        text.extend_from_slice(b"  count8 <= 8'hff >>> 12; // up\n")?;
+    }
+    assert_eq!(rt; lexed(rt, alloc, text.as_slice())?.len(), want);
+    Ok(())
+}
+
+#[test]
+fn a_quarter_of_a_megabyte(rt: HostRuntime) -> Result<(), Fail> {
+    expect_lines(&rt, rt.alloc(), 8_192, 49_152)
+}
+
+#[test]
+fn half_a_megabyte(rt: HostRuntime) -> Result<(), Fail> {
+    expect_lines(&rt, rt.alloc(), 16_384, 98_304)
+}
+
+#[test]
+fn a_megabyte(rt: HostRuntime) -> Result<(), Fail> {
+    expect_lines(&rt, rt.alloc(), 32_768, 196_608)
+}

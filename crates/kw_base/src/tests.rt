@@ -1,4 +1,6 @@
 use crate::{Added, Fault, Names, Place, fault_line, place_of};
+use std::alloc::Global;
+use std::process::Abort;
 use std::test::Fail;
 
 #[test]
@@ -49,4 +51,34 @@ fn numbers_names_in_order_of_first_sight(rt: HostRuntime) -> Result<(), Fail> {
     assert_eq!(rt; names.find(b"counter"), Some(2));
     assert_eq!(rt; names.find(b"coun"), None);
     Ok(())
+}
+
+// Expects the numbers of so many names, when each is added, added again, and looked up.
+fn expect_names(rt: &impl Abort, alloc: Global, count: u32) -> Result<(), Fail> {
+    let mut names = Names::new(alloc);
+    for number in 0..count {
+        let name = number.to_le_bytes();
+        assert_eq!(rt; names.add(&name)?, Added::New(number));
+    }
+    for number in 0..count {
+        let name = number.to_le_bytes();
+        assert_eq!(rt; names.add(&name)?, Added::There(number));
+        assert_eq!(rt; names.find(&name), Some(number));
+    }
+    Ok(())
+}
+
+#[test]
+fn twenty_five_thousand_names(rt: HostRuntime) -> Result<(), Fail> {
+    expect_names(&rt, rt.alloc(), 25_000)
+}
+
+#[test]
+fn fifty_thousand_names(rt: HostRuntime) -> Result<(), Fail> {
+    expect_names(&rt, rt.alloc(), 50_000)
+}
+
+#[test]
+fn a_hundred_thousand_names(rt: HostRuntime) -> Result<(), Fail> {
+    expect_names(&rt, rt.alloc(), 100_000)
 }
