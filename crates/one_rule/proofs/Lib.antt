@@ -5,3 +5,6 @@ pub mod RunLaws
 pub mod Walks
 pub mod Kept
 pub mod Fitting
+pub mod Inputs
+pub mod Lines
+pub mod Cycles

@@ -5,3 +5,5 @@ pub mod Rows
 pub mod Externs
 pub mod Scenes
 pub mod Laws
+pub mod Stimulus
+pub mod KeptLines
