@@ -2,3 +2,5 @@ pub mod Cycle
 pub mod Run
 pub mod Evaluation
 pub mod Rows
+pub mod Stimulus
+pub mod KeptLines

@@ -7,9 +7,11 @@
 mod cycle;
 mod interpreter;
 mod rows;
+mod stimulus;
 mod walk;
 
 pub use cycle::slow_cycle;
 pub use interpreter::alone;
 pub use rows::{FiredSet, Inputs, Regs, Row, Rows};
+pub use stimulus::Stimulus;
 pub use walk::{Fired, Walk};
