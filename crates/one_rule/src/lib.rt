@@ -17,7 +17,10 @@ mod walk;
 pub use cycle::slow_cycle;
 pub use externs::Externs;
 pub use interpreter::alone;
-pub use laws::{a_rule_fires_once_in_a_cycle, a_rule_fires_unless_it_is_kept, a_rule_on_no_path_does_not_fire, a_run_has_a_row_more_than_its_cycles, each_row_of_a_run_fits};
+pub use laws::{
+    a_rule_fires_once_in_a_cycle, a_rule_fires_unless_it_is_kept, a_rule_on_no_path_does_not_fire,
+    a_run_has_a_row_more_than_its_cycles, each_row_of_a_run_fits,
+};
 pub use rows::{FiredSet, Inputs, Regs, Row, Rows};
 pub use stimulus::Stimulus;
 pub use walk::{Fired, Walk};

@@ -23,18 +23,11 @@ fn write(alloc: Global, port: u32, register: u32, value: Action) -> Result<Actio
 }
 
 fn two(alloc: Global, operator: TwoOp, left: Action, right: Action) -> Result<Action, NoMemory> {
-    Ok(Action::Two(
-        operator,
-        Box::new(alloc, left)?,
-        Box::new(alloc, right)?,
-    ))
+    Ok(Action::Two(operator, Box::new(alloc, left)?, Box::new(alloc, right)?))
 }
 
 fn seq(alloc: Global, first: Action, second: Action) -> Result<Action, NoMemory> {
-    Ok(Action::Seq(
-        Box::new(alloc, first)?,
-        Box::new(alloc, second)?,
-    ))
+    Ok(Action::Seq(Box::new(alloc, first)?, Box::new(alloc, second)?))
 }
 
 // One rule after another, whether they fire or not.
@@ -108,7 +101,11 @@ fn expect_row(rt: &impl Abort, row: &Row, regs: &[u128], fired: &[bool]) {
     assert_eq!(rt; row.regs.len(), regs.len());
     for (register, number) in regs.iter().enumerate() {
         assert!(rt; register < row.regs.len());
-        assert_eq!(rt; row.regs.get(register).number(), *number, "register {register}");
+        assert_eq!(rt;
+            row.regs.get(register).number(),
+            *number,
+            "register {register}"
+        );
     }
 }
 
@@ -235,7 +232,14 @@ fn the_scheduler_goes_on_as_a_rule_fired_or_not(rt: HostRuntime) -> Result<(), F
     ] {
         nodes.push(Node { rule, yes, no })?;
     }
-    let design = design_of(&rt, alloc, &[(1, 0), (8, 0)], Sequence::new(alloc), bodies, nodes)?;
+    let design = design_of(
+        &rt,
+        alloc,
+        &[(1, 0), (8, 0)],
+        Sequence::new(alloc),
+        bodies,
+        nodes,
+    )?;
     let rows: [(&[u128], &[bool]); 3] = [
         (&[1, 1], &[true, true, false]),
         (&[0, 1], &[false, false, true]),
@@ -264,7 +268,14 @@ fn a_table_is_read_by_number(rt: HostRuntime) -> Result<(), Fail> {
     let sum = two(alloc, TwoOp::Add, Action::Read(0, 0), one)?;
     let step = write(alloc, 0, 0, sum)?;
     let bodies = vec![in alloc; seq(alloc, look, step)?]?;
-    let design = design_of(&rt, alloc, &[(2, 0), (4, 0)], tables, bodies, in_turn(alloc, 1)?)?;
+    let design = design_of(
+        &rt,
+        alloc,
+        &[(2, 0), (4, 0)],
+        tables,
+        bodies,
+        in_turn(alloc, 1)?,
+    )?;
     let rows: [(&[u128], &[bool]); 4] = [
         (&[1, 9], &[true]),
         (&[2, 3], &[true]),
@@ -300,6 +311,11 @@ fn a_rule_alone_notes_what_it_read_and_wrote(rt: HostRuntime) -> Result<(), Fail
     assert_eq!(rt; run.outcome, Outcome::OwnClash(written));
     let accesses = run.events.as_slice().iter().map(|event| event.access);
     assert!(rt; accesses.eq([read, written]));
-    assert!(rt; run.events.as_slice().iter().all(|event| event.value == bits(&rt, 8, 7)));
+    assert!(rt;
+        run.events
+            .as_slice()
+            .iter()
+            .all(|event| event.value == bits(&rt, 8, 7))
+    );
     Ok(())
 }

@@ -123,9 +123,9 @@ pub two_ready : (d : Declarations) (s : Surroundings) (part : Action) (operator 
 two_ready d s part operator p a q b values x y is fits ready c e =
     let takes : CanEvaluate d (action.Two' operator p a q b) values → TakesTwo operator x y =
     λ (widths, l, (width, (left, right, t, u, some, others, rest))).
-      let first = width_is d s a widths values left x fits l t c in
-      let second = width_is d s b widths values right y fits l u e in
-      (width, subst (λ (n : ℕ). TwoHasWidth operator n y.width width) (sym first) (subst (λ (n : ℕ). TwoHasWidth operator left n width) (sym second) rest)) in
+    let first = width_is d s a widths values left x fits l t c in
+    let second = width_is d s b widths values right y fits l u e in
+    (width, subst (λ (n : ℕ). TwoHasWidth operator n y.width width) (sym first) (subst (λ (n : ℕ). TwoHasWidth operator left n width) (sym second) rest)) in
     takes (subst (λ (x : Action). CanEvaluate d x values) is ready)
 
 pub slice_ready : (d : Declarations) (s : Surroundings) (part : Action) (p : _) (a : Action) (upper lower : ℕ) (values : List BitVector) (x : BitVector) → part ≡ action.Slice' p a upper lower → FitsDeclarations d s → CanEvaluate d part values → CameTo d s a values x → (lower ≤ upper) × (upper < x.width)
@@ -150,14 +150,14 @@ pub table_ready : (d : Declarations) (s : Surroundings) (part : Action) (table :
 table_ready d s part table p a values x is fits ready c =
     let known : CanEvaluate d (action.Table' table p a) values → (width : ℕ) × HasTable s.tables table x.width width =
     λ (widths, l, (width, (operand, t, some, rest))).
-      (width, subst (λ tables. HasTable tables table x.width width) (sym fits.tables) (subst (λ (n : ℕ). HasTable d.tables table n width) (sym (width_is d s a widths values operand x fits l t c)) rest)) in
+    (width, subst (λ tables. HasTable tables table x.width width) (sym fits.tables) (subst (λ (n : ℕ). HasTable d.tables table n width) (sym (width_is d s a widths values operand x fits l t c)) rest)) in
     known (subst (λ (x : Action). CanEvaluate d x values) is ready)
 
 pub host_ready : (d : Declarations) (s : Surroundings) (part : Action) (number : ℕ) (p : _) (a : Action) (values : List BitVector) (x : BitVector) → part ≡ action.Host' number p a → FitsDeclarations d s → CanEvaluate d part values → CameTo d s a values x → (width : ℕ) × HasHost s.hosts number x.width width
 host_ready d s part number p a values x is fits ready c =
     let known : CanEvaluate d (action.Host' number p a) values → (width : ℕ) × HasHost s.hosts number x.width width =
     λ (widths, l, (width, (operand, t, some, rest))).
-      (width, subst (λ hosts. HasHost hosts number x.width width) (sym fits.hosts) (subst (λ (n : ℕ). HasHost d.hosts number n width) (sym (width_is d s a widths values operand x fits l t c)) rest)) in
+    (width, subst (λ hosts. HasHost hosts number x.width width) (sym fits.hosts) (subst (λ (n : ℕ). HasHost d.hosts number n width) (sym (width_is d s a widths values operand x fits l t c)) rest)) in
     known (subst (λ (x : Action). CanEvaluate d x values) is ready)
 
 -- a body can be evaluated with the value that its name is bound to
