@@ -72,10 +72,10 @@ first_values_fit design valid =
     record {
       count = length-map design.regs (λ (decl : RegDecl). decl.first);
       widths = λ register width (decl, found, wide).
-        let inside = slice_get_within design.regs register decl found in
-        let mine = subst IsRegister (get_or_from_slice_get design.regs register decl decl found) (valid.registers register decl inside) in
-        let first = get_or-map (λ (d : RegDecl). d.first) design.regs register decl unit inside ∙ ap (λ (d : RegDecl). d.first) (get_or_from_slice_get design.regs register decl decl found) in
-        subst (HasBits width) (sym first) (subst (λ (n : ℕ). HasBits n decl.first) wide mine);
+          let inside = slice_get_within design.regs register decl found in
+          let mine = subst IsRegister (get_or_from_slice_get design.regs register decl decl found) (valid.registers register decl inside) in
+          let first = get_or-map (λ (d : RegDecl). d.first) design.regs register decl unit inside ∙ ap (λ (d : RegDecl). d.first) (get_or_from_slice_get design.regs register decl decl found) in
+          subst (HasBits width) (sym first) (subst (λ (n : ℕ). HasBits n decl.first) wide mine);
     }
 
 rows_after_fit : (design : Parts) → IsValid design → (inputs : InputsByCycle) (count last : ℕ) (regs : List BitVector) → ((k : ℕ) → last < k → k ≤ last + count → FitsInputs design.inputs (inputs k)) → FitsRegisters design.regs regs → AllByRecursion (RowFits design) (rows_after design inputs count last regs)
@@ -86,6 +86,7 @@ rows_after_fit design valid inputs (suc count) last regs i r =
 
 pub runs_fit : RunsFit
 runs_fit design inputs cycles valid i =
-    let first = first_values_fit design valid in
-    (record { registers = first; flags = length-replicate (length design.rules) false },
-     rows_after_fit design valid inputs (cycles - 0) 0 (first_values design) (λ k after within. i k (omega (arith, after)) (omega (arith, within))) first)
+    let first = first_values_fit design valid in (
+      record { registers = first; flags = length-replicate (length design.rules) false },
+      rows_after_fit design valid inputs (cycles - 0) 0 (first_values design) (λ k after within. i k (omega (arith, after)) (omega (arith, within))) first,
+    )

@@ -116,7 +116,7 @@ fires_at design inputs number (first ∷ nodes) zero node walk is here f =
     let same : first ≡ node = cc in
     let at_first = subst (λ n. is_at n walk.at ≡ true) (omega arith) here in
     past_stays design inputs (number + 1) nodes (pass design inputs number first walk) node.rule
-      (subst (λ (n : Node). has_fired (pass design inputs number n walk).past node.rule ≡ true) (sym same) (pass_fires design inputs number node walk at_first f))
+    (subst (λ (n : Node). has_fired (pass design inputs number n walk).past node.rule ≡ true) (sym same) (pass_fires design inputs number node walk at_first f))
 fires_at design inputs number (first ∷ nodes) (suc k) node walk is here f =
     let next = pass design inputs number first walk in
     fires_at design inputs (number + 1) nodes k node next is (subst (λ n. is_at n (walk_past design inputs (number + 1) (take k nodes) next).at ≡ true) (omega arith) here) f

@@ -134,8 +134,8 @@ past_comes design valid inputs number [] walk stand came = came
 past_comes design valid inputs number (node ∷ rest) walk stand came =
     let is : slice_get design.nodes number ≡ Some node = subst (λ n. slice_get design.nodes n ≡ Some node) (omega arith) (stand 0 node refl) in
     past_comes design valid inputs (number + 1) rest (pass design inputs number node walk)
-      (λ k other e. subst (λ n. slice_get design.nodes n ≡ Some other) (omega arith) (stand (suc k) other e))
-      (pass_comes design valid inputs number node walk is came)
+    (λ k other e. subst (λ n. slice_get design.nodes n ≡ Some other) (omega arith) (stand (suc k) other e))
+    (pass_comes design valid inputs number node walk is came)
 
 -- the walk begins at the root
 begins : (nodes : List Node) → Came nodes [] (root nodes)
@@ -150,7 +150,7 @@ begins (node ∷ nodes) =
 walk_comes : (design : Parts) → IsValid design → (inputs regs : List BitVector) → Came design.nodes (walk_of design inputs regs).past (walk_of design inputs regs).at
 walk_comes design valid inputs regs =
     past_comes design valid inputs 0 design.nodes (record { regs = regs; past = []; at = root design.nodes })
-      (λ k node e. subst (λ n. slice_get design.nodes n ≡ Some node) (omega arith) e) (begins design.nodes)
+    (λ k node e. subst (λ n. slice_get design.nodes n ≡ Some node) (omega arith) e) (begins design.nodes)
 
 pub fires_once : FiresOnce
 fires_once design inputs regs valid = (walk_comes design valid inputs regs).others
