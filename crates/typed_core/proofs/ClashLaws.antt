@@ -14,19 +14,22 @@ no_clash true = refl
 no_clash false = refl
 
 pub read_after_write : ReadAfterWrite
-read_after_write i j register =
-    ((λ h. let p : nat_le i j ≡ true = sym (same_register register (nat_le i j)) ∙ h in grind (arith, p)),
-     (λ h. let p : nat_le i j ≡ true = grind (arith, h) in same_register register (nat_le i j) ∙ p))
+read_after_write i j register = (
+  (λ h. let p : nat_le i j ≡ true = sym (same_register register (nat_le i j)) ∙ h in grind (arith, p)),
+  (λ h. let p : nat_le i j ≡ true = grind (arith, h) in same_register register (nat_le i j) ∙ p),
+)
 
 pub write_after_read : WriteAfterRead
-write_after_read i j register =
-    ((λ h. let p : nat_lt i j ≡ true = sym (same_register register (nat_lt i j)) ∙ h in grind (arith, p)),
-     (λ h. let p : nat_lt i j ≡ true = grind (arith, h) in same_register register (nat_lt i j) ∙ p))
+write_after_read i j register = (
+  (λ h. let p : nat_lt i j ≡ true = sym (same_register register (nat_lt i j)) ∙ h in grind (arith, p)),
+  (λ h. let p : nat_lt i j ≡ true = grind (arith, h) in same_register register (nat_lt i j) ∙ p),
+)
 
 pub write_after_write : WriteAfterWrite
-write_after_write i j register =
-    ((λ h. let p : nat_le i j ≡ true = sym (same_register register (nat_le i j)) ∙ h in grind (arith, p)),
-     (λ h. let p : nat_le i j ≡ true = grind (arith, h) in same_register register (nat_le i j) ∙ p))
+write_after_write i j register = (
+  (λ h. let p : nat_le i j ≡ true = sym (same_register register (nat_le i j)) ∙ h in grind (arith, p)),
+  (λ h. let p : nat_le i j ≡ true = grind (arith, h) in same_register register (nat_le i j) ∙ p),
+)
 
 pub read_after_read : ReadAfterRead
 read_after_read i j r q = no_clash (r == q)
