@@ -45,11 +45,11 @@ IsIdle rule row = slice_index_or row.fired rule false ≡ false
 
 -- a rule of a valid design that is on no path from the root fires in no cycle
 abbrev pub FiresOnPath : Type 0
-FiresOnPath = (design : Parts) (inputs regs : List BitVector) (rule : ℕ) → IsValid design → (IsOnPath design.nodes rule → ⊥) → IsIdle rule (cycle design inputs regs)
+FiresOnPath = (design : Parts) (inputs regs : List BitVector) (rule : ℕ) → IsValid design → ¬ IsOnPath design.nodes rule → IsIdle rule (cycle design inputs regs)
 
 -- and in no run
 abbrev pub FiresOnPathInRuns : Type 0
-FiresOnPathInRuns = (design : Parts) (inputs : InputsByCycle) (cycles rule : ℕ) → IsValid design → (IsOnPath design.nodes rule → ⊥) → AllByRecursion (IsIdle rule) (run_of design inputs cycles)
+FiresOnPathInRuns = (design : Parts) (inputs : InputsByCycle) (cycles rule : ℕ) → IsValid design → ¬ IsOnPath design.nodes rule → AllByRecursion (IsIdle rule) (run_of design inputs cycles)
 
 -- the walk as it comes past the nodes before the one of this number
 abbrev pub walk_to : Parts → List BitVector → List BitVector → ℕ → Walk
@@ -69,7 +69,7 @@ FiresUnlessKept = (past : List Fired) (run : Alone) → fires past run ≡ false
 
 -- one that fires is kept by none of them
 abbrev pub FiresIfNotKept : Type 0
-FiresIfNotKept = (past : List Fired) (run : Alone) → fires past run ≡ true → IsKept past run → ⊥
+FiresIfNotKept = (past : List Fired) (run : Alone) → fires past run ≡ true → ¬ IsKept past run
 
 -- a rule that the scheduler visits in a cycle and that doesn't fire in it is kept from it
 abbrev pub VisitFiresUnlessKept : Type 0

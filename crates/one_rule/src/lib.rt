@@ -1,7 +1,8 @@
 //! One rule at a time: what a cycle and a run mean, and plain programs that compute them.
 //!
 //! `specs/Cycle.antt` and `specs/Run.antt` are the definitions that every engine is compared with. The
-//! functions here run whole rules on whole register states, as the definitions do.
+//! functions here run whole rules on whole register states, as the definitions do. `specs/Laws.antt` says what
+//! holds of every cycle and every run.
 #![tactic(auto)]
 
 mod cycle;
