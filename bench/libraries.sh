@@ -24,7 +24,7 @@ done <<'TESTS'
 koika_syntax:bytes of a text, cut into tokens:262144:a_quarter_of_a_megabyte
 koika_syntax:bytes of a text, cut into tokens:524288:half_a_megabyte
 koika_syntax:bytes of a text, cut into tokens:1048576:a_megabyte
-kw_base:names, each added twice and found:25000:twenty_five_thousand_names
-kw_base:names, each added twice and found:50000:fifty_thousand_names
-kw_base:names, each added twice and found:100000:a_hundred_thousand_names
+kw_base:names, each added and found:25000:twenty_five_thousand_names
+kw_base:names, each added and found:50000:fifty_thousand_names
+kw_base:names, each added and found:100000:a_hundred_thousand_names
 TESTS

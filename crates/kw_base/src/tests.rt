@@ -53,17 +53,14 @@ fn numbers_names_in_order_of_first_sight(rt: HostRuntime) -> Result<(), Fail> {
     Ok(())
 }
 
-// Expects the numbers of so many names, when each is added, added again, and looked up.
+// Expects the numbers of so many names, when each is added and looked up.
 fn expect_names(rt: &impl Abort, alloc: Global, count: u32) -> Result<(), Fail> {
     let mut names = Names::new(alloc);
     for number in 0..count {
-        let name = number.to_le_bytes();
-        assert_eq!(rt; names.add(&name)?, Added::New(number));
+        assert_eq!(rt; names.add(&number.to_le_bytes())?, Added::New(number));
     }
     for number in 0..count {
-        let name = number.to_le_bytes();
-        assert_eq!(rt; names.add(&name)?, Added::There(number));
-        assert_eq!(rt; names.find(&name), Some(number));
+        assert_eq!(rt; names.find(&number.to_le_bytes()), Some(number));
     }
     Ok(())
 }
