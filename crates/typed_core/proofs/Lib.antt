@@ -3,3 +3,5 @@ pub mod Values
 pub mod Typed
 pub mod Widths
 pub mod Paths
+pub mod Equal
+pub mod Meaning

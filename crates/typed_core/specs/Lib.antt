@@ -4,3 +4,4 @@ pub mod Valid
 pub mod Fits
 pub mod Width
 pub mod Paths
+pub mod Same

@@ -8,7 +8,9 @@
 mod access;
 mod action;
 mod design;
+pub mod laws;
 mod run_alone;
+mod same;
 mod schedule;
 mod validity;
 mod width;

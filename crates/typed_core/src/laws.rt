@@ -1,0 +1,15 @@
+// Each law of the definitions is the contract of a function that does nothing.
+ghost use Rattle.typed_core.specs.Same.{AreSame, SameDesign};
+ghost use Rattle.typed_core.specs.declared.design.Parts.{Parts};
+
+/// Equality by value is an equivalence.
+pub fn equality_is_an_equivalence()
+    ensures reflexive { (d : Parts) → SameDesign d d }
+    ensures symmetric { (d e : Parts) → SameDesign d e → SameDesign e d }
+    ensures transitive { (d e f : Parts) → SameDesign d e → SameDesign e f → SameDesign d f }
+{}
+
+/// Designs that are equal by value do the same.
+pub fn equal_designs_do_the_same()
+    ensures { (d e : Parts) → SameDesign d e → AreSame d e }
+{}
