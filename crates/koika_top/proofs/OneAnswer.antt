@@ -6,7 +6,7 @@ use Rattle.typed_core.specs.declared.design.RegDecl.{RegDecl}
 use Rattle.typed_core.specs.declared.design.Rule.{Rule}
 use Rattle.typed_core.specs.declared.design.Parts.{Parts}
 use Rattle.koika_top.specs.Answer.{AnswersSource, IsAnswer, IsRefusal, IsReport, fault_of_source, is_too_long, longest_source, status_of, text_of}
-use Rattle.koika_top.specs.FirstForm.{AreSame}
+use Rattle.typed_core.specs.Same.{AreSame}
 use Rattle.koika_top.specs.Words.{cycles_of}
 use Rattle.koika_top.proofs.SameReports.{same_report}
 use Rattle.koika_top.proofs.Unique.{same_spelled}

@@ -12,7 +12,7 @@ use Rattle.one_rule.specs.Cycle.{alone_if}
 use Rattle.one_rule.specs.Run.{InputsByCycle, run_of}
 use Rattle.one_rule.specs.declared.rows.Row.{Row}
 use Rattle.one_rule.proofs.Alike.{AreAlike, run_of-alike}
-use Rattle.koika_top.specs.FirstForm.{AreSame}
+use Rattle.typed_core.specs.Same.{AreSame}
 use Rattle.koika_top.specs.Report.{fired_names, listed, registers_text, line_of, lines_from, report}
 
 -- what a rule that there may be does, from what all rules do

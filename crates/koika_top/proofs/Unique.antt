@@ -11,7 +11,8 @@ use Rattle.typed_core.specs.declared.design.Parts.{Parts}
 use Rattle.koika_top.specs.declared.first_form.form.Operand.{Operand}
 use Rattle.koika_top.specs.declared.first_form.form.Operand.TheVariants.{Constant, Register}
 use Rattle.koika_top.specs.declared.first_form.form.Form.{Form}
-use Rattle.koika_top.specs.FirstForm.{tokens_of, Fills, IsOperandOf, IsSumOf, IsBodyOf, IsDesignOf, IsFirstForm, AreSame}
+use Rattle.koika_top.specs.FirstForm.{tokens_of, Fills, IsOperandOf, IsSumOf, IsBodyOf, IsDesignOf, IsFirstForm}
+use Rattle.typed_core.specs.Same.{AreSame}
 use Rattle.koika_top.proofs.Cuts.{same_cut}
 use Rattle.koika_top.proofs.Shapes.{same_form}
 use Rattle.koika_top.proofs.Designs.{design_valid}

@@ -3,13 +3,11 @@
 use Rattle.std.specs.Prelude.{◌≡◌, ◌≢◌, ℕ, List, [], ◌∷◌, ◌++◌, map, codes, Contains, Option, Some, None, IfSome}
 use Prim.Native.String.{String}
 use Rattle.kw_bits.specs.BitVector.{BitVector}
-use Rattle.typed_core.specs.Alone.{Surroundings, alone}
 use Rattle.typed_core.specs.Valid.{IsWidth, HasBits}
 use Rattle.typed_core.specs.declared.action.TwoOp.TheVariants.{Add}
 use Rattle.typed_core.specs.declared.action.Action.{Action}
 use Rattle.typed_core.specs.declared.action.Action.TheVariants.{Const, Two', Read, Write'}
 use Rattle.typed_core.specs.declared.design.Next.TheVariants as next
-use Rattle.typed_core.specs.declared.design.Rule.{Rule}
 use Rattle.typed_core.specs.declared.design.Parts.{Parts}
 use Rattle.koika_top.specs.declared.first_form.token.Token.{Token}
 use Rattle.koika_top.specs.declared.first_form.token.Token.TheVariants.{Word, Number, Literal, Symbol}
@@ -113,13 +111,3 @@ pub record IsDesignOf (f : Form) (design : Parts) : Type 0 where
 -- the text is of the first form and spells this design
 abbrev pub IsFirstForm : List ℕ → Parts → Type 0
 IsFirstForm text design = (f : Form) × Fills text f × IsDesignOf f design
-
--- the designs differ in nothing but where the bodies of their rules lie in memory, so each body does the same alone
-pub record AreSame (d e : Parts) : Type 0 where
-  pub regs : d.regs ≡ e.regs
-  pub inputs : d.inputs ≡ e.inputs
-  pub tables : d.tables ≡ e.tables
-  pub hosts : d.hosts ≡ e.hosts
-  pub names : map (λ (rule : Rule). rule.name) d.rules ≡ map (λ (rule : Rule). rule.name) e.rules
-  pub bodies : (s : Surroundings) → map (λ (rule : Rule). alone s rule.body) d.rules ≡ map (λ (rule : Rule). alone s rule.body) e.rules
-  pub nodes : d.nodes ≡ e.nodes

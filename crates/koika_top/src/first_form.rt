@@ -5,7 +5,8 @@
 
 ghost use Rattle.std.specs.Prelude.{ℕ, List, IfOk, IfSome, IfNone};
 ghost use Rattle.typed_core.specs.declared.design.Parts.{Parts};
-ghost use Rattle.koika_top.specs.FirstForm.{IsFirstForm, AreSame};
+ghost use Rattle.typed_core.specs.Same.{AreSame};
+ghost use Rattle.koika_top.specs.FirstForm.{IsFirstForm};
 
 mod class;
 mod cut;

@@ -5,3 +5,5 @@ pub mod Ready
 pub mod Widths
 pub mod Paths
 pub mod ClashLaws
+pub mod Equal
+pub mod Meaning

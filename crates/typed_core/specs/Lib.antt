@@ -5,3 +5,4 @@ pub mod Fits
 pub mod Width
 pub mod Paths
 pub mod Laws
+pub mod Same

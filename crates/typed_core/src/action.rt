@@ -34,7 +34,7 @@ pub enum TwoOp {
 /// What a rule does: an expression over bit vectors that may read and write registers.
 ///
 /// Parts are evaluated from left to right, a write's value before the write.
-#[derive(Debug, Drop)]
+#[derive(Debug, PartialEq, Eq, Drop)]
 pub enum Action {
     /// No value.
     Unit,

@@ -1,12 +1,13 @@
-ghost use Rattle.std.specs.Prelude.{◌≡◌, ◌↔◌, IsSome, IfSome};
+ghost use Rattle.std.specs.Prelude.{◌≡◌, ◌↔◌, IsSome, IfSome, IsTrue};
 
 use crate::action::Action;
+use crate::same::are_same_rules;
 use crate::validity::is_valid;
 use kw_bits::{Bits, HostKind, Sequence, Text};
 use std::marker::Model;
 
 /// A register: its name, its width and its first value.
-#[derive(Debug, Drop)]
+#[derive(Debug, PartialEq, Eq, Drop)]
 pub struct RegDecl {
     pub name: Text,
     pub width: u32,
@@ -14,14 +15,14 @@ pub struct RegDecl {
 }
 
 /// An input: its name and its width.
-#[derive(Debug, Drop)]
+#[derive(Debug, PartialEq, Eq, Drop)]
 pub struct InputDecl {
     pub name: Text,
     pub width: u32,
 }
 
 /// A table from numbers below 2 to its input width to bit vectors of its output width.
-#[derive(Debug, Drop)]
+#[derive(Debug, PartialEq, Eq, Drop)]
 pub struct TableSpec {
     pub in_width: u32,
     pub out_width: u32,
@@ -36,7 +37,7 @@ pub struct HostSpec {
 }
 
 /// A rule: its name and its body.
-#[derive(Debug, Drop)]
+#[derive(Debug, PartialEq, Eq, Drop)]
 pub struct Rule {
     pub name: Text,
     pub body: Action,
@@ -98,6 +99,7 @@ impl Model for Design {
 }
 
 impl Design {
+    ghost use Rattle.typed_core.specs.Same.{SameDesign};
     ghost use Rattle.typed_core.specs.Valid.{IsValid};
 
     /// The design of these parts, if they are valid.
@@ -125,4 +127,19 @@ impl Design {
             nodes,
         })
     }
+
+    /// Whether the designs are equal by value.
+    pub fn same(&self, other: &Design) -> bool
+        ensures { IsTrue result ↔ SameDesign self.now other.now }
+    {
+        self.regs.is_same(&other.regs)
+            && self.inputs.is_same(&other.inputs)
+            && self.tables.is_same(&other.tables)
+            && self.hosts.is_same(&other.hosts)
+            && are_same_rules(&self.rules, &other.rules)
+            && self.nodes.is_same(&other.nodes)
+    }
 }
+
+#[cfg(test)]
+mod tests;

@@ -1,5 +1,7 @@
-// Each law of accesses is the contract of a function that does nothing.
+// Each law of accesses and of designs is the contract of a function that does nothing.
 ghost use Rattle.typed_core.specs.Laws as law;
+ghost use Rattle.typed_core.specs.Same.{AreSame, SameDesign};
+ghost use Rattle.typed_core.specs.declared.design.Parts.{Parts};
 
 /// Which access of a register cannot follow which, by their ports.
 pub fn accesses_clash_by_their_ports()
@@ -8,4 +10,16 @@ pub fn accesses_clash_by_their_ports()
     ensures write_after_write { law.WriteAfterWrite }
     ensures read_after_read { law.ReadAfterRead }
     ensures other_register { law.OtherRegister }
+{}
+
+/// Equality by value is an equivalence.
+pub fn equality_is_an_equivalence()
+    ensures reflexive { (d : Parts) → SameDesign d d }
+    ensures symmetric { (d e : Parts) → SameDesign d e → SameDesign e d }
+    ensures transitive { (d e f : Parts) → SameDesign d e → SameDesign e f → SameDesign d f }
+{}
+
+/// Designs that are equal by value do the same.
+pub fn equal_designs_do_the_same()
+    ensures { (d e : Parts) → SameDesign d e → AreSame d e }
 {}

@@ -10,6 +10,7 @@ mod action;
 mod design;
 mod laws;
 mod run_alone;
+mod same;
 mod schedule;
 mod validity;
 mod width;
@@ -17,5 +18,7 @@ mod width;
 pub use access::{Access, Event, Events};
 pub use action::{Action, OneOp, TwoOp};
 pub use design::{Design, HostSpec, InputDecl, Next, Node, Parts, RegDecl, Rule, TableSpec};
-pub use laws::accesses_clash_by_their_ports;
+pub use laws::{
+    accesses_clash_by_their_ports, equal_designs_do_the_same, equality_is_an_equivalence,
+};
 pub use run_alone::{Alone, Outcome};
