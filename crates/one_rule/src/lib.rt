@@ -11,8 +11,6 @@ mod interpreter;
 mod laws;
 mod rows;
 mod stimulus;
-#[cfg(test)]
-mod tests;
 mod walk;
 
 pub use cycle::slow_cycle;
