@@ -3,6 +3,7 @@ pub mod Alike
 pub mod Came
 pub mod RunLaws
 pub mod Walks
+pub mod WalkEnds
 pub mod Kept
 pub mod Fitting
 pub mod Inputs

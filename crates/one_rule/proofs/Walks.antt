@@ -126,7 +126,7 @@ pass_comes design valid inputs number node walk is came = chosen (is_at number w
     chosen false h = came
 
 -- the nodes stand in the scheduler from this number on
-abbrev StandFrom : List Node → ℕ → List Node → Type 0
+abbrev pub StandFrom : List Node → ℕ → List Node → Type 0
 StandFrom nodes number rest = (k : ℕ) (node : Node) → slice_get rest k ≡ Some node → slice_get nodes (number + k) ≡ Some node
 
 past_comes : (design : Parts) → IsValid design → (inputs : List BitVector) (number : ℕ) (rest : List Node) (walk : Walk) → StandFrom design.nodes number rest → Came design.nodes walk.past walk.at → Came design.nodes (walk_past design inputs number rest walk).past (walk_past design inputs number rest walk).at

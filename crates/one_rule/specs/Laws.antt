@@ -8,6 +8,7 @@ use Rattle.typed_core.specs.declared.access.Access.{Access}
 use Rattle.typed_core.specs.declared.access.Event.{Event}
 use Rattle.typed_core.specs.declared.run_alone.Alone.{Alone}
 use Rattle.typed_core.specs.declared.run_alone.Outcome.TheVariants.{Abort, OwnClash}
+use Rattle.typed_core.specs.declared.design.Next.TheVariants as next
 use Rattle.typed_core.specs.declared.design.Node.{Node}
 use Rattle.typed_core.specs.declared.design.Parts.{Parts}
 use Rattle.typed_core.specs.Fits.{FitsInputs}
@@ -22,6 +23,10 @@ use Rattle.one_rule.specs.declared.walk.Walk.{Walk}
 -- a run has one row for its start and one for each of its cycles
 abbrev pub RowsAreCycles : Type 0
 RowsAreCycles = (design : Parts) (inputs : InputsByCycle) (cycles : ℕ) → length (run_of design inputs cycles) ≡ cycles + 1
+
+-- the walk of a valid design's cycle comes to the end of its path
+abbrev pub WalksEnd : Type 0
+WalksEnd = (design : Parts) (inputs regs : List BitVector) → IsValid design → (walk_of design inputs regs).at ≡ next.End
 
 -- the two that fired are of different rules
 abbrev pub AreOfDifferentRules : Fired → Fired → Type 0

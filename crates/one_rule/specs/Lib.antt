@@ -7,3 +7,4 @@ pub mod Scenes
 pub mod Laws
 pub mod Stimulus
 pub mod KeptLines
+pub mod Locals

@@ -8,8 +8,9 @@ ghost use Rattle.one_rule.specs.Externs.{AreOf};
 ghost use Rattle.one_rule.specs.Scenes.{surroundings_of};
 
 use crate::externs::Externs;
+use crate::locals::Locals;
 use crate::rows::{Inputs, Regs};
-use kw_bits::{Bits, NoMemory, Sequence};
+use kw_bits::{Bits, NoMemory};
 use std::alloc::Global;
 use typed_core::{Access, Action, Alone, Design, Event, Events, OneOp, Outcome, TwoOp};
 
@@ -31,14 +32,13 @@ pub fn alone(
 {
     let body = &design.rules.get(rule as usize).body;
     let scene = Scene {
-        alloc,
         design,
         externs,
         inputs,
         regs,
     };
     let mut events = Events::new(alloc);
-    let outcome = match evaluate(&scene, body, &[], &mut events)? {
+    let outcome = match evaluate(&scene, body, &Locals::none(), &mut events)? {
         Ending::Unit | Ending::Value(_) => Outcome::Done,
         Ending::Stop(outcome) => outcome,
     };
@@ -48,7 +48,6 @@ pub fn alone(
 // What a rule's body is evaluated in.
 #[derive(Drop)]
 struct Scene<'a> {
-    alloc: Global,
     design: &'a Design,
     externs: &'a Externs,
     inputs: &'a Inputs,
@@ -56,6 +55,7 @@ struct Scene<'a> {
 }
 
 // What a part of a rule's body comes to.
+#[derive(Drop)]
 enum Ending {
     Unit,
     Value(Bits),
@@ -68,7 +68,7 @@ enum Ending {
 fn evaluate(
     scene: &Scene,
     action: &Action,
-    locals: &[Bits],
+    locals: &Locals,
     events: &mut Events,
 ) -> Result<Ending, NoMemory>
     requires fits { FitsDeclarations (declarations scene.now.design.now) (surroundings_of scene.now) }
@@ -79,7 +79,7 @@ fn evaluate(
     match action {
         Action::Unit => Ok(Ending::Unit),
         Action::Const(value) => Ok(Ending::Value(*value)),
-        Action::Local(name) => Ok(Ending::Value(locals[*name as usize])),
+        Action::Local(name) => Ok(Ending::Value(locals.get(*name))),
         Action::Input(input) => Ok(Ending::Value(*scene.inputs.get(*input as usize))),
         Action::One(operator, a) => {
             match operand(scene, a, locals, events)? {
@@ -129,8 +129,8 @@ fn evaluate(
         Action::Let(value, body) => {
             match operand(scene, value, locals, events)? {
                 Ok(x) => {
-                    let inner = with_front(scene.alloc, x, locals)?;
-                    evaluate(scene, body, inner.as_slice(), events)
+                    let inner = Locals::bind(x, &*locals);
+                    evaluate(scene, body, &inner, events)
                 }
                 Err(outcome) => Ok(Ending::Stop(outcome)),
             }
@@ -172,7 +172,7 @@ fn evaluate(
 fn operand(
     scene: &Scene,
     action: &Action,
-    locals: &[Bits],
+    locals: &Locals,
     events: &mut Events,
 ) -> Result<Result<Bits, Outcome>, NoMemory>
     requires fits { FitsDeclarations (declarations scene.now.design.now) (surroundings_of scene.now) }
@@ -185,16 +185,6 @@ fn operand(
         Ending::Unit => unreachable!(),
         Ending::Stop(outcome) => Ok(Err(outcome)),
     }
-}
-
-// One more bound name, the innermost.
-fn with_front(alloc: Global, value: Bits, locals: &[Bits]) -> Result<Sequence<Bits>, NoMemory>
-    ensures { IfOk result (λ inner. inner ≡ value ∷ locals.now) }
-{
-    let mut inner = Sequence::new(alloc);
-    inner.push(value)?;
-    inner.extend_from_slice(locals)?;
-    Ok(inner)
 }
 
 fn one(operator: OneOp, x: Bits) -> Bits

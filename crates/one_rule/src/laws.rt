@@ -7,6 +7,12 @@ pub fn a_run_has_a_row_more_than_its_cycles()
     ensures { law.RowsAreCycles }
 {}
 
+/// The scheduler's walk through a cycle comes to the end of its path.
+#[tactic(auto, using(crate::proofs::WalkEnds::walks_end))]
+pub fn a_walk_comes_to_its_end()
+    ensures { law.WalksEnd }
+{}
+
 /// No rule fires twice in a cycle.
 #[tactic(auto, using(crate::proofs::Walks::fires_once))]
 pub fn a_rule_fires_once_in_a_cycle()

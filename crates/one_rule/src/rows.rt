@@ -1,4 +1,11 @@
-use kw_bits::{Bits, Sequence};
+ghost use Rattle.std.specs.Prelude.{◌≡◌, IfOk, false, replicate};
+ghost use Rattle.one_rule.specs.Rows.{RowFits};
+ghost use Rattle.one_rule.specs.Run.{first_values, opening};
+ghost use Rattle.typed_core.specs.Fits.{FitsRegisters};
+
+use kw_bits::{Bits, NoMemory, Sequence};
+use std::alloc::Global;
+use typed_core::Design;
 
 /// One value for each register.
 pub type Regs = Sequence<Bits>;
@@ -18,3 +25,37 @@ pub struct Row {
 
 /// The rows of a run, the first with the opening registers and no rule that fired.
 pub type Rows = Sequence<Row>;
+
+/// The first value of each register.
+pub fn first_values(alloc: Global, design: &Design) -> Result<Regs, NoMemory>
+    ensures values { IfOk result (λ regs. regs ≡ first_values design.now) }
+    ensures fit { IfOk result (λ regs. FitsRegisters design.now.regs regs) }
+{
+    let mut regs = Regs::new(alloc);
+    for decl in design.regs.as_slice() {
+        regs.push(decl.first)?;
+    }
+    Ok(regs)
+}
+
+/// The row that a run begins with: these registers, and no rule that fired.
+pub fn opening(alloc: Global, design: &Design, regs: Regs) -> Result<Row, NoMemory>
+    requires { FitsRegisters design.now.regs regs }
+    ensures row { IfOk result (λ row. row ≡ opening design.now regs) }
+    ensures fits { IfOk result (λ row. RowFits design.now row) }
+{
+    Ok(Row {
+        regs,
+        fired: no_flags(alloc, design.rules.len())?,
+    })
+}
+
+fn no_flags(alloc: Global, rules: usize) -> Result<FiredSet, NoMemory>
+    ensures { IfOk result (λ fired. fired ≡ replicate rules false) }
+{
+    let mut fired = FiredSet::new(alloc);
+    for _rule in 0..rules {
+        fired.push(false)?;
+    }
+    Ok(fired)
+}

@@ -12,11 +12,11 @@ use Rattle.one_rule.specs.Scenes.{surroundings_of}
 use Rattle.one_rule.proofs.Came.{after_first, came}
 use Rattle.one_rule.proofs.interpreter.+evaluate.Goals as goal
 
-pub evaluate-bounds-locals-name : goal.evaluate-bounds-locals-name
-evaluate-bounds-locals-name t c = local_ready (declarations c.args.scene.now.design.now) c.args.action.now c.in-Local.name c.args.locals.now c.in-Local.is c.requires.ready
-
 pub evaluate-get-requires : goal.evaluate-get-requires
-evaluate-get-requires t c =
+evaluate-get-requires t c = local_ready (declarations c.args.scene.now.design.now) c.args.action.now c.in-Local.name c.args.locals.now c.in-Local.is c.requires.ready
+
+pub evaluate-get-requires-in-Input : goal.evaluate-get-requires-in-Input
+evaluate-get-requires-in-Input t c =
     input_ready (declarations c.args.scene.now.design.now) (surroundings_of c.args.scene.now) c.args.action.now c.in-Input.input c.args.locals.now c.in-Input.is c.requires.fits c.requires.ready
 
 pub evaluate-read-requires : goal.evaluate-read-requires
@@ -106,7 +106,7 @@ evaluate-evaluate-requires t c =
     let events = after_first d s part c.in-Let.value.value c.deref-in-Let.result.now values c.args.events.now c.operand-in-Let.new.events _ c.requires.fits c.requires.ready (ap first_operand c.in-Let.is) c.deref-in-Let.ensures c.requires.events c.in_ok-x-in-Let.ensures in
     let first = came d s c.in-Let.value.value c.deref-in-Let.result.now values c.args.events.now c.operand-in-Let.new.events c.in_ok-x-in-Let.field-0 c.in-Ok-9.x c.requires.events c.deref-in-Let.ensures c.in_ok-x-in-Let.ensures c.in-Ok-9.is in
     let body = body_ready d s part _ c.in-Let.value.value _ c.in-Let.body.value values c.in-Ok-9.x c.in-Let.is c.requires.fits c.requires.ready first in
-    let here = subst (λ (b : Action). CanEvaluate d b c.as_slice.result.now) (sym c.deref-in-Ok-9.ensures) (rw (c.as_slice.ensures, c.in_ok-inner-in-Ok-9.ensures) body) in
+    let here = subst (λ (b : Action). CanEvaluate d b c.bind-inner.result) (sym c.deref-in-Ok-9.ensures) (rw c.bind-inner.ensures body) in
     search (rules, the_lemmas)
 
 pub evaluate-evaluate-requires-then-number-eq0 : goal.evaluate-evaluate-requires-then-number-eq0
@@ -155,16 +155,6 @@ evaluate-operand-requires-in-Write t c =
     let operand = subst (λ (b : Action). CanBeOperand d b values) (sym c.deref-in-Write.ensures) (first_ready d s part c.in-Write.value.value values c.requires.fits c.requires.ready (ap first_operand c.in-Write.is)) in
     search (rules, the_lemmas)
 
-pub evaluate-returns-in-Local : goal.evaluate-returns-in-Local
-evaluate-returns-in-Local t c =
-    let d = declarations c.args.scene.now.design.now in
-    let s = surroundings_of c.args.scene.now in
-    let part = c.args.action.now in
-    let values = c.args.locals.now in
-    let bound = local_ready d part c.in-Local.name values c.in-Local.is c.requires.ready in
-    let read = get_or_read values c.in-Local.name _ bound c.index-locals-name.is unit in
-    rw (c.in-Local.is) (ap (λ (x : BitVector). progress_of c.args.events.now (ending.Value x)) (sym read))
-
 pub evaluate-returns-in-Input : goal.evaluate-returns-in-Input
 evaluate-returns-in-Input t c =
     let d = declarations c.args.scene.now.design.now in
@@ -172,5 +162,5 @@ evaluate-returns-in-Input t c =
     let part = c.args.action.now in
     let values = c.args.locals.now in
     let bound = input_ready d s part c.in-Input.input values c.in-Input.is c.requires.fits c.requires.ready in
-    let read = get_or_read s.inputs c.in-Input.input _ bound c.get.ensures unit in
+    let read = get_or_read s.inputs c.in-Input.input _ bound c.get-in-Input.ensures unit in
     rw (c.in-Input.is) (ap (λ (x : BitVector). progress_of c.args.events.now (ending.Value x)) (sym read))
