@@ -27,6 +27,8 @@ fn expect_row(rt: &impl Abort, row: &Row, wanted: Wanted) {
     }
 }
 
+fn crosses_threads<T: Send + Sync>(_: &T) {}
+
 // Expects these rows of a run.
 fn expect_run(
     rt: &impl Abort,
@@ -270,6 +272,7 @@ fn a_rule_alone_notes_what_it_read_and_wrote(rt: HostRuntime) -> Result<(), Fail
     let design = own_clash_design(&rt, alloc)?;
     assert!(rt; !design.rules.is_empty());
     let externs = Externs::new(alloc, &design)?;
+    crosses_threads(&externs);
     let regs = first_values(alloc, &design)?;
     let run = alone(alloc, &design, &externs, 0, &Inputs::new(alloc), &regs)?;
     let read = Access {

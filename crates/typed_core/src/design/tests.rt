@@ -64,6 +64,20 @@ fn first_values_have_their_widths(rt: HostRuntime) -> Result<(), Fail> {
     Ok(())
 }
 
+fn crosses_threads<T: Send + Sync>(_: &T) {}
+
+#[test]
+fn a_design_crosses_threads(rt: HostRuntime) -> Result<(), Fail> {
+    let alloc = rt.alloc();
+    let regs = registers(alloc, 8, 2)?;
+    let rules = idle_rules(alloc, 1)?;
+    let nodes = Sequence::from_slice(alloc, &[node(0, Next::End, Next::End)])?;
+    let design = Design::new(parts(alloc, regs, rules, nodes));
+    assert!(rt; design.is_some());
+    crosses_threads(&design);
+    Ok(())
+}
+
 // Whether a rule may write this value to register 0.
 fn may_write(alloc: Global, value: Action) -> Result<bool, Fail> {
     let body = Action::Write(1, 0, Box::new(alloc, value)?);
