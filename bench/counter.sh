@@ -1,43 +1,13 @@
 #!/usr/bin/env bash
-# Measures the built program: what a cycle of the counter costs, and what sources of up to a megabyte cost. It counts
-# instructions where perf does on this machine, and else takes seconds of processor time. It is run by hand.
+# Measures the built program: what a cycle of the counter costs, and what sources of up to a megabyte cost. It is run by
+# hand.
 set -eu
 cd "$(dirname "$0")/.."
-export LC_ALL=C
+. bench/cost.sh
 
 counter=examples/counter.koika
 program=crates/koika_cli/out/koika_cli
 ./koika sim --cycles 0 <"$counter" >/dev/null # builds the program if need be
-
-room=$(mktemp -d)
-trap 'rm -rf "$room"' EXIT
-
-# What a run costs, and what a cycle or a byte of it does: names, and how many of them make what `cost` prints.
-of_run=milliseconds run_scale=1000
-of_part=nanoseconds part_scale=1000000000
-if perf stat -x, -e instructions:u -o "$room/count" true 2>/dev/null &&
-    awk -F, '/instructions/ && $1 + 0 > 0 { found = 1 } END { exit !found }' "$room/count"; then
-    of_run=instructions run_scale=1
-    of_part=instructions part_scale=1
-fi
-
-# Runs the program on a source for some cycles. A refusal is an answer, too.
-answer() {
-    "$program" sim --cycles "$2" <"$1" >"$room/answer" || [ $? = 2 ]
-}
-
-# What such a run costs, in instructions or in seconds. The seconds are the least mean in five turns of fifty runs.
-cost() {
-    if [ "$of_run" = instructions ]; then
-        perf stat -x, -e instructions:u -o "$room/count" "$program" sim --cycles "$2" <"$1" >"$room/answer" || [ $? = 2 ]
-        awk -F, '/instructions/ { print $1 }' "$room/count"
-        return
-    fi
-    local TIMEFORMAT='%3U %3S'
-    for _ in {1..5}; do
-        { time for _ in {1..50}; do answer "$1" "$2"; done; } 2>&1
-    done | awk '{ mean = ($1 + $2) / 50 } NR == 1 || mean < least { least = mean } END { printf "%.6f\n", least }'
-}
 
 bytes() {
     wc -c <"$1" | awk '{ print $1 }'
@@ -57,19 +27,11 @@ longer() {
         { print }' "$counter"
 }
 
-# The costs of a run and of its parts, the start of the program aside, as two columns.
-columns() {
-    awk -v taken="$1" -v start="$2" -v parts="$3" -v run="$run_scale" -v part="$part_scale" 'BEGIN {
-        printf "%.6g | %s", taken * run, (parts ? sprintf("%.3g", (taken - start) * part / parts) : "")
-    }'
-}
-
 echo "| cycles of the counter | bytes written | $of_run | $of_part per cycle, the start aside |"
 echo "|---|---|---|---|"
-start=$(cost "$counter" 0)
+start=$(cost "$counter" "$room/answer" "$program" sim --cycles 0)
 for cycles in 0 1000 10000 65536; do
-    taken=$(cost "$counter" "$cycles")
-    answer "$counter" "$cycles"
+    taken=$(cost "$counter" "$room/answer" "$program" sim --cycles "$cycles")
     echo "| $cycles | $(bytes "$room/answer") | $(columns "$taken" "$start" "$cycles") |"
 done
 
@@ -79,8 +41,7 @@ echo "|---|---|---|---|---|"
 while IFS=: read -r what byte part; do
     for size in 262144 524288 1048576; do
         longer "$byte" $((size - $(bytes "$counter"))) "$part" >"$room/source"
-        taken=$(cost "$room/source" 1)
-        answer "$room/source" 1
+        taken=$(cost "$room/source" "$room/answer" "$program" sim --cycles 1)
         said=$(awk '{ print /^fault/ ? $0 : "the report"; exit }' "$room/answer")
         echo "| $what | $(bytes "$room/source") | $(columns "$taken" "$start" "$size") | $said |"
     done

@@ -1,25 +1,18 @@
 #!/usr/bin/env bash
 # Measures what crates cost that no command calls yet, by tests of three sizes each: the tokens of a text, and the numbers of
-# names. It proves and builds the tests if need be, and takes milliseconds of processor time, the least of five turns. It is
-# run by hand.
+# names. It proves and builds the tests if need be, and is run by hand.
 set -eu
 cd "$(dirname "$0")/.."
-export LC_ALL=C
+. bench/cost.sh
 
-# What one test costs, the start of its program included.
-cost() {
-    local TIMEFORMAT='%3U %3S'
-    for _ in {1..5}; do
-        { time "$1" "$2" >/dev/null; } 2>&1
-    done | awk '{ taken = $1 + $2 } NR == 1 || taken < least { least = taken } END { print least * 1000 }'
-}
-
-echo "| what | how many | milliseconds |"
-echo "|---|---|---|"
+echo "| what | how many | $of_run | $of_part for each, the making of them included |"
+echo "|---|---|---|---|"
 while IFS=: read -r crate what many test; do
     program=crates/$crate/out/${crate}_tests
-    [ "$program" -nt "crates/$crate/src/tests.rt" ] || (cd "crates/$crate" && rt check --test >/dev/null)
-    echo "| $what | $many | $(cost "$program" "tests::$test") |"
+    # The kit builds tests by running them.
+    [ "$program" -nt "crates/$crate/src/tests.rt" ] || (cd "crates/$crate" && rt test >/dev/null)
+    taken=$(cost /dev/null /dev/null "$program" "tests::$test")
+    echo "| $what | $many | $(columns "$taken" 0 "$many") |"
 done <<'TESTS'
 koika_syntax:bytes of a text, cut into tokens:262144:a_quarter_of_a_megabyte
 koika_syntax:bytes of a text, cut into tokens:524288:half_a_megabyte
