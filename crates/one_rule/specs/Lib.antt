@@ -7,4 +7,3 @@ pub mod Scenes
 pub mod Laws
 pub mod Stimulus
 pub mod KeptLines
-pub mod Locals

@@ -8,11 +8,10 @@ ghost use Rattle.one_rule.specs.Externs.{AreOf};
 ghost use Rattle.one_rule.specs.Scenes.{surroundings_of};
 
 use crate::externs::Externs;
-use crate::locals::Locals;
 use crate::rows::{Inputs, Regs};
 use kw_bits::{Bits, NoMemory};
 use std::alloc::Global;
-use typed_core::{Access, Action, Alone, Design, Event, Events, OneOp, Outcome, TwoOp};
+use typed_core::{Access, Action, Alone, Design, Event, Events, OneOp, Outcome, Scope, TwoOp};
 
 /// The events and the outcome of a rule that runs alone on these registers.
 pub fn alone(
@@ -38,7 +37,7 @@ pub fn alone(
         regs,
     };
     let mut events = Events::new(alloc);
-    let outcome = match evaluate(&scene, body, &Locals::none(), &mut events)? {
+    let outcome = match evaluate(&scene, body, &Scope::empty(), &mut events)? {
         Ending::Unit | Ending::Value(_) => Outcome::Done,
         Ending::Stop(outcome) => outcome,
     };
@@ -68,7 +67,7 @@ enum Ending {
 fn evaluate(
     scene: &Scene,
     action: &Action,
-    locals: &Locals,
+    locals: &Scope<Bits>,
     events: &mut Events,
 ) -> Result<Ending, NoMemory>
     requires fits { FitsDeclarations (declarations scene.now.design.now) (surroundings_of scene.now) }
@@ -79,7 +78,7 @@ fn evaluate(
     match action {
         Action::Unit => Ok(Ending::Unit),
         Action::Const(value) => Ok(Ending::Value(*value)),
-        Action::Local(name) => Ok(Ending::Value(locals.get(*name))),
+        Action::Local(name) => Ok(Ending::Value(locals.get(*name).unwrap())),
         Action::Input(input) => Ok(Ending::Value(*scene.inputs.get(*input as usize))),
         Action::One(operator, a) => {
             match operand(scene, a, locals, events)? {
@@ -129,7 +128,7 @@ fn evaluate(
         Action::Let(value, body) => {
             match operand(scene, value, locals, events)? {
                 Ok(x) => {
-                    let inner = Locals::bind(x, &*locals);
+                    let inner = Scope::bind(x, &*locals);
                     evaluate(scene, body, &inner, events)
                 }
                 Err(outcome) => Ok(Ending::Stop(outcome)),
@@ -172,7 +171,7 @@ fn evaluate(
 fn operand(
     scene: &Scene,
     action: &Action,
-    locals: &Locals,
+    locals: &Scope<Bits>,
     events: &mut Events,
 ) -> Result<Result<Bits, Outcome>, NoMemory>
     requires fits { FitsDeclarations (declarations scene.now.design.now) (surroundings_of scene.now) }

@@ -9,7 +9,6 @@ mod cycle;
 mod externs;
 mod interpreter;
 mod laws;
-mod locals;
 mod rows;
 mod stimulus;
 #[cfg(test)]

@@ -1,13 +1,12 @@
 -- The parts of an action that can be evaluated can be evaluated, and the values of its operands have the widths
 -- that its operator asks for.
-use Rattle.std.proofs.Common.{◌≡◌, ℕ, ◌+◌, ◌<◌, ◌≤◌, List, [], ◌∷◌, length, Option, Some, None, refl, sym, ap, ◌∙◌, subst, arith}
+use Rattle.std.proofs.Common.{◌≡◌, ℕ, ◌<◌, ◌≤◌, List, [], ◌∷◌, length, Option, Some, None, refl, sym, subst, arith}
 use Rattle.std.proofs.lemmas.Option.{slice_get_within}
 use Rattle.kw_bits.specs.BitVector.{BitVector}
-use Rattle.typed_core.specs.Alone.{Ending, Value, Progress, Surroundings, evaluate, unit}
-use Rattle.typed_core.specs.Fits.{CanBeOperand, CanEvaluate, EventsFit, FitsDeclarations, FitsLocals, FitsRegisters}
-use Rattle.typed_core.specs.Valid.{Declarations, HasBits, HasHost, HasTable, HasWidth, IsOperand, IsTyped, TakesTwo, TwoHasWidth}
+use Rattle.typed_core.specs.Alone.{Ending, Value, Surroundings, evaluate, unit}
+use Rattle.typed_core.specs.Fits.{CanBeOperand, CanEvaluate, EventsFit, FitsDeclarations, FitsLocals}
+use Rattle.typed_core.specs.Valid.{Declarations, HasBits, HasHost, HasTable, HasWidth, TakesTwo, TwoHasWidth}
 use Rattle.typed_core.specs.declared.access.Event.{Event}
-use Rattle.typed_core.specs.declared.action.OneOp.{OneOp}
 use Rattle.typed_core.specs.declared.action.TwoOp.{TwoOp}
 use Rattle.typed_core.specs.declared.action.Action.{Action}
 use Rattle.typed_core.specs.declared.action.Action.TheVariants as action

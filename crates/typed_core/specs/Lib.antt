@@ -2,6 +2,7 @@ pub mod Clash
 pub mod Alone
 pub mod Valid
 pub mod Fits
+pub mod Scope
 pub mod Width
 pub mod Paths
 pub mod Laws

@@ -12,6 +12,7 @@ mod laws;
 mod run_alone;
 mod same;
 mod schedule;
+mod scope;
 mod validity;
 mod width;
 
@@ -22,3 +23,4 @@ pub use laws::{
     accesses_clash_by_their_ports, equal_designs_do_the_same, equality_is_an_equivalence,
 };
 pub use run_alone::{Alone, Outcome};
+pub use scope::Scope;

@@ -4,7 +4,8 @@ ghost use Rattle.typed_core.specs.Valid.{AreNodes, declarations, HasBits, HasWid
 use crate::action::Action;
 use crate::design::{HostSpec, InputDecl, Next, Node, Parts, RegDecl, TableSpec};
 use crate::schedule::{MAX_NODES, tries_none_twice};
-use crate::width::{Scope, width_of};
+use crate::scope::Scope;
+use crate::width::width_of;
 use kw_bits::{Bits, HostKind, Sequence};
 
 const MAX_REGISTERS: usize = 256;
@@ -105,7 +106,7 @@ fn are_rules(parts: &Parts) -> bool
 fn is_unit(parts: &Parts, body: &Action) -> bool
     ensures { IsTrue result ↔ HasWidth (declarations parts.now) body.now [] 0 }
 {
-    width_of(parts, body, &Scope::Empty) == Some(0)
+    width_of(parts, body, &Scope::empty()) == Some(0)
 }
 
 fn is_scheduler(nodes: &Sequence<Node>, rules: usize) -> bool

@@ -1,46 +1,21 @@
 ghost use Rattle.std.specs.Prelude.{◌≡◌, ◌+◌, ◌-◌, ◌≤◌, ◌<◌, slice_get};
-ghost use Rattle.typed_core.specs.Width.{Finds, widths};
+ghost use Rattle.typed_core.specs.Width.{Finds};
 ghost use Rattle.typed_core.specs.Valid.{declarations, HasHost, HasInput, HasRegister, HasTable, HasWidth, IsPort, OneHasWidth, TwoHasWidth};
 
 use crate::action::{Action, OneOp, TwoOp};
 use crate::design::Parts;
+use crate::scope::Scope;
 use kw_bits::Bits;
-
-/// The widths of the names that are bound round an action.
-#[derive(Drop)]
-pub(crate) enum Scope<'a> {
-    Empty,
-    /// The innermost name, and those further out.
-    Bound(u32, &'a Scope<'a>),
-}
-
-impl Scope<'_> {
-    // The width of the name this many names further out, 0 for the innermost.
-    fn width(&self, name: u32) -> Option<u32>
-        ensures { result ≡ slice_get (widths self.now) name }
-    {
-        let mut scope = self;
-        let mut further = name;
-        while let Scope::Bound(width, outer) = scope {
-            if further == 0 {
-                return Some(*width);
-            }
-            further -= 1;
-            scope = outer;
-        }
-        None
-    }
-}
 
 /// The width of an action's value, 0 where it comes to none, if the action is typed.
 #[cycle(width)]
-pub(crate) fn width_of(parts: &Parts, action: &Action, scope: &Scope) -> Option<u32>
-    ensures { Finds (HasWidth (declarations parts.now) action.now (widths scope.now)) result }
+pub(crate) fn width_of(parts: &Parts, action: &Action, scope: &Scope<u32>) -> Option<u32>
+    ensures { Finds (HasWidth (declarations parts.now) action.now scope.now) result }
 {
     match action {
         Action::Unit | Action::Abort => Some(0),
         Action::Const(value) => Some(value.width()),
-        Action::Local(name) => scope.width(*name),
+        Action::Local(name) => scope.get(*name),
         Action::Input(input) => input_width(parts, *input),
         Action::One(operator, a) => {
             let operand = operand_width(parts, a, scope)?;
@@ -69,7 +44,7 @@ pub(crate) fn width_of(parts: &Parts, action: &Action, scope: &Scope) -> Option<
         }
         Action::Let(value, body) => {
             let bound = operand_width(parts, value, scope)?;
-            width_of(parts, body, &Scope::Bound(bound, &*scope))
+            width_of(parts, body, &Scope::bind(bound, &*scope))
         }
         Action::If(condition, first, second) => {
             let condition = width_of(parts, condition, scope)?;
@@ -91,8 +66,8 @@ pub(crate) fn width_of(parts: &Parts, action: &Action, scope: &Scope) -> Option<
 
 // The width of an action's value, if the action is typed and comes to a value.
 #[cycle(width)]
-fn operand_width(parts: &Parts, action: &Action, scope: &Scope) -> Option<u32>
-    ensures width { Finds (λ width. HasWidth (declarations parts.now) action.now (widths scope.now) width × (1 ≤ width)) result }
+fn operand_width(parts: &Parts, action: &Action, scope: &Scope<u32>) -> Option<u32>
+    ensures width { Finds (λ width. HasWidth (declarations parts.now) action.now scope.now width × (1 ≤ width)) result }
 {
     let width = width_of(parts, action, scope)?;
     if width == 0 { None } else { Some(width) }

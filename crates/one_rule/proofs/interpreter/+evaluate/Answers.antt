@@ -1,5 +1,6 @@
-use Rattle.std.proofs.Common.{rules, subst, sym, ap, ◌∙◌}
+use Rattle.std.proofs.Common.{rules, refl, subst, sym, ap, ◌∙◌}
 use Rattle.std.proofs.lemmas.List.{get_or_read}
+use Rattle.std.proofs.lemmas.Option.{slice_get-get_or}
 use Rattle.typed_core.specs.declared.action.Action.{Action, the_lemmas}
 use Rattle.typed_core.specs.Fits.{CanBeOperand, CanEvaluate}
 use Rattle.kw_bits.specs.BitVector.{BitVector}
@@ -12,8 +13,11 @@ use Rattle.one_rule.specs.Scenes.{surroundings_of}
 use Rattle.one_rule.proofs.Came.{after_first, came}
 use Rattle.one_rule.proofs.interpreter.+evaluate.Goals as goal
 
-pub evaluate-get-requires : goal.evaluate-get-requires
-evaluate-get-requires t c = local_ready (declarations c.args.scene.now.design.now) c.args.action.now c.in-Local.name c.args.locals.now c.in-Local.is c.requires.ready
+pub evaluate-unwrap-requires : goal.evaluate-unwrap-requires
+evaluate-unwrap-requires t c =
+    let values = c.args.locals.now in
+    let bound = local_ready (declarations c.args.scene.now.design.now) c.args.action.now c.in-Local.name values c.in-Local.is c.requires.ready in
+    rw (c.get.ensures ∙ slice_get-get_or values c.in-Local.name unit bound) refl
 
 pub evaluate-get-requires-in-Input : goal.evaluate-get-requires-in-Input
 evaluate-get-requires-in-Input t c =

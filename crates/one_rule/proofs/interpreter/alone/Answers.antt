@@ -12,6 +12,6 @@ returns-clause-fits c =
     let scene : Scene = record { design = c.args.design; externs = c.args.externs; inputs = c.args.inputs; regs = c.args.regs } in
     let fits : FitsDeclarations d (surroundings_of scene) = search rules in
     let closed : CanEvaluate d c.get.result.now.body [] = search rules in
-    let ready : CanEvaluate d c.get.result.now.body c.none.result = rw c.none.ensures closed in
+    let ready : CanEvaluate d c.get.result.now.body c.empty.result = rw c.empty.ensures closed in
     let events : EventsFit d.regs c.new-events.result = search rules in
-    events_after d (surroundings_of scene) c.get.result.now.body c.none.result c.new-events.result c.evaluate.new.events _ fits ready events c.in_ok-evaluate.ensures
+    events_after d (surroundings_of scene) c.get.result.now.body c.empty.result c.new-events.result c.evaluate.new.events _ fits ready events c.in_ok-evaluate.ensures

@@ -1,12 +1,11 @@
 use Rattle.std.proofs.Common.{arith}
-use Rattle.typed_core.specs.Width.{widths}
 use Rattle.typed_core.specs.Valid.{declarations}
 use Rattle.typed_core.proofs.Widths.{HasWidth-same, finds_input, finds_read, finds_two, finds_slice, finds_extended, finds_table, finds_host, finds_let, finds_if, finds_write}
 use Rattle.typed_core.proofs.width.+width.Goals as goal
 
 pub operand_width-returns-then-width-eq0 : goal.operand_width-returns-then-width-eq0
 operand_width-returns-then-width-eq0 t c =
-    record { width = λ w h. omega (arith, HasWidth-same (declarations c.args.parts.now) c.args.action.now (widths c.args.scope.now) c.in_ok-width.width w c.in_ok-width.ensures h.0) }
+    record { width = λ w h. omega (arith, HasWidth-same (declarations c.args.parts.now) c.args.action.now c.args.scope.now c.in_ok-width.width w c.in_ok-width.ensures h.0) }
 
 pub width_of-returns-in-Input : goal.width_of-returns-in-Input
 width_of-returns-in-Input t c = finds_input _ _ _ _ c.in-Input.is c.input_width.ensures
@@ -32,7 +31,7 @@ width_of-returns-in_ok-operand-in-Host t c =
 
 pub width_of-returns-in_ok-bound-in-Let : goal.width_of-returns-in_ok-bound-in-Let
 width_of-returns-in_ok-bound-in-Let t c =
-    finds_let _ _ _ _ _ c.in-Let.is (rw c.deref-in-Let.ensures at c.in_ok-bound-in-Let.ensures.width) (rw c.deref-in-Let-2.ensures at c.width_of.ensures)
+    finds_let _ _ _ _ _ c.in-Let.is (rw c.deref-in-Let.ensures at c.in_ok-bound-in-Let.ensures.width) (rw (c.deref-in-Let-2.ensures, c.bind.ensures) at c.width_of.ensures)
 
 pub width_of-returns-in_ok-second-in-If : goal.width_of-returns-in_ok-second-in-If
 width_of-returns-in_ok-second-in-If t c =
