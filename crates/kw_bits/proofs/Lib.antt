@@ -1,4 +1,5 @@
 pub mod Counts
+pub mod Halves
 pub mod OperatorLaws
 pub mod Masks
 pub mod Reversal

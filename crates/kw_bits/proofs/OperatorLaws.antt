@@ -9,10 +9,11 @@ use Rattle.std.proofs.lemmas.Nat.{pow_pos, mod_below, and_le_l, shr_high, mod_lo
 use Rattle.std.specs.Int.Count.{count_leading_zeros}
 use Rattle.kw_bits.specs.BitVector.{BitVector, IsBitVector, IsBits}
 use Rattle.kw_bits.specs.Operators.{not, neg, and, or, xor, add, sub, mul, sll, srl, sra, signed, residue, flag, redand, redor, redxor, eq_bits, ult, ulte, slt, slte, concat, slice, zext, sext}
-use Rattle.kw_bits.specs.Host.{value, answer, out_width}
-use Rattle.kw_bits.specs.declared.host.HostKind.TheVariants.{Popcount, Parity, Reverse, LeadingZeros, Gray}
+use Rattle.kw_bits.specs.Host.{value, answer, out_width, arity}
+use Rattle.kw_bits.specs.declared.host.HostKind.TheVariants.{Popcount, Parity, Reverse, LeadingZeros, Gray, Hamming, Morton, SatAdd}
 use Rattle.kw_bits.specs.Laws.{HostAnswers, SubUndoesAdd, SextKeepsSigned, ReverseTurnsBits, LeadingZerosAndDigits, HasWidth, KeepsWidth, MakesOneBit, KeepsCommonWidth, ComparesToOneBit, Extends, Joins, Slices, SliceUndoesConcat, ConcatUndoesSlice, WholeSlice, SliceUndoes, OneBitIsFlag, FlagLogic}
 use Rattle.kw_bits.proofs.Counts.{same_digits, count_ones_within, leading_zeros_within}
+use Rattle.kw_bits.proofs.Halves.{hamming_within, interleaved_bit-lt, sat_add_within, two_bits}
 use Rattle.kw_bits.proofs.Reversal.{bit_at-number_of_bits, number_of_bits-lt}
 use Rattle.kw_bits.proofs.Signs.{sext-low, sext-high, signed-low, signed-high}
 use Rattle.kw_bits.proofs.Words.{lower_within, or_within, xor_within, within_wider, joined_within}
@@ -135,15 +136,22 @@ unfolding slice
 slice-HasWidth a upper lower p order within =
     (cut_within (upper - lower + 1) (a.number / 2 ^ lower) (omega arith) (omega arith), refl)
 
+few_bits : {w : ℕ} → w ≤ 12 → w < 16
+few_bits most = omega arith
+
 pub host-HasWidth : HostAnswers
-unfolding value answer out_width
-host-HasWidth Popcount x p few = (count_ones_within x.width x.number few p.in_range, refl)
+unfolding value answer out_width arity
+host-HasWidth Popcount x p few = (count_ones_within x.width x.number (few_bits few.no_wider) p.in_range, refl)
 host-HasWidth Parity x p few = (cut_within 1 (count_ones x.number) (lit≤ tt) (lit≤ tt), refl)
 host-HasWidth Reverse x p few =
     (record { some_bit = p.some_bit; no_wider = p.no_wider; in_range = number_of_bits-lt x.width _ (λ i. bit_at-lt x.number (x.width - 1 - i)) }, refl)
-host-HasWidth LeadingZeros x p few = (leading_zeros_within x.width x.number few, refl)
+host-HasWidth LeadingZeros x p few = (leading_zeros_within x.width x.number (few_bits few.no_wider), refl)
 host-HasWidth Gray x p few =
     (xor_within x.width x.number (x.number / 2) p (lower_within x.width x.number (x.number / 2) p (div-le_self x.number 2)), refl)
+host-HasWidth Hamming x p few = (hamming_within x.width x.number few.no_wider few.equal_parts p.in_range, refl)
+host-HasWidth Morton x p few =
+    (record { some_bit = p.some_bit; no_wider = p.no_wider; in_range = number_of_bits-lt x.width _ (interleaved_bit-lt _ _) }, refl)
+host-HasWidth SatAdd x p few = (sat_add_within x.width _ (two_bits few.some_bit few.equal_parts) few.no_wider, refl)
 
 -- ---- how they undo one another
 

@@ -10,6 +10,13 @@ use Rattle.kw_bits.specs.Host.{number_of_bits}
 
 -- ---- a number made of bits
 
+-- with one bit more, that bit stands above them
+pub number_of_bits-next : (w : ℕ) (bit : ℕ → ℕ) → number_of_bits (w + 1) bit ≡ bit w * 2 ^ w + number_of_bits w bit
+unfolding number_of_bits
+number_of_bits-next w bit =
+    let e : w + 1 ≡ suc w = omega arith in
+    ap (λ k. number_of_bits k bit) e
+
 -- it is below 2 to how many they are
 pub number_of_bits-lt : (w : ℕ) (bit : ℕ → ℕ) → ((i : ℕ) → bit i < 2) → number_of_bits w bit < 2 ^ w
 unfolding number_of_bits

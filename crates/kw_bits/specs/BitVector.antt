@@ -15,3 +15,7 @@ pub record IsBitVector (width number : ℕ) : Type 0 where
 -- the same of a record of both
 abbrev pub IsBits : BitVector → Type 0
 IsBits a = IsBitVector a.width a.number
+
+-- 0 at a width
+abbrev pub zero_at : ℕ → BitVector
+zero_at width = record { width = width; number = 0 }

@@ -1,12 +1,12 @@
 -- What holds of the operators at every width: that they answer bit vectors of the width that is due, and how
 -- they undo one another.
-use Rattle.std.specs.Prelude.{◌≡◌, ℕ, ◌+◌, ◌-◌, ◌*◌, ◌^◌, ◌<◌, ◌≤◌, Bool, not, ◌&&◌, ◌||◌, nat_eq}
+use Rattle.std.specs.Prelude.{◌≡◌, ℕ, ◌+◌, ◌-◌, ◌*◌, ◌^◌, ◌<◌, ◌≤◌, Bool, not, ◌&&◌, ◌||◌, nat_eq, bit_xor, count_ones}
 use Rattle.std.specs.Int.{bit_at}
 use Rattle.kw_bits.specs.BitVector.{BitVector, IsBits}
 use Rattle.kw_bits.specs.Operators as op
 use Rattle.kw_bits.specs.Host as host
 use Rattle.kw_bits.specs.declared.host.HostKind.{HostKind}
-use Rattle.kw_bits.specs.declared.host.HostKind.TheVariants.{Reverse, LeadingZeros}
+use Rattle.kw_bits.specs.declared.host.HostKind.TheVariants.{Reverse, LeadingZeros, Hamming, Morton, SatAdd}
 
 -- the bit vector is one of this width
 abbrev pub HasWidth : BitVector → ℕ → Type 0
@@ -38,9 +38,9 @@ Joins = (a b : BitVector) → IsBits a → IsBits b → a.width + b.width ≤ 12
 abbrev pub Slices : Type 0
 Slices = (a : BitVector) (upper lower : ℕ) → IsBits a → lower ≤ upper → upper < a.width → HasWidth (op.slice a upper lower) (upper - lower + 1)
 
--- a host function answers a bit vector of its output width, for inputs of up to 15 bits
+-- a host function answers a bit vector of its output width
 abbrev pub HostAnswers : Type 0
-HostAnswers = (kind : HostKind) (x : BitVector) → IsBits x → x.width < 16 → HasWidth (host.value kind x) (host.out_width kind x.width)
+HostAnswers = (kind : HostKind) (x : BitVector) → IsBits x → host.TakesWidth kind x.width → HasWidth (host.value kind x) (host.out_width kind x.width)
 
 -- the two parts of what was joined are the operands
 abbrev pub SliceUndoesConcat : Type 0
@@ -81,3 +81,15 @@ ReverseTurnsBits = (w x i : ℕ) → i < w → bit_at (host.answer Reverse w x) 
 -- it, has that power's count of digits, and 0 has none
 abbrev pub LeadingZerosAndDigits : Type 0
 LeadingZerosAndDigits = (w x digits : ℕ) → x < 2 ^ w → x < 2 ^ digits → 2 ^ digits ≤ 2 * x + 1 → host.answer LeadingZeros w x + digits ≡ w
+
+-- two arguments of h bits, the second below 2 to the h: in how many bits they differ
+abbrev pub HammingCountsDifferences : Type 0
+HammingCountsDifferences = (h x y : ℕ) → y < 2 ^ h → host.answer Hamming (2 * h) (x * 2 ^ h + y) ≡ count_ones (bit_xor x y)
+
+-- bit 2i of the answer is bit i of the first, and bit 2i + 1 is bit i of the second
+abbrev pub MortonTakesTurns : Type 0
+MortonTakesTurns = (h x y i : ℕ) → y < 2 ^ h → i < h → (bit_at (host.answer Morton (2 * h) (x * 2 ^ h + y)) (2 * i) ≡ bit_at x i) × (bit_at (host.answer Morton (2 * h) (x * 2 ^ h + y)) (2 * i + 1) ≡ bit_at y i)
+
+-- the sum where it has at most h bits, and else the greatest number of h bits
+abbrev pub SatAddSaturates : Type 0
+SatAddSaturates = (h x y : ℕ) → y < 2 ^ h → (x + y < 2 ^ h → host.answer SatAdd (2 * h) (x * 2 ^ h + y) ≡ x + y) × (2 ^ h ≤ x + y → host.answer SatAdd (2 * h) (x * 2 ^ h + y) ≡ 2 ^ h - 1)

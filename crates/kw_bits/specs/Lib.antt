@@ -2,3 +2,4 @@ pub mod BitVector
 pub mod Host
 pub mod Laws
 pub mod Operators
+pub mod Reserved

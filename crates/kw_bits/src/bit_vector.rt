@@ -1,5 +1,5 @@
 ghost use Rattle.std.specs.Prelude.{◌≡◌, ◌+◌, ◌%◌, ◌<◌, ◌≤◌, ◌^◌, ◌↔◌, IsSome, IfSome};
-ghost use Rattle.kw_bits.specs.BitVector.{IsBitVector};
+ghost use Rattle.kw_bits.specs.BitVector.{IsBitVector, zero_at};
 
 use std::marker::Model;
 
@@ -36,6 +36,15 @@ impl Bits {
             return None;
         }
         Some(Bits { width, number })
+    }
+
+    /// The bit vector of a width from 1 to 128 whose bits are all 0.
+    pub fn zero(width: u32) -> Bits
+        requires some { 1 ≤ width }
+        requires most { width ≤ 128 }
+        ensures { result ≡ zero_at width }
+    {
+        Bits { width, number: 0 }
     }
 
     /// How many bits there are.

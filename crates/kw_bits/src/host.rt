@@ -1,7 +1,7 @@
-ghost use Rattle.std.specs.Prelude.{◌≡◌, ◌≤◌};
+ghost use Rattle.std.specs.Prelude.{◌≡◌, ◌+◌, ◌*◌, ◌%◌, ◌^◌, ◌≤◌, ◌<◌, ◌↔◌, IsTrue, count_ones};
 ghost use Rattle.kw_bits.specs.Host as host;
 
-use crate::bit_vector::Bits;
+use crate::bit_vector::{Bits, mask};
 
 /// The functions that a design may ask its host for.
 #[derive(Clone, Copy, Debug, PartialEq, Eq, Hash)]
@@ -16,11 +16,41 @@ pub enum HostKind {
     LeadingZeros,
     /// The Gray code.
     Gray,
+    /// In how many bits two arguments differ.
+    Hamming,
+    /// The bits of two arguments in turn, the lowest of the first below the lowest of the second.
+    Morton,
+    /// The sum of two arguments, or the greatest number of their width where that is less.
+    SatAdd,
 }
 
 impl HostKind {
     /// The widest input has this many bits.
-    pub const MAX_IN_WIDTH: u32 = 8;
+    pub const MAX_IN_WIDTH: u32 = 12;
+
+    /// How many arguments there are: 1 or 2. Two arguments are the halves of the input, the first the high one.
+    #[tactic(auto, unfolding(crate::specs::Host::arity))]
+    pub fn arity(self) -> u32
+        ensures arity { result ≡ host.arity self }
+        ensures some { 1 ≤ result }
+        ensures most { result ≤ 2 }
+    {
+        match self {
+            HostKind::Popcount
+            | HostKind::Parity
+            | HostKind::Reverse
+            | HostKind::LeadingZeros
+            | HostKind::Gray => 1,
+            HostKind::Hamming | HostKind::Morton | HostKind::SatAdd => 2,
+        }
+    }
+
+    /// Whether an input may have this many bits: 1 to 12, and an even number for two arguments.
+    pub fn takes_width(self, in_width: u32) -> bool
+        ensures { IsTrue result ↔ host.TakesWidth self in_width }
+    {
+        1 <= in_width && in_width <= HostKind::MAX_IN_WIDTH && in_width % self.arity() == 0
+    }
 
     /// How many bits the answer to an input of `in_width` bits has.
     #[tactic(auto, unfolding(crate::specs::Host::out_width))]
@@ -28,15 +58,16 @@ impl HostKind {
         ensures { result ≡ host.out_width self in_width }
     {
         match self {
-            HostKind::Popcount | HostKind::LeadingZeros => 4,
+            HostKind::Popcount | HostKind::LeadingZeros | HostKind::Hamming => 4,
             HostKind::Parity => 1,
-            HostKind::Reverse | HostKind::Gray => in_width,
+            HostKind::Reverse | HostKind::Gray | HostKind::Morton => in_width,
+            HostKind::SatAdd => in_width / 2,
         }
     }
 
-    /// The answer to an input of 1 to 8 bits.
+    /// The answer to an input of 1 to 12 bits, of an even number for two arguments.
     pub fn value(self, x: Bits) -> Bits
-        requires { x.width ≤ HostKind.MAX_IN_WIDTH }
+        requires { host.TakesWidth self x.width }
         ensures { result ≡ host.value self x }
     {
         match self {
@@ -45,6 +76,9 @@ impl HostKind {
             HostKind::Reverse => reverse(x),
             HostKind::LeadingZeros => leading_zeros(x),
             HostKind::Gray => gray(x),
+            HostKind::Hamming => hamming(x),
+            HostKind::Morton => morton(x),
+            HostKind::SatAdd => sat_add(x),
         }
     }
 }
@@ -53,7 +87,7 @@ fn popcount(x: Bits) -> Bits
     requires { x.width ≤ HostKind.MAX_IN_WIDTH }
     ensures { result ≡ host.value HostKind.Popcount x }
 {
-    Bits::from_parts(4, x.number().count_ones() as u128)
+    count_of_ones(x.number())
 }
 
 fn parity(x: Bits) -> Bits
@@ -84,54 +118,134 @@ fn gray(x: Bits) -> Bits
     Bits::from_parts(x.width(), x.number() ^ (x.number() >> 1))
 }
 
+#[tactic(auto, unfolding(crate::specs::Host::arity))]
+fn hamming(x: Bits) -> Bits
+    requires { host.TakesWidth HostKind.Hamming x.width }
+    ensures { result ≡ host.value HostKind.Hamming x }
+{
+    count_of_ones(high_half(x) ^ low_half(x))
+}
+
+#[tactic(auto, unfolding(crate::specs::Host::arity))]
+fn morton(x: Bits) -> Bits
+    requires { host.TakesWidth HostKind.Morton x.width }
+    ensures { result ≡ host.value HostKind.Morton x }
+{
+    let (first, second) = (high_half(x), low_half(x));
+    let mut number = 0;
+    for i in 0..x.width() {
+        number = with_bit(number, interleaved_bit(first, second, i), i);
+    }
+    Bits::from_parts(x.width(), number)
+}
+
+#[tactic(auto, unfolding(crate::specs::Host::arity))]
+fn sat_add(x: Bits) -> Bits
+    requires { host.TakesWidth HostKind.SatAdd x.width }
+    ensures { result ≡ host.value HostKind.SatAdd x }
+{
+    let greatest = mask(x.width() / 2);
+    Bits::from_parts(x.width() / 2, (high_half(x) + low_half(x)).min(greatest))
+}
+
+// How many bits of a word of 12 bits are 1.
+fn count_of_ones(word: u128) -> Bits
+    requires { word < 2 ^ 12 }
+    ensures { result ≡ record { width = 4; number = count_ones word } }
+{
+    Bits::from_parts(4, word.count_ones() as u128)
+}
+
+// The first of two arguments.
+#[tactic(auto, unfolding(crate::specs::Host::high_half))]
+fn high_half(x: Bits) -> u128
+    requires most { x.width ≤ HostKind.MAX_IN_WIDTH }
+    requires even { x.width % 2 ≡ 0 }
+    ensures half { result ≡ host.high_half x.width x.number }
+    ensures small { result < 2 ^ 6 }
+{
+    x.number() >> (x.width() / 2)
+}
+
+// The second of two arguments.
+#[tactic(auto, unfolding(crate::specs::Host::low_half))]
+fn low_half(x: Bits) -> u128
+    requires some { 1 ≤ x.width }
+    requires most { x.width ≤ HostKind.MAX_IN_WIDTH }
+    requires even { x.width % 2 ≡ 0 }
+    ensures half { result ≡ host.low_half x.width x.number }
+    ensures small { result < 2 ^ 6 }
+{
+    Bits::low_bits(x.width() / 2, x.number()).number()
+}
+
+// Bit i of two numbers that take turns, x before y.
+#[tactic(auto, unfolding(crate::specs::Host::interleaved_bit))]
+fn interleaved_bit(x: u128, y: u128, i: u32) -> u128
+    requires { i < 128 }
+    ensures bit { result ≡ host.interleaved_bit x y i }
+    ensures small { result < 2 }
+{
+    if i % 2 == 0 {
+        (x >> (i / 2)) % 2
+    } else {
+        (y >> (i / 2)) % 2
+    }
+}
+
+// The number with one bit more, above its i bits.
+fn with_bit(number: u128, bit: u128, i: u32) -> u128
+    requires below { number < 2 ^ i }
+    requires small { bit < 2 }
+    requires within { i < 127 }
+    ensures { result ≡ bit * 2 ^ i + number }
+{
+    bit << i | number
+}
+
 #[cfg(test)]
 mod tests {
     use super::HostKind;
     use crate::Bits;
     use std::process::Abort;
 
-    const KINDS: [HostKind; 5] = [
-        HostKind::Popcount,
-        HostKind::Parity,
-        HostKind::Reverse,
-        HostKind::LeadingZeros,
-        HostKind::Gray,
-    ];
-
-    // A width, a number and what the kinds answer, in the order of `KINDS`, after Python's integers.
+    // A kind, a width, a number and what the kind answers, after Python's integers.
     #[rattlefmt::skip]
-    const ANSWERS: [(u32, u128, [u128; 5]); 11] = [
-        (1, 0, [0, 0, 0, 1, 0]),
-        (1, 1, [1, 1, 1, 0, 1]),
-        (2, 1, [1, 1, 2, 1, 1]),
-        (5, 6, [2, 0, 0xc, 2, 5]),
-        (7, 0x7f, [7, 1, 0x7f, 0, 0x40]),
-        (8, 0, [0, 0, 0, 8, 0]),
-        (8, 1, [1, 1, 0x80, 7, 1]),
-        (8, 3, [2, 0, 0xc0, 6, 2]),
-        (8, 7, [3, 1, 0xe0, 5, 4]),
-        (8, 0x96, [4, 0, 0x69, 0, 0xdd]),
-        (8, 0xff, [8, 0, 0xff, 0, 0x80]),
+    const ANSWERS: [(HostKind, u32, u128, u128); 34] = [
+        (HostKind::Popcount, 1, 0, 0), (HostKind::Popcount, 5, 6, 2), (HostKind::Popcount, 8, 0xff, 8),
+        (HostKind::Popcount, 12, 0xfff, 12),
+        (HostKind::Parity, 1, 1, 1), (HostKind::Parity, 8, 7, 1), (HostKind::Parity, 8, 0x96, 0),
+        (HostKind::Parity, 11, 0x7ff, 1),
+        (HostKind::Reverse, 1, 1, 1), (HostKind::Reverse, 5, 6, 0xc), (HostKind::Reverse, 8, 1, 0x80),
+        (HostKind::Reverse, 12, 0x801, 0x801), (HostKind::Reverse, 12, 0x123, 0xc48),
+        (HostKind::LeadingZeros, 1, 0, 1), (HostKind::LeadingZeros, 8, 1, 7), (HostKind::LeadingZeros, 8, 0, 8),
+        (HostKind::LeadingZeros, 12, 0, 12),
+        (HostKind::Gray, 2, 1, 1), (HostKind::Gray, 8, 3, 2), (HostKind::Gray, 12, 0xfff, 0x800),
+        (HostKind::Hamming, 2, 2, 1), (HostKind::Hamming, 4, 0x9, 2), (HostKind::Hamming, 12, 63 << 6, 6),
+        (HostKind::Hamming, 12, 0xfff, 0), (HostKind::Hamming, 10, 0x2aa, 5),
+        (HostKind::Morton, 2, 2, 1), (HostKind::Morton, 2, 1, 2), (HostKind::Morton, 12, 3 << 6, 5),
+        (HostKind::Morton, 12, 1, 2), (HostKind::Morton, 12, 63, 0xaaa),
+        (HostKind::SatAdd, 2, 3, 1), (HostKind::SatAdd, 6, 0x1a, 5), (HostKind::SatAdd, 12, (60 << 6) + 5, 63),
+        (HostKind::SatAdd, 12, (31 << 6) + 32, 63),
     ];
 
-    fn check(rt: &impl Abort, width: u32, number: u128, want: [u128; 5]) {
-        assert!(rt; width <= HostKind::MAX_IN_WIDTH);
-        let x = Bits::new(width, number).expect(rt, "a bit vector");
-        for (kind, wanted) in KINDS.into_iter().zip(want) {
-            let got = kind.value(x);
-            assert_eq!(rt;
-                got.number(),
-                wanted,
-                "{kind:?} of {number} at width {width}"
-            );
-            assert_eq!(rt; got.width(), kind.out_width(width), "{kind:?}");
-        }
+    fn check(rt: &impl Abort, kind: HostKind, width: u32, number: u128, want: u128) {
+        assert!(rt; kind.takes_width(width));
+        let got = kind.value(Bits::new(width, number).expect(rt, "a bit vector"));
+        assert_eq!(rt;
+            (got.width(), got.number()),
+            (kind.out_width(width), want),
+            "{kind:?} of {number} at width {width}"
+        );
     }
 
     #[test]
     fn kinds_answer(rt: HostRuntime) {
-        for (width, number, want) in ANSWERS {
-            check(&rt, width, number, want);
+        for (kind, width, number, want) in ANSWERS {
+            check(&rt, kind, width, number, want);
         }
+        assert!(rt; !HostKind::Gray.takes_width(13));
+        assert!(rt; !HostKind::Parity.takes_width(0));
+        assert!(rt; !HostKind::Hamming.takes_width(11));
     }
 }

@@ -77,3 +77,10 @@ pub fn host_answers_by_bits()
     ensures reverse { law.ReverseTurnsBits }
     ensures leading_zeros { law.LeadingZerosAndDigits }
 {}
+
+/// Of two arguments: in how many bits they differ, their bits in turn, and their sum as far as it goes.
+pub fn host_answers_of_two()
+    ensures hamming { law.HammingCountsDifferences }
+    ensures morton { law.MortonTakesTurns }
+    ensures sat_add { law.SatAddSaturates }
+{}

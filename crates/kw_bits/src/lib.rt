@@ -1,8 +1,9 @@
-//! Bit vectors of 1 to 128 bits, the host functions, and what every crate shares: the want of memory and the list type.
+//! Bit vectors of 1 to 128 bits, the host functions, and what every crate shares: the want of memory and the list types.
 //!
 //! Contracts see a `Bits` as its width and its number, and cite the operators of `specs/Operators.antt`, which are those
 //! of SMT-LIB's theory of bit vectors and of BTOR2, and the answers of `specs/Host.antt`. They see a `Sequence` as the
-//! list of its items. Proofs above cite the laws of `proofs/OperatorLaws.antt`. Every other crate stands on this one.
+//! list of its items, and a `Reserved` as that list beside its capacity. Proofs above cite the laws of
+//! `proofs/OperatorLaws.antt` and `proofs/Halves.antt`. Every other crate stands on this one.
 #![tactic(auto)]
 
 mod bit_vector;
@@ -10,11 +11,13 @@ mod host;
 pub mod laws;
 mod memory;
 mod operators;
+mod reserved;
 mod same;
 mod sequence;
 
 pub use bit_vector::Bits;
 pub use host::HostKind;
 pub use memory::NoMemory;
+pub use reserved::Reserved;
 pub use same::Same;
 pub use sequence::{Sequence, Text};

@@ -1,9 +1,15 @@
-ghost use Rattle.std.specs.Prelude.{◌≡◌, ◌+◌, ◌<◌, ℕ, List, [], ◌∷◌, ◌++◌, length, slice_index_or, slice_set, IfOk, OnOk, OnErr, IsTrue, ◌↔◌};
+ghost use Rattle.std.specs.Prelude.{◌≡◌, ◌<◌, ◌^◌, ℕ, List, [], ◌∷◌, ◌++◌, length, take, slice_index_or, slice_set, IsNone, IfOk, OnOk, OnErr, IsTrue, ◌↔◌};
+ghost use Rattle.std.specs.Iterator.Adapters.{IterYieldsInOrder};
+ghost use Rattle.std.specs.Iterator.Runs.{EveryRun, ItemsMapTo};
+ghost use Rattle.std.specs.Option.{option_to_list};
+ghost use Rattle.std.specs.Slice.Iter.{iter_rest, iter_steps};
 
 use crate::memory::NoMemory;
 use crate::same::Same;
 use std::alloc::Global;
 use std::marker::Model;
+use std::ops::Index;
+use std::slice;
 
 /// A list of items in order, seen by contracts as that list.
 #[derive(Debug, Drop)]
@@ -58,6 +64,15 @@ impl<T> Sequence<T> {
         self.items.as_slice()
     }
 
+    /// An iterator over the items, in order.
+    pub fn iter(&self) -> slice::Iter<'_, T>
+        ensures rest { iter_rest result ≡ self.now }
+        ensures bound { length (iter_rest result) < 2 ^ 64 }
+        ensures runs { IterYieldsInOrder T }
+    {
+        self.items.as_slice().iter()
+    }
+
     /// The item at an index.
     pub fn get(&self, index: usize) -> &T
         requires { index < length self.now }
@@ -85,6 +100,60 @@ impl<T> Sequence<T> {
         ensures { self.new ≡ slice_set self.old index item }
     {
         self.items[index] = item;
+    }
+
+    /// Takes the last item away and gives it, if there is one.
+    pub fn pop(&mut self) -> Option<T>
+        ensures items { self.old ≡ self.new ++ option_to_list result }
+        ensures none { IsNone result ↔ (self.old ≡ []) }
+    {
+        self.items.pop()
+    }
+
+    /// Takes all items away but the first `len`.
+    pub fn truncate(&mut self, len: usize)
+    where
+        T: Drop,
+        ensures { self.new ≡ take len self.old }
+    {
+        self.items.truncate(len);
+    }
+
+    /// Takes all items away. The memory is kept for the next ones.
+    pub fn clear(&mut self)
+    where
+        T: Drop,
+        ensures { self.new ≡ [] }
+    {
+        self.items.clear();
+    }
+}
+
+impl<T> Index<usize> for Sequence<T> {
+    type Output = T;
+
+    ghost can_index = { λ s i. i < length s };
+
+    ghost index_gives = { λ s i x. x ≡ slice_index_or s i x };
+
+    fn index(&self, index: usize) -> &T
+        requires { index < length self.now }
+        ensures { result.now ≡ slice_index_or self.now index result.now }
+    {
+        &self.items[index]
+    }
+}
+
+impl<'a, T> IntoIterator for &'a Sequence<T> {
+    type Item = &'a T;
+
+    type IntoIter = slice::Iter<'a, T>;
+
+    ghost into_iter_gives = { λ s it. (iter_rest it ≡ s.now) × (length (iter_rest it) < 2 ^ 64)
+        × EveryRun (iter_steps {A = T}) (λ p. ItemsMapTo p (λ x. x.now) (iter_rest p.from)) };
+
+    fn into_iter(self) -> slice::Iter<'a, T> {
+        self.items.as_slice().iter()
     }
 }
 
