@@ -6,6 +6,7 @@
 #![tactic(auto)]
 
 mod fault;
+pub mod fault_number;
 mod names;
 mod place;
 #[cfg(test)]

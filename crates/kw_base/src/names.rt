@@ -1,15 +1,19 @@
-ghost use Rattle.std.specs.Prelude.{◌≡◌, ◌<◌, ◌^◌, length, [], IfOk, OnErr};
+ghost use Rattle.std.specs.Prelude.{◌≡◌, ◌↔◌, ◌<◌, ◌^◌, IsTrue, length, [], Some, slice_get, IfOk, OnErr};
+ghost use Rattle.std.specs.Hash.DefaultHasher as sip;
+ghost use Rattle.sha2.specs.Sha256.{sha256};
 ghost use Rattle.kw_base.specs.Names.{AreNumbered, number_of, Adds};
 
 use indexmap::IndexSet;
 use kw_bits::NoMemory;
+use sha2::{Digest, Sha256};
 use std::alloc::Global;
+use std::hash::{BuildHasher, DefaultHasher, Hasher};
 use std::marker::Model;
 
 /// Names, numbered from 0 in order of first sight and seen by contracts as the list of them in that order.
 #[derive(Drop)]
 pub struct Names {
-    seen: IndexSet<Vec<u8>>,
+    seen: IndexSet<Vec<u8>, HashOfText>,
 }
 
 impl Model for Names {
@@ -33,12 +37,21 @@ pub enum Added {
 }
 
 impl Names {
-    /// No names, which takes no memory.
+    /// No names, which takes no memory. All such have one hash, so names can be chosen that make it slow:
+    /// `of_text` is for names that others choose.
     pub fn new(alloc: Global) -> Names
         ensures { result ≡ [] }
     {
+        Names::of_text(alloc, b"")
+    }
+
+    /// No names, which takes no memory, for those that stand in this text. Each text has a hash of its own, so
+    /// names can't be chosen that make it slow.
+    pub fn of_text(alloc: Global, text: &[u8]) -> Names
+        ensures { result ≡ [] }
+    {
         Names {
-            seen: IndexSet::new(alloc),
+            seen: IndexSet::with_hasher(alloc, HashOfText::new(text)),
         }
     }
 
@@ -67,5 +80,53 @@ impl Names {
             Some(number) => Some(number as u32),
             None => None,
         }
+    }
+
+    /// The name with this number, which was seen.
+    pub fn name(&self, number: u32) -> &[u8]
+        requires { number < length self.now }
+        ensures { slice_get self.now number ≡ Some result.now }
+    {
+        self.seen.as_slice()[number as usize].as_slice()
+    }
+
+    /// How many names there are.
+    pub fn len(&self) -> usize
+        ensures { result ≡ length self.now }
+    {
+        self.seen.len()
+    }
+
+    /// Whether there are no names.
+    pub fn is_empty(&self) -> bool
+        ensures { IsTrue result ↔ (self.now ≡ []) }
+    {
+        self.seen.is_empty()
+    }
+}
+
+// Hashes names by SipHash that was fed with the digest of the text that they stand in.
+#[derive(Clone, Copy)]
+struct HashOfText {
+    fed: DefaultHasher,
+}
+
+impl HashOfText {
+    fn new(text: &[u8]) -> HashOfText
+        ensures { result.fed ≡ sip.write sip.initial (sha256 text.now) }
+    {
+        let mut fed = DefaultHasher::new();
+        fed.write(&Sha256::digest(text));
+        HashOfText { fed }
+    }
+}
+
+impl BuildHasher for HashOfText {
+    type Hasher = DefaultHasher;
+
+    ghost build_hasher = { λ of_text. of_text.fed };
+
+    fn build_hasher(&self) -> DefaultHasher {
+        self.fed
     }
 }

@@ -50,12 +50,25 @@ fn numbers_names_in_order_of_first_sight(rt: HostRuntime) -> Result<(), Fail> {
     }
     assert_eq!(rt; names.find(b"counter"), Some(2));
     assert_eq!(rt; names.find(b"coun"), None);
+    assert_eq!(rt; names.len(), 4);
+    Ok(())
+}
+
+#[test]
+fn names_are_told_by_their_numbers(rt: HostRuntime) -> Result<(), Fail> {
+    let mut names = Names::of_text(rt.alloc(), b"reg count");
+    assert!(rt; names.is_empty());
+    assert_eq!(rt; names.add(b"count")?, Added::New(0));
+    assert_eq!(rt; names.add(b"reg")?, Added::New(1));
+    assert!(rt; names.len() == 2);
+    assert_eq!(rt; names.name(0), b"count".as_slice());
+    assert_eq!(rt; names.name(1), b"reg".as_slice());
     Ok(())
 }
 
 // Expects the numbers of so many names, when each is added and looked up.
 fn expect_names(rt: &impl Abort, alloc: Global, count: u32) -> Result<(), Fail> {
-    let mut names = Names::new(alloc);
+    let mut names = Names::of_text(alloc, b"text");
     for number in 0..count {
         assert_eq!(rt; names.add(&number.to_le_bytes())?, Added::New(number));
     }

@@ -53,7 +53,8 @@ impl From<AllocError> for ReadAll {
 }
 
 /// Reads all bytes that are left, to the end of input, of which there may be `limit`. Pieces of any
-/// length are joined. The memory taken grows with the bytes and stays within a small multiple of `limit`.
+/// length are joined. It takes memory for a piece of at most `limit + 1` bytes and for what was read, in a
+/// list that doubles where it is full: four times `limit` and a few bytes at most.
 pub fn read_all<S: Source>(alloc: Global, source: &mut S, limit: usize) -> Result<Vec<u8>, ReadAll>
     ensures all { IfOk result (λ bytes. TakesAll (S.left source.old) (S.left source.new) bytes.items) }
     ensures within { IfOk result (λ bytes. vec_len bytes ≤ limit) }
@@ -66,7 +67,8 @@ pub fn read_all<S: Source>(alloc: Global, source: &mut S, limit: usize) -> Resul
         → IfSome (S.left source.old) (λ all. limit < length all) }
     ensures never_falls { S.faults source.old ≤ S.faults source.new }
 {
-    let mut chunk = vec![in alloc; 0u8; CHUNK]?;
+    // One byte more than may come shows that there are too many.
+    let mut chunk = vec![in alloc; 0u8; limit.min(CHUNK - 1) + 1]?;
     join_pieces(alloc, source, limit, &mut chunk)
 }
 
@@ -111,7 +113,6 @@ fn append_piece<S: Source>(
     ensures fault { IsErrOf result ReadAll.Fault → Rose (S.faults source.old) (S.faults source.new) }
     ensures never_falls { S.faults source.old ≤ S.faults source.new }
 {
-    // One byte more than may come shows that there are too many.
     let most = (limit - bytes.len()).min(chunk.len() - 1) + 1;
     let piece = &mut chunk[..most];
     let count = source.read(piece)?;
