@@ -93,4 +93,4 @@ answer_fits hosts number operand width x all (spec, found, takes, gives) h =
     let valid = found_holds IsHost hosts number spec all found in
     let same : x.width ≡ spec.in_width = h.1 ∙ sym takes in
     subst (λ (o : Option HostSpec). HasBits width (answer_of o x)) (sym found)
-    (at_width _ _ _ (ap (host.out_width spec.kind) same ∙ gives) (laws.host-HasWidth spec.kind x h.0 (omega (arith, valid.1, same))))
+    (at_width _ _ _ (ap (host.out_width spec.kind) same ∙ gives) (laws.host-HasWidth spec.kind x h.0 (subst (λ (w : ℕ). host.TakesWidth spec.kind w) (sym same) valid)))

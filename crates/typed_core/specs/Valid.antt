@@ -139,9 +139,9 @@ pub record IsTable (table : TableSpec) : Type 0 where
   pub count : length table.entries ≡ 2 ^ table.in_width
   pub entries : All (HasBits table.out_width) table.entries
 
--- a host function takes 1 to 8 bits
+-- a host function takes a width that its kind has
 abbrev pub IsHost : HostSpec → Type 0
-IsHost spec = (1 ≤ spec.in_width) × (spec.in_width ≤ 8)
+IsHost spec = host.TakesWidth spec.kind spec.in_width
 
 -- a continuation of a node is the end or a node of a greater number
 abbrev pub IsContinuation : ℕ → ℕ → Next → Type 0

@@ -6,7 +6,7 @@ use crate::design::{HostSpec, InputDecl, Next, Node, Parts, RegDecl, TableSpec};
 use crate::schedule::{MAX_NODES, tries_none_twice};
 use crate::scope::Scope;
 use crate::width::width_of;
-use kw_bits::{Bits, HostKind, Sequence};
+use kw_bits::{Bits, Sequence};
 
 const MAX_REGISTERS: usize = 256;
 
@@ -90,7 +90,7 @@ fn are_hosts(hosts: &Sequence<HostSpec>) -> bool
 fn is_host(spec: &HostSpec) -> bool
     ensures { IsTrue result ↔ IsHost spec.now }
 {
-    1 <= spec.in_width && spec.in_width <= HostKind::MAX_IN_WIDTH
+    spec.kind.takes_width(spec.in_width)
 }
 
 fn are_rules(parts: &Parts) -> bool
