@@ -4,3 +4,5 @@ pub mod Lexemes
 pub mod Tokens
 pub mod TokenFaults
 pub mod LexemeAnswers
+pub mod Tree
+pub mod Grammar

@@ -1,21 +1,30 @@
-//! The tokens of a design's text.
+//! The tokens of a design's text, and its tree.
 //!
 //! Contracts cite the lexemes and the rule of the longest one in `specs/Lexemes.antt`, what the tokens of
-//! a text are in `specs/Tokens.antt`, and which fault comes first in `specs/TokenFaults.antt`. The parser
-//! reads what `lex` answers; the printer writes the bytes of the same keywords and symbols.
+//! a text are in `specs/Tokens.antt`, and which fault comes first in `specs/TokenFaults.antt`. What tokens a
+//! tree stands for and which trees are the grammar's stands in `specs/Grammar.antt`. The parser reads what
+//! `lex` answers and gives a `Tree`, from which the printer and the checker go on.
 #![tactic(auto)]
 
 mod keyword;
 mod lexeme;
 mod lexer;
 mod literal;
+mod operator;
 mod symbol;
 #[cfg(test)]
 mod tests;
 mod token;
+mod tree;
 mod word;
 
 pub use keyword::Keyword;
 pub use lexer::lex;
+pub use operator::{BinaryOperator, Extension, SignedComparison, UnaryOperator};
 pub use symbol::Symbol;
 pub use token::{Token, TokenKind};
+pub use tree::{
+    Arm, Block, Choice, Constant, ConstantField, Declaration, Expression, Field, FieldValue,
+    Literal, Member, Name, Number, Operand, Part, Prefix, Scheduler, Statement, Suffix, Tree,
+    TypeExpression, Width,
+};

@@ -1,0 +1,372 @@
+-- The grammar of a design: the tokens of each part, one case for each production, and what a tree must keep so
+-- that it is one of the grammar's. The operators' levels are one table. This project's own text form; the way
+-- that levels group is that of C (ISO/IEC 9899:2018, 6.5), with levels of its own.
+use Rattle.std.specs.Prelude.{◌≡◌, ℕ, ◌<◌, ◌^◌, Option, None, Some, IfSome, ⊤, List, [], ◌∷◌, ◌++◌, map, length, All}
+use Rattle.std.specs.List.{AllZip, flat_map}
+use Rattle.kw_bits.specs.BitVector.{IsBitVector}
+use Rattle.koika_syntax.specs.Tokens.{IsToken}
+use Rattle.koika_syntax.specs.Tree.{Leaf, keyword, symbol, word, sign, placed, name_leaves, number_leaves, literal_leaves, width_leaves, all_of, joined, commas, in_braces, in_parentheses, unary_symbol, binary_symbol, comparison_word, extension_word, read_word, write_word, IsLeafAt}
+use Rattle.koika_syntax.specs.declared.keyword.Keyword.TheVariants as keywords
+use Rattle.koika_syntax.specs.declared.symbol.Symbol.TheVariants as symbols
+use Rattle.koika_syntax.specs.declared.token.Token.{Token}
+use Rattle.koika_syntax.specs.declared.token.TokenKind.TheVariants as kinds
+use Rattle.koika_syntax.specs.declared.tree.Arm.{Arm, Arm-F}
+use Rattle.koika_syntax.specs.declared.operator.BinaryOperator.{BinaryOperator}
+use Rattle.koika_syntax.specs.declared.operator.BinaryOperator.TheVariants as binary
+use Rattle.koika_syntax.specs.declared.tree.Block.{Block, Block-F, fold-Block, every-Block}
+use Rattle.koika_syntax.specs.declared.tree.Choice.{Choice, Choice-F}
+use Rattle.koika_syntax.specs.declared.tree.Constant.{Constant, Constant-F, fold-Constant, every-Constant}
+use Rattle.koika_syntax.specs.declared.tree.Constant.TheOpen as constant
+use Rattle.koika_syntax.specs.declared.tree.ConstantField.{ConstantField, ConstantField-F}
+use Rattle.koika_syntax.specs.declared.tree.Declaration.{Declaration}
+use Rattle.koika_syntax.specs.declared.tree.Declaration.TheVariants as declarations
+use Rattle.koika_syntax.specs.declared.tree.Expression.{Expression, Expression-F, fold-Expression, every-Expression, out-Expression}
+use Rattle.koika_syntax.specs.declared.tree.Expression.TheOpen as expression
+use Rattle.koika_syntax.specs.declared.tree.Field.{Field}
+use Rattle.koika_syntax.specs.declared.tree.FieldValue.{FieldValue, FieldValue-F}
+use Rattle.koika_syntax.specs.declared.tree.Literal.{Literal}
+use Rattle.koika_syntax.specs.declared.tree.Member.{Member}
+use Rattle.koika_syntax.specs.declared.tree.Name.{Name}
+use Rattle.koika_syntax.specs.declared.tree.Number.{Number}
+use Rattle.koika_syntax.specs.declared.tree.Operand.{Operand, Operand-F, out-Operand}
+use Rattle.koika_syntax.specs.declared.tree.Part.{Part}
+use Rattle.koika_syntax.specs.declared.tree.Part.TheVariants as parts
+use Rattle.koika_syntax.specs.declared.tree.Prefix.{Prefix}
+use Rattle.koika_syntax.specs.declared.tree.Scheduler.{Scheduler, Scheduler-F, fold-Scheduler, every-Scheduler}
+use Rattle.koika_syntax.specs.declared.tree.Statement.{Statement, Statement-F}
+use Rattle.koika_syntax.specs.declared.tree.Suffix.{Suffix}
+use Rattle.koika_syntax.specs.declared.tree.Suffix.TheVariants as suffixes
+use Rattle.koika_syntax.specs.declared.tree.Tree.{Tree}
+use Rattle.koika_syntax.specs.declared.tree.TypeExpression.{TypeExpression, Bits, Named, Array'}
+use Rattle.koika_syntax.specs.declared.tree.Width.{Width}
+
+abbrev Leaves : Type 0
+Leaves = List Leaf
+
+-- type = "bits" NUM | NAME | "[" type ";" NUM "]"
+abbrev pub type_leaves : TypeExpression → List Leaf
+type_leaves (Bits width) = width_leaves width
+type_leaves (Named n) = name_leaves n
+type_leaves (Array' place _ element size) =
+    placed (symbol symbols.LeftBracket) place ++ type_leaves element ++ sign symbols.Semicolon ++ number_leaves size ++ sign symbols.RightBracket
+
+-- NAME "::" "{" NAME ":" .. { "," NAME ":" .. } "}"
+abbrev pub struct_leaves : Name → List Leaves → ℕ → List Leaf
+struct_leaves of fields close =
+    name_leaves of ++ sign symbols.ColonColon ++ sign symbols.LeftBrace ++ commas fields ++ placed (symbol symbols.RightBrace) close
+
+-- "[" .. { "," .. } "]"
+abbrev pub array_leaves : ℕ → List Leaves → List Leaf
+array_leaves place elements = placed (symbol symbols.LeftBracket) place ++ commas elements ++ sign symbols.RightBracket
+
+-- const = LIT | NAME "::" NAME | NAME "::" "{" NAME ":" const { "," NAME ":" const } "}" | "[" const { "," const } "]"
+abbrev pub constant_step : Constant-F Leaves Leaves → List Leaf
+constant_step (constant.Literal l) = literal_leaves l
+constant_step (constant.Member of member) = name_leaves of ++ sign symbols.ColonColon ++ name_leaves member
+constant_step (constant.Struct of fields close) = struct_leaves of fields.items close
+constant_step (constant.Array place elements) = array_leaves place elements.items
+
+abbrev pub constant_field_step : ConstantField-F Leaves Leaves → List Leaf
+constant_field_step field = name_leaves field.name ++ sign symbols.Colon ++ field.value
+
+unfoldable pub constant_leaves : Constant → List Leaf
+constant_leaves = fold-Constant Leaves Leaves constant_step constant_field_step
+
+-- block = "{" { stmt } [ expr ] "}"
+abbrev pub last_leaves : {M : Type 0} → Option M → (M → List Leaf) → List Leaf
+last_leaves None leaves = []
+last_leaves (Some last) leaves = leaves last
+
+abbrev pub block_step : Block-F Leaves Leaves Leaves Leaves Leaves Leaves → List Leaf
+block_step block =
+    placed (symbol symbols.LeftBrace) block.place ++ all_of block.statements.items ++ last_leaves block.value (λ value. value.value) ++ sign symbols.RightBrace
+
+-- stmt = "let" NAME "=" expr ";" | expr ";"
+abbrev pub statement_step : Statement-F Leaves Leaves Leaves Leaves Leaves Leaves → List Leaf
+statement_step (expression.Let n value) = word keywords.Let ++ name_leaves n ++ sign symbols.Equals ++ value ++ sign symbols.Semicolon
+statement_step (expression.Do value) = value ++ sign symbols.Semicolon
+
+-- if = "if" chain block { "else" "if" chain block } [ "else" block ]
+abbrev pub arm_step : Arm-F Leaves Leaves Leaves Leaves Leaves Leaves → List Leaf
+arm_step arm = placed (keyword keywords.If) arm.place ++ arm.condition ++ arm.body
+
+abbrev pub if_leaves : List Leaves → Option Leaves → List Leaf
+if_leaves arms otherwise = joined (word keywords.Else) arms ++ last_leaves otherwise (λ block. word keywords.Else ++ block)
+
+-- a chain: operands joined by operators
+abbrev pub operand_step : Operand-F Leaves Leaves Leaves Leaves Leaves Leaves → List Leaf
+operand_step operand = sign (binary_symbol operand.operator) ++ operand.operand
+
+-- unary = { "~" | "-" } postfix
+abbrev pub prefix_leaves : Prefix → List Leaf
+prefix_leaves prefix = placed (symbol (unary_symbol prefix.operator)) prefix.place
+
+-- postfix = primary { "." NAME | "[" NUM "]" | "[" NUM ":" NUM "]" }
+abbrev pub suffix_leaves : Suffix → List Leaf
+suffix_leaves (suffixes.Field n) = sign symbols.Dot ++ name_leaves n
+suffix_leaves (suffixes.Index index) = sign symbols.LeftBracket ++ number_leaves index ++ sign symbols.RightBracket
+suffix_leaves (suffixes.Slice high low) =
+    sign symbols.LeftBracket ++ number_leaves high ++ sign symbols.Colon ++ number_leaves low ++ sign symbols.RightBracket
+
+abbrev pub part_leaves : Part → List Leaf
+part_leaves (parts.Field n) = name_leaves n
+part_leaves (parts.Index index) = number_leaves index
+
+-- a word and, in parentheses, its arguments
+abbrev pub call_leaves : List Leaf → List Leaves → List Leaf
+call_leaves called arguments = called ++ in_parentheses (commas arguments)
+
+-- expr = if | chain, and below them unary, postfix and the cases of primary
+abbrev pub expression_step : Expression-F Leaves Leaves Leaves Leaves Leaves Leaves → List Leaf
+expression_step (expression.If arms otherwise) = if_leaves arms.items otherwise
+expression_step (expression.Chain first rest) = first.value ++ all_of rest.items
+expression_step (expression.Unary prefixes operand) = flat_map prefix_leaves prefixes ++ operand.value
+expression_step (expression.Postfix primary suffixes) = primary.value ++ flat_map suffix_leaves suffixes
+expression_step (expression.Literal l) = literal_leaves l
+expression_step (expression.Name n) = name_leaves n
+expression_step (expression.Call called arguments) = call_leaves (name_leaves called) arguments.items
+expression_step (expression.Member of member) = name_leaves of ++ sign symbols.ColonColon ++ name_leaves member
+expression_step (expression.Struct of fields close) = struct_leaves of fields.items close
+expression_step (expression.Array place elements) = array_leaves place elements.items
+expression_step (expression.Parentheses place inside) =
+    placed (symbol symbols.LeftParenthesis) place ++ inside.value ++ sign symbols.RightParenthesis
+expression_step (expression.Block block) = block
+expression_step (expression.Read place port register) = call_leaves (placed (keyword (read_word port)) place) (name_leaves register ∷ [])
+expression_step (expression.Write place port register value) =
+    call_leaves (placed (keyword (write_word port)) place) (name_leaves register ∷ value.value ∷ [])
+expression_step (expression.Abort place) = placed (keyword keywords.Abort) place
+expression_step (expression.Pack place value) = call_leaves (placed (keyword keywords.Pack) place) (value.value ∷ [])
+expression_step (expression.Unpack place to value) =
+    call_leaves (placed (keyword keywords.Unpack) place) (type_leaves to ∷ value.value ∷ [])
+expression_step (expression.Extend place extension value width) =
+    call_leaves (placed (keyword (extension_word extension)) place) (value.value ∷ number_leaves width ∷ [])
+expression_step (expression.Compare place comparison left right) =
+    call_leaves (placed (keyword (comparison_word comparison)) place) (left.value ∷ right.value ∷ [])
+expression_step (expression.Update place whole part value) =
+    call_leaves (placed (keyword keywords.Update) place) (whole.value ∷ part_leaves part ∷ value.value ∷ [])
+
+abbrev pub field_value_step : FieldValue-F Leaves Leaves Leaves Leaves Leaves Leaves → List Leaf
+field_value_step field = name_leaves field.name ++ sign symbols.Colon ++ field.value
+
+unfoldable pub expression_leaves : Expression → List Leaf
+expression_leaves = fold-Expression Leaves Leaves Leaves Leaves Leaves Leaves expression_step statement_step arm_step block_step field_value_step operand_step
+
+unfoldable pub block_leaves : Block → List Leaf
+block_leaves = fold-Block Leaves Leaves Leaves Leaves Leaves Leaves expression_step statement_step arm_step block_step field_value_step operand_step
+
+-- member = NAME "=" LIT, and field = NAME ":" type
+abbrev pub member_leaves : Member → List Leaf
+member_leaves member = name_leaves member.name ++ sign symbols.Equals ++ literal_leaves member.value
+
+abbrev pub field_leaves : Field → List Leaf
+field_leaves field = name_leaves field.name ++ sign symbols.Colon ++ type_leaves field.of
+
+-- type | "unit"
+abbrev pub result_leaves : Option TypeExpression → List Leaf
+result_leaves None = word keywords.Unit
+result_leaves (Some of) = type_leaves of
+
+-- ":" "bits" NUM "->" "bits" NUM
+abbrev pub map_leaves : (input output : Width) → List Leaf
+map_leaves input output = sign symbols.Colon ++ width_leaves input ++ sign symbols.Arrow ++ width_leaves output
+
+-- decl, one case for each word
+abbrev pub declaration_leaves : Declaration → List Leaf
+declaration_leaves (declarations.Enum n width members) =
+    word keywords.Enum ++ name_leaves n ++ sign symbols.Colon ++ width_leaves width ++ in_braces (commas (map member_leaves members))
+declaration_leaves (declarations.Struct n fields) = word keywords.Struct ++ name_leaves n ++ in_braces (commas (map field_leaves fields))
+declaration_leaves (declarations.Register n of first) =
+    word keywords.Reg ++ name_leaves n ++ sign symbols.Colon ++ type_leaves of ++ sign symbols.Equals ++ constant_leaves first ++ sign symbols.Semicolon
+declaration_leaves (declarations.Input n of) = word keywords.Input ++ name_leaves n ++ sign symbols.Colon ++ type_leaves of ++ sign symbols.Semicolon
+declaration_leaves (declarations.Table n input output entries) =
+    word keywords.Table ++ name_leaves n ++ map_leaves input output ++ in_braces (commas (map literal_leaves entries))
+declaration_leaves (declarations.Host n input output) = word keywords.Host ++ name_leaves n ++ map_leaves input output ++ sign symbols.Semicolon
+declaration_leaves (declarations.Function n parameters result body) =
+    word keywords.Fun ++ name_leaves n ++ in_parentheses (commas (map field_leaves parameters)) ++ sign symbols.Colon ++ result_leaves result ++ block_leaves body
+declaration_leaves (declarations.Rule n body) = word keywords.Rule ++ name_leaves n ++ block_leaves body
+declaration_leaves (declarations.Assert n) = word keywords.Assert ++ name_leaves n ++ sign symbols.Semicolon
+
+-- sched = [ NAME ";" sched | "try" NAME "then" "{" sched "}" "else" "{" sched "}" ]
+abbrev pub rule_leaves : Name → List Leaf
+rule_leaves n = name_leaves n ++ sign symbols.Semicolon
+
+abbrev pub choice_step : Choice-F Leaves Leaves → List Leaf
+choice_step choice =
+    word keywords.Try ++ name_leaves choice.rule ++ word keywords.Then ++ in_braces choice.then ++ word keywords.Else ++ in_braces choice.otherwise
+
+abbrev pub scheduler_step : Scheduler-F Leaves Leaves → List Leaf
+scheduler_step scheduler = flat_map rule_leaves scheduler.rules ++ last_leaves scheduler.last (λ choice. choice.value)
+
+unfoldable pub scheduler_leaves : Scheduler → List Leaf
+scheduler_leaves = fold-Scheduler Leaves Leaves choice_step scheduler_step
+
+-- design = { decl } "schedule" "{" sched "}"
+abbrev pub tree_leaves : Tree → List Leaf
+tree_leaves tree =
+    flat_map declaration_leaves tree.declarations ++ placed (keyword keywords.Schedule) tree.schedule ++ in_braces (scheduler_leaves tree.scheduler)
+
+-- the levels of the operators, from the loosest to the tightest
+abbrev pub level_of : BinaryOperator → ℕ
+level_of binary.Or = 1
+level_of binary.Xor = 2
+level_of binary.And = 3
+level_of binary.Equal = 4
+level_of binary.NotEqual = 4
+level_of binary.Less = 5
+level_of binary.LessOrEqual = 5
+level_of binary.Greater = 5
+level_of binary.GreaterOrEqual = 5
+level_of binary.Concat = 6
+level_of binary.ShiftLeft = 7
+level_of binary.ShiftRight = 7
+level_of binary.ShiftRightSigned = 7
+level_of binary.Add = 8
+level_of binary.Subtract = 8
+level_of binary.Multiply = 9
+
+abbrev ExpressionLayer : Type 0
+ExpressionLayer = Expression-F Expression Statement Arm Block FieldValue Operand
+
+-- how tightly an expression holds together: 0 is an `if`, 1 to 9 a chain of that level, 10 a unary run, 11 a postfix, 12 a primary
+abbrev level_of_chain : List Operand → ℕ
+level_of_chain [] = 0
+level_of_chain (operand ∷ operands) = level_of (out-Operand operand).operator
+
+abbrev level_of_layer : ExpressionLayer → ℕ
+level_of_layer (expression.If arms otherwise) = 0
+level_of_layer (expression.Chain first rest) = level_of_chain rest.items
+level_of_layer (expression.Unary prefixes operand) = 10
+level_of_layer (expression.Postfix primary suffixes) = 11
+level_of_layer _ = 12
+
+abbrev pub level : Expression → ℕ
+level e = level_of_layer (out-Expression e)
+
+-- a name, a number and a literal in their ranges
+abbrev pub IsName : Name → Type 0
+IsName n = IsToken kinds.Name n.text
+
+abbrev pub IsNumber : Number → Type 0
+IsNumber n = n.value < 2 ^ 32
+
+abbrev pub IsLiteral : Literal → Type 0
+IsLiteral l = IsBitVector l.bits.width l.bits.number
+
+abbrev pub IsWidth : Width → Type 0
+IsWidth w = IsNumber w.number
+
+abbrev pub IsType : TypeExpression → Type 0
+IsType (Bits width) = IsWidth width
+IsType (Named n) = IsName n
+IsType (Array' place _ element size) = IsType element × IsNumber size
+
+-- what is repeated with commas stands at least once
+abbrev pub IsNonempty : {X : Type 0} → List X → Type 0
+IsNonempty xs = 0 < length xs
+
+abbrev pub IsConstantLayer : Constant-F Constant ConstantField → Type 0
+IsConstantLayer (constant.Literal l) = IsLiteral l
+IsConstantLayer (constant.Member of member) = IsName of × IsName member
+IsConstantLayer (constant.Struct of fields close) = IsName of × IsNonempty fields.items
+IsConstantLayer (constant.Array place elements) = IsNonempty elements.items
+
+abbrev pub IsConstantFieldLayer : ConstantField-F Constant ConstantField → Type 0
+IsConstantFieldLayer field = IsName field.name
+
+unfoldable pub IsConstant : Constant → Type 0
+IsConstant = every-Constant IsConstantLayer IsConstantFieldLayer
+
+abbrev pub IsSuffix : Suffix → Type 0
+IsSuffix (suffixes.Field n) = IsName n
+IsSuffix (suffixes.Index index) = IsNumber index
+IsSuffix (suffixes.Slice high low) = IsNumber high × IsNumber low
+
+abbrev pub IsPart : Part → Type 0
+IsPart (parts.Field n) = IsName n
+IsPart (parts.Index index) = IsNumber index
+
+-- operands of a chain: each operator has the chain's level, and each operand holds together more tightly
+abbrev pub IsOperandAt : ℕ → Operand → Type 0
+IsOperandAt k operand = (level_of (out-Operand operand).operator ≡ k) × (k < level (out-Operand operand).operand)
+
+abbrev pub IsExpressionLayer : ExpressionLayer → Type 0
+IsExpressionLayer (expression.If arms otherwise) = IsNonempty arms.items
+IsExpressionLayer (expression.Chain first rest) =
+    IsNonempty rest.items × (level_of_chain rest.items < level first.value) × All (IsOperandAt (level_of_chain rest.items)) rest.items
+IsExpressionLayer (expression.Unary prefixes operand) = IsNonempty prefixes × (10 < level operand.value)
+IsExpressionLayer (expression.Postfix primary suffixes) = (11 < level primary.value) × IsNonempty suffixes × All IsSuffix suffixes
+IsExpressionLayer (expression.Literal l) = IsLiteral l
+IsExpressionLayer (expression.Name n) = IsName n
+IsExpressionLayer (expression.Call called arguments) = IsName called
+IsExpressionLayer (expression.Member of member) = IsName of × IsName member
+IsExpressionLayer (expression.Struct of fields close) = IsName of × IsNonempty fields.items
+IsExpressionLayer (expression.Array place elements) = IsNonempty elements.items
+IsExpressionLayer (expression.Parentheses place inside) = ⊤
+IsExpressionLayer (expression.Block block) = ⊤
+IsExpressionLayer (expression.Read place port register) = (port < 4) × IsName register
+IsExpressionLayer (expression.Write place port register value) = (port < 4) × IsName register
+IsExpressionLayer (expression.Abort place) = ⊤
+IsExpressionLayer (expression.Pack place value) = ⊤
+IsExpressionLayer (expression.Unpack place to value) = IsType to
+IsExpressionLayer (expression.Extend place extension value width) = IsNumber width
+IsExpressionLayer (expression.Compare place comparison left right) = ⊤
+IsExpressionLayer (expression.Update place whole part value) = IsPart part
+
+abbrev pub IsStatementLayer : Statement-F Expression Statement Arm Block FieldValue Operand → Type 0
+IsStatementLayer (expression.Let n value) = IsName n
+IsStatementLayer (expression.Do value) = ⊤
+
+-- a condition is a chain, and no `if`
+abbrev pub IsArmLayer : Arm-F Expression Statement Arm Block FieldValue Operand → Type 0
+IsArmLayer arm = 0 < level arm.condition
+
+abbrev pub IsBlockLayer : Block-F Expression Statement Arm Block FieldValue Operand → Type 0
+IsBlockLayer block = ⊤
+
+abbrev pub IsFieldValueLayer : FieldValue-F Expression Statement Arm Block FieldValue Operand → Type 0
+IsFieldValueLayer field = IsName field.name
+
+abbrev pub IsOperandLayer : Operand-F Expression Statement Arm Block FieldValue Operand → Type 0
+IsOperandLayer operand = ⊤
+
+unfoldable pub IsExpression : Expression → Type 0
+IsExpression = every-Expression IsExpressionLayer IsStatementLayer IsArmLayer IsBlockLayer IsFieldValueLayer IsOperandLayer
+
+unfoldable pub IsBlock : Block → Type 0
+IsBlock = every-Block IsExpressionLayer IsStatementLayer IsArmLayer IsBlockLayer IsFieldValueLayer IsOperandLayer
+
+abbrev pub IsMember : Member → Type 0
+IsMember member = IsName member.name × IsLiteral member.value
+
+abbrev pub IsField : Field → Type 0
+IsField field = IsName field.name × IsType field.of
+
+abbrev pub IsDeclaration : Declaration → Type 0
+IsDeclaration (declarations.Enum n width members) = IsName n × IsWidth width × IsNonempty members × All IsMember members
+IsDeclaration (declarations.Struct n fields) = IsName n × IsNonempty fields × All IsField fields
+IsDeclaration (declarations.Register n of first) = IsName n × IsType of × IsConstant first
+IsDeclaration (declarations.Input n of) = IsName n × IsType of
+IsDeclaration (declarations.Table n input output entries) = IsName n × IsWidth input × IsWidth output × IsNonempty entries × All IsLiteral entries
+IsDeclaration (declarations.Host n input output) = IsName n × IsWidth input × IsWidth output
+IsDeclaration (declarations.Function n parameters result body) = IsName n × All IsField parameters × IfSome result IsType × IsBlock body
+IsDeclaration (declarations.Rule n body) = IsName n × IsBlock body
+IsDeclaration (declarations.Assert n) = IsName n
+
+abbrev pub IsChoiceLayer : Choice-F Choice Scheduler → Type 0
+IsChoiceLayer choice = IsName choice.rule
+
+abbrev pub IsSchedulerLayer : Scheduler-F Choice Scheduler → Type 0
+IsSchedulerLayer scheduler = All IsName scheduler.rules
+
+unfoldable pub IsScheduler : Scheduler → Type 0
+IsScheduler = every-Scheduler IsChoiceLayer IsSchedulerLayer
+
+-- a tree of the grammar
+pub record IsDesign (tree : Tree) : Type 0 where
+  pub declarations : All IsDeclaration tree.declarations
+  pub scheduler : IsScheduler tree.scheduler
+
+-- the tree derives these tokens of a text, and its places are theirs
+pub record Derives (text : List ℕ) (tree : Tree) (tokens : List Token) : Type 0 where
+  pub design : IsDesign tree
+  pub leaves : AllZip (IsLeafAt text) (tree_leaves tree) tokens
