@@ -1,27 +1,28 @@
 -- A text is cut into pieces in one way, up to its end or to its first fault.
-use Rattle.std.proofs.Common.{◌≡◌, ℕ, ◌+◌, ◌<◌, ◌≤◌, List, [], ◌∷◌, ◌++◌, length, length-append, length-drop, length-take-le, take, drop, take-append-drop, Option, Some, None, refl, sym, ap, ◌∙◌, subst, arith, ⊎_elim}
+use Rattle.std.proofs.Common.{◌≡◌, ℕ, true, get_or, ◌+◌, ◌<◌, ◌≤◌, List, [], ◌∷◌, ◌++◌, length, length-append, length-drop, length-take-le, take, drop, take-append-drop, Option, Some, None, refl, sym, ap, ◌∙◌, subst, arith, ⊎_elim}
 use Rattle.std.specs.List.{flat_map}
-use Rattle.std.proofs.lemmas.List.{append_assoc, append-nil, drop_all}
+use Rattle.std.proofs.lemmas.List.{append_assoc, append-nil, drop_all, get_or-drop}
 use Rattle.std.proofs.Math.Seq.{drop-append_seam}
 use Rattle.kw_base.specs.Fault.{fault_at}
 use Rattle.kw_base.specs.Place.{place_at}
 use Rattle.kw_base.specs.declared.fault.Fault.{Fault}
-use Rattle.koika_syntax.specs.Lexemes.{Shape, IsLongest}
+use Rattle.koika_syntax.specs.Lexemes.{is_blank, Kind, IsLongest}
 use Rattle.koika_syntax.specs.LexemeAnswers.{BeginsWithPiece}
 use Rattle.koika_syntax.specs.Tokens.{Piece, bytes_of, IsPiece, IsCut, tokens_behind, AreTokensOf}
 use Rattle.koika_syntax.specs.TokenFaults.{IsWrong, BeginsStray, BeginsWrong, BeginsFaulty, IsFirstFault}
 use Rattle.koika_syntax.specs.declared.lexeme.Lexeme.{Lexeme}
 use Rattle.koika_syntax.specs.declared.token.Token.{Token}
 use Rattle.koika_syntax.specs.declared.token.TokenKind.{TokenKind}
-use Rattle.koika_syntax.proofs.Shapes.{length-lexeme}
-use Rattle.koika_syntax.proofs.UniquePieces.{shape_of_piece, same_front, piece_not_faulty, same_fault}
+use Rattle.koika_syntax.proofs.Fronts.{text_begins_blank}
+use Rattle.koika_syntax.proofs.LexemeKinds.{length-lexeme}
+use Rattle.koika_syntax.proofs.UniquePieces.{kind_of_piece, same_front, piece_not_faulty, same_fault}
 
 -- no piece begins the text
 abbrev Stops : List ℕ → Type 0
 Stops text = (piece : Piece) (after : List ℕ) → text ≡ bytes_of piece ++ after → IsPiece piece → IsLongest (bytes_of piece) after → ⊥
 
 pub length-piece : (piece : Piece) → IsPiece piece → 0 < length (bytes_of piece)
-length-piece piece is = let s = shape_of_piece piece is in length-lexeme s.0 (bytes_of piece) s.1
+length-piece piece is = let s = kind_of_piece piece is in length-lexeme s.0 (bytes_of piece) s.1
 
 Stops-end : Stops []
 Stops-end piece after split is longest = omega (arith, length-piece piece is, ap length split, length-append (bytes_of piece) after)
@@ -49,7 +50,7 @@ faulty_some : (number offset : ℕ) → BeginsFaulty [] number offset → ⊥
 faulty_some number offset faulty =
     ⊎_elim
     (λ (stray : BeginsStray [] number offset). let some = stray.some_byte in omega (arith, some))
-    (λ (wrong : BeginsWrong [] number offset). omega (arith, length-lexeme wrong.shape wrong.bytes wrong.lexeme, ap length wrong.front, length-append wrong.bytes wrong.after))
+    (λ (wrong : BeginsWrong [] number offset). omega (arith, length-lexeme wrong.kind wrong.bytes wrong.lexeme, ap length wrong.front, length-append wrong.bytes wrong.after))
     faulty
 
 -- no text has tokens and a fault
@@ -138,6 +139,10 @@ module _ (text : List ℕ) (tokens : List Token) (offset : ℕ) (so_far : CutTo 
       let at_none = with_lexeme None lexeme.len (subst (λ t. BeginsWithPiece (drop offset text) (record { token = t; len = lexeme.len })) none begins) in
       subst (λ l. CutTo text l (offset + lexeme.len)) (append-nil tokens) at_none
 
+  pub CutTo-blank : offset < length text → is_blank (get_or text offset 0) ≡ true → CutTo text tokens (offset + 1)
+  CutTo-blank within blank =
+      CutTo-gap (record { token = None; len = 1 }) refl (text_begins_blank (drop offset text) (omega (arith, length-drop offset text)) (ap is_blank (get_or-drop offset text 0 0 ∙ ap (λ k. get_or text k 0) (omega arith)) ∙ blank))
+
   -- a token
   pub CutTo-token : (lexeme : Lexeme) (kind : TokenKind) → lexeme.token ≡ Some kind → BeginsWithPiece (drop offset text) lexeme
       → CutTo text (tokens ++ record { kind = kind; start = offset; end = offset + lexeme.len } ∷ []) (offset + lexeme.len)
@@ -163,14 +168,14 @@ module _ (text : List ℕ) (tokens : List Token) (offset : ℕ) (so_far : CutTo 
     place = ap (λ n. fault_at number (place_at text (n + further))) (sym so_far.offset_is);
   }
 
-wrong_within : (shape : Shape) (bytes : List ℕ) (number offset : ℕ) → IsWrong shape bytes number offset → offset ≤ length bytes
-wrong_within Shape.blank bytes number offset wrong = absurd wrong
-wrong_within Shape.comment bytes number offset wrong = absurd wrong
-wrong_within Shape.word bytes number offset wrong = omega (arith, wrong.2)
-wrong_within Shape.number bytes number offset wrong = omega (arith, wrong.2)
-wrong_within Shape.literal bytes number offset wrong = omega (arith, wrong.4)
-wrong_within Shape.unfinished bytes number offset wrong = omega (arith, wrong.1)
-wrong_within Shape.symbol bytes number offset wrong = absurd wrong
+wrong_within : (kind : Kind) (bytes : List ℕ) (number offset : ℕ) → IsWrong kind bytes number offset → offset ≤ length bytes
+wrong_within Kind.blank bytes number offset wrong = absurd wrong
+wrong_within Kind.comment bytes number offset wrong = absurd wrong
+wrong_within Kind.word bytes number offset wrong = omega (arith, wrong.2)
+wrong_within Kind.number bytes number offset wrong = omega (arith, wrong.2)
+wrong_within Kind.literal bytes number offset wrong = omega (arith, wrong.4)
+wrong_within Kind.unfinished bytes number offset wrong = omega (arith, wrong.1)
+wrong_within Kind.symbol bytes number offset wrong = absurd wrong
 
 -- a fault stands within the text, or at its end
 pub faulty_within : (text : List ℕ) (number offset : ℕ) → BeginsFaulty text number offset → offset ≤ length text
@@ -179,7 +184,7 @@ faulty_within text number offset faulty =
     (λ (stray : BeginsStray text number offset). let start = stray.offset_is in omega (arith, start))
     (λ (wrong : BeginsWrong text number offset).
     let size = ap length wrong.front ∙ length-append wrong.bytes wrong.after in
-    let at = wrong_within wrong.shape wrong.bytes number offset wrong.wrong in
+    let at = wrong_within wrong.kind wrong.bytes number offset wrong.wrong in
     omega (arith, size, at))
     faulty
 

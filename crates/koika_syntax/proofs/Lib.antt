@@ -5,8 +5,9 @@ pub mod Longest
 pub mod LongestNumeral
 pub mod Numerals
 pub mod Runs
-pub mod Shapes
+pub mod LexemeKinds
 pub mod Spans
 pub mod SymbolTable
 pub mod Unique
 pub mod UniquePieces
+pub mod Places

@@ -4,12 +4,12 @@ use Rattle.std.specs.Char.{is_digit}
 use Rattle.std.specs.List.{prefix_len}
 use Rattle.std.specs.Str.Parse.{IsNumeral, AllDigits}
 use Rattle.std.proofs.lemmas.List.{append_assoc}
-use Rattle.koika_syntax.specs.Lexemes.{Shape, HasShape, letter_of, radix_of}
+use Rattle.koika_syntax.specs.Lexemes.{Kind, HasKind, letter_of, radix_of}
 use Rattle.koika_syntax.specs.declared.literal.Base.{Base}
 use Rattle.koika_syntax.specs.declared.literal.Base.TheVariants as bases
 use Rattle.koika_syntax.proofs.Longest.{NoneLonger, NoneLonger-from_family}
 use Rattle.koika_syntax.proofs.Runs.{length-le-prefix_len, prefix_len-append-cons, list_all-from_digits}
-use Rattle.koika_syntax.proofs.Shapes.{family, family_at, family-digit}
+use Rattle.koika_syntax.proofs.LexemeKinds.{family, family_at, family-digit}
 
 -- what follows the apostrophe of a literal, whole or broken off: nothing, or a base and digits
 pub data IsTail : List ℕ → Type 0 where
@@ -60,17 +60,17 @@ module _ (d : ℕ) (digits behind : List ℕ) (most : ℕ) (numeral : AllDigits 
       let width_length : length (d ∷ digits) ≡ length width = ap length parts.0 in
       omega (arith, bound, width_length, ap length text, length-append width (39 ∷ tail))
 
-  by_shape : (shape : Shape) (bytes rest : List ℕ) → family_at d ≡ family shape → d ∷ (digits ++ behind) ≡ (d ∷ bytes) ++ rest → HasShape shape (d ∷ bytes) → length (d ∷ bytes) ≤ most
-  by_shape Shape.blank bytes rest same whole has = let e : Shape.number ≡ Shape.blank = sym (family-digit d numeral.0) ∙ same in cc
-  by_shape Shape.comment bytes rest same whole has = let e : Shape.number ≡ Shape.comment = sym (family-digit d numeral.0) ∙ same in cc
-  by_shape Shape.word bytes rest same whole has = let e : Shape.number ≡ Shape.word = sym (family-digit d numeral.0) ∙ same in cc
-  by_shape Shape.symbol bytes rest same whole has = let e : Shape.number ≡ Shape.symbol = sym (family-digit d numeral.0) ∙ same in cc
-  by_shape Shape.number bytes rest same whole has =
+  by_kind : (kind : Kind) (bytes rest : List ℕ) → family_at d ≡ family kind → d ∷ (digits ++ behind) ≡ (d ∷ bytes) ++ rest → HasKind kind (d ∷ bytes) → length (d ∷ bytes) ≤ most
+  by_kind Kind.blank bytes rest same whole has = let e : Kind.number ≡ Kind.blank = sym (family-digit d numeral.0) ∙ same in cc
+  by_kind Kind.comment bytes rest same whole has = let e : Kind.number ≡ Kind.comment = sym (family-digit d numeral.0) ∙ same in cc
+  by_kind Kind.word bytes rest same whole has = let e : Kind.number ≡ Kind.word = sym (family-digit d numeral.0) ∙ same in cc
+  by_kind Kind.symbol bytes rest same whole has = let e : Kind.number ≡ Kind.symbol = sym (family-digit d numeral.0) ∙ same in cc
+  by_kind Kind.number bytes rest same whole has =
       let within = length-le-prefix_len (λ b. is_digit b 10) (d ∷ bytes) rest (list_all-from_digits 10 (d ∷ bytes) has.1) in
       omega (arith, within, ap (prefix_len (λ b. is_digit b 10)) whole, run, number)
-  by_shape Shape.literal bytes rest same whole (parts, literal) =
+  by_kind Kind.literal bytes rest same whole (parts, literal) =
       tail_within parts.width (letter_of parts.base ∷ parts.value) (d ∷ bytes) rest literal.width literal.text (going parts.base parts.value literal.value.1) whole
-  by_shape Shape.unfinished bytes rest same whole (width, has_width, broken_off) =
+  by_kind Kind.unfinished bytes rest same whole (width, has_width, broken_off) =
       ⊎_elim
       (λ text. tail_within width [] (d ∷ bytes) rest has_width text broken whole)
       (λ text. tail_within width (letter_of text.0 ∷ []) (d ∷ bytes) rest has_width text.1 (going text.0 [] tt) whole)
@@ -78,7 +78,7 @@ module _ (d : ℕ) (digits behind : List ℕ) (most : ℕ) (numeral : AllDigits 
 
   -- a number or a literal goes as far as its digits, or as far as its tail
   none_longer : NoneLonger ((d ∷ digits) ++ behind) most
-  none_longer = NoneLonger-from_family d (digits ++ behind) most by_shape
+  none_longer = NoneLonger-from_family d (digits ++ behind) most by_kind
 
 pub NoneLonger-digits : (digits behind : List ℕ) (most : ℕ) → IsNumeral 10 digits
     → prefix_len (λ b. is_digit b 10) (digits ++ behind) ≡ length digits → length digits ≤ most

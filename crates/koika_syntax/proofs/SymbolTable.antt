@@ -1,140 +1,93 @@
--- Each symbol stands in the table, at its own place, and no symbol is longer than one before it.
-use Rattle.std.proofs.Common.{◌≡◌, ℕ, zero, suc, ◌<◌, ◌≤◌, Bool, true, ◌&&◌, List, [], ◌∷◌, length, get_or, Option, Some, refl, sym, ap, ◌∙◌, subst, ⊎_elim, arith, lit<}
-use Rattle.std.specs.List.{find, list_all}
-use Rattle.std.specs.Prelude.{nat_le}
+-- Each symbol of one or two bytes has a place of its own in the table.
+use Rattle.std.proofs.Common.{◌≡◌, ℕ, ◌+◌, ◌*◌, ◌%◌, List, [], ◌∷◌, ◌++◌, ◌<◌, ◌≤◌, ◌⊎◌, length, Option, Some, None, IfSome, IfNone, refl, sym, ap, ◌∙◌, inl, inr, arith}
+use Rattle.std.specs.List.{find}
+use Rattle.std.specs.Prelude.{slice_get, slice_index}
 use Rattle.std.specs.Str.{bytes_eq}
-use Rattle.std.proofs.lemmas.Bool.{leb-true, cases_lt}
-use Rattle.koika_syntax.specs.Symbols.{symbol_text}
-use Rattle.koika_syntax.specs.declared.symbol.TheConstants.{SYMBOLS}
+use Rattle.koika_syntax.specs.Symbols.{symbol_text, BeginsWith}
+use Rattle.koika_syntax.specs.declared.symbol.TheConstants.{SYMBOLS, PLACES}
 use Rattle.koika_syntax.specs.declared.symbol.Symbol.{Symbol}
 use Rattle.koika_syntax.specs.declared.symbol.Symbol.TheVariants as symbols
-use Rattle.koika_syntax.proofs.Runs.{and-left, and-right}
 
-abbrev pub place : Symbol → ℕ
-place symbols.GreaterGreaterGreater = 0
-place symbols.ColonColon = 1
-place symbols.Arrow = 2
-place symbols.EqualsEquals = 3
-place symbols.NotEquals = 4
-place symbols.LessEquals = 5
-place symbols.GreaterEquals = 6
-place symbols.LessLess = 7
-place symbols.GreaterGreater = 8
-place symbols.PlusPlus = 9
-place symbols.LeftBrace = 10
-place symbols.RightBrace = 11
-place symbols.LeftParenthesis = 12
-place symbols.RightParenthesis = 13
-place symbols.LeftBracket = 14
-place symbols.RightBracket = 15
-place symbols.Semicolon = 16
-place symbols.Colon = 17
-place symbols.Comma = 18
-place symbols.Equals = 19
-place symbols.Dot = 20
-place symbols.Plus = 21
-place symbols.Minus = 22
-place symbols.Star = 23
-place symbols.Ampersand = 24
-place symbols.Bar = 25
-place symbols.Caret = 26
-place symbols.Tilde = 27
-place symbols.Less = 28
-place symbols.Greater = 29
+-- the symbol that has a place
+abbrev pub symbol_in : ℕ → Option Symbol
+symbol_in mix = slice_get SYMBOLS (slice_index PLACES (mix % 128))
 
-pub place-lt : (symbol : Symbol) → place symbol < 30
-place-lt symbols.GreaterGreaterGreater = lit< tt
-place-lt symbols.ColonColon = lit< tt
-place-lt symbols.Arrow = lit< tt
-place-lt symbols.EqualsEquals = lit< tt
-place-lt symbols.NotEquals = lit< tt
-place-lt symbols.LessEquals = lit< tt
-place-lt symbols.GreaterEquals = lit< tt
-place-lt symbols.LessLess = lit< tt
-place-lt symbols.GreaterGreater = lit< tt
-place-lt symbols.PlusPlus = lit< tt
-place-lt symbols.LeftBrace = lit< tt
-place-lt symbols.RightBrace = lit< tt
-place-lt symbols.LeftParenthesis = lit< tt
-place-lt symbols.RightParenthesis = lit< tt
-place-lt symbols.LeftBracket = lit< tt
-place-lt symbols.RightBracket = lit< tt
-place-lt symbols.Semicolon = lit< tt
-place-lt symbols.Colon = lit< tt
-place-lt symbols.Comma = lit< tt
-place-lt symbols.Equals = lit< tt
-place-lt symbols.Dot = lit< tt
-place-lt symbols.Plus = lit< tt
-place-lt symbols.Minus = lit< tt
-place-lt symbols.Star = lit< tt
-place-lt symbols.Ampersand = lit< tt
-place-lt symbols.Bar = lit< tt
-place-lt symbols.Caret = lit< tt
-place-lt symbols.Tilde = lit< tt
-place-lt symbols.Less = lit< tt
-place-lt symbols.Greater = lit< tt
+-- the symbol's bytes, and that it has the place that they give
+pub data Size (symbol : Symbol) : Type 0 where
+  one : (first : ℕ) → symbol_text symbol ≡ first ∷ [] → symbol_in first ≡ Some symbol → Size symbol
+  two : (first second : ℕ) → symbol_text symbol ≡ first ∷ second ∷ [] → symbol_in (first + 5 * second) ≡ Some symbol → Size symbol
+  three : symbol_text symbol ≡ 62 ∷ 62 ∷ 62 ∷ [] → Size symbol
 
-pub get_or-place : (symbol other : Symbol) → get_or SYMBOLS (place symbol) other ≡ symbol
-get_or-place symbols.GreaterGreaterGreater other = refl
-get_or-place symbols.ColonColon other = refl
-get_or-place symbols.Arrow other = refl
-get_or-place symbols.EqualsEquals other = refl
-get_or-place symbols.NotEquals other = refl
-get_or-place symbols.LessEquals other = refl
-get_or-place symbols.GreaterEquals other = refl
-get_or-place symbols.LessLess other = refl
-get_or-place symbols.GreaterGreater other = refl
-get_or-place symbols.PlusPlus other = refl
-get_or-place symbols.LeftBrace other = refl
-get_or-place symbols.RightBrace other = refl
-get_or-place symbols.LeftParenthesis other = refl
-get_or-place symbols.RightParenthesis other = refl
-get_or-place symbols.LeftBracket other = refl
-get_or-place symbols.RightBracket other = refl
-get_or-place symbols.Semicolon other = refl
-get_or-place symbols.Colon other = refl
-get_or-place symbols.Comma other = refl
-get_or-place symbols.Equals other = refl
-get_or-place symbols.Dot other = refl
-get_or-place symbols.Plus other = refl
-get_or-place symbols.Minus other = refl
-get_or-place symbols.Star other = refl
-get_or-place symbols.Ampersand other = refl
-get_or-place symbols.Bar other = refl
-get_or-place symbols.Caret other = refl
-get_or-place symbols.Tilde other = refl
-get_or-place symbols.Less other = refl
-get_or-place symbols.Greater other = refl
+pub size : (symbol : Symbol) → Size symbol
+size symbols.LeftBrace = one 123 refl refl
+size symbols.RightBrace = one 125 refl refl
+size symbols.LeftParenthesis = one 40 refl refl
+size symbols.RightParenthesis = one 41 refl refl
+size symbols.LeftBracket = one 91 refl refl
+size symbols.RightBracket = one 93 refl refl
+size symbols.Semicolon = one 59 refl refl
+size symbols.Colon = one 58 refl refl
+size symbols.ColonColon = two 58 58 refl refl
+size symbols.Comma = one 44 refl refl
+size symbols.Equals = one 61 refl refl
+size symbols.Dot = one 46 refl refl
+size symbols.Arrow = two 45 62 refl refl
+size symbols.Plus = one 43 refl refl
+size symbols.Minus = one 45 refl refl
+size symbols.Star = one 42 refl refl
+size symbols.Ampersand = one 38 refl refl
+size symbols.Bar = one 124 refl refl
+size symbols.Caret = one 94 refl refl
+size symbols.Tilde = one 126 refl refl
+size symbols.EqualsEquals = two 61 61 refl refl
+size symbols.NotEquals = two 33 61 refl refl
+size symbols.Less = one 60 refl refl
+size symbols.LessEquals = two 60 61 refl refl
+size symbols.Greater = one 62 refl refl
+size symbols.GreaterEquals = two 62 61 refl refl
+size symbols.LessLess = two 60 60 refl refl
+size symbols.GreaterGreater = two 62 62 refl refl
+size symbols.GreaterGreaterGreater = three refl
+size symbols.PlusPlus = two 43 43 refl refl
 
--- no item is longer than one before it
-abbrev descends : List Symbol → Bool
-descends [] = true
-descends (s ∷ table) = list_all (λ t. nat_le (length (symbol_text t)) (length (symbol_text s))) table && descends table
+pub length-symbol_text-positive : (symbol : Symbol) → 0 < length (symbol_text symbol)
+length-symbol_text-positive symbol = by (size symbol)
+  where
+    by : Size symbol → 0 < length (symbol_text symbol)
+    by (Size.one first is place) = omega (arith, ap length is)
+    by (Size.two first second is place) = omega (arith, ap length is)
+    by (Size.three is) = omega (arith, ap length is)
 
-list_all-get_or : (p : Symbol → Bool) (table : List Symbol) (i : ℕ) (other : Symbol) → list_all p table ≡ true → i < length table → p (get_or table i other) ≡ true
-list_all-get_or p [] i other all within = absurd (omega arith)
-list_all-get_or p (s ∷ table) zero other all within = and-left (p s) (list_all p table) all
-list_all-get_or p (s ∷ table) (suc i) other all within = list_all-get_or p table i other (and-right (p s) (list_all p table) all) (omega arith)
+-- what a text shows of a symbol that it begins with, by the symbol's size
+abbrev pub Shown : List ℕ → Symbol → Type 0
+Shown text symbol =
+    ((length (symbol_text symbol) ≡ 1) × (symbol_in (slice_index text 0) ≡ Some symbol))
+    ⊎ ((1 < length text) × (symbol_in (slice_index text 0 + 5 * slice_index text 1) ≡ Some symbol) × (length (symbol_text symbol) ≡ 2))
+    ⊎ ((rest : List ℕ) × (text ≡ 62 ∷ 62 ∷ 62 ∷ rest))
 
--- so a symbol that comes later isn't longer
-descends-get_or : (table : List Symbol) (i j : ℕ) (other : Symbol) → descends table ≡ true → i < j → j < length table
-    → length (symbol_text (get_or table j other)) ≤ length (symbol_text (get_or table i other))
-descends-get_or [] i j other falls before within = absurd (omega arith)
-descends-get_or (s ∷ table) i zero other falls before within = absurd (omega arith)
-descends-get_or (s ∷ table) zero (suc j) other falls before within =
-    let test = λ (t : Symbol). nat_le (length (symbol_text t)) (length (symbol_text s)) in
-    leb-true (length (symbol_text (get_or table j other))) (length (symbol_text s)) (list_all-get_or test table j other (and-left (list_all test table) (descends table) falls) (omega arith))
-descends-get_or (s ∷ table) (suc i) (suc j) other falls before within =
-    let test = λ (t : Symbol). nat_le (length (symbol_text t)) (length (symbol_text s)) in
-    descends-get_or table i j other (and-right (list_all test table) (descends table) falls) (omega arith) (omega arith)
+pub of_text : (text : List ℕ) (symbol : Symbol) → BeginsWith text (symbol_text symbol) → Shown text symbol
+of_text text symbol begins = by (size symbol)
+  where
+    split : (bytes : List ℕ) → symbol_text symbol ≡ bytes → text ≡ bytes ++ begins.0
+    split bytes is = begins.1 ∙ ap (λ l. l ++ begins.0) is
 
--- a symbol isn't longer than the one that stands at its place or before it
-pub length-symbol_text-le : (symbol other : Symbol) (i : ℕ) → i ≤ place symbol → length (symbol_text symbol) ≤ length (symbol_text (get_or SYMBOLS i other))
-length-symbol_text-le symbol other i before =
-    ⊎_elim
-    (λ earlier. subst (λ s. length (symbol_text s) ≤ length (symbol_text (get_or SYMBOLS i other))) (get_or-place symbol other) (descends-get_or SYMBOLS i (place symbol) other refl earlier (place-lt symbol)))
-    (λ later. let same : i ≡ place symbol = omega arith in subst (λ s. length (symbol_text symbol) ≤ length (symbol_text s)) (sym (ap (λ k. get_or SYMBOLS k other) same ∙ get_or-place symbol other)) (omega arith))
-    (cases_lt i (place symbol))
+    by : Size symbol → Shown text symbol
+    by (Size.one first is place) = inl (ap length is, ap (λ l. symbol_in (slice_index l 0)) (split (first ∷ []) is) ∙ place)
+    by (Size.two first second is place) =
+        let whole = split (first ∷ second ∷ []) is in
+        inr (inl (omega (arith, ap length whole), ap (λ l. symbol_in (slice_index l 0 + 5 * slice_index l 1)) whole ∙ place, ap length is))
+    by (Size.three is) = inr (inr (begins.0, split (62 ∷ 62 ∷ 62 ∷ []) is))
+
+-- the only symbol that a text begins with is the longest
+pub longest_of : (text : List ℕ) (found : Option Symbol) → ((other : Symbol) → BeginsWith text (symbol_text other) → found ≡ Some other)
+    → IfSome found (λ symbol. (other : Symbol) → BeginsWith text (symbol_text other) → length (symbol_text other) ≤ length (symbol_text symbol))
+longest_of text None only = tt
+longest_of text (Some symbol) only = λ other begins. let same : Some symbol ≡ Some other = only other begins in let is : symbol ≡ other = cc in omega (arith, ap (λ s. length (symbol_text s)) is)
+
+-- and where none is found there is none
+pub absent_of : (text : List ℕ) (found : Option Symbol) → ((other : Symbol) → BeginsWith text (symbol_text other) → found ≡ Some other) → IfNone found ((symbol : Symbol) → ¬ BeginsWith text (symbol_text symbol))
+absent_of text None only = λ symbol begins. let none : None ≡ Some symbol = only symbol begins in cc
+absent_of text (Some symbol) only = tt
 
 symbol_at : List ℕ → Option Symbol
 symbol_at bytes = find (λ symbol. bytes_eq (symbol_text symbol) bytes) SYMBOLS

@@ -5,14 +5,14 @@ use Rattle.std.specs.List.{prefix_len}
 use Rattle.std.specs.Str.Parse.{IsNumeral, AllDigits}
 use Rattle.std.proofs.lemmas.List.{append-nil}
 use Rattle.kw_bits.specs.BitVector.{BitVector}
-use Rattle.koika_syntax.specs.Lexemes.{Shape, HasShape, IsWord, LiteralParts, IsLiteral, letter_of, IsLongest}
+use Rattle.koika_syntax.specs.Lexemes.{Kind, HasKind, IsWord, LiteralParts, IsLiteral, letter_of, IsLongest}
 use Rattle.koika_syntax.specs.Tokens.{IsToken, IsLiteralOf, width_of, value_of}
 use Rattle.koika_syntax.specs.declared.token.TokenKind.{TokenKind}
 use Rattle.koika_syntax.specs.declared.token.TokenKind.TheVariants as kinds
 use Rattle.koika_syntax.proofs.KeywordTable.{same_keyword, IsWord-keyword_text}
-use Rattle.koika_syntax.proofs.Longest.{only_shape}
+use Rattle.koika_syntax.proofs.Longest.{only_kind}
 use Rattle.koika_syntax.proofs.LongestNumeral.{same_base, same_cut, digits_run}
-use Rattle.koika_syntax.proofs.Shapes.{family, family-first, length-lexeme}
+use Rattle.koika_syntax.proofs.LexemeKinds.{family, family-first, length-lexeme}
 use Rattle.koika_syntax.proofs.SymbolTable.{same_symbol}
 
 -- of two fronts of one text, one goes on the other
@@ -28,14 +28,14 @@ front_cases (x ∷ xs) ys (u ∷ us) vs whole =
     (front_cases xs ys us vs (ap (drop 1) whole))
 
 -- two longest lexemes at one place are one
-pub same_longest : (s t : Shape) (xs ys us vs : List ℕ) → xs ++ ys ≡ us ++ vs → HasShape s xs → IsLongest xs ys → HasShape t us → IsLongest us vs → (xs ≡ us) × (ys ≡ vs)
+pub same_longest : (s t : Kind) (xs ys us vs : List ℕ) → xs ++ ys ≡ us ++ vs → HasKind s xs → IsLongest xs ys → HasKind t us → IsLongest us vs → (xs ≡ us) × (ys ≡ vs)
 same_longest s t xs ys us vs whole has longest has' longest' =
     ⊎_elim
     (λ case.
-    let none : case.0 ≡ [] = longest t case.0 vs case.2 (subst (HasShape t) case.1 has') in
+    let none : case.0 ≡ [] = longest t case.0 vs case.2 (subst (HasKind t) case.1 has') in
     (sym (case.1 ∙ ap (λ l. xs ++ l) none ∙ append-nil xs), case.2 ∙ ap (λ l. l ++ vs) none))
     (λ case.
-    let none : case.0 ≡ [] = longest' s case.0 ys case.2 (subst (HasShape s) case.1 has) in
+    let none : case.0 ≡ [] = longest' s case.0 ys case.2 (subst (HasKind s) case.1 has) in
     (case.1 ∙ ap (λ l. us ++ l) none ∙ append-nil us, sym (case.2 ∙ ap (λ l. l ++ ys) none)))
     (front_cases xs ys us vs whole)
 
@@ -56,54 +56,54 @@ whole_not_broken : (parts : LiteralParts) (width tail bytes : List ℕ) → IsLi
 whole_not_broken parts width tail bytes literal numeral text =
     (apostrophe_split parts.width width (letter_of parts.base ∷ parts.value) tail literal.width.1 numeral.1 (sym literal.text ∙ text)).1
 
-number_not_literal : (bytes : List ℕ) → HasShape Shape.number bytes → HasShape Shape.literal bytes → ⊥
+number_not_literal : (bytes : List ℕ) → HasKind Kind.number bytes → HasKind Kind.literal bytes → ⊥
 number_not_literal bytes number (parts, literal) = not_digits parts.width (letter_of parts.base ∷ parts.value) (subst (AllDigits 10) literal.text number.1)
 
-number_not_unfinished : (bytes : List ℕ) → HasShape Shape.number bytes → HasShape Shape.unfinished bytes → ⊥
+number_not_unfinished : (bytes : List ℕ) → HasKind Kind.number bytes → HasKind Kind.unfinished bytes → ⊥
 number_not_unfinished bytes number (width, numeral, broken) =
     ⊎_elim
     (λ text. not_digits width [] (subst (AllDigits 10) text number.1))
     (λ text. not_digits width (letter_of text.0 ∷ []) (subst (AllDigits 10) text.1 number.1))
     broken
 
-literal_not_unfinished : (bytes : List ℕ) → HasShape Shape.literal bytes → HasShape Shape.unfinished bytes → ⊥
+literal_not_unfinished : (bytes : List ℕ) → HasKind Kind.literal bytes → HasKind Kind.unfinished bytes → ⊥
 literal_not_unfinished bytes (parts, literal) (width, numeral, broken) =
     ⊎_elim
     (λ text. let tail = whole_not_broken parts width [] bytes literal numeral text in omega (arith, ap length tail))
     (λ text. let tail = whole_not_broken parts width (letter_of text.0 ∷ []) bytes literal numeral text.1 in omega (arith, literal.value.0, ap length tail))
     broken
 
-by_family : (s t : Shape) (bytes : List ℕ) → family s ≡ family t → HasShape s bytes → HasShape t bytes → s ≡ t
-by_family Shape.blank t bytes same has has' = same ∙ only_shape t (λ e. let f : Shape.blank ≡ Shape.number = same ∙ e in cc)
-by_family Shape.comment t bytes same has has' = same ∙ only_shape t (λ e. let f : Shape.comment ≡ Shape.number = same ∙ e in cc)
-by_family Shape.word t bytes same has has' = same ∙ only_shape t (λ e. let f : Shape.word ≡ Shape.number = same ∙ e in cc)
-by_family Shape.number Shape.blank bytes same has has' = cc
-by_family Shape.number Shape.comment bytes same has has' = cc
-by_family Shape.number Shape.word bytes same has has' = cc
-by_family Shape.number Shape.number bytes same has has' = refl
-by_family Shape.number Shape.literal bytes same has has' = absurd (number_not_literal bytes has has')
-by_family Shape.number Shape.unfinished bytes same has has' = absurd (number_not_unfinished bytes has has')
-by_family Shape.number Shape.symbol bytes same has has' = cc
-by_family Shape.literal Shape.blank bytes same has has' = cc
-by_family Shape.literal Shape.comment bytes same has has' = cc
-by_family Shape.literal Shape.word bytes same has has' = cc
-by_family Shape.literal Shape.number bytes same has has' = absurd (number_not_literal bytes has' has)
-by_family Shape.literal Shape.literal bytes same has has' = refl
-by_family Shape.literal Shape.unfinished bytes same has has' = absurd (literal_not_unfinished bytes has has')
-by_family Shape.literal Shape.symbol bytes same has has' = cc
-by_family Shape.unfinished Shape.blank bytes same has has' = cc
-by_family Shape.unfinished Shape.comment bytes same has has' = cc
-by_family Shape.unfinished Shape.word bytes same has has' = cc
-by_family Shape.unfinished Shape.number bytes same has has' = absurd (number_not_unfinished bytes has' has)
-by_family Shape.unfinished Shape.literal bytes same has has' = absurd (literal_not_unfinished bytes has' has)
-by_family Shape.unfinished Shape.unfinished bytes same has has' = refl
-by_family Shape.unfinished Shape.symbol bytes same has has' = cc
-by_family Shape.symbol t bytes same has has' = same ∙ only_shape t (λ e. let f : Shape.symbol ≡ Shape.number = same ∙ e in cc)
+by_family : (s t : Kind) (bytes : List ℕ) → family s ≡ family t → HasKind s bytes → HasKind t bytes → s ≡ t
+by_family Kind.blank t bytes same has has' = same ∙ only_kind t (λ e. let f : Kind.blank ≡ Kind.number = same ∙ e in cc)
+by_family Kind.comment t bytes same has has' = same ∙ only_kind t (λ e. let f : Kind.comment ≡ Kind.number = same ∙ e in cc)
+by_family Kind.word t bytes same has has' = same ∙ only_kind t (λ e. let f : Kind.word ≡ Kind.number = same ∙ e in cc)
+by_family Kind.number Kind.blank bytes same has has' = cc
+by_family Kind.number Kind.comment bytes same has has' = cc
+by_family Kind.number Kind.word bytes same has has' = cc
+by_family Kind.number Kind.number bytes same has has' = refl
+by_family Kind.number Kind.literal bytes same has has' = absurd (number_not_literal bytes has has')
+by_family Kind.number Kind.unfinished bytes same has has' = absurd (number_not_unfinished bytes has has')
+by_family Kind.number Kind.symbol bytes same has has' = cc
+by_family Kind.literal Kind.blank bytes same has has' = cc
+by_family Kind.literal Kind.comment bytes same has has' = cc
+by_family Kind.literal Kind.word bytes same has has' = cc
+by_family Kind.literal Kind.number bytes same has has' = absurd (number_not_literal bytes has' has)
+by_family Kind.literal Kind.literal bytes same has has' = refl
+by_family Kind.literal Kind.unfinished bytes same has has' = absurd (literal_not_unfinished bytes has has')
+by_family Kind.literal Kind.symbol bytes same has has' = cc
+by_family Kind.unfinished Kind.blank bytes same has has' = cc
+by_family Kind.unfinished Kind.comment bytes same has has' = cc
+by_family Kind.unfinished Kind.word bytes same has has' = cc
+by_family Kind.unfinished Kind.number bytes same has has' = absurd (number_not_unfinished bytes has' has)
+by_family Kind.unfinished Kind.literal bytes same has has' = absurd (literal_not_unfinished bytes has' has)
+by_family Kind.unfinished Kind.unfinished bytes same has has' = refl
+by_family Kind.unfinished Kind.symbol bytes same has has' = cc
+by_family Kind.symbol t bytes same has has' = same ∙ only_kind t (λ e. let f : Kind.symbol ≡ Kind.number = same ∙ e in cc)
 
--- bytes have one shape
-pub same_shape : (s t : Shape) (bytes : List ℕ) → HasShape s bytes → HasShape t bytes → s ≡ t
-same_shape s t [] has has' = absurd (omega (arith, length-lexeme s [] has))
-same_shape s t (b ∷ bytes) has has' = by_family s t (b ∷ bytes) (sym (family-first s b bytes has) ∙ family-first t b bytes has') has has'
+-- bytes have one kind
+pub same_kind : (s t : Kind) (bytes : List ℕ) → HasKind s bytes → HasKind t bytes → s ≡ t
+same_kind s t [] has has' = absurd (omega (arith, length-lexeme s [] has))
+same_kind s t (b ∷ bytes) has has' = by_family s t (b ∷ bytes) (sym (family-first s b bytes has) ∙ family-first t b bytes has') has has'
 
 -- the parts of a literal are one
 pub same_parts : (p q : LiteralParts) (bytes : List ℕ) → IsLiteral p bytes → IsLiteral q bytes → p ≡ q
@@ -120,47 +120,47 @@ same_bits a b p q bytes is is' of of' =
     let number = of.number ∙ ap value_of parts ∙ sym of'.number in
     (λ i. record { width = width i; number = number i })
 
--- the shape of a token
-abbrev pub shape_of : TokenKind → Shape
-shape_of kinds.Name = Shape.word
-shape_of (kinds.Number n) = Shape.number
-shape_of (kinds.Literal bits) = Shape.literal
-shape_of (kinds.Keyword keyword) = Shape.word
-shape_of (kinds.Symbol symbol) = Shape.symbol
+-- the kind of a token
+abbrev pub kind_of : TokenKind → Kind
+kind_of kinds.Name = Kind.word
+kind_of (kinds.Number n) = Kind.number
+kind_of (kinds.Literal bits) = Kind.literal
+kind_of (kinds.Keyword keyword) = Kind.word
+kind_of (kinds.Symbol symbol) = Kind.symbol
 
-pub HasShape-token : (kind : TokenKind) (bytes : List ℕ) → IsToken kind bytes → HasShape (shape_of kind) bytes
-HasShape-token kinds.Name bytes is = is.0
-HasShape-token (kinds.Number n) bytes is = is.0
-HasShape-token (kinds.Literal bits) bytes is = (is.0, is.1)
-HasShape-token (kinds.Keyword keyword) bytes is = subst IsWord (sym is) (IsWord-keyword_text keyword)
-HasShape-token (kinds.Symbol symbol) bytes is = (symbol, is)
+pub HasKind-token : (kind : TokenKind) (bytes : List ℕ) → IsToken kind bytes → HasKind (kind_of kind) bytes
+HasKind-token kinds.Name bytes is = is.0
+HasKind-token (kinds.Number n) bytes is = is.0
+HasKind-token (kinds.Literal bits) bytes is = (is.0, is.1)
+HasKind-token (kinds.Keyword keyword) bytes is = subst IsWord (sym is) (IsWord-keyword_text keyword)
+HasKind-token (kinds.Symbol symbol) bytes is = (symbol, is)
 
-by_shape : (k j : TokenKind) (bytes : List ℕ) → shape_of k ≡ shape_of j → IsToken k bytes → IsToken j bytes → k ≡ j
-by_shape kinds.Name kinds.Name bytes same is is' = refl
-by_shape kinds.Name (kinds.Number m) bytes same is is' = cc
-by_shape kinds.Name (kinds.Literal b) bytes same is is' = cc
-by_shape kinds.Name (kinds.Keyword b) bytes same is is' = absurd (is.2 b is')
-by_shape kinds.Name (kinds.Symbol b) bytes same is is' = cc
-by_shape (kinds.Number n) kinds.Name bytes same is is' = cc
-by_shape (kinds.Number n) (kinds.Number m) bytes same is is' = ap kinds.Number (is.1 ∙ sym is'.1)
-by_shape (kinds.Number n) (kinds.Literal b) bytes same is is' = cc
-by_shape (kinds.Number n) (kinds.Keyword b) bytes same is is' = cc
-by_shape (kinds.Number n) (kinds.Symbol b) bytes same is is' = cc
-by_shape (kinds.Literal a) kinds.Name bytes same is is' = cc
-by_shape (kinds.Literal a) (kinds.Number m) bytes same is is' = cc
-by_shape (kinds.Literal a) (kinds.Literal b) bytes same is is' = ap kinds.Literal (same_bits a b is.0 is'.0 bytes is.1 is'.1 is.2 is'.2)
-by_shape (kinds.Literal a) (kinds.Keyword b) bytes same is is' = cc
-by_shape (kinds.Literal a) (kinds.Symbol b) bytes same is is' = cc
-by_shape (kinds.Keyword a) kinds.Name bytes same is is' = absurd (is'.2 a is)
-by_shape (kinds.Keyword a) (kinds.Number m) bytes same is is' = cc
-by_shape (kinds.Keyword a) (kinds.Literal b) bytes same is is' = cc
-by_shape (kinds.Keyword a) (kinds.Keyword b) bytes same is is' = ap kinds.Keyword (same_keyword a b (sym is ∙ is'))
-by_shape (kinds.Keyword a) (kinds.Symbol b) bytes same is is' = cc
-by_shape (kinds.Symbol a) kinds.Name bytes same is is' = cc
-by_shape (kinds.Symbol a) (kinds.Number m) bytes same is is' = cc
-by_shape (kinds.Symbol a) (kinds.Literal b) bytes same is is' = cc
-by_shape (kinds.Symbol a) (kinds.Keyword b) bytes same is is' = cc
-by_shape (kinds.Symbol a) (kinds.Symbol b) bytes same is is' = ap kinds.Symbol (same_symbol a b (sym is ∙ is'))
+by_kind : (k j : TokenKind) (bytes : List ℕ) → kind_of k ≡ kind_of j → IsToken k bytes → IsToken j bytes → k ≡ j
+by_kind kinds.Name kinds.Name bytes same is is' = refl
+by_kind kinds.Name (kinds.Number m) bytes same is is' = cc
+by_kind kinds.Name (kinds.Literal b) bytes same is is' = cc
+by_kind kinds.Name (kinds.Keyword b) bytes same is is' = absurd (is.2 b is')
+by_kind kinds.Name (kinds.Symbol b) bytes same is is' = cc
+by_kind (kinds.Number n) kinds.Name bytes same is is' = cc
+by_kind (kinds.Number n) (kinds.Number m) bytes same is is' = ap kinds.Number (is.1 ∙ sym is'.1)
+by_kind (kinds.Number n) (kinds.Literal b) bytes same is is' = cc
+by_kind (kinds.Number n) (kinds.Keyword b) bytes same is is' = cc
+by_kind (kinds.Number n) (kinds.Symbol b) bytes same is is' = cc
+by_kind (kinds.Literal a) kinds.Name bytes same is is' = cc
+by_kind (kinds.Literal a) (kinds.Number m) bytes same is is' = cc
+by_kind (kinds.Literal a) (kinds.Literal b) bytes same is is' = ap kinds.Literal (same_bits a b is.0 is'.0 bytes is.1 is'.1 is.2 is'.2)
+by_kind (kinds.Literal a) (kinds.Keyword b) bytes same is is' = cc
+by_kind (kinds.Literal a) (kinds.Symbol b) bytes same is is' = cc
+by_kind (kinds.Keyword a) kinds.Name bytes same is is' = absurd (is'.2 a is)
+by_kind (kinds.Keyword a) (kinds.Number m) bytes same is is' = cc
+by_kind (kinds.Keyword a) (kinds.Literal b) bytes same is is' = cc
+by_kind (kinds.Keyword a) (kinds.Keyword b) bytes same is is' = ap kinds.Keyword (same_keyword a b (sym is ∙ is'))
+by_kind (kinds.Keyword a) (kinds.Symbol b) bytes same is is' = cc
+by_kind (kinds.Symbol a) kinds.Name bytes same is is' = cc
+by_kind (kinds.Symbol a) (kinds.Number m) bytes same is is' = cc
+by_kind (kinds.Symbol a) (kinds.Literal b) bytes same is is' = cc
+by_kind (kinds.Symbol a) (kinds.Keyword b) bytes same is is' = cc
+by_kind (kinds.Symbol a) (kinds.Symbol b) bytes same is is' = ap kinds.Symbol (same_symbol a b (sym is ∙ is'))
 
 pub same_token : (k j : TokenKind) (bytes : List ℕ) → IsToken k bytes → IsToken j bytes → k ≡ j
-same_token k j bytes is is' = by_shape k j bytes (same_shape (shape_of k) (shape_of j) bytes (HasShape-token k bytes is) (HasShape-token j bytes is')) is is'
+same_token k j bytes is is' = by_kind k j bytes (same_kind (kind_of k) (kind_of j) bytes (HasKind-token k bytes is) (HasKind-token j bytes is')) is is'

@@ -70,29 +70,29 @@ IsUnfinished bytes =
     (width : List ℕ) × IsNumeral 10 width × ((bytes ≡ width ++ 39 ∷ []) ⊎ ((base : Base) × (bytes ≡ width ++ 39 ∷ letter_of base ∷ [])))
 
 -- how lexemes look
-pub data Shape : Type 0 where
-  blank : Shape
-  comment : Shape
-  word : Shape
-  number : Shape
-  literal : Shape
-  unfinished : Shape
-  symbol : Shape
+pub data Kind : Type 0 where
+  blank : Kind
+  comment : Kind
+  word : Kind
+  number : Kind
+  literal : Kind
+  unfinished : Kind
+  symbol : Kind
 
--- the bytes are a lexeme of this shape
-abbrev pub HasShape : Shape → List ℕ → Type 0
-HasShape blank bytes = (b : ℕ) × (bytes ≡ b ∷ []) × IsTrue (is_blank b)
-HasShape comment bytes = IsComment bytes
-HasShape word bytes = IsWord bytes
-HasShape number bytes = IsNumeral 10 bytes
-HasShape literal bytes = (parts : LiteralParts) × IsLiteral parts bytes
-HasShape unfinished bytes = IsUnfinished bytes
-HasShape symbol bytes = (s : Symbol) × (bytes ≡ symbol_text s)
+-- the bytes are a lexeme of this kind
+abbrev pub HasKind : Kind → List ℕ → Type 0
+HasKind blank bytes = (b : ℕ) × (bytes ≡ b ∷ []) × IsTrue (is_blank b)
+HasKind comment bytes = IsComment bytes
+HasKind word bytes = IsWord bytes
+HasKind number bytes = IsNumeral 10 bytes
+HasKind literal bytes = (parts : LiteralParts) × IsLiteral parts bytes
+HasKind unfinished bytes = IsUnfinished bytes
+HasKind symbol bytes = (s : Symbol) × (bytes ≡ symbol_text s)
 
 -- no lexeme is longer: whatever front of what follows makes one together with the bytes is empty
 abbrev pub IsLongest : (bytes rest : List ℕ) → Type 0
-IsLongest bytes rest = (shape : Shape) (more after : List ℕ) → rest ≡ more ++ after → HasShape shape (bytes ++ more) → more ≡ []
+IsLongest bytes rest = (kind : Kind) (more after : List ℕ) → rest ≡ more ++ after → HasKind kind (bytes ++ more) → more ≡ []
 
 -- no front of the text is a lexeme
 abbrev pub BeginsNoLexeme : List ℕ → Type 0
-BeginsNoLexeme text = (shape : Shape) (bytes rest : List ℕ) → text ≡ bytes ++ rest → ¬ HasShape shape bytes
+BeginsNoLexeme text = (kind : Kind) (bytes rest : List ℕ) → text ≡ bytes ++ rest → ¬ HasKind kind bytes

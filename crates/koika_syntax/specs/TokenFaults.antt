@@ -8,19 +8,19 @@ use Rattle.kw_base.specs.declared.fault.Fault.{Fault}
 use Rattle.kw_base.specs.Fault.{fault_at}
 use Rattle.kw_base.specs.Place.{place_at}
 use Rattle.kw_bits.specs.BitVector.{IsBitVector}
-use Rattle.koika_syntax.specs.Lexemes.{Shape, LiteralParts, IsLiteral, HasShape, IsLongest, BeginsNoLexeme}
+use Rattle.koika_syntax.specs.Lexemes.{Kind, LiteralParts, IsLiteral, HasKind, IsLongest, BeginsNoLexeme}
 use Rattle.koika_syntax.specs.Tokens.{width_of, value_of, Piece, bytes_of, IsCut}
 
--- a lexeme of this shape is no token: this is the fault, and it stands so many bytes behind the first one
-abbrev pub IsWrong : Shape → List ℕ → (number offset : ℕ) → Type 0
-IsWrong Shape.word bytes number offset = (64 < length bytes) × (number ≡ 14) × (offset ≡ 0)
-IsWrong Shape.number bytes number offset = (2 ^ 32 ≤ digits_value 10 bytes) × (number ≡ 13) × (offset ≡ 0)
-IsWrong Shape.literal bytes number offset =
+-- a lexeme of this kind is no token: this is the fault, and it stands so many bytes behind the first one
+abbrev pub IsWrong : Kind → List ℕ → (number offset : ℕ) → Type 0
+IsWrong Kind.word bytes number offset = (64 < length bytes) × (number ≡ 14) × (offset ≡ 0)
+IsWrong Kind.number bytes number offset = (2 ^ 32 ≤ digits_value 10 bytes) × (number ≡ 13) × (offset ≡ 0)
+IsWrong Kind.literal bytes number offset =
     (parts : LiteralParts) × IsLiteral parts bytes × (¬ IsBitVector (width_of parts) (value_of parts)) × (number ≡ 13) × (offset ≡ 0)
-IsWrong Shape.unfinished bytes number offset = (number ≡ 10) × (offset ≡ length bytes)
-IsWrong Shape.blank bytes number offset = ⊥
-IsWrong Shape.comment bytes number offset = ⊥
-IsWrong Shape.symbol bytes number offset = ⊥
+IsWrong Kind.unfinished bytes number offset = (number ≡ 10) × (offset ≡ length bytes)
+IsWrong Kind.blank bytes number offset = ⊥
+IsWrong Kind.comment bytes number offset = ⊥
+IsWrong Kind.symbol bytes number offset = ⊥
 
 -- the text begins with a byte that begins no lexeme
 pub record BeginsStray (text : List ℕ) (number offset : ℕ) : Type 0 where
@@ -31,13 +31,13 @@ pub record BeginsStray (text : List ℕ) (number offset : ℕ) : Type 0 where
 
 -- the longest lexeme that the text begins with is no token
 pub record BeginsWrong (text : List ℕ) (number offset : ℕ) : Type 0 where
-  pub shape : Shape
+  pub kind : Kind
   pub bytes : List ℕ
   pub after : List ℕ
   pub front : text ≡ bytes ++ after
-  pub lexeme : HasShape shape bytes
+  pub lexeme : HasKind kind bytes
   pub longest : IsLongest bytes after
-  pub wrong : IsWrong shape bytes number offset
+  pub wrong : IsWrong kind bytes number offset
 
 -- the text begins with this fault, at this offset
 abbrev pub BeginsFaulty : List ℕ → (number offset : ℕ) → Type 0

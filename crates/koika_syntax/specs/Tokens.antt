@@ -5,7 +5,7 @@ use Rattle.std.specs.Str.Parse.{IsNumeral, digits_value}
 use Rattle.kw_bits.specs.BitVector.{BitVector, IsBitVector}
 use Rattle.koika_syntax.specs.Keywords.{keyword_text}
 use Rattle.koika_syntax.specs.Symbols.{symbol_text}
-use Rattle.koika_syntax.specs.Lexemes.{IsWord, LiteralParts, IsLiteral, radix_of, Shape, HasShape, IsLongest}
+use Rattle.koika_syntax.specs.Lexemes.{IsWord, LiteralParts, IsLiteral, radix_of, Kind, HasKind, IsLongest}
 use Rattle.koika_syntax.specs.declared.keyword.Keyword.{Keyword}
 use Rattle.koika_syntax.specs.declared.token.Token.{Token}
 use Rattle.koika_syntax.specs.declared.token.TokenKind.{TokenKind}
@@ -45,7 +45,7 @@ bytes_of (token kind bytes) = bytes
 
 -- the piece is what it says of its bytes
 abbrev pub IsPiece : Piece → Type 0
-IsPiece (gap bytes) = HasShape Shape.blank bytes ⊎ HasShape Shape.comment bytes
+IsPiece (gap bytes) = HasKind Kind.blank bytes ⊎ HasKind Kind.comment bytes
 IsPiece (token kind bytes) = IsToken kind bytes
 
 -- the text begins with these pieces, each the longest lexeme at its place, and the rest follows

@@ -1,4 +1,5 @@
-ghost use Rattle.std.specs.Prelude.{◌≡◌, ◌≢◌, ◌↔◌, IsTrue, IfSome, IfNone};
+ghost use Rattle.std.specs.Prelude.{◌≡◌, ◌≢◌, ◌↔◌, ◌%◌, slice_get, slice_index, IsTrue, IfSome, IfNone};
+ghost use Rattle.koika_syntax.specs.declared.keyword.TheConstants.{KEYWORDS, PLACES};
 ghost use Rattle.koika_syntax.specs.Keywords.{keyword_text};
 
 /// A word that is no name.
@@ -80,6 +81,17 @@ const KEYWORDS: [Keyword; 35] = [
     Keyword::Assert,
 ];
 
+// The places of the keywords in that table, 35 for none. That of a keyword stands at four times its first
+// byte, its middle one and its last one, modulo 128.
+const PLACES: [u8; 128] = [
+    30, 31, 32, 33, 35, 35, 35, 5, 1, 13, 35, 35, 35, 35, 17, 35, 35, 35, 35, 35, 0, 8, 35, 4, 25,
+    7, 19, 35, 35, 23, 35, 35, 18, 35, 35, 10, 35, 35, 35, 24, 35, 35, 35, 35, 22, 35, 35, 35, 35,
+    15, 35, 35, 35, 3, 35, 35, 21, 35, 35, 9, 35, 35, 35, 35, 35, 35, 35, 35, 35, 35, 35, 35, 35,
+    35, 35, 35, 35, 35, 35, 35, 35, 35, 35, 35, 20, 35, 35, 35, 35, 26, 27, 28, 29, 34, 35, 35, 35,
+    35, 35, 35, 35, 35, 35, 16, 35, 35, 35, 35, 11, 35, 35, 14, 12, 35, 35, 35, 35, 35, 2, 35, 35,
+    35, 35, 6, 35, 35, 35, 35,
+];
+
 impl Keyword {
     /// The bytes of the keyword.
     pub fn text(self) -> &'static [u8]
@@ -129,12 +141,25 @@ impl Keyword {
         ensures found { IfSome result (λ keyword. word.now ≡ keyword_text keyword) }
         ensures absent { IfNone result ((keyword : Keyword) → word.now ≢ keyword_text keyword) }
     {
-        for keyword in KEYWORDS {
+        if word.is_empty() {
+            return None;
+        }
+        let mix = 4 * usize::from(word[0])
+            + usize::from(word[word.len() / 2])
+            + usize::from(word[word.len() - 1]);
+        if let Some(keyword) = Keyword::in_place(mix) {
             if keyword.is_spelled(word) {
                 return Some(keyword);
             }
         }
         None
+    }
+
+    // The keyword that has this place.
+    fn in_place(mix: usize) -> Option<Keyword>
+        ensures { result ≡ slice_get KEYWORDS (slice_index PLACES (mix % 128)) }
+    {
+        KEYWORDS.get(usize::from(PLACES[mix % 128])).copied()
     }
 
     // Whether a word has the bytes of the keyword.

@@ -1,11 +1,8 @@
-ghost use Rattle.std.specs.Prelude.{◌≡◌, ◌<◌, length};
-ghost use Rattle.std.specs.List.{prefix_len};
-ghost use Rattle.koika_syntax.specs.Lexemes as lexemes;
-ghost use Rattle.koika_syntax.specs.LexemeAnswers.{IsAnswer, number_of, offset_of};
+ghost use Rattle.koika_syntax.specs.LexemeAnswers.{number_of, offset_of};
+ghost use Rattle.std.specs.Prelude.{◌≡◌};
 
-use crate::literal::numeral;
-use crate::word::{begins_word, word};
-use crate::{Symbol, TokenKind};
+use crate::TokenKind;
+use kw_base::fault_number;
 
 /// What a text begins with, and how many bytes it takes. What is no token is a blank or a comment.
 #[derive(Clone, Copy, Debug)]
@@ -31,9 +28,9 @@ impl Flaw {
         ensures { result ≡ number_of self }
     {
         match self {
-            Flaw::Byte(_) => 10,
-            Flaw::Range => 13,
-            Flaw::LongName => 14,
+            Flaw::Byte(_) => fault_number::NO_TOKEN,
+            Flaw::Range => fault_number::NUMBER_OUT_OF_RANGE,
+            Flaw::LongName => fault_number::NAME_TOO_LONG,
         }
     }
 
@@ -46,54 +43,4 @@ impl Flaw {
             Flaw::Range | Flaw::LongName => 0,
         }
     }
-}
-
-/// What a text begins with.
-pub(crate) fn lexeme_of(text: &[u8]) -> Result<Lexeme, Flaw>
-    requires { 0 < length text.now }
-    ensures { IsAnswer text.now result }
-{
-    let first = text[0];
-    if is_blank(first) {
-        return Ok(Lexeme {
-            token: None,
-            len: 1,
-        });
-    }
-    if begins_word(first) {
-        return word(text);
-    }
-    if first.is_ascii_digit() {
-        return numeral(text);
-    }
-    if text.starts_with(b"//") {
-        return Ok(Lexeme {
-            token: None,
-            len: line_len(text),
-        });
-    }
-    match Symbol::at_front(text) {
-        Some(symbol) => Ok(Lexeme {
-            token: Some(TokenKind::Symbol(symbol)),
-            len: symbol.text().len(),
-        }),
-        None => Err(Flaw::Byte(0)),
-    }
-}
-
-fn is_blank(byte: u8) -> bool
-    ensures { result ≡ lexemes.is_blank byte }
-{
-    byte == b' ' || byte == b'\t' || byte == b'\r' || byte == b'\n'
-}
-
-// How many bytes stand before the first line feed.
-fn line_len(bytes: &[u8]) -> usize
-    ensures { result ≡ prefix_len lexemes.stays_on_line bytes.now }
-{
-    let mut len = 0;
-    while len < bytes.len() && bytes[len] != b'\n' {
-        len += 1;
-    }
-    len
 }

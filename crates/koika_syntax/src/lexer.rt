@@ -1,4 +1,5 @@
-ghost use Rattle.std.specs.Prelude.{◌≡◌, ◌+◌, ◌<◌, ◌≤◌, List, length, drop, All, IfOk};
+ghost use Rattle.std.specs.Prelude.{◌≡◌, ◌+◌, ◌<◌, ◌≤◌, List, false, length, drop, slice_index, All, IfOk};
+ghost use Rattle.koika_syntax.specs.Lexemes as lexemes;
 ghost use Rattle.kw_base.specs.Place.{place_at};
 ghost use Rattle.kw_base.specs.Fault.{fault_at, IfFault, IsOkUnlessNoMemory, IsFaultUnlessNoMemory};
 ghost use Rattle.kw_base.specs.declared.fault.Fault.{Fault};
@@ -7,7 +8,8 @@ ghost use Rattle.koika_syntax.specs.Tokens.{AreTokensOf, StandsIn, AreAscending}
 ghost use Rattle.koika_syntax.specs.TokenFaults.{IsFirstFault};
 
 use crate::Token;
-use crate::lexeme::{Flaw, Lexeme, lexeme_of};
+use crate::front::lexeme_of;
+use crate::lexeme::{Flaw, Lexeme};
 use kw_base::{Fault, Refusal, place_of};
 use std::alloc::Global;
 
@@ -27,6 +29,10 @@ pub fn lex(alloc: Global, text: &[u8]) -> Result<Vec<Token>, Refusal>
     let mut tokens = Vec::new(alloc);
     let mut offset = 0;
     while offset < text.len() {
+        if is_blank(text[offset]) {
+            offset += 1;
+            continue;
+        }
         let lexeme = match lexeme_at(text, offset) {
             Ok(lexeme) => lexeme,
             Err(flaw) => return Err(Refusal::Fault(fault_of(text, offset, flaw))),
@@ -44,9 +50,17 @@ pub fn lex(alloc: Global, text: &[u8]) -> Result<Vec<Token>, Refusal>
     Ok(tokens)
 }
 
-// What the text behind an offset begins with.
+// Whether a byte is a blank: a space, a tab, a carriage return or a line feed.
+fn is_blank(byte: u8) -> bool
+    ensures { result ≡ lexemes.is_blank byte }
+{
+    byte == b' ' || byte == b'\t' || byte == b'\r' || byte == b'\n'
+}
+
+// What the text behind an offset begins with, where no blank stands.
 fn lexeme_at(text: &[u8], offset: usize) -> Result<Lexeme, Flaw>
-    requires { offset < length text.now }
+    requires within { offset < length text.now }
+    requires no_blank { lexemes.is_blank (slice_index text.now offset) ≡ false }
     ensures { IsAnswer (drop offset text.now) result }
 {
     lexeme_of(&text[offset..])

@@ -6,6 +6,7 @@
 //! `lex` answers and gives a `Tree`, from which the printer and the checker go on.
 #![tactic(auto)]
 
+mod front;
 mod keyword;
 mod lexeme;
 mod lexer;

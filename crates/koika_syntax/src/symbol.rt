@@ -1,4 +1,5 @@
-ghost use Rattle.std.specs.Prelude.{◌≡◌, ◌≤◌, ◌↔◌, length, IsTrue, IfSome, IfNone};
+ghost use Rattle.std.specs.Prelude.{◌≡◌, ◌<◌, ◌≤◌, ◌↔◌, ◌%◌, length, slice_get, slice_index, Some, IsTrue, IfSome, IfNone};
+ghost use Rattle.koika_syntax.specs.declared.symbol.TheConstants.{SYMBOLS, PLACES};
 ghost use Rattle.koika_syntax.specs.Symbols.{symbol_text, BeginsWith};
 
 /// A symbol: one to three bytes that are neither letters nor digits.
@@ -66,18 +67,8 @@ pub enum Symbol {
     PlusPlus,
 }
 
-// Every symbol, the longer ones first.
+// Every symbol, in the order of the declaration.
 const SYMBOLS: [Symbol; 30] = [
-    Symbol::GreaterGreaterGreater,
-    Symbol::ColonColon,
-    Symbol::Arrow,
-    Symbol::EqualsEquals,
-    Symbol::NotEquals,
-    Symbol::LessEquals,
-    Symbol::GreaterEquals,
-    Symbol::LessLess,
-    Symbol::GreaterGreater,
-    Symbol::PlusPlus,
     Symbol::LeftBrace,
     Symbol::RightBrace,
     Symbol::LeftParenthesis,
@@ -86,9 +77,11 @@ const SYMBOLS: [Symbol; 30] = [
     Symbol::RightBracket,
     Symbol::Semicolon,
     Symbol::Colon,
+    Symbol::ColonColon,
     Symbol::Comma,
     Symbol::Equals,
     Symbol::Dot,
+    Symbol::Arrow,
     Symbol::Plus,
     Symbol::Minus,
     Symbol::Star,
@@ -96,8 +89,27 @@ const SYMBOLS: [Symbol; 30] = [
     Symbol::Bar,
     Symbol::Caret,
     Symbol::Tilde,
+    Symbol::EqualsEquals,
+    Symbol::NotEquals,
     Symbol::Less,
+    Symbol::LessEquals,
     Symbol::Greater,
+    Symbol::GreaterEquals,
+    Symbol::LessLess,
+    Symbol::GreaterGreater,
+    Symbol::GreaterGreaterGreater,
+    Symbol::PlusPlus,
+];
+
+// The places in that table of the symbols of one and of two bytes, 30 for none. That of a symbol stands at
+// its first byte and five times its second one, modulo 128.
+const PLACES: [u8; 128] = [
+    30, 30, 29, 30, 30, 30, 30, 30, 30, 30, 30, 30, 30, 30, 30, 30, 30, 30, 30, 30, 30, 30, 30, 30,
+    30, 30, 30, 30, 30, 30, 30, 30, 30, 30, 30, 30, 30, 30, 16, 30, 2, 3, 15, 13, 9, 14, 11, 30,
+    30, 30, 30, 30, 30, 30, 30, 30, 30, 30, 7, 6, 22, 10, 24, 30, 30, 30, 30, 30, 30, 30, 30, 30,
+    30, 30, 30, 30, 30, 30, 30, 30, 30, 30, 21, 30, 30, 30, 30, 30, 30, 30, 30, 4, 8, 5, 18, 30,
+    30, 30, 30, 12, 30, 30, 30, 30, 26, 30, 30, 30, 30, 23, 20, 25, 30, 30, 30, 30, 27, 30, 30, 30,
+    30, 30, 30, 0, 17, 1, 19, 30,
 ];
 
 impl Symbol {
@@ -141,17 +153,44 @@ impl Symbol {
 
     /// The longest symbol that a text begins with, if there is one.
     pub(crate) fn at_front(text: &[u8]) -> Option<Symbol>
+        requires { 0 < length text.now }
         ensures found { IfSome result (λ symbol. BeginsWith text.now (symbol_text symbol)) }
         ensures longest { IfSome result (λ symbol. (other : Symbol) →
             BeginsWith text.now (symbol_text other) → length (symbol_text other) ≤ length (symbol_text symbol)) }
         ensures absent { IfNone result ((symbol : Symbol) → ¬ BeginsWith text.now (symbol_text symbol)) }
     {
-        for symbol in SYMBOLS {
+        if text.starts_with(b">>>") {
+            return Some(Symbol::GreaterGreaterGreater);
+        }
+        let first = usize::from(text[0]);
+        if text.len() > 1 {
+            let second = usize::from(text[1]);
+            if let Some(symbol) = Symbol::at_place(first + 5 * second, text) {
+                return Some(symbol);
+            }
+        }
+        Symbol::at_place(first, text)
+    }
+
+    // The symbol that has this place, if the text begins with it.
+    fn at_place(mix: usize, text: &[u8]) -> Option<Symbol>
+        ensures found { IfSome result (λ symbol. BeginsWith text.now (symbol_text symbol)) }
+        ensures only { (symbol : Symbol) → slice_get SYMBOLS (slice_index PLACES (mix % 128)) ≡ Some symbol
+            → BeginsWith text.now (symbol_text symbol) → result ≡ Some symbol }
+    {
+        if let Some(symbol) = Symbol::in_place(mix) {
             if symbol.begins(text) {
                 return Some(symbol);
             }
         }
         None
+    }
+
+    // The symbol that has this place.
+    fn in_place(mix: usize) -> Option<Symbol>
+        ensures { result ≡ slice_get SYMBOLS (slice_index PLACES (mix % 128)) }
+    {
+        SYMBOLS.get(usize::from(PLACES[mix % 128])).copied()
     }
 
     // Whether a text begins with the symbol.

@@ -1,9 +1,18 @@
-use Rattle.std.proofs.Common.{arith, drop, length-drop}
+use Rattle.std.proofs.Common.{arith, drop, length-drop, sym, ◌∙◌}
 use Rattle.koika_syntax.specs.LexemeAnswers.{number_of, offset_of}
 use Rattle.koika_syntax.specs.TokenFaults.{IsFirstFault}
-use Rattle.koika_syntax.proofs.Cuts.{piece_within, CutTo-gap, CutTo-token, CutTo-end, CutTo-fault, one_list, one_fault, tokens_or_fault}
+use Rattle.koika_syntax.proofs.Cuts.{piece_within, CutTo-gap, CutTo-blank, faulty_within, CutTo-token, CutTo-end, CutTo-fault, one_list, one_fault, tokens_or_fault}
 use Rattle.koika_syntax.proofs.Spans.{tokens_stand, tokens_ascend}
 use Rattle.koika_syntax.proofs.lexer.lex.Goals as goal
+
+pub loop-offset-preserved-then-is_blank : goal.loop-offset-preserved-then-is_blank
+loop-offset-preserved-then-is_blank c =
+    CutTo-blank c.args.text.now c.loop-offset.tokens.items c.loop-offset.offset c.loop-offset.invariant c.loop-offset-test.true (sym c.is_blank.ensures ∙ c.if-is_blank.true)
+
+pub fault_of-requires : goal.fault_of-requires
+fault_of-requires c =
+    let within = faulty_within (drop c.loop-offset.offset c.args.text.now) (number_of c.in-Err.flaw) (offset_of c.in-Err.flaw) c.in-Err.ensures in
+    omega (arith, within, length-drop c.loop-offset.offset c.args.text.now, c.loop-offset-test.true)
 
 pub loop-offset-preserved-in_ok-push : goal.loop-offset-preserved-in_ok-push
 loop-offset-preserved-in_ok-push c =

@@ -1,7 +1,7 @@
 use Rattle.std.proofs.Common.{sym, ap, arith}
 use Rattle.std.proofs.lemmas.List.Sums.{prefix_len_is}
 use Rattle.koika_syntax.specs.Lexemes.{stays_on_line}
-use Rattle.koika_syntax.proofs.lexeme.line_len.Goals as goal
+use Rattle.koika_syntax.proofs.front.line_len.Goals as goal
 
 pub returns-else-bytes-len-ne10 : goal.returns-else-bytes-len-ne10
 returns-else-bytes-len-ne10 c =
