@@ -1,0 +1,4 @@
+pub mod Laws
+pub mod Nets
+pub mod Operators
+pub mod Values
