@@ -1,7 +1,7 @@
 //! Tables: functions of bit vectors that are given by the list of their values.
 //!
-//! Contracts see a `Table` as its two widths and its entries, and cite `specs/Table.antt`. The checker tests a declared
-//! table's length by it, and the surroundings that every engine looks tables up in keep one for each table of a design.
+//! Contracts see a `Table` as a `TableSpec` that is valid in a design, and cite `typed_core`'s `Valid.IsTable`. The
+//! checker tests a declared table's length by it, and what every engine asks keeps one for each table of a design.
 #![tactic(auto)]
 
 mod table;

@@ -1,38 +1,38 @@
-ghost use Rattle.std.specs.Prelude.{◌≡◌, ◌^◌, ◌↔◌, length, slice_get, Some, IsOk, IfOk, codes};
+ghost use Rattle.std.specs.Prelude.{◌≡◌, ◌^◌, ◌≤◌, ◌↔◌, length, slice_get, All, Some, IsOk, IfOk, codes};
+ghost use Rattle.kw_bits.specs.BitVector.{BitVector};
 ghost use Rattle.kw_bits.specs.Laws.{HasWidth};
-ghost use Rattle.ext_table.specs.Table.{HaveWidth, IsInputWidth, IsTable};
+ghost use Rattle.typed_core.specs.Valid.{IsTable};
 
-use kw_bits::Bits;
+use kw_bits::{Bits, Sequence};
 use std::error::Error;
 use std::fmt;
 use std::marker::Model;
+use typed_core::TableSpec;
+use typed_core::limits::MAX_TABLE_IN_WIDTH;
 
 /// A table from bit vectors of 1 to 12 bits to bit vectors of one width, with an entry for each input.
 #[derive(Debug, Drop)]
 pub struct Table {
-    in_width: u32,
-    out_width: u32,
-    entries: Vec<Bits>,
+    spec: TableSpec,
 }
 
 impl Model for Table {
-    ghost use Rattle.ext_table.specs.Table.{LookupTable, IsTable};
+    ghost use Rattle.typed_core.specs.Valid.{IsTable};
+    ghost use Rattle.typed_core.specs.declared.design.TableSpec.{TableSpec};
 
-    ghost Value = { LookupTable };
+    ghost Value = { TableSpec };
 
-    ghost view = { λ t. record { in_width = t.in_width; out_width = t.out_width; entries = t.entries.items } };
+    ghost view = { λ t. t.spec };
 
-    ghost invariant = { λ t. IsTable (record { in_width = t.in_width; out_width = t.out_width; entries = t.entries.items }) };
+    ghost invariant = { λ t. IsTable t.spec };
 }
 
 impl Table {
-    /// The widest input has this many bits.
-    pub const MAX_IN_WIDTH: u32 = 12;
-
     /// The table of these entries, in order of the input. A table of `in_width` bits needs 2 to the `in_width` of them.
     pub fn new(in_width: u32, out_width: u32, entries: Vec<Bits>) -> Result<Table, TableLength>
-        requires input { IsInputWidth in_width }
-        requires entries { HaveWidth out_width entries.items }
+        requires some_input { 1 ≤ in_width }
+        requires few_inputs { in_width ≤ MAX_TABLE_IN_WIDTH }
+        requires entries { All (λ (entry : BitVector). HasWidth entry out_width) entries.items }
         ensures ok { IsOk result ↔ (length entries.items ≡ 2 ^ in_width) }
         ensures table { IfOk result
             (λ table. table ≡ record { in_width = in_width; out_width = out_width; entries = entries.items }) }
@@ -40,10 +40,13 @@ impl Table {
         if entries.len() != 1 << in_width {
             return Err(TableLength);
         }
+        let entries = Sequence::from_vec(entries);
         Ok(Table {
-            in_width,
-            out_width,
-            entries,
+            spec: TableSpec {
+                in_width,
+                out_width,
+                entries,
+            },
         })
     }
 
@@ -52,7 +55,7 @@ impl Table {
         ensures width { result ≡ self.now.in_width }
         ensures table { IsTable self.now }
     {
-        self.in_width
+        self.spec.in_width
     }
 
     /// How many bits an entry has.
@@ -60,7 +63,7 @@ impl Table {
         ensures width { result ≡ self.now.out_width }
         ensures table { IsTable self.now }
     {
-        self.out_width
+        self.spec.out_width
     }
 
     /// The entry of this input.
@@ -69,7 +72,7 @@ impl Table {
         ensures entry { slice_get self.now.entries x.number ≡ Some result }
         ensures width { HasWidth result self.now.out_width }
     {
-        self.entries[x.number() as usize]
+        *self.spec.entries.get(x.number() as usize)
     }
 }
 
@@ -97,7 +100,7 @@ mod tests {
     fn crosses_threads<T: Send + Sync>(_: &T) {}
 
     fn entries(alloc: Global, numbers: &[u128]) -> Result<Vec<Bits>, Fail>
-        ensures { IfOk result (λ entries. HaveWidth 4 entries.items) }
+        ensures { IfOk result (λ entries. All (λ entry. HasWidth entry 4) entries.items) }
     {
         let mut entries = Vec::new(alloc);
         for number in numbers {

@@ -1,6 +1,8 @@
 pub mod Events
+pub mod WidthLists
 pub mod Values
 pub mod Typed
+pub mod Readings
 pub mod Ready
 pub mod Widths
 pub mod Paths

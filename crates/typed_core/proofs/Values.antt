@@ -1,14 +1,15 @@
 -- The values that parts of actions come to have the widths that their types say.
-use Rattle.std.proofs.Common.{◌≡◌, ℕ, zero, suc, ◌+◌, ◌-◌, ◌^◌, ◌<◌, ◌≤◌, List, [], ◌∷◌, length, Option, Some, All, refl, sym, ap, ◌∙◌, subst, arith}
-use Rattle.std.specs.Prelude.{slice_get, slice_index_or}
+use Rattle.std.proofs.Common.{◌≡◌, ℕ, ◌+◌, ◌-◌, ◌^◌, ◌<◌, ◌≤◌, List, length, Option, Some, All, refl, sym, ap, ◌∙◌, subst, arith}
+use Rattle.std.specs.Prelude.{slice_get}
 use Rattle.std.proofs.lemmas.Option.{slice_get_within, get_or_from_slice_get}
 use Rattle.kw_bits.specs.BitVector.{BitVector}
 use Rattle.kw_bits.specs.Host as host
+use Rattle.kw_bits.specs.Laws.{HasWidth}
 use Rattle.kw_bits.specs.Operators as op
 use Rattle.kw_bits.proofs.OperatorLaws as laws
-use Rattle.typed_core.specs.Alone.{answer_of, entry_of, one, two, unit}
-use Rattle.typed_core.specs.Fits.{FitsLocals, FitsWidth}
-use Rattle.typed_core.specs.Valid.{HasBits, HasHost, HasTable, IsHost, IsTable, OneHasWidth, TwoHasWidth}
+use Rattle.typed_core.specs.Evaluation.{answer_of, apply_one, apply_two, entry_of, unit}
+use Rattle.typed_core.specs.Fits.{ValueFits}
+use Rattle.typed_core.specs.Valid.{HostHasWidth, IsHost, IsTable, OneHasWidth, TableHasWidth, TwoHasWidth}
 use Rattle.typed_core.specs.declared.action.OneOp.{OneOp}
 use Rattle.typed_core.specs.declared.action.OneOp.TheVariants.{Not, Neg, RedAnd, RedOr, RedXor}
 use Rattle.typed_core.specs.declared.action.TwoOp.{TwoOp}
@@ -16,28 +17,19 @@ use Rattle.typed_core.specs.declared.action.TwoOp.TheVariants.{And, Or, Xor, Add
 use Rattle.typed_core.specs.declared.design.HostSpec.{HostSpec}
 use Rattle.typed_core.specs.declared.design.TableSpec.{TableSpec}
 
-pub FitsWidth-unit : FitsWidth 0 unit
-FitsWidth-unit = record { as_wide = refl; bits = λ h. absurd (omega arith) }
+pub ValueFits-unit : ValueFits 0 unit
+ValueFits-unit = record { as_wide = refl; bits = λ h. absurd (omega arith) }
 
-pub FitsWidth-bits : (width : ℕ) (value : BitVector) → HasBits width value → FitsWidth width value
-FitsWidth-bits width value h = record { as_wide = h.1; bits = λ _. h.0 }
+pub ValueFits-bits : (width : ℕ) (value : BitVector) → HasWidth value width → ValueFits width value
+ValueFits-bits width value h = record { as_wide = h.1; bits = λ _. h.0 }
 
-pub bits_of : (width : ℕ) (value : BitVector) → 1 ≤ width → FitsWidth width value → HasBits width value
+pub bits_of : (width : ℕ) (value : BitVector) → 1 ≤ width → ValueFits width value → HasWidth value width
 bits_of width value some f = (f.bits some, f.as_wide)
 
-at_width : (v w : ℕ) (value : BitVector) → v ≡ w → HasBits v value → HasBits w value
-at_width v w value e h = subst (λ (n : ℕ). HasBits n value) e h
+at_width : (v w : ℕ) (value : BitVector) → v ≡ w → HasWidth value v → HasWidth value w
+at_width v w value e h = subst (λ (n : ℕ). HasWidth value n) e h
 
--- a bound name has a value of its width
-pub local_fits : (widths : List ℕ) (values : List BitVector) (name width : ℕ) → FitsLocals widths values → slice_get widths name ≡ Some width → HasBits width (slice_index_or values name unit)
-local_fits [] values name width f e = absurd cc
-local_fits (w ∷ widths) [] name width f e = absurd f
-local_fits (w ∷ widths) (value ∷ values) zero width f e =
-    let same : w ≡ width = cc in
-    at_width w width value same f.0
-local_fits (w ∷ widths) (value ∷ values) (suc name) width f e = local_fits widths values name width f.1 e
-
-pub one_fits : (operator : OneOp) (operand width : ℕ) (x : BitVector) → HasBits operand x → OneHasWidth operator operand width → HasBits width (one operator x)
+pub one_fits : (operator : OneOp) (operand width : ℕ) (x : BitVector) → HasWidth x operand → OneHasWidth operator operand width → HasWidth (apply_one operator x) width
 one_fits Not operand width x h t = at_width _ _ _ (h.1 ∙ t) (laws.not-HasWidth x h.0)
 one_fits Neg operand width x h t = at_width _ _ _ (h.1 ∙ t) (laws.neg-HasWidth x h.0)
 one_fits RedAnd operand width x h t = at_width _ _ _ (sym t) (laws.redand-HasWidth x h.0)
@@ -45,10 +37,10 @@ one_fits RedOr operand width x h t = at_width _ _ _ (sym t) (laws.redor-HasWidth
 one_fits RedXor operand width x h t = at_width _ _ _ (sym t) (laws.redxor-HasWidth x h.0)
 
 -- operands of one width
-alike : (left right : ℕ) (x y : BitVector) → HasBits left x → HasBits right y → left ≡ right → x.width ≡ y.width
+alike : (left right : ℕ) (x y : BitVector) → HasWidth x left → HasWidth y right → left ≡ right → x.width ≡ y.width
 alike left right x y h k e = h.1 ∙ e ∙ sym k.1
 
-pub two_fits : (operator : TwoOp) (left right width : ℕ) (x y : BitVector) → HasBits left x → HasBits right y → TwoHasWidth operator left right width → HasBits width (two operator x y)
+pub two_fits : (operator : TwoOp) (left right width : ℕ) (x y : BitVector) → HasWidth x left → HasWidth y right → TwoHasWidth operator left right width → HasWidth (apply_two operator x y) width
 two_fits And left right width x y h k t = at_width _ _ _ (h.1 ∙ sym t.1) (laws.and-HasWidth x y h.0 k.0 (alike _ _ x y h k t.0))
 two_fits Or left right width x y h k t = at_width _ _ _ (h.1 ∙ sym t.1) (laws.or-HasWidth x y h.0 k.0 (alike _ _ x y h k t.0))
 two_fits Xor left right width x y h k t = at_width _ _ _ (h.1 ∙ sym t.1) (laws.xor-HasWidth x y h.0 k.0 (alike _ _ x y h k t.0))
@@ -67,13 +59,13 @@ two_fits Concat left right width x y h k t =
     let sum : x.width + y.width ≡ width = ap (λ n. n + y.width) h.1 ∙ ap (λ n. left + n) k.1 ∙ sym t.1 in
     at_width _ _ _ sum (laws.concat-HasWidth x y h.0 k.0 (omega (arith, t.0, h.1, k.1)))
 
-pub slice_fits : (operand upper lower : ℕ) (x : BitVector) → HasBits operand x → lower ≤ upper → upper < operand → HasBits (upper - lower + 1) (op.slice x upper lower)
+pub slice_fits : (operand upper lower : ℕ) (x : BitVector) → HasWidth x operand → lower ≤ upper → upper < operand → HasWidth (op.slice x upper lower) (upper - lower + 1)
 slice_fits operand upper lower x h order within = laws.slice-HasWidth x upper lower h.0 order (omega (arith, h.1, within))
 
-pub zext_fits : (operand to : ℕ) (x : BitVector) → HasBits operand x → operand ≤ to → to ≤ 128 → HasBits to (op.zext x to)
+pub zext_fits : (operand to : ℕ) (x : BitVector) → HasWidth x operand → operand ≤ to → to ≤ 128 → HasWidth (op.zext x to) to
 zext_fits operand to x h wider most = laws.zext-HasWidth x to h.0 (omega (arith, h.1, wider)) most
 
-pub sext_fits : (operand to : ℕ) (x : BitVector) → HasBits operand x → operand ≤ to → to ≤ 128 → HasBits to (op.sext x to)
+pub sext_fits : (operand to : ℕ) (x : BitVector) → HasWidth x operand → operand ≤ to → to ≤ 128 → HasWidth (op.sext x to) to
 sext_fits operand to x h wider most = laws.sext-HasWidth x to h.0 (omega (arith, h.1, wider)) most
 
 -- what holds of all items of a list holds of one that was found in it
@@ -81,16 +73,16 @@ pub found_holds : {X : Type 0} (P : X → Type 0) (xs : List X) (k : ℕ) (x : X
 found_holds P xs k x all e = subst P (get_or_from_slice_get xs k x x e) (all k x (slice_get_within xs k x e))
 
 -- a table's entry has the table's output width
-pub entry_fits : (tables : List TableSpec) (table operand width : ℕ) (x : BitVector) → All IsTable tables → HasTable tables table operand width → HasBits operand x → HasBits width (entry_of (slice_get tables table) x)
+pub entry_fits : (tables : List TableSpec) (table operand width : ℕ) (x : BitVector) → All IsTable tables → TableHasWidth tables table operand width → HasWidth x operand → HasWidth (entry_of (slice_get tables table) x) width
 entry_fits tables table operand width x all (spec, found, takes, gives) h =
     let valid = found_holds IsTable tables table spec all found in
     let within : x.number < length spec.entries = subst (λ (n : ℕ). x.number < n) (ap (λ n. 2 ^ n) (h.1 ∙ sym takes) ∙ sym valid.count) h.0.in_range in
-    subst (λ (o : Option TableSpec). HasBits width (entry_of o x)) (sym found) (at_width _ _ _ gives (valid.entries x.number unit within))
+    subst (λ (o : Option TableSpec). HasWidth (entry_of o x) width) (sym found) (at_width _ _ _ gives (valid.entries x.number unit within))
 
 -- a host function's answer has its output width
-pub answer_fits : (hosts : List HostSpec) (number operand width : ℕ) (x : BitVector) → All IsHost hosts → HasHost hosts number operand width → HasBits operand x → HasBits width (answer_of (slice_get hosts number) x)
+pub answer_fits : (hosts : List HostSpec) (number operand width : ℕ) (x : BitVector) → All IsHost hosts → HostHasWidth hosts number operand width → HasWidth x operand → HasWidth (answer_of (slice_get hosts number) x) width
 answer_fits hosts number operand width x all (spec, found, takes, gives) h =
     let valid = found_holds IsHost hosts number spec all found in
     let same : x.width ≡ spec.in_width = h.1 ∙ sym takes in
-    subst (λ (o : Option HostSpec). HasBits width (answer_of o x)) (sym found)
+    subst (λ (o : Option HostSpec). HasWidth (answer_of o x) width) (sym found)
     (at_width _ _ _ (ap (host.out_width spec.kind) same ∙ gives) (laws.host-HasWidth spec.kind x h.0 (subst (λ (w : ℕ). host.TakesWidth spec.kind w) (sym same) valid)))

@@ -1,4 +1,4 @@
--- Which pairs of accesses at ports clash, as a table, after the checks of Koika's logs (Bourgeat et al., PLDI 2020).
+-- Which pairs of accesses at ports clash, as a table, after the checks of Kôika's logs (Bourgeat et al., PLDI 2020).
 use Rattle.std.specs.Prelude.{◌≡◌, ◌≢◌, ◌↔◌, ℕ, ◌<◌, ◌≤◌, true, false}
 use Rattle.typed_core.specs.Clash.{clashes}
 use Rattle.typed_core.specs.declared.access.Access.{Access}

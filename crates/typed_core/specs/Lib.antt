@@ -1,9 +1,11 @@
 pub mod Clash
+pub mod Evaluation
 pub mod Alone
+pub mod Widths
 pub mod Valid
 pub mod Fits
 pub mod Scope
-pub mod Width
+pub mod Finds
 pub mod Paths
 pub mod Laws
 pub mod Same

@@ -1,6 +1,6 @@
 -- Which designs are equal by value. Where the parts of an action lie in memory is no part of its value.
 use Rattle.std.specs.Prelude.{◌≡◌, List, [], ◌∷◌, map}
-use Rattle.typed_core.specs.Alone.{Surroundings, alone}
+use Rattle.typed_core.specs.Evaluation.{Environment, Ports, evaluate}
 use Rattle.typed_core.specs.declared.action.Action.{Action}
 use Rattle.typed_core.specs.declared.action.Action.TheVariants as action
 use Rattle.typed_core.specs.declared.design.Rule.{Rule}
@@ -46,12 +46,13 @@ pub record SameDesign (d e : Parts) : Type 0 where
   pub rules : SameRules d.rules e.rules
   pub nodes : d.nodes ≡ e.nodes
 
--- the designs have the same declarations, names and scheduler, and each rule's body does the same alone
-pub record AreSame (d e : Parts) : Type 0 where
+-- the designs have the same declarations, names and scheduler, and each rule's body comes to the same in every
+-- environment, whatever the ports answer
+pub record DoTheSame (S : Type 0) (d e : Parts) : Type 0 where
   pub regs : d.regs ≡ e.regs
   pub inputs : d.inputs ≡ e.inputs
   pub tables : d.tables ≡ e.tables
   pub hosts : d.hosts ≡ e.hosts
   pub names : map (λ (rule : Rule). rule.name) d.rules ≡ map (λ (rule : Rule). rule.name) e.rules
-  pub bodies : (s : Surroundings) → map (λ (rule : Rule). alone s rule.body) d.rules ≡ map (λ (rule : Rule). alone s rule.body) e.rules
+  pub bodies : (env : Environment) (ports : Ports S) → map (λ (rule : Rule). evaluate env ports rule.body [] []) d.rules ≡ map (λ (rule : Rule). evaluate env ports rule.body [] []) e.rules
   pub nodes : d.nodes ≡ e.nodes

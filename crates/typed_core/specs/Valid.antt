@@ -1,9 +1,11 @@
 -- Which designs are valid: the conditions on a design's parts that its type keeps, after the typing of
--- Koika's core (Bourgeat et al., PLDI 2020) at bit vectors of 1 to 128 bits. It says nothing of how large a body is.
+-- Kôika's core (Bourgeat et al., PLDI 2020) at bit vectors of 1 to 128 bits. It says nothing of how large a body is.
 use Rattle.std.specs.Prelude.{◌≡◌, ℕ, ◌+◌, ◌-◌, ◌<◌, ◌≤◌, ◌^◌, ◌⊎◌, List, [], ◌∷◌, length, All, AllPairs, slice_get, Some, ◌≢◌}
 use Rattle.kw_bits.specs.BitVector.{BitVector}
 use Rattle.kw_bits.specs.Host as host
-use Rattle.kw_bits.specs.Laws as vector
+use Rattle.kw_bits.specs.Laws.{HasWidth}
+use Rattle.typed_core.specs.Evaluation.{Externs}
+use Rattle.typed_core.specs.Widths.{input_widths, register_widths}
 use Rattle.typed_core.specs.declared.action.OneOp.{OneOp}
 use Rattle.typed_core.specs.declared.action.OneOp.TheVariants.{Not, Neg, RedAnd, RedOr, RedXor}
 use Rattle.typed_core.specs.declared.action.TwoOp.{TwoOp}
@@ -19,43 +21,34 @@ use Rattle.typed_core.specs.declared.design.Node.{Node}
 use Rattle.typed_core.specs.declared.design.Next.{Next}
 use Rattle.typed_core.specs.declared.design.Next.TheVariants as next
 use Rattle.typed_core.specs.declared.design.Parts.{Parts}
+use Rattle.typed_core.specs.declared.limits.TheConstants.{PORTS, MAX_REGISTERS, MAX_INPUTS, MAX_RULES, MAX_NODES, MAX_TABLE_IN_WIDTH}
 
 -- a width of bit vectors
 abbrev pub IsWidth : ℕ → Type 0
 IsWidth width = (1 ≤ width) × (width ≤ 128)
 
--- the vector is one of this width
-abbrev pub HasBits : ℕ → BitVector → Type 0
-HasBits width value = vector.HasWidth value width
-
--- the register of this number has this width
-abbrev pub HasRegister : List RegDecl → ℕ → ℕ → Type 0
-HasRegister regs register width = (decl : RegDecl) × (slice_get regs register ≡ Some decl) × (decl.width ≡ width)
-
 -- a port of a register
 abbrev pub IsPort : ℕ → Type 0
-IsPort port = port ≤ 1
+IsPort port = port < PORTS
 
--- what the actions of a design may name
+-- what the actions of a design may name: registers and inputs of these widths, and tables and host functions
 pub record Declarations : Type 0 where
-  pub regs : List RegDecl
-  pub inputs : List InputDecl
-  pub tables : List TableSpec
-  pub hosts : List HostSpec
+  pub regs : List ℕ
+  pub inputs : List ℕ
+  pub externs : Externs
+
+abbrev pub externs_of : Parts → Externs
+externs_of design = record { tables = design.tables; hosts = design.hosts }
 
 abbrev pub declarations : Parts → Declarations
-declarations parts = record { regs = parts.regs; inputs = parts.inputs; tables = parts.tables; hosts = parts.hosts }
-
--- the input of this number has this width
-abbrev pub HasInput : List InputDecl → ℕ → ℕ → Type 0
-HasInput inputs input width = (decl : InputDecl) × (slice_get inputs input ≡ Some decl) × (decl.width ≡ width)
+declarations design = record { regs = register_widths design; inputs = input_widths design; externs = externs_of design }
 
 -- the table, and the host function, of this number takes vectors of one width and answers ones of another
-abbrev pub HasTable : List TableSpec → ℕ → ℕ → ℕ → Type 0
-HasTable tables table operand width = (spec : TableSpec) × (slice_get tables table ≡ Some spec) × (spec.in_width ≡ operand) × (spec.out_width ≡ width)
+abbrev pub TableHasWidth : List TableSpec → ℕ → ℕ → ℕ → Type 0
+TableHasWidth tables table operand width = (spec : TableSpec) × (slice_get tables table ≡ Some spec) × (spec.in_width ≡ operand) × (spec.out_width ≡ width)
 
-abbrev pub HasHost : List HostSpec → ℕ → ℕ → ℕ → Type 0
-HasHost hosts number operand width = (spec : HostSpec) × (slice_get hosts number ≡ Some spec) × (spec.in_width ≡ operand) × (host.out_width spec.kind spec.in_width ≡ width)
+abbrev pub HostHasWidth : List HostSpec → ℕ → ℕ → ℕ → Type 0
+HostHasWidth hosts number operand width = (spec : HostSpec) × (slice_get hosts number ≡ Some spec) × (spec.in_width ≡ operand) × (host.out_width spec.kind spec.in_width ≡ width)
 
 -- an operand of this width has a result of this width
 abbrev pub OneHasWidth : OneOp → ℕ → ℕ → Type 0
@@ -89,57 +82,56 @@ TakesTwo operator x y = (width : ℕ) × TwoHasWidth operator x.width y.width wi
 
 -- The action comes to a value of this width, or to none where the width is 0, with names of these widths bound round
 -- it, the innermost first. Operands come to values.
-abbrev pub HasWidth : Declarations → Action → List ℕ → ℕ → Type 0
-HasWidth d action.Unit locals width = width ≡ 0
-HasWidth d (action.Const value) locals width = HasBits width value
-HasWidth d (action.Local name) locals width = slice_get locals name ≡ Some width
-HasWidth d (action.Input input) locals width = HasInput d.inputs input width
-HasWidth d (action.One' operator p a) locals width =
-    (operand : ℕ) × HasWidth d a locals operand × (1 ≤ operand) × OneHasWidth operator operand width
-HasWidth d (action.Two' operator p a q b) locals width =
-    (left : ℕ) × (right : ℕ) × HasWidth d a locals left × HasWidth d b locals right × (1 ≤ left) × (1 ≤ right) × TwoHasWidth operator left right width
-HasWidth d (action.Slice' p a upper lower) locals width =
-    (operand : ℕ) × HasWidth d a locals operand × (lower ≤ upper) × (upper < operand) × (width ≡ upper - lower + 1)
-HasWidth d (action.Zext' p a to) locals width =
-    (operand : ℕ) × HasWidth d a locals operand × (1 ≤ operand) × (operand ≤ to) × (to ≤ 128) × (width ≡ to)
-HasWidth d (action.Sext' p a to) locals width =
-    (operand : ℕ) × HasWidth d a locals operand × (1 ≤ operand) × (operand ≤ to) × (to ≤ 128) × (width ≡ to)
-HasWidth d (action.Table' table p a) locals width =
-    (operand : ℕ) × HasWidth d a locals operand × (1 ≤ operand) × HasTable d.tables table operand width
-HasWidth d (action.Host' number p a) locals width =
-    (operand : ℕ) × HasWidth d a locals operand × (1 ≤ operand) × HasHost d.hosts number operand width
-HasWidth d (action.Let' p value q body) locals width =
-    (bound : ℕ) × HasWidth d value locals bound × (1 ≤ bound) × HasWidth d body (bound ∷ locals) width
-HasWidth d (action.If' p condition q first r second) locals width =
-    HasWidth d condition locals 1 × HasWidth d first locals width × HasWidth d second locals width
-HasWidth d (action.Seq' p first q second) locals width =
-    (dropped : ℕ) × HasWidth d first locals dropped × HasWidth d second locals width
-HasWidth d (action.Read port register) locals width = IsPort port × HasRegister d.regs register width
-HasWidth d (action.Write' port register p a) locals width =
-    (held : ℕ) × HasWidth d a locals held × IsPort port × HasRegister d.regs register held × (width ≡ 0)
-HasWidth d action.Abort locals width = width ≡ 0
+abbrev pub ActionHasWidth : Declarations → Action → List ℕ → ℕ → Type 0
+ActionHasWidth d action.Unit locals width = width ≡ 0
+ActionHasWidth d (action.Const value) locals width = HasWidth value width
+ActionHasWidth d (action.Local name) locals width = slice_get locals name ≡ Some width
+ActionHasWidth d (action.Input input) locals width = slice_get d.inputs input ≡ Some width
+ActionHasWidth d (action.One' operator p a) locals width =
+    (operand : ℕ) × ActionHasWidth d a locals operand × (1 ≤ operand) × OneHasWidth operator operand width
+ActionHasWidth d (action.Two' operator p a q b) locals width =
+    (left : ℕ) × (right : ℕ) × ActionHasWidth d a locals left × ActionHasWidth d b locals right × (1 ≤ left) × (1 ≤ right) × TwoHasWidth operator left right width
+ActionHasWidth d (action.Slice' p a upper lower) locals width =
+    (operand : ℕ) × ActionHasWidth d a locals operand × (lower ≤ upper) × (upper < operand) × (width ≡ upper - lower + 1)
+ActionHasWidth d (action.Zext' p a to) locals width =
+    (operand : ℕ) × ActionHasWidth d a locals operand × (1 ≤ operand) × (operand ≤ to) × (to ≤ 128) × (width ≡ to)
+ActionHasWidth d (action.Sext' p a to) locals width =
+    (operand : ℕ) × ActionHasWidth d a locals operand × (1 ≤ operand) × (operand ≤ to) × (to ≤ 128) × (width ≡ to)
+ActionHasWidth d (action.Table' table p a) locals width =
+    (operand : ℕ) × ActionHasWidth d a locals operand × (1 ≤ operand) × TableHasWidth d.externs.tables table operand width
+ActionHasWidth d (action.Host' number p a) locals width =
+    (operand : ℕ) × ActionHasWidth d a locals operand × (1 ≤ operand) × HostHasWidth d.externs.hosts number operand width
+ActionHasWidth d (action.Let' p value q body) locals width =
+    (bound : ℕ) × ActionHasWidth d value locals bound × (1 ≤ bound) × ActionHasWidth d body (bound ∷ locals) width
+ActionHasWidth d (action.If' p condition q first r second) locals width =
+    ActionHasWidth d condition locals 1 × ActionHasWidth d first locals width × ActionHasWidth d second locals width
+ActionHasWidth d (action.Seq' p first q second) locals width =
+    (dropped : ℕ) × ActionHasWidth d first locals dropped × ActionHasWidth d second locals width
+ActionHasWidth d (action.Read port register) locals width = IsPort port × (slice_get d.regs register ≡ Some width)
+ActionHasWidth d (action.Write' port register p a) locals width =
+    (held : ℕ) × ActionHasWidth d a locals held × IsPort port × (slice_get d.regs register ≡ Some held) × (width ≡ 0)
+ActionHasWidth d action.Abort locals width = width ≡ 0
 
 -- the action is typed: it has a width, which is 0 for one that comes to no value
 abbrev pub IsTyped : Declarations → Action → List ℕ → Type 0
-IsTyped d action locals = (width : ℕ) × HasWidth d action locals width
+IsTyped d action locals = (width : ℕ) × ActionHasWidth d action locals width
 
 -- the action may be an operand: it comes to a value
 abbrev pub IsOperand : Declarations → Action → List ℕ → Type 0
-IsOperand d action locals = (width : ℕ) × HasWidth d action locals width × (1 ≤ width)
+IsOperand d action locals = (width : ℕ) × ActionHasWidth d action locals width × (1 ≤ width)
 
 -- a register's first value has its width
 abbrev pub IsRegister : RegDecl → Type 0
-IsRegister decl = HasBits decl.width decl.first
+IsRegister decl = HasWidth decl.first decl.width
 
--- a table has an entry for each number of its input width
+-- a table has an entry of its output width for each number of its input width
 pub record IsTable (table : TableSpec) : Type 0 where
   pub some_input : 1 ≤ table.in_width
-  pub few_inputs : table.in_width ≤ 12
-  pub out_width : IsWidth table.out_width
+  pub few_inputs : table.in_width ≤ MAX_TABLE_IN_WIDTH
   pub count : length table.entries ≡ 2 ^ table.in_width
-  pub entries : All (HasBits table.out_width) table.entries
+  pub entries : All (λ (entry : BitVector). HasWidth entry table.out_width) table.entries
 
--- a host function takes a width that its kind has
+-- a host function's input may have its width
 abbrev pub IsHost : HostSpec → Type 0
 IsHost spec = host.TakesWidth spec.kind spec.in_width
 
@@ -177,14 +169,14 @@ TriesNoneTwice nodes = (path : List ℕ) → IsPath nodes 0 path → AllPairs (T
 
 -- a design of these parts is valid
 pub record IsValid (parts : Parts) : Type 0 where
-  pub few_registers : length parts.regs ≤ 256
+  pub few_registers : length parts.regs ≤ MAX_REGISTERS
   pub registers : All IsRegister parts.regs
-  pub few_inputs : length parts.inputs ≤ 256
+  pub few_inputs : length parts.inputs ≤ MAX_INPUTS
   pub inputs : All (λ (input : InputDecl). IsWidth input.width) parts.inputs
   pub tables : All IsTable parts.tables
   pub hosts : All IsHost parts.hosts
-  pub few_rules : length parts.rules ≤ 256
-  pub rules : All (λ (rule : Rule). HasWidth (declarations parts) rule.body [] 0) parts.rules
-  pub few_nodes : length parts.nodes ≤ 1024
+  pub few_rules : length parts.rules ≤ MAX_RULES
+  pub rules : All (λ (rule : Rule). ActionHasWidth (declarations parts) rule.body [] 0) parts.rules
+  pub few_nodes : length parts.nodes ≤ MAX_NODES
   pub nodes : AreNodes (length parts.rules) parts.nodes
   pub once : TriesNoneTwice parts.nodes

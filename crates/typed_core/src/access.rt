@@ -8,7 +8,7 @@ use kw_bits::{Bits, Sequence};
 pub struct Access {
     /// Whether it is a write.
     pub write: bool,
-    /// The port, 0 or 1.
+    /// The port, below `PORTS`.
     pub port: u32,
     /// The register's number.
     pub register: u32,

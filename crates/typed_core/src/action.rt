@@ -1,3 +1,7 @@
+ghost use Rattle.std.specs.Prelude.{◌≡◌};
+ghost use Rattle.typed_core.specs.Evaluation.{apply_one, apply_two};
+ghost use Rattle.typed_core.specs.Valid.{TakesTwo};
+
 use kw_bits::Bits;
 
 /// An operator with one operand.
@@ -8,6 +12,21 @@ pub enum OneOp {
     RedAnd,
     RedOr,
     RedXor,
+}
+
+impl OneOp {
+    /// The operator's value on an operand.
+    pub fn apply(self, x: Bits) -> Bits
+        ensures { result ≡ apply_one self x }
+    {
+        match self {
+            OneOp::Not => x.not(),
+            OneOp::Neg => x.neg(),
+            OneOp::RedAnd => x.redand(),
+            OneOp::RedOr => x.redor(),
+            OneOp::RedXor => x.redxor(),
+        }
+    }
 }
 
 /// An operator with two operands.
@@ -29,6 +48,32 @@ pub enum TwoOp {
     Slte,
     /// The left operand's bits stand above the right one's.
     Concat,
+}
+
+impl TwoOp {
+    /// The operator's value on two operands of one width, or for `Concat` on two of at most 128 bits together.
+    pub fn apply(self, x: Bits, y: Bits) -> Bits
+        requires { TakesTwo self x y }
+        ensures { result ≡ apply_two self x y }
+    {
+        match self {
+            TwoOp::And => x.and(y),
+            TwoOp::Or => x.or(y),
+            TwoOp::Xor => x.xor(y),
+            TwoOp::Add => x.add(y),
+            TwoOp::Sub => x.sub(y),
+            TwoOp::Mul => x.mul(y),
+            TwoOp::Sll => x.sll(y),
+            TwoOp::Srl => x.srl(y),
+            TwoOp::Sra => x.sra(y),
+            TwoOp::EqBits => x.eq_bits(y),
+            TwoOp::Ult => x.ult(y),
+            TwoOp::Ulte => x.ulte(y),
+            TwoOp::Slt => x.slt(y),
+            TwoOp::Slte => x.slte(y),
+            TwoOp::Concat => x.concat(y),
+        }
+    }
 }
 
 /// What a rule does: an expression over bit vectors that may read and write registers.

@@ -1,7 +1,7 @@
 ghost use Rattle.std.specs.Prelude.{◌≡◌, ◌↔◌, IsSome, IfSome, IsTrue};
 
 use crate::action::Action;
-use crate::same::are_same_rules;
+use crate::equality::are_same_rules;
 use crate::validity::is_valid;
 use kw_bits::{Bits, HostKind, Sequence, Text};
 use std::marker::Model;

@@ -1,16 +1,17 @@
 //! The core language: designs whose rules are actions on bit vectors.
 //!
-//! `specs/Alone.antt` says what a rule does when it runs alone, `specs/Clash.antt` which two accesses
-//! cannot share a cycle, `specs/Valid.antt` which designs are valid. A `Design` is valid by its type.
-//! The checker's lowering makes designs; every engine runs them.
+//! `specs/Evaluation.antt` says what an action comes to, `specs/Alone.antt` what a rule does when it runs alone,
+//! `specs/Clash.antt` which two accesses cannot share a cycle, `specs/Valid.antt` which designs are valid. A `Design`
+//! is valid by its type. The checker's lowering makes designs; every engine runs them.
 #![tactic(auto)]
 
 mod access;
 mod action;
 mod design;
+mod equality;
 mod laws;
-mod run_alone;
-mod same;
+pub mod limits;
+mod outcome;
 mod schedule;
 mod scope;
 mod validity;
@@ -22,5 +23,5 @@ pub use design::{Design, HostSpec, InputDecl, Next, Node, Parts, RegDecl, Rule, 
 pub use laws::{
     accesses_clash_by_their_ports, equal_designs_do_the_same, equality_is_an_equivalence,
 };
-pub use run_alone::{Alone, Outcome};
+pub use outcome::{Alone, Outcome, Stopped};
 pub use scope::Scope;

@@ -3,9 +3,7 @@ ghost use Rattle.typed_core.specs.Paths.{AreMost, Ascends, IsMost, number_behind
 ghost use Rattle.typed_core.specs.Valid.{AreNodes, IsContinuation, TriesNoneTwice};
 
 use crate::design::{Next, Node};
-
-/// A scheduler has at most this many nodes.
-pub(crate) const MAX_NODES: usize = 1024;
+use crate::limits::MAX_NODES;
 
 /// Whether no rule stands twice on a path from the root, in a scheduler whose nodes are valid.
 pub(crate) fn tries_none_twice(nodes: &[Node], rules: usize) -> bool

@@ -1,20 +1,14 @@
 ghost use Rattle.std.specs.Prelude.{◌≤◌, ◌↔◌, All, IsTrue, length, []};
-ghost use Rattle.typed_core.specs.Valid.{AreNodes, declarations, HasBits, HasWidth, IsContinuation, IsHost, IsNode, IsRegister, IsTable, IsValid, IsWidth, TriesNoneTwice};
+ghost use Rattle.kw_bits.specs.Laws.{HasWidth};
+ghost use Rattle.typed_core.specs.Valid.{ActionHasWidth, AreNodes, declarations, IsContinuation, IsHost, IsNode, IsRegister, IsTable, IsValid, IsWidth, TriesNoneTwice};
 
 use crate::action::Action;
 use crate::design::{HostSpec, InputDecl, Next, Node, Parts, RegDecl, TableSpec};
-use crate::schedule::{MAX_NODES, tries_none_twice};
+use crate::limits::{MAX_INPUTS, MAX_NODES, MAX_REGISTERS, MAX_RULES, MAX_TABLE_IN_WIDTH};
+use crate::schedule::tries_none_twice;
 use crate::scope::Scope;
 use crate::width::width_of;
 use kw_bits::{Bits, Sequence};
-
-const MAX_REGISTERS: usize = 256;
-
-const MAX_INPUTS: usize = 256;
-
-const MAX_RULES: usize = 256;
-
-const MAX_TABLE_IN_WIDTH: u32 = 12;
 
 /// Whether a design of these parts is valid.
 pub(crate) fn is_valid(parts: &Parts) -> bool
@@ -41,7 +35,7 @@ fn is_register(decl: &RegDecl) -> bool
 }
 
 fn has_width(value: &Bits, width: u32) -> bool
-    ensures { IsTrue result ↔ HasBits width value.now }
+    ensures { IsTrue result ↔ HasWidth value.now width }
 {
     value.width() == width
 }
@@ -70,13 +64,12 @@ fn is_table(table: &TableSpec) -> bool
 {
     1 <= table.in_width
         && table.in_width <= MAX_TABLE_IN_WIDTH
-        && is_width(table.out_width)
         && table.entries.len() == 1 << table.in_width
         && have_width(table.entries.as_slice(), table.out_width)
 }
 
 fn have_width(values: &[Bits], width: u32) -> bool
-    ensures { IsTrue result ↔ All (HasBits width) values.now }
+    ensures { IsTrue result ↔ All (λ value. HasWidth value width) values.now }
 {
     values.iter().all(|value| has_width(value, width))
 }
@@ -96,7 +89,7 @@ fn is_host(spec: &HostSpec) -> bool
 fn are_rules(parts: &Parts) -> bool
     ensures { IsTrue result
         ↔ (length parts.now.rules ≤ MAX_RULES)
-        × All (λ rule. HasWidth (declarations parts.now) rule.body [] 0) parts.now.rules }
+        × All (λ rule. ActionHasWidth (declarations parts.now) rule.body [] 0) parts.now.rules }
 {
     let rules = parts.rules.as_slice();
     rules.len() <= MAX_RULES && rules.iter().all(|rule| is_unit(parts, &rule.body))
@@ -104,7 +97,7 @@ fn are_rules(parts: &Parts) -> bool
 
 // Whether a rule's body is typed and comes to no value.
 fn is_unit(parts: &Parts, body: &Action) -> bool
-    ensures { IsTrue result ↔ HasWidth (declarations parts.now) body.now [] 0 }
+    ensures { IsTrue result ↔ ActionHasWidth (declarations parts.now) body.now [] 0 }
 {
     width_of(parts, body, &Scope::empty()) == Some(0)
 }

@@ -1,16 +1,18 @@
-ghost use Rattle.std.specs.Prelude.{◌≡◌, ◌+◌, ◌-◌, ◌≤◌, ◌<◌, slice_get};
-ghost use Rattle.typed_core.specs.Width.{Finds};
-ghost use Rattle.typed_core.specs.Valid.{declarations, HasHost, HasInput, HasRegister, HasTable, HasWidth, IsPort, OneHasWidth, TwoHasWidth};
+ghost use Rattle.std.specs.Prelude.{◌≡◌, ◌+◌, ◌-◌, ◌≤◌, ◌<◌, slice_get, Some};
+ghost use Rattle.typed_core.specs.Finds.{Finds};
+ghost use Rattle.typed_core.specs.Widths.{input_widths, register_widths};
+ghost use Rattle.typed_core.specs.Valid.{ActionHasWidth, declarations, HostHasWidth, IsPort, OneHasWidth, TableHasWidth, TwoHasWidth};
 
 use crate::action::{Action, OneOp, TwoOp};
 use crate::design::Parts;
+use crate::limits::PORTS;
 use crate::scope::Scope;
 use kw_bits::Bits;
 
 /// The width of an action's value, 0 where it comes to none, if the action is typed.
 #[cycle(width)]
 pub(crate) fn width_of(parts: &Parts, action: &Action, scope: &Scope<u32>) -> Option<u32>
-    ensures { Finds (HasWidth (declarations parts.now) action.now scope.now) result }
+    ensures { Finds (ActionHasWidth (declarations parts.now) action.now scope.now) result }
 {
     match action {
         Action::Unit | Action::Abort => Some(0),
@@ -67,14 +69,14 @@ pub(crate) fn width_of(parts: &Parts, action: &Action, scope: &Scope<u32>) -> Op
 // The width of an action's value, if the action is typed and comes to a value.
 #[cycle(width)]
 fn operand_width(parts: &Parts, action: &Action, scope: &Scope<u32>) -> Option<u32>
-    ensures width { Finds (λ width. HasWidth (declarations parts.now) action.now scope.now width × (1 ≤ width)) result }
+    ensures width { Finds (λ width. ActionHasWidth (declarations parts.now) action.now scope.now width × (1 ≤ width)) result }
 {
     let width = width_of(parts, action, scope)?;
     if width == 0 { None } else { Some(width) }
 }
 
 fn input_width(parts: &Parts, input: u32) -> Option<u32>
-    ensures { Finds (HasInput parts.now.inputs input) result }
+    ensures { Finds (λ width. slice_get (input_widths parts.now) input ≡ Some width) result }
 {
     let decl = parts.inputs.as_slice().get(input as usize)?;
     Some(decl.width)
@@ -82,9 +84,9 @@ fn input_width(parts: &Parts, input: u32) -> Option<u32>
 
 // The width of a register that is accessed at this port.
 fn access_width(parts: &Parts, port: u32, register: u32) -> Option<u32>
-    ensures { Finds (λ width. IsPort port × HasRegister parts.now.regs register width) result }
+    ensures { Finds (λ width. IsPort port × (slice_get (register_widths parts.now) register ≡ Some width)) result }
 {
-    if port > 1 {
+    if port >= PORTS {
         return None;
     }
     let decl = parts.regs.as_slice().get(register as usize)?;
@@ -92,7 +94,7 @@ fn access_width(parts: &Parts, port: u32, register: u32) -> Option<u32>
 }
 
 fn write_width(parts: &Parts, port: u32, register: u32, held: u32) -> Option<u32>
-    ensures { Finds (λ width. IsPort port × HasRegister parts.now.regs register held × (width ≡ 0)) result }
+    ensures { Finds (λ width. IsPort port × (slice_get (register_widths parts.now) register ≡ Some held) × (width ≡ 0)) result }
 {
     if access_width(parts, port, register)? == held {
         Some(0)
@@ -102,7 +104,7 @@ fn write_width(parts: &Parts, port: u32, register: u32, held: u32) -> Option<u32
 }
 
 fn table_width(parts: &Parts, table: u32, operand: u32) -> Option<u32>
-    ensures { Finds (HasTable parts.now.tables table operand) result }
+    ensures { Finds (TableHasWidth parts.now.tables table operand) result }
 {
     let spec = parts.tables.as_slice().get(table as usize)?;
     if spec.in_width == operand {
@@ -113,11 +115,11 @@ fn table_width(parts: &Parts, table: u32, operand: u32) -> Option<u32>
 }
 
 fn host_width(parts: &Parts, host: u32, operand: u32) -> Option<u32>
-    ensures { Finds (HasHost parts.now.hosts host operand) result }
+    ensures { Finds (HostHasWidth parts.now.hosts host operand) result }
 {
-    let spec = parts.hosts.as_slice().get(host as usize)?;
-    if spec.in_width == operand {
-        Some(spec.kind.out_width(spec.in_width))
+    let function = parts.hosts.as_slice().get(host as usize)?;
+    if function.in_width == operand {
+        Some(function.kind.out_width(function.in_width))
     } else {
         None
     }

@@ -1,181 +1,156 @@
-use crate::{Action, Design, Next, Node, OneOp, Parts, RegDecl, Rule, TwoOp};
-use kw_bits::{Bits, NoMemory, Sequence};
+use crate::{Action, Design, HostSpec, Next, Node, OneOp, Parts, RegDecl, Rule, TwoOp};
+use kw_bits::{Bits, HostKind, Sequence};
 use std::alloc::Global;
 use std::test::Fail;
 
-fn bits(width: u32, number: u128) -> Result<Bits, NoMemory> {
-    Bits::new(width, number).ok_or(NoMemory)
+fn crosses_threads<T: Send + Sync>(_: &T) {}
+
+fn bits(width: u32, number: u128) -> Result<Bits, Fail> {
+    Ok(Bits::new(width, number).ok_or("a bit vector")?)
 }
 
-// Two registers of 8 bits, of which the second has this width on paper and this first value.
-fn registers(alloc: Global, width: u32, first: u128) -> Result<Sequence<RegDecl>, NoMemory> {
-    let mut regs = Sequence::new(alloc);
-    regs.push(RegDecl {
-        name: Sequence::from_slice(alloc, b"x")?,
-        width: 8,
-        first: bits(8, 1)?,
-    })?;
-    regs.push(RegDecl {
-        name: Sequence::from_slice(alloc, b"y")?,
-        width,
-        first: bits(8, first)?,
-    })?;
-    Ok(regs)
-}
-
-fn add_rule(alloc: Global, rules: &mut Sequence<Rule>, body: Action) -> Result<(), NoMemory> {
-    let name = Sequence::from_slice(alloc, b"rule")?;
-    rules.push(Rule { name, body })
-}
-
-// This many rules that do nothing.
-fn idle_rules(alloc: Global, count: u32) -> Result<Sequence<Rule>, NoMemory> {
-    let mut rules = Sequence::new(alloc);
-    for _ in 0..count {
-        add_rule(alloc, &mut rules, Action::Unit)?;
-    }
-    Ok(rules)
-}
-
-fn parts(
-    alloc: Global,
-    regs: Sequence<RegDecl>,
-    rules: Sequence<Rule>,
-    nodes: Sequence<Node>,
-) -> Parts {
+fn empty(alloc: Global) -> Parts {
     Parts {
-        regs,
+        regs: Sequence::new(alloc),
         inputs: Sequence::new(alloc),
         tables: Sequence::new(alloc),
         hosts: Sequence::new(alloc),
-        rules,
-        nodes,
+        rules: Sequence::new(alloc),
+        nodes: Sequence::new(alloc),
     }
 }
 
+// One register, declared with this width, whose first value has 8 bits, and one host function of this width.
+fn declared(
+    alloc: Global,
+    width: u32,
+    first: u128,
+    kind: HostKind,
+    in_width: u32,
+) -> Result<Parts, Fail> {
+    let mut parts = empty(alloc);
+    let name = Sequence::from_slice(alloc, b"x")?;
+    let first = bits(8, first)?;
+    parts.regs.push(RegDecl { name, width, first })?;
+    parts.hosts.push(HostSpec { kind, in_width })?;
+    Ok(parts)
+}
+
+fn add_rule(alloc: Global, rules: &mut Sequence<Rule>, body: Action) -> Result<(), Fail> {
+    let name = Sequence::from_slice(alloc, b"rule")?;
+    rules.push(Rule { name, body })?;
+    Ok(())
+}
+
+// A register's width and that of its first value, 8; a host function and its input's width.
+const DECLARATIONS: [(u32, HostKind, u32, bool); 10] = [
+    (8, HostKind::Gray, 1, true),
+    (7, HostKind::Gray, 1, false),
+    (9, HostKind::Gray, 1, false),
+    (0, HostKind::Gray, 1, false),
+    (8, HostKind::Gray, 0, false),
+    (8, HostKind::Gray, 11, true),
+    (8, HostKind::Gray, 12, true),
+    (8, HostKind::Gray, 13, false),
+    (8, HostKind::Hamming, 12, true),
+    (8, HostKind::Hamming, 11, false),
+];
+
 #[test]
-fn first_values_have_their_widths(rt: HostRuntime) -> Result<(), Fail> {
-    let alloc = rt.alloc();
-    for (width, wanted) in [(8, true), (7, false), (9, false), (0, false)] {
-        let regs = registers(alloc, width, 2)?;
-        let design = Design::new(parts(alloc, regs, Sequence::new(alloc), Sequence::new(alloc)));
-        assert_eq!(rt; design.is_some(), wanted, "{width}");
+fn declarations_have_widths(rt: HostRuntime) -> Result<(), Fail> {
+    for (width, kind, in_width, wanted) in DECLARATIONS {
+        let design = Design::new(declared(rt.alloc(), width, 1, kind, in_width)?);
+        assert_eq!(rt; design.is_some(), wanted, "{width} {kind:?} {in_width}");
     }
     Ok(())
 }
 
-fn crosses_threads<T: Send + Sync>(_: &T) {}
-
-#[test]
-fn a_design_crosses_threads(rt: HostRuntime) -> Result<(), Fail> {
-    let alloc = rt.alloc();
-    let regs = registers(alloc, 8, 2)?;
-    let rules = idle_rules(alloc, 1)?;
-    let nodes = Sequence::from_slice(alloc, &[node(0, Next::End, Next::End)])?;
-    let design = Design::new(parts(alloc, regs, rules, nodes));
-    assert!(rt; design.is_some());
-    crosses_threads(&design);
-    Ok(())
-}
-
-// Whether a rule may write this value to register 0.
-fn may_write(alloc: Global, value: Action) -> Result<bool, Fail> {
-    let body = Action::Write(1, 0, Box::new(alloc, value)?);
-    let mut rules = Sequence::new(alloc);
-    add_rule(alloc, &mut rules, body)?;
-    let regs = registers(alloc, 8, 2)?;
-    Ok(Design::new(parts(alloc, regs, rules, Sequence::new(alloc))).is_some())
+// Values by the widths of their operands, and what else they name.
+#[derive(Clone, Copy, Debug)]
+enum Value {
+    Const(u32),
+    Read(u32, u32),
+    Two(TwoOp, u32, u32),
+    Slice(u32, u32, u32),
+    Host(u32),
+    Let(u32, u32),
+    If(u32, u32, u32),
 }
 
 fn number(alloc: Global, width: u32) -> Result<Box<Action>, Fail> {
-    Ok(Box::new(alloc, Action::Const(bits(width, 1)?))?)
+    let one = bits(width, 1)?;
+    Ok(Box::new(alloc, Action::Const(one))?)
 }
 
-// Ports and registers.
-const READS: [(u32, u32, bool); 4] = [(0, 1, true), (1, 1, true), (2, 1, false), (0, 2, false)];
+fn two(alloc: Global, operator: TwoOp, left: u32, right: u32) -> Result<Action, Fail> {
+    Ok(Action::Two(operator, number(alloc, left)?, number(alloc, right)?))
+}
 
-#[test]
-fn reads_are_typed(rt: HostRuntime) -> Result<(), Fail> {
-    for (port, register, wanted) in READS {
-        assert_eq!(rt;
-            may_write(rt.alloc(), Action::Read(port, register))?,
-            wanted,
-            "{port} {register}"
-        );
+fn bound(alloc: Global, width: u32, name: u32) -> Result<Action, Fail> {
+    let body = Box::new(alloc, Action::Local(name))?;
+    Ok(Action::Let(number(alloc, width)?, body))
+}
+
+fn choice(alloc: Global, condition: u32, first: u32, second: u32) -> Result<Action, Fail> {
+    let condition = number(alloc, condition)?;
+    let first = number(alloc, first)?;
+    Ok(Action::If(condition, first, number(alloc, second)?))
+}
+
+fn action(alloc: Global, value: Value) -> Result<Action, Fail> {
+    match value {
+        Value::Const(width) => Ok(Action::Const(bits(width, 1)?)),
+        Value::Read(port, register) => Ok(Action::Read(port, register)),
+        Value::Two(operator, left, right) => two(alloc, operator, left, right),
+        Value::Slice(width, upper, lower) => Ok(Action::Slice(number(alloc, width)?, upper, lower)),
+        Value::Host(width) => Ok(Action::Host(0, number(alloc, width)?)),
+        Value::Let(width, name) => bound(alloc, width, name),
+        Value::If(condition, first, second) => choice(alloc, condition, first, second),
     }
-    Ok(())
 }
 
-const TWOS: [(TwoOp, u32, u32, bool); 5] = [
-    (TwoOp::Add, 8, 8, true),
-    (TwoOp::Add, 8, 3, false),
-    (TwoOp::Ult, 8, 8, false),
-    (TwoOp::Concat, 3, 5, true),
-    (TwoOp::Concat, 8, 128, false),
+// Whether a rule may write the value to the register of 8 bits at this port.
+fn may_write(alloc: Global, port: u32, value: Value) -> Result<bool, Fail> {
+    let mut parts = declared(alloc, 8, 1, HostKind::Gray, 8)?;
+    let value = Box::new(alloc, action(alloc, value)?)?;
+    add_rule(alloc, &mut parts.rules, Action::Write(port, 0, value))?;
+    Ok(Design::new(parts).is_some())
+}
+
+const WRITES: [(u32, Value, bool); 24] = [
+    (3, Value::Const(8), true),
+    (4, Value::Const(8), false),
+    (0, Value::Const(7), false),
+    (0, Value::Read(3, 0), true),
+    (0, Value::Read(4, 0), false),
+    (0, Value::Read(0, 1), false),
+    (0, Value::Two(TwoOp::Add, 8, 8), true),
+    (0, Value::Two(TwoOp::Add, 8, 3), false),
+    (0, Value::Two(TwoOp::Ult, 8, 8), false),
+    (0, Value::Two(TwoOp::Concat, 3, 5), true),
+    (0, Value::Two(TwoOp::Concat, 8, 128), false),
+    (0, Value::Slice(9, 8, 1), true),
+    (0, Value::Slice(8, 7, 0), true),
+    (0, Value::Slice(8, 8, 1), false),
+    (0, Value::Slice(8, 0, 7), false),
+    (0, Value::Host(8), true),
+    (0, Value::Host(7), false),
+    (0, Value::Let(8, 0), true),
+    (0, Value::Let(3, 0), false),
+    (0, Value::Let(8, 1), false),
+    (0, Value::If(1, 8, 8), true),
+    (0, Value::If(1, 8, 3), false),
+    (0, Value::If(3, 8, 8), false),
+    (0, Value::If(1, 3, 8), false),
 ];
 
 #[test]
-fn two_operands_are_typed(rt: HostRuntime) -> Result<(), Fail> {
-    let alloc = rt.alloc();
-    for (operator, left, right, wanted) in TWOS {
-        let value = Action::Two(operator, number(alloc, left)?, number(alloc, right)?);
+fn written_values_are_typed(rt: HostRuntime) -> Result<(), Fail> {
+    for (port, value, wanted) in WRITES {
         assert_eq!(rt;
-            may_write(alloc, value)?,
+            may_write(rt.alloc(), port, value)?,
             wanted,
-            "{operator:?} {left} {right}"
-        );
-    }
-    Ok(())
-}
-
-// An operand's width, the upper and the lower bound.
-const SLICES: [(u32, u32, u32, bool); 4] = [
-    (9, 8, 1, true),
-    (8, 7, 0, true),
-    (8, 8, 1, false),
-    (8, 0, 7, false),
-];
-
-#[test]
-fn slices_are_typed(rt: HostRuntime) -> Result<(), Fail> {
-    let alloc = rt.alloc();
-    for (width, upper, lower, wanted) in SLICES {
-        let value = Action::Slice(number(alloc, width)?, upper, lower);
-        assert_eq!(rt; may_write(alloc, value)?, wanted, "{width} {upper} {lower}");
-    }
-    Ok(())
-}
-
-// The width of a bound value, and the name that is asked for.
-const LETS: [(u32, u32, bool); 3] = [(8, 0, true), (3, 0, false), (8, 1, false)];
-
-#[test]
-fn names_are_bound(rt: HostRuntime) -> Result<(), Fail> {
-    let alloc = rt.alloc();
-    for (width, name, wanted) in LETS {
-        let body = Box::new(alloc, Action::Local(name))?;
-        let value = Action::Let(number(alloc, width)?, body);
-        assert_eq!(rt; may_write(alloc, value)?, wanted, "{width} {name}");
-    }
-    Ok(())
-}
-
-// The widths of a condition and of two arms.
-const IFS: [(u32, u32, u32, bool); 3] = [(1, 8, 8, true), (1, 8, 3, false), (3, 8, 8, false)];
-
-#[test]
-fn arms_have_one_width(rt: HostRuntime) -> Result<(), Fail> {
-    let alloc = rt.alloc();
-    for (condition, first, second, wanted) in IFS {
-        let value = Action::If(
-            number(alloc, condition)?,
-            number(alloc, first)?,
-            number(alloc, second)?,
-        );
-        assert_eq!(rt;
-            may_write(alloc, value)?,
-            wanted,
-            "{condition} {first} {second}"
+            "{port} {value:?}"
         );
     }
     Ok(())
@@ -185,49 +160,45 @@ fn node(rule: u32, yes: Next, no: Next) -> Node {
     Node { rule, yes, no }
 }
 
-// Whether a design of three idle rules may have these nodes.
-fn may_schedule(alloc: Global, nodes: &[Node]) -> Result<bool, Fail> {
-    let rules = idle_rules(alloc, 3)?;
-    let nodes = Sequence::from_slice(alloc, nodes)?;
-    Ok(Design::new(parts(alloc, Sequence::new(alloc), rules, nodes)).is_some())
-}
-
-const CONTINUATIONS: [(Next, bool); 4] = [
-    (Next::End, true),
-    (Next::Node(1), true),
-    (Next::Node(0), false),
-    (Next::Node(2), false),
-];
-
-#[test]
-fn continuations_ascend(rt: HostRuntime) -> Result<(), Fail> {
-    for (next, wanted) in CONTINUATIONS {
-        let nodes = [node(0, Next::End, next), node(1, Next::End, Next::End)];
-        assert_eq!(rt; may_schedule(rt.alloc(), &nodes)?, wanted, "{next:?}");
+// Whether a design of this many idle rules may have the nodes.
+fn may_schedule(alloc: Global, rules: u32, nodes: Sequence<Node>) -> Result<bool, Fail> {
+    let mut parts = empty(alloc);
+    for _ in 0..rules {
+        add_rule(alloc, &mut parts.rules, Action::Unit)?;
     }
-    Ok(())
+    parts.nodes = nodes;
+    Ok(Design::new(parts).is_some())
 }
 
-// The rules of four nodes, of which the first goes on to the next two, and these to the last.
-const DIAMONDS: [([u32; 4], bool); 6] = [
-    ([0, 1, 1, 2], true),
-    ([0, 1, 2, 1], false),
-    ([0, 1, 2, 2], false),
-    ([0, 1, 2, 0], false),
-    ([0, 0, 1, 2], false),
-    ([0, 1, 1, 3], false),
+// The rules of four nodes, of which the first goes on to the next two, and these to the last, and where that goes on.
+const DIAMONDS: [([u32; 4], Next, bool); 9] = [
+    ([0, 1, 1, 2], Next::End, true),
+    ([0, 1, 2, 1], Next::End, false),
+    ([0, 1, 2, 2], Next::End, false),
+    ([0, 1, 2, 0], Next::End, false),
+    ([0, 0, 1, 2], Next::End, false),
+    ([0, 1, 1, 3], Next::End, false),
+    ([0, 1, 1, 2], Next::Node(0), false),
+    ([0, 1, 1, 2], Next::Node(3), false),
+    ([0, 1, 1, 2], Next::Node(4), false),
 ];
 
 #[test]
 fn no_rule_stands_twice_on_a_path(rt: HostRuntime) -> Result<(), Fail> {
-    for (rules, wanted) in DIAMONDS {
+    let alloc = rt.alloc();
+    for (rules, next, wanted) in DIAMONDS {
         let nodes = [
             node(rules[0], Next::Node(1), Next::Node(2)),
             node(rules[1], Next::Node(3), Next::End),
             node(rules[2], Next::End, Next::Node(3)),
-            node(rules[3], Next::End, Next::End),
+            node(rules[3], Next::End, next),
         ];
-        assert_eq!(rt; may_schedule(rt.alloc(), &nodes)?, wanted, "{rules:?}");
+        let nodes = Sequence::from_slice(alloc, &nodes)?;
+        assert_eq!(rt;
+            may_schedule(alloc, 3, nodes)?,
+            wanted,
+            "{rules:?} {next:?}"
+        );
     }
     Ok(())
 }
@@ -241,39 +212,52 @@ fn next(number: u32, by: u32, nodes: u32) -> Next {
     }
 }
 
-// Whether 256 rules may be tried in turn by this many nodes, each of which goes on to the next two.
-fn may_climb(alloc: Global, nodes: u32) -> Result<bool, Fail> {
+// This many nodes that try 256 rules in turn, each of which goes on to the next two.
+fn ladder(alloc: Global, nodes: u32) -> Result<Sequence<Node>, Fail> {
     let mut ladder = Sequence::new(alloc);
     for number in 0..nodes {
         ladder.push(node(number % 256, next(number, 1, nodes), next(number, 2, nodes)))?;
     }
-    let rules = idle_rules(alloc, 256)?;
-    Ok(Design::new(parts(alloc, Sequence::new(alloc), rules, ladder)).is_some())
+    Ok(ladder)
 }
 
 #[test]
-fn many_paths_take_no_time(rt: HostRuntime) -> Result<(), Fail> {
+fn many_rules_and_paths_are_looked_at(rt: HostRuntime) -> Result<(), Fail> {
     let alloc = rt.alloc();
-    assert!(rt; may_climb(alloc, 256)?);
-    assert!(rt; !may_climb(alloc, 1024)?);
+    for (rules, nodes, wanted) in [(256, 256, true), (256, 1024, false), (257, 0, false)] {
+        let nodes = ladder(alloc, nodes)?;
+        assert_eq!(rt; may_schedule(alloc, rules, nodes)?, wanted, "{rules}");
+    }
     Ok(())
 }
 
-// A design whose one rule negates its second register, which begins with this value.
-fn negation(alloc: Global, first: u128) -> Result<Design, Fail> {
-    let value = Box::new(alloc, Action::Read(0, 1))?;
-    let negated = Box::new(alloc, Action::One(OneOp::Neg, value))?;
-    let mut rules = Sequence::new(alloc);
-    add_rule(alloc, &mut rules, Action::Write(0, 1, negated))?;
-    let regs = registers(alloc, 8, first)?;
-    Ok(Design::new(parts(alloc, regs, rules, Sequence::new(alloc))).ok_or("valid")?)
+// A register that begins with this value, a rule that writes it by this operator, and where the scheduler goes on
+// from the rule.
+fn design(alloc: Global, first: u128, operator: OneOp, rule: u32) -> Result<Design, Fail> {
+    let mut parts = declared(alloc, 8, first, HostKind::Gray, 8)?;
+    let value = Box::new(alloc, Action::Read(0, 0))?;
+    let value = Box::new(alloc, Action::One(operator, value))?;
+    add_rule(alloc, &mut parts.rules, Action::Write(0, 0, value))?;
+    add_rule(alloc, &mut parts.rules, Action::Unit)?;
+    parts.nodes.push(node(rule, Next::End, Next::End))?;
+    Ok(Design::new(parts).ok_or("valid")?)
 }
+
+const OTHERS: [(u128, OneOp, u32, bool); 4] = [
+    (2, OneOp::Neg, 0, true),
+    (3, OneOp::Neg, 0, false),
+    (2, OneOp::Not, 0, false),
+    (2, OneOp::Neg, 1, false),
+];
 
 #[test]
 fn designs_are_the_same_by_value(rt: HostRuntime) -> Result<(), Fail> {
     let alloc = rt.alloc();
-    let design = negation(alloc, 2)?;
-    assert!(rt; design.same(&negation(alloc, 2)?));
-    assert!(rt; !design.same(&negation(alloc, 3)?));
+    let one = design(alloc, 2, OneOp::Neg, 0)?;
+    crosses_threads(&one);
+    for (first, operator, rule, wanted) in OTHERS {
+        let other = design(alloc, first, operator, rule)?;
+        assert_eq!(rt; one.same(&other), wanted, "{first} {operator:?} {rule}");
+    }
     Ok(())
 }

@@ -1,5 +1,5 @@
-use Rattle.typed_core.proofs.Meaning.{AreSame-equal}
+use Rattle.typed_core.proofs.Meaning.{DoTheSame-equal}
 use Rattle.typed_core.proofs.laws.equal_designs_do_the_same.Goals as goal
 
 pub returns : goal.returns
-returns c = AreSame-equal
+returns c t = DoTheSame-equal _

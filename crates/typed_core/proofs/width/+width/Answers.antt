@@ -1,11 +1,11 @@
 use Rattle.std.proofs.Common.{arith}
 use Rattle.typed_core.specs.Valid.{declarations}
-use Rattle.typed_core.proofs.Widths.{HasWidth-same, finds_input, finds_read, finds_two, finds_slice, finds_extended, finds_table, finds_host, finds_let, finds_if, finds_write}
+use Rattle.typed_core.proofs.Widths.{ActionHasWidth-same, finds_input, finds_read, finds_two, finds_slice, finds_extended, finds_table, finds_host, finds_let, finds_if, finds_write}
 use Rattle.typed_core.proofs.width.+width.Goals as goal
 
 pub operand_width-returns-then-width-eq0 : goal.operand_width-returns-then-width-eq0
 operand_width-returns-then-width-eq0 t c =
-    record { width = λ w h. omega (arith, HasWidth-same (declarations c.args.parts.now) c.args.action.now c.args.scope.now c.in_ok-width.width w c.in_ok-width.ensures h.0) }
+    record { width = λ w h. omega (arith, ActionHasWidth-same (declarations c.args.parts.now) c.args.action.now c.args.scope.now c.in_ok-width.width w c.in_ok-width.ensures h.0) }
 
 pub width_of-returns-in-Input : goal.width_of-returns-in-Input
 width_of-returns-in-Input t c = finds_input _ _ _ _ c.in-Input.is c.input_width.ensures

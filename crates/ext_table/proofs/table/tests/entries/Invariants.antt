@@ -1,5 +1,7 @@
-use Rattle.ext_table.specs.Table.{HaveWidth}
+use Rattle.std.proofs.Common.{All}
+use Rattle.kw_bits.specs.BitVector.{BitVector}
+use Rattle.kw_bits.specs.Laws.{HasWidth}
 use Rattle.ext_table.proofs.table.tests.entries.Given as goal
 
 abbrev pub invariant-loop-number : goal.invariant-loop-number
-invariant-loop-number l = HaveWidth 4 l.entries.items
+invariant-loop-number l = All (λ (entry : BitVector). HasWidth entry 4) l.entries.items

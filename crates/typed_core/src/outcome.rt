@@ -1,5 +1,14 @@
 use crate::access::{Access, Events};
 
+/// What stops a rule before its end.
+#[derive(Clone, Copy, Debug, PartialEq, Eq)]
+pub enum Stopped {
+    /// It aborted.
+    Abort,
+    /// This access was refused. It isn't among the events.
+    Refused(Access),
+}
+
 /// How a rule that runs alone ends.
 #[derive(Clone, Copy, Debug, PartialEq, Eq)]
 pub enum Outcome {

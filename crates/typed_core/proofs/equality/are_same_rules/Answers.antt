@@ -1,6 +1,6 @@
 use Rattle.std.proofs.Common.{sym, ◌∙◌}
 use Rattle.typed_core.proofs.Equal.{eq-SameRules}
-use Rattle.typed_core.proofs.same.are_same_rules.Goals as goal
+use Rattle.typed_core.proofs.equality.are_same_rules.Goals as goal
 
 pub returns : goal.returns
 returns c =
