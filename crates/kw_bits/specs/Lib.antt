@@ -3,3 +3,4 @@ pub mod Host
 pub mod Laws
 pub mod Operators
 pub mod Reserved
+pub mod formers

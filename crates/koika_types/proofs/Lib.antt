@@ -1,0 +1,11 @@
+pub mod Counts
+pub mod Equal
+pub mod Growth
+pub mod Layers
+pub mod Parts
+pub mod PartsSoFar
+pub mod Ranks
+pub mod Sizes
+pub mod Stacks
+pub mod Unique
+pub mod Widths

@@ -1,0 +1,20 @@
+//! The types of the source language, and the bits that its values are packed into.
+//!
+//! `specs/Types.antt` says which types are valid and how wide they are, `specs/Values.antt` which values a type has and
+//! what bits they are. Contracts see a `TypeTable` as the enums and structs that it declares. The checker makes the
+//! table and asks for widths and places; the lowering packs constants.
+#![tactic(auto)]
+
+mod declarations;
+mod packing;
+mod table;
+mod ty;
+mod unpacking;
+mod value;
+
+pub use declarations::{Declarations, EnumDecl, Field, Member, StructDecl};
+pub use packing::pack;
+pub use table::{TypeTable, width_of};
+pub use ty::Ty;
+pub use unpacking::unpack;
+pub use value::Value;
