@@ -1,0 +1,9 @@
+pub mod Arguments
+pub mod Cuts
+pub mod FormsOfLines
+pub mod KeywordTable
+pub mod Members
+pub mod NotOutside
+pub mod Numerals
+pub mod Readings
+pub mod RoundTrip

@@ -1,0 +1,23 @@
+//! BTOR2 texts: lines of the forms that this project reads and writes.
+//!
+//! Contracts cite how a text is cut in `specs/Cut.antt`, the table of forms in `specs/Forms.antt`, which line a
+//! row of tokens is in `specs/Lines.antt`, and what reading a whole text gives in `specs/Reading.antt`. The
+//! crate that accepts circuit texts reads what `read_lines` answers; the compiler prints by `print_lines`.
+#![tactic(auto)]
+
+mod argument;
+mod cut;
+mod keyword;
+mod kind;
+mod line;
+mod numeral;
+mod print;
+mod reader;
+#[cfg(test)]
+mod tests;
+
+pub use keyword::Keyword;
+pub use kind::{Base, Kind};
+pub use line::{Argument, Line, Lines};
+pub use print::print_lines;
+pub use reader::read_lines;

@@ -1,0 +1,155 @@
+ghost use Rattle.std.specs.Prelude.{◌≡◌, ◌≤◌, ◌∷◌, ◌↔◌, IsTrue, List, length, IfOk};
+ghost use Rattle.kw_base.specs.Fault.{IfFault, IsOkUnlessNoMemory, IsFaultUnlessNoMemory};
+ghost use Rattle.kw_base.specs.declared.fault.Fault.{Fault as FaultOf};
+ghost use Rattle.btor2_text.specs.Cut.{tokens_of, words_of};
+ghost use Rattle.btor2_text.specs.Flaws.{IsRefusal, GivesLine, GivesForm};
+ghost use Rattle.btor2_text.specs.declared.reader.Flaw.TheVariants as flaws;
+ghost use Rattle.btor2_text.specs.Forms.{keyword_text};
+ghost use Rattle.btor2_text.specs.Lines.{IsArraySort, IsLeftOut};
+ghost use Rattle.btor2_text.specs.Reading.{AreLinesOf, IsFirstFaultOf};
+ghost use Rattle.btor2_text.specs.declared.line.Line.{Line as LineOf};
+
+use crate::argument::{has_minus, read_arguments, read_id, read_symbol, skip_tokens};
+use crate::cut::{Token, next_token, split_line, without_comment};
+use crate::keyword::is_left_out;
+use crate::{Keyword, Line, Lines};
+use kw_base::{Fault, Place, Refusal};
+use kw_bits::{NoMemory, Sequence};
+use std::alloc::{AllocError, AllocFailed, Global};
+
+/// Why a row of tokens gave no line.
+#[derive(Clone, Copy, Debug, PartialEq, Eq)]
+pub(crate) enum Flaw {
+    /// It is of no form.
+    Malformed,
+    /// It is of a form that BTOR2 has and this project leaves out.
+    LeftOut,
+    NoMemory,
+}
+
+impl From<NoMemory> for Flaw {
+    ghost from_gives = { λ _ flaw. flaw ≡ flaws.NoMemory };
+
+    fn from(_: NoMemory) -> Flaw {
+        Flaw::NoMemory
+    }
+}
+
+impl From<AllocError> for Flaw {
+    ghost from_gives = { λ _ flaw. flaw ≡ flaws.NoMemory };
+
+    fn from(_: AllocError) -> Flaw {
+        Flaw::NoMemory
+    }
+}
+
+impl<T: Drop> From<AllocFailed<T>> for Flaw {
+    ghost from_gives = { λ _ flaw. flaw ≡ flaws.NoMemory };
+
+    fn from(_: AllocFailed<T>) -> Flaw {
+        Flaw::NoMemory
+    }
+}
+
+impl Flaw {
+    // The refusal of the line of this number.
+    fn refusal(self, number: u32) -> Refusal
+        ensures { IsRefusal self number result }
+    {
+        let place = Place {
+            line: number,
+            column: 1,
+        };
+        match self {
+            Flaw::Malformed => Refusal::Fault(Fault::new(50, place)),
+            Flaw::LeftOut => Refusal::Fault(Fault::new(54, place)),
+            Flaw::NoMemory => Refusal::NoMemory,
+        }
+    }
+}
+
+/// The lines of a BTOR2 text of at most 268,435,456 bytes, or the fault of its first faulty line: 54 for a form of
+/// BTOR2 that is left out, 50 for any other line that is of no form.
+pub fn read_lines(alloc: Global, text: &[u8]) -> Result<Lines, Refusal>
+    requires { length text.now ≤ 268435456 }
+    ensures lines { IfOk result (AreLinesOf text.now) }
+    ensures fault { IfFault result (IsFirstFaultOf text.now) }
+
+    // The lines of a text are one list, its first fault is one, and no text has both.
+    ensures accepted { (lines : List LineOf) → AreLinesOf text.now lines → IsOkUnlessNoMemory result (λ found. found ≡ lines) }
+    ensures refused { (fault : FaultOf) → IsFirstFaultOf text.now fault → IsFaultUnlessNoMemory result fault }
+{
+    let mut lines = Sequence::new(alloc);
+    let mut number: u32 = 0;
+    let mut rest = Some(text);
+    while let Some(text) = rest {
+        let (line, behind) = split_line(text);
+        number += 1;
+        match read_line(alloc, line, number) {
+            Ok(Some(line)) => lines.push(line)?,
+            Ok(None) => (),
+            Err(flaw) => return Err(flaw.refusal(number)),
+        }
+        rest = behind;
+    }
+    Ok(lines)
+}
+
+// What the line of this number is: nothing, where it has no token.
+fn read_line(alloc: Global, line: &[u8], number: u32) -> Result<Option<Line>, Flaw>
+    ensures { GivesLine number (tokens_of line.now) result }
+{
+    let Some(id) = next_token(without_comment(line)) else {
+        return Ok(None);
+    };
+    let Some(word) = next_token(id.rest) else {
+        return Err(Flaw::Malformed);
+    };
+    if is_left_out(word.bytes) || is_array_sort(word) {
+        return Err(Flaw::LeftOut);
+    }
+    match Keyword::of_word(word.bytes) {
+        Some(keyword) => Ok(Some(read_form(alloc, keyword, id.bytes, word.rest, number)?)),
+        None => Err(Flaw::Malformed),
+    }
+}
+
+// Whether these are a keyword and a token of a sort of arrays.
+fn is_array_sort(word: Token<'_>) -> bool
+    ensures { IsTrue result ↔ IsArraySort word.entry.bytes.now (words_of word.entry.rest.now) }
+{
+    match next_token(word.rest) {
+        Some(next) => word.bytes == Keyword::Sort.text() && next.bytes == b"array".as_slice(),
+        None => false,
+    }
+}
+
+// The line of this keyword whose id is a token, and whose other tokens follow the keyword.
+fn read_form(
+    alloc: Global,
+    keyword: Keyword,
+    id: &[u8],
+    bytes: &[u8],
+    number: u32,
+) -> Result<Line, Flaw>
+    requires { ¬ IsLeftOut (id.now ∷ keyword_text keyword ∷ words_of bytes.now) }
+    ensures { GivesForm number (id.now ∷ keyword_text keyword ∷ words_of bytes.now) result }
+{
+    let kinds = keyword.kinds();
+    let Some(rest) = skip_tokens(kinds.len(), bytes) else {
+        return Err(Flaw::Malformed);
+    };
+    let symbol = read_symbol(alloc, rest)?;
+    if has_minus(kinds, bytes) {
+        return Err(Flaw::LeftOut);
+    }
+    let id = read_id(id)?;
+    let arguments = read_arguments(alloc, kinds, bytes)?;
+    Ok(Line {
+        id,
+        keyword,
+        arguments,
+        symbol,
+        number,
+    })
+}
