@@ -1,0 +1,2 @@
+pub mod HostFn
+pub mod Stored

@@ -1,0 +1,17 @@
+ghost use Rattle.std.specs.Prelude.{◌≡◌, ◌↔◌, IsSome, IfSome};
+ghost use Rattle.kw_bits.specs.Host as host;
+
+use crate::binary::Binary;
+use crate::unary::Unary;
+
+/// A stored host function, of one or two arguments.
+#[derive(Clone, Copy)]
+pub struct HostFn {
+    pub(crate) function: Function,
+}
+
+#[derive(Clone, Copy)]
+pub(crate) enum Function {
+    Unary(Unary),
+    Binary(Binary),
+}
