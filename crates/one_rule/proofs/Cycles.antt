@@ -7,7 +7,8 @@ use Rattle.std.proofs.lemmas.Bool.{cases_lt}
 use Rattle.std.proofs.lemmas.List.{get_or_default, get_or-map, get_or_past, length-map, map_push}
 use Rattle.kw_bits.specs.BitVector.{BitVector}
 use Rattle.one_rule.specs.KeptLines.{IsKeptLine, KeepsLines, vectors_of}
-use Rattle.one_rule.specs.Stimulus.{AlwaysFits, Assignment, Assigns, FitsWidths, inputs_by, inputs_of, InputVectors, IsLine}
+use Rattle.typed_core.specs.Widths.{HaveWidths}
+use Rattle.one_rule.specs.Stimulus.{AlwaysFits, Assignment, Assigns, inputs_by, inputs_of, InputVectors, IsLine}
 use Rattle.one_rule.proofs.Inputs.{inputs_by_fits}
 use Rattle.one_rule.proofs.Lines.{IsAscending-sorted, IsDistinct-sorted}
 
@@ -32,7 +33,7 @@ inputs_of_line widths lines (suc before) line some within is =
 pub AlwaysFits-kept : (s : InputVectors) (widths : List ℕ) (lines : List (List Assignment)) → vectors_of widths lines ≡ s → KeepsLines widths lines → AlwaysFits s
 AlwaysFits-kept s widths lines is keeps = subst AlwaysFits is each
   where
-    none : (cycle : ℕ) → ((cycle ≡ 0) ⊎ (length lines < cycle)) → FitsWidths widths (inputs_of (vectors_of widths lines) cycle)
+    none : (cycle : ℕ) → ((cycle ≡ 0) ⊎ (length lines < cycle)) → HaveWidths widths (inputs_of (vectors_of widths lines) cycle)
     none cycle h = rw (inputs_of_no_line widths lines cycle h) (inputs_by_fits widths [] keeps.each_width (All-nil (Assigns widths)))
 
     each : AlwaysFits (vectors_of widths lines)

@@ -1,92 +1,107 @@
--- The rows of a run of a valid design fit it.
-use Rattle.std.proofs.Common.{◌≡◌, ℕ, zero, suc, ◌+◌, ◌-◌, ◌<◌, ◌≤◌, Bool, true, false, List, [], ◌∷◌, ◌++◌, length, Option, Some, None, refl, sym, ap, ◌∙◌, subst, arith}
-use Rattle.std.specs.Prelude.{slice_get, if◌then◌else◌}
-use Rattle.std.specs.List.{AllByRecursion}
-use Rattle.std.proofs.lemmas.List.{get_or-map, length-map, length-replicate}
+-- The row of a cycle of a valid design fits it.
+use Rattle.std.proofs.Common.{◌≡◌, ℕ, ◌<◌, Bool, true, false, List, [], length, map, get_or, Option, Some, None, refl, sym, ap, ◌∙◌, subst, arith}
+use Rattle.std.specs.Prelude.{option_map, slice_get, slice_index_or, if◌then◌else◌}
+use Rattle.std.proofs.lemmas.List.{get_or-map, length-map, same_lists}
+use Rattle.std.proofs.lemmas.List.Elements.{All-map}
 use Rattle.std.proofs.lemmas.List.FromFn.{length-map-range_with_len}
-use Rattle.std.proofs.lemmas.Option.{get_or_from_slice_get, slice_get_within}
+use Rattle.std.proofs.lemmas.Option.{get_or_from_slice_get, slice_get_within, slice_get-get_or, slice_get-map}
 use Rattle.kw_bits.specs.BitVector.{BitVector}
-use Rattle.typed_core.specs.Alone.{Surroundings, after, unit}
-use Rattle.typed_core.specs.Fits.{EventsFit, FitsDeclarations, FitsInputs, FitsRegisters}
-use Rattle.typed_core.specs.Valid.{HasBits, HasWidth, IsRegister, IsValid, declarations}
-use Rattle.typed_core.specs.declared.design.Node.{Node}
+use Rattle.kw_bits.specs.Laws.{HasWidth}
+use Rattle.typed_core.specs.Evaluation.{unit}
+use Rattle.typed_core.specs.Fits.{EnvironmentFits, EventsFit}
+use Rattle.typed_core.specs.Valid.{ActionHasWidth, IsRegister, IsValid, IsWidth, declarations}
+use Rattle.typed_core.specs.Widths.{HaveWidths, input_widths, register_widths}
 use Rattle.typed_core.specs.declared.design.Parts.{Parts}
 use Rattle.typed_core.specs.declared.design.RegDecl.{RegDecl}
 use Rattle.typed_core.specs.declared.design.Rule.{Rule}
-use Rattle.typed_core.specs.declared.run_alone.Alone.{Alone}
+use Rattle.typed_core.specs.declared.outcome.Alone.{Alone}
 use Rattle.typed_core.proofs.Events.{after_fits}
 use Rattle.typed_core.proofs.Typed.{alone_fits}
-use Rattle.one_rule.specs.Cycle.{alone_if, alone_on, cycle, fires, has_fired, is_at, pass, root, walk_of, walk_past}
-use Rattle.one_rule.specs.Laws.{RunsFit}
+use Rattle.one_rule.specs.Cycle.{alone_if, begin, cycle, environment, fire, fires, is_among, join, numbers, system_of, walk_of}
 use Rattle.one_rule.specs.Rows.{RowFits}
-use Rattle.one_rule.specs.Run.{InputsByCycle, first_values, rows_after}
-use Rattle.one_rule.specs.declared.walk.Fired.{Fired}
-use Rattle.one_rule.specs.declared.walk.Walk.{Walk}
+use Rattle.one_rule.specs.Run.{first_values}
+use Rattle.one_rule.specs.Walk.{start}
+use Rattle.one_rule.specs.declared.cycle.State.{State}
+use Rattle.one_rule.proofs.WalkLaws.{walk_past_keeps}
+
+-- a valid design's rules can be evaluated with inputs that fit it
+pub environment_fits : (design : Parts) → IsValid design → (inputs : List BitVector) → HaveWidths (input_widths design) inputs → EnvironmentFits (declarations design) (environment design inputs)
+environment_fits design valid inputs i =
+    record {
+      registers = All-map IsWidth (λ (decl : RegDecl). decl.width) design.regs (λ k d inside. is_width (slice_index_or design.regs k d) (valid.registers k d inside));
+      externs = refl;
+      tables = valid.tables;
+      hosts = valid.hosts;
+      inputs = i;
+    }
+  where
+    is_width : (decl : RegDecl) → IsRegister decl → IsWidth decl.width
+    is_width decl h = (omega (arith, h.0.some_bit, h.1), omega (arith, h.0.no_wider, h.1))
+
+-- the body of a rule that was found is typed
+pub body_typed : (design : Parts) → IsValid design → (rule : ℕ) (found : Rule) → slice_get design.rules rule ≡ Some found → ActionHasWidth (declarations design) found.body [] 0
+body_typed design valid rule found h =
+    subst (λ (x : Rule). ActionHasWidth (declarations design) x.body [] 0) (get_or_from_slice_get design.rules rule found found h) (valid.rules rule found (slice_get_within design.rules rule found h))
 
 -- a rule that runs alone notes events that fit
-run_fits : (design : Parts) → IsValid design → (inputs regs : List BitVector) → FitsInputs design.inputs inputs → FitsRegisters design.regs regs → (rule : ℕ) → EventsFit design.regs (alone_on design inputs regs rule).events
+pub run_fits : (design : Parts) → IsValid design → (inputs regs : List BitVector) → HaveWidths (input_widths design) inputs → HaveWidths (register_widths design) regs → (rule : ℕ) → EventsFit (register_widths design) ((system_of design).alone rule inputs regs).events
 run_fits design valid inputs regs i r rule = of_rule (slice_get design.rules rule) refl
   where
-    s : Surroundings
-    s = record { tables = design.tables; hosts = design.hosts; inputs = inputs; regs = regs }
-
-    fits : FitsDeclarations (declarations design) s
-    fits = record { tables = refl; hosts = refl; valid_tables = valid.tables; valid_hosts = valid.hosts; inputs = i; registers = r }
-
-    of_rule : (found : Option Rule) → slice_get design.rules rule ≡ found → EventsFit design.regs (alone_if s found).events
+    of_rule : (found : Option Rule) → slice_get design.rules rule ≡ found → EventsFit (register_widths design) (alone_if (environment design inputs) regs found).events
     of_rule None h = tt
-    of_rule (Some found) h =
-        let typed = subst (λ (x : Rule). HasWidth (declarations design) x.body [] 0) (get_or_from_slice_get design.rules rule found found h) (valid.rules rule found (slice_get_within design.rules rule found h)) in
-        alone_fits (declarations design) s found.body fits (0, typed)
+    of_rule (Some found) h = alone_fits (declarations design) (environment design inputs) regs found.body (environment_fits design valid inputs i) r (0, body_typed design valid rule found h)
 
-pass_fits : (design : Parts) → IsValid design → (inputs : List BitVector) → FitsInputs design.inputs inputs → (number : ℕ) (node : Node) (walk : Walk) → FitsRegisters design.regs walk.regs → FitsRegisters design.regs (pass design inputs number node walk).regs
-pass_fits design valid inputs i number node walk r = chosen (is_at number walk.at) (fires walk.past run)
+-- where a rule fires on registers that fit, it leaves ones that fit
+pub fire_fits : (design : Parts) → IsValid design → (inputs : List BitVector) → HaveWidths (input_widths design) inputs → (rule : ℕ) (state fired : State) → HaveWidths (register_widths design) state.regs → fire (system_of design) inputs rule state ≡ Some fired → HaveWidths (register_widths design) fired.regs
+fire_fits design valid inputs i rule state fired r is = chosen (fires state.past run) is
   where
     run : Alone
-    run = alone_on design inputs walk.regs node.rule
+    run = (system_of design).alone rule inputs state.regs
 
-    fired : Fired
-    fired = record { rule = node.rule; events = run.events }
-
-    chosen : (here fires : Bool) → let w : Walk = if here then (if fires then record { regs = after run.events walk.regs; past = walk.past ++ fired ∷ []; at = node.yes } else record { regs = walk.regs; past = walk.past; at = node.no }) else walk in FitsRegisters design.regs w.regs
-    chosen true true = after_fits design.regs run.events walk.regs (run_fits design valid inputs walk.regs i r node.rule) r
-    chosen true false = r
-    chosen false fires = r
-
-past_fits : (design : Parts) → IsValid design → (inputs : List BitVector) → FitsInputs design.inputs inputs → (number : ℕ) (nodes : List Node) (walk : Walk) → FitsRegisters design.regs walk.regs → FitsRegisters design.regs (walk_past design inputs number nodes walk).regs
-past_fits design valid inputs i number [] walk r = r
-past_fits design valid inputs i number (node ∷ nodes) walk r =
-    past_fits design valid inputs i (number + 1) nodes (pass design inputs number node walk) (pass_fits design valid inputs i number node walk r)
+    chosen : (b : Bool) → (if b then Some (join state rule run.events) else None) ≡ Some fired → HaveWidths (register_widths design) fired.regs
+    chosen true e =
+        let same : join state rule run.events ≡ fired = cc in
+        subst (λ (s : State). HaveWidths (register_widths design) s.regs) same (after_fits (register_widths design) run.events state.regs (run_fits design valid inputs state.regs i r rule) r)
+    chosen false e = absurd cc
 
 -- a cycle leaves a row that fits
-pub cycle_fits : (design : Parts) → IsValid design → (inputs regs : List BitVector) → FitsInputs design.inputs inputs → FitsRegisters design.regs regs → RowFits design (cycle design inputs regs)
+pub cycle_fits : (design : Parts) → IsValid design → (inputs regs : List BitVector) → HaveWidths (input_widths design) inputs → HaveWidths (register_widths design) regs → RowFits design (cycle (system_of design) inputs regs)
 cycle_fits design valid inputs regs i r =
     record {
-      registers = past_fits design valid inputs i 0 design.nodes (record { regs = regs; past = []; at = root design.nodes }) r;
-      flags = length-map-range_with_len (has_fired (walk_of design inputs regs).past) 0 (length design.rules);
+      registers = walk_past_keeps (λ (s : State). HaveWidths (register_widths design) s.regs) (fire (system_of design) inputs) (fire_fits design valid inputs i) 0 design.nodes (start design.nodes (begin regs)) r;
+      flags = length-map-range_with_len (is_among (numbers (walk_of (system_of design) inputs regs).state.past)) 0 (length design.rules);
     }
 
 -- the registers start at values that fit
-first_values_fit : (design : Parts) → IsValid design → FitsRegisters design.regs (first_values design)
+pub first_values_fit : (design : Parts) → IsValid design → HaveWidths (register_widths design) (first_values design)
 first_values_fit design valid =
     record {
-      count = length-map design.regs (λ (decl : RegDecl). decl.first);
-      widths = λ register width (decl, found, wide).
-          let inside = slice_get_within design.regs register decl found in
-          let mine = subst IsRegister (get_or_from_slice_get design.regs register decl decl found) (valid.registers register decl inside) in
-          let first = get_or-map (λ (d : RegDecl). d.first) design.regs register decl unit inside ∙ ap (λ (d : RegDecl). d.first) (get_or_from_slice_get design.regs register decl decl found) in
-          subst (HasBits width) (sym first) (subst (λ (n : ℕ). HasBits n decl.first) wide mine);
+      count = length-map design.regs (λ (decl : RegDecl). decl.first) ∙ sym (length-map design.regs (λ (decl : RegDecl). decl.width));
+      each = λ register width is. of_decl register width (slice_get design.regs register) refl (sym (slice_get-map (λ (decl : RegDecl). decl.width) design.regs register) ∙ is);
     }
+  where
+    of_decl : (register width : ℕ) (found : Option RegDecl) → slice_get design.regs register ≡ found → option_map (λ (decl : RegDecl). decl.width) (slice_get design.regs register) ≡ Some width → HasWidth (slice_index_or (first_values design) register unit) width
+    of_decl register width None found is =
+        let none = ap (option_map (λ (decl : RegDecl). decl.width)) found in
+        absurd cc
+    of_decl register width (Some decl) found is =
+        let inside = slice_get_within design.regs register decl found in
+        let here = get_or_from_slice_get design.regs register decl decl found in
+        let mine = subst IsRegister here (valid.registers register decl inside) in
+        let first = get_or-map (λ (d : RegDecl). d.first) design.regs register decl unit inside ∙ ap (λ (d : RegDecl). d.first) here in
+        let some = ap (option_map (λ (d : RegDecl). d.width)) found in
+        let wide : decl.width ≡ width = cc in
+        subst (λ (v : BitVector). HasWidth v width) (sym first) (subst (λ (n : ℕ). HasWidth decl.first n) wide mine)
 
-rows_after_fit : (design : Parts) → IsValid design → (inputs : InputsByCycle) (count last : ℕ) (regs : List BitVector) → ((k : ℕ) → last < k → k ≤ last + count → FitsInputs design.inputs (inputs k)) → FitsRegisters design.regs regs → AllByRecursion (RowFits design) (rows_after design inputs count last regs)
-rows_after_fit design valid inputs zero last regs i r = tt
-rows_after_fit design valid inputs (suc count) last regs i r =
-    let row = cycle_fits design valid (inputs (last + 1)) regs (i (last + 1) (omega arith) (omega arith)) r in
-    (row, rows_after_fit design valid inputs count (last + 1) (cycle design (inputs (last + 1)) regs).regs (λ k after within. i k (omega (arith, after)) (omega (arith, within))) row.registers)
+-- values have the widths that they have
+pub widths-same : (widths : List ℕ) (values : List BitVector) → HaveWidths widths values → map (λ (value : BitVector). value.width) values ≡ widths
+widths-same widths values h =
+    let size : length (map (λ (value : BitVector). value.width) values) ≡ length widths = length-map values (λ (value : BitVector). value.width) ∙ h.count in
+    same_lists (map (λ (value : BitVector). value.width) values) widths size (λ k d inside.
+    let here : k < length widths = omega (arith, inside, size) in
+    get_or-map (λ (value : BitVector). value.width) values k unit d (omega (arith, here, h.count))
+    ∙ (h.each k (get_or widths k d) (slice_get-get_or widths k d here)).1)
 
-pub runs_fit : RunsFit
-runs_fit design inputs cycles valid i =
-    let first = first_values_fit design valid in (
-      record { registers = first; flags = length-replicate (length design.rules) false },
-      rows_after_fit design valid inputs (cycles - 0) 0 (first_values design) (λ k after within. i k (omega (arith, after)) (omega (arith, within))) first,
-    )
+-- registers that fit have the widths that they have
+pub HaveWidths-own : (widths : List ℕ) (values : List BitVector) → HaveWidths widths values → HaveWidths (map (λ (value : BitVector). value.width) values) values
+HaveWidths-own widths values h = subst (λ (ws : List ℕ). HaveWidths ws values) (sym (widths-same widths values h)) h

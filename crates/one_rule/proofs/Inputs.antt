@@ -11,10 +11,12 @@ use Rattle.std.proofs.lemmas.Map.Views.{Contains-from_lookup}
 use Rattle.std.proofs.lemmas.List.{get_or-map, length-map, map_push, same_lists, take_more, length-take-le}
 use Rattle.std.proofs.lemmas.List.FromFn.{length-enumerate_from, get_or-enumerate_from}
 use Rattle.kw_bits.specs.BitVector.{BitVector}
-use Rattle.typed_core.specs.Alone.{unit}
-use Rattle.typed_core.specs.Valid.{HasBits, IsWidth}
+use Rattle.typed_core.specs.Evaluation.{unit}
+use Rattle.kw_bits.specs.Laws.{HasWidth}
+use Rattle.typed_core.specs.Valid.{IsWidth}
+use Rattle.typed_core.specs.Widths.{HaveWidths}
 use Rattle.one_rule.specs.KeptLines.{AgreesWith, IsKeptLine}
-use Rattle.one_rule.specs.Stimulus.{Assignment, Assigns, FitsWidths, inputs_by, value_by, zero_at}
+use Rattle.one_rule.specs.Stimulus.{Assignment, Assigns, inputs_by, value_by, zero_at}
 use Rattle.one_rule.proofs.Lines.{value_at, value_by-sorted}
 
 pub length-inputs_by : (widths : List ℕ) (line : List Assignment) → length (inputs_by widths line) ≡ length widths
@@ -64,30 +66,30 @@ pub ruleset input_steps = (inputs_by-nil, inputs_by_more)
 
 -- ---- values that fit
 
-zero_fits : (width : ℕ) → IsWidth width → HasBits width (zero_at width)
+zero_fits : (width : ℕ) → IsWidth width → HasWidth (zero_at width) width
 zero_fits width (some, most) =
     (record { some_bit = some; no_wider = most; in_range = pow_pos width }, refl)
 
 -- the value of an input by a line has the input's width
-value_by_fits : (widths : List ℕ) (line : List Assignment) (input width : ℕ) → All (Assigns widths) line → slice_get widths input ≡ Some width → IsWidth width → HasBits width (value_by line input width)
+value_by_fits : (widths : List ℕ) (line : List Assignment) (input width : ℕ) → All (Assigns widths) line → slice_get widths input ≡ Some width → IsWidth width → HasWidth (value_by line input width) width
 value_by_fits widths line input width values found wide = by_answer (lookup (nat_eq input) line) refl
   where
-    by_answer : (o : Option BitVector) → lookup (nat_eq input) line ≡ o → HasBits width (unwrap_or o (zero_at width))
+    by_answer : (o : Option BitVector) → lookup (nat_eq input) line ≡ o → HasWidth (unwrap_or o (zero_at width)) width
     by_answer None e = zero_fits width wide
     by_answer (Some v) e =
         let a = All-contains (Assigns widths) line (input, v) values (Contains-from_lookup eqb-true input v line e) in
         let same : a.0 ≡ width = cc in
-        subst (λ (w : ℕ). HasBits w v) same a.2
+        subst (λ (w : ℕ). HasWidth v w) same a.2
 
 -- the values of all inputs by a line fit
-pub inputs_by_fits : (widths : List ℕ) (line : List Assignment) → All IsWidth widths → All (Assigns widths) line → FitsWidths widths (inputs_by widths line)
+pub inputs_by_fits : (widths : List ℕ) (line : List Assignment) → All IsWidth widths → All (Assigns widths) line → HaveWidths widths (inputs_by widths line)
 inputs_by_fits widths line each values =
     record {
       count = length-inputs_by widths line;
-      values = λ input width found.
+      each = λ input width found.
           let within = slice_get_within widths input width found in
           let here = get_or_from_slice_get widths input width 0 found in
-          subst (HasBits width) (sym (get_or-inputs_by widths line input unit within ∙ ap (value_by line input) here)) (value_by_fits widths line input width values found (subst IsWidth here (each input 0 within)));
+          subst (λ (v : BitVector). HasWidth v width) (sym (get_or-inputs_by widths line input unit within ∙ ap (value_by line input) here)) (value_by_fits widths line input width values found (subst IsWidth here (each input 0 within)));
     }
 
 -- ---- lines that give the same

@@ -16,7 +16,7 @@ use Rattle.std.proofs.lemmas.List.Elements.{All-map, All-push, recursion_from_Al
 use Rattle.std.proofs.lemmas.List.Quantifiers.{all_pairs_push}
 use Rattle.std.proofs.lemmas.Map.Views.{lookup-from_Contains, Contains-from_lookup}
 use Rattle.kw_bits.specs.BitVector.{BitVector}
-use Rattle.typed_core.specs.Alone.{unit}
+use Rattle.typed_core.specs.Evaluation.{unit}
 use Rattle.one_rule.specs.KeptLines.{IsAscending}
 use Rattle.one_rule.specs.Stimulus.{Assignment, Assigns, IsLine, value_by, zero_at}
 

@@ -1,24 +1,27 @@
--- Where a walk comes from: a path of nodes from the root, each of which tried another rule.
-use Rattle.std.proofs.Common.{◌≡◌, ℕ, suc, ◌+◌, ◌<◌, ◌≤◌, ◌⊎◌, inl, inr, Bool, true, false, List, [], ◌∷◌, ◌++◌, length, Some, All, AllPairs, refl, sym, ap, ◌∙◌, subst, eqb-true, arith}
+-- Where a cycle's walk comes from: a path of nodes from the root, each of which tried another rule.
+use Rattle.std.proofs.Common.{◌≡◌, ℕ, ◌+◌, ◌<◌, ◌≤◌, ◌⊎◌, inl, inr, Bool, true, false, List, [], ◌∷◌, ◌++◌, length, Some, None, All, AllPairs, refl, sym, ap, ◌∙◌, subst, eqb-true, arith}
 use Rattle.std.specs.Prelude.{slice_get, slice_index_or, if◌then◌else◌, ◌==◌}
 use Rattle.std.proofs.lemmas.Bool.{cases_Bool, cases_lt}
-use Rattle.std.proofs.lemmas.List.{get_or_append_left, get_or_at, get_or_default, get_or_past, length-append}
+use Rattle.std.proofs.lemmas.List.{get_or_append_left, get_or_at, get_or_default, get_or-map, get_or_past, length-append, length-map}
 use Rattle.std.proofs.lemmas.List.Elements.{All-push}
 use Rattle.std.proofs.lemmas.List.Folds.{Any-from_list_any}
 use Rattle.std.proofs.lemmas.List.FromFn.{get_or-map-range_with_len, length-map-range_with_len}
 use Rattle.std.proofs.lemmas.List.Quantifiers.{all_pairs_push}
 use Rattle.kw_bits.specs.BitVector.{BitVector}
-use Rattle.typed_core.specs.Alone.{after}
-use Rattle.typed_core.specs.Valid.{Continues, IsContinuation, IsNode, IsPath, IsValid}
+use Rattle.typed_core.specs.Valid.{Continues, IsContinuation, IsNode, IsPath, TriesNoneTwice}
 use Rattle.typed_core.specs.declared.design.Next.{Next}
 use Rattle.typed_core.specs.declared.design.Next.TheVariants as next
 use Rattle.typed_core.specs.declared.design.Node.{Node}
-use Rattle.typed_core.specs.declared.design.Parts.{Parts}
-use Rattle.typed_core.specs.declared.run_alone.Alone.{Alone}
-use Rattle.one_rule.specs.Cycle.{alone_on, cycle, fires, flags, has_fired, is_at, pass, root, visit, walk_of, walk_past}
-use Rattle.one_rule.specs.Laws.{AreOfDifferentRules, FiresOnce, FiresOnPath, IsIdle, IsOnPath, Tries}
-use Rattle.one_rule.specs.declared.walk.Fired.{Fired}
-use Rattle.one_rule.specs.declared.walk.Walk.{Walk}
+use Rattle.typed_core.specs.declared.outcome.Alone.{Alone}
+use Rattle.one_rule.specs.Cycle.{System, begin, cycle, fire, fires, flags, is_among, join, numbers, walk_of}
+use Rattle.one_rule.specs.Laws.{AreOfDifferentRules, FiresOnce, FiresOnPath, IsIdle, IsOnPath, IsScheduled, Tries, WalksEnd}
+use Rattle.one_rule.specs.Walk.{Walk, goes_on, is_at, pass, start, visit, walk_past}
+use Rattle.one_rule.specs.declared.cycle.Fired.{Fired}
+use Rattle.one_rule.specs.declared.cycle.State.{State}
+use Rattle.one_rule.proofs.WalkLaws.{StandFrom, StandFrom-all, StandFrom-first, StandFrom-rest, walk_ends}
+
+pub walks_end : WalksEnd
+walks_end system inputs regs valid = walk_ends (fire system inputs) system.rules system.nodes valid.nodes (begin regs)
 
 -- one of the first nodes along the path from the root tries the rule
 abbrev IsTried : List Node → List ℕ → ℕ → Fired → Type 0
@@ -53,9 +56,9 @@ comes_at nodes past number (next.Node to) h c = subst (Comes nodes past) (sym (e
 comes_at nodes past number next.End h c = absurd cc
 
 -- the walk goes on along the path
-goes_on : (nodes : List Node) (past past' : List Fired) (number : ℕ) (node : Node) (at : Next) → slice_get nodes number ≡ Some node → ((node.yes ≡ at) ⊎ (node.no ≡ at)) → IsContinuation (length nodes) number at → (c : Comes nodes past number) → All (IsTried nodes c.path (length c.path + 1)) past' → ComesAt nodes past' at
-goes_on nodes past past' number node next.End is side inside c tried = tt
-goes_on nodes past past' number node (next.Node to) is side inside c tried =
+path_goes_on : (nodes : List Node) (past past' : List Fired) (number : ℕ) (node : Node) (at : Next) → slice_get nodes number ≡ Some node → ((node.yes ≡ at) ⊎ (node.no ≡ at)) → IsContinuation (length nodes) number at → (c : Comes nodes past number) → All (IsTried nodes c.path (length c.path + 1)) past' → ComesAt nodes past' at
+path_goes_on nodes past past' number node next.End is side inside c tried = tt
+path_goes_on nodes past past' number node (next.Node to) is side inside c tried =
     record {
       path = c.path ++ to ∷ [];
       is_path = IsPath-push nodes 0 c.path to c.is_path (node, ap (slice_get nodes) c.last ∙ is, side) inside.1;
@@ -78,10 +81,10 @@ fired_too nodes past number node is c f same =
     All-push (IsTried nodes c.path (length c.path + 1)) past f (λ k d h. let t = c.tried k d h in (t.0, omega (arith, t.1), t.2)) here
 
 -- which is another than those that fired before
-another : (design : Parts) → IsValid design → (past : List Fired) (number : ℕ) (node : Node) → slice_get design.nodes number ≡ Some node → (c : Comes design.nodes past number) (f g : Fired) → node.rule ≡ f.rule → IsTried design.nodes c.path (length c.path) g → AreOfDifferentRules g f
-another design valid past number node is c f g same t e =
-    let apart = valid.once c.path c.is_path t.0 (length c.path) 0 t.1 (omega arith) in
-    apart t.2.0 node t.2.1 (ap (slice_get design.nodes) c.last ∙ is) (t.2.2 ∙ e ∙ sym same)
+another : (nodes : List Node) → TriesNoneTwice nodes → (past : List Fired) (number : ℕ) (node : Node) → slice_get nodes number ≡ Some node → (c : Comes nodes past number) (f g : Fired) → node.rule ≡ f.rule → IsTried nodes c.path (length c.path) g → AreOfDifferentRules g f
+another nodes once past number node is c f g same t e =
+    let apart = once c.path c.is_path t.0 (length c.path) 0 t.1 (omega arith) in
+    apart t.2.0 node t.2.1 (ap (slice_get nodes) c.last ∙ is) (t.2.2 ∙ e ∙ sym same)
 
 -- and is on a path
 on_path : (nodes : List Node) (past : List Fired) (number : ℕ) (node : Node) → slice_get nodes number ≡ Some node → Comes nodes past number → IsOnPath nodes node.rule
@@ -89,93 +92,95 @@ on_path nodes past number node is c =
     let found = get_or_default (0 ∷ c.path) (length c.path) number 0 (omega arith) ∙ c.last in
     (c.path, number, c.is_path, (length c.path, omega arith, found), (node, is, refl))
 
-visit_comes : (design : Parts) → IsValid design → (inputs : List BitVector) (number : ℕ) (node : Node) (walk : Walk) → slice_get design.nodes number ≡ Some node → is_at number walk.at ≡ true → Came design.nodes walk.past walk.at → Came design.nodes (visit design inputs node walk).past (visit design inputs node walk).at
-visit_comes design valid inputs number node walk is here came = chosen (fires walk.past run)
-  where
-    run : Alone
-    run = alone_on design inputs walk.regs node.rule
-
-    fired : Fired
-    fired = record { rule = node.rule; events = run.events }
-
-    c : Comes design.nodes walk.past number
-    c = comes_at design.nodes walk.past number walk.at here came.place
-
-    inside : IsNode (length design.rules) (length design.nodes) number node
-    inside = valid.nodes number node is
-
-    chosen : (b : Bool) → let w : Walk = if b then record { regs = after run.events walk.regs; past = walk.past ++ fired ∷ []; at = node.yes } else record { regs = walk.regs; past = walk.past; at = node.no } in Came design.nodes w.past w.at
-    chosen true =
-        record {
-          others = all_pairs_push AreOfDifferentRules walk.past fired came.others (λ k d h. another design valid walk.past number node is c fired (slice_index_or walk.past k d) refl (c.tried k d h));
-          on_path = All-push (OnPath design.nodes) walk.past fired came.on_path (on_path design.nodes walk.past number node is c);
-          place = goes_on design.nodes walk.past (walk.past ++ fired ∷ []) number node node.yes is (inl refl) inside.yes c (fired_too design.nodes walk.past number node is c fired refl);
-        }
-    chosen false =
-        record {
-          others = came.others;
-          on_path = came.on_path;
-          place = goes_on design.nodes walk.past walk.past number node node.no is (inr refl) inside.no c (λ k d h. let t = c.tried k d h in (t.0, omega (arith, t.1), t.2));
-        }
-
-pass_comes : (design : Parts) → IsValid design → (inputs : List BitVector) (number : ℕ) (node : Node) (walk : Walk) → slice_get design.nodes number ≡ Some node → Came design.nodes walk.past walk.at → Came design.nodes (pass design inputs number node walk).past (pass design inputs number node walk).at
-pass_comes design valid inputs number node walk is came = chosen (is_at number walk.at) refl
-  where
-    chosen : (b : Bool) → is_at number walk.at ≡ b → let w : Walk = if b then visit design inputs node walk else walk in Came design.nodes w.past w.at
-    chosen true h = visit_comes design valid inputs number node walk is h came
-    chosen false h = came
-
--- the nodes stand in the scheduler from this number on
-abbrev pub StandFrom : List Node → ℕ → List Node → Type 0
-StandFrom nodes number rest = (k : ℕ) (node : Node) → slice_get rest k ≡ Some node → slice_get nodes (number + k) ≡ Some node
-
-past_comes : (design : Parts) → IsValid design → (inputs : List BitVector) (number : ℕ) (rest : List Node) (walk : Walk) → StandFrom design.nodes number rest → Came design.nodes walk.past walk.at → Came design.nodes (walk_past design inputs number rest walk).past (walk_past design inputs number rest walk).at
-past_comes design valid inputs number [] walk stand came = came
-past_comes design valid inputs number (node ∷ rest) walk stand came =
-    let is : slice_get design.nodes number ≡ Some node = subst (λ n. slice_get design.nodes n ≡ Some node) (omega arith) (stand 0 node refl) in
-    past_comes design valid inputs (number + 1) rest (pass design inputs number node walk)
-    (λ k other e. subst (λ n. slice_get design.nodes n ≡ Some other) (omega arith) (stand (suc k) other e))
-    (pass_comes design valid inputs number node walk is came)
+-- the walk has come so
+abbrev HasCome : List Node → Walk State → Type 0
+HasCome nodes walk = Came nodes walk.state.past walk.at
 
 -- the walk begins at the root
-begins : (nodes : List Node) → Came nodes [] (root nodes)
-begins [] = record { others = λ i j d less inside. absurd (omega (arith, inside)); on_path = λ k d h. absurd (omega (arith, h)); place = tt }
-begins (node ∷ nodes) =
+begins : (nodes : List Node) (regs : List BitVector) → HasCome nodes (start nodes (begin regs))
+begins [] regs = record { others = λ i j d less inside. absurd (omega (arith, inside)); on_path = λ k d h. absurd (omega (arith, h)); place = tt }
+begins (node ∷ nodes) regs =
     record {
       others = λ i j d less inside. absurd (omega (arith, inside));
       on_path = λ k d h. absurd (omega (arith, h));
       place = record { path = []; is_path = omega arith; last = refl; tried = λ k d h. absurd (omega (arith, h)) };
     }
 
-walk_comes : (design : Parts) → IsValid design → (inputs regs : List BitVector) → Came design.nodes (walk_of design inputs regs).past (walk_of design inputs regs).at
-walk_comes design valid inputs regs =
-    past_comes design valid inputs 0 design.nodes (record { regs = regs; past = []; at = root design.nodes })
-    (λ k node e. subst (λ n. slice_get design.nodes n ≡ Some node) (omega arith) e) (begins design.nodes)
+module _ (system : System) (inputs : List BitVector) (valid : IsScheduled system) where
+  visit_comes : (number : ℕ) (node : Node) (walk : Walk State) → slice_get system.nodes number ≡ Some node → is_at number walk.at ≡ true → HasCome system.nodes walk → HasCome system.nodes (visit (fire system inputs) node walk)
+  visit_comes number node walk is here came = chosen (fires walk.state.past run)
+    where
+      run : Alone
+      run = system.alone node.rule inputs walk.state.regs
+
+      fired : Fired
+      fired = record { rule = node.rule; events = run.events }
+
+      past : List Fired
+      past = walk.state.past
+
+      c : Comes system.nodes past number
+      c = comes_at system.nodes past number walk.at here came.place
+
+      inside : IsNode system.rules (length system.nodes) number node
+      inside = valid.nodes number node is
+
+      chosen : (b : Bool) → HasCome system.nodes (goes_on node walk.state (if b then Some (join walk.state node.rule run.events) else None))
+      chosen true =
+          record {
+            others = all_pairs_push AreOfDifferentRules past fired came.others (λ k d h. another system.nodes valid.once past number node is c fired (slice_index_or past k d) refl (c.tried k d h));
+            on_path = All-push (OnPath system.nodes) past fired came.on_path (on_path system.nodes past number node is c);
+            place = path_goes_on system.nodes past (past ++ fired ∷ []) number node node.yes is (inl refl) inside.yes c (fired_too system.nodes past number node is c fired refl);
+          }
+      chosen false =
+          record {
+            others = came.others;
+            on_path = came.on_path;
+            place = path_goes_on system.nodes past past number node node.no is (inr refl) inside.no c (λ k d h. let t = c.tried k d h in (t.0, omega (arith, t.1), t.2));
+          }
+
+  pass_comes : (number : ℕ) (node : Node) (walk : Walk State) → slice_get system.nodes number ≡ Some node → HasCome system.nodes walk → HasCome system.nodes (pass (fire system inputs) number node walk)
+  pass_comes number node walk is came = chosen (is_at number walk.at) refl
+    where
+      chosen : (b : Bool) → is_at number walk.at ≡ b → HasCome system.nodes (if b then visit (fire system inputs) node walk else walk)
+      chosen true h = visit_comes number node walk is h came
+      chosen false h = came
+
+  past_comes : (number : ℕ) (rest : List Node) (walk : Walk State) → StandFrom system.nodes number rest → HasCome system.nodes walk → HasCome system.nodes (walk_past (fire system inputs) number rest walk)
+  past_comes number [] walk stand came = came
+  past_comes number (node ∷ rest) walk stand came =
+      past_comes (number + 1) rest (pass (fire system inputs) number node walk) (StandFrom-rest system.nodes number node rest stand)
+      (pass_comes number node walk (StandFrom-first system.nodes number node rest stand) came)
+
+  walk_comes : (regs : List BitVector) → HasCome system.nodes (walk_of system inputs regs)
+  walk_comes regs = past_comes 0 system.nodes (start system.nodes (begin regs)) (StandFrom-all system.nodes) (begins system.nodes regs)
 
 pub fires_once : FiresOnce
-fires_once design inputs regs valid = (walk_comes design valid inputs regs).others
+fires_once system inputs regs valid = (walk_comes system inputs valid regs).others
 
 -- a rule that has fired is on a path
-fired_on_path : (nodes : List Node) (past : List Fired) (rule : ℕ) → All (OnPath nodes) past → has_fired past rule ≡ true → IsOnPath nodes rule
+fired_on_path : (nodes : List Node) (past : List Fired) (rule : ℕ) → All (OnPath nodes) past → is_among (numbers past) rule ≡ true → IsOnPath nodes rule
 fired_on_path nodes past rule all h =
-    let found = Any-from_list_any (λ (f : Fired). f.rule == rule) past h in
-    let same = eqb-true found.1.rule rule found.4 in
-    subst (IsOnPath nodes) same (subst (OnPath nodes) found.3 (all found.0 found.1 found.2))
+    let (k, n, inside, found, same) = Any-from_list_any (λ (n : ℕ). n == rule) (numbers past) h in
+    let within : k < length past = omega (arith, inside, length-map past (λ (f : Fired). f.rule)) in
+    let d : Fired = record { rule = n; events = [] } in
+    let here : (slice_index_or past k d).rule ≡ rule = sym (get_or-map (λ (f : Fired). f.rule) past k d n within) ∙ found ∙ eqb-true n rule same in
+    subst (IsOnPath nodes) here (all k d within)
 
 -- the flag of a rule that hasn't
-flag_of : (rules : ℕ) (past : List Fired) (rule : ℕ) → has_fired past rule ≡ false → slice_index_or (flags rules past) rule false ≡ false
-flag_of rules past rule h = chosen (cases_lt rule rules)
+flag_of : (rules : ℕ) (fired : List ℕ) (rule : ℕ) → is_among fired rule ≡ false → slice_index_or (flags rules fired) rule false ≡ false
+flag_of rules fired rule h = chosen (cases_lt rule rules)
   where
-    chosen : ((rule < rules) ⊎ (rules ≤ rule)) → slice_index_or (flags rules past) rule false ≡ false
-    chosen (inl inside) = get_or-map-range_with_len (has_fired past) 0 rules rule rule false inside (omega arith) ∙ h
-    chosen (inr outside) = get_or_past (flags rules past) rule false (omega (arith, outside, length-map-range_with_len (has_fired past) 0 rules))
+    chosen : ((rule < rules) ⊎ (rules ≤ rule)) → slice_index_or (flags rules fired) rule false ≡ false
+    chosen (inl inside) = get_or-map-range_with_len (is_among fired) 0 rules rule rule false inside (omega arith) ∙ h
+    chosen (inr outside) = get_or_past (flags rules fired) rule false (omega (arith, outside, length-map-range_with_len (is_among fired) 0 rules))
 
 pub fires_on_path : FiresOnPath
-fires_on_path design inputs regs rule valid off = chosen (cases_Bool (has_fired past rule))
+fires_on_path system inputs regs rule valid off = chosen (cases_Bool (is_among (numbers past) rule))
   where
     past : List Fired
-    past = (walk_of design inputs regs).past
+    past = (walk_of system inputs regs).state.past
 
-    chosen : ((has_fired past rule ≡ true) ⊎ (has_fired past rule ≡ false)) → IsIdle rule (cycle design inputs regs)
-    chosen (inl h) = absurd (off (fired_on_path design.nodes past rule (walk_comes design valid inputs regs).on_path h))
-    chosen (inr h) = flag_of (length design.rules) past rule h
+    chosen : ((is_among (numbers past) rule ≡ true) ⊎ (is_among (numbers past) rule ≡ false)) → IsIdle rule (cycle system inputs regs)
+    chosen (inl h) = absurd (off (fired_on_path system.nodes past rule (walk_comes system inputs valid regs).on_path h))
+    chosen (inr h) = flag_of system.rules (numbers past) rule h

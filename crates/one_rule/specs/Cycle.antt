@@ -1,32 +1,53 @@
--- One cycle: whole rules, one after another in scheduler order, after the one-rule-at-a-time semantics of Koika
--- (Bourgeat et al., PLDI 2020). Pairs of events are looked at after a rule has run; no log is read inside a rule.
-use Rattle.std.specs.Prelude.{ℕ, ◌+◌, Bool, true, false, not, ◌==◌, ◌&&◌, List, [], ◌∷◌, ◌++◌, length, map, Option, Some, None, slice_get, if◌then◌else◌}
+-- One cycle: whole rules, one after another in scheduler order, after the one-rule-at-a-time semantics of Kôika
+-- (Bourgeat et al., PLDI 2020), given what each rule does alone. Pairs of events are looked at after a rule has run;
+-- no log is read inside a rule.
+use Rattle.std.specs.Prelude.{ℕ, Bool, true, false, not, ◌==◌, ◌&&◌, List, [], ◌∷◌, ◌++◌, length, map, Option, Some, None, slice_get, if◌then◌else◌}
 use Rattle.std.specs.List.{list_any, range_with_len}
 use Rattle.kw_bits.specs.BitVector.{BitVector}
-use Rattle.typed_core.specs.Alone.{Surroundings, alone, after}
+use Rattle.typed_core.specs.Alone.{alone, after}
 use Rattle.typed_core.specs.Clash.{clashes}
+use Rattle.typed_core.specs.Evaluation.{Environment}
+use Rattle.typed_core.specs.Valid.{externs_of}
 use Rattle.typed_core.specs.declared.access.Access.{Access}
 use Rattle.typed_core.specs.declared.access.Event.{Event}
-use Rattle.typed_core.specs.declared.run_alone.Alone.{Alone}
-use Rattle.typed_core.specs.declared.run_alone.Outcome.{Outcome}
-use Rattle.typed_core.specs.declared.run_alone.Outcome.TheVariants.{Done, Abort, OwnClash}
+use Rattle.typed_core.specs.declared.outcome.Alone.{Alone}
+use Rattle.typed_core.specs.declared.outcome.Outcome.{Outcome}
+use Rattle.typed_core.specs.declared.outcome.Outcome.TheVariants.{Done, Abort, OwnClash}
 use Rattle.typed_core.specs.declared.design.Rule.{Rule}
 use Rattle.typed_core.specs.declared.design.Node.{Node}
-use Rattle.typed_core.specs.declared.design.Next.{Next}
-use Rattle.typed_core.specs.declared.design.Next.TheVariants as next
 use Rattle.typed_core.specs.declared.design.Parts.{Parts}
-use Rattle.one_rule.specs.declared.walk.Fired.{Fired}
-use Rattle.one_rule.specs.declared.walk.Walk.{Walk}
+use Rattle.one_rule.specs.Walk.{Firing, Walk, walk_from}
+use Rattle.one_rule.specs.declared.cycle.Fired.{Fired}
+use Rattle.one_rule.specs.declared.cycle.State.{State}
 use Rattle.one_rule.specs.declared.rows.Row.{Row}
 
--- the rule of this number, run alone on the registers
-abbrev pub alone_if : Surroundings → Option Rule → Alone
-alone_if s (Some rule) = alone s rule.body
-alone_if s None = record { events = []; outcome = Done }
+-- ---- rules and a scheduler
 
-abbrev pub alone_on : Parts → List BitVector → List BitVector → ℕ → Alone
-alone_on design inputs regs rule =
-    alone_if (record { tables = design.tables; hosts = design.hosts; inputs = inputs; regs = regs }) (slice_get design.rules rule)
+-- how many rules there are, what each of them does alone on inputs and registers, and the scheduler's nodes
+pub record System : Type 0 where
+  pub rules : ℕ
+  pub alone : ℕ → List BitVector → List BitVector → Alone
+  pub nodes : List Node
+
+-- what a rule of a design does alone, if there is one of the number
+abbrev pub alone_if : Environment → List BitVector → Option Rule → Alone
+alone_if env regs (Some rule) = alone env regs rule.body
+alone_if env regs None = record { events = []; outcome = Done }
+
+-- what a design's rules are evaluated in
+abbrev pub environment : Parts → List BitVector → Environment
+environment design inputs = record { externs = externs_of design; inputs = inputs }
+
+-- a design's rules and its scheduler
+abbrev pub system_of : Parts → System
+system_of design =
+    record {
+      rules = length design.rules;
+      alone = λ rule inputs regs. alone_if (environment design inputs) regs (slice_get design.rules rule);
+      nodes = design.nodes;
+    }
+
+-- ---- firing
 
 abbrev pub is_done : Outcome → Bool
 is_done Done = true
@@ -34,66 +55,55 @@ is_done Abort = false
 is_done (OwnClash access) = false
 
 -- one of the events clashes with an earlier access
-abbrev pub clash_after : List Event → Access → Bool
-clash_after events earlier = list_any (λ (e : Event). clashes e.access earlier) events
+abbrev pub clash_with_access : List Event → Access → Bool
+clash_with_access events earlier = list_any (λ (e : Event). clashes e.access earlier) events
 
 -- one of the events clashes with one of an earlier rule's
-abbrev pub events_clash : List Event → List Event → Bool
-events_clash events earlier = list_any (λ (e : Event). clash_after events e.access) earlier
+abbrev pub clash_with_events : List Event → List Event → Bool
+clash_with_events events earlier = list_any (λ (e : Event). clash_with_access events e.access) earlier
 
 -- one of the events clashes with one of a rule that fired before
 abbrev pub clash_with : List Event → List Fired → Bool
-clash_with events past = list_any (λ (f : Fired). events_clash events f.events) past
+clash_with events past = list_any (λ (f : Fired). clash_with_events events f.events) past
 
 -- a rule fires where it runs to its end and none of its events clashes with one of an earlier fired rule
 abbrev pub fires : List Fired → Alone → Bool
 fires past run = is_done run.outcome && not (clash_with run.events past)
 
--- The scheduler tries the rule of the node. Where it fires, the registers are those that it leaves by running
--- whole, it joins the fired rules, and the walk goes on at `yes`. Else all stays and the walk goes on at `no`.
-abbrev pub visit : Parts → List BitVector → Node → Walk → Walk
-visit design inputs node walk =
-    let run : Alone = alone_on design inputs walk.regs node.rule in
-    if fires walk.past run
-    then record { regs = after run.events walk.regs; past = walk.past ++ record { rule = node.rule; events = run.events } ∷ []; at = node.yes }
-    else record { regs = walk.regs; past = walk.past; at = node.no }
+-- a rule that fires leaves the registers that it leaves by running whole, and joins those that fired
+abbrev pub join : State → ℕ → List Event → State
+join state rule events =
+    record { regs = after events state.regs; past = state.past ++ record { rule = rule; events = events } ∷ [] }
 
--- the walk is at the node of this number
-abbrev pub is_at : ℕ → Next → Bool
-is_at number (next.Node to) = number == to
-is_at number next.End = false
+abbrev pub fire : System → List BitVector → Firing State
+fire system inputs rule state =
+    let run : Alone = system.alone rule inputs state.regs in
+    if fires state.past run then Some (join state rule run.events) else None
 
--- the walk past a node: it visits the node where it is at it
-abbrev pub pass : Parts → List BitVector → ℕ → Node → Walk → Walk
-pass design inputs number node walk = if is_at number walk.at then visit design inputs node walk else walk
+-- ---- the row
 
--- The walk past these nodes, the first of them of this number. It visits the ones that it comes to, and ends,
--- since continuations are nodes of greater numbers.
-abbrev pub walk_past : Parts → List BitVector → ℕ → List Node → Walk → Walk
-walk_past design inputs number [] walk = walk
-walk_past design inputs number (node ∷ nodes) walk =
-    walk_past design inputs (number + 1) nodes (pass design inputs number node walk)
-
--- the walk begins at node 0, or at the end where there is no node
-abbrev pub root : List Node → Next
-root [] = next.End
-root (node ∷ nodes) = next.Node 0
+-- a cycle begins on these registers, and no rule has fired
+abbrev pub begin : List BitVector → State
+begin regs = record { regs = regs; past = [] }
 
 -- the end of a cycle's walk
-abbrev pub walk_of : Parts → List BitVector → List BitVector → Walk
-walk_of design inputs regs =
-    walk_past design inputs 0 design.nodes (record { regs = regs; past = []; at = root design.nodes })
+abbrev pub walk_of : System → List BitVector → List BitVector → Walk State
+walk_of system inputs regs = walk_from (fire system inputs) system.nodes (begin regs)
 
--- the rule is one of those that fired
-abbrev pub has_fired : List Fired → ℕ → Bool
-has_fired past rule = list_any (λ (f : Fired). f.rule == rule) past
+-- the numbers of the rules that fired
+abbrev pub numbers : List Fired → List ℕ
+numbers past = map (λ (f : Fired). f.rule) past
+
+-- the rule is one of these
+abbrev pub is_among : List ℕ → ℕ → Bool
+is_among fired rule = list_any (λ (n : ℕ). n == rule) fired
 
 -- one flag for each rule: whether it fired
-abbrev pub flags : ℕ → List Fired → List Bool
-flags rules past = map (has_fired past) (range_with_len 0 rules)
+abbrev pub flags : ℕ → List ℕ → List Bool
+flags rules fired = map (is_among fired) (range_with_len 0 rules)
 
 -- the registers at the end of a cycle, and which rules fired in it
-abbrev pub cycle : Parts → List BitVector → List BitVector → Row
-cycle design inputs regs =
-    let end : Walk = walk_of design inputs regs in
-    record { regs = end.regs; fired = flags (length design.rules) end.past }
+abbrev pub cycle : System → List BitVector → List BitVector → Row
+cycle system inputs regs =
+    let end : State = (walk_of system inputs regs).state in
+    record { regs = end.regs; fired = flags system.rules (numbers end.past) }

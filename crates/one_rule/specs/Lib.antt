@@ -1,9 +1,9 @@
+pub mod Walk
 pub mod Cycle
 pub mod Run
-pub mod Evaluation
 pub mod Rows
-pub mod Externs
-pub mod Scenes
+pub mod PortRun
+pub mod Answers
 pub mod Laws
 pub mod Stimulus
 pub mod KeptLines

@@ -1,11 +1,12 @@
 -- The stimulus of a run: which values the inputs have in each cycle. The first line of assignments is for cycle 1, and
 -- an input that isn't assigned is 0. It says nothing of texts.
-use Rattle.std.specs.Prelude.{◌≡◌, ◌≢◌, ℕ, zero, suc, List, [], map, length, All, AllPairs, Some, slice_get, slice_index_or, nat_eq, unwrap_or}
+use Rattle.std.specs.Prelude.{◌≡◌, ◌≢◌, ℕ, zero, suc, List, [], map, All, AllPairs, Some, slice_get, slice_index_or, nat_eq, unwrap_or}
 use Rattle.std.specs.List.{enumerate_from}
 use Rattle.std.specs.Map.{keys_of, lookup}
 use Rattle.kw_bits.specs.BitVector.{BitVector}
-use Rattle.typed_core.specs.Alone.{unit}
-use Rattle.typed_core.specs.Valid.{HasBits}
+use Rattle.kw_bits.specs.Laws.{HasWidth}
+use Rattle.typed_core.specs.Widths.{HaveWidths, input_widths}
+use Rattle.typed_core.specs.declared.design.Parts.{Parts}
 use Rattle.one_rule.specs.Run.{InputsByCycle}
 
 -- an input's number, and the value that it is given
@@ -14,7 +15,7 @@ Assignment = ℕ × BitVector
 
 -- the assignment is to an input that there is, and of a value of its width
 abbrev pub Assigns : List ℕ → Assignment → Type 0
-Assigns widths a = (width : ℕ) × (slice_get widths a.0 ≡ Some width) × HasBits width a.1
+Assigns widths a = (width : ℕ) × (slice_get widths a.0 ≡ Some width) × HasWidth a.1 width
 
 -- a line assigns values to inputs, at most one to each
 pub record IsLine (widths : List ℕ) (line : List Assignment) : Type 0 where
@@ -43,14 +44,13 @@ unfoldable pub inputs_of : InputVectors → InputsByCycle
 inputs_of s zero = inputs_by s.widths []
 inputs_of s (suc before) = slice_index_or s.cycles before (inputs_by s.widths [])
 
--- one value of the declared width for each input
-pub record FitsWidths (widths : List ℕ) (inputs : List BitVector) : Type 0 where
-  pub count : length inputs ≡ length widths
-  pub values : (input width : ℕ) → slice_get widths input ≡ Some width → HasBits width (slice_index_or inputs input unit)
-
 -- a stimulus has one value of its width for each input in every cycle
 abbrev pub AlwaysFits : InputVectors → Type 0
-AlwaysFits s = (cycle : ℕ) → FitsWidths s.widths (inputs_of s cycle)
+AlwaysFits s = (cycle : ℕ) → HaveWidths s.widths (inputs_of s cycle)
+
+-- the stimulus is one for the inputs of a design
+abbrev pub StimulusFits : Parts → InputVectors → Type 0
+StimulusFits design s = s.widths ≡ input_widths design
 
 -- the stimuli have inputs of the same widths, and give them the same values in every cycle
 pub record AreSame (a b : InputVectors) : Type 0 where

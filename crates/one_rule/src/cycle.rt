@@ -1,18 +1,33 @@
-ghost use Rattle.std.specs.Prelude.{◌≡◌, ◌<◌, ℕ, [], ◌∷◌, ◌++◌, IfOk, OnOk, length, slice_get, Some};
+ghost use Rattle.std.specs.Prelude.{◌≡◌, ◌<◌, ℕ, [], ◌∷◌, ◌++◌, IfOk, length, map, slice_get, Some};
 ghost use Rattle.std.specs.List.{list_any};
 ghost use Rattle.typed_core.specs.Alone.{after, after_one};
-ghost use Rattle.typed_core.specs.Fits.{EventsFit, FitsInputs, FitsRegisters};
-ghost use Rattle.one_rule.specs.Externs.{AreOf};
+ghost use Rattle.typed_core.specs.Fits.{EventsFit};
+ghost use Rattle.typed_core.specs.Valid.{externs_of};
+ghost use Rattle.typed_core.specs.Widths.{HaveWidths, input_widths, register_widths};
 ghost use Rattle.one_rule.specs.Rows.{RowFits};
-ghost use Rattle.one_rule.specs.Cycle.{clash_after, clash_with, cycle, events_clash, fires, flags, has_fired, is_at, pass, root, visit, walk_of};
+ghost use Rattle.one_rule.specs.Cycle.{clash_with, clash_with_access, clash_with_events, cycle, fire, fires, flags, is_among, numbers, system_of, walk_of};
+ghost use Rattle.one_rule.specs.Walk.{goes_on, is_at, pass, root};
 
 use crate::externs::Externs;
-use crate::interpreter::alone;
 use crate::rows::{FiredSet, Inputs, Regs, Row};
-use crate::walk::{Fired, Walk};
+use crate::rule::alone;
 use kw_bits::{NoMemory, Sequence};
 use std::alloc::Global;
 use typed_core::{Access, Alone, Design, Event, Events, Next, Node, Outcome};
+
+// A rule that fired in a cycle, with the events of its run.
+#[derive(Debug, Drop)]
+pub(crate) struct Fired {
+    pub(crate) rule: u32,
+    pub(crate) events: Events,
+}
+
+// What the rules that fired so far in a cycle left by running whole, and these rules in order.
+#[derive(Debug, Drop)]
+pub(crate) struct State {
+    pub(crate) regs: Regs,
+    pub(crate) past: Sequence<Fired>,
+}
 
 /// The row that a cycle leaves: whole rules, one after another in scheduler order.
 pub fn slow_cycle(
@@ -22,67 +37,44 @@ pub fn slow_cycle(
     inputs: &Inputs,
     regs: &Regs,
 ) -> Result<Row, NoMemory>
-    requires externs { AreOf externs.now design.now }
-    requires inputs { FitsInputs design.now.inputs inputs.now }
-    requires registers { FitsRegisters design.now.regs regs.now }
-    ensures cycle { IfOk result (λ row. row ≡ cycle design.now inputs.now regs.now) }
+    requires externs { externs.now ≡ externs_of design.now }
+    requires inputs { HaveWidths (input_widths design.now) inputs.now }
+    requires registers { HaveWidths (register_widths design.now) regs.now }
+    ensures cycle { IfOk result (λ row. row ≡ cycle (system_of design.now) inputs.now regs.now) }
     ensures fits { IfOk result (λ row. RowFits design.now row) }
 {
-    let walk = walk_of(alloc, design, externs, inputs, regs)?;
-    let fired = flags(alloc, design.rules.len(), &walk.past)?;
+    let end = walk_of(alloc, design, externs, inputs, regs)?;
+    let fired = flags(alloc, design.rules.len(), &end.past)?;
     Ok(Row {
-        regs: walk.regs,
+        regs: end.regs,
         fired,
     })
 }
 
+// The state at the end of a cycle's walk.
 fn walk_of(
     alloc: Global,
     design: &Design,
     externs: &Externs,
     inputs: &Inputs,
     regs: &Regs,
-) -> Result<Walk, NoMemory>
-    requires externs { AreOf externs.now design.now }
-    requires inputs { FitsInputs design.now.inputs inputs.now }
-    requires registers { FitsRegisters design.now.regs regs.now }
-    ensures walk { IfOk result (λ walk. walk ≡ walk_of design.now inputs.now regs.now) }
-    ensures fits { IfOk result (λ walk. FitsRegisters design.now.regs walk.regs) }
+) -> Result<State, NoMemory>
+    requires externs { externs.now ≡ externs_of design.now }
+    requires inputs { HaveWidths (input_widths design.now) inputs.now }
+    requires registers { HaveWidths (register_widths design.now) regs.now }
+    ensures walk { IfOk result (λ end. end ≡ (walk_of (system_of design.now) inputs.now regs.now).state) }
+    ensures fits { IfOk result (λ end. HaveWidths (register_widths design.now) end.regs) }
 {
     let nodes = design.nodes.as_slice();
-    let mut walk = Walk {
+    let mut state = State {
         regs: Sequence::from_slice(alloc, regs.as_slice())?,
         past: Sequence::new(alloc),
-        at: root(nodes),
     };
+    let mut at = root(nodes);
     for (number, node) in nodes.iter().enumerate() {
-        pass(alloc, design, externs, inputs, number, node, &mut walk)?;
+        at = pass(alloc, design, externs, inputs, number, node, at, &mut state)?;
     }
-    Ok(walk)
-}
-
-// Visits the node of this number if the walk is at it.
-fn pass(
-    alloc: Global,
-    design: &Design,
-    externs: &Externs,
-    inputs: &Inputs,
-    number: usize,
-    node: &Node,
-    walk: &mut Walk,
-) -> Result<(), NoMemory>
-    requires externs { AreOf externs.now design.now }
-    requires rule { node.now.rule < length design.now.rules }
-    requires inputs { FitsInputs design.now.inputs inputs.now }
-    requires registers { FitsRegisters design.now.regs walk.old.regs }
-    ensures pass { OnOk result (walk.new ≡ pass design.now inputs.now number node.now walk.old) }
-    ensures fits { OnOk result (FitsRegisters design.now.regs walk.new.regs) }
-{
-    if is_at(number, walk.at) {
-        visit(alloc, design, externs, inputs, node, walk)
-    } else {
-        Ok(())
-    }
+    Ok(state)
 }
 
 fn root(nodes: &[Node]) -> Next
@@ -104,34 +96,57 @@ fn is_at(number: usize, at: Next) -> bool
     }
 }
 
-// Tries the rule of a node, and goes on.
+// Visits the node of this number if the walk is at it, and says where the walk is then.
+fn pass(
+    alloc: Global,
+    design: &Design,
+    externs: &Externs,
+    inputs: &Inputs,
+    number: usize,
+    node: &Node,
+    at: Next,
+    state: &mut State,
+) -> Result<Next, NoMemory>
+    requires externs { externs.now ≡ externs_of design.now }
+    requires rule { node.now.rule < length design.now.rules }
+    requires inputs { HaveWidths (input_widths design.now) inputs.now }
+    requires registers { HaveWidths (register_widths design.now) state.old.regs }
+    ensures pass { IfOk result (λ next. pass (fire (system_of design.now) inputs.now) number node.now (record { state = state.old; at = at }) ≡ record { state = state.new; at = next }) }
+    ensures fits { IfOk result (λ next. HaveWidths (register_widths design.now) state.new.regs) }
+{
+    if is_at(number, at) {
+        visit(alloc, design, externs, inputs, node, state)
+    } else {
+        Ok(at)
+    }
+}
+
+// Tries the rule of a node, and says where the walk goes on.
 fn visit(
     alloc: Global,
     design: &Design,
     externs: &Externs,
     inputs: &Inputs,
     node: &Node,
-    walk: &mut Walk,
-) -> Result<(), NoMemory>
-    requires externs { AreOf externs.now design.now }
+    state: &mut State,
+) -> Result<Next, NoMemory>
+    requires externs { externs.now ≡ externs_of design.now }
     requires rule { node.now.rule < length design.now.rules }
-    requires inputs { FitsInputs design.now.inputs inputs.now }
-    requires registers { FitsRegisters design.now.regs walk.old.regs }
-    ensures visit { OnOk result (walk.new ≡ visit design.now inputs.now node.now walk.old) }
-    ensures fits { OnOk result (FitsRegisters design.now.regs walk.new.regs) }
+    requires inputs { HaveWidths (input_widths design.now) inputs.now }
+    requires registers { HaveWidths (register_widths design.now) state.old.regs }
+    ensures visit { IfOk result (λ next. goes_on node.now state.old (fire (system_of design.now) inputs.now node.now.rule state.old) ≡ record { state = state.new; at = next }) }
+    ensures fits { IfOk result (λ next. HaveWidths (register_widths design.now) state.new.regs) }
 {
-    let run = alone(alloc, design, externs, node.rule, inputs, &walk.regs)?;
-    if fires(&walk.past, &run) {
-        apply(design, &run.events, &mut walk.regs);
-        walk.past.push(Fired {
-            rule: node.rule,
-            events: run.events,
-        })?;
-        walk.at = node.yes;
-    } else {
-        walk.at = node.no;
+    let run = alone(alloc, design, externs, node.rule, inputs, &state.regs)?;
+    if !fires(&state.past, &run) {
+        return Ok(node.no);
     }
-    Ok(())
+    apply(design, &run.events, &mut state.regs);
+    state.past.push(Fired {
+        rule: node.rule,
+        events: run.events,
+    })?;
+    Ok(node.yes)
 }
 
 fn fires(past: &Sequence<Fired>, run: &Alone) -> bool
@@ -145,21 +160,22 @@ fn clash_with(events: &Events, past: &Sequence<Fired>) -> bool
 {
     past.as_slice()
         .iter()
-        .any(|fired| clash(events, &fired.events))
+        .any(|fired| clash_with_events(events, &fired.events))
 }
 
 // Whether one of the events clashes with one of an earlier rule's.
-fn clash(events: &Events, earlier: &Events) -> bool
-    ensures { result ≡ events_clash events.now earlier.now }
+fn clash_with_events(events: &Events, earlier: &Events) -> bool
+    ensures { result ≡ clash_with_events events.now earlier.now }
 {
     earlier
         .as_slice()
         .iter()
-        .any(|e| clashes_with_one(events, &e.access))
+        .any(|e| clash_with_access(events, &e.access))
 }
 
-fn clashes_with_one(events: &Events, earlier: &Access) -> bool
-    ensures { result ≡ clash_after events.now earlier.now }
+// Whether one of the events clashes with an earlier access.
+fn clash_with_access(events: &Events, earlier: &Access) -> bool
+    ensures { result ≡ clash_with_access events.now earlier.now }
 {
     events
         .as_slice()
@@ -169,8 +185,8 @@ fn clashes_with_one(events: &Events, earlier: &Access) -> bool
 
 // Gives each register that was written the value of its last write.
 fn apply(design: &Design, events: &Events, regs: &mut Regs)
-    requires events { EventsFit design.now.regs events.now }
-    requires registers { FitsRegisters design.now.regs regs.old }
+    requires events { EventsFit (register_widths design.now) events.now }
+    requires registers { HaveWidths (register_widths design.now) regs.old }
     ensures { regs.new ≡ after events.now regs.old }
 {
     for event in events.as_slice() {
@@ -189,7 +205,7 @@ fn apply_one(event: &Event, regs: &mut Regs)
 
 #[tactic(auto, using(crate::proofs::Flags::map_range_more))]
 fn flags(alloc: Global, rules: usize, past: &Sequence<Fired>) -> Result<FiredSet, NoMemory>
-    ensures flags { IfOk result (λ fired. fired ≡ flags rules past.now) }
+    ensures flags { IfOk result (λ fired. fired ≡ flags rules (numbers past.now)) }
     ensures count { IfOk result (λ fired. length fired ≡ rules) }
 {
     let mut fired = FiredSet::new(alloc);
@@ -200,7 +216,10 @@ fn flags(alloc: Global, rules: usize, past: &Sequence<Fired>) -> Result<FiredSet
 }
 
 fn has_fired(rule: usize, past: &Sequence<Fired>) -> bool
-    ensures { result ≡ has_fired past.now rule }
+    ensures { result ≡ is_among (numbers past.now) rule }
 {
-    past.as_slice().iter().any(|f| f.rule as usize == rule)
+    past.as_slice()
+        .iter()
+        .map(|fired| fired.rule as usize)
+        .any(|number| number == rule)
 }

@@ -1,7 +1,6 @@
-ghost use Rattle.std.specs.Prelude.{◌≡◌, ◌≤◌, ◌<◌, ℕ, All, IfOk, length, map, slice_get};
-ghost use Rattle.typed_core.specs.Alone.{answer_of, entry_of};
-ghost use Rattle.typed_core.specs.Valid.{HasHost, HasTable, IsHost, IsTable};
-ghost use Rattle.one_rule.specs.Externs.{AreOf, spec_of};
+ghost use Rattle.std.specs.Prelude.{◌≡◌, ◌≤◌, ◌<◌, ℕ, All, IfOk, length, slice_get};
+ghost use Rattle.typed_core.specs.Evaluation.{answer_of, entry_of};
+ghost use Rattle.typed_core.specs.Valid.{HostHasWidth, IsHost, IsTable, TableHasWidth, externs_of};
 
 use ext_table::Table;
 use kw_bits::{Bits, NoMemory, Sequence};
@@ -17,13 +16,13 @@ pub struct Externs {
 }
 
 impl Model for Externs {
-    ghost use Rattle.std.specs.Prelude.{All, map};
+    ghost use Rattle.std.specs.Prelude.{All};
     ghost use Rattle.typed_core.specs.Valid.{IsHost};
-    ghost use Rattle.one_rule.specs.Externs.{Externals, spec_of};
+    ghost use Rattle.typed_core.specs.Evaluation as core;
 
-    ghost Value = { Externals };
+    ghost Value = { core.Externs };
 
-    ghost view = { λ e. record { tables = map spec_of e.tables; hosts = e.hosts } };
+    ghost view = { λ e. record { tables = e.tables; hosts = e.hosts } };
 
     ghost invariant = { λ e. All IsHost e.hosts };
 }
@@ -31,7 +30,7 @@ impl Model for Externs {
 impl Externs {
     /// The tables and the host functions of a design.
     pub fn new(alloc: Global, design: &Design) -> Result<Externs, NoMemory>
-        ensures { IfOk result (λ externs. AreOf externs design.now) }
+        ensures { IfOk result (λ externs. externs ≡ externs_of design.now) }
     {
         Ok(Externs {
             tables: tables_of(alloc, design.tables.as_slice())?,
@@ -41,16 +40,18 @@ impl Externs {
 
     /// The entry of the table of this number.
     pub fn look(&self, table: u32, x: Bits) -> Bits
-        requires { (width : ℕ) × HasTable self.now.tables table x.width width }
-        ensures { result ≡ entry_of (slice_get self.now.tables table) x }
+        requires { (width : ℕ) × TableHasWidth self.now.tables table x.width width }
+        ensures entry { result ≡ entry_of (slice_get self.now.tables table) x }
+        ensures width { (width : ℕ) → TableHasWidth self.now.tables table x.width width → result.width ≡ width }
     {
         self.tables.get(table as usize).look(x)
     }
 
     /// What the host function of this number answers.
     pub fn ask(&self, host: u32, x: Bits) -> Bits
-        requires { (width : ℕ) × HasHost self.now.hosts host x.width width }
-        ensures { result ≡ answer_of (slice_get self.now.hosts host) x }
+        requires { (width : ℕ) × HostHasWidth self.now.hosts host x.width width }
+        ensures answer { result ≡ answer_of (slice_get self.now.hosts host) x }
+        ensures width { (width : ℕ) → HostHasWidth self.now.hosts host x.width width → result.width ≡ width }
     {
         self.hosts.get(host as usize).kind.value(x)
     }
@@ -58,7 +59,7 @@ impl Externs {
 
 fn tables_of(alloc: Global, specs: &[TableSpec]) -> Result<Sequence<Table>, NoMemory>
     requires { All IsTable specs.now }
-    ensures { IfOk result (λ tables. map spec_of tables ≡ specs.now) }
+    ensures { IfOk result (λ tables. tables ≡ specs.now) }
 {
     let mut tables = Sequence::new(alloc);
     for spec in specs {
@@ -69,7 +70,7 @@ fn tables_of(alloc: Global, specs: &[TableSpec]) -> Result<Sequence<Table>, NoMe
 
 fn table_of(alloc: Global, spec: &TableSpec) -> Result<Table, NoMemory>
     requires { IsTable spec.now }
-    ensures { IfOk result (λ table. spec_of table ≡ spec.now) }
+    ensures { IfOk result (λ table. table ≡ spec.now) }
 {
     let entries = Vec::from_slice(alloc, spec.entries.as_slice())?;
     match Table::new(spec.in_width, spec.out_width, entries) {

@@ -1,7 +1,7 @@
-ghost use Rattle.std.specs.Prelude.{◌≡◌, IfOk, false, replicate};
+ghost use Rattle.std.specs.Prelude.{◌≡◌, IfOk, false, length, replicate};
 ghost use Rattle.one_rule.specs.Rows.{RowFits};
 ghost use Rattle.one_rule.specs.Run.{first_values, opening};
-ghost use Rattle.typed_core.specs.Fits.{FitsRegisters};
+ghost use Rattle.typed_core.specs.Widths.{HaveWidths, register_widths};
 
 use kw_bits::{Bits, NoMemory, Sequence};
 use std::alloc::Global;
@@ -29,7 +29,7 @@ pub type Rows = Sequence<Row>;
 /// The first value of each register.
 pub fn first_values(alloc: Global, design: &Design) -> Result<Regs, NoMemory>
     ensures values { IfOk result (λ regs. regs ≡ first_values design.now) }
-    ensures fit { IfOk result (λ regs. FitsRegisters design.now.regs regs) }
+    ensures fit { IfOk result (λ regs. HaveWidths (register_widths design.now) regs) }
 {
     let mut regs = Regs::new(alloc);
     for decl in design.regs.as_slice() {
@@ -40,8 +40,8 @@ pub fn first_values(alloc: Global, design: &Design) -> Result<Regs, NoMemory>
 
 /// The row that a run begins with: these registers, and no rule that fired.
 pub fn opening(alloc: Global, design: &Design, regs: Regs) -> Result<Row, NoMemory>
-    requires { FitsRegisters design.now.regs regs }
-    ensures row { IfOk result (λ row. row ≡ opening design.now regs) }
+    requires { HaveWidths (register_widths design.now) regs }
+    ensures row { IfOk result (λ row. row ≡ opening (length design.now.rules) regs) }
     ensures fits { IfOk result (λ row. RowFits design.now row) }
 {
     Ok(Row {

@@ -1,7 +1,8 @@
 ghost use Rattle.std.specs.Prelude.{◌≡◌, ℕ, ◌-◌, ◌++◌, ◌∷◌, [], All, IsTrue, ◌↔◌, IfOk, OnOk, OnErr};
 ghost use Rattle.typed_core.specs.Valid.{IsWidth};
 ghost use Rattle.one_rule.specs.KeptLines.{IsKeptLine};
-ghost use Rattle.one_rule.specs.Stimulus.{AlwaysFits, AreSame, FitsWidths, inputs_by, inputs_of, IsLine};
+ghost use Rattle.typed_core.specs.Widths.{HaveWidths};
+ghost use Rattle.one_rule.specs.Stimulus.{AlwaysFits, AreSame, inputs_by, inputs_of, IsLine};
 
 mod line;
 #[cfg(test)]
@@ -57,7 +58,7 @@ impl Stimulus {
     /// The values of the inputs in a cycle: those that its line gives, and 0 for the others.
     pub fn inputs(&self, cycle: u32) -> Result<Inputs, NoMemory>
         ensures inputs { IfOk result (λ inputs. inputs ≡ inputs_of self.now cycle) }
-        ensures fits { IfOk result (λ inputs. FitsWidths self.now.widths inputs) }
+        ensures fits { IfOk result (λ inputs. HaveWidths self.now.widths inputs) }
         ensures always { AlwaysFits self.now }
     {
         let alloc = *self.widths.allocator();

@@ -1,5 +1,5 @@
 ghost use Rattle.std.specs.Prelude.{◌≡◌, ◌≢◌, ◌<◌, ◌↔◌, ◌∷◌, [], All, slice_get, Some, IfOk, IsTrue};
-ghost use Rattle.typed_core.specs.Valid.{HasBits};
+ghost use Rattle.kw_bits.specs.Laws.{HasWidth};
 ghost use Rattle.one_rule.specs.Stimulus.{IsLine};
 
 use super::Stimulus;
@@ -11,7 +11,7 @@ use std::test::Fail;
 fn crosses_threads<T: Send + Sync>(_: &T) {}
 
 fn bits(rt: &impl Abort, width: u32, number: u128) -> Bits
-    ensures { HasBits width result }
+    ensures { HasWidth result width }
 {
     Bits::new(width, number).expect(rt, "a bit vector")
 }

@@ -1,17 +1,26 @@
-// Small designs, part by part.
+// Small designs, part by part. Each register and each value has 4 bits but where a test says another width.
 ghost use Rattle.std.specs.Prelude.{◌≡◌, [], IfOk};
 
 use kw_bits::{Bits, NoMemory, Sequence, Text};
 use std::alloc::Global;
 use std::process::Abort;
-use typed_core::{Action, Design, Next, Node, Parts, RegDecl, Rule, TableSpec, TwoOp};
+use typed_core::{Action, Next, Node, Parts, RegDecl, Rule, TwoOp};
 
-pub(super) fn bits(rt: &impl Abort, width: u32, number: u128) -> Bits {
-    Bits::new(width, number).expect(rt, "a bit vector")
+/// What a rule writes.
+#[derive(Clone, Copy)]
+pub(super) enum Source {
+    Number(u128),
+    /// A register, at a port.
+    Read(u32, u32),
+    /// One more than a register, at a port.
+    Next(u32, u32),
 }
 
+/// A port, a register, and what is written there.
+pub(super) type Write = (u32, u32, Source);
+
 pub(super) fn number(rt: &impl Abort, width: u32, number: u128) -> Action {
-    Action::Const(bits(rt, width, number))
+    Action::Const(Bits::new(width, number).expect(rt, "a bit vector"))
 }
 
 pub(super) fn write(
@@ -23,15 +32,6 @@ pub(super) fn write(
     Ok(Action::Write(port, register, Box::new(alloc, value)?))
 }
 
-pub(super) fn two(
-    alloc: Global,
-    operator: TwoOp,
-    left: Action,
-    right: Action,
-) -> Result<Action, NoMemory> {
-    Ok(Action::Two(operator, Box::new(alloc, left)?, Box::new(alloc, right)?))
-}
-
 pub(super) fn seq(alloc: Global, first: Action, second: Action) -> Result<Action, NoMemory> {
     Ok(Action::Seq(Box::new(alloc, first)?, Box::new(alloc, second)?))
 }
@@ -40,38 +40,57 @@ pub(super) fn bind(alloc: Global, value: Action, body: Action) -> Result<Action,
     Ok(Action::Let(Box::new(alloc, value)?, Box::new(alloc, body)?))
 }
 
-pub(super) fn choice(
-    alloc: Global,
-    condition: Action,
-    first: Action,
-    second: Action,
-) -> Result<Action, NoMemory> {
-    Ok(Action::If(
-        Box::new(alloc, condition)?,
-        Box::new(alloc, first)?,
-        Box::new(alloc, second)?,
-    ))
+fn value_of(rt: &impl Abort, alloc: Global, from: Source) -> Result<Action, NoMemory> {
+    match from {
+        Source::Number(n) => Ok(number(rt, 4, n)),
+        Source::Read(port, register) => Ok(Action::Read(port, register)),
+        Source::Next(port, register) => {
+            let read = Box::new(alloc, Action::Read(port, register))?;
+            Ok(Action::Two(TwoOp::Add, read, Box::new(alloc, number(rt, 4, 1))?))
+        }
+    }
 }
 
-// Writes one more than the register's value to it, both at these ports.
-pub(super) fn step(
+/// A body that makes these writes in order.
+pub(super) fn body(rt: &impl Abort, alloc: Global, writes: &[Write]) -> Result<Action, NoMemory> {
+    let mut made = Action::Unit;
+    for (port, register, from) in writes {
+        let next = write(alloc, *port, *register, value_of(rt, alloc, *from)?)?;
+        made = seq(alloc, made, next)?;
+    }
+    Ok(made)
+}
+
+/// Rules of these bodies, without names.
+pub(super) fn rules(alloc: Global, bodies: Vec<Action>) -> Result<Sequence<Rule>, NoMemory> {
+    let mut rules = Sequence::new(alloc);
+    for body in bodies {
+        rules.push(Rule {
+            name: Text::new(alloc),
+            body,
+        })?;
+    }
+    Ok(rules)
+}
+
+/// Registers of 4 bits with these first values.
+pub(super) fn registers(
     rt: &impl Abort,
     alloc: Global,
-    read: u32,
-    written: u32,
-    register: u32,
-    width: u32,
-) -> Result<Action, NoMemory> {
-    let sum = two(
-        alloc,
-        TwoOp::Add,
-        Action::Read(read, register),
-        number(rt, width, 1),
-    )?;
-    write(alloc, written, register, sum)
+    first: &[u128],
+) -> Result<Sequence<RegDecl>, NoMemory> {
+    let mut decls = Sequence::new(alloc);
+    for number in first {
+        decls.push(RegDecl {
+            name: Text::new(alloc),
+            width: 4,
+            first: Bits::new(4, *number).expect(rt, "four bits"),
+        })?;
+    }
+    Ok(decls)
 }
 
-// One rule after another, whether they fire or not.
+/// One rule after another, whether they fire or not.
 pub(super) fn in_turn(alloc: Global, rules: u32) -> Result<Sequence<Node>, NoMemory> {
     let mut nodes = Sequence::new(alloc);
     for rule in 0..rules {
@@ -89,39 +108,21 @@ pub(super) fn in_turn(alloc: Global, rules: u32) -> Result<Sequence<Node>, NoMem
     Ok(nodes)
 }
 
-// A valid design of these registers, given by their widths and first values, without inputs.
-pub(super) fn design_of(
-    rt: &impl Abort,
+/// Parts without inputs, tables or host functions.
+pub(super) fn plain(
     alloc: Global,
-    regs: &[(u32, u128)],
-    tables: Sequence<TableSpec>,
-    bodies: Vec<Action>,
+    regs: Sequence<RegDecl>,
+    rules: Sequence<Rule>,
     nodes: Sequence<Node>,
-) -> Result<Design, NoMemory>
-    ensures { IfOk result (λ design. design.inputs ≡ []) }
+) -> Parts
+    ensures { result.inputs ≡ [] }
 {
-    let mut decls = Sequence::new(alloc);
-    for (width, first) in regs {
-        decls.push(RegDecl {
-            name: Text::new(alloc),
-            width: *width,
-            first: bits(rt, *width, *first),
-        })?;
-    }
-    let mut rules = Sequence::new(alloc);
-    for body in bodies {
-        rules.push(Rule {
-            name: Text::new(alloc),
-            body,
-        })?;
-    }
-    let parts = Parts {
-        regs: decls,
+    Parts {
+        regs,
         inputs: Sequence::new(alloc),
-        tables,
+        tables: Sequence::new(alloc),
         hosts: Sequence::new(alloc),
         rules,
         nodes,
-    };
-    Ok(Design::new(parts).expect(rt, "a valid design"))
+    }
 }

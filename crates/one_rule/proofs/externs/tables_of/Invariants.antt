@@ -1,6 +1,5 @@
-use Rattle.std.proofs.Common.{◌≡◌, map, take}
-use Rattle.one_rule.specs.Externs.{spec_of}
+use Rattle.std.proofs.Common.{◌≡◌, take}
 use Rattle.one_rule.proofs.externs.tables_of.Given as goal
 
 abbrev pub invariant-loop-spec : goal.invariant-loop-spec
-invariant-loop-spec l = map spec_of l.tables ≡ take l.spec-index l.specs
+invariant-loop-spec l = l.tables ≡ take l.spec-index l.specs
