@@ -1,0 +1,3 @@
+pub mod Fitting
+pub mod RowByRow
+pub mod Stimuli

@@ -1,0 +1,15 @@
+//! Circuits: a net with named inputs, states and outputs, and its run.
+//!
+//! Contracts see a `Circuit` as its wires and cite `specs/Circuits.antt`, which says which wires make a circuit, and
+//! `specs/Run.antt`, which says what its run is. `specs/Simulations.antt` is what a `Sim` is seen as. The makers of
+//! circuits and of circuit texts call this crate.
+#![tactic(auto)]
+
+mod circuit;
+mod rows;
+mod sim;
+mod validity;
+
+pub use circuit::{Circuit, InputWire, OutputWire, StateWire, Wires};
+pub use rows::run_circuit;
+pub use sim::Sim;
