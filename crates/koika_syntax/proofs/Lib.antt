@@ -11,3 +11,4 @@ pub mod SymbolTable
 pub mod Unique
 pub mod UniquePieces
 pub mod Places
+pub mod Leaves

@@ -10,30 +10,30 @@ use Rattle.koika_syntax.specs.declared.keyword.Keyword.TheVariants as keywords
 use Rattle.koika_syntax.specs.declared.symbol.Symbol.TheVariants as symbols
 use Rattle.koika_syntax.specs.declared.token.Token.{Token}
 use Rattle.koika_syntax.specs.declared.token.TokenKind.TheVariants as kinds
-use Rattle.koika_syntax.specs.declared.tree.Arm.{Arm, Arm-F}
+use Rattle.koika_syntax.specs.declared.tree.Arm.{Arm, Arm-F, fold-Arm}
 use Rattle.koika_syntax.specs.declared.operator.BinaryOperator.{BinaryOperator}
 use Rattle.koika_syntax.specs.declared.operator.BinaryOperator.TheVariants as binary
 use Rattle.koika_syntax.specs.declared.tree.Block.{Block, Block-F, fold-Block, every-Block}
-use Rattle.koika_syntax.specs.declared.tree.Choice.{Choice, Choice-F}
+use Rattle.koika_syntax.specs.declared.tree.Choice.{Choice, Choice-F, fold-Choice}
 use Rattle.koika_syntax.specs.declared.tree.Constant.{Constant, Constant-F, fold-Constant, every-Constant}
 use Rattle.koika_syntax.specs.declared.tree.Constant.TheOpen as constant
-use Rattle.koika_syntax.specs.declared.tree.ConstantField.{ConstantField, ConstantField-F}
+use Rattle.koika_syntax.specs.declared.tree.ConstantField.{ConstantField, ConstantField-F, fold-ConstantField}
 use Rattle.koika_syntax.specs.declared.tree.Declaration.{Declaration}
 use Rattle.koika_syntax.specs.declared.tree.Declaration.TheVariants as declarations
 use Rattle.koika_syntax.specs.declared.tree.Expression.{Expression, Expression-F, fold-Expression, every-Expression, out-Expression}
 use Rattle.koika_syntax.specs.declared.tree.Expression.TheOpen as expression
 use Rattle.koika_syntax.specs.declared.tree.Field.{Field}
-use Rattle.koika_syntax.specs.declared.tree.FieldValue.{FieldValue, FieldValue-F}
+use Rattle.koika_syntax.specs.declared.tree.FieldValue.{FieldValue, FieldValue-F, fold-FieldValue}
 use Rattle.koika_syntax.specs.declared.tree.Literal.{Literal}
 use Rattle.koika_syntax.specs.declared.tree.Member.{Member}
 use Rattle.koika_syntax.specs.declared.tree.Name.{Name}
 use Rattle.koika_syntax.specs.declared.tree.Number.{Number}
-use Rattle.koika_syntax.specs.declared.tree.Operand.{Operand, Operand-F, out-Operand}
+use Rattle.koika_syntax.specs.declared.tree.Operand.{Operand, Operand-F, out-Operand, fold-Operand}
 use Rattle.koika_syntax.specs.declared.tree.Part.{Part}
 use Rattle.koika_syntax.specs.declared.tree.Part.TheVariants as parts
 use Rattle.koika_syntax.specs.declared.tree.Prefix.{Prefix}
 use Rattle.koika_syntax.specs.declared.tree.Scheduler.{Scheduler, Scheduler-F, fold-Scheduler, every-Scheduler}
-use Rattle.koika_syntax.specs.declared.tree.Statement.{Statement, Statement-F}
+use Rattle.koika_syntax.specs.declared.tree.Statement.{Statement, Statement-F, fold-Statement}
 use Rattle.koika_syntax.specs.declared.tree.Suffix.{Suffix}
 use Rattle.koika_syntax.specs.declared.tree.Suffix.TheVariants as suffixes
 use Rattle.koika_syntax.specs.declared.tree.Tree.{Tree}
@@ -71,6 +71,9 @@ constant_field_step field = name_leaves field.name ++ sign symbols.Colon ++ fiel
 
 unfoldable pub constant_leaves : Constant → List Leaf
 constant_leaves = fold-Constant Leaves Leaves constant_step constant_field_step
+
+unfoldable pub constant_field_leaves : ConstantField → List Leaf
+constant_field_leaves = fold-ConstantField Leaves Leaves constant_step constant_field_step
 
 -- block = "{" { stmt } [ expr ] "}"
 abbrev pub last_leaves : {M : Type 0} → Option M → (M → List Leaf) → List Leaf
@@ -148,11 +151,24 @@ expression_step (expression.Update place whole part value) =
 abbrev pub field_value_step : FieldValue-F Leaves Leaves Leaves Leaves Leaves Leaves → List Leaf
 field_value_step field = name_leaves field.name ++ sign symbols.Colon ++ field.value
 
+-- the tokens of each part of an expression
 unfoldable pub expression_leaves : Expression → List Leaf
 expression_leaves = fold-Expression Leaves Leaves Leaves Leaves Leaves Leaves expression_step statement_step arm_step block_step field_value_step operand_step
 
+unfoldable pub statement_leaves : Statement → List Leaf
+statement_leaves = fold-Statement Leaves Leaves Leaves Leaves Leaves Leaves expression_step statement_step arm_step block_step field_value_step operand_step
+
+unfoldable pub arm_leaves : Arm → List Leaf
+arm_leaves = fold-Arm Leaves Leaves Leaves Leaves Leaves Leaves expression_step statement_step arm_step block_step field_value_step operand_step
+
 unfoldable pub block_leaves : Block → List Leaf
 block_leaves = fold-Block Leaves Leaves Leaves Leaves Leaves Leaves expression_step statement_step arm_step block_step field_value_step operand_step
+
+unfoldable pub field_value_leaves : FieldValue → List Leaf
+field_value_leaves = fold-FieldValue Leaves Leaves Leaves Leaves Leaves Leaves expression_step statement_step arm_step block_step field_value_step operand_step
+
+unfoldable pub operand_leaves : Operand → List Leaf
+operand_leaves = fold-Operand Leaves Leaves Leaves Leaves Leaves Leaves expression_step statement_step arm_step block_step field_value_step operand_step
 
 -- member = NAME "=" LIT, and field = NAME ":" type
 abbrev pub member_leaves : Member → List Leaf
@@ -199,6 +215,9 @@ scheduler_step scheduler = flat_map rule_leaves scheduler.rules ++ last_leaves s
 
 unfoldable pub scheduler_leaves : Scheduler → List Leaf
 scheduler_leaves = fold-Scheduler Leaves Leaves choice_step scheduler_step
+
+unfoldable pub choice_leaves : Choice → List Leaf
+choice_leaves = fold-Choice Leaves Leaves choice_step scheduler_step
 
 -- design = { decl } "schedule" "{" sched "}"
 abbrev pub tree_leaves : Tree → List Leaf

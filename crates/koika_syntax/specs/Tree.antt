@@ -61,13 +61,16 @@ literal_leaves l = placed (literal l.bits) l.place
 abbrev pub width_leaves : Width → List Leaf
 width_leaves w = placed (keyword keywords.Bits) w.place ++ number_leaves w.number
 
--- parts one after another, and with something between them
+-- parts one after another; the same with something in front of each; and with something between them
 abbrev pub all_of : List (List Leaf) → List Leaf
 all_of parts = flat_map (λ part. part) parts
 
-abbrev pub joined : List Leaf → List (List Leaf) → List Leaf
+abbrev pub each_after : List Leaf → List (List Leaf) → List Leaf
+each_after between parts = flat_map (λ part. between ++ part) parts
+
+unfoldable pub joined : List Leaf → List (List Leaf) → List Leaf
 joined between [] = []
-joined between (part ∷ parts) = part ++ flat_map (λ next. between ++ next) parts
+joined between (part ∷ parts) = part ++ each_after between parts
 
 abbrev pub commas : List (List Leaf) → List Leaf
 commas parts = joined (sign symbols.Comma) parts

@@ -1,0 +1,8 @@
+use Rattle.std.proofs.Common.{take}
+use Rattle.std.specs.List.{flat_map}
+use Rattle.koika_syntax.specs.Grammar.{suffix_leaves}
+use Rattle.koika_print.specs.Printed.{Prints}
+use Rattle.koika_print.proofs.primaries.suffix_run.Given as goal
+
+abbrev pub invariant-loop-one : goal.invariant-loop-one
+invariant-loop-one l = Prints l.fn.out l.out (flat_map suffix_leaves (take l.one-index l.suffixes))

@@ -1,0 +1,49 @@
+-- The text that a tree is printed as: its tokens in order, each in its one written form and with a blank behind
+-- it. This project's own text form.
+use Rattle.std.specs.Prelude.{◌≡◌, ℕ, zero, suc, List, [], ◌∷◌, ◌++◌, codes, decimal}
+use Rattle.std.specs.List.{flat_map}
+use Rattle.koika_syntax.specs.Keywords.{keyword_text}
+use Rattle.koika_syntax.specs.Symbols.{symbol_text}
+use Rattle.koika_syntax.specs.Tree.{Leaf, sign, word, Terminal, name, number, literal, keyword, symbol}
+use Rattle.koika_syntax.specs.declared.keyword.Keyword.TheVariants as keywords
+use Rattle.koika_syntax.specs.declared.symbol.Symbol.{Symbol}
+use Rattle.koika_syntax.specs.declared.symbol.Symbol.TheVariants as symbols
+
+-- a token as it is written: numbers are decimal, without leading zeros, and a literal's base is ten
+abbrev pub written : Terminal → List ℕ
+written (name text) = text
+written (number n) = decimal n
+written (literal bits) = decimal bits.width ++ codes "'d" ++ decimal bits.number
+written (keyword k) = keyword_text k
+written (symbol s) = symbol_text s
+
+-- a line feed behind `;`, `{` and `}`, and a space behind every other token
+abbrev pub blank_after_symbol : Symbol → ℕ
+blank_after_symbol symbols.Semicolon = 10
+blank_after_symbol symbols.LeftBrace = 10
+blank_after_symbol symbols.RightBrace = 10
+blank_after_symbol _ = 32
+
+abbrev pub blank_after : Terminal → ℕ
+blank_after (symbol s) = blank_after_symbol s
+blank_after _ = 32
+
+abbrev pub leaf_text : Leaf → List ℕ
+leaf_text leaf = written leaf.terminal ++ blank_after leaf.terminal ∷ []
+
+-- the text of tokens
+abbrev pub printed : List Leaf → List ℕ
+printed leaves = flat_map leaf_text leaves
+
+-- the new text is the old one with these tokens behind it
+pub record Prints (old new : List ℕ) (leaves : List Leaf) : Type 0 where
+  pub text : new ≡ old ++ printed leaves
+
+-- a comma behind items, and `else` behind arms, if there are any
+abbrev pub comma_behind : ℕ → List Leaf
+comma_behind zero = []
+comma_behind (suc items) = sign symbols.Comma
+
+abbrev pub else_behind : ℕ → List Leaf
+else_behind zero = []
+else_behind (suc arms) = word keywords.Else

@@ -1,0 +1,16 @@
+//! From the tree of a design to its text.
+//!
+//! `specs/Printed.antt` says how each token is written and what stands behind it; the tokens of a tree are
+//! those of the grammar in `koika_syntax`. The command `print` and the generator call `print`.
+#![tactic(auto, using(crate::proofs::Printing::printing))]
+
+mod constants;
+mod declarations;
+mod expressions;
+mod leaves;
+mod primaries;
+mod printer;
+mod scheduler;
+mod types;
+
+pub use printer::print;
