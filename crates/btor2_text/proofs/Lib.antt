@@ -7,3 +7,4 @@ pub mod NotOutside
 pub mod Numerals
 pub mod Readings
 pub mod RoundTrip
+pub mod ReadLines

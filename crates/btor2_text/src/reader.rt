@@ -6,6 +6,7 @@ ghost use Rattle.btor2_text.specs.Flaws.{IsRefusal, GivesLine, GivesForm};
 ghost use Rattle.btor2_text.specs.declared.reader.Flaw.TheVariants as flaws;
 ghost use Rattle.btor2_text.specs.Forms.{keyword_text};
 ghost use Rattle.btor2_text.specs.Lines.{IsArraySort, IsLeftOut};
+ghost use Rattle.btor2_text.specs.Printable.{ArePrintable};
 ghost use Rattle.btor2_text.specs.Reading.{AreLinesOf, IsFirstFaultOf};
 ghost use Rattle.btor2_text.specs.declared.line.Line.{Line as LineOf};
 
@@ -73,6 +74,7 @@ impl Flaw {
 pub fn read_lines(alloc: Global, text: &[u8]) -> Result<Lines, Refusal>
     requires { length text.now ≤ 268435456 }
     ensures lines { IfOk result (AreLinesOf text.now) }
+    ensures printable { IfOk result ArePrintable }
     ensures fault { IfFault result (IsFirstFaultOf text.now) }
 
     // The lines of a text are one list, its first fault is one, and no text has both.

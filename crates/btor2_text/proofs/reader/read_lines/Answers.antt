@@ -3,6 +3,7 @@ use Rattle.std.proofs.lemmas.List.{append-nil}
 use Rattle.btor2_text.specs.Cut.{lines_of}
 use Rattle.btor2_text.specs.Runs.{lines_behind}
 use Rattle.btor2_text.proofs.Readings.{ReadTo-next, ReadTo-refused, ReadTo-end, is_first_fault, no_lines, same_fault, same_readings, lines_or_fault, few_lines}
+use Rattle.btor2_text.proofs.ReadLines.{ArePrintable-AreLinesOf}
 use Rattle.btor2_text.proofs.reader.read_lines.Goals as goal
 
 pub overflow_add-number : goal.overflow_add-number
@@ -57,3 +58,7 @@ returns-clause-accepted c = λ lines are.
 pub returns-clause-refused : goal.returns-clause-refused
 returns-clause-refused c = λ fault first.
     absurd (lines_or_fault 1 (lines_of c.args.text.now) c.loop-rest.lines fault (ReadTo-end _ _ _ _ c.loop-rest.invariant (ap lines_behind c.in_default.is)) first)
+
+pub returns-clause-printable : goal.returns-clause-printable
+returns-clause-printable c =
+    ArePrintable-AreLinesOf c.args.text.now c.loop-rest.lines (ReadTo-end _ _ _ _ c.loop-rest.invariant (ap lines_behind c.in_default.is))
