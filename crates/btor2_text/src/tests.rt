@@ -1,6 +1,6 @@
 use crate::{print_lines, read_lines};
 use kw_base::{Fault, Refusal};
-use kw_bits::Text;
+use kw_bits::{NoMemory, Text};
 use std::alloc::Global;
 use std::process::Abort;
 use std::test::Fail;
@@ -25,6 +25,31 @@ fn expect_reading(rt: &impl Abort, alloc: Global, text: &str, want: &str) -> Res
         Err(Refusal::NoMemory) => Text::from_slice(alloc, b"no memory")?,
     };
     assert_eq!(rt; told.as_slice(), want.as_bytes(), "{text:?}");
+    Ok(())
+}
+
+// A counter of 8 bits.
+const COUNTER: &str =
+    "1 sort bitvec 8\n2 zero 1\n3 state 1 count\n4 init 1 3 2\n5 one 1\n6 add 1 3 5\n7 next 1 3 6\n";
+
+// Expects lines or a malformed line for a text, however it was cut off.
+fn expect_no_other_fault(rt: &impl Abort, alloc: Global, text: &[u8]) -> Result<(), Fail> {
+    assert!(rt; text.len() <= 268_435_456);
+    match read_lines(alloc, text) {
+        Err(Refusal::Fault(fault)) => assert_eq!(rt; fault.number, 50, "{text:?}"),
+        Err(Refusal::NoMemory) => return Err(NoMemory.into()),
+        Ok(_) => (),
+    }
+    Ok(())
+}
+
+#[test]
+fn counter_and_its_cuts(rt: HostRuntime) -> Result<(), Fail> {
+    expect_reading(&rt, rt.alloc(), COUNTER, COUNTER)?;
+    let text = COUNTER.as_bytes();
+    for end in 0..text.len() {
+        expect_no_other_fault(&rt, rt.alloc(), &text[..end])?;
+    }
     Ok(())
 }
 
@@ -73,6 +98,14 @@ fn lines_are_cut(rt: HostRuntime) -> Result<(), Fail> {
             "1 input 2\n2 input 2\n",
         ),
         ("1 input 2 ;", "1 input 2\n"),
+        (
+            "1 sort bitvec 8\n2 zero 1\n3 state 1 count\n4 init 1 3 2\n5 rol 1 3 3",
+            "54 at 5:1",
+        ),
+        (
+            "1 constd 1 00000000000000000000000000000000000000000000000000000000000000000000000000007 seven",
+            "1 constd 1 00000000000000000000000000000000000000000000000000000000000000000000000000007 seven\n",
+        ),
     ] {
         expect_reading(&rt, rt.alloc(), text, want)?;
     }
