@@ -19,7 +19,7 @@ returns c =
     let kept : c.self.inside.widths.items ≡ widths_of c.args.self.now = c.self.invariant.1 ∙ ap widths_of c.self.view_is in
     let inside = within c.self.inside.widths.items c.args.self.now c.args.id kept c.requires in
     let width : c.index.result.now ≡ width_at (widths_of c.args.self.now) c.args.id =
-      get_or_read c.self.inside.widths.items c.args.id c.index.result.now inside c.index.ensures 0 ∙ ap (λ (widths : List ℕ). get_or widths c.args.id 0) kept in
+    get_or_read c.self.inside.widths.items c.args.id c.index.result.now inside c.index.ensures 0 ∙ ap (λ (widths : List ℕ). get_or widths c.args.id 0) kept in
     let net : IsNet c.args.self.now = subst IsNet c.self.view_is c.self.invariant.0 in
     let wide = widths_of-Wide c.args.self.now net c.args.id 0 (omega (arith, c.requires, length-one_by_one op_width [] c.args.self.now)) in
     record {
