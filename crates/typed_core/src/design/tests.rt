@@ -9,31 +9,31 @@ fn bits(width: u32, number: u128) -> Result<Bits, Fail> {
     Ok(Bits::new(width, number).ok_or("a bit vector")?)
 }
 
-fn empty(alloc: Global) -> Parts {
-    Parts {
-        regs: Sequence::new(alloc),
+// The design of these parts, without inputs and tables, if they are valid.
+fn design_of(
+    alloc: Global,
+    regs: Sequence<RegDecl>,
+    hosts: Sequence<HostSpec>,
+    rules: Sequence<Rule>,
+    nodes: Sequence<Node>,
+) -> Option<Design> {
+    Design::new(Parts {
+        regs,
         inputs: Sequence::new(alloc),
         tables: Sequence::new(alloc),
-        hosts: Sequence::new(alloc),
-        rules: Sequence::new(alloc),
-        nodes: Sequence::new(alloc),
-    }
+        hosts,
+        rules,
+        nodes,
+    })
 }
 
-// One register, declared with this width, whose first value has 8 bits, and one host function of this width.
-fn declared(
-    alloc: Global,
-    width: u32,
-    first: u128,
-    kind: HostKind,
-    in_width: u32,
-) -> Result<Parts, Fail> {
-    let mut parts = empty(alloc);
-    let name = Sequence::from_slice(alloc, b"x")?;
+// One register of this width, whose first value has 8 bits.
+fn register(alloc: Global, width: u32, first: u128) -> Result<Sequence<RegDecl>, Fail> {
     let first = bits(8, first)?;
-    parts.regs.push(RegDecl { name, width, first })?;
-    parts.hosts.push(HostSpec { kind, in_width })?;
-    Ok(parts)
+    let name = Sequence::from_slice(alloc, b"x")?;
+    let mut regs = Sequence::new(alloc);
+    regs.push(RegDecl { name, width, first })?;
+    Ok(regs)
 }
 
 fn add_rule(alloc: Global, rules: &mut Sequence<Rule>, body: Action) -> Result<(), Fail> {
@@ -42,7 +42,20 @@ fn add_rule(alloc: Global, rules: &mut Sequence<Rule>, body: Action) -> Result<(
     Ok(())
 }
 
-// A register's width and that of its first value, 8; a host function and its input's width.
+// Whether a register may have this width and a first value of 8 bits, and a host function an input of that width.
+fn may_declare(alloc: Global, width: u32, kind: HostKind, in_width: u32) -> Result<bool, Fail> {
+    let hosts = Sequence::from_slice(alloc, &[HostSpec { kind, in_width }])?;
+    let regs = register(alloc, width, 1)?;
+    Ok(design_of(
+        alloc,
+        regs,
+        hosts,
+        Sequence::new(alloc),
+        Sequence::new(alloc),
+    )
+    .is_some())
+}
+
 const DECLARATIONS: [(u32, HostKind, u32, bool); 10] = [
     (8, HostKind::Gray, 1, true),
     (7, HostKind::Gray, 1, false),
@@ -59,8 +72,8 @@ const DECLARATIONS: [(u32, HostKind, u32, bool); 10] = [
 #[test]
 fn declarations_have_widths(rt: HostRuntime) -> Result<(), Fail> {
     for (width, kind, in_width, wanted) in DECLARATIONS {
-        let design = Design::new(declared(rt.alloc(), width, 1, kind, in_width)?);
-        assert_eq!(rt; design.is_some(), wanted, "{width} {kind:?} {in_width}");
+        let may = may_declare(rt.alloc(), width, kind, in_width)?;
+        assert_eq!(rt; may, wanted, "{width} {kind:?} {in_width}");
     }
     Ok(())
 }
@@ -111,10 +124,13 @@ fn action(alloc: Global, value: Value) -> Result<Action, Fail> {
 
 // Whether a rule may write the value to the register of 8 bits at this port.
 fn may_write(alloc: Global, port: u32, value: Value) -> Result<bool, Fail> {
-    let mut parts = declared(alloc, 8, 1, HostKind::Gray, 8)?;
     let value = Box::new(alloc, action(alloc, value)?)?;
-    add_rule(alloc, &mut parts.rules, Action::Write(port, 0, value))?;
-    Ok(Design::new(parts).is_some())
+    let mut rules = Sequence::new(alloc);
+    add_rule(alloc, &mut rules, Action::Write(port, 0, value))?;
+    let kind = HostKind::Gray;
+    let hosts = Sequence::from_slice(alloc, &[HostSpec { kind, in_width: 8 }])?;
+    let regs = register(alloc, 8, 1)?;
+    Ok(design_of(alloc, regs, hosts, rules, Sequence::new(alloc)).is_some())
 }
 
 const WRITES: [(u32, Value, bool); 24] = [
@@ -162,12 +178,18 @@ fn node(rule: u32, yes: Next, no: Next) -> Node {
 
 // Whether a design of this many idle rules may have the nodes.
 fn may_schedule(alloc: Global, rules: u32, nodes: Sequence<Node>) -> Result<bool, Fail> {
-    let mut parts = empty(alloc);
+    let mut idle = Sequence::new(alloc);
     for _ in 0..rules {
-        add_rule(alloc, &mut parts.rules, Action::Unit)?;
+        add_rule(alloc, &mut idle, Action::Unit)?;
     }
-    parts.nodes = nodes;
-    Ok(Design::new(parts).is_some())
+    let design = design_of(
+        alloc,
+        Sequence::new(alloc),
+        Sequence::new(alloc),
+        idle,
+        nodes,
+    );
+    Ok(design.is_some())
 }
 
 // The rules of four nodes, of which the first goes on to the next two, and these to the last, and where that goes on.
@@ -231,16 +253,23 @@ fn many_rules_and_paths_are_looked_at(rt: HostRuntime) -> Result<(), Fail> {
     Ok(())
 }
 
-// A register that begins with this value, a rule that writes it by this operator, and where the scheduler goes on
-// from the rule.
-fn design(alloc: Global, first: u128, operator: OneOp, rule: u32) -> Result<Design, Fail> {
-    let mut parts = declared(alloc, 8, first, HostKind::Gray, 8)?;
+// Two rules, of which the first writes a register by this operator.
+fn two_rules(alloc: Global, operator: OneOp) -> Result<Sequence<Rule>, Fail> {
     let value = Box::new(alloc, Action::Read(0, 0))?;
     let value = Box::new(alloc, Action::One(operator, value))?;
-    add_rule(alloc, &mut parts.rules, Action::Write(0, 0, value))?;
-    add_rule(alloc, &mut parts.rules, Action::Unit)?;
-    parts.nodes.push(node(rule, Next::End, Next::End))?;
-    Ok(Design::new(parts).ok_or("valid")?)
+    let mut rules = Sequence::new(alloc);
+    add_rule(alloc, &mut rules, Action::Write(0, 0, value))?;
+    add_rule(alloc, &mut rules, Action::Unit)?;
+    Ok(rules)
+}
+
+// A register that begins with this value, two rules, and a scheduler that tries one of them.
+fn design(alloc: Global, first: u128, operator: OneOp, rule: u32) -> Result<Design, Fail> {
+    let rules = two_rules(alloc, operator)?;
+    let regs = register(alloc, 8, first)?;
+    let nodes = Sequence::from_slice(alloc, &[node(rule, Next::End, Next::End)])?;
+    let design = design_of(alloc, regs, Sequence::new(alloc), rules, nodes);
+    Ok(design.ok_or("a valid design")?)
 }
 
 const OTHERS: [(u128, OneOp, u32, bool); 4] = [
