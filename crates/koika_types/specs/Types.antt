@@ -1,7 +1,7 @@
 -- The types of the source language: which are valid in a table of declared enums and structs, and how wide their values
 -- are. They are the packed types of IEEE 1800-2017 (7.2.1, 7.4.1) with 1 to 128 bits: bit vectors, enums of a stated
 -- width, structs and arrays. A struct may name only structs that are declared before it.
-use Rattle.std.specs.Prelude.{◌≡◌, ℕ, ◌+◌, ◌*◌, ◌<◌, ◌≤◌, min, List, ◌∷◌, All, length, map, sum_by, slice_get, slice_index, Some}
+use Rattle.std.specs.Prelude.{◌≡◌, ℕ, ◌+◌, ◌*◌, ◌<◌, ◌≤◌, min, List, ◌∷◌, All, length, map, sum_by, slice_get, slice_index, Option, Some, None}
 use Rattle.kw_bits.specs.Laws as vector
 use Rattle.koika_types.specs.declared.ty.Ty.{Ty, Bits, Enum, Struct, Array'}
 use Rattle.koika_types.specs.declared.declarations.Member.{Member}
@@ -49,9 +49,13 @@ IsType d = IsTypeAmong d (length d.structs)
 abbrev pub AreTypes : Declarations → List Field → Type 0
 AreTypes d fields = All (λ (field : Field). IsType d field.ty) fields
 
+-- the member's bits are a bit vector of this width
+abbrev pub IsMember : ℕ → Member → Type 0
+IsMember width member = vector.HasWidth member.bits width
+
 -- an enum has 1 to 128 bits, and its members are bit vectors of that width
 abbrev pub IsEnum : EnumDecl → Type 0
-IsEnum decl = IsWidth decl.width × All (λ (member : Member). vector.HasWidth member.bits decl.width) decl.members
+IsEnum decl = IsWidth decl.width × All (IsMember decl.width) decl.members
 
 -- The struct of this number has fields of types that are valid before it, and its width is that of the fields together,
 -- where 129 stands for more than 128.
@@ -67,3 +71,8 @@ pub record IsTable (d : Declarations) : Type 0 where
 -- the struct of this name with these fields
 abbrev pub struct_of : Declarations → List ℕ → List Field → StructDecl
 struct_of d name fields = record { name = name; fields = fields; width = min (total_width d fields) 129 }
+
+-- the answer is a width of this kind, or there is none
+abbrev pub Finds : (ℕ → Type 0) → Option ℕ → Type 0
+Finds P None = (width : ℕ) → P width → ⊥
+Finds P (Some width) = P width

@@ -6,10 +6,12 @@
 #![tactic(auto)]
 
 mod declarations;
+mod lookup;
 mod packing;
 mod table;
 mod ty;
 mod unpacking;
+mod validity;
 mod value;
 
 pub use declarations::{Declarations, EnumDecl, Field, Member, StructDecl};
@@ -17,4 +19,5 @@ pub use packing::pack;
 pub use table::{TypeTable, width_of};
 pub use ty::Ty;
 pub use unpacking::unpack;
+pub use validity::{have_valid_types, is_valid_enum, valid_width};
 pub use value::Value;

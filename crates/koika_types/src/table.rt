@@ -7,9 +7,6 @@ use kw_bits::{Bits, NoMemory, Sequence, Text};
 use std::alloc::Global;
 use std::marker::Model;
 
-/// The longest array has this many items.
-const MAX_LENGTH: u32 = 128;
-
 /// Stands for a total of more bits than a value may have.
 const MORE_THAN_MAX: u32 = Bits::MAX_WIDTH + 1;
 
