@@ -1,13 +1,14 @@
 -- What the loops that unpack the parts of a value keep.
-use Rattle.std.proofs.Common.{◌≡◌, ℕ, ◌+◌, ◌-◌, ◌*◌, ◌/◌, ◌%◌, ◌^◌, ◌<◌, ◌≤◌, List, [], ◌∷◌, ◌++◌, All, Some, slice_get, map, replicate, take, length, get_or, sum_by, refl, ap, ap₂, sym, subst, ◌∙◌, le_refl, arith}
+use Rattle.std.proofs.Common.{◌≡◌, ℕ, ◌+◌, ◌-◌, ◌*◌, ◌/◌, ◌%◌, ◌^◌, ◌<◌, ◌≤◌, List, [], ◌∷◌, ◌++◌, All, Some, slice_get, map, replicate, take, drop, min, length, length-drop, get_or, sum_by, refl, ap, ap₂, sym, subst, ◌∙◌, le_refl, arith}
 use Rattle.std.proofs.Math.Nat.{add-mul, div-eq_of_lt, div-one, mod-eq_of_lt, mod-one, mul-le-mul, mul_comm}
 use Rattle.std.proofs.Math.Seq.{take-length}
 use Rattle.std.proofs.lemmas.Grind.{replicate_next}
-use Rattle.std.proofs.lemmas.List.{take_more}
-use Rattle.std.proofs.lemmas.List.Sums.{sum_by_more, sum_by_more_le}
+use Rattle.std.proofs.lemmas.List.{take_all, take_more}
+use Rattle.std.proofs.lemmas.List.Elements.{All-drop}
+use Rattle.std.proofs.lemmas.List.Sums.{sum_by-take-drop, sum_by_more, sum_by_more_le}
 use Rattle.kw_bits.specs.BitVector.{BitVector, IsBits}
 use Rattle.kw_bits.specs.Operators.{concat, slice}
-use Rattle.koika_types.specs.Types.{IsTable, IsType, IsTypeAmong, total_width, width}
+use Rattle.koika_types.specs.Types.{AreTypes, IsTable, IsType, IsTypeAmong, fields_found, fields_of, total_width, width}
 use Rattle.koika_types.specs.Values.{IsOf, Pairwise, nothing, packed, stacked, stacked_up}
 use Rattle.koika_types.specs.declared.ty.Ty.{Ty}
 use Rattle.koika_types.specs.declared.ty.Ty.TheVariants as ty
@@ -157,3 +158,24 @@ item_fits all w each i n whole same lt =
     let inner : (i + 1) * w ≤ n * w = mul-le-mul next (le_refl w) in
     let total : n * w ≡ each * n = ap (λ k. n * k) same ∙ mul_comm n each in
     omega (arith, inner, total, add-mul i 1 w)
+
+-- ---- the fields behind one
+
+rest_of : (fields : List Field) (m : ℕ) → take (length fields - m) (drop m fields) ≡ drop m fields
+rest_of fields m = take_all (length fields - m) (drop m fields) (omega (arith, length-drop m fields))
+
+pub rest_valid : (d : Declarations) (n : ℕ) (fields : List Field) → Opened d n fields → (m : ℕ) → AreTypes d (take (length fields - m) (drop m fields))
+rest_valid d n fields o m =
+    subst (AreTypes d) (sym (rest_of fields m)) (All-drop (λ (field : Field). IsType d field.ty) m fields (λ i x lt. opened-type d n fields o i x lt))
+
+pub rest_total : (d : Declarations) (n : ℕ) (fields : List Field) → Opened d n fields → (m : ℕ) →
+    min (total_width d (take (length fields - m) (drop m fields))) 129 ≡ total_width d (drop m (fields_of d n))
+rest_total d n fields o m =
+    let most : width d (ty.Struct n) ≤ 128 = o.valid.1.1 in
+    let split = sum_by-take-drop (λ (field : Field). width d field.ty) fields m in
+    let few : total_width d (drop m fields) ≤ 128 = omega (arith, split, opened-total d n fields o) in
+    let all : fields ≡ fields_of d n = o.same ∙ sym (ap fields_found o.is) in
+    ap (λ fs. min (total_width d fs) 129) (rest_of fields m) ∙ capped (total_width d (drop m fields)) few ∙ ap (λ fs. total_width d (drop m fs)) all
+  where
+    capped : (k : ℕ) → k ≤ 128 → min k 129 ≡ k
+    capped k le = omega arith

@@ -1,7 +1,10 @@
-ghost use Rattle.std.specs.Prelude.{◌≡◌, position};
+ghost use Rattle.std.specs.Prelude.{◌≡◌, ◌*◌, ◌+◌, ◌<◌, drop, length, position, slice_index, map};
 ghost use Rattle.std.specs.Str.{bytes_eq};
+ghost use Rattle.koika_types.specs.Types.{IsType, fields_of, total_width, width};
+ghost use Rattle.koika_types.specs.declared.ty.Ty.{Struct};
 
 use crate::declarations::{EnumDecl, StructDecl};
+use crate::table::{TypeTable, total_width as widths_of};
 
 impl EnumDecl {
     /// The number of the first member with this name, if there is one.
@@ -25,4 +28,14 @@ impl StructDecl {
             .iter()
             .position(|field| field.name.as_slice() == name)
     }
+}
+
+/// The lowest bit of a field in the bits of a struct: those of the later fields are below it.
+pub fn field_place(types: &TypeTable, number: u32, field: usize) -> u32
+    requires valid { IsType types.now (Struct number) }
+    requires within { field < length (fields_of types.now number) }
+    ensures { result ≡ total_width types.now (drop (field + 1) (fields_of types.now number)) }
+{
+    let fields = types.structs()[number as usize].fields.as_slice();
+    widths_of(types, &fields[field + 1..])
 }

@@ -90,7 +90,7 @@ impl TypeTable {
 }
 
 // The widths of the fields together, or 129 where they are more than 128.
-fn total_width(types: &TypeTable, fields: &[Field]) -> u32
+pub(crate) fn total_width(types: &TypeTable, fields: &[Field]) -> u32
     requires { AreTypes types.now fields.now }
     ensures { result ≡ min (total_width types.now fields.now) 129 }
 {
