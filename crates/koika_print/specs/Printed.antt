@@ -1,19 +1,23 @@
 -- The text that a tree is printed as: its tokens in order, each in its one written form and with a blank behind
 -- it. This project's own text form.
-use Rattle.std.specs.Prelude.{◌≡◌, ℕ, zero, suc, List, [], ◌∷◌, ◌++◌, codes, decimal}
-use Rattle.std.specs.List.{flat_map}
+use Rattle.std.specs.Prelude.{◌≡◌, ℕ, zero, suc, ◌<◌, ◌^◌, ⊤, map, List, [], ◌∷◌, ◌++◌, codes, decimal}
+use Rattle.std.specs.List.{flat_map, AllByRecursion}
+use Rattle.kw_bits.specs.BitVector.{IsBitVector}
 use Rattle.koika_syntax.specs.Keywords.{keyword_text}
 use Rattle.koika_syntax.specs.Symbols.{symbol_text}
-use Rattle.koika_syntax.specs.Tree.{Leaf, sign, word, Terminal, name, number, literal, keyword, symbol}
+use Rattle.koika_syntax.specs.Tokens.{IsToken, AreTokensOf}
+use Rattle.koika_syntax.specs.Tree.{terminal_of, Leaf, sign, word, Terminal, name, number, literal, keyword, symbol}
 use Rattle.koika_syntax.specs.declared.keyword.Keyword.TheVariants as keywords
 use Rattle.koika_syntax.specs.declared.symbol.Symbol.{Symbol}
 use Rattle.koika_syntax.specs.declared.symbol.Symbol.TheVariants as symbols
+use Rattle.koika_syntax.specs.declared.token.Token.{Token}
+use Rattle.koika_syntax.specs.declared.token.TokenKind.TheVariants as kinds
 
 -- a token as it is written: numbers are decimal, without leading zeros, and a literal's base is ten
 abbrev pub written : Terminal → List ℕ
 written (name text) = text
 written (number n) = decimal n
-written (literal bits) = decimal bits.width ++ codes "'d" ++ decimal bits.number
+written (literal bits) = decimal bits.width ++ (codes "'d" ++ decimal bits.number)
 written (keyword k) = keyword_text k
 written (symbol s) = symbol_text s
 
@@ -47,3 +51,21 @@ comma_behind (suc items) = sign symbols.Comma
 abbrev pub else_behind : ℕ → List Leaf
 else_behind zero = []
 else_behind (suc arms) = word keywords.Else
+
+-- a token that has a written form: a name is one, and a number and a literal are in their ranges
+abbrev pub IsWritable : Terminal → Type 0
+IsWritable (name text) = IsToken kinds.Name text
+IsWritable (number n) = n < 2 ^ 32
+IsWritable (literal bits) = IsBitVector bits.width bits.number
+IsWritable (keyword k) = ⊤
+IsWritable (symbol s) = ⊤
+
+-- each of the tokens has one
+abbrev pub AreWritable : List Leaf → Type 0
+AreWritable leaves = AllByRecursion (λ leaf. IsWritable leaf.terminal) leaves
+
+-- the text is cut into tokens, and they are these, in order
+pub record IsLexedAs (text : List ℕ) (leaves : List Leaf) : Type 0 where
+  pub tokens : List Token
+  pub are : AreTokensOf tokens text
+  pub same : map (terminal_of text) tokens ≡ map (λ leaf. leaf.terminal) leaves

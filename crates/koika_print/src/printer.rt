@@ -1,7 +1,7 @@
 ghost use Rattle.std.specs.Prelude.{OnOk, ◌≡◌, IfOk};
 ghost use Rattle.std.specs.List.{flat_map};
 ghost use Rattle.koika_syntax.specs.Grammar.{declaration_leaves, tree_leaves};
-ghost use Rattle.koika_print.specs.Printed.{Prints, printed};
+ghost use Rattle.koika_print.specs.Printed.{AreWritable, IsLexedAs, Prints, printed};
 
 use crate::declarations::declaration;
 use crate::leaves::word;
@@ -13,7 +13,10 @@ use std::alloc::Global;
 /// The text of a tree: its tokens in order, a line feed behind each `;`, `{` and `}` and a space behind every
 /// other one. Literals and numbers are decimal, without leading zeros.
 pub fn print(alloc: Global, tree: &Tree) -> Result<Text, NoMemory>
-    ensures { IfOk result (λ text. text ≡ printed (tree_leaves tree.now)) }
+    ensures text { IfOk result (λ text. text ≡ printed (tree_leaves tree.now)) }
+
+    // What is printed is lexed as the tree's tokens.
+    ensures tokens { AreWritable (tree_leaves tree.now) → IfOk result (λ text. IsLexedAs text (tree_leaves tree.now)) }
 {
     let mut out = Text::new(alloc);
     design(&mut out, tree)?;

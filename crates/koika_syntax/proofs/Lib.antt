@@ -12,3 +12,4 @@ pub mod Unique
 pub mod UniquePieces
 pub mod Places
 pub mod Leaves
+pub mod Blanks
