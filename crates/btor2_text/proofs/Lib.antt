@@ -1,10 +1,11 @@
 pub mod Arguments
+pub mod Conjunction
 pub mod Cuts
 pub mod FormsOfLines
 pub mod KeywordTable
 pub mod Members
 pub mod NotOutside
 pub mod Numerals
+pub mod ReadLines
 pub mod Readings
 pub mod RoundTrip
-pub mod ReadLines

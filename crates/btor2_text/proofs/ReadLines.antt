@@ -1,5 +1,5 @@
 -- What is read can be printed.
-use Rattle.std.proofs.Common.{◌≡◌, ℕ, zero, suc, ◌+◌, Bool, true, false, not, cond, ◌&&◌, ◌||◌, List, [], ◌∷◌, ◌++◌, length, take, drop, Option, None, Some, Ok, refl, sym, ap, ◌∙◌, subst, arith, true≢false}
+use Rattle.std.proofs.Common.{◌≡◌, ℕ, zero, suc, ◌+◌, Bool, true, false, not, cond, ◌&&◌, ◌||◌, List, [], ◌∷◌, ◌++◌, length, take, drop, Option, None, Some, Ok, refl, sym, ap, subst, arith}
 use Rattle.std.specs.List.{before_first, filter, list_all, onto_first, prefix_len, slice_split}
 use Rattle.std.specs.Option.{option_to_list}
 use Rattle.btor2_text.specs.Cut.{is_blank, begins_comment, ends_line, has_bytes, lines_of, words_of, tokens_of}
@@ -11,17 +11,7 @@ use Rattle.btor2_text.specs.declared.kind.Kind.{Kind}
 use Rattle.btor2_text.specs.declared.kind.Kind.TheVariants as kinds
 use Rattle.btor2_text.specs.declared.line.Argument.{Argument}
 use Rattle.btor2_text.specs.declared.line.Line.{Line}
-
-and-true : (a b : Bool) → a ≡ true → b ≡ true → (a && b) ≡ true
-and-true a b p q = ap (λ c. c && b) p ∙ q
-
-and-left : (a b : Bool) → (a && b) ≡ true → a ≡ true
-and-left true b h = refl
-and-left false b h = h
-
-and-right : (a b : Bool) → (a && b) ≡ true → b ≡ true
-and-right true b h = h
-and-right false b h = absurd (true≢false (sym h))
+use Rattle.btor2_text.proofs.Conjunction.{and-true, and-left, and-right}
 
 -- each part has only bytes that pass
 EachPart : (ℕ → Bool) → List (List ℕ) → Type 0

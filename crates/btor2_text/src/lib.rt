@@ -1,8 +1,9 @@
 //! BTOR2 texts: lines of the forms that this project reads and writes.
 //!
-//! Contracts cite how a text is cut in `specs/Cut.antt`, the table of forms in `specs/Forms.antt`, which line a
-//! row of tokens is in `specs/Lines.antt`, and what reading a whole text gives in `specs/Reading.antt`. The
-//! crate that accepts circuit texts reads what `read_lines` answers; the compiler prints by `print_lines`.
+//! Contracts cite how a text is cut in `specs/Cut.antt`, the table of forms in `specs/Forms.antt`, which line a row
+//! of tokens is in `specs/Lines.antt`, what reading a whole text gives in `specs/Reading.antt`, and what printing
+//! writes in `specs/Printing.antt`. The crate that accepts circuit texts reads what `read_lines` answers; the
+//! compiler prints by `print_lines`.
 #![tactic(auto)]
 
 mod argument;
