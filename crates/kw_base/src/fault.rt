@@ -9,7 +9,8 @@ use kw_bits::{NoMemory, Text};
 use std::alloc::{AllocError, AllocFailed, Global};
 use thiserror::Error;
 
-/// What is wrong with a text: the number of the fault, and its line and column, both counted from 1.
+/// What is wrong with a text: the number of the fault, and its line and column, both counted from 1, or 0
+/// and 0 where it speaks of the whole text.
 #[derive(Clone, Copy, Debug, PartialEq, Eq, Error)]
 #[error("fault {number} at {line}:{column}")]
 pub struct Fault {
