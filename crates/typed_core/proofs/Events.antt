@@ -1,5 +1,5 @@
 -- Events that fit registers of some widths, and what they leave of the registers.
-use Rattle.std.proofs.Common.{◌≡◌, ℕ, ◌<◌, Bool, true, false, List, [], ◌∷◌, ◌++◌, length, Some, refl, sym, subst, eqb-true}
+use Rattle.std.proofs.Common.{◌≡◌, ℕ, Bool, true, false, List, [], ◌∷◌, ◌++◌, Some, refl, sym, subst, eqb-true}
 use Rattle.std.specs.Prelude.{slice_get, slice_set, if◌then◌else◌, ◌==◌, ◌&&◌}
 use Rattle.std.proofs.lemmas.Bool.{and_parts}
 use Rattle.kw_bits.specs.BitVector.{BitVector}
@@ -9,7 +9,7 @@ use Rattle.typed_core.specs.Fits.{EventFits, EventsFit}
 use Rattle.typed_core.specs.Widths.{HaveWidths}
 use Rattle.typed_core.specs.declared.access.Access.{Access}
 use Rattle.typed_core.specs.declared.access.Event.{Event}
-use Rattle.typed_core.proofs.WidthLists.{HaveWidths-set, found-same, within}
+use Rattle.typed_core.proofs.WidthLists.{HaveWidths-set, found-same}
 
 pub EventsFit-append : (widths : List ℕ) (xs ys : List Event) → EventsFit widths xs → EventsFit widths ys → EventsFit widths (xs ++ ys)
 EventsFit-append widths [] ys f g = g
@@ -46,7 +46,3 @@ after_one_fits widths regs e fits f = chosen e.access.write
 pub after_fits : (widths : List ℕ) (events : List Event) (regs : List BitVector) → EventsFit widths events → HaveWidths widths regs → HaveWidths widths (after events regs)
 after_fits widths [] regs e fits = fits
 after_fits widths (e ∷ events) regs f fits = after_fits widths events _ f.1 (after_one_fits widths regs e fits f.0)
-
--- an event that fits is of a register that there is
-pub register_of_event : (widths : List ℕ) (regs : List BitVector) (e : Event) → HaveWidths widths regs → EventFits widths e → e.access.register < length regs
-register_of_event widths regs e fits f = within widths regs e.access.register f.value.0 fits f.value.1

@@ -1,13 +1,15 @@
 -- What holds of what all ports answer holds of what actions come to.
-use Rattle.std.proofs.Common.{ℕ, Bool, true, false, List, [], ◌∷◌, ◌++◌, sym, ap, ◌∙◌, append-nil, append_assoc}
+use Rattle.std.proofs.Common.{ℕ, Bool, true, false, List, [], ◌∷◌, ◌++◌, sym, ap, ◌∙◌, append-nil, append_assoc, refl}
 use Rattle.std.specs.Prelude.{nat_eq, if◌then◌else◌, slice_get}
 use Rattle.kw_bits.specs.BitVector.{BitVector}
 use Rattle.kw_bits.specs.Operators as op
+use Rattle.typed_core.specs.Alone.{alone_ports, is_refused}
 use Rattle.typed_core.specs.Evaluation.{answer_of, apply_one, apply_two, bind, comes_to, entry_of, evaluate, Ending, Environment, Part, Ports, Progress, Stop, Value, unit}
 use Rattle.typed_core.specs.Fits.{Appends, Continues, PortsAppend}
 use Rattle.typed_core.specs.declared.access.Event.{Event}
 use Rattle.typed_core.specs.declared.action.Action.{Action}
 use Rattle.typed_core.specs.declared.action.Action.TheVariants as action
+use Rattle.typed_core.specs.declared.outcome.Stopped.{Stopped}
 
 -- ---- two readings of one action
 
@@ -86,3 +88,16 @@ evaluate_appends {S} env ports appends a locals events = evaluate_related env po
       write = λ port register value es. appends.write port register value es;
       abort = λ es. Continues-self es;
     }
+
+-- the ports of a rule that runs alone only add events
+pub PortsAppend-alone : (regs : List BitVector) → PortsAppend (alone_ports regs)
+PortsAppend-alone regs = record {
+  read = λ port register events. (_, refl);
+  write = λ port register value events. chosen _ events _ (is_refused events (record { write = true; port = port; register = register }));
+}
+  where
+    chosen : (cause : Stopped) (events : List Event) (e : Event) (refused : Bool)
+        → let p : Progress BitVector Stopped = if refused then record { events = events; ending = Stop cause } else record { events = events ++ e ∷ []; ending = Value unit } in
+        Continues events p.events
+    chosen cause events e true = Continues-self events
+    chosen cause events e false = (e ∷ [], refl)

@@ -15,7 +15,7 @@ use Rattle.typed_core.specs.declared.action.Action.{Action}
 use Rattle.typed_core.specs.declared.action.Action.TheVariants as action
 use Rattle.typed_core.proofs.Values.{bits_of, found_holds}
 use Rattle.typed_core.proofs.Typed.{events_fit, value_fits, operand_has_value}
-use Rattle.typed_core.proofs.WidthLists.{HaveWidths-cons, within}
+use Rattle.typed_core.proofs.WidthLists.{HaveWidths-cons}
 
 -- the part that comes first in an action and is an operand of it
 unfoldable pub first_operand : Action → Option Action
@@ -68,14 +68,6 @@ module _ (d : Declarations) (part : Action) (values : List BitVector) (ready : C
   -- what holds of all actions of the form that can be evaluated holds of this one
   at_form : (form : Action) {P : Type 0} → part ≡ form → (CanEvaluate d form values → P) → P
   at_form form is k = k (subst (λ (x : Action). CanEvaluate d x values) is ready)
-
-  -- a name that is bound has a value
-  pub local_ready : (name : ℕ) → part ≡ action.Local name → name < length values
-  local_ready name is = at_form (action.Local name) is (λ (widths, l, (width, t)). within widths values name width l t)
-
-  -- an input that is named has a value
-  pub input_ready : (env : Environment) (input : ℕ) → EnvironmentFits d env → part ≡ action.Input input → input < length env.inputs
-  input_ready env input fits is = at_form (action.Input input) is (λ (widths, l, (width, t)). within d.inputs env.inputs input width fits.inputs t)
 
   -- a register that is read has a value, and is read at one of its ports
   pub read_ready : (port register : ℕ) → part ≡ action.Read port register → IsPort port × (register < length d.regs)

@@ -131,7 +131,3 @@ module _ {S : Type 0} (d : Declarations) (env : Environment) (ports : Ports S) (
   operand_has_value action locals values events events' (width, t, some) l e h =
       let v = value_fits action locals values width events events' unit t l e h in
       omega (arith, v.as_wide, some)
-
--- an operand is typed
-pub IsTyped-operand : (d : Declarations) (action : Action) (locals : List ℕ) → IsOperand d action locals → IsTyped d action locals
-IsTyped-operand d action locals (width, t, some) = (width, t)

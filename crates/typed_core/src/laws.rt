@@ -1,4 +1,4 @@
-// Each law of accesses and of designs is the contract of a function that does nothing.
+// Each law of accesses, of evaluation and of designs is the contract of a function that does nothing.
 ghost use Rattle.typed_core.specs.Laws as law;
 ghost use Rattle.typed_core.specs.Same.{DoTheSame, SameDesign};
 ghost use Rattle.typed_core.specs.declared.design.Parts.{Parts};
@@ -10,6 +10,13 @@ pub fn accesses_clash_by_their_ports()
     ensures write_after_write { law.WriteAfterWrite }
     ensures read_after_read { law.ReadAfterRead }
     ensures other_register { law.OtherRegister }
+{}
+
+/// Actions keep what the ports keep at which they are evaluated, whatever stops a rule.
+pub fn actions_keep_what_ports_keep<S>()
+    ensures append { law.ActionsAppend S }
+    ensures fit { law.ActionsFit S }
+    ensures alone { law.AlonePorts }
 {}
 
 /// Equality by value is an equivalence.

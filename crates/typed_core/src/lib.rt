@@ -21,7 +21,8 @@ pub use access::{Access, Event, Events};
 pub use action::{Action, OneOp, TwoOp};
 pub use design::{Design, HostSpec, InputDecl, Next, Node, Parts, RegDecl, Rule, TableSpec};
 pub use laws::{
-    accesses_clash_by_their_ports, equal_designs_do_the_same, equality_is_an_equivalence,
+    accesses_clash_by_their_ports, actions_keep_what_ports_keep, equal_designs_do_the_same,
+    equality_is_an_equivalence,
 };
 pub use outcome::{Alone, Outcome, Stopped};
 pub use scope::Scope;
