@@ -10,10 +10,11 @@ use Rattle.one_rule.specs.declared.evaluation.Environment.{Environment}
 use Rattle.one_rule.specs.declared.evaluation.Interrupt.{Interrupt}
 use Rattle.one_rule.specs.declared.evaluation.Interrupt.TheVariants as interrupt
 
-abbrev pub environment_of : Environment → core.Environment
-environment_of env = record { externs = env.externs.now; inputs = env.inputs.now }
+-- given what the externs keep
+abbrev pub environment_of : {E : Type 0} → (E → core.Externs) → Environment E → core.Environment
+environment_of kept env = record { externs = kept env.externs.now; inputs = env.inputs.now }
 
-abbrev pub declarations_of : Environment → Declarations
+abbrev pub declarations_of : {E : Type 0} → Environment E → Declarations
 declarations_of env = declarations env.design.now
 
 -- the value of a part, which has no bits where it is run for its effect

@@ -5,6 +5,7 @@ ghost use Rattle.typed_core.specs.Fits.{EventsFit};
 ghost use Rattle.typed_core.specs.Valid.{externs_of};
 ghost use Rattle.typed_core.specs.Widths.{HaveWidths, input_widths, register_widths};
 ghost use Rattle.one_rule.specs.Rows.{RowFits};
+ghost use Rattle.one_rule.specs.Externs.{kept};
 ghost use Rattle.one_rule.specs.Cycle.{clash_with, clash_with_access, clash_with_events, cycle, fire, fires, flags, is_among, numbers, system_of, walk_of};
 ghost use Rattle.one_rule.specs.Walk.{goes_on, is_at, pass, root};
 
@@ -37,7 +38,7 @@ pub fn slow_cycle(
     inputs: &Inputs,
     regs: &Regs,
 ) -> Result<Row, NoMemory>
-    requires externs { externs.now ≡ externs_of design.now }
+    requires externs { kept externs.now ≡ externs_of design.now }
     requires inputs { HaveWidths (input_widths design.now) inputs.now }
     requires registers { HaveWidths (register_widths design.now) regs.now }
     ensures cycle { IfOk result (λ row. row ≡ cycle (system_of design.now) inputs.now regs.now) }
@@ -59,7 +60,7 @@ fn walk_of(
     inputs: &Inputs,
     regs: &Regs,
 ) -> Result<State, NoMemory>
-    requires externs { externs.now ≡ externs_of design.now }
+    requires externs { kept externs.now ≡ externs_of design.now }
     requires inputs { HaveWidths (input_widths design.now) inputs.now }
     requires registers { HaveWidths (register_widths design.now) regs.now }
     ensures walk { IfOk result (λ end. end ≡ (walk_of (system_of design.now) inputs.now regs.now).state) }
@@ -107,7 +108,7 @@ fn pass(
     at: Next,
     state: &mut State,
 ) -> Result<Next, NoMemory>
-    requires externs { externs.now ≡ externs_of design.now }
+    requires externs { kept externs.now ≡ externs_of design.now }
     requires rule { node.now.rule < length design.now.rules }
     requires inputs { HaveWidths (input_widths design.now) inputs.now }
     requires registers { HaveWidths (register_widths design.now) state.old.regs }
@@ -130,7 +131,7 @@ fn visit(
     node: &Node,
     state: &mut State,
 ) -> Result<Next, NoMemory>
-    requires externs { externs.now ≡ externs_of design.now }
+    requires externs { kept externs.now ≡ externs_of design.now }
     requires rule { node.now.rule < length design.now.rules }
     requires inputs { HaveWidths (input_widths design.now) inputs.now }
     requires registers { HaveWidths (register_widths design.now) state.old.regs }

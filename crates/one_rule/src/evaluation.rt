@@ -2,13 +2,12 @@ ghost use Rattle.std.specs.Prelude.{◌≡◌, ◌<◌, ℕ, List, length, slice
 ghost use Rattle.kw_bits.specs.BitVector.{BitVector};
 ghost use Rattle.typed_core.specs.Evaluation as core;
 ghost use Rattle.typed_core.specs.Fits.{CanBeOperand, CanEvaluate, EnvironmentFits, EventsFit, PortsFit};
-ghost use Rattle.typed_core.specs.Valid.{IsPort};
+ghost use Rattle.typed_core.specs.Valid.{HostHasWidth, IsPort, TableHasWidth};
 ghost use Rattle.typed_core.specs.declared.access.Event.{Event};
 ghost use Rattle.typed_core.specs.declared.outcome.Stopped.{Stopped};
 ghost use Rattle.typed_core.specs.declared.outcome.Stopped.TheVariants.{Abort};
 ghost use Rattle.one_rule.specs.Answers.{Answers, declarations_of, environment_of, value_of};
 
-use crate::externs::Externs;
 use crate::rows::Inputs;
 use kw_bits::{Bits, NoMemory};
 use typed_core::{Action, Design, Scope, Stopped};
@@ -32,11 +31,26 @@ impl From<NoMemory> for Interrupt {
     }
 }
 
+/// What rules ask of the outside: the entries of tables and the answers of host functions.
+pub trait Outside {
+    ghost kept: { Self → core.Externs };
+
+    /// The entry of the table of this number.
+    fn look(&self, table: u32, x: Bits) -> Bits
+        requires { (width : ℕ) × TableHasWidth (kept self.now).tables table x.width width }
+        ensures { result ≡ core.entry_of (slice_get (kept self.now).tables table) x };
+
+    /// What the host function of this number answers.
+    fn ask(&self, host: u32, x: Bits) -> Bits
+        requires { (width : ℕ) × HostHasWidth (kept self.now).hosts host x.width width }
+        ensures { result ≡ core.answer_of (slice_get (kept self.now).hosts host) x };
+}
+
 /// What a rule's body is evaluated in.
 #[derive(Drop)]
-pub struct Environment<'a> {
+pub struct Environment<'a, E> {
     pub design: &'a Design,
-    pub externs: &'a Externs,
+    pub externs: &'a E,
     pub inputs: &'a Inputs,
 }
 
@@ -73,20 +87,20 @@ pub trait Ports {
 /// What an action comes to, with these values of the names that are bound round it: parts from left to right, a
 /// write's value before the write, and of an `If` one arm. It takes no memory itself.
 #[cycle(evaluate)]
-pub fn evaluate<P: Ports>(
-    env: &Environment,
+pub fn evaluate<E: Outside, P: Ports>(
+    env: &Environment<E>,
     ports: &mut P,
     action: &Action,
     locals: &Scope<Bits>,
 ) -> Result<Option<Bits>, Interrupt>
-    requires fits { EnvironmentFits (declarations_of env.now) (environment_of env.now) }
+    requires fits { EnvironmentFits (declarations_of env.now) (environment_of E.kept env.now) }
     requires registers { P.widths ports.old ≡ (declarations_of env.now).regs }
     requires reading { PortsFit (P.widths ports.old) (P.reading ports.old) }
     requires abort { (P.reading ports.old).abort ≡ Abort }
     requires ready { CanEvaluate (declarations_of env.now) action.now locals.now }
     requires events { (events : List Event) × P.stands_for ports.old events × EventsFit (P.widths ports.old) events }
     ensures answers { (events : List Event) → P.stands_for ports.old events
-        → Answers value_of (P.stands_for ports.new) result (core.evaluate (environment_of env.now) (P.reading ports.old) action.now locals.now events) }
+        → Answers value_of (P.stands_for ports.new) result (core.evaluate (environment_of E.kept env.now) (P.reading ports.old) action.now locals.now events) }
     ensures reading { P.reading ports.new ≡ P.reading ports.old }
     ensures widths { P.widths ports.new ≡ P.widths ports.old }
 {
@@ -156,20 +170,20 @@ pub fn evaluate<P: Ports>(
 
 // The value of an action that comes to one.
 #[cycle(evaluate)]
-fn operand<P: Ports>(
-    env: &Environment,
+fn operand<E: Outside, P: Ports>(
+    env: &Environment<E>,
     ports: &mut P,
     action: &Action,
     locals: &Scope<Bits>,
 ) -> Result<Bits, Interrupt>
-    requires fits { EnvironmentFits (declarations_of env.now) (environment_of env.now) }
+    requires fits { EnvironmentFits (declarations_of env.now) (environment_of E.kept env.now) }
     requires registers { P.widths ports.old ≡ (declarations_of env.now).regs }
     requires reading { PortsFit (P.widths ports.old) (P.reading ports.old) }
     requires abort { (P.reading ports.old).abort ≡ Abort }
     requires ready { CanBeOperand (declarations_of env.now) action.now locals.now }
     requires events { (events : List Event) × P.stands_for ports.old events × EventsFit (P.widths ports.old) events }
     ensures answers { (events : List Event) → P.stands_for ports.old events
-        → Answers (λ (value : BitVector). value) (P.stands_for ports.new) result (core.evaluate (environment_of env.now) (P.reading ports.old) action.now locals.now events) }
+        → Answers (λ (value : BitVector). value) (P.stands_for ports.new) result (core.evaluate (environment_of E.kept env.now) (P.reading ports.old) action.now locals.now events) }
     ensures reading { P.reading ports.new ≡ P.reading ports.old }
     ensures widths { P.widths ports.new ≡ P.widths ports.old }
 {

@@ -1,59 +1,60 @@
-ghost use Rattle.std.specs.Prelude.{◌≡◌, ◌≤◌, ◌<◌, ℕ, All, IfOk, length, slice_get};
+ghost use Rattle.std.specs.Prelude.{◌≡◌, ◌↔◌, ℕ, All, IfOk, IsTrue, Contains, slice_get};
 ghost use Rattle.typed_core.specs.Evaluation.{answer_of, entry_of};
-ghost use Rattle.typed_core.specs.Valid.{HostHasWidth, IsHost, IsTable, TableHasWidth, externs_of};
+ghost use Rattle.typed_core.specs.Valid.{HostHasWidth, IsTable, TableHasWidth, externs_of};
+ghost use Rattle.one_rule.specs.Externs.{AreOffered, host_spec, host_specs, kept};
 
+mod kept;
+
+pub use self::kept::Externs;
+use crate::evaluation::Outside;
 use ext_table::Table;
+use host_fn::HostFn;
 use kw_bits::{Bits, NoMemory, Sequence};
 use std::alloc::Global;
-use std::marker::Model;
 use typed_core::{Design, HostSpec, TableSpec};
 
-/// What the actions of a design ask of the outside: its tables and its host functions.
-#[derive(Debug, Drop)]
-pub struct Externs {
-    tables: Sequence<Table>,
-    hosts: Sequence<HostSpec>,
-}
-
-impl Model for Externs {
-    ghost use Rattle.std.specs.Prelude.{All};
-    ghost use Rattle.typed_core.specs.Valid.{IsHost};
-    ghost use Rattle.typed_core.specs.Evaluation as core;
-
-    ghost Value = { core.Externs };
-
-    ghost view = { λ e. record { tables = e.tables; hosts = e.hosts } };
-
-    ghost invariant = { λ e. All IsHost e.hosts };
-}
-
 impl Externs {
-    /// The tables and the host functions of a design.
-    pub fn new(alloc: Global, design: &Design) -> Result<Externs, NoMemory>
-        ensures { IfOk result (λ externs. externs ≡ externs_of design.now) }
+    /// The tables of a design, and for each of its host functions the first that is offered of its kind and width.
+    pub fn new(alloc: Global, design: &Design, hosts: &[HostFn]) -> Result<Externs, NoMemory>
+        requires { AreOffered design.now.hosts (host_specs hosts.now) }
+        ensures { IfOk result (λ externs. kept externs ≡ externs_of design.now) }
     {
         Ok(Externs {
             tables: tables_of(alloc, design.tables.as_slice())?,
-            hosts: Sequence::from_slice(alloc, design.hosts.as_slice())?,
+            hosts: hosts_of(alloc, design.hosts.as_slice(), hosts)?,
         })
     }
 
     /// The entry of the table of this number.
     pub fn look(&self, table: u32, x: Bits) -> Bits
-        requires { (width : ℕ) × TableHasWidth self.now.tables table x.width width }
-        ensures entry { result ≡ entry_of (slice_get self.now.tables table) x }
-        ensures width { (width : ℕ) → TableHasWidth self.now.tables table x.width width → result.width ≡ width }
+        requires { (width : ℕ) × TableHasWidth (kept self.now).tables table x.width width }
+        ensures entry { result ≡ entry_of (slice_get (kept self.now).tables table) x }
+        ensures width { (width : ℕ) → TableHasWidth (kept self.now).tables table x.width width → result.width ≡ width }
     {
         self.tables.get(table as usize).look(x)
     }
 
     /// What the host function of this number answers.
     pub fn ask(&self, host: u32, x: Bits) -> Bits
-        requires { (width : ℕ) × HostHasWidth self.now.hosts host x.width width }
-        ensures answer { result ≡ answer_of (slice_get self.now.hosts host) x }
-        ensures width { (width : ℕ) → HostHasWidth self.now.hosts host x.width width → result.width ≡ width }
+        requires { (width : ℕ) × HostHasWidth (kept self.now).hosts host x.width width }
+        ensures answer { result ≡ answer_of (slice_get (kept self.now).hosts host) x }
+        ensures width { (width : ℕ) → HostHasWidth (kept self.now).hosts host x.width width → result.width ≡ width }
     {
-        self.hosts.get(host as usize).kind.value(x)
+        self.hosts[host as usize].ask(x)
+    }
+}
+
+impl Outside for Externs {
+    ghost use Rattle.one_rule.specs.Externs.{kept};
+
+    ghost kept = { λ e. kept e };
+
+    fn look(&self, table: u32, x: Bits) -> Bits {
+        self.look(table, x)
+    }
+
+    fn ask(&self, host: u32, x: Bits) -> Bits {
+        self.ask(host, x)
     }
 }
 
@@ -77,4 +78,34 @@ fn table_of(alloc: Global, spec: &TableSpec) -> Result<Table, NoMemory>
         Ok(table) => Ok(table),
         Err(_) => unreachable!(),
     }
+}
+
+fn hosts_of(alloc: Global, specs: &[HostSpec], offered: &[HostFn]) -> Result<Vec<HostFn>, NoMemory>
+    requires { AreOffered specs.now (host_specs offered.now) }
+    ensures { IfOk result (λ hosts. host_specs hosts.items ≡ specs.now) }
+{
+    let mut hosts = Vec::new(alloc);
+    for spec in specs {
+        hosts.push(host_of(spec, offered))?;
+    }
+    Ok(hosts)
+}
+
+// The first that is offered of a kind and a width.
+fn host_of(spec: &HostSpec, offered: &[HostFn]) -> HostFn
+    requires { Contains (host_specs offered.now) spec.now }
+    ensures { host_spec result ≡ spec.now }
+{
+    for function in offered {
+        if meets(function, spec) {
+            return *function;
+        }
+    }
+    unreachable!()
+}
+
+fn meets(function: &HostFn, spec: &HostSpec) -> bool
+    ensures { IsTrue result ↔ (host_spec function.now ≡ spec.now) }
+{
+    function.kind() == spec.kind && function.in_width() == spec.in_width
 }

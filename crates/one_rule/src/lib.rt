@@ -16,7 +16,7 @@ mod stimulus;
 mod tests;
 
 pub use cycle::slow_cycle;
-pub use evaluation::{Environment, Interrupt, Ports, evaluate};
+pub use evaluation::{Environment, Interrupt, Outside, Ports, evaluate};
 pub use externs::Externs;
 pub use laws::{
     a_rule_fires_once_in_a_cycle, a_rule_fires_unless_it_is_blocked,

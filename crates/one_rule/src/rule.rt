@@ -8,6 +8,7 @@ ghost use Rattle.typed_core.specs.Widths.{HaveWidths, input_widths, register_wid
 ghost use Rattle.typed_core.specs.declared.access.Event.{Event};
 ghost use Rattle.typed_core.specs.declared.outcome.Stopped.{Stopped};
 ghost use Rattle.one_rule.specs.Answers.{Answers, value_of};
+ghost use Rattle.one_rule.specs.Externs.{kept};
 ghost use Rattle.one_rule.specs.Cycle.{system_of};
 
 use crate::evaluation::{Environment, Interrupt, Ports, evaluate};
@@ -26,7 +27,7 @@ pub fn alone(
     inputs: &Inputs,
     regs: &Regs,
 ) -> Result<Alone, NoMemory>
-    requires externs { externs.now ≡ externs_of design.now }
+    requires externs { kept externs.now ≡ externs_of design.now }
     requires rule { rule < length design.now.rules }
     requires inputs { HaveWidths (input_widths design.now) inputs.now }
     requires registers { HaveWidths (register_widths design.now) regs.now }

@@ -127,7 +127,8 @@ fn expect_row(rt: &impl Abort, name: &str, row: &Row, left: &[u128], fired: &[bo
 
 // A valid design of a case.
 fn design_of(rt: &impl Abort, alloc: Global, case: &Case) -> Result<Design, NoMemory>
-    ensures { IfOk result (λ design. design.inputs ≡ []) }
+    ensures inputs { IfOk result (λ design. design.inputs ≡ []) }
+    ensures hosts { IfOk result (λ design. design.hosts ≡ []) }
 {
     let mut bodies = Vec::new(alloc);
     for writes in case.rules {
@@ -148,7 +149,7 @@ fn design_of(rt: &impl Abort, alloc: Global, case: &Case) -> Result<Design, NoMe
 
 fn expect_case(rt: &impl Abort, alloc: Global, case: &Case) -> Result<(), NoMemory> {
     let design = design_of(rt, alloc, case)?;
-    let externs = Externs::new(alloc, &design)?;
+    let externs = Externs::new(alloc, &design, &[])?;
     let inputs = Inputs::new(alloc);
     let regs = first_values(alloc, &design)?;
     let row = slow_cycle(alloc, &design, &externs, &inputs, &regs)?;

@@ -1,5 +1,5 @@
-// Small designs, part by part. Each register and each value has 4 bits but where a test says another width.
-ghost use Rattle.std.specs.Prelude.{◌≡◌, [], IfOk};
+// Small designs, part by part. Registers and numbers have 4 bits.
+ghost use Rattle.std.specs.Prelude.{◌≡◌, []};
 
 use kw_bits::{Bits, NoMemory, Sequence, Text};
 use std::alloc::Global;
@@ -19,34 +19,29 @@ pub(super) enum Source {
 /// A port, a register, and what is written there.
 pub(super) type Write = (u32, u32, Source);
 
-pub(super) fn number(rt: &impl Abort, width: u32, number: u128) -> Action {
-    Action::Const(Bits::new(width, number).expect(rt, "a bit vector"))
+fn bits(rt: &impl Abort, number: u128) -> Bits {
+    Bits::new(4, number).expect(rt, "four bits")
 }
 
-pub(super) fn write(
-    alloc: Global,
-    port: u32,
-    register: u32,
-    value: Action,
-) -> Result<Action, NoMemory> {
+fn write(alloc: Global, port: u32, register: u32, value: Action) -> Result<Action, NoMemory> {
     Ok(Action::Write(port, register, Box::new(alloc, value)?))
 }
 
-pub(super) fn seq(alloc: Global, first: Action, second: Action) -> Result<Action, NoMemory> {
+fn seq(alloc: Global, first: Action, second: Action) -> Result<Action, NoMemory> {
     Ok(Action::Seq(Box::new(alloc, first)?, Box::new(alloc, second)?))
-}
-
-pub(super) fn bind(alloc: Global, value: Action, body: Action) -> Result<Action, NoMemory> {
-    Ok(Action::Let(Box::new(alloc, value)?, Box::new(alloc, body)?))
 }
 
 fn value_of(rt: &impl Abort, alloc: Global, from: Source) -> Result<Action, NoMemory> {
     match from {
-        Source::Number(n) => Ok(number(rt, 4, n)),
+        Source::Number(n) => Ok(Action::Const(bits(rt, n))),
         Source::Read(port, register) => Ok(Action::Read(port, register)),
         Source::Next(port, register) => {
             let read = Box::new(alloc, Action::Read(port, register))?;
-            Ok(Action::Two(TwoOp::Add, read, Box::new(alloc, number(rt, 4, 1))?))
+            Ok(Action::Two(
+                TwoOp::Add,
+                read,
+                Box::new(alloc, Action::Const(bits(rt, 1)))?,
+            ))
         }
     }
 }
@@ -84,7 +79,7 @@ pub(super) fn registers(
         decls.push(RegDecl {
             name: Text::new(alloc),
             width: 4,
-            first: Bits::new(4, *number).expect(rt, "four bits"),
+            first: bits(rt, *number),
         })?;
     }
     Ok(decls)
@@ -115,7 +110,8 @@ pub(super) fn plain(
     rules: Sequence<Rule>,
     nodes: Sequence<Node>,
 ) -> Parts
-    ensures { result.inputs ≡ [] }
+    ensures inputs { result.inputs ≡ [] }
+    ensures hosts { result.hosts ≡ [] }
 {
     Parts {
         regs,

@@ -14,7 +14,7 @@ pub evaluate-operand-requires-in-Two-2 : goal.evaluate-operand-requires-in-Two-2
 unfolding first_operand
 evaluate-operand-requires-in-Two-2 g t c =
     let d = declarations_of c.args.env.now in
-    let env = environment_of c.args.env.now in
+    let env = environment_of g.E.Outside.kept c.args.env.now in
     let part = c.args.action.now in
     let values = c.args.locals.now in
     let reading = g.P.Ports.reading c.args.ports.now in
@@ -33,7 +33,7 @@ pub evaluate-apply-requires-in-Two : goal.evaluate-apply-requires-in-Two
 unfolding first_operand
 evaluate-apply-requires-in-Two g t c =
     let d = declarations_of c.args.env.now in
-    let env = environment_of c.args.env.now in
+    let env = environment_of g.E.Outside.kept c.args.env.now in
     let part = c.args.action.now in
     let values = c.args.locals.now in
     let reading = g.P.Ports.reading c.args.ports.now in
@@ -50,7 +50,7 @@ pub evaluate-slice-requires-clause-within : goal.evaluate-slice-requires-clause-
 unfolding first_operand
 evaluate-slice-requires-clause-within g t c =
     let d = declarations_of c.args.env.now in
-    let env = environment_of c.args.env.now in
+    let env = environment_of g.E.Outside.kept c.args.env.now in
     let part = c.args.action.now in
     let values = c.args.locals.now in
     let reading = g.P.Ports.reading c.args.ports.now in
@@ -64,7 +64,7 @@ pub evaluate-zext-requires-clause-wider : goal.evaluate-zext-requires-clause-wid
 unfolding first_operand
 evaluate-zext-requires-clause-wider g t c =
     let d = declarations_of c.args.env.now in
-    let env = environment_of c.args.env.now in
+    let env = environment_of g.E.Outside.kept c.args.env.now in
     let part = c.args.action.now in
     let values = c.args.locals.now in
     let reading = g.P.Ports.reading c.args.ports.now in
@@ -78,7 +78,7 @@ pub evaluate-sext-requires-clause-wider : goal.evaluate-sext-requires-clause-wid
 unfolding first_operand
 evaluate-sext-requires-clause-wider g t c =
     let d = declarations_of c.args.env.now in
-    let env = environment_of c.args.env.now in
+    let env = environment_of g.E.Outside.kept c.args.env.now in
     let part = c.args.action.now in
     let values = c.args.locals.now in
     let reading = g.P.Ports.reading c.args.ports.now in
@@ -92,7 +92,7 @@ pub evaluate-look-requires : goal.evaluate-look-requires
 unfolding first_operand
 evaluate-look-requires g t c =
     let d = declarations_of c.args.env.now in
-    let env = environment_of c.args.env.now in
+    let env = environment_of g.E.Outside.kept c.args.env.now in
     let part = c.args.action.now in
     let values = c.args.locals.now in
     let reading = g.P.Ports.reading c.args.ports.now in
@@ -106,7 +106,7 @@ pub evaluate-ask-requires : goal.evaluate-ask-requires
 unfolding first_operand
 evaluate-ask-requires g t c =
     let d = declarations_of c.args.env.now in
-    let env = environment_of c.args.env.now in
+    let env = environment_of g.E.Outside.kept c.args.env.now in
     let part = c.args.action.now in
     let values = c.args.locals.now in
     let reading = g.P.Ports.reading c.args.ports.now in
@@ -120,7 +120,7 @@ pub evaluate-evaluate-requires : goal.evaluate-evaluate-requires
 unfolding first_operand
 evaluate-evaluate-requires g t c =
     let d = declarations_of c.args.env.now in
-    let env = environment_of c.args.env.now in
+    let env = environment_of g.E.Outside.kept c.args.env.now in
     let part = c.args.action.now in
     let values = c.args.locals.now in
     let reading = g.P.Ports.reading c.args.ports.now in
@@ -140,7 +140,7 @@ pub evaluate-evaluate-requires-then-number-eq0 : goal.evaluate-evaluate-requires
 unfolding first_operand
 evaluate-evaluate-requires-then-number-eq0 g t c =
     let d = declarations_of c.args.env.now in
-    let env = environment_of c.args.env.now in
+    let env = environment_of g.E.Outside.kept c.args.env.now in
     let part = c.args.action.now in
     let values = c.args.locals.now in
     let reading = g.P.Ports.reading c.args.ports.now in
@@ -160,7 +160,7 @@ pub evaluate-evaluate-requires-else-number-eq0 : goal.evaluate-evaluate-requires
 unfolding first_operand
 evaluate-evaluate-requires-else-number-eq0 g t c =
     let d = declarations_of c.args.env.now in
-    let env = environment_of c.args.env.now in
+    let env = environment_of g.E.Outside.kept c.args.env.now in
     let part = c.args.action.now in
     let values = c.args.locals.now in
     let reading = g.P.Ports.reading c.args.ports.now in
@@ -179,7 +179,7 @@ evaluate-evaluate-requires-else-number-eq0 g t c =
 pub evaluate-evaluate-requires-in-Seq-2 : goal.evaluate-evaluate-requires-in-Seq-2
 evaluate-evaluate-requires-in-Seq-2 g t c =
     let d = declarations_of c.args.env.now in
-    let env = environment_of c.args.env.now in
+    let env = environment_of g.E.Outside.kept c.args.env.now in
     let part = c.args.action.now in
     let values = c.args.locals.now in
     let reading = g.P.Ports.reading c.args.ports.now in
@@ -205,14 +205,14 @@ unfolding first_operand
 evaluate-operand-requires-in-Write g t c =
     let d = declarations_of c.args.env.now in
     let values = c.args.locals.now in
-    let operand = subst (λ (b : Action). CanBeOperand d b values) (sym c.deref-in-Write.ensures) (first_ready d (environment_of c.args.env.now) c.args.action.now c.in-Write.a.value values c.requires.fits c.requires.ready (ap first_operand c.in-Write.is)) in
+    let operand = subst (λ (b : Action). CanBeOperand d b values) (sym c.deref-in-Write.ensures) (first_ready d (environment_of g.E.Outside.kept c.args.env.now) c.args.action.now c.in-Write.a.value values c.requires.fits c.requires.ready (ap first_operand c.in-Write.is)) in
     search (rules, the_lemmas)
 
 pub evaluate-write-requires-clause-width : goal.evaluate-write-requires-clause-width
 unfolding first_operand
 evaluate-write-requires-clause-width g t c =
     let d = declarations_of c.args.env.now in
-    let env = environment_of c.args.env.now in
+    let env = environment_of g.E.Outside.kept c.args.env.now in
     let part = c.args.action.now in
     let values = c.args.locals.now in
     let reading = g.P.Ports.reading c.args.ports.now in
@@ -236,7 +236,7 @@ evaluate-returns-in-Abort-clause-answers g t c =
 pub operand-unreachable-requires : goal.operand-unreachable-requires
 operand-unreachable-requires g t c =
     let d = declarations_of c.args.env.now in
-    let env = environment_of c.args.env.now in
+    let env = environment_of g.E.Outside.kept c.args.env.now in
     let reading = g.P.Ports.reading c.args.ports.now in
     let before : AreReady d (g.P.Ports.widths c.args.ports.now) reading (g.P.Ports.stands_for c.args.ports.now) =
     record { registers = c.requires.registers; fit = c.requires.reading; abort = c.requires.abort; events = c.requires.events } in

@@ -14,17 +14,18 @@ use Rattle.typed_core.specs.declared.outcome.Alone.{Alone}
 use Rattle.typed_core.specs.declared.outcome.Outcome.{Outcome}
 use Rattle.typed_core.proofs.Typed.{PortsFit-alone}
 use Rattle.one_rule.specs.Cycle.{alone_if, environment}
+use Rattle.one_rule.specs.Externs.{kept}
 use Rattle.one_rule.proofs.Fitting.{HaveWidths-own, run_fits, widths-same}
 use Rattle.one_rule.proofs.rule.alone.Goals as goal
 
 pub evaluate-end-requires-clause-registers : goal.evaluate-end-requires-clause-registers
-evaluate-end-requires-clause-registers c = widths-same (register_widths c.args.design.now) c.args.regs.now c.requires.registers
+evaluate-end-requires-clause-registers g c = widths-same (register_widths c.args.design.now) c.args.regs.now c.requires.registers
 
 pub evaluate-end-requires-clause-reading : goal.evaluate-end-requires-clause-reading
-evaluate-end-requires-clause-reading c = PortsFit-alone _ c.args.regs.now (HaveWidths-own (register_widths c.args.design.now) c.args.regs.now c.requires.registers)
+evaluate-end-requires-clause-reading g c = PortsFit-alone _ c.args.regs.now (HaveWidths-own (register_widths c.args.design.now) c.args.regs.now c.requires.registers)
 
 pub returns-clause-alone : goal.returns-clause-alone
-returns-clause-alone c =
+returns-clause-alone g c =
     let design = c.args.design.now in
     let regs = c.args.regs.now in
     let inputs = c.args.inputs.now in
@@ -35,15 +36,15 @@ returns-clause-alone c =
     let run_of : Externs → List BitVector → Alone = λ externs locals.
     let end = evaluate (record { externs = externs; inputs = inputs }) (alone_ports regs) rule.body locals [] in
     record { events = end.events; outcome = outcome_of end.ending } in
-    let end = evaluate (record { externs = c.args.externs.now; inputs = inputs }) (alone_ports regs) rule.body c.empty.result [] in
+    let end = evaluate (record { externs = kept c.args.externs.now; inputs = inputs }) (alone_ports regs) rule.body c.empty.result [] in
     let is = c.in_ok-outcome.ensures c.evaluate-end.new.ports.events end (c.evaluate-end.ensures.answers [] c.new.ensures) in
     ap₂ (λ (events : List Event) (outcome : Outcome). let run : Alone = record { events = events; outcome = outcome } in run) is.0 is.1
     ∙ ap₂ run_of c.requires.externs c.empty.ensures
     ∙ ap (alone_if (environment design inputs) regs) (sym found)
 
 pub returns-clause-fits : goal.returns-clause-fits
-returns-clause-fits c =
+returns-clause-fits g c =
     let design = c.args.design.now in
     let valid = subst IsValid c.design.view_is c.design.invariant in
     let fits = run_fits design valid c.args.inputs.now c.args.regs.now c.requires.inputs c.requires.registers c.args.rule in
-    subst (λ (run : Alone). EventsFit (register_widths design) run.events) (sym (returns-clause-alone c)) fits
+    subst (λ (run : Alone). EventsFit (register_widths design) run.events) (sym (returns-clause-alone g c)) fits
