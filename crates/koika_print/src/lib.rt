@@ -11,6 +11,8 @@ mod leaves;
 mod primaries;
 mod printer;
 mod scheduler;
+#[cfg(test)]
+mod tests;
 mod types;
 
 pub use printer::print;
