@@ -8,7 +8,7 @@ use Rattle.std.proofs.lemmas.List.{append_assoc}
 use Rattle.std.proofs.Math.Seq.{take-append_seam, drop-append_seam}
 use Rattle.kw_bits.specs.BitVector.{BitVector, IsBitVector}
 use Rattle.koika_syntax.specs.Keywords.{keyword_text}
-use Rattle.koika_syntax.specs.Lexemes.{is_blank, begins_word, continues_word, IsWord, Shape, HasShape, IsLongest, LiteralParts}
+use Rattle.koika_syntax.specs.Lexemes.{is_blank, begins_word, continues_word, IsWord, Kind, HasKind, IsLongest, LiteralParts}
 use Rattle.koika_syntax.specs.Symbols.{symbol_text}
 use Rattle.koika_syntax.specs.Tokens.{IsToken, Piece, IsCut, IsPiece, bytes_of, tokens_behind, AreTokensOf}
 use Rattle.koika_syntax.specs.Tree.{Leaf, Terminal, name, number, literal, keyword, symbol, terminal_of}

@@ -7,18 +7,18 @@ use Rattle.std.proofs.lemmas.Bool.Decides.{nat_tests}
 use Rattle.std.proofs.lemmas.Fmt.{decimal_is_IsNumeral, decimal_is_IsNumeral_wide}
 use Rattle.std.proofs.lemmas.List.{append_assoc}
 use Rattle.kw_bits.specs.BitVector.{BitVector, IsBitVector}
-use Rattle.koika_syntax.specs.Lexemes.{is_blank, begins_word, continues_word, IsWord, Shape, HasShape, IsLongest}
+use Rattle.koika_syntax.specs.Lexemes.{is_blank, begins_word, continues_word, IsWord, Kind, HasKind, IsLongest}
 use Rattle.koika_syntax.specs.Symbols.{symbol_text}
 use Rattle.koika_syntax.specs.Tokens.{IsToken}
 use Rattle.koika_syntax.specs.declared.literal.Base.TheVariants as bases
 use Rattle.koika_syntax.specs.declared.symbol.Symbol.{Symbol}
 use Rattle.koika_syntax.specs.declared.symbol.Symbol.TheVariants as symbols
 use Rattle.koika_syntax.specs.declared.token.TokenKind.TheVariants as kinds
-use Rattle.koika_syntax.proofs.Longest.{NoneLonger, IsLongest-from_none_longer, NoneLonger-from_family, NoneLonger-word, only_shape}
+use Rattle.koika_syntax.proofs.Longest.{NoneLonger, IsLongest-from_none_longer, NoneLonger-from_family, NoneLonger-word, only_kind}
 use Rattle.koika_syntax.proofs.LongestNumeral.{NoneLonger-number, NoneLonger-base}
 use Rattle.koika_syntax.proofs.Numerals.{number-lt}
 use Rattle.koika_syntax.proofs.Runs.{and-true, prefix_len-append-cons, list_all-from_digits}
-use Rattle.koika_syntax.proofs.Shapes.{family, family-first, length-lexeme, continues-from_begins}
+use Rattle.koika_syntax.proofs.LexemeKinds.{family, family-first, length-lexeme, continues-from_begins}
 
 stops_word : (b : ℕ) → is_blank b ≡ true → continues_word b ≡ false
 stops_word b blank = grind (arith, nat_tests)
@@ -100,16 +100,16 @@ within_solid (x ∷ xs) (y ∷ ys) rest behind b blank solid same =
 pub longest_symbol : (s : Symbol) (b : ℕ) (rest : List ℕ) → is_blank b ≡ true → IsLongest (symbol_text s) (b ∷ rest)
 longest_symbol s b rest blank = by (symbol_text s) (s, refl)
   where
-    by : (bytes : List ℕ) → HasShape Shape.symbol bytes → IsLongest bytes (b ∷ rest)
-    by [] has = absurd (omega (arith, length-lexeme Shape.symbol [] has))
+    by : (bytes : List ℕ) → HasKind Kind.symbol bytes → IsLongest bytes (b ∷ rest)
+    by [] has = absurd (omega (arith, length-lexeme Kind.symbol [] has))
     by (c ∷ cs) has =
-        let first = family-first Shape.symbol c cs has in
+        let first = family-first Kind.symbol c cs has in
         IsLongest-from_none_longer (c ∷ cs) (b ∷ rest)
         (NoneLonger-from_family c (cs ++ b ∷ rest) (length (c ∷ cs))
-        (λ shape bytes behind same split found.
-        let family_is : family shape ≡ Shape.symbol = sym same ∙ first in
-        let shape_is : shape ≡ Shape.symbol = sym (only_shape shape (λ is. cc)) ∙ family_is in
-        let is_symbol = subst (λ (t : Shape). HasShape t (c ∷ bytes)) shape_is found in
+        (λ kind bytes behind same split found.
+        let family_is : family kind ≡ Kind.symbol = sym same ∙ first in
+        let kind_is : kind ≡ Kind.symbol = sym (only_kind kind (λ is. cc)) ∙ family_is in
+        let is_symbol = subst (λ (t : Kind). HasKind t (c ∷ bytes)) kind_is found in
         within_solid (c ∷ cs) (c ∷ bytes) rest behind b blank (ap (list_all is_solid) is_symbol.1 ∙ solid_symbol is_symbol.0) split))
 
 width_numeral : (bits : BitVector) → IsBitVector bits.width bits.number → IsNumeral 10 (decimal bits.width) × (digits_value 10 (decimal bits.width) ≡ bits.width)
