@@ -19,6 +19,7 @@ use Rattle.one_rule.specs.Cycle.{System, begin, cycle, fire, fires, is_among, nu
 use Rattle.one_rule.specs.PortRun.{port_cycle}
 use Rattle.one_rule.specs.Rows.{RowsFit}
 use Rattle.one_rule.specs.Run.{InputsByCycle, last_registers, run, run_of}
+use Rattle.one_rule.specs.Stimulus.{AlwaysFits, InputVectors, StimulusFits, inputs_of}
 use Rattle.one_rule.specs.Walk.{Walk, is_at, start, walk_past}
 use Rattle.one_rule.specs.declared.cycle.Fired.{Fired}
 use Rattle.one_rule.specs.declared.cycle.State.{State}
@@ -103,6 +104,10 @@ RowsAreCycles = (system : System) (inputs : InputsByCycle) (regs : List BitVecto
 -- each row of a run of a valid design fits it, where the inputs of each of its cycles do
 abbrev pub RunsFit : Type 0
 RunsFit = (design : Parts) (inputs : InputsByCycle) (cycles : ℕ) → IsValid design → ((k : ℕ) → 1 ≤ k → k ≤ cycles → HaveWidths (input_widths design) (inputs k)) → RowsFit design (run_of design inputs cycles)
+
+-- a stimulus for the inputs of a design gives them values of their widths in every cycle
+abbrev pub StimuliFit : Type 0
+StimuliFit = (design : Parts) (stimulus : InputVectors) → StimulusFits design stimulus → AlwaysFits stimulus → (k : ℕ) → HaveWidths (input_widths design) (inputs_of stimulus k)
 
 -- A run is made in parts: the run up to a cycle, and then the run from there on its last registers, without the row
 -- that this one begins with.

@@ -38,6 +38,11 @@ pub fn each_row_of_a_run_fits()
     ensures { law.RunsFit }
 {}
 
+/// A stimulus for the inputs of a design gives them values of their widths in every cycle.
+pub fn a_stimulus_gives_inputs_that_fit()
+    ensures { law.StimuliFit }
+{}
+
 /// A run is the run up to a cycle, and then the run from there on its last registers.
 pub fn a_run_is_made_in_parts()
     ensures { law.RunsInParts }

@@ -21,8 +21,8 @@ pub use externs::Externs;
 pub use laws::{
     a_rule_fires_once_in_a_cycle, a_rule_fires_unless_it_is_blocked,
     a_rule_on_no_path_does_not_fire, a_run_has_a_row_more_than_its_cycles, a_run_is_made_in_parts,
-    a_walk_comes_to_its_end, cycles_of_port_runs_are_cycles, each_row_of_a_run_fits,
-    equal_designs_run_alike, systems_that_do_the_same_run_alike,
+    a_stimulus_gives_inputs_that_fit, a_walk_comes_to_its_end, cycles_of_port_runs_are_cycles,
+    each_row_of_a_run_fits, equal_designs_run_alike, systems_that_do_the_same_run_alike,
 };
 pub use rows::{FiredSet, Inputs, Regs, Row, Rows, first_values, opening};
 pub use rule::alone;
