@@ -1,6 +1,6 @@
 #!/usr/bin/env bash
-# Measures what crates cost that no command calls yet, by tests of three sizes each: the tokens of a text, and the numbers of
-# names. It proves and builds the tests if need be, and is run by hand.
+# Measures what libraries cost, by tests of three sizes each: the tokens of a text, and the numbers of names. It proves and
+# builds the tests if need be, and is run by hand.
 set -eu
 cd "$(dirname "$0")/.."
 . bench/cost.sh

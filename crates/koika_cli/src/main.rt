@@ -1,4 +1,4 @@
-//! The program: its words, standard input and standard output go to `koika_top::run`, whose status is the
+//! The program: its arguments, standard input and standard output go to `koika_top::run`, whose status is the
 //! exit status.
 //!
 //! It stands on no definition of its own: what it answers is the contract of `run`. Nothing calls it.
@@ -11,25 +11,25 @@ use std::io;
 use std::io::ErrorKind;
 use std::process::ExitCode;
 
-// The exit status where the words can't be taken and memory isn't the cause, as where they aren't UTF-8.
+// The exit status where the arguments can't be taken and memory isn't the cause, as where they aren't UTF-8.
 // `run` never answers it.
-const NO_WORDS: u8 = 6;
+const NO_ARGUMENTS: u8 = 6;
 
 fn main(rt: HostRuntime) -> ExitCode {
-    match words(&rt) {
-        Ok(words) => {
+    match arguments(&rt) {
+        Ok(arguments) => {
             let mut source = StdSource::new(rt.stdin());
             let mut sink = StdSink::new(rt.stdout());
-            ExitCode::from(run(rt.alloc(), &words, &mut source, &mut sink) as u8)
+            ExitCode::from(run(rt.alloc(), &arguments, &mut source, &mut sink) as u8)
         }
         Err(error) if error.kind() == ErrorKind::OutOfMemory => {
             ExitCode::from(Status::NoMemory as u8)
         }
-        Err(_) => ExitCode::from(NO_WORDS),
+        Err(_) => ExitCode::from(NO_ARGUMENTS),
     }
 }
 
-// The words of the command line, without the program's own name.
-fn words(rt: &(impl Env + AllocGlobal)) -> io::Result<Vec<String>> {
+// The arguments of the command line, without the program's own name.
+fn arguments(rt: &(impl Env + AllocGlobal)) -> io::Result<Vec<String>> {
     Ok(args(rt)?.skip(1).collect(rt.alloc())?)
 }

@@ -1,12 +1,5 @@
-pub mod Numbers
 pub mod Hex
 pub mod Simulation
-pub mod Members
-pub mod Runs
-pub mod Fronts
-pub mod Longest
-pub mod Cuts
-pub mod Results
 pub mod OneAnswer
 pub mod Statuses
 pub mod Shapes

@@ -5,8 +5,11 @@ use Rattle.std.proofs.lemmas.List.{length-map}
 use Rattle.typed_core.specs.declared.design.RegDecl.{RegDecl}
 use Rattle.typed_core.specs.declared.design.Rule.{Rule}
 use Rattle.typed_core.specs.declared.design.Parts.{Parts}
-use Rattle.koika_top.specs.Answer.{AnswersSource, IsAnswer, IsRefusal, IsReport, fault_of_source, is_too_long, longest_source, status_of, text_of}
+use Rattle.koika_top.specs.Answer.{AnswersSource, IsAnswer, IsRefusal, IsReport, IsSameAnswer, is_too_long, longest_source, status_of, text_of}
 use Rattle.typed_core.specs.Same.{AreSame}
+use Rattle.kw_base.specs.declared.fault.Fault.{Fault}
+use Rattle.koika_syntax.proofs.Cuts.{one_fault, tokens_or_fault}
+use Rattle.koika_top.specs.FirstForm.{IsFirstForm, IsFormFault}
 use Rattle.koika_top.specs.Words.{cycles_of}
 use Rattle.koika_top.proofs.SameReports.{same_report}
 use Rattle.koika_top.proofs.Unique.{same_spelled}
@@ -29,46 +32,50 @@ report-same cycles source a b r q =
 not_both_lengths : (n : ℕ) → longest_source < n → n ≤ longest_source → ⊥
 not_both_lengths n a b = omega arith
 
-refusal-same : (cycles m n : ℕ) (source : List ℕ) → IsRefusal cycles source m → IsRefusal cycles source n → m ≡ n
-refusal-same cycles m n source (inl a) (inl b) = a.0 ∙ sym b.0
-refusal-same cycles m n source (inl a) (inr (inl b)) = absurd (not_both_lengths (length source) a.1 b.1)
-refusal-same cycles m n source (inl a) (inr (inr b)) = absurd (not_both_lengths (length source) a.1 b.1)
-refusal-same cycles m n source (inr (inl a)) (inl b) = absurd (not_both_lengths (length source) b.1 a.1)
-refusal-same cycles m n source (inr (inl a)) (inr (inl b)) = a.0 ∙ sym b.0
-refusal-same cycles m n source (inr (inl a)) (inr (inr b)) = absurd (a.2 b.2.0 b.2.1)
-refusal-same cycles m n source (inr (inr a)) (inl b) = absurd (not_both_lengths (length source) b.1 a.1)
-refusal-same cycles m n source (inr (inr a)) (inr (inl b)) = absurd (b.2 a.2.0 a.2.1)
-refusal-same cycles m n source (inr (inr a)) (inr (inr b)) = a.0 ∙ sym b.0
+form_fault-same : (text : List ℕ) (f g : Fault) → IsFormFault text f → IsFormFault text g → f ≡ g
+form_fault-same text f g (inl a) (inl b) = one_fault text f g a b
+form_fault-same text f g (inl a) (inr b) = absurd (tokens_or_fault text b.1.0 f b.1.1 a)
+form_fault-same text f g (inr a) (inl b) = absurd (tokens_or_fault text a.1.0 g a.1.1 b)
+form_fault-same text f g (inr a) (inr b) = a.0 ∙ sym b.0
 
-refused_or_reported : (cycles n : ℕ) (source text : List ℕ) → IsRefusal cycles source n → IsReport cycles source text → ⊥
-refused_or_reported cycles n source text (inl a) r = not_both_lengths (length source) a.1 r.short
-refused_or_reported cycles n source text (inr (inl a)) r = a.2 r.design r.spelled
-refused_or_reported cycles n source text (inr (inr a)) r =
+-- a text of the form has no fault of the form
+not_spelled : (text : List ℕ) (fault : Fault) (design : Parts) → IsFormFault text fault → IsFirstForm text design → ⊥
+not_spelled text fault design (inl a) is = tokens_or_fault text is.1.tokens fault is.1.are a
+not_spelled text fault design (inr a) is = a.2 design is
+
+refusal-same : (cycles : ℕ) (f g : Fault) (source : List ℕ) → IsRefusal cycles source f → IsRefusal cycles source g → f ≡ g
+refusal-same cycles f g source (inl a) (inl b) = a.0 ∙ sym b.0
+refusal-same cycles f g source (inl a) (inr (inl b)) = absurd (not_both_lengths (length source) a.1 b.0)
+refusal-same cycles f g source (inl a) (inr (inr b)) = absurd (not_both_lengths (length source) a.1 b.1)
+refusal-same cycles f g source (inr (inl a)) (inl b) = absurd (not_both_lengths (length source) b.1 a.0)
+refusal-same cycles f g source (inr (inl a)) (inr (inl b)) = form_fault-same source f g a.1 b.1
+refusal-same cycles f g source (inr (inl a)) (inr (inr b)) = absurd (not_spelled source f b.2.0 a.1 b.2.1)
+refusal-same cycles f g source (inr (inr a)) (inl b) = absurd (not_both_lengths (length source) b.1 a.1)
+refusal-same cycles f g source (inr (inr a)) (inr (inl b)) = absurd (not_spelled source g a.2.0 b.1 a.2.1)
+refusal-same cycles f g source (inr (inr a)) (inr (inr b)) = a.0 ∙ sym b.0
+
+refused_or_reported : (cycles : ℕ) (fault : Fault) (source text : List ℕ) → IsRefusal cycles source fault → IsReport cycles source text → ⊥
+refused_or_reported cycles fault source text (inl a) r = not_both_lengths (length source) a.1 r.short
+refused_or_reported cycles fault source text (inr (inl a)) r = not_spelled source fault r.design a.1 r.spelled
+refused_or_reported cycles fault source text (inr (inr a)) r =
     let h = same_spelled source a.2.0 r.design a.2.1 r.spelled in
     let both : true ≡ false = sym a.2.2 ∙ too_long-same a.2.0 r.design h cycles ∙ r.within in
     cc
 
--- answers of one status and one text
-pub record SameAnswer (a b : Answer) : Type 0 where
-  pub status : status_of a ≡ status_of b
-  pub text : text_of a ≡ text_of b
-
-source_answer-same : (cycles : ℕ) (source : List ℕ) (a b : Answer) → AnswersSource cycles source a → AnswersSource cycles source b → SameAnswer a b
+source_answer-same : (cycles : ℕ) (source : List ℕ) (a b : Answer) → AnswersSource cycles source a → AnswersSource cycles source b → IsSameAnswer a b
 source_answer-same cycles source Usage b h k = absurd h
 source_answer-same cycles source (Refused f) Usage h k = absurd k
 source_answer-same cycles source (Refused f) (Refused g) h k =
-    let numbers = refusal-same cycles h.0 k.0 source h.2 k.2 in
-    let faults : f ≡ g = h.1 ∙ ap fault_of_source numbers ∙ sym k.1 in
-    record { status = refl; text = ap (λ fault. text_of (Refused fault)) faults }
-source_answer-same cycles source (Refused f) (Written text) h k = absurd (refused_or_reported cycles h.0 source text h.2 k)
+    record { status = refl; text = ap (λ fault. text_of (Refused fault)) (refusal-same cycles f g source h k) }
+source_answer-same cycles source (Refused f) (Written text) h k = absurd (refused_or_reported cycles f source text h k)
 source_answer-same cycles source (Written text) Usage h k = absurd k
-source_answer-same cycles source (Written text) (Refused g) h k = absurd (refused_or_reported cycles k.0 source text k.2 h)
+source_answer-same cycles source (Written text) (Refused g) h k = absurd (refused_or_reported cycles g source text k h)
 source_answer-same cycles source (Written text) (Written other) h k = record { status = refl; text = report-same cycles source text other h k }
 
-by_words : (words : Option ℕ) (source : List ℕ) (a b : Answer) → MatchOption words (a ≡ Usage) (λ cycles. AnswersSource cycles source a) → MatchOption words (b ≡ Usage) (λ cycles. AnswersSource cycles source b) → SameAnswer a b
+by_words : (words : Option ℕ) (source : List ℕ) (a b : Answer) → MatchOption words (a ≡ Usage) (λ cycles. AnswersSource cycles source a) → MatchOption words (b ≡ Usage) (λ cycles. AnswersSource cycles source b) → IsSameAnswer a b
 by_words None source a b h k = let e : a ≡ b = h ∙ sym k in record { status = ap status_of e; text = ap text_of e }
 by_words (Some cycles) source a b h k = source_answer-same cycles source a b h k
 
 -- there is one answer
-pub one_answer : (words : List (List ℕ)) (source : List ℕ) (a b : Answer) → IsAnswer words source a → IsAnswer words source b → SameAnswer a b
+pub one_answer : (words : List (List ℕ)) (source : List ℕ) (a b : Answer) → IsAnswer words source a → IsAnswer words source b → IsSameAnswer a b
 one_answer words source a b h k = by_words (cycles_of words) source a b h k

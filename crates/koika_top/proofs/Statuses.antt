@@ -1,8 +1,9 @@
 -- What the answer that was written says of every other.
-use Rattle.std.proofs.Common.{◌≡◌, ℕ, ◌⊎◌, inl, inr, List, Option, Some, None, refl, ◌∙◌, sym, subst}
-use Rattle.std.specs.Prelude.{IfSome}
+use Rattle.std.proofs.Common.{◌≡◌, ℕ, ◌⊎◌, inl, inr, List, [], take, drop, take-append-drop, append-nil, Option, Some, None, Result, Ok, Err, refl, ◌∙◌, sym, subst}
+use Rattle.std.specs.Prelude.{IfSome, IfErr, OnOk}
+use Rattle.kw_io.specs.declared.writing.WriteFault.{WriteFault}
 use Rattle.kw_io.specs.Portions.{TakesAll}
-use Rattle.std.specs.Io.KnownBytes.{IsAtEnd}
+use Rattle.std.specs.Io.KnownBytes.{Appends, IsAtEnd}
 use Rattle.koika_top.specs.Answer.{AppendsFront, IsAnswer, IsFailure, status_of, text_of}
 use Rattle.koika_top.proofs.OneAnswer.{one_answer}
 use Rattle.koika_top.specs.declared.answer.Answer.{Answer}
@@ -28,3 +29,8 @@ front_of_each (Some bytes) words mine old new h f =
 pub at_end : (old new : Option (List ℕ)) (bytes : List ℕ) → TakesAll old new bytes → IfSome old (λ _. IsAtEnd new)
 at_end None new bytes h = tt
 at_end (Some all) new bytes h = subst IsAtEnd (sym h.1) refl
+
+-- a text that was written, or its first bytes, is a front of it
+pub front_of_written : (old new : Option (List ℕ)) (text : List ℕ) (written : Result (Unit {0}) WriteFault) → OnOk written (Appends old new text) → IfErr written (λ fault. Appends old new (take fault.written text)) → AppendsFront old new text
+front_of_written old new text (Ok done) all some = (text, [], append-nil text, all)
+front_of_written old new text (Err fault) all some = (take fault.written text, drop fault.written text, take-append-drop _ _, some)

@@ -11,15 +11,17 @@ use Rattle.typed_core.specs.declared.design.Parts.{Parts}
 use Rattle.koika_top.specs.declared.first_form.form.Operand.{Operand}
 use Rattle.koika_top.specs.declared.first_form.form.Operand.TheVariants.{Constant, Register}
 use Rattle.koika_top.specs.declared.first_form.form.Form.{Form}
-use Rattle.koika_top.specs.FirstForm.{tokens_of, Fills, IsOperandOf, IsSumOf, IsBodyOf, IsDesignOf, IsFirstForm}
+use Rattle.koika_top.specs.FirstForm.{form_token, Fills, IsOperandOf, IsSumOf, IsBodyOf, IsDesignOf, IsFirstForm}
 use Rattle.typed_core.specs.Same.{AreSame}
-use Rattle.koika_top.proofs.Cuts.{same_cut}
+use Rattle.koika_syntax.proofs.Cuts.{one_list}
 use Rattle.koika_top.proofs.Shapes.{same_form}
 use Rattle.koika_top.proofs.Designs.{design_valid}
 
 -- a text fills in the form in one way
 pub same_filled : (text : List ℕ) (f g : Form) → Fills text f → Fills text g → f ≡ g
-same_filled text f g h k = same_form f g (same_cut text (tokens_of f) (tokens_of g) h.cut k.cut)
+same_filled text f g h k =
+    let tokens = one_list text h.tokens k.tokens h.are k.are in
+    same_form f g (sym h.fill ∙ ap (map (form_token text)) tokens ∙ k.fill)
 
 same_operand_action : (o : Operand) (a b : Action) → IsOperandOf o a → IsOperandOf o b → a ≡ b
 same_operand_action (Constant value) a b h g = h ∙ sym g

@@ -6,7 +6,7 @@ use Rattle.kw_base.specs.declared.fault.Fault.{Fault}
 use Rattle.kw_base.specs.FaultLine.{line_of_fault}
 use Rattle.typed_core.specs.declared.design.Parts.{Parts}
 use Rattle.one_rule.specs.Run.{run_of}
-use Rattle.koika_top.specs.FirstForm.{IsFirstForm}
+use Rattle.koika_top.specs.FirstForm.{fault_of_source, IsFirstForm, IsFormFault}
 use Rattle.koika_top.specs.Report.{report}
 use Rattle.koika_top.specs.Words.{cycles_of}
 use Rattle.koika_top.specs.declared.answer.Answer.{Answer}
@@ -23,17 +23,13 @@ abbrev pub is_too_long : ℕ → Parts → Bool
 is_too_long cycles design =
     nat_lt 65536 cycles || nat_lt 4194304 (cycles * length design.regs) || nat_lt 4194304 (cycles * length design.rules)
 
--- the fault of this number that speaks of the whole source
-abbrev pub fault_of_source : ℕ → Fault
-fault_of_source number = record { number = number; line = 0; column = 0 }
-
--- The number with which a source is refused: 40 where it is too long, else 60 where it isn't of the first form, else
--- 45 where its run is too long.
-abbrev pub IsRefusal : ℕ → List ℕ → ℕ → Type 0
-IsRefusal cycles source number =
-    ((number ≡ 40) × (longest_source < length source))
-    ⊎ (((number ≡ 60) × (length source ≤ longest_source) × ((design : Parts) → IsFirstForm source design → ⊥))
-    ⊎ ((number ≡ 45) × (length source ≤ longest_source) × ((design : Parts) × IsFirstForm source design × (is_too_long cycles design ≡ true))))
+-- The fault with which a source is refused: 40 where it is too long, else that of its tokens, else 60 where it isn't of
+-- the first form, else 45 where its run is too long.
+abbrev pub IsRefusal : ℕ → List ℕ → Fault → Type 0
+IsRefusal cycles source fault =
+    ((fault ≡ fault_of_source 40) × (longest_source < length source))
+    ⊎ (((length source ≤ longest_source) × IsFormFault source fault)
+    ⊎ ((fault ≡ fault_of_source 45) × (length source ≤ longest_source) × ((design : Parts) × IsFirstForm source design × (is_too_long cycles design ≡ true))))
 
 -- the text is the report of the run of the source's design, from its first values for these cycles
 pub record IsReport (cycles : ℕ) (source text : List ℕ) : Type 0 where
@@ -46,7 +42,7 @@ pub record IsReport (cycles : ℕ) (source text : List ℕ) : Type 0 where
 -- the answer to a source whose design is to run for these cycles
 abbrev pub AnswersSource : ℕ → List ℕ → Answer → Type 0
 AnswersSource cycles source Usage = ⊥
-AnswersSource cycles source (Refused fault) = (number : ℕ) × (fault ≡ fault_of_source number) × IsRefusal cycles source number
+AnswersSource cycles source (Refused fault) = IsRefusal cycles source fault
 AnswersSource cycles source (Written text) = IsReport cycles source text
 
 -- the answer to words and a source; where the words aren't understood it is how to use the program
@@ -75,13 +71,7 @@ IsFailure result = (result ≡ status.ReadFault) ⊎ ((result ≡ status.WriteFa
 abbrev pub AppendsFront : Option (List ℕ) → Option (List ℕ) → List ℕ → Type 0
 AppendsFront old new text = (front : List ℕ) × (rest : List ℕ) × (front ++ rest ≡ text) × Appends old new front
 
--- which answer it is
-abbrev pub IsUsage : Answer → Type 0
-IsUsage Usage = Unit {0}
-IsUsage (Refused fault) = ⊥
-IsUsage (Written text) = ⊥
-
-abbrev pub IsText : Answer → Type 0
-IsText Usage = ⊥
-IsText (Refused fault) = ⊥
-IsText (Written text) = Unit {0}
+-- two answers that a user can't tell apart: they have one status and one text
+pub record IsSameAnswer (a b : Answer) : Type 0 where
+  pub status : status_of a ≡ status_of b
+  pub text : text_of a ≡ text_of b

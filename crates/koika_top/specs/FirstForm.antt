@@ -1,65 +1,77 @@
 -- Which bytes spell which design in the first form of a source: one register, and one rule that writes an operand,
--- or the sum of two, to it at port 0.
-use Rattle.std.specs.Prelude.{◌≡◌, ◌≢◌, ℕ, List, [], ◌∷◌, ◌++◌, map, codes, Contains, Option, Some, None, IfSome}
-use Prim.Native.String.{String}
+-- or the sum of two, to it at port 0. Blanks, comments and all bases of literals are those of the tokens of texts.
+use Rattle.std.specs.Prelude.{◌≡◌, ◌≢◌, ℕ, ◌⊎◌, List, [], ◌∷◌, ◌++◌, map, slice_range, Option, Some, None, IfSome}
 use Rattle.kw_bits.specs.BitVector.{BitVector}
+use Rattle.kw_base.specs.declared.fault.Fault.{Fault}
+use Rattle.koika_syntax.specs.Tokens.{AreTokensOf}
+use Rattle.koika_syntax.specs.TokenFaults.{IsFirstFault}
+use Rattle.koika_syntax.specs.declared.keyword.Keyword.TheVariants as keywords
+use Rattle.koika_syntax.specs.declared.symbol.Symbol.TheVariants as symbols
+use Rattle.koika_syntax.specs.declared.token.Token.{Token}
+use Rattle.koika_syntax.specs.declared.token.TokenKind.{TokenKind}
+use Rattle.koika_syntax.specs.declared.token.TokenKind.TheVariants as kinds
 use Rattle.typed_core.specs.Valid.{IsWidth, HasBits}
 use Rattle.typed_core.specs.declared.action.TwoOp.TheVariants.{Add}
 use Rattle.typed_core.specs.declared.action.Action.{Action}
 use Rattle.typed_core.specs.declared.action.Action.TheVariants.{Const, Two', Read, Write'}
 use Rattle.typed_core.specs.declared.design.Next.TheVariants as next
 use Rattle.typed_core.specs.declared.design.Parts.{Parts}
-use Rattle.koika_top.specs.declared.first_form.token.Token.{Token}
-use Rattle.koika_top.specs.declared.first_form.token.Token.TheVariants.{Word, Number, Literal, Symbol}
+use Rattle.koika_top.specs.declared.first_form.token.FormToken.{FormToken}
+use Rattle.koika_top.specs.declared.first_form.token.FormToken.TheVariants.{Name, Keyword, Number, Literal, Symbol}
 use Rattle.koika_top.specs.declared.first_form.form.Operand.{Operand}
 use Rattle.koika_top.specs.declared.first_form.form.Operand.TheVariants.{Constant, Register}
 use Rattle.koika_top.specs.declared.first_form.form.Form.{Form}
-use Rattle.koika_top.specs.FirstTokens.{IsCut}
 
--- the words that are no names
-abbrev pub keywords : List (List ℕ)
-keywords = map codes ("reg" ∷ "input" ∷ "enum" ∷ "struct" ∷ "table" ∷ "host" ∷ "fun" ∷ "rule" ∷ "schedule" ∷ "try"
-    ∷ "then" ∷ "else" ∷ "if" ∷ "let" ∷ "bits" ∷ "unit" ∷ "abort" ∷ "pack" ∷ "unpack" ∷ "update" ∷ "zext" ∷ "sext"
-    ∷ "slt" ∷ "sle" ∷ "sgt" ∷ "sge" ∷ "read0" ∷ "read1" ∷ "read2" ∷ "read3" ∷ "write0" ∷ "write1" ∷ "write2"
-    ∷ "write3" ∷ "assert" ∷ [])
+-- the fault of this number that speaks of the whole source
+abbrev pub fault_of_source : ℕ → Fault
+fault_of_source number = record { number = number; line = 0; column = 0 }
 
-abbrev pub IsKeyword : List ℕ → Type 0
-IsKeyword word = Contains keywords word
+-- a token of this kind, whose bytes are these
+abbrev pub form_token_of : TokenKind → List ℕ → FormToken
+form_token_of kinds.Name bytes = Name bytes
+form_token_of (kinds.Number number) bytes = Number number
+form_token_of (kinds.Literal value) bytes = Literal value
+form_token_of (kinds.Keyword keyword) bytes = Keyword keyword
+form_token_of (kinds.Symbol symbol) bytes = Symbol symbol
 
--- a keyword as a token, and symbols that stand side by side
-abbrev pub keyword : String → List Token
-keyword text = Word (codes text) ∷ []
-
-abbrev pub symbols : String → List Token
-symbols text = map Symbol (codes text)
+-- a token of the text, where a name is its bytes
+abbrev pub form_token : List ℕ → Token → FormToken
+form_token text token = form_token_of token.kind (slice_range text token.start token.end)
 
 -- the tokens of an operand, and of a sum, in a rule that writes this register
-abbrev pub operand_tokens : List ℕ → Operand → List Token
+abbrev pub operand_tokens : List ℕ → Operand → List FormToken
 operand_tokens register (Constant value) = Literal value ∷ []
-operand_tokens register Register = keyword "read0" ++ symbols "(" ++ Word register ∷ symbols ")"
+operand_tokens register Register =
+    Keyword keywords.Read0 ∷ Symbol symbols.LeftParenthesis ∷ Name register ∷ Symbol symbols.RightParenthesis ∷ []
 
-abbrev pub sum_tokens : List ℕ → Operand → Option Operand → List Token
+abbrev pub sum_tokens : List ℕ → Operand → Option Operand → List FormToken
 sum_tokens register left None = operand_tokens register left
-sum_tokens register left (Some right) = operand_tokens register left ++ symbols "+" ++ operand_tokens register right
+sum_tokens register left (Some right) = operand_tokens register left ++ Symbol symbols.Plus ∷ operand_tokens register right
 
 -- reg NAME : bits NUM = LIT ;
-abbrev pub register_tokens : List ℕ → ℕ → BitVector → List Token
-register_tokens name width first = keyword "reg" ++ Word name ∷ symbols ":" ++ keyword "bits" ++ Number width ∷ symbols "=" ++ Literal first ∷ symbols ";"
+abbrev pub register_tokens : List ℕ → ℕ → BitVector → List FormToken
+register_tokens name width first =
+    Keyword keywords.Reg ∷ Name name ∷ Symbol symbols.Colon ∷ Keyword keywords.Bits ∷ Number width ∷ Symbol symbols.Equals
+    ∷ Literal first ∷ Symbol symbols.Semicolon ∷ []
 
 -- write0 ( NAME , SUM )
-abbrev pub write_tokens : List ℕ → Operand → Option Operand → List Token
-write_tokens register left right = keyword "write0" ++ symbols "(" ++ Word register ∷ symbols "," ++ sum_tokens register left right ++ symbols ")"
+abbrev pub write_tokens : List ℕ → Operand → Option Operand → List FormToken
+write_tokens register left right =
+    Keyword keywords.Write0 ∷ Symbol symbols.LeftParenthesis ∷ Name register ∷ Symbol symbols.Comma
+    ∷ sum_tokens register left right ++ Symbol symbols.RightParenthesis ∷ []
 
 -- rule NAME { write0 ( NAME , SUM ) }
-abbrev pub rule_tokens : List ℕ → List ℕ → Operand → Option Operand → List Token
-rule_tokens name register left right = keyword "rule" ++ Word name ∷ symbols "{" ++ write_tokens register left right ++ symbols "}"
+abbrev pub rule_tokens : List ℕ → List ℕ → Operand → Option Operand → List FormToken
+rule_tokens name register left right =
+    Keyword keywords.Rule ∷ Name name ∷ Symbol symbols.LeftBrace ∷ write_tokens register left right ++ Symbol symbols.RightBrace ∷ []
 
 -- schedule { NAME ; }
-abbrev pub schedule_tokens : List ℕ → List Token
-schedule_tokens rule = keyword "schedule" ++ symbols "{" ++ Word rule ∷ symbols ";}"
+abbrev pub schedule_tokens : List ℕ → List FormToken
+schedule_tokens rule =
+    Keyword keywords.Schedule ∷ Symbol symbols.LeftBrace ∷ Name rule ∷ Symbol symbols.Semicolon ∷ Symbol symbols.RightBrace ∷ []
 
 -- the tokens of a source that fills in the form so
-abbrev pub tokens_of : Form → List Token
+abbrev pub tokens_of : Form → List FormToken
 tokens_of f = register_tokens f.register f.width f.first ++ rule_tokens f.rule f.register f.left f.right ++ schedule_tokens f.rule
 
 -- a literal operand has this width; the register has its own
@@ -67,10 +79,8 @@ abbrev pub OperandHasBits : ℕ → Operand → Type 0
 OperandHasBits width (Constant value) = HasBits width value
 OperandHasBits width Register = Unit {0}
 
--- the names are no keywords and differ, and all that is put in the register has its width
+-- the names differ, and all that is put in the register has its width
 pub record IsWellFormed (f : Form) : Type 0 where
-  pub register : ¬ IsKeyword f.register
-  pub rule : ¬ IsKeyword f.rule
   pub differ : f.register ≢ f.rule
   pub width : IsWidth f.width
   pub first : HasBits f.width f.first
@@ -79,7 +89,9 @@ pub record IsWellFormed (f : Form) : Type 0 where
 
 -- the text fills in the form so
 pub record Fills (text : List ℕ) (f : Form) : Type 0 where
-  pub cut : IsCut text (tokens_of f)
+  pub tokens : List Token
+  pub are : AreTokensOf tokens text
+  pub fill : map (form_token text) tokens ≡ tokens_of f
   pub well_formed : IsWellFormed f
 
 -- the action is this operand, and this sum, of register 0
@@ -111,3 +123,9 @@ pub record IsDesignOf (f : Form) (design : Parts) : Type 0 where
 -- the text is of the first form and spells this design
 abbrev pub IsFirstForm : List ℕ → Parts → Type 0
 IsFirstForm text design = (f : Form) × Fills text f × IsDesignOf f design
+
+-- The fault of a text that is not of the form: that of its tokens, where it isn't cut into tokens, and else 60.
+abbrev pub IsFormFault : List ℕ → Fault → Type 0
+IsFormFault text fault =
+    IsFirstFault text fault
+    ⊎ ((fault ≡ fault_of_source 60) × ((tokens : List Token) × AreTokensOf tokens text) × ((design : Parts) → IsFirstForm text design → ⊥))

@@ -1,6 +1,5 @@
-pub mod FirstTokens
-pub mod Class
 pub mod FirstForm
 pub mod Report
 pub mod Words
 pub mod Answer
+pub mod Steps

@@ -31,20 +31,10 @@ fired_names (rule ∷ rules) (false ∷ flags) = fired_names rules flags
 abbrev pub more_names : List (List ℕ) → List ℕ
 more_names names = flat_map (λ name. 44 ∷ name) names
 
--- a name, behind a comma unless it is the first
-abbrev pub separated : Bool → List ℕ → List ℕ
-separated true name = name
-separated false name = 44 ∷ name
-
 -- names with commas between them, or a dash where there is none
 abbrev pub listed : List (List ℕ) → List ℕ
 listed [] = codes "-"
 listed (name ∷ names) = name ++ more_names names
-
--- what is listed behind the names that stand already, of which there is none where the first is still to come
-abbrev pub rest_listed : Bool → List (List ℕ) → List ℕ
-rest_listed true names = listed names
-rest_listed false names = more_names names
 
 -- a space, the register's name, `=` and its value, for each register
 abbrev pub register_text : RegDecl → BitVector → List ℕ

@@ -1,15 +1,16 @@
-ghost use Rattle.std.specs.Prelude.{◌≡◌, ◌≤◌, ◌<◌, ◌⊎◌, ◌||◌, ◌*◌, List, ℕ, IfOk, length, map, string_bytes, ◌≢◌};
+ghost use Rattle.std.specs.Prelude.{◌≡◌, ◌≤◌, ◌<◌, ◌⊎◌, ◌||◌, ◌*◌, List, ℕ, IfOk, OnOk, OnErr, length, map, string_bytes, ◌≢◌};
 ghost use Rattle.std.specs.Io.KnownBytes.{Appends};
 ghost use Rattle.kw_io.specs.Faults.{Rose};
-ghost use Rattle.koika_top.specs.Answer.{AnswersSource, AppendsFront, is_too_long, longest_source, status_of, text_of, fault_of_source};
+ghost use Rattle.koika_top.specs.FirstForm.{fault_of_source};
+ghost use Rattle.koika_top.specs.Answer.{AnswersSource, AppendsFront, is_too_long, longest_source, status_of, text_of};
 
 use crate::first_form::read_design;
 use crate::report::report;
 use crate::simulate::simulate;
 use crate::status::Status;
-use kw_base::{Fault, fault_line};
+use kw_base::{Fault, Refusal, fault_line, fault_number};
 use kw_bits::{NoMemory, Text};
-use kw_io::{Sink, write_all};
+use kw_io::{Sink, WriteFault, write_all};
 use std::alloc::Global;
 use typed_core::Design;
 
@@ -21,10 +22,13 @@ const MOST_CYCLES: u32 = 65_536;
 
 const MOST_VALUES: usize = 4_194_304;
 
-/// What the program answers to its words and its source.
+// How to call the program.
+const USAGE_LINE: &[u8] = b"usage: koika check|print|sim|compile|btorsim|gen\n";
+
+/// What the program answers to its arguments and its source.
 #[derive(Debug, Drop)]
 pub enum Answer {
-    /// The words aren't understood.
+    /// The arguments are invalid.
     Usage,
     /// The source is refused.
     Refused(Fault),
@@ -32,16 +36,31 @@ pub enum Answer {
     Written(Text),
 }
 
+impl Answer {
+    // The status of a run that wrote the answer.
+    fn status(&self) -> Status
+        ensures { result ≡ status_of self.now }
+    {
+        match self {
+            Answer::Usage => Status::Usage,
+            Answer::Refused(_) => Status::Refused,
+            Answer::Written(_) => Status::Done,
+        }
+    }
+}
+
 /// The answer to a source whose design is to run for these cycles.
 pub(crate) fn answer_source(alloc: Global, cycles: u32, source: &[u8]) -> Result<Answer, NoMemory>
     requires { length source.now ≤ longest_source }
     ensures { IfOk result (λ answer. AnswersSource cycles source.now answer) }
 {
-    let Some(design) = read_design(alloc, source)? else {
-        return Ok(Answer::Refused(fault_of_source(60)));
+    let design = match read_design(alloc, source) {
+        Ok(design) => design,
+        Err(Refusal::Fault(fault)) => return Ok(Answer::Refused(fault)),
+        Err(Refusal::NoMemory) => return Err(NoMemory),
     };
     if is_too_long(cycles, &design) {
-        return Ok(Answer::Refused(fault_of_source(45)));
+        return Ok(Answer::Refused(fault_of_source(fault_number::RUN_TOO_LONG)));
     }
     let rows = simulate(alloc, &design, cycles)?;
     let text = report(alloc, &design, &rows)?;
@@ -74,29 +93,25 @@ pub(crate) fn write_answer<K: Sink>(alloc: Global, answer: &Answer, sink: &mut K
     ensures front { AppendsFront (K.written sink.old) (K.written sink.new) (text_of answer.now) }
     ensures cause { result ≡ Status.WriteFault → Rose (K.faults sink.old) (K.faults sink.new) }
 {
-    match answer {
-        Answer::Usage => write_text(
-            sink,
-            b"usage: koika check|print|sim|compile|btorsim|gen\n",
-            Status::Usage,
-        ),
+    let written = match answer {
+        Answer::Usage => write_text(sink, USAGE_LINE),
         Answer::Refused(fault) => match fault_line(alloc, *fault) {
-            Ok(line) => write_text(sink, line.as_slice(), Status::Refused),
-            Err(NoMemory) => Status::NoMemory,
+            Ok(line) => write_text(sink, line.as_slice()),
+            Err(NoMemory) => return Status::NoMemory,
         },
-        Answer::Written(text) => write_text(sink, text.as_slice(), Status::Done),
+        Answer::Written(text) => write_text(sink, text.as_slice()),
+    };
+    match written {
+        Ok(()) => answer.status(),
+        Err(_) => Status::WriteFault,
     }
 }
 
-// Writes a text; the status is this one unless a write fails.
-fn write_text<K: Sink>(sink: &mut K, text: &[u8], status: Status) -> Status
-    ensures status { (result ≡ status) ⊎ (result ≡ Status.WriteFault) }
-    ensures all { result ≢ Status.WriteFault → Appends (K.written sink.old) (K.written sink.new) text.now }
+// Writes a text, or its first bytes where a write fails.
+fn write_text<K: Sink>(sink: &mut K, text: &[u8]) -> Result<(), WriteFault>
+    ensures all { OnOk result (Appends (K.written sink.old) (K.written sink.new) text.now) }
     ensures front { AppendsFront (K.written sink.old) (K.written sink.new) text.now }
-    ensures cause { status ≢ Status.WriteFault → result ≡ Status.WriteFault → Rose (K.faults sink.old) (K.faults sink.new) }
+    ensures cause { OnErr result (Rose (K.faults sink.old) (K.faults sink.new)) }
 {
-    match write_all(sink, text) {
-        Ok(()) => status,
-        Err(_) => Status::WriteFault,
-    }
+    write_all(sink, text)
 }

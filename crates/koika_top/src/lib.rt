@@ -1,4 +1,4 @@
-//! The commands of the program: words and a source's bytes in, a text or a refusal out.
+//! The commands of the program: arguments and a source's bytes in, a text or a refusal out.
 //!
 //! `specs/Answer.antt` says what the program answers; the contract of `run` ties the status, what was
 //! read and what was written to it. The program's `main` calls `run`.
@@ -6,6 +6,7 @@
 
 mod answer;
 mod first_form;
+mod laws;
 mod program;
 mod report;
 mod simulate;
@@ -13,6 +14,6 @@ mod status;
 mod words;
 
 pub use answer::Answer;
-pub use first_form::spells_one_design;
+pub use laws::{one_answer, spells_one_design};
 pub use program::run;
 pub use status::Status;

@@ -2,7 +2,8 @@ ghost use Rattle.std.specs.Prelude.{◌≡◌, ◌⊎◌, ◌↔◌, List, ℕ, 
 ghost use Rattle.std.specs.Io.KnownBytes.{Appends, IsAtEnd, Keeps};
 ghost use Rattle.kw_io.specs.Faults.{Rose};
 ghost use Rattle.koika_top.specs.Words.{cycles_of};
-ghost use Rattle.koika_top.specs.Answer.{AppendsFront, IsAnswer, IsFailure, IsText, IsUsage, status_of, text_of, usage_line};
+ghost use Rattle.koika_top.specs.Answer.{AppendsFront, IsAnswer, IsFailure, status_of, text_of, usage_line};
+ghost use Rattle.koika_top.specs.Steps.{IsText, IsUsage};
 ghost use Rattle.kw_base.specs.declared.fault.Fault.{Fault as FaultRecord};
 ghost use Rattle.kw_base.specs.FaultLine.{line_of_fault};
 ghost use Rattle.koika_top.specs.declared.answer.Answer.{Answer as AnyAnswer};
@@ -13,12 +14,13 @@ mod tests;
 use crate::answer::{Answer, LONGEST_SOURCE, answer_source, fault_of_source, write_answer};
 use crate::status::Status;
 use crate::words::cycles_of;
+use kw_base::fault_number;
 use kw_bits::NoMemory;
 use kw_io::{ReadAll, Sink, Source, read_all};
 use std::alloc::Global;
 
-/// Runs the program on its words, without the program's own name: reads the source if the words are
-/// understood, and writes the answer to the sink. The clauses on content hold where the source tells
+/// Runs the program on its arguments, without the program's own name: reads the source if the arguments are
+/// valid, and writes the answer to the sink. The clauses on content hold where the source tells
 /// which bytes it has left and the sink which were written.
 pub fn run<S: Source, K: Sink>(
     alloc: Global,
@@ -32,7 +34,7 @@ pub fn run<S: Source, K: Sink>(
         × IsAtEnd (S.left source.new)
         × Appends (K.written sink.old) (K.written sink.new) text) }
 
-    // The usage line, where the words aren't understood; the source isn't touched.
+    // The usage line, where the arguments are invalid; the source isn't touched.
     ensures usage { result ≡ Status.Usage → (cycles_of (map string_bytes words.now) ≡ None)
         × Appends (K.written sink.old) (K.written sink.new) usage_line }
     ensures usage_only { cycles_of (map string_bytes words.now) ≡ None →
@@ -41,10 +43,12 @@ pub fn run<S: Source, K: Sink>(
     ensures usage_front { cycles_of (map string_bytes words.now) ≡ None →
         AppendsFront (K.written sink.old) (K.written sink.new) usage_line }
 
-    // The line of a fault, where the source is refused.
+    // The line of a fault, where the source is refused, whether the source tells its bytes or not.
     ensures refused { result ≡ Status.Refused → IfSome (S.left source.old) (λ bytes. (fault : FaultRecord)
         × IsAnswer (map string_bytes words.now) bytes (Answer.Refused fault)
         × Appends (K.written sink.old) (K.written sink.new) (line_of_fault fault)) }
+    ensures refused_line { result ≡ Status.Refused → (fault : FaultRecord)
+        × Appends (K.written sink.old) (K.written sink.new) (line_of_fault fault) }
 
     // What the answer is decides the status, unless reading or writing fails or memory runs out; and what was
     // written is the answer's text or its first bytes.
@@ -98,7 +102,9 @@ fn answer<S: Source>(alloc: Global, words: &[String], source: &mut S) -> Result<
     };
     match read_all(alloc, source, LONGEST_SOURCE) {
         Ok(bytes) => Ok(answer_source(alloc, cycles, &bytes)?),
-        Err(ReadAll::TooLong) => Ok(Answer::Refused(fault_of_source(40))),
+        Err(ReadAll::TooLong) => Ok(Answer::Refused(fault_of_source(
+            fault_number::SOURCE_TOO_LONG,
+        ))),
         Err(ReadAll::Fault) => Err(Unanswered::ReadFault),
         Err(ReadAll::NoMemory) => Err(Unanswered::NoMemory),
     }

@@ -3,7 +3,7 @@
 pub enum Status {
     /// The answer was written.
     Done = 0,
-    /// The words weren't understood; the usage line was written.
+    /// The arguments were invalid; the usage line was written.
     Usage = 1,
     /// The source was refused; the line of its fault was written.
     Refused = 2,

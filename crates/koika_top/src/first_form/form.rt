@@ -1,8 +1,7 @@
 ghost use Rattle.std.specs.Prelude.{◌≡◌, ◌≢◌, ◌↔◌, [], ◌∷◌, IsTrue, IfOk, IfSome, IfNone};
 
-use crate::first_form::keyword::is_keyword;
 use crate::first_form::shape::{is_schedule, read_register, read_rule};
-use crate::first_form::token::Token;
+use crate::first_form::token::FormToken;
 use kw_bits::{Bits, NoMemory, Sequence, Text};
 use std::alloc::Global;
 use typed_core::{Action, Design, Next, Node, RegDecl, Rule, TwoOp};
@@ -53,10 +52,10 @@ impl Operand {
 impl Form {
     ghost use Rattle.typed_core.specs.Valid.{HasBits};
     ghost use Rattle.koika_top.specs.declared.first_form.form.Form.{Form};
-    ghost use Rattle.koika_top.specs.FirstForm.{tokens_of, IsKeyword, OperandHasBits, IsWellFormed, IsSumOf, IsBodyOf, IsDesignOf};
+    ghost use Rattle.koika_top.specs.FirstForm.{tokens_of, OperandHasBits, IsWellFormed, IsSumOf, IsBodyOf, IsDesignOf};
 
     /// The form that all these tokens fill in.
-    pub(crate) fn read(alloc: Global, tokens: &[Token]) -> Result<Option<Form>, NoMemory>
+    pub(crate) fn read(alloc: Global, tokens: &[FormToken]) -> Result<Option<Form>, NoMemory>
         ensures found { IfOk result (λ read. IfSome read (λ form. tokens.now ≡ tokens_of form)) }
         ensures none { IfOk result (λ read. IfNone read ((form : Form) → tokens.now ≢ tokens_of form)) }
     {
@@ -79,20 +78,11 @@ impl Form {
         }))
     }
 
-    /// Whether its names and widths fit together.
+    /// Whether its names differ and its widths fit together.
     pub(crate) fn is_well_formed(&self) -> bool
         ensures { IsTrue result ↔ IsWellFormed self.now }
     {
-        self.has_names() && self.has_widths()
-    }
-
-    // Whether its names are names, and two.
-    fn has_names(&self) -> bool
-        ensures { IsTrue result ↔ (¬ IsKeyword self.now.register × ¬ IsKeyword self.now.rule × (self.now.register ≢ self.now.rule)) }
-    {
-        let register = self.register.as_slice();
-        let rule = self.rule.as_slice();
-        !is_keyword(register) && !is_keyword(rule) && register != rule
+        self.register.as_slice() != self.rule.as_slice() && self.has_widths()
     }
 
     // Whether all that is put in the register has its width.

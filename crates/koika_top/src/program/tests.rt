@@ -91,58 +91,31 @@ fn counter_counts(rt: HostRuntime) -> Result<(), Fail> {
     Ok(())
 }
 
+// Arguments that are invalid.
+static INVALID: [&[&str]; 16] = [
+    &[],
+    &["sim"],
+    &["sim", "--cycles"],
+    &["sim", "--cycles=2"],
+    &["sim", "--cycles", "2", "--cycles", "2"],
+    &["sim", "--cycles", "-1"],
+    &["sim", "--cycles", "+1"],
+    &["sim", "--cycles", ""],
+    &["sim", "--cycles", "4294967296"],
+    &["sim", "--cycles", "00000000001"],
+    &["sim", "--cycles", "1 "],
+    &["sim", "--cycles", "0x1"],
+    &["sim", "--cycles", "1e1"],
+    &["check", "--cycles", "2"],
+    &["Sim", "--cycles", "2"],
+    &["sim", "--workers", "2"],
+];
+
 #[test]
-fn words_that_are_not_understood(rt: HostRuntime) -> Result<(), Fail> {
-    let alloc = rt.alloc();
-    expect(&rt, alloc, &["sim"], COUNTER, Status::Usage, USAGE)?;
-    expect(&rt, alloc, &[], COUNTER, Status::Usage, USAGE)?;
-    expect(
-        &rt,
-        alloc,
-        &["sim", "--cycles"],
-        COUNTER,
-        Status::Usage,
-        USAGE,
-    )?;
-    let twice = ["sim", "--cycles", "2", "--cycles", "2"];
-    expect(&rt, alloc, &twice, COUNTER, Status::Usage, USAGE)?;
-    for number in [
-        "-1",
-        "+1",
-        "",
-        "4294967296",
-        "00000000001",
-        "1 ",
-        "0x1",
-        "1e1",
-    ] {
-        expect(
-            &rt,
-            alloc,
-            &["sim", "--cycles", number],
-            COUNTER,
-            Status::Usage,
-            USAGE,
-        )?;
+fn invalid_arguments(rt: HostRuntime) -> Result<(), Fail> {
+    for words in INVALID {
+        expect(&rt, rt.alloc(), words, COUNTER, Status::Usage, USAGE)?;
     }
-    for command in ["check", "Sim", "simulate"] {
-        expect(
-            &rt,
-            alloc,
-            &[command, "--cycles", "2"],
-            COUNTER,
-            Status::Usage,
-            USAGE,
-        )?;
-    }
-    expect(
-        &rt,
-        alloc,
-        &["sim", "--cycles=2"],
-        COUNTER,
-        Status::Usage,
-        USAGE,
-    )?;
     Ok(())
 }
 
@@ -151,6 +124,7 @@ fn sources_that_are_refused(rt: HostRuntime) -> Result<(), Fail> {
     let table = [
         ("2", "", "fault 60 at 0:0\n"),
         ("4294967295", "schedule { }", "fault 60 at 0:0\n"),
+        ("65537", "#", "fault 10 at 1:1\n"),
         ("65537", COUNTER, "fault 45 at 0:0\n"),
         ("4294967295", COUNTER, "fault 45 at 0:0\n"),
         (
@@ -161,7 +135,7 @@ fn sources_that_are_refused(rt: HostRuntime) -> Result<(), Fail> {
         (
             "2",
             "reg x : bits 8 = 8'd256; rule a { write0(x, 8'd1) } schedule { a; }",
-            "fault 60 at 0:0\n",
+            "fault 13 at 1:18\n",
         ),
         (
             "2",

@@ -1,6 +1,5 @@
-use Rattle.std.proofs.Common.{take, drop, take-append-drop}
+use Rattle.koika_top.proofs.Statuses.{front_of_written}
 use Rattle.koika_top.proofs.answer.write_text.Goals as goal
 
-pub returns-in-Err-clause-front : goal.returns-in-Err-clause-front
-returns-in-Err-clause-front g c =
-    (take c.in-Err.field-0.written c.args.text.now, drop c.in-Err.field-0.written c.args.text.now, take-append-drop _ _, c.in-Err.ensures.some)
+pub returns-clause-front : goal.returns-clause-front
+returns-clause-front g c = front_of_written _ _ c.args.text.now c.write_all.result c.write_all.ensures.all c.write_all.ensures.some

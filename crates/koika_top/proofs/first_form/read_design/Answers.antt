@@ -1,25 +1,16 @@
-use Rattle.std.proofs.Common.{sym, subst, ◌∙◌}
-use Rattle.std.proofs.lemmas.Bool.{both_ways}
-use Rattle.koika_top.specs.FirstForm.{tokens_of, IsWellFormed}
-use Rattle.koika_top.proofs.Cuts.{same_cut}
-use Rattle.koika_top.proofs.Shapes.{few_tokens, same_form}
+use Rattle.std.proofs.Common.{map, ap, ◌∙◌, inr}
+use Rattle.koika_syntax.proofs.Cuts.{one_list}
+use Rattle.koika_top.specs.FirstForm.{form_token}
 use Rattle.koika_top.proofs.first_form.read_design.Goals as goal
 
-pub returns-in_default-clause-refused : goal.returns-in_default-clause-refused
-returns-in_default-clause-refused c =
-    let none = rw c.in_default.is at c.in_ok-tokens.ensures.none in
-    λ design is. none (tokens_of is.0) (few_tokens is.0) is.1.cut
-
-pub returns-in_default-2-clause-refused : goal.returns-in_default-2-clause-refused
-returns-in_default-2-clause-refused c =
-    let cut = rw c.in-Some.is at c.in_ok-tokens.ensures.found in
-    let none = rw c.in_default-2.is at c.in_ok-form.ensures.none in
-    λ design is. none is.0 (c.as_slice.ensures ∙ same_cut c.args.text.now c.in-Some.tokens (tokens_of is.0) cut is.1.cut)
-
-pub returns-then-not-is_well_formed-clause-refused : goal.returns-then-not-is_well_formed-clause-refused
-returns-then-not-is_well_formed-clause-refused c =
-    let cut = rw c.in-Some.is at c.in_ok-tokens.ensures.found in
-    let form = rw c.in-Some-2.is at c.in_ok-form.ensures.found in
-    λ design is.
-    let same = same_form is.0 c.in-Some-2.form (sym (same_cut c.args.text.now c.in-Some.tokens (tokens_of is.0) cut is.1.cut) ∙ sym c.as_slice.ensures ∙ form) in
-    both_ways c.is_well_formed.result c.if-not-is_well_formed.true (c.is_well_formed.ensures.1 (subst IsWellFormed same is.1.well_formed))
+pub returns-clause-refused : goal.returns-clause-refused
+returns-clause-refused c =
+    let text = c.args.text.now in
+    let tokens = c.in_ok-tokens.tokens.items in
+    let are = c.in_ok-tokens.ensures.tokens in
+    let none = rw c.in-None.is at c.in_ok-form.ensures.none in
+    inr (
+      c.fault_of_source.ensures,
+      (tokens, are),
+      λ design is. none is.0 (ap (map (form_token text)) (c.as_slice.ensures.value ∙ one_list text tokens is.1.tokens are is.1.are) ∙ is.1.fill) is.1.well_formed,
+    )

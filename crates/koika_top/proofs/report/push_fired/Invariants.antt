@@ -1,5 +1,6 @@
 use Rattle.std.proofs.Common.{◌≡◌, ◌++◌, drop}
-use Rattle.koika_top.specs.Report.{fired_names, listed, rest_listed}
+use Rattle.koika_top.specs.Report.{fired_names, listed}
+use Rattle.koika_top.specs.Steps.{rest_listed}
 use Rattle.koika_top.proofs.report.push_fired.Given as goal
 
 -- what stands already and what is left make the whole list
