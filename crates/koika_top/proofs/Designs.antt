@@ -1,7 +1,7 @@
 -- The design that a well formed form spells is valid.
 use Rattle.std.proofs.Common.{◌≡◌, ◌⊎◌, ℕ, zero, suc, List, [], ◌∷◌, All, Option, Some, None, refl, sym, subst, inl, inr, arith}
 use Rattle.std.specs.Prelude.{slice_get, AllPairs, IfSome}
-use Rattle.typed_core.specs.Valid.{Declarations, IsWidth, HasWidth, IsRegister, IsNode, Continues, IsPath, TryOthers, IsValid}
+use Rattle.typed_core.specs.Valid.{ActionHasWidth, Declarations, IsWidth, IsRegister, IsNode, Continues, IsPath, TryOthers, IsValid}
 use Rattle.typed_core.specs.declared.action.TwoOp.TheVariants.{Add}
 use Rattle.typed_core.specs.declared.action.Action.{Action}
 use Rattle.typed_core.specs.declared.action.Action.TheVariants.{Two', Write'}
@@ -27,26 +27,26 @@ declared : Form → List RegDecl
 declared f = record { name = f.register; width = f.width; first = f.first } ∷ []
 
 declares : Form → Declarations
-declares f = record { regs = declared f; inputs = []; tables = []; hosts = [] }
+declares f = record { regs = f.width ∷ []; inputs = []; externs = record { tables = []; hosts = [] } }
 
-operand_width : (f : Form) (o : Operand) (a : Action) → OperandHasBits f.width o → IsOperandOf o a → HasWidth (declares f) a [] f.width
+operand_width : (f : Form) (o : Operand) (a : Action) → OperandHasBits f.width o → IsOperandOf o a → ActionHasWidth (declares f) a [] f.width
 unfolding declared declares
-operand_width f (Constant value) a bits e = subst (λ (x : Action). HasWidth (declares f) x [] f.width) (sym e) bits
-operand_width f Register a bits e = subst (λ (x : Action). HasWidth (declares f) x [] f.width) (sym e) (omega arith, (record { name = f.register; width = f.width; first = f.first }, refl, refl))
+operand_width f (Constant value) a bits e = subst (λ (x : Action). ActionHasWidth (declares f) x [] f.width) (sym e) bits
+operand_width f Register a bits e = subst (λ (x : Action). ActionHasWidth (declares f) x [] f.width) (sym e) (omega arith, refl)
 
-sum_width : (f : Form) (l : Operand) (r : Option Operand) (a : Action) → IsWidth f.width → OperandHasBits f.width l → IfSome r (OperandHasBits f.width) → IsSumOf l r a → HasWidth (declares f) a [] f.width
+sum_width : (f : Form) (l : Operand) (r : Option Operand) (a : Action) → IsWidth f.width → OperandHasBits f.width l → IfSome r (OperandHasBits f.width) → IsSumOf l r a → ActionHasWidth (declares f) a [] f.width
 unfolding declared declares
 sum_width f l None a some left right is = operand_width f l a left is
 sum_width f l (Some r) (Two' Add p a q b) some left right is = (f.width, f.width, operand_width f l a left is.0, operand_width f r b right is.1, some.0, some.0, (refl, refl))
 sum_width f l (Some r) _ some left right is = absurd is
 
-body_width : (f : Form) (body : Action) → IsWellFormed f → IsBodyOf f.left f.right body → HasWidth (declares f) body [] 0
+body_width : (f : Form) (body : Action) → IsWellFormed f → IsBodyOf f.left f.right body → ActionHasWidth (declares f) body [] 0
 unfolding declared declares
 body_width f (Write' port register p a) well is = (
   f.width,
   sum_width f f.left f.right a well.width well.left well.right is.2,
   omega (arith, is.0),
-  (record { name = f.register; width = f.width; first = f.first }, rw is.1 refl, refl),
+  rw is.1 refl,
   refl,
 )
 body_width f _ well is = absurd is
@@ -85,7 +85,7 @@ spelled_valid f body well is = record {
   tables = none_hold _;
   hosts = none_hold _;
   few_rules = omega arith;
-  rules = one_holds (λ (rule : Rule). HasWidth (declares f) rule.body [] 0) (record { name = f.rule; body = body }) (body_width f body well is);
+  rules = one_holds (λ (rule : Rule). ActionHasWidth (declares f) rule.body [] 0) (record { name = f.rule; body = body }) (body_width f body well is);
   few_nodes = omega arith;
   nodes = single_nodes;
   once = single_once;

@@ -1,12 +1,11 @@
 -- Words and a source have one answer, by its status and its text.
-use Rattle.std.proofs.Common.{◌≡◌, ℕ, ◌*◌, ◌<◌, ◌≤◌, inl, inr, true, false, ◌||◌, nat_lt, List, [], length, Option, Some, None, refl, sym, ap, ◌∙◌, arith}
+use Rattle.std.proofs.Common.{◌≡◌, ℕ, suc, ◌*◌, ◌<◌, ◌≤◌, inl, inr, true, false, ◌||◌, nat_lt, List, [], ◌∷◌, length, Option, Some, None, refl, sym, ap, ◌∙◌, arith}
 use Rattle.std.specs.Prelude.{MatchOption}
-use Rattle.std.proofs.lemmas.List.{length-map}
 use Rattle.typed_core.specs.declared.design.RegDecl.{RegDecl}
 use Rattle.typed_core.specs.declared.design.Rule.{Rule}
 use Rattle.typed_core.specs.declared.design.Parts.{Parts}
 use Rattle.koika_top.specs.Answer.{AnswersSource, IsAnswer, IsRefusal, IsReport, IsSameAnswer, is_too_long, longest_source, status_of, text_of}
-use Rattle.typed_core.specs.Same.{AreSame}
+use Rattle.typed_core.specs.Same.{SameDesign, SameRules}
 use Rattle.kw_base.specs.declared.fault.Fault.{Fault}
 use Rattle.koika_syntax.proofs.Cuts.{one_fault, tokens_or_fault}
 use Rattle.koika_top.specs.FirstForm.{IsFirstForm, IsFormFault}
@@ -16,13 +15,16 @@ use Rattle.koika_top.proofs.Unique.{same_spelled}
 use Rattle.koika_top.specs.declared.answer.Answer.{Answer}
 use Rattle.koika_top.specs.declared.answer.Answer.TheVariants.{Usage, Refused, Written}
 
-count-same : (d e : Parts) → AreSame d e → length d.rules ≡ length e.rules
-count-same d e h = sym (length-map d.rules (λ (rule : Rule). rule.name)) ∙ ap length h.names ∙ length-map e.rules (λ (rule : Rule). rule.name)
+count-same : (rules others : List Rule) → SameRules rules others → length rules ≡ length others
+count-same [] [] h = refl
+count-same [] (other ∷ others) h = absurd h
+count-same (rule ∷ rules) [] h = absurd h
+count-same (rule ∷ rules) (other ∷ others) h = ap suc (count-same rules others h.1)
 
-too_long-same : (d e : Parts) → AreSame d e → (cycles : ℕ) → is_too_long cycles d ≡ is_too_long cycles e
+too_long-same : (d e : Parts) → SameDesign d e → (cycles : ℕ) → is_too_long cycles d ≡ is_too_long cycles e
 too_long-same d e h cycles =
     ap (λ (decls : List RegDecl). nat_lt 65536 cycles || nat_lt 4194304 (cycles * length decls) || nat_lt 4194304 (cycles * length d.rules)) h.regs
-    ∙ ap (λ n. nat_lt 65536 cycles || nat_lt 4194304 (cycles * length e.regs) || nat_lt 4194304 (cycles * n)) (count-same d e h)
+    ∙ ap (λ n. nat_lt 65536 cycles || nat_lt 4194304 (cycles * length e.regs) || nat_lt 4194304 (cycles * n)) (count-same d.rules e.rules h.rules)
 
 report-same : (cycles : ℕ) (source a b : List ℕ) → IsReport cycles source a → IsReport cycles source b → a ≡ b
 report-same cycles source a b r q =

@@ -1,18 +1,16 @@
 -- A text spells one design at most.
-use Rattle.std.proofs.Common.{◌≡◌, ℕ, List, [], ◌∷◌, map, Option, Some, None, sym, ap, subst, ◌∙◌}
-use Rattle.typed_core.specs.Alone.{Surroundings, Part, ◌>>=◌, write, evaluate, outcome_of, alone}
+use Rattle.std.proofs.Common.{◌≡◌, ℕ, List, [], ◌∷◌, map, Option, Some, None, refl, sym, ap, subst, ◌∙◌}
 use Rattle.typed_core.specs.Valid.{IsValid}
 use Rattle.typed_core.specs.declared.action.TwoOp.TheVariants.{Add}
 use Rattle.typed_core.specs.declared.action.Action.{Action}
-use Rattle.typed_core.specs.declared.action.Action.TheVariants.{Two', Write'}
-use Rattle.typed_core.specs.declared.run_alone.Alone.{Alone}
+use Rattle.typed_core.specs.declared.action.Action.TheVariants.{Const, Read, Two', Write'}
 use Rattle.typed_core.specs.declared.design.Rule.{Rule}
 use Rattle.typed_core.specs.declared.design.Parts.{Parts}
 use Rattle.koika_top.specs.declared.first_form.form.Operand.{Operand}
 use Rattle.koika_top.specs.declared.first_form.form.Operand.TheVariants.{Constant, Register}
 use Rattle.koika_top.specs.declared.first_form.form.Form.{Form}
 use Rattle.koika_top.specs.FirstForm.{form_token, Fills, IsOperandOf, IsSumOf, IsBodyOf, IsDesignOf, IsFirstForm}
-use Rattle.typed_core.specs.Same.{AreSame}
+use Rattle.typed_core.specs.Same.{SameAction, SameDesign, SameRules}
 use Rattle.koika_syntax.proofs.Cuts.{one_list}
 use Rattle.koika_top.proofs.Shapes.{same_form}
 use Rattle.koika_top.proofs.Designs.{design_valid}
@@ -23,46 +21,40 @@ same_filled text f g h k =
     let tokens = one_list text h.tokens k.tokens h.are k.are in
     same_form f g (sym h.fill ∙ ap (map (form_token text)) tokens ∙ k.fill)
 
-same_operand_action : (o : Operand) (a b : Action) → IsOperandOf o a → IsOperandOf o b → a ≡ b
-same_operand_action (Constant value) a b h g = h ∙ sym g
-same_operand_action Register a b h g = h ∙ sym g
+same_operand : (o : Operand) (a b : Action) → IsOperandOf o a → IsOperandOf o b → SameAction a b
+same_operand (Constant value) a b h g =
+    subst (λ (x : Action). SameAction x b) (sym h) (subst (λ (y : Action). SameAction (Const value) y) (sym g) refl)
+same_operand Register a b h g = subst (λ (x : Action). SameAction x b) (sym h) (subst (λ (y : Action). SameAction (Read 0 0) y) (sym g) (refl, refl))
 
--- the values of a sum are the same, wherever its operands lie
-same_sum_value : (l : Operand) (r : Option Operand) (a b : Action) → IsSumOf l r a → IsSumOf l r b → (s : Surroundings) → evaluate s a [] ≡ evaluate s b []
-same_sum_value l None a b h g s = ap (λ (x : Action). evaluate s x []) (same_operand_action l a b h g)
-same_sum_value l (Some r) (Two' Add p a q b) (Two' Add p' a' q' b') h g s =
-    ap (λ (x : Action). evaluate s (Two' Add p x q b) []) (same_operand_action l a a' h.0 g.0) ∙ ap (λ (y : Action). evaluate s (Two' Add p a' q y) []) (same_operand_action r b b' h.1 g.1)
-same_sum_value l (Some r) (Two' Add p a q b) _ h g s = absurd g
-same_sum_value l (Some r) _ b h g s = absurd h
+-- the sums are the same, wherever their operands lie
+same_sum : (l : Operand) (r : Option Operand) (a b : Action) → IsSumOf l r a → IsSumOf l r b → SameAction a b
+same_sum l None a b h g = same_operand l a b h g
+same_sum l (Some r) (Two' Add p a q b) (Two' Add p' a' q' b') h g = (refl, same_operand l a a' h.0 g.0, same_operand r b b' h.1 g.1)
+same_sum l (Some r) (Two' Add p a q b) _ h g = absurd g
+same_sum l (Some r) _ b h g = absurd h
 
--- and so is what the body does
-same_body_run : (l : Operand) (r : Option Operand) (a b : Action) → IsBodyOf l r a → IsBodyOf l r b → (s : Surroundings) → alone s a ≡ alone s b
-same_body_run l r (Write' port register p a) (Write' port' register' p' b) h g s =
-    let at_port : port ≡ port' = h.0 ∙ sym g.0 in
-    let of_register : register ≡ register' = h.1 ∙ sym g.1 in
-    ap (λ (v : Part). do_write port register v) (same_sum_value l r a b h.2 g.2 s) ∙ ap (λ (n : ℕ). do_write n register (evaluate s b [])) at_port ∙ ap (λ (n : ℕ). do_write port' n (evaluate s b [])) of_register
-  where
-    do_write : ℕ → ℕ → Part → Alone
-    do_write n m v = let end = (v >>= λ value. write n m value) [] in record { events = end.events; outcome = outcome_of end.ending }
-same_body_run l r (Write' port register p a) _ h g s = absurd g
-same_body_run l r _ b h g s = absurd h
+-- and so are the bodies
+same_body : (l : Operand) (r : Option Operand) (a b : Action) → IsBodyOf l r a → IsBodyOf l r b → SameAction a b
+same_body l r (Write' port register p a) (Write' port' register' p' b) h g = (h.0 ∙ sym g.0, h.1 ∙ sym g.1, same_sum l r a b h.2 g.2)
+same_body l r (Write' port register p a) _ h g = absurd g
+same_body l r _ b h g = absurd h
 
-same_design : (f : Form) (d e : Parts) → IsDesignOf f d → IsDesignOf f e → AreSame d e
+same_design : (f : Form) (d e : Parts) → IsDesignOf f d → IsDesignOf f e → SameDesign d e
 same_design f d e h g = record {
   regs = h.regs ∙ sym g.regs;
   inputs = h.inputs ∙ sym g.inputs;
   tables = h.tables ∙ sym g.tables;
   hosts = h.hosts ∙ sym g.hosts;
-  names = ap (map (λ (rule : Rule). rule.name)) h.rules ∙ sym (ap (map (λ (rule : Rule). rule.name)) g.rules);
-  bodies = λ s.
-      ap (map (λ (rule : Rule). alone s rule.body)) h.rules
-      ∙ ap (λ (run : Alone). run ∷ []) (same_body_run f.left f.right h.body g.body h.writes g.writes s)
-      ∙ sym (ap (map (λ (rule : Rule). alone s rule.body)) g.rules);
+  rules =
+      let one : List Rule = record { name = f.rule; body = h.body } ∷ [] in
+      let other : List Rule = record { name = f.rule; body = g.body } ∷ [] in
+      subst (λ (rules : List Rule). SameRules rules e.rules) (sym h.rules)
+      (subst (λ (rules : List Rule). SameRules one rules) (sym g.rules) ((refl, same_body f.left f.right h.body g.body h.writes g.writes), tt));
   nodes = h.nodes ∙ sym g.nodes;
 }
 
 -- a text spells one design, up to where its parts lie in memory
-pub same_spelled : (text : List ℕ) (d e : Parts) → IsFirstForm text d → IsFirstForm text e → AreSame d e
+pub same_spelled : (text : List ℕ) (d e : Parts) → IsFirstForm text d → IsFirstForm text e → SameDesign d e
 same_spelled text d e (f, fills, is) (f', fills', is') =
     same_design f d e is (subst (λ (x : Form). IsDesignOf x e) (sym (same_filled text f f' fills fills')) is')
 

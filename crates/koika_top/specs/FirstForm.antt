@@ -10,7 +10,8 @@ use Rattle.koika_syntax.specs.declared.symbol.Symbol.TheVariants as symbols
 use Rattle.koika_syntax.specs.declared.token.Token.{Token}
 use Rattle.koika_syntax.specs.declared.token.TokenKind.{TokenKind}
 use Rattle.koika_syntax.specs.declared.token.TokenKind.TheVariants as kinds
-use Rattle.typed_core.specs.Valid.{IsWidth, HasBits}
+use Rattle.kw_bits.specs.Laws.{HasWidth}
+use Rattle.typed_core.specs.Valid.{IsWidth}
 use Rattle.typed_core.specs.declared.action.TwoOp.TheVariants.{Add}
 use Rattle.typed_core.specs.declared.action.Action.{Action}
 use Rattle.typed_core.specs.declared.action.Action.TheVariants.{Const, Two', Read, Write'}
@@ -76,14 +77,14 @@ tokens_of f = register_tokens f.register f.width f.first ++ rule_tokens f.rule f
 
 -- a literal operand has this width; the register has its own
 abbrev pub OperandHasBits : ℕ → Operand → Type 0
-OperandHasBits width (Constant value) = HasBits width value
+OperandHasBits width (Constant value) = HasWidth value width
 OperandHasBits width Register = Unit {0}
 
 -- the names differ, and all that is put in the register has its width
 pub record IsWellFormed (f : Form) : Type 0 where
   pub differ : f.register ≢ f.rule
   pub width : IsWidth f.width
-  pub first : HasBits f.width f.first
+  pub first : HasWidth f.first f.width
   pub left : OperandHasBits f.width f.left
   pub right : IfSome f.right (OperandHasBits f.width)
 

@@ -1,4 +1,4 @@
-ghost use Rattle.std.specs.Prelude.{◌≡◌, ◌≤◌, ◌<◌, ◌⊎◌, ◌||◌, ◌*◌, List, ℕ, IfOk, OnOk, OnErr, length, map, string_bytes, ◌≢◌};
+ghost use Rattle.std.specs.Prelude.{◌≡◌, ◌≤◌, ◌<◌, ◌⊎◌, ◌||◌, ◌*◌, IfOk, OnOk, OnErr, length};
 ghost use Rattle.std.specs.Io.KnownBytes.{Appends};
 ghost use Rattle.kw_io.specs.Faults.{Rose};
 ghost use Rattle.koika_top.specs.FirstForm.{fault_of_source};

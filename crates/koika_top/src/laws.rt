@@ -2,7 +2,7 @@
 
 ghost use Rattle.std.specs.Prelude.{ℕ, List};
 ghost use Rattle.typed_core.specs.declared.design.Parts.{Parts};
-ghost use Rattle.typed_core.specs.Same.{AreSame};
+ghost use Rattle.typed_core.specs.Same.{SameDesign};
 ghost use Rattle.koika_top.specs.declared.answer.Answer.{Answer};
 ghost use Rattle.koika_top.specs.Answer.{IsAnswer, IsSameAnswer};
 ghost use Rattle.koika_top.specs.FirstForm.{IsFirstForm};
@@ -15,5 +15,5 @@ pub fn one_answer()
 
 /// A text spells one design at most, up to where the parts of its rule lie in memory.
 pub fn spells_one_design()
-    ensures { (text : List ℕ) (d e : Parts) → IsFirstForm text d → IsFirstForm text e → AreSame d e }
+    ensures { (text : List ℕ) (d e : Parts) → IsFirstForm text d → IsFirstForm text e → SameDesign d e }
 {}

@@ -1,5 +1,5 @@
 ghost use Rattle.std.specs.Prelude.{◌≡◌, ◌≤◌, ◌<◌, ◌+◌, ◌/◌, ◌%◌, ◌∷◌, ◌++◌, ◌^◌, ℕ, List, IfOk, OnOk, length, if◌then◌else◌};
-ghost use Rattle.koika_top.specs.Report.{fired_names, hex, hex_digit, hex_digits, line_of, listed, register_text, registers_text, report};
+ghost use Rattle.koika_top.specs.Report.{fired_names, hex, hex_digit, line_of, listed, register_text, registers_text, report};
 ghost use Rattle.koika_top.specs.Steps.{rest_listed, separated};
 ghost use Rattle.one_rule.specs.Rows.{RowFits, RowsFit};
 

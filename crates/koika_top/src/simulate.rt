@@ -10,11 +10,12 @@ use typed_core::Design;
 
 /// The run of a design without inputs for this many cycles, by whole rules.
 pub(crate) fn simulate(alloc: Global, design: &Design, cycles: u32) -> Result<Rows, NoMemory>
-    requires { design.now.inputs ≡ [] }
+    requires inputs { design.now.inputs ≡ [] }
+    requires hosts { design.now.hosts ≡ [] }
     ensures run { IfOk result (λ rows. rows ≡ run_of design.now (λ _. []) cycles) }
     ensures fit { IfOk result (λ rows. RowsFit design.now rows) }
 {
-    let externs = Externs::new(alloc, design)?;
+    let externs = Externs::new(alloc, design, &[])?;
     let inputs = Inputs::new(alloc);
     let mut rows = Rows::new(alloc);
     let mut last = opening(alloc, design, first_values(alloc, design)?)?;

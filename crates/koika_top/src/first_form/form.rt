@@ -50,9 +50,9 @@ impl Operand {
 }
 
 impl Form {
-    ghost use Rattle.typed_core.specs.Valid.{HasBits};
+    ghost use Rattle.kw_bits.specs.Laws.{HasWidth};
     ghost use Rattle.koika_top.specs.declared.first_form.form.Form.{Form};
-    ghost use Rattle.koika_top.specs.FirstForm.{tokens_of, OperandHasBits, IsWellFormed, IsSumOf, IsBodyOf, IsDesignOf};
+    ghost use Rattle.koika_top.specs.FirstForm.{tokens_of, OperandHasBits, IsWellFormed, IsSumOf, IsDesignOf};
 
     /// The form that all these tokens fill in.
     pub(crate) fn read(alloc: Global, tokens: &[FormToken]) -> Result<Option<Form>, NoMemory>
@@ -88,7 +88,7 @@ impl Form {
     // Whether all that is put in the register has its width.
     fn has_widths(&self) -> bool
         ensures { IsTrue result
-            ↔ (HasBits self.now.width self.now.first × OperandHasBits self.now.width self.now.left × IfSome self.now.right (OperandHasBits self.now.width)) }
+            ↔ (HasWidth self.now.first self.now.width × OperandHasBits self.now.width self.now.left × IfSome self.now.right (OperandHasBits self.now.width)) }
     {
         self.first.width() == self.width
             && self.left.has_width(self.width)

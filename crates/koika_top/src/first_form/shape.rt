@@ -1,4 +1,4 @@
-ghost use Rattle.std.specs.Prelude.{◌≡◌, ◌≢◌, ℕ, List, [], ◌∷◌, ◌++◌, Option, MatchOption, IsTrue, ◌↔◌};
+ghost use Rattle.std.specs.Prelude.{◌≡◌, ◌≢◌, ℕ, List, ◌∷◌, ◌++◌, Option, MatchOption, IsTrue, ◌↔◌};
 ghost use Rattle.kw_bits.specs.BitVector.{BitVector};
 ghost use Rattle.koika_top.specs.declared.first_form.token.FormToken.{FormToken};
 ghost use Rattle.koika_top.specs.declared.first_form.form.Operand.{Operand};

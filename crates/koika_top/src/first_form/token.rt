@@ -1,4 +1,4 @@
-ghost use Rattle.std.specs.Prelude.{◌≡◌, ◌≤◌, map, length, All, IfOk};
+ghost use Rattle.std.specs.Prelude.{◌≡◌, map, All, IfOk};
 ghost use Rattle.koika_syntax.specs.Tokens.{StandsIn};
 ghost use Rattle.koika_top.specs.FirstForm.{form_token};
 
