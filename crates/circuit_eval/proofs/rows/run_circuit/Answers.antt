@@ -7,12 +7,12 @@ use Rattle.circuit_eval.specs.Run.{flags, row_after, rows_after}
 use Rattle.circuit_eval.specs.Simulations.{after_step, Simulation}
 use Rattle.circuit_eval.specs.declared.circuit.Wires.{Wires}
 use Rattle.circuit_eval.proofs.RowByRow.{rows-end, rows-turn}
-use Rattle.circuit_eval.proofs.Stimuli.{FitsWidths-AreBits}
+use Rattle.circuit_eval.proofs.Stimuli.{HaveWidths-AreBits}
 use Rattle.circuit_eval.proofs.rows.run_circuit.Goals as goal
 
 pub step-requires : goal.step-requires
 step-requires c =
-    let given = FitsWidths-AreBits c.args.stimulus.now.widths c.in_ok-inputs.field-0 c.in_ok-inputs.ensures.fits in
+    let given = HaveWidths-AreBits c.args.stimulus.now.widths c.in_ok-inputs.field-0 c.in_ok-inputs.ensures.fits in
     rw (c.loop-last.invariant.circuit, ← c.requires) given
 
 -- the simulation after the step, over the circuit
