@@ -22,3 +22,6 @@ pub use ty::Ty;
 pub use unpacking::unpack;
 pub use validity::{have_valid_types, is_valid_enum, valid_width};
 pub use value::Value;
+
+#[cfg(test)]
+mod tests;
