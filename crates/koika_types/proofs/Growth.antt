@@ -1,5 +1,5 @@
 -- A table that grows keeps the widths and the types that it had.
-use Rattle.std.proofs.Common.{◌≡◌, ℕ, suc, ◌+◌, ◌*◌, ◌<◌, ◌≤◌, ◌⊎◌, min, List, [], ◌∷◌, ◌++◌, All, Some, Result, Ok, Err, OnOk, OnErr, length, map, slice_get, slice_index, get_or, ap, ap₂, subst, sym, ◌∙◌, refl, inl, inr, arith, length-append, le_refl}
+use Rattle.std.proofs.Common.{◌≡◌, ℕ, ◌+◌, ◌*◌, ◌<◌, ◌≤◌, ◌⊎◌, min, List, [], ◌∷◌, ◌++◌, All, Some, Result, Ok, Err, OnOk, OnErr, length, map, slice_get, slice_index, get_or, ap, ap₂, subst, sym, ◌∙◌, refl, inl, inr, arith, length-append, le_refl}
 use Rattle.std.proofs.lemmas.List.Sums.{sum_by-cons}
 use Rattle.std.proofs.Math.ListN.{get_or-append}
 use Rattle.std.proofs.Math.Seq.{get_or-append_seam}
@@ -7,7 +7,7 @@ use Rattle.std.proofs.lemmas.Bool.{cases_lt}
 use Rattle.std.proofs.lemmas.List.{map-append, length-map}
 use Rattle.std.proofs.lemmas.List.Elements.{All-push, All-head, All-tail}
 use Rattle.std.proofs.lemmas.Option.{slice_get_within, get_or_from_slice_get, slice_get-get_or}
-use Rattle.koika_types.specs.Types.{AreTypes, IsEnum, IsStruct, IsTable, IsType, IsTypeAmong, IsWidth, struct_of, total_width, width}
+use Rattle.koika_types.specs.Types.{AreTypes, IsEnum, IsStruct, IsTable, IsTypeAmong, IsWidth, struct_of, total_width, width}
 use Rattle.koika_types.specs.declared.ty.Ty.{Ty}
 use Rattle.koika_types.specs.declared.ty.Ty.TheVariants as ty
 use Rattle.koika_types.specs.declared.declarations.EnumDecl.{EnumDecl}

@@ -13,8 +13,7 @@ use Rattle.koika_types.specs.declared.declarations.Declarations.{Declarations}
 use Rattle.koika_types.specs.declared.value.Value.{Value}
 use Rattle.koika_types.specs.declared.value.Value.TheVariants as value
 use Rattle.koika_types.specs.declared.value.Value.TheOpen.{Value-F}
-use Rattle.koika_types.specs.declared.value.Value.TheViews.{roll-Value}
-use Rattle.koika_types.proofs.Layers.{open-IsOf, packed-roll}
+use Rattle.koika_types.proofs.Layers.{open-IsOf}
 use Rattle.koika_types.proofs.Sizes.{PackedSize, packed-HasSize, parts_of_array, parts_of_struct, sum_by-map}
 use Rattle.koika_types.proofs.Stacks.{concat-nothing, nothing-concat, stacked-push, stacked-width, stacked_up-push, stacked_up-width, wide}
 use Rattle.koika_types.proofs.Widths.{width-IsWidth}

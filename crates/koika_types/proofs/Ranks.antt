@@ -1,6 +1,6 @@
 -- A measure of types that is less for the parts of a type: first by the greatest struct that it names, and then by how
 -- many arrays stand round it.
-use Rattle.std.proofs.Common.{◌≡◌, ℕ, suc, ◌+◌, ◌*◌, ◌<◌, ◌≤◌, List, Some, length, sum_by, get_or, slice_get, sym, subst, ap, le_refl, arith}
+use Rattle.std.proofs.Common.{◌≡◌, ℕ, ◌+◌, ◌*◌, ◌<◌, ◌≤◌, Some, length, sum_by, get_or, slice_get, ap, le_refl, arith}
 use Rattle.std.proofs.Math.Nat.{add-mul, mul-le-mul}
 use Rattle.std.proofs.lemmas.List.Sums.{sum_by_more_le}
 use Rattle.std.proofs.lemmas.Option.{get_or_from_slice_get, slice_get_within}

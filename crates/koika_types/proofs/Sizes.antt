@@ -1,5 +1,5 @@
 -- How many bits a value is packed into.
-use Rattle.std.proofs.Common.{◌≡◌, ℕ, ◌+◌, ◌*◌, ◌<◌, ◌≤◌, ◌^◌, min, List, [], ◌∷◌, All, Some, map, replicate, length, sum_by, get_or, slice_get, slice_index, refl, ap, ap₂, sym, subst, ◌∙◌, arith}
+use Rattle.std.proofs.Common.{◌≡◌, ℕ, ◌+◌, ◌≤◌, min, List, [], ◌∷◌, All, Some, map, replicate, length, sum_by, slice_get, refl, ap, ap₂, sym, subst, ◌∙◌, arith}
 use Rattle.std.proofs.Math.Nat.{add_comm, mul_comm}
 use Rattle.std.proofs.lemmas.List.{get_or-map}
 use Rattle.std.proofs.lemmas.List.Elements.{All-head, All-map, All-replicate, All-tail}
@@ -8,7 +8,7 @@ use Rattle.std.proofs.lemmas.List.Sums.{sum_by-cons}
 use Rattle.std.proofs.lemmas.Option.{get_or_from_slice_get, slice_get_within}
 use Rattle.kw_bits.specs.BitVector.{BitVector}
 use Rattle.kw_bits.specs.Operators.{concat}
-use Rattle.koika_types.specs.Types.{IsStruct, IsTable, IsType, IsTypeAmong, IsWidth, total_width, width}
+use Rattle.koika_types.specs.Types.{IsTable, IsType, IsTypeAmong, total_width, width}
 use Rattle.koika_types.specs.Values.{IsOf, Pairwise, PartIsOf, field_types, packed, packed_part, stacked, stacked_up}
 use Rattle.koika_types.specs.declared.ty.Ty.{Ty}
 use Rattle.koika_types.specs.declared.ty.Ty.TheVariants as ty
@@ -20,7 +20,7 @@ use Rattle.koika_types.specs.declared.value.Value.TheOpen.{Value-F}
 use Rattle.koika_types.specs.declared.value.Value.TheFolds.{ind-Value, map-Value}
 use Rattle.koika_types.specs.declared.value.Value.TheViews.{roll-Value}
 use Rattle.koika_types.proofs.Layers.{open-IsOf, packed-roll}
-use Rattle.koika_types.proofs.Stacks.{IsSized, concat-IsSized, wide}
+use Rattle.koika_types.proofs.Stacks.{IsSized, concat-IsSized}
 
 -- a type that is valid among some structs is so among more
 pub IsType-more : (d : Declarations) (k m : ℕ) → k ≤ m → (t : Ty) → IsTypeAmong d k t → IsTypeAmong d m t

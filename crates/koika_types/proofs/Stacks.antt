@@ -1,5 +1,5 @@
 -- Bit vectors one below the other.
-use Rattle.std.proofs.Common.{◌≡◌, ℕ, ◌+◌, ◌-◌, ◌*◌, ◌/◌, ◌%◌, ◌^◌, ◌<◌, ◌≤◌, List, [], ◌∷◌, ◌++◌, map, sum_by, refl, ap, ap₂, sym, subst, ◌∙◌, arith, add_assoc}
+use Rattle.std.proofs.Common.{◌≡◌, ℕ, ◌+◌, ◌-◌, ◌*◌, ◌/◌, ◌%◌, ◌^◌, ◌<◌, ◌≤◌, List, [], ◌∷◌, ◌++◌, sum_by, refl, ap, ap₂, sym, subst, ◌∙◌, arith, add_assoc}
 use Rattle.std.proofs.Math.Nat.{add-mul, div-add-mod, mul_assoc, mul_comm}
 use Rattle.std.proofs.lemmas.Nat.{mod-pow-add, mod_low, mul-add-lt, pow-add, shr_high, shr-shr}
 use Rattle.std.proofs.lemmas.List.Sums.{sum_by-cons}

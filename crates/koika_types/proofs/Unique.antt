@@ -1,8 +1,8 @@
 -- No two values of a valid type are packed into the same bits.
-use Rattle.std.proofs.Common.{◌≡◌, ℕ, ◌+◌, List, [], ◌∷◌, All, map, replicate, length, sum_by, Option, Some, None, Result, Ok, Err, IfOk, slice_get, refl, ap, ap₂, sym, subst, ◌∙◌}
+use Rattle.std.proofs.Common.{◌≡◌, List, [], ◌∷◌, All, map, replicate, Option, Some, None, Result, Ok, Err, IfOk, slice_get, refl, ap, ap₂, sym, subst, ◌∙◌}
 use Rattle.std.proofs.lemmas.List.Elements.{All-head, All-tail}
 use Rattle.kw_bits.specs.BitVector.{BitVector}
-use Rattle.koika_types.specs.Types.{IsTable, IsType, width}
+use Rattle.koika_types.specs.Types.{IsTable, IsType}
 use Rattle.koika_types.specs.Values.{IsOf, Pairwise, PartIsOf, field_types, packed, packed_part, stacked, stacked_up}
 use Rattle.koika_types.specs.declared.ty.Ty.{Ty}
 use Rattle.koika_types.specs.declared.ty.Ty.TheVariants as ty
@@ -14,7 +14,7 @@ use Rattle.koika_types.specs.declared.value.Value.TheFolds.{ind-Value, map-Value
 use Rattle.koika_types.specs.declared.value.Value.TheViews.{out-Value, roll-Value}
 use Rattle.koika_types.proofs.Layers.{of_Array, of_Bits, of_Enum, of_Struct, open-IsOf, packed-roll}
 use Rattle.koika_types.proofs.Parts.{sized}
-use Rattle.koika_types.proofs.Sizes.{packed-HasSize, parts_of_array, parts_of_struct, stacked-HasSize, stacked_up-HasSize}
+use Rattle.koika_types.proofs.Sizes.{packed-HasSize, parts_of_array, parts_of_struct, stacked-HasSize}
 use Rattle.koika_types.proofs.Stacks.{concat-parts}
 
 held : {X : Type 0} → Option X → X → X

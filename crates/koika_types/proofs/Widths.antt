@@ -1,5 +1,5 @@
 -- How wide the values of valid types are.
-use Rattle.std.proofs.Common.{◌≡◌, ℕ, ◌*◌, ◌<◌, ◌≤◌, List, [], map, get_or, length, subst, sym, arith}
+use Rattle.std.proofs.Common.{ℕ, ◌*◌, ◌<◌, ◌≤◌, [], length, subst, sym, arith}
 use Rattle.std.proofs.Math.Nat.{mul-le-mul}
 use Rattle.std.proofs.lemmas.List.{get_or-map}
 use Rattle.koika_types.specs.Types.{IsWidth, IsTable, IsTypeAmong, width}

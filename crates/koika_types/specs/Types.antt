@@ -1,7 +1,7 @@
 -- The types of the source language: which are valid in a table of declared enums and structs, and how wide their values
 -- are. They are the packed types of IEEE 1800-2017 (7.2.1, 7.4.1) with 1 to 128 bits: bit vectors, enums of a stated
 -- width, structs and arrays. A struct may name only structs that are declared before it.
-use Rattle.std.specs.Prelude.{◌≡◌, ℕ, ◌+◌, ◌*◌, ◌<◌, ◌≤◌, min, List, [], ◌∷◌, All, length, map, sum_by, slice_get, slice_index, Option, Some, None}
+use Rattle.std.specs.Prelude.{◌≡◌, ℕ, ◌*◌, ◌<◌, ◌≤◌, min, List, [], All, length, map, sum_by, slice_get, slice_index, Option, Some, None}
 use Rattle.kw_bits.specs.Laws as vector
 use Rattle.koika_types.specs.declared.ty.Ty.{Ty, Bits, Enum, Struct, Array'}
 use Rattle.koika_types.specs.declared.declarations.Member.{Member}

@@ -1,4 +1,4 @@
-use Rattle.std.proofs.Common.{◌≡◌, ◌+◌, ◌-◌, ◌*◌, ◌<◌, ◌≤◌, List, [], replicate, length, subst, sym, ap, ◌∙◌, arith}
+use Rattle.std.proofs.Common.{◌≡◌, ◌+◌, ◌-◌, ◌*◌, ◌<◌, List, [], replicate, length, subst, sym, ap, ◌∙◌, arith}
 use Rattle.kw_bits.proofs.OperatorLaws.{slice-HasWidth}
 use Rattle.kw_bits.specs.Laws.{HasWidth}
 use Rattle.koika_types.specs.Types.{IsType, total_width, width}

@@ -1,4 +1,4 @@
-use Rattle.std.proofs.Common.{ℕ, ◌≡◌, ◌+◌, ◌*◌}
+use Rattle.std.proofs.Common.{◌+◌, ◌*◌}
 use Rattle.koika_types.specs.declared.ty.Ty.TheVariants.{Struct}
 use Rattle.koika_types.proofs.Ranks.{rank}
 use Rattle.koika_types.proofs.PartsSoFar.{FieldsSoFar, ItemsSoFar}
