@@ -1,6 +1,7 @@
 ghost use Rattle.std.specs.Prelude.{◌≡◌, [], IfOk};
 
 mod designs;
+mod outside;
 
 use self::designs::{Source, Write, body, in_turn, plain, registers, rules};
 use crate::{Externs, Inputs, Row, alone, first_values, slow_cycle};
