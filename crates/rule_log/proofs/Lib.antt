@@ -1,0 +1,5 @@
+pub mod Bits
+pub mod Joins
+pub mod Logs
+pub mod Telling
+pub mod Walks
