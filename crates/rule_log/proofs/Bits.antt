@@ -1,5 +1,5 @@
 -- Bits of a byte of flags: those of what is shifted down or cut off, of one flag, and of two bytes together.
-use Rattle.std.proofs.Common.{◌≡◌, ◌⊎◌, ℕ, zero, suc, ◌+◌, ◌-◌, ◌*◌, ◌/◌, ◌%◌, ◌^◌, ◌<◌, ◌≤◌, Bool, true, false, bit_or, lit<, arith, refl, sym, ap, ◌∙◌, subst, inl, inr, eqb-true, eq-eqb, max}
+use Rattle.std.proofs.Common.{◌≡◌, ◌⊎◌, ℕ, zero, suc, ◌+◌, ◌-◌, ◌*◌, ◌/◌, ◌%◌, ◌^◌, ◌<◌, ◌≤◌, true, false, bit_or, lit<, arith, refl, sym, ap, ◌∙◌, inl, inr, eqb-true, eq-eqb, max}
 use Rattle.std.specs.Prelude.{◌==◌, ◌||◌, not}
 use Rattle.std.specs.Int.{bit_at}
 use Rattle.std.proofs.Math.Nat.{pow-le-pow_right}

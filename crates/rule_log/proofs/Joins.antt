@@ -1,14 +1,13 @@
 -- Logs that are joined register by register, and registers that a log is applied to one by one.
 use Rattle.std.proofs.Common.{◌≡◌, ◌≢◌, ◌⊎◌, ℕ, ◌+◌, ◌*◌, ◌<◌, ◌≤◌, Bool, true, false, List, length, refl, sym, ap, ap₂, ◌∙◌, inl, inr, eqb-true, arith}
-use Rattle.std.specs.Prelude.{◌==◌, ◌||◌, not, slice_index_or, slice_set, if◌then◌else◌}
+use Rattle.std.specs.Prelude.{◌==◌, ◌||◌, slice_index_or, slice_set, if◌then◌else◌}
 use Rattle.std.proofs.lemmas.Bool.{cases_Bool, false_from_ne_true, both_ways, not-false}
 use Rattle.std.proofs.lemmas.List.{get_or-set_same, get_or-set_other}
 use Rattle.kw_bits.specs.BitVector.{BitVector}
 use Rattle.typed_core.specs.Evaluation.{unit}
-use Rattle.typed_core.specs.Valid.{IsPort}
 use Rattle.typed_core.specs.declared.limits.TheConstants.{PORTS}
 use Rattle.rule_log.specs.Flags.{has, is_some}
-use Rattle.rule_log.specs.StandsFor.{JoinedAt, RegisterLog, SameAt, is_set, registers, written, written_below}
+use Rattle.rule_log.specs.StandsFor.{JoinedAt, RegisterLog, SameAt, is_set, written, written_below}
 use Rattle.rule_log.specs.Touched.{is_listed}
 use Rattle.rule_log.specs.declared.flags.PortFlags.{PortFlags}
 use Rattle.rule_log.proofs.Logs.{below_none, below_twice, no_flag, nothing_set}

@@ -1,8 +1,8 @@
 -- What a log's flags and values say of the lists that it stands for.
-use Rattle.std.proofs.Common.{◌≡◌, ◌≢◌, ◌⊎◌, ◌↔◌, ℕ, zero, suc, ◌+◌, ◌*◌, ◌<◌, ◌≤◌, Bool, true, false, List, [], ◌∷◌, ◌++◌, length, replicate, refl, sym, ap, ap₂, ◌∙◌, subst, inl, inr, eqb-true, eq-eqb, arith}
-use Rattle.std.specs.Prelude.{◌==◌, ◌&&◌, ◌||◌, not, slice_index_or, if◌then◌else◌}
+use Rattle.std.proofs.Common.{◌≡◌, ◌≢◌, ◌⊎◌, ◌↔◌, ℕ, zero, suc, ◌+◌, ◌*◌, ◌<◌, ◌≤◌, Bool, true, false, List, [], ◌∷◌, ◌++◌, length, replicate, refl, sym, ap, ap₂, ◌∙◌, inl, inr, eqb-true, eq-eqb, arith}
+use Rattle.std.specs.Prelude.{◌==◌, ◌&&◌, ◌||◌, slice_index_or, if◌then◌else◌}
 use Rattle.std.specs.List.{list_any}
-use Rattle.std.proofs.lemmas.Bool.{and_parts, and_from, and_left, cases_Bool, cases_eq, cases_lt, false_from_ne_true, both_ways}
+use Rattle.std.proofs.lemmas.Bool.{and_parts, cases_Bool, cases_eq, cases_lt, false_from_ne_true, both_ways}
 use Rattle.std.proofs.lemmas.List.{same_lists, get_or-replicate, get_or_past, length-replicate}
 use Rattle.kw_bits.specs.BitVector.{BitVector}
 use Rattle.typed_core.specs.Alone.{after, is_refused, seen}
@@ -16,7 +16,7 @@ use Rattle.rule_log.specs.Flags.{has, place}
 use Rattle.rule_log.specs.declared.flags.PortFlags.{PortFlags}
 use Rattle.rule_log.proofs.Bits.{clear_of_bit}
 use Rattle.std.proofs.lemmas.Nat.Bits.{bit_at-zero}
-use Rattle.rule_log.specs.StandsFor.{JoinedAt, RegisterLog, SameAt, StandsFor, WritesFollow, is_access, is_same_place, is_set, registers, written, written_below}
+use Rattle.rule_log.specs.StandsFor.{JoinedAt, RegisterLog, StandsFor, WritesFollow, is_access, is_same_place, is_set, registers, written, written_below}
 use Rattle.rule_log.proofs.Telling.{access_parts, after_at, length-after, no_reads, no_writes, own_access, refused_by_tests, seen_at_none, seen_more, tells_both, tells_none, tells_one, unrefused}
 
 -- ---- the value of the highest write

@@ -1,6 +1,6 @@
 -- Walks over the registers that a log has touched.
-use Rattle.std.proofs.Common.{◌≡◌, ◌≢◌, ◌⊎◌, ℕ, zero, suc, ◌+◌, ◌*◌, ◌<◌, ◌≤◌, Bool, true, false, List, [], ◌∷◌, ◌++◌, length, take, replicate, refl, sym, ap, ap₂, ◌∙◌, subst, inl, inr, eqb-true, eq-eqb, arith, add-zero, cond, sum_by, All}
-use Rattle.std.specs.Prelude.{◌==◌, ◌||◌, not, slice_index_or, slice_set, if◌then◌else◌}
+use Rattle.std.proofs.Common.{◌≡◌, ◌≢◌, ◌⊎◌, ℕ, ◌+◌, ◌*◌, ◌<◌, ◌≤◌, Bool, true, false, List, [], ◌∷◌, ◌++◌, length, take, refl, sym, ap, ◌∙◌, subst, inl, inr, eqb-true, eq-eqb, arith, add-zero, cond, sum_by, All}
+use Rattle.std.specs.Prelude.{◌==◌, ◌||◌, slice_index_or, slice_set, if◌then◌else◌}
 use Rattle.std.specs.List.{count_by, list_any}
 use Rattle.std.proofs.lemmas.Bool.{and_left, and_right, cases_Bool, cases_eq, ne_eqb, both_ways, or_cases, or_left, or_parts, or_right}
 use Rattle.std.proofs.lemmas.List.{get_or-set_same, get_or-set_other, length-set, length_push, take_all}
@@ -8,10 +8,9 @@ use Rattle.std.proofs.lemmas.List.Elements.{All-from_recursion, recursion_from_A
 use Rattle.std.proofs.lemmas.List.Sums.{count_by-le-length, sum_by-set}
 use Rattle.std.proofs.lemmas.List.Folds.{list_any-append, list_any_more}
 use Rattle.kw_bits.specs.BitVector.{BitVector}
-use Rattle.typed_core.specs.Evaluation.{unit}
 use Rattle.typed_core.specs.Valid.{IsPort}
 use Rattle.typed_core.specs.declared.limits.TheConstants.{PORTS}
-use Rattle.rule_log.specs.StandsFor.{JoinedAt, RegisterLog, SameAt, is_same_place, is_set, registers, written, written_below}
+use Rattle.rule_log.specs.StandsFor.{RegisterLog, is_same_place, is_set, written}
 use Rattle.rule_log.specs.Flags.{is_some}
 use Rattle.rule_log.specs.Touched.{IsSound, is_listed}
 use Rattle.rule_log.proofs.Telling.{all_append}

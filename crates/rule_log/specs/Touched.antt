@@ -1,5 +1,5 @@
 -- What the parts of a log keep to: the registers that have a flag are listed, and the list has room for every register.
-use Rattle.std.specs.Prelude.{◌≡◌, ℕ, ◌*◌, ◌<◌, ◌≤◌, Bool, true, ◌==◌, not, List, length, slice_index_or, All}
+use Rattle.std.specs.Prelude.{◌≡◌, ℕ, ◌*◌, ◌<◌, ◌≤◌, Bool, true, ◌==◌, List, length, slice_index_or, All}
 use Rattle.std.specs.List.{count_by, list_any}
 use Rattle.kw_bits.specs.BitVector.{BitVector}
 use Rattle.typed_core.specs.declared.limits.TheConstants.{PORTS, MAX_REGISTERS}

@@ -47,7 +47,8 @@ impl Model for Log {
 impl Log {
     /// The log of no access, with memory for every register of the design.
     pub fn new(alloc: Global, design: &Design) -> Result<Log, NoMemory>
-        ensures { IfOk result (λ log. StandsFor (register_widths design.now) log []) }
+        ensures stands { IfOk result (λ log. StandsFor (register_widths design.now) log []) }
+        ensures registers { IfOk result (λ log. registers log ≡ length design.now.regs) }
     {
         let registers = design.regs.len();
         Ok(Log {

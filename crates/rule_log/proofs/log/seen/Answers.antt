@@ -1,4 +1,4 @@
-use Rattle.std.proofs.Common.{◌≡◌, ◌<◌, ◌≤◌, ℕ, List, sym, ap, ◌∙◌, arith}
+use Rattle.std.proofs.Common.{ap, ◌∙◌, arith}
 use Rattle.kw_bits.specs.BitVector.{BitVector}
 use Rattle.typed_core.specs.Alone.{seen}
 use Rattle.rule_log.proofs.Logs.{below_is_seen}

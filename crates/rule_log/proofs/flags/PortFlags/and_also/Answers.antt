@@ -1,4 +1,4 @@
-use Rattle.std.proofs.Common.{◌≡◌, ◌==◌, ℕ, not, sym, true, Bool, ap, ◌∙◌}
+use Rattle.std.proofs.Common.{◌==◌, ℕ, not, ap, ◌∙◌}
 use Rattle.std.specs.Int.{bit_at}
 use Rattle.rule_log.specs.Flags.{place}
 use Rattle.rule_log.proofs.Bits.{flag_of_both, some_of_both}

@@ -1,4 +1,4 @@
-use Rattle.std.proofs.Common.{◌≡◌, ◌+◌, ◌%◌, ◌<◌, ◌≤◌, ◌^◌, ℕ, arith, sym, ◌∙◌}
+use Rattle.std.proofs.Common.{◌+◌, ◌%◌, ◌<◌, ◌^◌, arith, sym, ◌∙◌}
 use Rattle.rule_log.proofs.Bits.{bit_of_clear, bit_of_low, clear_of_bit, none_from, nothing_from, test_of_zero, zero_of_test}
 use Rattle.rule_log.proofs.flags.PortFlags.has_read_above.Goals as goal
 

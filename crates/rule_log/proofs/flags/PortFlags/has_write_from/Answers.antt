@@ -1,4 +1,4 @@
-use Rattle.std.proofs.Common.{◌≡◌, ◌+◌, ◌<◌, ◌≤◌, ◌^◌, ◌-◌, ℕ, arith, ap, sym, ◌∙◌}
+use Rattle.std.proofs.Common.{◌≡◌, ◌+◌, ◌<◌, ◌^◌, ◌-◌, ℕ, arith, ap, sym, ◌∙◌}
 use Rattle.std.specs.Int.{bit_at}
 use Rattle.rule_log.proofs.Bits.{bit_of_clear, clear_of_bit, none_from, nothing_from, test_of_zero, zero_of_test}
 use Rattle.rule_log.proofs.flags.PortFlags.has_write_from.Goals as goal

@@ -1,4 +1,4 @@
-use Rattle.std.proofs.Common.{◌≡◌, ◌≢◌, ◌+◌, ◌<◌, ◌≤◌, ℕ, true, List, length, ap, ◌∙◌, arith}
+use Rattle.std.proofs.Common.{◌≡◌, ℕ, true, List, length, ap, ◌∙◌, arith}
 use Rattle.std.specs.Prelude.{slice_index_or}
 use Rattle.std.proofs.lemmas.List.{length-set}
 use Rattle.typed_core.specs.Evaluation.{unit}
@@ -8,7 +8,7 @@ use Rattle.rule_log.specs.Touched.{is_listed}
 use Rattle.rule_log.specs.declared.flags.PortFlags.{PortFlags}
 use Rattle.rule_log.proofs.Joins.{AppliedAt, UnappliedAt, applied_all, apply_again, apply_elsewhere, apply_first}
 use Rattle.rule_log.proofs.Logs.{applied, no_flag}
-use Rattle.rule_log.proofs.Walks.{Walked, walked_all, walked_more}
+use Rattle.rule_log.proofs.Walks.{walked_all, walked_more}
 use Rattle.rule_log.proofs.log.Log.apply.Goals as goal
 
 pub loop-register-preserved : goal.loop-register-preserved

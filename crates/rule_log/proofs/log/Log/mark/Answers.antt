@@ -1,5 +1,5 @@
-use Rattle.std.proofs.Common.{◌≡◌, ◌==◌, ◌+◌, ◌<◌, ◌≤◌, ℕ, Bool, true, false, List, length, lit<, sym, ap, ◌∙◌, arith}
-use Rattle.std.specs.Prelude.{slice_index_or, not}
+use Rattle.std.proofs.Common.{◌≡◌, ◌==◌, ◌<◌, true, false, length, lit<, sym, ap, ◌∙◌, arith}
+use Rattle.std.specs.Prelude.{slice_index_or}
 use Rattle.std.proofs.lemmas.Bool.{not_from_true, not_from_false}
 use Rattle.std.proofs.lemmas.List.{get_or_read}
 use Rattle.rule_log.specs.Flags.{is_some}

@@ -1,7 +1,7 @@
-use Rattle.std.proofs.Common.{◌≡◌, ◌++◌, ℕ, Bool, true, false, List, [], ◌∷◌, length, refl, sym, ap, ◌∙◌, subst, arith}
+use Rattle.std.proofs.Common.{List, length, refl, sym, ap, ◌∙◌, subst}
 use Rattle.std.proofs.lemmas.Bool.{both_ways}
 use Rattle.rule_log.specs.declared.flags.PortFlags.{PortFlags}
-use Rattle.rule_log.specs.StandsFor.{RegisterLog, registers, written}
+use Rattle.rule_log.specs.StandsFor.{RegisterLog}
 use Rattle.rule_log.proofs.Logs.{Kept, noted_from, stands_noted}
 use Rattle.rule_log.proofs.log.Log.note.Goals as goal
 use Rattle.rule_log.proofs.log.Log.note.Goals.{then-write, else-write}

@@ -1,11 +1,9 @@
-use Rattle.std.proofs.Common.{◌≡◌, ◌+◌, ◌*◌, ◌<◌, ◌≤◌, ℕ, true, false, List, length, sym, ap, ◌∙◌, arith}
+use Rattle.std.proofs.Common.{◌≡◌, ◌<◌, ℕ, true, length, sym, ap, ◌∙◌, arith}
 use Rattle.std.specs.Prelude.{slice_index_or}
 use Rattle.std.proofs.lemmas.List.{get_or_read}
-use Rattle.kw_bits.specs.BitVector.{BitVector}
 use Rattle.typed_core.specs.Evaluation.{unit}
-use Rattle.typed_core.specs.declared.limits.TheConstants.{PORTS}
 use Rattle.rule_log.specs.Flags.{has}
-use Rattle.rule_log.specs.StandsFor.{RegisterLog, registers, written}
+use Rattle.rule_log.specs.StandsFor.{RegisterLog, registers}
 use Rattle.rule_log.specs.declared.flags.PortFlags.{PortFlags}
 use Rattle.rule_log.proofs.Logs.{below_none, below_top, no_flag}
 use Rattle.rule_log.proofs.log.Log.value_below.Goals as goal
