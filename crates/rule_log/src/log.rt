@@ -274,3 +274,6 @@ fn filled<T: Copy>(alloc: Global, item: T, count: usize) -> Result<Reserved<T>, 
     }
     Ok(list)
 }
+
+#[cfg(test)]
+mod tests;
