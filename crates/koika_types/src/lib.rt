@@ -15,7 +15,7 @@ mod validity;
 mod value;
 
 pub use declarations::{Declarations, EnumDecl, Field, Member, StructDecl};
-pub use lookup::field_place;
+pub use lookup::{field_place, item_place};
 pub use packing::pack;
 pub use table::{TypeTable, width_of};
 pub use ty::Ty;

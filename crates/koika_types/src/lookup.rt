@@ -1,10 +1,11 @@
-ghost use Rattle.std.specs.Prelude.{◌≡◌, ◌*◌, ◌+◌, ◌<◌, drop, length, position, slice_index, map};
+ghost use Rattle.std.specs.Prelude.{◌≡◌, ◌*◌, ◌+◌, ◌<◌, ◌≤◌, drop, length, position, slice_index, map};
 ghost use Rattle.std.specs.Str.{bytes_eq};
 ghost use Rattle.koika_types.specs.Types.{IsType, fields_of, total_width, width};
 ghost use Rattle.koika_types.specs.declared.ty.Ty.{Struct};
 
 use crate::declarations::{EnumDecl, StructDecl};
-use crate::table::{TypeTable, total_width as widths_of};
+use crate::table::{TypeTable, total_width as widths_of, width_of};
+use crate::ty::Ty;
 
 impl EnumDecl {
     /// The number of the first member with this name, if there is one.
@@ -38,4 +39,13 @@ pub fn field_place(types: &TypeTable, number: u32, field: usize) -> u32
 {
     let fields = types.structs()[number as usize].fields.as_slice();
     widths_of(types, &fields[field + 1..])
+}
+
+/// The lowest bit of an item of this type in the bits of an array that has it: those of the items before it are below.
+pub fn item_place(types: &TypeTable, item: &Ty, index: u32) -> u32
+    requires valid { IsType types.now item.now }
+    requires within { width types.now item.now * (index + 1) ≤ 128 }
+    ensures { result ≡ width types.now item.now * index }
+{
+    width_of(types, item) * index
 }

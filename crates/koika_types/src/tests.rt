@@ -1,6 +1,6 @@
 use crate::{
     EnumDecl, Field, Member, Ty, TypeTable, Value, field_place, have_valid_types, is_valid_enum,
-    pack, unpack, valid_width, width_of,
+    item_place, pack, unpack, valid_width, width_of,
 };
 use kw_bits::{Bits, Sequence, Text};
 use std::alloc::Global;
@@ -155,6 +155,7 @@ fn fields_by_name(rt: HostRuntime) -> Result<(), Fail> {
     assert_eq!(rt; place_of(&types, 0, b"lo"), Some(0));
     assert_eq!(rt; place_of(&types, 1, b"hi"), Some(1));
     assert_eq!(rt; place_of(&types, 1, b"x"), None);
+    assert_eq!(rt; item_place(&types, &Ty::Bits(4), 3), 12);
     Ok(())
 }
 
