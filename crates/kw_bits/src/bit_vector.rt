@@ -6,7 +6,8 @@ use std::marker::Model;
 /// A bit vector: a width from 1 to 128 and a number below 2 to that width.
 #[derive(Clone, Copy, Debug, PartialEq, Eq, Hash)]
 pub struct Bits {
-    width: u32,
+    // As wide as the number, since a copy takes fewer moves where no byte is padding.
+    width: u128,
     number: u128,
 }
 
@@ -35,7 +36,7 @@ impl Bits {
         if width == 0 || width > Bits::MAX_WIDTH || number > mask(width) {
             return None;
         }
-        Some(Bits { width, number })
+        Some(Bits::from_parts(width, number))
     }
 
     /// The bit vector of a width from 1 to 128 whose bits are all 0.
@@ -44,7 +45,7 @@ impl Bits {
         requires most { width ≤ 128 }
         ensures { result ≡ zero_at width }
     {
-        Bits { width, number: 0 }
+        Bits::from_parts(width, 0)
     }
 
     /// How many bits there are.
@@ -52,7 +53,7 @@ impl Bits {
         ensures width { result ≡ self.width }
         ensures bits { IsBitVector self.width self.number }
     {
-        self.width
+        self.width as u32
     }
 
     /// The bits as a number, bit 0 the lowest.
@@ -68,7 +69,10 @@ impl Bits {
         requires { IsBitVector width number }
         ensures { result ≡ record { width = width; number = number } }
     {
-        Bits { width, number }
+        Bits {
+            width: width as u128,
+            number,
+        }
     }
 
     /// The bit vector of a word's low bits, as many as the width.
@@ -78,7 +82,7 @@ impl Bits {
         ensures { result ≡ record { width = width; number = word % 2 ^ width } }
     {
         Bits {
-            width,
+            width: width as u128,
             number: word & mask(width),
         }
     }
@@ -90,5 +94,10 @@ pub(crate) fn mask(width: u32) -> u128
     requires most { width ≤ 128 }
     ensures { result + 1 ≡ 2 ^ width }
 {
-    u128::MAX >> (128 - width)
+    // A shift of one machine word costs a few instructions, one of two words a dozen.
+    if width <= 64 {
+        (u64::MAX >> (64 - width)) as u128
+    } else {
+        u128::MAX >> (128 - width)
+    }
 }

@@ -7,17 +7,17 @@
 #![tactic(auto)]
 
 mod bit_vector;
+mod equality;
 mod host;
 pub mod laws;
 mod memory;
 mod operators;
 mod reserved;
-mod same;
 mod sequence;
 
 pub use bit_vector::Bits;
+pub use equality::Same;
 pub use host::HostKind;
 pub use memory::NoMemory;
 pub use reserved::Reserved;
-pub use same::Same;
 pub use sequence::{Sequence, Text};

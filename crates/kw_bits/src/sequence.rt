@@ -4,8 +4,8 @@ ghost use Rattle.std.specs.Iterator.Runs.{EveryRun, ItemsMapTo};
 ghost use Rattle.std.specs.Option.{option_to_list};
 ghost use Rattle.std.specs.Slice.Iter.{iter_rest, iter_steps};
 
+use crate::equality::Same;
 use crate::memory::NoMemory;
-use crate::same::Same;
 use std::alloc::Global;
 use std::marker::Model;
 use std::ops::Index;

@@ -34,14 +34,14 @@ impl Same for HostKind {
 
 #[cfg(test)]
 mod tests {
-    use crate::{Bits, NoMemory, Sequence, Text};
+    use crate::{Bits, Sequence, Text};
     use std::test::Fail;
 
     fn crosses_threads<T: Send + Sync>(_: &T) {}
 
     #[test]
     fn equal_lists_are_the_same(rt: HostRuntime) -> Result<(), Fail> {
-        let one = Bits::new(1, 1).ok_or(NoMemory)?;
+        let one = Bits::new(1, 1).ok_or("no such bits")?;
         let low = Sequence::from_slice(rt.alloc(), &[one, one])?;
         let mut text: Text = Sequence::from_slice(rt.alloc(), b"ab")?;
         let same = Sequence::from_slice(rt.alloc(), b"ab")?;
