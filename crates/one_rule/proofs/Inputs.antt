@@ -10,13 +10,13 @@ use Rattle.std.proofs.lemmas.List.Elements.{All-contains}
 use Rattle.std.proofs.lemmas.Map.Views.{Contains-from_lookup}
 use Rattle.std.proofs.lemmas.List.{get_or-map, length-map, map_push, same_lists, take_more, length-take-le}
 use Rattle.std.proofs.lemmas.List.FromFn.{length-enumerate_from, get_or-enumerate_from}
-use Rattle.kw_bits.specs.BitVector.{BitVector}
+use Rattle.kw_bits.specs.BitVector.{BitVector, zero_at}
 use Rattle.typed_core.specs.Evaluation.{unit}
 use Rattle.kw_bits.specs.Laws.{HasWidth}
 use Rattle.typed_core.specs.Valid.{IsWidth}
 use Rattle.typed_core.specs.Widths.{HaveWidths}
 use Rattle.one_rule.specs.KeptLines.{AgreesWith, IsKeptLine}
-use Rattle.one_rule.specs.Stimulus.{Assignment, Assigns, inputs_by, value_by, zero_at}
+use Rattle.one_rule.specs.Stimulus.{Assignment, Assigns, inputs_by, value_by}
 use Rattle.one_rule.proofs.Lines.{value_at, value_by-sorted}
 
 pub length-inputs_by : (widths : List ℕ) (line : List Assignment) → length (inputs_by widths line) ≡ length widths

@@ -15,10 +15,10 @@ use Rattle.std.proofs.lemmas.Bool.{cases_lt}
 use Rattle.std.proofs.lemmas.List.Elements.{All-map, All-push, recursion_from_All}
 use Rattle.std.proofs.lemmas.List.Quantifiers.{all_pairs_push}
 use Rattle.std.proofs.lemmas.Map.Views.{lookup-from_Contains, Contains-from_lookup}
-use Rattle.kw_bits.specs.BitVector.{BitVector}
+use Rattle.kw_bits.specs.BitVector.{BitVector, zero_at}
 use Rattle.typed_core.specs.Evaluation.{unit}
 use Rattle.one_rule.specs.KeptLines.{IsAscending}
-use Rattle.one_rule.specs.Stimulus.{Assignment, Assigns, IsLine, value_by, zero_at}
+use Rattle.one_rule.specs.Stimulus.{Assignment, Assigns, IsLine, value_by}
 
 -- a line in order names no input twice
 pub IsDistinct-ascending : (line : List Assignment) → IsAscending line → IsDistinct nat_eq (keys_of line)

@@ -8,7 +8,7 @@ use Rattle.std.proofs.lemmas.List.Folds.{Any-from_list_any}
 use Rattle.std.proofs.lemmas.List.FromFn.{get_or-map-range_with_len, length-map-range_with_len}
 use Rattle.std.proofs.lemmas.List.Quantifiers.{all_pairs_push}
 use Rattle.kw_bits.specs.BitVector.{BitVector}
-use Rattle.typed_core.specs.Valid.{Continues, IsContinuation, IsNode, IsPath, TriesNoneTwice}
+use Rattle.typed_core.specs.Valid.{LeadsTo, IsContinuation, IsNode, IsPath, TriesNoneTwice}
 use Rattle.typed_core.specs.declared.design.Next.{Next}
 use Rattle.typed_core.specs.declared.design.Next.TheVariants as next
 use Rattle.typed_core.specs.declared.design.Node.{Node}
@@ -47,7 +47,7 @@ record Came (nodes : List Node) (past : List Fired) (at : Next) : Type 0 where
   on_path : All (OnPath nodes) past
   place : ComesAt nodes past at
 
-IsPath-push : (nodes : List Node) (from : ℕ) (path : List ℕ) (to : ℕ) → IsPath nodes from path → Continues nodes (slice_index_or (from ∷ path) (length path) 0) to → to < length nodes → IsPath nodes from (path ++ to ∷ [])
+IsPath-push : (nodes : List Node) (from : ℕ) (path : List ℕ) (to : ℕ) → IsPath nodes from path → LeadsTo nodes (slice_index_or (from ∷ path) (length path) 0) to → to < length nodes → IsPath nodes from (path ++ to ∷ [])
 IsPath-push nodes from [] to p c h = (c, h)
 IsPath-push nodes from (first ∷ path) to p c h = (p.0, IsPath-push nodes first path to p.1 c h)
 

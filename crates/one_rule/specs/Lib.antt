@@ -6,5 +6,6 @@ pub mod PortRun
 pub mod Externs
 pub mod Answers
 pub mod Laws
+pub mod Parts
 pub mod Stimulus
 pub mod KeptLines

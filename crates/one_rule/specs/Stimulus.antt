@@ -3,7 +3,7 @@
 use Rattle.std.specs.Prelude.{◌≡◌, ◌≢◌, ℕ, zero, suc, List, [], map, All, AllPairs, Some, slice_get, slice_index_or, nat_eq, unwrap_or}
 use Rattle.std.specs.List.{enumerate_from}
 use Rattle.std.specs.Map.{keys_of, lookup}
-use Rattle.kw_bits.specs.BitVector.{BitVector}
+use Rattle.kw_bits.specs.BitVector.{BitVector, zero_at}
 use Rattle.kw_bits.specs.Laws.{HasWidth}
 use Rattle.typed_core.specs.Widths.{HaveWidths, input_widths}
 use Rattle.typed_core.specs.declared.design.Parts.{Parts}
@@ -21,10 +21,6 @@ Assigns widths a = (width : ℕ) × (slice_get widths a.0 ≡ Some width) × Has
 pub record IsLine (widths : List ℕ) (line : List Assignment) : Type 0 where
   pub values : All (Assigns widths) line
   pub once : AllPairs (λ x y. x ≢ y) (keys_of line)
-
--- 0 at a width
-abbrev pub zero_at : ℕ → BitVector
-zero_at width = record { width = width; number = 0 }
 
 -- the value of an input of this width by a line: the one that it is assigned, or else 0
 abbrev pub value_by : List Assignment → ℕ → ℕ → BitVector

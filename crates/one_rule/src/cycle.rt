@@ -16,18 +16,23 @@ use kw_bits::{NoMemory, Sequence};
 use std::alloc::Global;
 use typed_core::{Access, Alone, Design, Event, Events, Next, Node, Outcome};
 
-// A rule that fired in a cycle, with the events of its run.
+/// A rule that fired in a cycle, with the events of its run.
 #[derive(Debug, Drop)]
-pub(crate) struct Fired {
-    pub(crate) rule: u32,
-    pub(crate) events: Events,
+pub struct Fired {
+    /// The rule's number.
+    pub rule: u32,
+    /// What it read and wrote, in order.
+    pub events: Events,
 }
 
-// What the rules that fired so far in a cycle left by running whole, and these rules in order.
+/// What the rules that fired so far in a cycle left by running whole, and these rules in order. The definition of a cycle
+/// walks over such states.
 #[derive(Debug, Drop)]
-pub(crate) struct State {
-    pub(crate) regs: Regs,
-    pub(crate) past: Sequence<Fired>,
+pub struct State {
+    /// The registers.
+    pub regs: Regs,
+    /// The rules that fired.
+    pub past: Sequence<Fired>,
 }
 
 /// The row that a cycle leaves: whole rules, one after another in scheduler order.

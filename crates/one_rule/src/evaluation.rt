@@ -8,6 +8,9 @@ ghost use Rattle.typed_core.specs.declared.outcome.Stopped.{Stopped};
 ghost use Rattle.typed_core.specs.declared.outcome.Stopped.TheVariants.{Abort};
 ghost use Rattle.one_rule.specs.Answers.{Answers, declarations_of, environment_of, value_of};
 
+mod part;
+
+use self::part::{End, Slot, run};
 use crate::rows::Inputs;
 use kw_bits::{Bits, NoMemory};
 use typed_core::{Action, Design, Scope, Stopped};
@@ -86,7 +89,6 @@ pub trait Ports {
 
 /// What an action comes to, with these values of the names that are bound round it: parts from left to right, a
 /// write's value before the write, and of an `If` one arm. It takes no memory itself.
-#[cycle(evaluate)]
 pub fn evaluate<E: Outside, P: Ports>(
     env: &Environment<E>,
     ports: &mut P,
@@ -104,91 +106,13 @@ pub fn evaluate<E: Outside, P: Ports>(
     ensures reading { P.reading ports.new ≡ P.reading ports.old }
     ensures widths { P.widths ports.new ≡ P.widths ports.old }
 {
-    match action {
-        Action::Unit => Ok(None),
-        Action::Const(value) => Ok(Some(*value)),
-        Action::Local(name) => Ok(locals.get(*name)),
-        Action::Input(input) => Ok(Some(*env.inputs.get(*input as usize))),
-        Action::One(operator, a) => {
-            let x = operand(env, ports, a, locals)?;
-            Ok(Some(operator.apply(x)))
-        }
-        Action::Two(operator, a, b) => {
-            let x = operand(env, ports, a, locals)?;
-            let y = operand(env, ports, b, locals)?;
-            Ok(Some(operator.apply(x, y)))
-        }
-        Action::Slice(a, upper, lower) => {
-            let x = operand(env, ports, a, locals)?;
-            Ok(Some(x.slice(*upper, *lower)))
-        }
-        Action::Zext(a, width) => {
-            let x = operand(env, ports, a, locals)?;
-            Ok(Some(x.zext(*width)))
-        }
-        Action::Sext(a, width) => {
-            let x = operand(env, ports, a, locals)?;
-            Ok(Some(x.sext(*width)))
-        }
-        Action::Table(table, a) => {
-            let x = operand(env, ports, a, locals)?;
-            Ok(Some(env.externs.look(*table, x)))
-        }
-        Action::Host(host, a) => {
-            let x = operand(env, ports, a, locals)?;
-            Ok(Some(env.externs.ask(*host, x)))
-        }
-        Action::Let(value, body) => {
-            let x = operand(env, ports, value, locals)?;
-            let inner = Scope::bind(x, &*locals);
-            evaluate(env, ports, body, &inner)
-        }
-        Action::If(condition, first, second) => {
-            let x = operand(env, ports, condition, locals)?;
-            if x.number() == 0 {
-                evaluate(env, ports, second, locals)
-            } else {
-                evaluate(env, ports, first, locals)
-            }
-        }
-        Action::Seq(first, second) => {
-            let _dropped = evaluate(env, ports, first, locals)?;
-            evaluate(env, ports, second, locals)
-        }
-        Action::Read(port, register) => {
-            let value = ports.read(*port, *register)?;
-            Ok(Some(value))
-        }
-        Action::Write(port, register, a) => {
-            let value = operand(env, ports, a, locals)?;
-            ports.write(*port, *register, value)?;
-            Ok(None)
-        }
-        Action::Abort => Err(Interrupt::Stop(Stopped::Abort)),
-    }
-}
-
-// The value of an action that comes to one.
-#[cycle(evaluate)]
-fn operand<E: Outside, P: Ports>(
-    env: &Environment<E>,
-    ports: &mut P,
-    action: &Action,
-    locals: &Scope<Bits>,
-) -> Result<Bits, Interrupt>
-    requires fits { EnvironmentFits (declarations_of env.now) (environment_of E.kept env.now) }
-    requires registers { P.widths ports.old ≡ (declarations_of env.now).regs }
-    requires reading { PortsFit (P.widths ports.old) (P.reading ports.old) }
-    requires abort { (P.reading ports.old).abort ≡ Abort }
-    requires ready { CanBeOperand (declarations_of env.now) action.now locals.now }
-    requires events { (events : List Event) × P.stands_for ports.old events × EventsFit (P.widths ports.old) events }
-    ensures answers { (events : List Event) → P.stands_for ports.old events
-        → Answers (λ (value : BitVector). value) (P.stands_for ports.new) result (core.evaluate (environment_of E.kept env.now) (P.reading ports.old) action.now locals.now events) }
-    ensures reading { P.reading ports.new ≡ P.reading ports.old }
-    ensures widths { P.widths ports.new ≡ P.widths ports.old }
-{
-    match evaluate(env, ports, action, locals)? {
-        Some(value) => Ok(value),
-        None => unreachable!(),
+    let mut slot = Slot {
+        value: Bits::zero(1),
+        interrupt: Interrupt::NoMemory,
+    };
+    match run(env, ports, action, locals, &mut slot) {
+        End::Unit => Ok(None),
+        End::Value => Ok(Some(slot.value)),
+        End::Interrupt => Err(slot.interrupt),
     }
 }

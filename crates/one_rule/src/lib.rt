@@ -15,7 +15,7 @@ mod stimulus;
 #[cfg(test)]
 mod tests;
 
-pub use cycle::slow_cycle;
+pub use cycle::{Fired, State, slow_cycle};
 pub use evaluation::{Environment, Interrupt, Outside, Ports, evaluate};
 pub use externs::Externs;
 pub use laws::{

@@ -151,13 +151,13 @@ abbrev pub AreNodes : ℕ → List Node → Type 0
 AreNodes rules nodes = (number : ℕ) (node : Node) → slice_get nodes number ≡ Some node → IsNode rules (length nodes) number node
 
 -- the second node is a continuation of the first
-abbrev pub Continues : List Node → ℕ → ℕ → Type 0
-Continues nodes from to = (node : Node) × (slice_get nodes from ≡ Some node) × ((node.yes ≡ next.Node to) ⊎ (node.no ≡ next.Node to))
+abbrev pub LeadsTo : List Node → ℕ → ℕ → Type 0
+LeadsTo nodes from to = (node : Node) × (slice_get nodes from ≡ Some node) × ((node.yes ≡ next.Node to) ⊎ (node.no ≡ next.Node to))
 
 -- the scheduler may go along these nodes
 abbrev pub IsPath : List Node → ℕ → List ℕ → Type 0
 IsPath nodes from [] = from < length nodes
-IsPath nodes from (to ∷ path) = Continues nodes from to × IsPath nodes to path
+IsPath nodes from (to ∷ path) = LeadsTo nodes from to × IsPath nodes to path
 
 -- two nodes that don't try the same rule
 abbrev pub TryOthers : List Node → ℕ → ℕ → Type 0

@@ -2,7 +2,7 @@
 ghost use Rattle.std.specs.Prelude.{◌≡◌, All, IsTrue, ◌↔◌, IfOk};
 ghost use Rattle.typed_core.specs.Valid.{IsWidth};
 ghost use Rattle.one_rule.specs.KeptLines.{AgreesWith, IsAscending};
-ghost use Rattle.one_rule.specs.Stimulus.{inputs_by, value_by, zero_at};
+ghost use Rattle.one_rule.specs.Stimulus.{inputs_by, value_by};
 
 use crate::rows::Inputs;
 use kw_bits::{Bits, NoMemory};
@@ -16,15 +16,8 @@ fn value_by(line: &[(u32, Bits)], input: usize, width: u32) -> Bits
 {
     match line.binary_search_by_key(&input, |assignment| assignment.0 as usize) {
         Ok(at) => line[at].1,
-        Err(_) => zero(width),
+        Err(_) => Bits::zero(width),
     }
-}
-
-fn zero(width: u32) -> Bits
-    requires { IsWidth width }
-    ensures { result ≡ zero_at width }
-{
-    Bits::new(width, 0).unwrap()
 }
 
 // The values of all inputs by a line.
