@@ -16,7 +16,8 @@ use Rattle.rule_log.specs.Flags.{has, place}
 use Rattle.rule_log.specs.declared.flags.PortFlags.{PortFlags}
 use Rattle.rule_log.proofs.Bits.{clear_of_bit}
 use Rattle.std.proofs.lemmas.Nat.Bits.{bit_at-zero}
-use Rattle.rule_log.specs.StandsFor.{JoinedAt, RegisterLog, StandsFor, WritesFollow, is_access, is_same_place, is_set, registers, written, written_below}
+use Rattle.rule_log.specs.OneRegister.{JoinedAt, is_same_place, written_below}
+use Rattle.rule_log.specs.StandsFor.{RegisterLog, StandsFor, WritesFollow, is_access, is_set, registers, written}
 use Rattle.rule_log.proofs.Telling.{access_parts, after_at, length-after, no_reads, no_writes, own_access, refused_by_tests, seen_at_none, seen_more, tells_both, tells_none, tells_one, unrefused}
 
 -- ---- the value of the highest write

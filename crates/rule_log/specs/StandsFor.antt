@@ -1,7 +1,7 @@
 -- Which lists of events a log stands for. A log is what the logs of Kôika's semantics (Bourgeat et al., PLDI 2020) are
 -- in a simulator: for each register, which of its ports were read and written, and with what values. It doesn't keep
 -- in which order registers were read and written, nor how often, nor the values that were read.
-use Rattle.std.specs.Prelude.{◌≡◌, ℕ, zero, suc, ◌+◌, ◌*◌, ◌<◌, Bool, true, false, ◌==◌, ◌&&◌, ◌||◌, not, List, [], ◌∷◌, length, slice_index_or, if◌then◌else◌}
+use Rattle.std.specs.Prelude.{◌≡◌, ℕ, ◌+◌, ◌*◌, ◌<◌, Bool, true, false, ◌==◌, ◌&&◌, not, List, [], ◌∷◌, length, slice_index_or}
 use Rattle.std.specs.List.{AllByRecursion, list_any}
 use Rattle.kw_bits.specs.BitVector.{BitVector}
 use Rattle.typed_core.specs.Alone.{is_refused}
@@ -64,23 +64,3 @@ pub record StandsFor (widths : List ℕ) (log : RegisterLog) (events : List Even
 -- no write among the later events is refused by the earlier ones
 abbrev pub WritesFollow : List Event → List Event → Type 0
 WritesFollow earlier later = AllByRecursion (λ (e : Event). e.access.write ≡ true → is_refused earlier e.access ≡ false) later
-
--- the value of the write at the highest port below this one, or else the start value
-abbrev pub written_below : RegisterLog → ℕ → ℕ → BitVector → BitVector
-written_below log zero register start = start
-written_below log (suc port) register start =
-    if is_set log true port register then written log port register else written_below log port register start
-
--- one port of one register
-abbrev pub is_same_place : ℕ → ℕ → ℕ → ℕ → Bool
-is_same_place port register at other = (port == at) && (register == other)
-
--- at this register, the log has what the two others have, and where both have a write at a port, the second's value
-pub record JoinedAt (first second both : RegisterLog) (register : ℕ) : Type 0 where
-  pub flags : (write : Bool) (port : ℕ) → IsPort port → is_set both write port register ≡ (is_set first write port register || is_set second write port register)
-  pub values : (port : ℕ) → IsPort port → written both port register ≡ (if is_set second true port register then written second port register else written first port register)
-
--- at this register, the logs are the same
-pub record SameAt (old new : RegisterLog) (register : ℕ) : Type 0 where
-  pub flags : (write : Bool) (port : ℕ) → IsPort port → is_set new write port register ≡ is_set old write port register
-  pub values : (port : ℕ) → IsPort port → written new port register ≡ written old port register

@@ -10,7 +10,8 @@ ghost use Rattle.typed_core.specs.declared.access.Access.{Access};
 ghost use Rattle.typed_core.specs.declared.access.Event.{Event};
 ghost use Rattle.typed_core.specs.declared.limits.TheConstants.{PORTS};
 ghost use Rattle.rule_log.specs.Flags.{has};
-ghost use Rattle.rule_log.specs.StandsFor.{JoinedAt, RegisterLog, SameAt, StandsFor, WritesFollow, is_same_place, is_set, registers, written, written_below};
+ghost use Rattle.rule_log.specs.OneRegister.{JoinedAt, SameAt, is_same_place, written_below};
+ghost use Rattle.rule_log.specs.StandsFor.{RegisterLog, StandsFor, WritesFollow, is_set, registers, written};
 ghost use Rattle.rule_log.specs.declared.flags.PortFlags.{PortFlags};
 
 use crate::flags::PortFlags;
@@ -150,10 +151,23 @@ impl Log {
         ensures elsewhere { (other : ℕ) → other ≢ register → SameAt self.old self.new other }
         ensures registers { registers self.new ≡ registers self.old }
     {
-        for port in 0..PORTS {
-            self.join_value(rule, port, register);
-        }
+        self.join_values(rule, register);
         self.mark(register, rule.flags[register]);
+    }
+
+    // Takes the values of a rule log's writes of a register.
+    fn join_values(&mut self, rule: &Log, register: usize)
+        requires within { register < registers self.old }
+        requires registers { registers rule.now ≡ registers self.old }
+        ensures flags { self.new.flags ≡ self.old.flags }
+        ensures here { (port : ℕ) → IsPort port → written self.new port register ≡ (if is_set rule.now true port register then written rule.now port register else written self.old port register) }
+        ensures elsewhere { (port other : ℕ) → IsPort port → other ≢ register → written self.new port other ≡ written self.old port other }
+    {
+        if rule.flags[register].has_write_from(0) {
+            for port in 0..PORTS {
+                self.join_value(rule, port, register);
+            }
+        }
     }
 
     // Takes the value of a rule log's write at a port of a register.

@@ -1,7 +1,8 @@
 use Rattle.std.proofs.Common.{◌≡◌, ℕ, true, List, ap, ◌∙◌, arith}
 use Rattle.std.specs.Prelude.{slice_index_or}
 use Rattle.rule_log.specs.Flags.{is_some}
-use Rattle.rule_log.specs.StandsFor.{JoinedAt, RegisterLog, SameAt}
+use Rattle.rule_log.specs.OneRegister.{JoinedAt, SameAt}
+use Rattle.rule_log.specs.StandsFor.{RegisterLog}
 use Rattle.rule_log.specs.Touched.{is_listed}
 use Rattle.rule_log.specs.declared.flags.PortFlags.{PortFlags}
 use Rattle.rule_log.proofs.Joins.{join_again, join_first, join_kept, joined_all, same_kept}
