@@ -1,0 +1,3 @@
+pub mod ByLog
+pub mod Runs
+pub mod Steps

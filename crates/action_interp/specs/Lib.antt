@@ -1,0 +1,2 @@
+pub mod ByLog
+pub mod Runs

@@ -1,0 +1,14 @@
+use Rattle.std.proofs.Common.{◌≡◌, drop}
+use Rattle.one_rule.specs.PortRun.{PortState, port_fire}
+use Rattle.one_rule.specs.Walk.{walk_from, walk_past}
+use Rattle.plain_run.specs.Walking.{IsEmpty, Stands, begin}
+use Rattle.plain_run.proofs.walk.walk.Given as goal
+
+-- the walk past the nodes that are left ends where the whole one does
+abbrev pub invariant-loop-number : goal.invariant-loop-number
+invariant-loop-number g l =
+    record {
+      stands : (state : PortState) × Stands l.design l.walking state
+          × (walk_past (port_fire l.design l.inputs l.regs) l.number (drop l.number l.nodes) (record { state = state; at = l.walking.at }) ≡ walk_from (port_fire l.design l.inputs l.regs) l.nodes begin);
+      log : IsEmpty l.design l.log;
+    }
