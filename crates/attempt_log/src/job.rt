@@ -1,0 +1,62 @@
+ghost use Rattle.std.specs.Prelude.{◌≡◌, ◌<◌, ℕ, IfOk, length};
+ghost use Rattle.std.specs.Arc.{arc_value};
+ghost use Rattle.one_rule.specs.Cycle.{system_of};
+ghost use Rattle.one_rule.specs.Externs.{kept};
+ghost use Rattle.attempt_log.specs.Attempt.{FitDesign};
+
+use crate::traced::Attempt;
+use kw_bits::{NoMemory, Sequence};
+use one_rule::{Externs, Inputs, Regs, alone};
+use std::alloc::Global;
+use std::sync::Arc;
+use typed_core::Design;
+
+/// A rule to run alone in a cycle, on registers that are a guess.
+#[derive(Drop)]
+pub struct Job {
+    pub design: Arc<Design>,
+    pub externs: Arc<Externs>,
+    pub cycle: u32,
+    pub rule: u32,
+    pub inputs: Inputs,
+    pub regs: Regs,
+}
+
+/// What a board answers to a worker that asks for work.
+#[derive(Drop)]
+pub enum JobAnswer {
+    Job(Job),
+    /// There is nothing to do now.
+    Idle,
+    /// The last cycle is closed.
+    Finished,
+}
+
+/// The attempt that does the job: its rule runs alone on its registers.
+pub fn attempt(alloc: Global, job: &Job) -> Result<Attempt, NoMemory>
+    requires { FitDesign (arc_value job.now.design) (kept (arc_value job.now.externs)) job.now.rule job.now.inputs job.now.regs }
+    ensures { let design = arc_value job.now.design in
+        IfOk result (λ a. a ≡ record {
+          design = design;
+          cycle = job.now.cycle;
+          rule = job.now.rule;
+          inputs = job.now.inputs;
+          run = (system_of design).alone job.now.rule job.now.inputs job.now.regs;
+        }) }
+{
+    let run = alone(
+        alloc,
+        &job.design,
+        &job.externs,
+        job.rule,
+        &job.inputs,
+        &job.regs,
+    )?;
+    Ok(Attempt {
+        design: Arc::try_clone(&job.design)?,
+        cycle: job.cycle,
+        rule: job.rule,
+        inputs: Sequence::from_slice(alloc, job.inputs.as_slice())?,
+        run,
+    })
+}

@@ -1,0 +1,190 @@
+ghost use Rattle.std.specs.Prelude.{◌≡◌, ◌<◌, ◌↔◌, ℕ, IfOk, IsTrue, List, length, slice_get};
+ghost use Rattle.kw_bits.specs.BitVector.{BitVector};
+ghost use Rattle.typed_core.specs.Alone.{is_refused, outcome_of};
+ghost use Rattle.typed_core.specs.Evaluation.{Progress};
+ghost use Rattle.typed_core.specs.Fits.{EventsFit};
+ghost use Rattle.typed_core.specs.Valid.{externs_of};
+ghost use Rattle.typed_core.specs.Widths.{HaveWidths, input_widths, register_widths};
+ghost use Rattle.typed_core.specs.declared.access.Event.{Event};
+ghost use Rattle.typed_core.specs.declared.outcome.Stopped.{Stopped};
+ghost use Rattle.one_rule.specs.Answers.{Answers, value_of};
+ghost use Rattle.one_rule.specs.Cycle.{environment};
+ghost use Rattle.one_rule.specs.Externs.{kept};
+ghost use Rattle.attempt_log.specs.Trace.{IsTrace, ReadFits, ReadsFit, is_read, listed, retrace, trace_ports};
+
+use kw_bits::{Bits, NoMemory};
+use one_rule::{Environment, Externs, Inputs, Interrupt, Ports, evaluate};
+use std::alloc::Global;
+use typed_core::{Access, Alone, Design, Event, Events, Outcome, Scope, Stopped};
+
+/// Whether these are the events and the outcome that the rule gives where the events answer its reads.
+pub(crate) fn is_trace(
+    alloc: Global,
+    design: &Design,
+    externs: &Externs,
+    rule: u32,
+    inputs: &Inputs,
+    run: &Alone,
+) -> Result<bool, NoMemory>
+    requires externs { kept externs.now ≡ externs_of design.now }
+    requires rule { rule < length design.now.rules }
+    requires inputs { HaveWidths (input_widths design.now) inputs.now }
+    ensures trace { IfOk result (λ is. IsTrue is ↔ IsTrace design.now rule inputs.now run.now) }
+    ensures fits { IfOk result (λ is. IsTrue is → EventsFit (register_widths design.now) run.now.events) }
+{
+    if !do_reads_fit(design, &run.events) {
+        return Ok(false);
+    }
+    let given = retrace(alloc, design, externs, rule, inputs, &run.events)?;
+    Ok(are_same(&given.events, &run.events) && given.outcome == run.outcome)
+}
+
+// Whether each value that was read has its register's width.
+fn do_reads_fit(design: &Design, events: &Events) -> bool
+    ensures { IsTrue result ↔ ReadsFit (register_widths design.now) events.now }
+{
+    events
+        .as_slice()
+        .iter()
+        .all(|event| does_read_fit(design, event))
+}
+
+fn does_read_fit(design: &Design, event: &Event) -> bool
+    ensures { IsTrue result ↔ ReadFits (register_widths design.now) event.now }
+{
+    let Access {
+        write,
+        register,
+        ..
+    } = event.access;
+    if write {
+        return true;
+    }
+    match design.regs.as_slice().get(register as usize) {
+        Some(decl) => event.value.width() == decl.width,
+        None => false,
+    }
+}
+
+fn are_same(events: &Events, others: &Events) -> bool
+    ensures { IsTrue result ↔ (events.now ≡ others.now) }
+{
+    events == others
+}
+
+// What the rule gives where these events answer its reads.
+fn retrace(
+    alloc: Global,
+    design: &Design,
+    externs: &Externs,
+    rule: u32,
+    inputs: &Inputs,
+    trace: &Events,
+) -> Result<Alone, NoMemory>
+    requires externs { kept externs.now ≡ externs_of design.now }
+    requires rule { rule < length design.now.rules }
+    requires inputs { HaveWidths (input_widths design.now) inputs.now }
+    requires reads { ReadsFit (register_widths design.now) trace.now }
+    ensures fits { IfOk result (λ run. EventsFit (register_widths design.now) run.events) }
+    ensures run { IfOk result (λ run. run ≡ retrace (environment design.now inputs.now) (register_widths design.now) trace.now (slice_get design.now.rules rule)) }
+{
+    let env = Environment {
+        design,
+        externs,
+        inputs,
+    };
+    let mut ports = TracePorts {
+        design,
+        trace,
+        events: Events::new(alloc),
+    };
+    let body = &design.rules.get(rule as usize).body;
+    let end = evaluate(&env, &mut ports, body, &Scope::empty());
+    let outcome = outcome_of(end)?;
+    Ok(Alone {
+        events: ports.events,
+        outcome,
+    })
+}
+
+// How a rule ends whose reads a list answers.
+fn outcome_of(end: Result<Option<Bits>, Interrupt>) -> Result<Outcome, NoMemory>
+    ensures { (events : List Event) (progress : Progress BitVector Stopped) → Answers value_of (λ (noted : List Event). events ≡ noted) end progress
+        → IfOk result (λ outcome. (events ≡ progress.events) × (outcome ≡ outcome_of progress.ending)) }
+{
+    match end {
+        Ok(_) => Ok(Outcome::Done),
+        Err(Interrupt::Stop(Stopped::Abort)) => Ok(Outcome::Abort),
+        Err(Interrupt::Stop(Stopped::Refused(access))) => Ok(Outcome::OwnClash(access)),
+        Err(Interrupt::NoMemory) => Err(NoMemory),
+    }
+}
+
+// The ports of a rule whose reads a list of events answers: the list, and the rule's own events so far.
+#[derive(Drop)]
+struct TracePorts<'a> {
+    design: &'a Design,
+    trace: &'a Events,
+    events: Events,
+}
+
+impl Ports for TracePorts<'_> {
+    ghost stands_for = { λ ports events. ports.events ≡ events };
+
+    ghost reading = { λ ports. trace_ports (register_widths ports.design.now) ports.trace.now };
+
+    ghost widths = { λ ports. register_widths ports.design.now };
+
+    // A read comes to what is listed for it.
+    fn read(&mut self, port: u32, register: u32) -> Result<Bits, Interrupt> {
+        let value = listed(self.design, port, register, self.trace, self.events.len());
+        let access = Access {
+            write: false,
+            port,
+            register,
+        };
+        self.events.push(Event { access, value })?;
+        Ok(value)
+    }
+
+    // A write that the rule's own events refuse isn't noted.
+    fn write(&mut self, port: u32, register: u32, value: Bits) -> Result<(), Interrupt> {
+        let access = Access {
+            write: true,
+            port,
+            register,
+        };
+        if is_refused(&self.events, &access) {
+            return Err(Interrupt::Stop(Stopped::Refused(access)));
+        }
+        self.events.push(Event { access, value })?;
+        Ok(())
+    }
+}
+
+// What a read comes to whose event has this place in the list.
+fn listed(design: &Design, port: u32, register: u32, trace: &Events, place: usize) -> Bits
+    requires { register < length design.now.regs }
+    ensures { result ≡ listed (register_widths design.now) port register (slice_get trace.now place) }
+{
+    match trace.as_slice().get(place) {
+        Some(event) if is_read(port, register, event) => event.value,
+        _ => Bits::zero(design.regs.get(register as usize).width),
+    }
+}
+
+fn is_read(port: u32, register: u32, event: &Event) -> bool
+    ensures { result ≡ is_read port register event.now }
+{
+    let access = &event.access;
+    !access.write && access.port == port && access.register == register
+}
+
+fn is_refused(events: &Events, access: &Access) -> bool
+    ensures { result ≡ is_refused events.now access.now }
+{
+    events
+        .as_slice()
+        .iter()
+        .any(|event| access.clashes_after(&event.access))
+}

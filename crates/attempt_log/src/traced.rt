@@ -1,0 +1,125 @@
+ghost use Rattle.std.specs.Prelude.{◌≡◌, ◌<◌, ◌↔◌, ℕ, IfOk, IfSome, IsSome, length};
+ghost use Rattle.std.specs.Arc.{arc_value};
+ghost use Rattle.typed_core.specs.Fits.{EventsFit};
+ghost use Rattle.typed_core.specs.Valid.{externs_of};
+ghost use Rattle.typed_core.specs.Widths.{HaveWidths, input_widths, register_widths};
+ghost use Rattle.one_rule.specs.Externs.{kept};
+ghost use Rattle.attempt_log.specs.Trace.{IsTrace};
+
+use crate::retrace::is_trace;
+use kw_bits::NoMemory;
+use one_rule::{Externs, Inputs};
+use std::alloc::Global;
+use std::marker::Model;
+use std::sync::Arc;
+use typed_core::{Alone, Design, Events, Outcome};
+
+/// What a rule gave in a cycle on some registers. It is a trace of the rule, whoever made it.
+#[derive(Drop)]
+pub struct Attempt {
+    pub(crate) design: Arc<Design>,
+    pub(crate) cycle: u32,
+    pub(crate) rule: u32,
+    pub(crate) inputs: Inputs,
+    pub(crate) run: Alone,
+}
+
+impl Model for Attempt {
+    ghost use Rattle.std.specs.Arc.{arc_value};
+    ghost use Rattle.std.specs.Coded.{codes};
+    ghost use Rattle.typed_core.specs.contracts.action.Action as action;
+    ghost use Rattle.attempt_log.specs.Attempt.{Attempted, IsAttempt};
+
+    ghost Value = { Attempted };
+
+    ghost coded = { Prim.hlevel (codes, action.the_row.coded) };
+
+    ghost view = { λ a. record { design = arc_value a.design; cycle = a.cycle; rule = a.rule; inputs = a.inputs; run = a.run } };
+
+    ghost invariant = { λ a. IsAttempt (record { design = arc_value a.design; cycle = a.cycle; rule = a.rule; inputs = a.inputs; run = a.run }) };
+}
+
+impl Attempt {
+    /// The attempt of these events and this outcome, if they are a trace of the rule.
+    pub fn of_trace(
+        alloc: Global,
+        design: Arc<Design>,
+        externs: &Externs,
+        cycle: u32,
+        rule: u32,
+        inputs: Inputs,
+        events: Events,
+        outcome: Outcome,
+    ) -> Result<Option<Attempt>, NoMemory>
+        requires externs { kept externs.now ≡ externs_of (arc_value design) }
+        requires rule { rule < length (arc_value design).rules }
+        requires inputs { HaveWidths (input_widths (arc_value design)) inputs }
+        ensures some { IfOk result (λ made. IsSome made ↔ IsTrace (arc_value design) rule inputs (record { events = events; outcome = outcome })) }
+        ensures attempt { IfOk result (λ made. IfSome made (λ a. a ≡ record {
+          design = arc_value design;
+          cycle = cycle;
+          rule = rule;
+          inputs = inputs;
+          run = record { events = events; outcome = outcome };
+        })) }
+    {
+        let run = Alone { events, outcome };
+        if is_trace(alloc, &design, externs, rule, &inputs, &run)? {
+            Ok(Some(Attempt {
+                design,
+                cycle,
+                rule,
+                inputs,
+                run,
+            }))
+        } else {
+            Ok(None)
+        }
+    }
+
+    /// The design that its rule is of.
+    pub fn design(&self) -> &Design
+        ensures { result.now ≡ self.now.design }
+    {
+        &self.design
+    }
+
+    /// The cycle that it is for.
+    pub fn cycle(&self) -> u32
+        ensures { result ≡ self.now.cycle }
+    {
+        self.cycle
+    }
+
+    /// The number of its rule.
+    pub fn rule(&self) -> u32
+        ensures rule { result ≡ self.now.rule }
+        ensures within { result < length self.now.design.rules }
+    {
+        self.rule
+    }
+
+    /// The inputs that it was made on.
+    pub fn inputs(&self) -> &Inputs
+        ensures inputs { result.now ≡ self.now.inputs }
+        ensures fit { HaveWidths (input_widths self.now.design) result.now }
+    {
+        &self.inputs
+    }
+
+    /// What it read and wrote, in order: with its outcome, a trace of its rule.
+    pub fn events(&self) -> &Events
+        ensures events { result.now ≡ self.now.run.events }
+        ensures trace { IsTrace self.now.design self.now.rule self.now.inputs self.now.run }
+        ensures fit { EventsFit (register_widths self.now.design) result.now }
+    {
+        &self.run.events
+    }
+
+    /// How its rule ended.
+    pub fn outcome(&self) -> &Outcome
+        ensures { result.now ≡ self.now.run.outcome }
+    {
+        &self.run.outcome
+    }
+}
