@@ -2,7 +2,7 @@
 use Rattle.std.proofs.Common.{◌≡◌, ℕ, zero, suc, ◌+◌, Bool, true, false, not, cond, ◌&&◌, ◌||◌, List, [], ◌∷◌, ◌++◌, length, take, drop, Option, None, Some, Ok, refl, sym, ap, subst, arith}
 use Rattle.std.specs.List.{before_first, filter, list_all, onto_first, prefix_len, slice_split}
 use Rattle.std.specs.Option.{option_to_list}
-use Rattle.btor2_text.specs.Cut.{is_blank, begins_comment, ends_line, has_bytes, lines_of, words_of, tokens_of}
+use Rattle.btor2_text.specs.Cut.{is_blank, begins_comment, ends_line, has_bytes, lines_of, number_after, words_of, tokens_of}
 use Rattle.btor2_text.specs.Forms.{keyword_text, kinds_of}
 use Rattle.btor2_text.specs.Lines.{IsArgument, BeginWithArguments, IsLine}
 use Rattle.btor2_text.specs.Printable.{FitsKind, FitKinds, is_plain, AreTokens, IsPrintable, ArePrintable}
@@ -119,7 +119,7 @@ ArePrintable-lines : (number : ℕ) (texts : List (List ℕ)) (lines : List Line
 unfolding EachPart
 ArePrintable-lines number [] lines each are = subst ArePrintable (sym are) tt
 ArePrintable-lines number (text ∷ texts) lines each are =
-    subst ArePrintable (sym are.2) (ArePrintable-read number text are.0 are.1 each.0 are.3 (ArePrintable-lines (number + 1) texts are.1 each.1 are.4))
+    subst ArePrintable (sym are.2) (ArePrintable-read number text are.0 are.1 each.0 are.3 (ArePrintable-lines (number_after number) texts are.1 each.1 are.4))
 
 all-true : (bytes : List ℕ) → list_all (λ _. true) bytes ≡ true
 all-true [] = refl

@@ -1,14 +1,12 @@
 -- What is read of a text line by line is one result.
-use Rattle.std.proofs.Common.{◌≡◌, ℕ, ◌+◌, ◌≤◌, List, [], ◌∷◌, ◌++◌, length, Option, Some, None, Ok, Err, refl, sym, ap, ◌∙◌, subst, arith, inl, inr, ⊎_elim}
+use Rattle.std.proofs.Common.{◌≡◌, ℕ, List, [], ◌∷◌, ◌++◌, length, Option, Some, None, Ok, Err, refl, sym, ap, ◌∙◌, subst, arith, inl, inr, ⊎_elim}
 use Rattle.std.specs.Option.{option_to_list}
 use Rattle.std.proofs.lemmas.List.{append-nil, append_assoc}
 use Rattle.kw_base.specs.declared.fault.Fault.{Fault}
 use Rattle.kw_base.specs.declared.fault.Refusal.{Refusal}
 use Rattle.kw_base.specs.declared.fault.Refusal.TheVariants as refusals
 use Rattle.kw_base.specs.Fault.{IfFault, IsOkUnlessNoMemory, IsFaultUnlessNoMemory}
-use Rattle.std.proofs.lemmas.List.Splits.{length-slice_split}
-use Rattle.std.proofs.lemmas.List.Sums.{count_by-le-length}
-use Rattle.btor2_text.specs.Cut.{ends_line, lines_of, tokens_of}
+use Rattle.btor2_text.specs.Cut.{lines_of, number_after, tokens_of}
 use Rattle.btor2_text.specs.Flaws.{GivesLine, IsRefusal}
 use Rattle.btor2_text.specs.declared.reader.Flaw.{Flaw}
 use Rattle.btor2_text.specs.declared.reader.Flaw.TheVariants as flaws
@@ -26,33 +24,31 @@ use Rattle.btor2_text.proofs.NotOutside.{line_not_outside}
 
 -- the first texts give these lines, and others are left, numbered from here on
 pub record ReadTo (all : List (List ℕ)) (lines : List Line) (number : ℕ) (left : List (List ℕ)) : Type 0 where
-  pub forth : (others : List Line) → AreLines (number + 1) left others → AreLines 1 all (lines ++ others)
-  pub fault : (fault : Fault) → IsFirstFault (number + 1) left fault → IsFirstFault 1 all fault
-  pub count : number + length left ≡ length all
+  pub forth : (others : List Line) → AreLines (number_after number) left others → AreLines 1 all (lines ++ others)
+  pub fault : (fault : Fault) → IsFirstFault (number_after number) left fault → IsFirstFault 1 all fault
 
 pub ReadTo-start : (all : List (List ℕ)) → ReadTo all [] 0 all
-ReadTo-start all = record { forth = λ others are. are; fault = λ fault is. is; count = omega arith }
+ReadTo-start all = record { forth = λ others are. are; fault = λ fault is. is }
 
 pub ReadTo-next : (all : List (List ℕ)) (lines : List Line) (number : ℕ) (left : List (List ℕ)) → ReadTo all lines number left
-    → (text : List ℕ) (texts : List (List ℕ)) → left ≡ text ∷ texts → (read : Option Line) → Gives (number + 1) (tokens_of text) (Ok read)
-    → ReadTo all (lines ++ option_to_list read) (number + 1) texts
-ReadTo-next all lines number left to text texts splits read gives = record {
+    → (text : List ℕ) (texts : List (List ℕ)) → left ≡ text ∷ texts → (here : ℕ) → here ≡ number_after number → (read : Option Line) → Gives here (tokens_of text) (Ok read)
+    → ReadTo all (lines ++ option_to_list read) here texts
+ReadTo-next all lines number left to text texts splits here is_here read gives = record {
   forth = λ others are.
-      let whole : AreLines (number + 1) left (option_to_list read ++ others) = rw splits (read, others, refl, gives, are) in
-      rw append_assoc (to.forth (option_to_list read ++ others) whole);
+      let whole : AreLines here left (option_to_list read ++ others) = rw splits (read, others, refl, gives, are) in
+      rw append_assoc (to.forth (option_to_list read ++ others) (rw is_here at whole));
   fault = λ fault is.
-      let whole : IsFirstFault (number + 1) left fault = rw splits (inr (read, gives, is)) in to.fault fault whole;
-  count = omega (arith, to.count, ap length splits);
+      let whole : IsFirstFault here left fault = rw splits (inr (read, gives, is)) in to.fault fault (rw is_here at whole);
 }
 
 pub ReadTo-fault : (all : List (List ℕ)) (lines : List Line) (number : ℕ) (left : List (List ℕ)) → ReadTo all lines number left
-    → (text : List ℕ) (texts : List (List ℕ)) → left ≡ text ∷ texts → (fault : Fault) → Gives (number + 1) (tokens_of text) (Err fault) → IsFirstFault 1 all fault
+    → (text : List ℕ) (texts : List (List ℕ)) → left ≡ text ∷ texts → (fault : Fault) → Gives (number_after number) (tokens_of text) (Err fault) → IsFirstFault 1 all fault
 ReadTo-fault all lines number left to text texts splits fault gives =
-    let whole : IsFirstFault (number + 1) left fault = rw splits (inl gives) in to.fault fault whole
+    let whole : IsFirstFault (number_after number) left fault = rw splits (inl gives) in to.fault fault whole
 
 pub ReadTo-end : (all : List (List ℕ)) (lines : List Line) (number : ℕ) (left : List (List ℕ)) → ReadTo all lines number left → left ≡ [] → AreLines 1 all lines
 ReadTo-end all lines number left to none =
-    let whole : AreLines (number + 1) left [] = rw none refl in
+    let whole : AreLines (number_after number) left [] = rw none refl in
     subst (λ found. AreLines 1 all found) (append-nil lines) (to.forth [] whole)
 
 same_arguments : (kind : Kind) (token : List ℕ) (a b : Argument) → IsArgument kind token a → IsArgument kind token b → a ≡ b
@@ -134,7 +130,7 @@ pub same_readings : (number : ℕ) (texts : List (List ℕ)) (a b : List Line) �
 same_readings number [] a b p q = p ∙ sym q
 same_readings number (text ∷ texts) a b p q =
     let first = one_read number (tokens_of text) p.0 q.0 p.3 q.3 in
-    let others = same_readings (number + 1) texts p.1 q.1 p.4 q.4 in
+    let others = same_readings (number_after number) texts p.1 q.1 p.4 q.4 in
     p.2 ∙ ap (λ read. option_to_list read ++ p.1) first ∙ ap (λ lines. option_to_list q.0 ++ lines) others ∙ sym q.2
 
 -- or one first fault
@@ -146,7 +142,7 @@ same_faults number (text ∷ texts) a b p q = ⊎_elim
     (λ second. absurd (not_both number (tokens_of text) second.0 a second.1 first)) q)
     (λ first. ⊎_elim
     (λ second. absurd (not_both number (tokens_of text) first.0 b first.1 second))
-    (λ second. same_faults (number + 1) texts a b first.2 second.2) q)
+    (λ second. same_faults (number_after number) texts a b first.2 second.2) q)
     p
 
 -- and never both
@@ -154,7 +150,7 @@ pub lines_or_fault : (number : ℕ) (texts : List (List ℕ)) (lines : List Line
 lines_or_fault number [] lines fault p = λ q. q
 lines_or_fault number (text ∷ texts) lines fault p = λ q. ⊎_elim
     (λ here. not_both number (tokens_of text) p.0 fault p.3 here)
-    (λ later. lines_or_fault (number + 1) texts p.1 fault p.4 later.2)
+    (λ later. lines_or_fault (number_after number) texts p.1 fault p.4 later.2)
     q
 
 -- what holds of the fault of a refusal, if it has one
@@ -186,17 +182,12 @@ same_fault text (refusals.Fault found) is fault other = same_faults 1 (lines_of 
 same_fault text refusals.NoMemory is fault other = tt
 
 first_fault : (text : List ℕ) (lines : List Line) (number : ℕ) (left : List (List ℕ)) → ReadTo (lines_of text) lines number left
-    → (line : List ℕ) (texts : List (List ℕ)) → left ≡ line ∷ texts → (refusal : Refusal) → OnFault refusal (λ fault. Gives (number + 1) (tokens_of line) (Err fault)) → OnFault refusal (IsFirstFaultOf text)
+    → (line : List ℕ) (texts : List (List ℕ)) → left ≡ line ∷ texts → (refusal : Refusal) → OnFault refusal (λ fault. Gives (number_after number) (tokens_of line) (Err fault)) → OnFault refusal (IsFirstFaultOf text)
 first_fault text lines number left to line texts splits (refusals.Fault fault) gives = ReadTo-fault (lines_of text) lines number left to line texts splits fault gives
 first_fault text lines number left to line texts splits refusals.NoMemory gives = tt
 
 pub ReadTo-refused : (text : List ℕ) (lines : List Line) (number : ℕ) (left : List (List ℕ)) → ReadTo (lines_of text) lines number left
-    → (line : List ℕ) (texts : List (List ℕ)) → left ≡ line ∷ texts → (flaw : Flaw) → GivesLine (number + 1) (tokens_of line) (Err flaw)
-    → (refusal : Refusal) → IsRefusal flaw (number + 1) refusal → OnFault refusal (IsFirstFaultOf text)
-ReadTo-refused text lines number left to line texts splits flaw gives refusal is =
-    first_fault text lines number left to line texts splits refusal (fault_of_flaw (number + 1) (tokens_of line) flaw refusal gives is)
-
--- a text has at most one line more than it has bytes
-pub few_lines : (text : List ℕ) → length (lines_of text) ≤ length text + 1
-unfolding lines_of
-few_lines text = omega (arith, length-slice_split ends_line text, count_by-le-length ends_line text)
+    → (line : List ℕ) (texts : List (List ℕ)) → left ≡ line ∷ texts → (here : ℕ) → here ≡ number_after number → (flaw : Flaw) → GivesLine here (tokens_of line) (Err flaw)
+    → (refusal : Refusal) → IsRefusal flaw here refusal → OnFault refusal (IsFirstFaultOf text)
+ReadTo-refused text lines number left to line texts splits here is_here flaw gives refusal is =
+    first_fault text lines number left to line texts splits refusal (rw is_here at (fault_of_flaw here (tokens_of line) flaw refusal gives is))

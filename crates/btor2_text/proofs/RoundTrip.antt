@@ -1,5 +1,5 @@
 -- A printed line is read again as the line.
-use Rattle.std.proofs.Common.{◌≡◌, ℕ, ◌+◌, ◌<◌, ◌≤◌, ◌^◌, Bool, true, false, not, ◌||◌, eqb, List, [], ◌∷◌, ◌++◌, length, map, drop, None, Some, refl, sym, ap, ◌∙◌, subst, arith, lit<, lit≤, true≢false, ⊎_elim}
+use Rattle.std.proofs.Common.{◌≡◌, ℕ, ◌<◌, ◌≤◌, ◌^◌, Bool, true, false, not, ◌||◌, eqb, List, [], ◌∷◌, ◌++◌, length, map, drop, None, Some, refl, sym, ap, ◌∙◌, subst, arith, lit<, lit≤, true≢false, ⊎_elim}
 use Rattle.std.specs.Char.{digit_value}
 use Rattle.std.specs.List.{before_first, flat_map, list_all}
 use Rattle.std.specs.Option.{option_to_list}
@@ -9,7 +9,7 @@ use Rattle.std.proofs.lemmas.Bool.Decides.{eqb_tells}
 use Rattle.std.proofs.lemmas.Fmt.{decimal_is_IsNumeral}
 use Rattle.std.proofs.lemmas.List.{append-nil, append_assoc}
 use Rattle.std.proofs.lemmas.List.Sums.{AllPass-from_list_all}
-use Rattle.btor2_text.specs.Cut.{is_blank, begins_comment, ends_line, lines_of, words_of, tokens_of}
+use Rattle.btor2_text.specs.Cut.{is_blank, begins_comment, ends_line, lines_of, number_after, words_of, tokens_of}
 use Rattle.btor2_text.specs.Forms.{keyword_text, kinds_of, radix_of}
 use Rattle.btor2_text.specs.Lines.{IsArgument, BeginWithArguments, IsId, IsLine}
 use Rattle.btor2_text.specs.Printable.{IsIdNumber, FitsKind, FitKinds, is_plain, IsToken, AreTokens, IsPrintable, ArePrintable, numbered_from}
@@ -263,4 +263,4 @@ AreLines-text_of number (line ∷ lines) are =
     let P : List (List ℕ) → Type 0 = λ texts. AreLines number texts (numbered_from number (line ∷ lines)) in
     let here : IsLine number (tokens_of (row_text line)) (record line { number = number }) =
     (let Q : List (List ℕ) → Type 0 = λ tokens. IsLine number tokens (record line { number = number }) in subst Q (sym (tokens_of-row_text line are.0)) (IsLine-row number line are.0)) in
-    subst P (sym (lines_of-line_text line (text_of lines) are.0)) (Some (record line { number = number }), numbered_from (number + 1) lines, refl, here, AreLines-text_of (number + 1) lines are.1)
+    subst P (sym (lines_of-line_text line (text_of lines) are.0)) (Some (record line { number = number }), numbered_from (number_after number) lines, refl, here, AreLines-text_of (number_after number) lines are.1)

@@ -1,7 +1,8 @@
 -- How a circuit text is cut: into lines at its line feeds; and what stands in a line before its first `;`, at
 -- spaces, tabs and carriage returns, into tokens. BTOR2 (Niemetz et al., CAV 2018).
-use Rattle.std.specs.Prelude.{ℕ, ◌==◌, Bool, true, false, ◌||◌, List, [], ◌∷◌}
+use Rattle.std.specs.Prelude.{ℕ, ◌+◌, ◌==◌, Bool, true, false, ◌||◌, List, [], ◌∷◌}
 use Rattle.std.specs.List.{filter, slice_split, before_first}
+use Rattle.kw_base.specs.Place.{capped}
 
 -- the line feed
 abbrev pub ends_line : ℕ → Bool
@@ -18,6 +19,10 @@ is_blank b = ((b == 32) || (b == 9)) || (b == 13)
 -- the lines of a text
 unfoldable pub lines_of : List ℕ → List (List ℕ)
 lines_of text = slice_split ends_line text
+
+-- the number of the line behind the line of a number: one more, as far as places go
+abbrev pub number_after : ℕ → ℕ
+number_after number = capped (number + 1)
 
 -- there is a byte
 abbrev pub has_bytes : List ℕ → Bool

@@ -1,9 +1,9 @@
 -- Which lines can be printed and read again: one argument of its kind for each of the form's, and a symbol that is a token.
-use Rattle.std.specs.Prelude.{◌≡◌, ℕ, ◌+◌, ◌<◌, ◌≤◌, ◌^◌, Bool, not, ◌||◌, IsTrue, List, [], ◌∷◌, length}
+use Rattle.std.specs.Prelude.{◌≡◌, ℕ, ◌<◌, ◌≤◌, ◌^◌, Bool, not, ◌||◌, IsTrue, List, [], ◌∷◌, length}
 use Rattle.std.specs.List.{list_all}
 use Rattle.std.specs.Option.{option_to_list}
 use Rattle.std.specs.Str.Parse.{IsNumeral}
-use Rattle.btor2_text.specs.Cut.{is_blank, begins_comment, ends_line}
+use Rattle.btor2_text.specs.Cut.{is_blank, begins_comment, ends_line, number_after}
 use Rattle.btor2_text.specs.Forms.{kinds_of, radix_of}
 use Rattle.btor2_text.specs.declared.kind.Kind.{Kind}
 use Rattle.btor2_text.specs.declared.kind.Kind.TheVariants as kinds
@@ -56,4 +56,4 @@ ArePrintable (line ∷ lines) = IsPrintable line × ArePrintable lines
 -- the lines, numbered anew from this number on
 abbrev pub numbered_from : ℕ → List Line → List Line
 numbered_from number [] = []
-numbered_from number (line ∷ lines) = record line { number = number } ∷ numbered_from (number + 1) lines
+numbered_from number (line ∷ lines) = record line { number = number } ∷ numbered_from (number_after number) lines

@@ -1,11 +1,11 @@
 -- What reading a circuit text line by line gives: its lines, or the fault of the first line that has one, 54 where
 -- it is of a form of BTOR2 that is left out, 50 where it is malformed. Lines without a token are skipped.
-use Rattle.std.specs.Prelude.{◌≡◌, ℕ, ◌+◌, ◌⊎◌, List, [], ◌∷◌, ◌++◌, Option, None, Some, Result, Ok, Err}
+use Rattle.std.specs.Prelude.{◌≡◌, ℕ, ◌⊎◌, List, [], ◌∷◌, ◌++◌, Option, None, Some, Result, Ok, Err}
 use Rattle.std.specs.Option.{option_to_list}
 use Rattle.kw_base.specs.Fault.{fault_at}
 use Rattle.kw_base.specs.declared.fault.Fault.{Fault}
 use Rattle.kw_base.specs.declared.place.Place.{Place}
-use Rattle.btor2_text.specs.Cut.{lines_of, tokens_of}
+use Rattle.btor2_text.specs.Cut.{lines_of, number_after, tokens_of}
 use Rattle.btor2_text.specs.Lines.{IsLine, IsOutside, IsMalformed}
 use Rattle.btor2_text.specs.declared.line.Line.{Line}
 
@@ -24,13 +24,13 @@ Gives number tokens (Err fault) =
 abbrev pub AreLines : (number : ℕ) → List (List ℕ) → List Line → Type 0
 AreLines number [] lines = lines ≡ []
 AreLines number (text ∷ texts) lines =
-    (read : Option Line) × (others : List Line) × (lines ≡ option_to_list read ++ others) × Gives number (tokens_of text) (Ok read) × AreLines (number + 1) texts others
+    (read : Option Line) × (others : List Line) × (lines ≡ option_to_list read ++ others) × Gives number (tokens_of text) (Ok read) × AreLines (number_after number) texts others
 
 -- the first fault of the texts, numbered from this number on
 abbrev pub IsFirstFault : (number : ℕ) → List (List ℕ) → Fault → Type 0
 IsFirstFault number [] fault = ⊥
 IsFirstFault number (text ∷ texts) fault =
-    Gives number (tokens_of text) (Err fault) ⊎ ((read : Option Line) × Gives number (tokens_of text) (Ok read) × IsFirstFault (number + 1) texts fault)
+    Gives number (tokens_of text) (Err fault) ⊎ ((read : Option Line) × Gives number (tokens_of text) (Ok read) × IsFirstFault (number_after number) texts fault)
 
 -- a text's lines
 abbrev pub AreLinesOf : List ℕ → List Line → Type 0

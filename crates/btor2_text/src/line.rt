@@ -14,7 +14,8 @@ pub enum Argument {
     Numeral(Text),
 }
 
-/// A line: its id, its form, what it names, its symbol, and its number in the text, from 1.
+/// A line: its id, its form, what it names, its symbol, and its number in the text, from 1 to 4,294,967,295, which all
+/// lines behind keep.
 #[derive(Debug, Drop)]
 pub struct Line {
     pub id: u64,

@@ -1,4 +1,4 @@
-ghost use Rattle.std.specs.Prelude.{◌≡◌, ◌≤◌, ◌∷◌, ◌↔◌, IsTrue, List, length, IfOk};
+ghost use Rattle.std.specs.Prelude.{◌≡◌, ◌∷◌, ◌↔◌, IsTrue, List, IfOk};
 ghost use Rattle.kw_base.specs.Fault.{IfFault, IsOkUnlessNoMemory, IsFaultUnlessNoMemory};
 ghost use Rattle.kw_base.specs.declared.fault.Fault.{Fault as FaultOf};
 ghost use Rattle.btor2_text.specs.Cut.{tokens_of, words_of};
@@ -69,10 +69,9 @@ impl Flaw {
     }
 }
 
-/// The lines of a BTOR2 text of at most 268,435,456 bytes, or the fault of its first faulty line: 54 for a form of
-/// BTOR2 that is left out, 50 for any other line that is of no form.
+/// The lines of a BTOR2 text, or the fault of its first faulty line: 54 for a form of BTOR2 that is left out, 50 for
+/// any other line that is of no form. A line behind line 4,294,967,295 is given that number.
 pub fn read_lines(alloc: Global, text: &[u8]) -> Result<Lines, Refusal>
-    requires { length text.now ≤ 268435456 }
     ensures lines { IfOk result (AreLinesOf text.now) }
     ensures printable { IfOk result ArePrintable }
     ensures fault { IfFault result (IsFirstFaultOf text.now) }
@@ -86,7 +85,7 @@ pub fn read_lines(alloc: Global, text: &[u8]) -> Result<Lines, Refusal>
     let mut rest = Some(text);
     while let Some(text) = rest {
         let (line, behind) = split_line(text);
-        number += 1;
+        number = number.saturating_add(1);
         match read_line(alloc, line, number) {
             Ok(Some(line)) => lines.push(line)?,
             Ok(None) => (),

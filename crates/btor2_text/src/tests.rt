@@ -7,7 +7,6 @@ use std::test::Fail;
 
 // Expects this text for what was read of a text; a fault is told as its number and its line.
 fn expect_reading(rt: &impl Abort, alloc: Global, text: &str, want: &str) -> Result<(), Fail> {
-    assert!(rt; text.len() <= 268_435_456);
     let told = match read_lines(alloc, text.as_bytes()) {
         Ok(lines) => print_lines(alloc, &lines)?,
         Err(
@@ -34,7 +33,6 @@ const COUNTER: &str =
 
 // Expects lines or a malformed line for a text, however it was cut off.
 fn expect_no_other_fault(rt: &impl Abort, alloc: Global, text: &[u8]) -> Result<(), Fail> {
-    assert!(rt; text.len() <= 268_435_456);
     match read_lines(alloc, text) {
         Err(Refusal::Fault(fault)) => assert_eq!(rt; fault.number, 50, "{text:?}"),
         Err(Refusal::NoMemory) => return Err(NoMemory.into()),

@@ -2,34 +2,29 @@ use Rattle.std.proofs.Common.{◌<◌, None, Some, length, ap, ◌∙◌, arith}
 use Rattle.std.proofs.lemmas.List.{append-nil}
 use Rattle.btor2_text.specs.Cut.{lines_of}
 use Rattle.btor2_text.specs.Runs.{lines_behind}
-use Rattle.btor2_text.proofs.Readings.{ReadTo-next, ReadTo-refused, ReadTo-end, is_first_fault, no_lines, same_fault, same_readings, lines_or_fault, few_lines}
+use Rattle.btor2_text.proofs.Readings.{ReadTo-next, ReadTo-refused, ReadTo-end, is_first_fault, no_lines, same_fault, same_readings, lines_or_fault}
 use Rattle.btor2_text.proofs.ReadLines.{ArePrintable-AreLinesOf}
 use Rattle.btor2_text.proofs.reader.read_lines.Goals as goal
-
-pub overflow_add-number : goal.overflow_add-number
-overflow_add-number c =
-    let splits = ap lines_behind c.in-Some.is ∙ c.split_line.ensures in
-    omega (arith, ap length splits, c.loop-rest.invariant.count, few_lines c.args.text.now)
 
 pub returns-in-Err-clause-fault : goal.returns-in-Err-clause-fault
 returns-in-Err-clause-fault c =
     let splits = ap lines_behind c.in-Some.is ∙ c.split_line.ensures in
-    is_first_fault c.args.text.now c.refusal.result (ReadTo-refused c.args.text.now c.loop-rest.lines c.loop-rest.number _ c.loop-rest.invariant _ _ splits c.in-Err.flaw c.in-Err.ensures c.refusal.result c.refusal.ensures)
+    is_first_fault c.args.text.now c.refusal.result (ReadTo-refused c.args.text.now c.loop-rest.lines c.loop-rest.number _ c.loop-rest.invariant _ _ splits _ c.saturating_add-number.ensures c.in-Err.flaw c.in-Err.ensures c.refusal.result c.refusal.ensures)
 
 pub returns-in-Err-clause-accepted : goal.returns-in-Err-clause-accepted
 returns-in-Err-clause-accepted c =
     let splits = ap lines_behind c.in-Some.is ∙ c.split_line.ensures in
-    no_lines c.args.text.now c.refusal.result (ReadTo-refused c.args.text.now c.loop-rest.lines c.loop-rest.number _ c.loop-rest.invariant _ _ splits c.in-Err.flaw c.in-Err.ensures c.refusal.result c.refusal.ensures)
+    no_lines c.args.text.now c.refusal.result (ReadTo-refused c.args.text.now c.loop-rest.lines c.loop-rest.number _ c.loop-rest.invariant _ _ splits _ c.saturating_add-number.ensures c.in-Err.flaw c.in-Err.ensures c.refusal.result c.refusal.ensures)
 
 pub returns-in-Err-clause-refused : goal.returns-in-Err-clause-refused
 returns-in-Err-clause-refused c =
     let splits = ap lines_behind c.in-Some.is ∙ c.split_line.ensures in
-    same_fault c.args.text.now c.refusal.result (ReadTo-refused c.args.text.now c.loop-rest.lines c.loop-rest.number _ c.loop-rest.invariant _ _ splits c.in-Err.flaw c.in-Err.ensures c.refusal.result c.refusal.ensures)
+    same_fault c.args.text.now c.refusal.result (ReadTo-refused c.args.text.now c.loop-rest.lines c.loop-rest.number _ c.loop-rest.invariant _ _ splits _ c.saturating_add-number.ensures c.in-Err.flaw c.in-Err.ensures c.refusal.result c.refusal.ensures)
 
 pub loop-rest-preserved : goal.loop-rest-preserved
 loop-rest-preserved c =
     let splits = ap lines_behind c.in-Some.is ∙ c.split_line.ensures in
-    let next = ReadTo-next _ c.loop-rest.lines c.loop-rest.number _ c.loop-rest.invariant _ _ splits None (rw c.in-Ok-None.field-0-is at c.in-Ok-None.ensures) in
+    let next = ReadTo-next _ c.loop-rest.lines c.loop-rest.number _ c.loop-rest.invariant _ _ splits _ c.saturating_add-number.ensures None (rw c.in-Ok-None.field-0-is at c.in-Ok-None.ensures) in
     rw append-nil at next
 
 pub loop-rest-smaller : goal.loop-rest-smaller
@@ -41,7 +36,7 @@ pub loop-rest-preserved-in_ok-push-in-Ok-Some : goal.loop-rest-preserved-in_ok-p
 loop-rest-preserved-in_ok-push-in-Ok-Some c =
     let splits = ap lines_behind c.in-Some.is ∙ c.split_line.ensures in
     rw c.in_ok-push-in-Ok-Some.ensures.ok
-    (ReadTo-next _ c.loop-rest.lines c.loop-rest.number _ c.loop-rest.invariant _ _ splits (Some c.in-Ok-Some.line) (rw c.in-Ok-Some.field-0-is at c.in-Ok-Some.ensures))
+    (ReadTo-next _ c.loop-rest.lines c.loop-rest.number _ c.loop-rest.invariant _ _ splits _ c.saturating_add-number.ensures (Some c.in-Ok-Some.line) (rw c.in-Ok-Some.field-0-is at c.in-Ok-Some.ensures))
 
 pub loop-rest-smaller-in_ok-push-in-Ok-Some : goal.loop-rest-smaller-in_ok-push-in-Ok-Some
 loop-rest-smaller-in_ok-push-in-Ok-Some c =

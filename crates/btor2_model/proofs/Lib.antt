@@ -1,0 +1,5 @@
+pub mod Examples
+pub mod Narrow
+pub mod Numerals
+pub mod Places
+pub mod Walk

@@ -1,0 +1,6 @@
+pub mod Acceptance
+pub mod Known
+pub mod Rules
+pub mod Run
+pub mod Scope
+pub mod Table

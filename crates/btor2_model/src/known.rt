@@ -1,0 +1,311 @@
+ghost use Rattle.std.specs.Prelude.{◌≡◌, ◌≤◌, is_some, IfOk, IfErr, IfSome, OnOk, None, Some, option_map, slice_get};
+ghost use Rattle.std.specs.BTreeSet as set;
+ghost use Rattle.std.specs.List.{list_all, list_any};
+ghost use Rattle.std.specs.Ordering.{nat_cmp};
+ghost use Rattle.kw_base.specs.Fault.{IfFault};
+ghost use Rattle.btor2_text.specs.Forms.{kinds_of};
+ghost use Rattle.btor2_model.specs.Acceptance as acceptance;
+ghost use Rattle.btor2_model.specs.Known.{scope_of, AreNarrow};
+ghost use Rattle.btor2_model.specs.Rules.{rule_of};
+ghost use Rattle.btor2_model.specs.Scope as scope;
+ghost use Rattle.btor2_model.specs.declared.meaning.Role.TheVariants as roles;
+
+use crate::meaning::{Meaning, Role};
+use crate::numeral::value_below;
+use crate::refusal::refusal_at;
+use crate::rule::{Measures, Rule};
+use crate::table::Table;
+use btor2_text::{Argument, Keyword, Kind, Line};
+use kw_base::Refusal;
+use kw_bits::NoMemory;
+use std::alloc::Global;
+use std::collections::BTreeSet;
+
+/// What the lines so far declare.
+#[derive(Drop)]
+pub(crate) struct Known {
+    meanings: Table,
+    initialized: BTreeSet<u64>,
+    continued: BTreeSet<u64>,
+}
+
+impl Known {
+    /// Nothing yet, with places for so many low ids.
+    pub(crate) fn new(alloc: Global, places: usize) -> Result<Known, NoMemory>
+        ensures { IfOk result (λ known. scope_of known ≡ scope.no_lines) }
+    {
+        Ok(Known {
+            meanings: Table::new(alloc, places)?,
+            initialized: BTreeSet::new(alloc),
+            continued: BTreeSet::new(alloc),
+        })
+    }
+
+    /// Takes the next line, if it meets all conditions behind the others; otherwise the fault of the first that it doesn't
+    /// meet.
+    pub(crate) fn add(&mut self, line: &Line) -> Result<(), Refusal>
+        requires { AreNarrow (scope_of self.old) }
+        ensures accepted { OnOk result (acceptance.line_fault (scope_of self.old) line.now ≡ None) }
+        ensures declared { OnOk result (scope_of self.new ≡ scope.behind (scope_of self.old) line.now) }
+        ensures narrow { OnOk result (AreNarrow (scope_of self.new)) }
+        ensures fault { IfFault result (λ fault. option_map (acceptance.fault_in line.now) (acceptance.line_fault (scope_of self.old) line.now) ≡ Some fault) }
+    {
+        match self.check(line) {
+            Ok(meaning) => Ok(self.declare(line, meaning)?),
+            Err(number) => Err(refusal_at(number, line)),
+        }
+    }
+
+    /// Whether a line is a state without a `next`.
+    pub(crate) fn lacks_next(&self, line: &Line) -> bool
+        ensures { result ≡ acceptance.lacks_next (scope_of self.now) line.now }
+    {
+        Rule::of(line.keyword).is_state() && !self.continued.contains(&line.id)
+    }
+
+    // What a line stands for, or the number of the first condition that it doesn't meet.
+    fn check(&self, line: &Line) -> Result<Meaning, u32>
+        requires { AreNarrow (scope_of self.now) }
+        ensures accepted { OnOk result (acceptance.line_fault (scope_of self.now) line.now ≡ None) }
+        ensures meaning { IfOk result (λ meaning. meaning ≡ scope.meaning_of (scope_of self.now) line.now) }
+        ensures narrow { IfOk result (λ meaning. meaning.role ≡ roles.Sort → meaning.width ≤ 128) }
+        ensures fault { IfErr result (λ number. acceptance.line_fault (scope_of self.now) line.now ≡ Some number) }
+    {
+        let arguments = line.arguments.as_slice();
+        let rule = Rule::of(line.keyword);
+        if self.meaning(line.id).is_some() {
+            return Err(51);
+        }
+        if !self.are_known(arguments) {
+            return Err(52);
+        }
+        let Some(measures) = self.agreeing(line.keyword, rule, arguments) else {
+            return Err(53);
+        };
+        if !rule.bounds_fit(measures) {
+            return Err(55);
+        }
+        if !self.sets_first(rule, arguments) {
+            return Err(57);
+        }
+        if !self.numeral_fits(rule, arguments) {
+            return Err(58);
+        }
+        if !self.init_is_fixed(rule, arguments) {
+            return Err(59);
+        }
+        Ok(Meaning {
+            role: rule.role(),
+            width: rule.width(measures),
+            depends: rule.is_input() || rule.is_state() || self.one_depends(arguments),
+        })
+    }
+
+    // The widths and numbers of a line, if they belong together as its form asks.
+    fn agreeing(&self, keyword: Keyword, rule: Rule, arguments: &[Argument]) -> Option<Measures>
+        requires { rule ≡ rule_of keyword }
+        ensures some { IfSome result (λ m. scope.measures (scope_of self.now) (kinds_of keyword) arguments.now ≡ Some m) }
+        ensures agrees { is_some result ≡ acceptance.agree (scope_of self.now) keyword arguments.now }
+    {
+        let measures = self.measures(keyword, arguments)?;
+        if self.names_state(rule, arguments) && rule.widths_agree(measures) {
+            Some(measures)
+        } else {
+            None
+        }
+    }
+
+    // Takes what a line stands for, and the state that it sets.
+    fn declare(&mut self, line: &Line, meaning: Meaning) -> Result<(), NoMemory>
+        requires { meaning ≡ scope.meaning_of (scope_of self.old) line.now }
+        ensures { OnOk result (scope_of self.new ≡ scope.behind (scope_of self.old) line.now) }
+    {
+        let rule = Rule::of(line.keyword);
+        let state = id_at(line.arguments.as_slice(), 1);
+        mark(&mut self.initialized, rule.is_init(), state)?;
+        mark(&mut self.continued, rule.is_next(), state)?;
+        self.meanings.insert(line.id, meaning)
+    }
+
+    // What an id stands for.
+    fn meaning(&self, id: u64) -> Option<Meaning>
+        ensures { result ≡ (scope_of self.now).meanings id }
+    {
+        self.meanings.get(id)
+    }
+
+    // The width or the number that an argument at a place stands for; 0 where there is none.
+    fn measure(&self, kinds: &[Kind], arguments: &[Argument], place: usize) -> Option<u32>
+        ensures { result ≡ scope.measure (scope_of self.now) (slice_get kinds.now place) (slice_get arguments.now place) }
+    {
+        match (kinds.get(place), arguments.get(place)) {
+            (Some(kind), Some(Argument::Id(id))) => self.meaning(*id)?.width_wanted(*kind),
+            (Some(Kind::Number), Some(Argument::Number(number))) => Some(*number),
+            _ => Some(0),
+        }
+    }
+
+    // The widths and numbers of a line, where sorts and values stand where they are wanted.
+    fn measures(&self, keyword: Keyword, arguments: &[Argument]) -> Option<Measures>
+        ensures { result ≡ scope.measures (scope_of self.now) (kinds_of keyword) arguments.now }
+    {
+        let kinds = keyword.kinds();
+        Some(Measures {
+            first: self.measure(kinds, arguments, 0)?,
+            second: self.measure(kinds, arguments, 1)?,
+            third: self.measure(kinds, arguments, 2)?,
+            fourth: self.measure(kinds, arguments, 3)?,
+        })
+    }
+
+    // Whether an argument names no id, or one of an earlier line.
+    fn is_known(&self, argument: &Argument) -> bool
+        ensures { result ≡ acceptance.is_known (scope_of self.now) argument.now }
+    {
+        match argument {
+            Argument::Id(id) => self.meaning(*id).is_some(),
+            _ => true,
+        }
+    }
+
+    // Whether all ids that a line names stand on earlier lines.
+    fn are_known(&self, arguments: &[Argument]) -> bool
+        ensures { result ≡ list_all (acceptance.is_known (scope_of self.now)) arguments.now }
+    {
+        for argument in arguments {
+            if !self.is_known(argument) {
+                return false;
+            }
+        }
+        true
+    }
+
+    // Whether an id stands for what depends on an input or a state.
+    fn depends(&self, id: u64) -> bool
+        ensures { result ≡ scope.meaning_depends ((scope_of self.now).meanings id) }
+    {
+        match self.meaning(id) {
+            Some(meaning) => meaning.depends,
+            None => false,
+        }
+    }
+
+    // Whether an argument names such an id.
+    fn argument_depends(&self, argument: &Argument) -> bool
+        ensures { result ≡ scope.argument_depends (scope_of self.now) argument.now }
+    {
+        match argument {
+            Argument::Id(id) => self.depends(*id),
+            _ => false,
+        }
+    }
+
+    // Whether one of a line's arguments does.
+    fn one_depends(&self, arguments: &[Argument]) -> bool
+        ensures { result ≡ list_any (scope.argument_depends (scope_of self.now)) arguments.now }
+    {
+        for argument in arguments {
+            if self.argument_depends(argument) {
+                return true;
+            }
+        }
+        false
+    }
+
+    // Whether an id stands for a state.
+    fn is_state(&self, id: u64) -> bool
+        ensures { result ≡ acceptance.stands_for_state ((scope_of self.now).meanings id) }
+    {
+        match self.meaning(id) {
+            Some(meaning) => matches!(meaning.role, Role::State),
+            None => false,
+        }
+    }
+
+    // Whether an `init` and a `next` name a state.
+    fn names_state(&self, rule: Rule, arguments: &[Argument]) -> bool
+        ensures { result ≡ acceptance.names_state rule (scope_of self.now) arguments.now }
+    {
+        match rule {
+            Rule::Init | Rule::Next => self.is_state(id_at(arguments, 1)),
+            _ => true,
+        }
+    }
+
+    // Whether the state of an `init` or a `next` has none so far.
+    fn sets_first(&self, rule: Rule, arguments: &[Argument]) -> bool
+        ensures { result ≡ acceptance.sets_first rule (scope_of self.now) arguments.now }
+    {
+        match rule {
+            Rule::Init => !self.initialized.contains(&id_at(arguments, 1)),
+            Rule::Next => !self.continued.contains(&id_at(arguments, 1)),
+            _ => true,
+        }
+    }
+
+    // Whether the value of an `init` depends on no input and no state.
+    fn init_is_fixed(&self, rule: Rule, arguments: &[Argument]) -> bool
+        ensures { result ≡ acceptance.init_is_fixed rule (scope_of self.now) arguments.now }
+    {
+        match rule {
+            Rule::Init => !self.depends(id_at(arguments, 2)),
+            _ => true,
+        }
+    }
+
+    // The width of the sort that an id names, or 0.
+    fn sort_width(&self, id: u64) -> u32
+        requires { AreNarrow (scope_of self.now) }
+        ensures width { result ≡ scope.sort_width_in (scope_of self.now) id }
+        ensures narrow { result ≤ 128 }
+    {
+        match self.meaning(id) {
+            Some(meaning) => meaning.width_wanted(Kind::Sort).unwrap_or(0),
+            None => 0,
+        }
+    }
+
+    // Whether the numeral of a constant is below 2 to its width.
+    fn numeral_fits(&self, rule: Rule, arguments: &[Argument]) -> bool
+        requires { AreNarrow (scope_of self.now) }
+        ensures { result ≡ acceptance.numeral_fits rule (scope_of self.now) arguments.now }
+    {
+        match rule {
+            Rule::Numeral(base) => {
+                let width = self.sort_width(id_at(arguments, 0));
+                value_below(digits_at(arguments, 1), base, width).is_some()
+            }
+            _ => true,
+        }
+    }
+}
+
+// The id that an argument is, or 0, which is none.
+fn id_at(arguments: &[Argument], place: usize) -> u64
+    ensures { result ≡ scope.id_at arguments.now place }
+{
+    match arguments.get(place) {
+        Some(Argument::Id(id)) => *id,
+        _ => 0,
+    }
+}
+
+// The digits that an argument is, or none.
+fn digits_at(arguments: &[Argument], place: usize) -> &[u8]
+    ensures { result.now ≡ acceptance.digits_of (slice_get arguments.now place) }
+{
+    match arguments.get(place) {
+        Some(Argument::Numeral(digits)) => digits.as_slice(),
+        _ => &[],
+    }
+}
+
+// Takes a state among others, where it is set now.
+fn mark(states: &mut BTreeSet<u64>, now: bool, state: u64) -> Result<(), NoMemory>
+    ensures { OnOk result (set.contains nat_cmp states.new ≡ scope.set_now now (set.contains nat_cmp states.old) state) }
+{
+    if now {
+        states.insert(state)?;
+    }
+    Ok(())
+}

@@ -1,0 +1,20 @@
+//! Accepted circuit texts, and their run.
+//!
+//! Contracts cite what each form asks for in `specs/Rules.antt`, what lines declare for later ones in `specs/Scope.antt`,
+//! and which texts are accepted, with the first fault of the others, in `specs/Acceptance.antt`. The run of an accepted
+//! text is `specs/Run.antt`. The translation of texts to circuits stands on this crate.
+#![tactic(auto)]
+
+mod acceptance;
+mod btor;
+mod known;
+mod meaning;
+mod numeral;
+mod refusal;
+mod rule;
+mod table;
+#[cfg(test)]
+mod tests;
+
+pub use acceptance::accept;
+pub use btor::Btor;

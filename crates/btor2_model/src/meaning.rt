@@ -1,0 +1,37 @@
+ghost use Rattle.std.specs.Prelude.{◌≡◌, Some};
+ghost use Rattle.btor2_model.specs.Scope.{width_wanted};
+
+use btor2_text::Kind;
+
+/// What a line is for later lines.
+#[derive(Clone, Copy, Debug, PartialEq, Eq)]
+pub(crate) enum Role {
+    Sort,
+    Value,
+    /// A value whose `init` and `next` may come.
+    State,
+    NoValue,
+}
+
+/// What an id stands for.
+#[derive(Clone, Copy, Debug, PartialEq, Eq)]
+pub(crate) struct Meaning {
+    pub(crate) role: Role,
+    pub(crate) width: u32,
+    /// Whether its value depends on an input or a state.
+    pub(crate) depends: bool,
+}
+
+impl Meaning {
+    /// The width, where this is of the kind that is wanted.
+    pub(crate) fn width_wanted(self, kind: Kind) -> Option<u32>
+        ensures { result ≡ width_wanted kind (Some self) }
+    {
+        match (kind, self.role) {
+            (Kind::Sort, Role::Sort) => Some(self.width),
+            (Kind::Sort, _) => None,
+            (_, Role::Value | Role::State) => Some(self.width),
+            _ => None,
+        }
+    }
+}

@@ -1,0 +1,193 @@
+ghost use Rattle.std.specs.Prelude.{◌≡◌};
+ghost use Rattle.btor2_model.specs.Rules as form;
+
+use crate::meaning::Role;
+use btor2_text::{Base, Keyword};
+
+/// How the widths and numbers of a form belong together.
+#[derive(Clone, Copy, Debug, PartialEq, Eq)]
+pub(crate) enum Rule {
+    /// A sort.
+    Sort,
+    /// An input, of the sort.
+    Input,
+    /// A state, of the sort.
+    State,
+    /// A constant that the keyword names, of the sort.
+    Constant,
+    /// A numeral in a base, of the sort.
+    Numeral(Base),
+    /// An operand of the sort.
+    Unary,
+    /// Two operands of the sort.
+    Binary,
+    /// The sort is 1; one operand of any width.
+    Reduced,
+    /// The sort is 1; two operands of one width.
+    Compared,
+    /// The sort and the operands are 1.
+    Boolean,
+    /// The sort is as wide as both operands together.
+    Joined,
+    /// The sort is as wide as the bits between two bounds.
+    Sliced,
+    /// The sort is so many bits wider than the operand.
+    Extended,
+    /// The first operand is 1, the others are of the sort.
+    Chosen,
+    /// The first value of a state, both of the sort.
+    Init,
+    /// The next value of a state, both of the sort.
+    Next,
+    /// A value of any width.
+    Output,
+    /// A value of width 1.
+    Bad,
+}
+
+/// What a line's arguments measure, in order: the width of a sort or a value, or a number; 0 for all else.
+#[derive(Clone, Copy, Debug, PartialEq, Eq)]
+pub(crate) struct Measures {
+    pub(crate) first: u32,
+    pub(crate) second: u32,
+    pub(crate) third: u32,
+    pub(crate) fourth: u32,
+}
+
+impl Rule {
+    /// The rule of a keyword's form.
+    pub(crate) fn of(keyword: Keyword) -> Rule
+        ensures { result ≡ form.rule_of keyword }
+    {
+        match keyword {
+            Keyword::Sort => Rule::Sort,
+            Keyword::Input => Rule::Input,
+            Keyword::State => Rule::State,
+            Keyword::Zero | Keyword::One | Keyword::Ones => Rule::Constant,
+            Keyword::Const => Rule::Numeral(Base::Binary),
+            Keyword::Constd => Rule::Numeral(Base::Decimal),
+            Keyword::Consth => Rule::Numeral(Base::Hexadecimal),
+            Keyword::Not | Keyword::Neg | Keyword::Inc | Keyword::Dec => Rule::Unary,
+            Keyword::Redand | Keyword::Redor | Keyword::Redxor => Rule::Reduced,
+            Keyword::And
+            | Keyword::Or
+            | Keyword::Xor
+            | Keyword::Nand
+            | Keyword::Nor
+            | Keyword::Xnor
+            | Keyword::Add
+            | Keyword::Sub
+            | Keyword::Mul
+            | Keyword::Sll
+            | Keyword::Srl
+            | Keyword::Sra => Rule::Binary,
+            Keyword::Eq
+            | Keyword::Neq
+            | Keyword::Ult
+            | Keyword::Ulte
+            | Keyword::Ugt
+            | Keyword::Ugte
+            | Keyword::Slt
+            | Keyword::Slte
+            | Keyword::Sgt
+            | Keyword::Sgte => Rule::Compared,
+            Keyword::Iff | Keyword::Implies => Rule::Boolean,
+            Keyword::Concat => Rule::Joined,
+            Keyword::Slice => Rule::Sliced,
+            Keyword::Uext | Keyword::Sext => Rule::Extended,
+            Keyword::Ite => Rule::Chosen,
+            Keyword::Init => Rule::Init,
+            Keyword::Next => Rule::Next,
+            Keyword::Output => Rule::Output,
+            Keyword::Bad => Rule::Bad,
+        }
+    }
+
+    /// What a line of the form is for later lines.
+    pub(crate) fn role(self) -> Role
+        ensures { result ≡ form.role_of self }
+    {
+        match self {
+            Rule::Sort => Role::Sort,
+            Rule::State => Role::State,
+            Rule::Init | Rule::Next | Rule::Output | Rule::Bad => Role::NoValue,
+            _ => Role::Value,
+        }
+    }
+
+    /// The width that a line gives its id.
+    pub(crate) fn width(self, measures: Measures) -> u32
+        ensures { result ≡ form.width_given self measures }
+    {
+        match self {
+            Rule::Sort => measures.second,
+            _ => measures.first,
+        }
+    }
+
+    /// Whether the line is an input.
+    pub(crate) fn is_input(self) -> bool
+        ensures { result ≡ form.is_input self }
+    {
+        matches!(self, Rule::Input)
+    }
+
+    /// Whether the line gives a state its first value.
+    pub(crate) fn is_init(self) -> bool
+        ensures { result ≡ form.is_init self }
+    {
+        matches!(self, Rule::Init)
+    }
+
+    /// Whether the line gives a state its next value.
+    pub(crate) fn is_next(self) -> bool
+        ensures { result ≡ form.is_next self }
+    {
+        matches!(self, Rule::Next)
+    }
+
+    /// Whether the line is a state.
+    pub(crate) fn is_state(self) -> bool
+        ensures { result ≡ form.is_state self }
+    {
+        matches!(self, Rule::State)
+    }
+
+    /// Whether the widths and numbers belong together as the form asks.
+    pub(crate) fn widths_agree(self, measures: Measures) -> bool
+        ensures { result ≡ form.widths_agree self measures }
+    {
+        let Measures {
+            first,
+            second,
+            third,
+            fourth,
+        } = measures;
+        match self {
+            Rule::Unary => second == first,
+            Rule::Binary | Rule::Init | Rule::Next => second == first && third == first,
+            Rule::Reduced | Rule::Bad => first == 1,
+            Rule::Compared => first == 1 && second == third,
+            Rule::Boolean => first == 1 && second == 1 && third == 1,
+            Rule::Joined | Rule::Extended => {
+                u64::from(first) == u64::from(second) + u64::from(third)
+            }
+            Rule::Sliced => {
+                fourth <= third && u64::from(first) + u64::from(fourth) == u64::from(third) + 1
+            }
+            Rule::Chosen => second == 1 && third == first && fourth == first,
+            _ => true,
+        }
+    }
+
+    /// Whether a sort's width and the upper bound of a slice are in range.
+    pub(crate) fn bounds_fit(self, measures: Measures) -> bool
+        ensures { result ≡ form.bounds_fit self measures }
+    {
+        match self {
+            Rule::Sort => 1 <= measures.second && measures.second <= 128,
+            Rule::Sliced => measures.third < measures.second,
+            _ => true,
+        }
+    }
+}
