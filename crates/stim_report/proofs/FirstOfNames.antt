@@ -1,0 +1,133 @@
+-- The first input of each name, as names come one by one.
+use Rattle.std.proofs.Common.{◌≡◌, ℕ, zero, suc, ◌+◌, ◌<◌, ◌≤◌, Bool, true, false, cond, eqb, List, [], ◌∷◌, ◌++◌, length, length-append, get_or, Option, Some, None, refl, sym, ap, ap₂, ◌∙◌, subst, arith, true≢false}
+use Rattle.std.specs.Prelude.{nat_lt, option_map, position, slice_index, bytes_eq}
+use Rattle.std.specs.List.{position_or_len}
+use Rattle.std.proofs.lemmas.Bool.{eqb-true, eqb-false, ltb-true, ltb-false, lt-ltb, le-ltb}
+use Rattle.std.proofs.lemmas.List.{get_or_default}
+use Rattle.std.proofs.lemmas.List.Folds.{position_or_len_push}
+use Rattle.std.proofs.lemmas.List.Quantifiers.{position-Some}
+use Rattle.std.proofs.lemmas.List.Sums.{prefix_len-le-length}
+use Rattle.std.proofs.lemmas.Slice.Eq.{bytes_eq-Decides}
+use Rattle.kw_base.specs.Names.{Adds, number_of}
+use Rattle.kw_base.specs.declared.names.Added.{Added}
+use Rattle.kw_base.specs.declared.names.Added.TheVariants.{New, There}
+use Rattle.stim_report.specs.Assignments.{input_of}
+use Rattle.stim_report.specs.FirstNames.{AreFirst}
+use Rattle.stim_report.specs.declared.shape.NameWidth.{NameWidth}
+
+-- the place that was found, or else that of one more
+or_at : Option ℕ → Bool → ℕ → Option ℕ
+or_at (Some k) b n = Some k
+or_at None true n = Some n
+or_at None false n = None
+
+push_at : (here n : ℕ) (b same : Bool) (less : Bool) → here ≤ n → eqb here n ≡ same → nat_lt here n ≡ less
+    → cond (nat_lt (cond same (n + cond b 0 1) here) (n + 1)) (Some (cond same (n + cond b 0 1) here)) None ≡ or_at (cond less (Some here) None) b n
+unfolding or_at
+push_at here n b same true most is below =
+    let lt : here < n = ltb-true here n below in
+    let apart : same ≡ false = differs here n same is lt in
+    rw (apart, lt-ltb here (n + 1) (omega (arith, lt))) refl
+  where
+    differs : (here n : ℕ) (same : Bool) → eqb here n ≡ same → here < n → same ≡ false
+    differs here n true is lt = absurd (omega (arith, eqb-true here n is, lt))
+    differs here n false is lt = refl
+push_at here n true true false most is below =
+    let e : n + 0 ≡ n = omega arith in
+    rw (lt-ltb (n + 0) (n + 1) (omega arith)) (ap Some e)
+push_at here n false true false most is below = rw (le-ltb (n + 1) (n + 1) (omega arith)) refl
+push_at here n b false false most is below = absurd (eqb-false here n is (omega (arith, ltb-false here n below, most)))
+
+-- the first place in a list with one more
+position_push : {X : Type 0} (p : X → Bool) (xs : List X) (y : X) → position p (xs ++ y ∷ []) ≡ or_at (position p xs) (p y) (length xs)
+position_push p xs y =
+    let here = position_or_len p xs in
+    let n = length xs in
+    let count : length (xs ++ y ∷ []) ≡ n + 1 = length-append xs (y ∷ []) in
+    ap₂ (λ (k m : ℕ). cond (nat_lt k m) (Some k) None) (position_or_len_push p xs y) count
+    ∙ push_at here n (p y) (eqb here n) (nat_lt here n) (prefix_len-le-length _ xs) refl refl
+
+-- a name that was found stays
+at_found : (o : Option ℕ) (k n : ℕ) (b : Bool) → o ≡ Some k → or_at o b n ≡ o
+unfolding or_at
+at_found (Some j) k n b is = refl
+at_found None k n b is = absurd cc
+
+at_other : (o : Option ℕ) (n : ℕ) → or_at o false n ≡ o
+unfolding or_at
+at_other (Some j) n = refl
+at_other None n = refl
+
+map_found : (f : ℕ → ℕ) (o : Option ℕ) (k : ℕ) → o ≡ Some k → option_map f o ≡ Some (f k)
+map_found f o k is = ap (option_map f) is
+
+-- an input whose name was seen changes nothing
+pub first_there : (names : List (List ℕ)) (firsts : List ℕ) (before : List NameWidth) (input : NameWidth) (number : ℕ) → AreFirst names firsts before → number_of names input.name ≡ Some number
+    → AreFirst names firsts (before ++ input ∷ [])
+first_there names firsts before input number first found = record {
+  count = first.count;
+  first = λ name. position_push (λ (i : NameWidth). bytes_eq name i.name) before input ∙ same name (bytes_eq name input.name) refl ∙ first.first name;
+}
+  where
+    same : (name : List ℕ) (b : Bool) → bytes_eq name input.name ≡ b → or_at (input_of before name) b (length before) ≡ input_of before name
+    same name false is = at_other (input_of before name) (length before)
+    same name true is =
+        let named : name ≡ input.name = (bytes_eq-Decides name input.name).0 is in
+        at_found (input_of before name) (slice_index firsts number) (length before) true
+        (first.first name ∙ map_found (slice_index firsts) (number_of names name) number (ap (number_of names) named ∙ found))
+
+last_of : (firsts : List ℕ) (n : ℕ) → slice_index (firsts ++ n ∷ []) (length firsts) ≡ n
+last_of [] n = refl
+last_of (x ∷ firsts) n = last_of firsts n
+
+before_last : (firsts : List ℕ) (n k : ℕ) → k < length firsts → slice_index (firsts ++ n ∷ []) k ≡ slice_index firsts k
+before_last [] n k h = absurd (omega (arith, h))
+before_last (x ∷ firsts) n zero h = refl
+before_last (x ∷ firsts) n (suc k) h = before_last firsts n k (omega (arith, h))
+
+-- an input of a new name is the first of it
+pub first_new : (names : List (List ℕ)) (firsts : List ℕ) (before : List NameWidth) (input : NameWidth) → AreFirst names firsts before
+    → AreFirst (names ++ input.name ∷ []) (firsts ++ length before ∷ []) (before ++ input ∷ [])
+unfolding or_at
+first_new names firsts before input first = record {
+  count = omega (arith, length-append firsts (length before ∷ []), length-append names (input.name ∷ []), first.count);
+  first = λ name.
+      position_push (λ (i : NameWidth). bytes_eq name i.name) before input
+      ∙ ap (λ (o : Option ℕ). or_at o (bytes_eq name input.name) (length before)) (first.first name)
+      ∙ one_more (number_of names name) (bytes_eq name input.name) (λ k found. (position-Some (bytes_eq name) names k [] found).0)
+      ∙ sym (ap (option_map (slice_index (firsts ++ length before ∷ []))) (position_push (bytes_eq name) names input.name));
+}
+  where
+    one_more : (o : Option ℕ) (b : Bool) → ((k : ℕ) → o ≡ Some k → k < length names)
+        → or_at (option_map (slice_index firsts) o) b (length before) ≡ option_map (slice_index (firsts ++ length before ∷ [])) (or_at o b (length names))
+    one_more (Some k) b within = ap Some (sym (before_last firsts (length before) k (omega (arith, within k refl, first.count))))
+    one_more None true within = ap Some (sym (ap (slice_index (firsts ++ length before ∷ [])) (sym first.count) ∙ last_of firsts (length before)))
+    one_more None false within = refl
+
+-- no names and no inputs
+pub first_none : (firsts : List ℕ) → firsts ≡ [] → AreFirst [] firsts []
+first_none firsts none = record { count = ap length none; first = λ name. refl }
+
+-- the number of a name is one of those that are kept
+pub first_within : (names : List (List ℕ)) (firsts : List ℕ) (inputs : List NameWidth) (name : List ℕ) (number : ℕ) → AreFirst names firsts inputs → number_of names name ≡ Some number → number < length firsts
+first_within names firsts inputs name number first found = omega (arith, (position-Some (bytes_eq name) names number [] found).0, first.count)
+
+-- the first input of a name that was found, and that there is none
+pub find_first : (names : List (List ℕ)) (firsts : List ℕ) (inputs : List NameWidth) (name : List ℕ) (number x : ℕ) → AreFirst names firsts inputs → number_of names name ≡ Some number → x ≡ get_or firsts number x
+    → Some x ≡ input_of inputs name
+find_first names firsts inputs name number x first found is =
+    let same : get_or firsts number x ≡ slice_index firsts number = get_or_default firsts number x 0 (first_within names firsts inputs name number first found) in
+    ap Some (is ∙ same) ∙ sym (first.first name ∙ map_found (slice_index firsts) (number_of names name) number found)
+
+pub find_none : (names : List (List ℕ)) (firsts : List ℕ) (inputs : List NameWidth) (name : List ℕ) → AreFirst names firsts inputs → number_of names name ≡ None → None ≡ input_of inputs name
+find_none names firsts inputs name first found = sym (first.first name ∙ ap (option_map (slice_index firsts)) found)
+
+-- what adding a name gives
+pub added_new : (old new : List (List ℕ)) (name read : List ℕ) (added : Added) (k : ℕ) → added ≡ New k → Adds old read added new → read ≡ name → new ≡ old ++ name ∷ []
+added_new old new name read added k is adds same =
+    (subst (λ (a : Added). Adds old read a new) is adds).2 ∙ ap (λ (n : List ℕ). old ++ n ∷ []) same
+
+pub added_there : (old new : List (List ℕ)) (name read : List ℕ) (added : Added) (k : ℕ) → added ≡ There k → Adds old read added new → read ≡ name → (number_of old name ≡ Some k) × (new ≡ old)
+added_there old new name read added k is adds same =
+    let there = subst (λ (a : Added). Adds old read a new) is adds in
+    (ap (number_of old) (sym same) ∙ there.0, there.1)

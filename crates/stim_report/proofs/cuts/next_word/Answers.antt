@@ -1,0 +1,14 @@
+use Rattle.stim_report.proofs.CutsInTurn.{no_word, first_word, none_by_test, some_by_test}
+use Rattle.stim_report.proofs.cuts.next_word.Goals as goal
+
+pub returns-then-is_empty-clause-absent : goal.returns-then-is_empty-clause-absent
+returns-then-is_empty-clause-absent c = λ column.
+    let blank = c.split.ensures in
+    let word = c.split-2.ensures in
+    no_word column _ _ _ _ _ blank.parts blank.front blank.rest word.parts word.rest (none_by_test _ _ c.is_empty.ensures c.if-is_empty.true)
+
+pub returns-clause-found : goal.returns-clause-found
+returns-clause-found c = λ column.
+    let blank = c.split.ensures in
+    let word = c.split-2.ensures in
+    first_word column _ _ _ _ _ blank.parts blank.front word.parts word.front word.rest (some_by_test _ _ c.is_empty.ensures c.if-is_empty.false)

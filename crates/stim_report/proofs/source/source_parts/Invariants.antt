@@ -1,0 +1,10 @@
+use Rattle.std.proofs.Common.{length}
+use Rattle.stim_report.specs.Runs.{pieces_of}
+use Rattle.stim_report.proofs.SourceInTurn.{HasPassed}
+use Rattle.stim_report.proofs.source.source_parts.Given as goal
+
+abbrev pub invariant-loop-rest : goal.invariant-loop-rest
+invariant-loop-rest l = HasPassed l.bytes l.lines (pieces_of l.rest)
+
+abbrev pub decreases-loop-rest : goal.decreases-loop-rest
+decreases-loop-rest l = length (pieces_of l.rest)

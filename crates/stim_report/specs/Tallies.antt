@@ -1,0 +1,33 @@
+-- How a tally keeps totals: a count for each rule, none above the number of cycles, and a value of its width for each
+-- register, or none yet.
+use Rattle.std.specs.Prelude.{◌≡◌, ℕ, ◌+◌, ◌≤◌, ◌<◌, List, [], ◌∷◌, length, slice_get, slice_index, slice_index_or, Some}
+use Rattle.kw_bits.specs.BitVector.{BitVector}
+use Rattle.kw_bits.specs.Laws.{HasWidth}
+use Rattle.typed_core.specs.Evaluation.{unit}
+use Rattle.one_rule.specs.declared.rows.Row.{Row}
+use Rattle.stim_report.specs.Shapes.{widths_of}
+use Rattle.stim_report.specs.Summary.{fired_count, last_values}
+use Rattle.stim_report.specs.declared.shape.NameWidth.{NameWidth}
+
+-- the values are of the first registers
+abbrev pub AreOf : List NameWidth → List BitVector → Type 0
+AreOf registers values = (number width : ℕ) → number < length values → slice_get (widths_of registers) number ≡ Some width → HasWidth (slice_index_or values number unit) width
+
+pub record KeepsTotals (registers : List NameWidth) (rules : List (List ℕ)) (cycles : ℕ) (counts : List ℕ) (last : List BitVector) (room : ℕ) : Type 0 where
+  pub count_each : length counts ≡ length rules
+  pub no_more : (rule : ℕ) → rule < length counts → slice_index counts rule ≤ cycles
+  pub values : AreOf registers last
+  pub few : length last ≤ length registers
+  pub room_for_all : length registers ≤ room
+
+-- to each rule's count is added in how many cycles of the rows it fired
+pub record AddsCounts (old new : List ℕ) (rows : List Row) : Type 0 where
+  pub count : length new ≡ length old
+  pub added : (rule : ℕ) → rule < length old → slice_index new rule ≡ slice_index old rule + fired_count rows rule
+
+-- the values that are kept when rows come: those of the last row, unless it is the one that the values are of
+abbrev pub kept : List BitVector → List Row → List BitVector
+kept [] rows = last_values rows
+kept (value ∷ values) [] = value ∷ values
+kept (value ∷ values) (row ∷ []) = value ∷ values
+kept (value ∷ values) (row ∷ next ∷ rows) = last_values (row ∷ next ∷ rows)
