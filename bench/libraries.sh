@@ -1,6 +1,6 @@
 #!/usr/bin/env bash
-# Measures what libraries cost, by tests of three sizes each: the tokens of a text, and the numbers of names. It proves and
-# builds the tests if need be, and is run by hand.
+# Measures what libraries cost, by tests of several sizes: the tokens of a text, the numbers of names, the nodes of a net and
+# their evaluation. It proves and builds the tests if need be, and is run by hand.
 set -eu
 cd "$(dirname "$0")/.."
 . bench/cost.sh
@@ -20,4 +20,13 @@ koika_syntax:bytes of a text, cut into tokens:1048576:a_megabyte
 kw_base:names, each added and found:25000:twenty_five_thousand_names
 kw_base:names, each added and found:50000:fifty_thousand_names
 kw_base:names, each added and found:100000:a_hundred_thousand_names
+circuit_eval:nodes, each tested and added:100000:costs::a_hundred_thousand_nodes
+circuit_eval:nodes, each tested and added:200000:costs::two_hundred_thousand_nodes
+circuit_eval:nodes of 64 bits, evaluated:1000000:costs::a_thousand_steps_at_64_bits
+circuit_eval:nodes of 128 bits, evaluated:1000000:costs::a_thousand_steps_at_128_bits
 TESTS
+
+program=crates/circuit_eval/out/circuit_eval_tests
+command time -o "$room/memory" -f %M "$program" tests::costs::two_hundred_thousand_nodes >/dev/null
+echo
+echo "A net of 200,000 nodes takes at most $(tail -n 1 "$room/memory") KB, the program and the list that it is made of included."

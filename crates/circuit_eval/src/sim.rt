@@ -91,23 +91,15 @@ fn zero_outputs(alloc: Global, net: &Net, outputs: &[OutputWire]) -> Result<Vec<
 {
     let mut values = Vec::new(alloc);
     for wire in outputs {
-        values.push(zero(net.width(wire.id)))?;
+        values.push(Bits::zero(net.width(wire.id)))?;
     }
     Ok(values)
-}
-
-fn zero(width: u32) -> Bits
-    requires some { 1 ≤ width }
-    requires most { width ≤ 128 }
-    ensures { result ≡ record { width = width; number = 0 } }
-{
-    Bits::new(width, 0).unwrap()
 }
 
 fn room_for(alloc: Global, nodes: usize) -> Result<Vec<Bits>, NoMemory>
     ensures { IfOk result (λ values. length values.items ≡ nodes) }
 {
-    let bit = zero(1);
+    let bit = Bits::zero(1);
     let mut values = Vec::with_capacity(alloc, nodes)?;
     for _node in 0..nodes {
         values.push(bit)?;

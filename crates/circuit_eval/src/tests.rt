@@ -9,6 +9,7 @@ use std::alloc::Global;
 use std::process::Abort;
 use std::test::Fail;
 
+mod costs;
 mod operators;
 
 fn bits(rt: &impl Abort, width: u32, number: u128) -> Bits

@@ -103,7 +103,7 @@ impl Net {
 #[cfg(test)]
 mod tests {
     use crate::{Net, NetId, NetOne, NetOp, NetTwo};
-    use kw_bits::{Bits, NoMemory};
+    use kw_bits::Bits;
     use std::process::Abort;
     use std::test::Fail;
 
@@ -124,7 +124,7 @@ mod tests {
 
     #[test]
     fn equal_operators_are_one_node(rt: HostRuntime) -> Result<(), Fail> {
-        let bit = Bits::new(1, 1).ok_or(NoMemory)?;
+        let bit = Bits::new(1, 1).ok_or("no such bits")?;
         let mut net = Net::new(rt.alloc());
         let rows = [
             (NetOp::One(NetOne::Not, 0), None),

@@ -1,0 +1,332 @@
+// The parts of a rule's body as wires.
+ghost use Rattle.std.specs.Prelude.{◌≡◌, ℕ, List, IfOk, None, Some, if◌then◌else◌};
+ghost use Rattle.kw_bits.specs.BitVector.{BitVector};
+ghost use Rattle.net_graph.specs.Values.{Sources};
+ghost use Rattle.typed_core.specs.Valid.{ActionHasWidth, IsValid, declarations, externs_of};
+ghost use Rattle.typed_core.specs.Widths.{input_widths, register_widths};
+ghost use Rattle.net_action.specs.Gates.{Grows};
+ghost use Rattle.net_action.specs.Parts.{BinaryHasWidth, CanBe, CanBeOperand, IfHasWidth, IsMade, IsPart, IsRunning, LetHasWidth, SequenceHasWidth, UnaryHasWidth, WireFits, WriteHasWidth, binary_of, if_of, let_of, sequence_of, unary_of, wire_value, write_of};
+ghost use Rattle.net_action.specs.Wires.{ArePortWires, AreValues, HasWire, is_up};
+
+use crate::gates::{both, both_not, choice, constant, either};
+use crate::lookup::Asked;
+use crate::operation::{Operation, apply};
+use crate::operators::{input_wire, two};
+use crate::ports::{read, write};
+use crate::wires::{PortWires, RuleNet};
+use kw_bits::{Bits, NoMemory};
+use net_graph::{Net, NetId};
+use one_rule::Outside;
+use typed_core::{Action, Design, Scope, TwoOp};
+
+/// What a rule's body is made wires in.
+#[derive(Drop)]
+pub(crate) struct Context<'a, E> {
+    pub(crate) design: &'a Design,
+    pub(crate) externs: &'a E,
+    pub(crate) ports: &'a PortWires,
+}
+
+/// A wire with what an action comes to, if it comes to a value, where the rule still runs and the names that are bound
+/// round it have the values of these wires.
+#[cycle(part)]
+pub(crate) fn part<E: Outside>(
+    context: &Context<E>,
+    net: &mut Net,
+    run: &mut RuleNet,
+    action: &Action,
+    locals: &Scope<NetId>,
+) -> Result<Option<NetId>, NoMemory>
+    requires valid { IsValid context.now.design.now }
+    requires externs { E.kept context.now.externs.now ≡ externs_of context.now.design.now }
+    requires ports { ArePortWires net.old (register_widths context.now.design.now) context.now.ports.now }
+    requires run { IsRunning net.old (register_widths context.now.design.now) run.old }
+    requires ready { CanBe (ActionHasWidth (declarations context.now.design.now) action.now) net.old locals.now }
+    ensures grows { Grows (input_widths context.now.design.now) net.old net.new }
+    ensures part { IfOk result (λ wire. IsPart (declarations context.now.design.now) context.now.ports.now net.old run.old action.now locals.now net.new run.new wire) }
+{
+    match action {
+        Action::Unit => Ok(None),
+        Action::Const(value) => {
+            let known = constant(net, *value)?;
+            Ok(Some(known))
+        }
+        Action::Local(name) => Ok(locals.get(*name)),
+        Action::Input(input) => {
+            let given = input_wire(net, context.design, *input)?;
+            Ok(Some(given))
+        }
+        Action::One(operator, a) => {
+            let one = unary(context, net, run, Operation::One(*operator), a, locals)?;
+            Ok(one)
+        }
+        Action::Two(operator, a, b) => {
+            let joined = binary(context, net, run, *operator, a, b, locals)?;
+            Ok(joined)
+        }
+        Action::Slice(a, upper, lower) => {
+            let cut = unary(
+                context,
+                net,
+                run,
+                Operation::Slice(*upper, *lower),
+                a,
+                locals,
+            )?;
+            Ok(cut)
+        }
+        Action::Zext(a, width) => {
+            let wide = unary(context, net, run, Operation::Zext(*width), a, locals)?;
+            Ok(wide)
+        }
+        Action::Sext(a, width) => {
+            let signed = unary(context, net, run, Operation::Sext(*width), a, locals)?;
+            Ok(signed)
+        }
+        Action::Table(table, a) => {
+            let asked = Asked::Table(*table);
+            let entry = unary(context, net, run, Operation::Ask(asked), a, locals)?;
+            Ok(entry)
+        }
+        Action::Host(host, a) => {
+            let asked = Asked::Host(*host);
+            let told = unary(context, net, run, Operation::Ask(asked), a, locals)?;
+            Ok(told)
+        }
+        Action::Let(value, body) => {
+            let inside = bound(context, net, run, value, body, locals)?;
+            Ok(inside)
+        }
+        Action::If(condition, first, second) => {
+            let taken = conditional(context, net, run, condition, first, second, locals)?;
+            Ok(taken)
+        }
+        Action::Seq(first, second) => {
+            let last = sequence(context, net, run, first, second, locals)?;
+            Ok(last)
+        }
+        Action::Read(port, register) => {
+            let seen = read(context.design, context.ports, net, run, *port, *register)?;
+            Ok(Some(seen))
+        }
+        Action::Write(port, register, a) => {
+            let none = written(context, net, run, *port, *register, a, locals)?;
+            Ok(none)
+        }
+        Action::Abort => {
+            let never = constant(net, Bits::zero(1))?;
+            run.fires = never;
+            Ok(None)
+        }
+    }
+}
+
+// A wire with the value of an action that comes to one.
+#[cycle(part)]
+fn operand<E: Outside>(
+    context: &Context<E>,
+    net: &mut Net,
+    run: &mut RuleNet,
+    action: &Action,
+    locals: &Scope<NetId>,
+) -> Result<NetId, NoMemory>
+    requires valid { IsValid context.now.design.now }
+    requires externs { E.kept context.now.externs.now ≡ externs_of context.now.design.now }
+    requires ports { ArePortWires net.old (register_widths context.now.design.now) context.now.ports.now }
+    requires run { IsRunning net.old (register_widths context.now.design.now) run.old }
+    requires ready { CanBeOperand (declarations context.now.design.now) net.old action.now locals.now }
+    ensures grows { Grows (input_widths context.now.design.now) net.old net.new }
+    ensures part { IfOk result (λ wire. IsPart (declarations context.now.design.now) context.now.ports.now net.old run.old action.now locals.now net.new run.new (Some wire)) }
+{
+    let wire = part(context, net, run, action, locals)?;
+    match wire {
+        Some(id) => Ok(id),
+        None => unreachable!(),
+    }
+}
+
+// An operation on an operand.
+#[cycle(part)]
+fn unary<E: Outside>(
+    context: &Context<E>,
+    net: &mut Net,
+    run: &mut RuleNet,
+    operation: Operation,
+    a: &Action,
+    locals: &Scope<NetId>,
+) -> Result<Option<NetId>, NoMemory>
+    requires valid { IsValid context.now.design.now }
+    requires externs { E.kept context.now.externs.now ≡ externs_of context.now.design.now }
+    requires ports { ArePortWires net.old (register_widths context.now.design.now) context.now.ports.now }
+    requires run { IsRunning net.old (register_widths context.now.design.now) run.old }
+    requires ready { CanBe (UnaryHasWidth (declarations context.now.design.now) operation a.now) net.old locals.now }
+    ensures grows { Grows (input_widths context.now.design.now) net.old net.new }
+    ensures part { IfOk result (λ wire. IsMade (declarations context.now.design.now) context.now.ports.now net.old run.old (UnaryHasWidth (declarations context.now.design.now) operation a.now) (unary_of operation a.now) locals.now net.new run.new wire) }
+{
+    let x = operand(context, net, run, a, locals)?;
+    let wire = apply(context.design, context.externs, net, operation, x)?;
+    Ok(Some(wire))
+}
+
+// An operator on two operands.
+#[cycle(part)]
+fn binary<E: Outside>(
+    context: &Context<E>,
+    net: &mut Net,
+    run: &mut RuleNet,
+    operator: TwoOp,
+    a: &Action,
+    b: &Action,
+    locals: &Scope<NetId>,
+) -> Result<Option<NetId>, NoMemory>
+    requires valid { IsValid context.now.design.now }
+    requires externs { E.kept context.now.externs.now ≡ externs_of context.now.design.now }
+    requires ports { ArePortWires net.old (register_widths context.now.design.now) context.now.ports.now }
+    requires run { IsRunning net.old (register_widths context.now.design.now) run.old }
+    requires ready { CanBe (BinaryHasWidth (declarations context.now.design.now) operator a.now b.now) net.old locals.now }
+    ensures grows { Grows (input_widths context.now.design.now) net.old net.new }
+    ensures part { IfOk result (λ wire. IsMade (declarations context.now.design.now) context.now.ports.now net.old run.old (BinaryHasWidth (declarations context.now.design.now) operator a.now b.now) (binary_of operator a.now b.now) locals.now net.new run.new wire) }
+{
+    let x = operand(context, net, run, a, locals)?;
+    let y = operand(context, net, run, b, locals)?;
+    let wire = two(net, operator, x, y)?;
+    Ok(Some(wire))
+}
+
+// A body in which a name is bound to a value.
+#[cycle(part)]
+fn bound<E: Outside>(
+    context: &Context<E>,
+    net: &mut Net,
+    run: &mut RuleNet,
+    value: &Action,
+    body: &Action,
+    locals: &Scope<NetId>,
+) -> Result<Option<NetId>, NoMemory>
+    requires valid { IsValid context.now.design.now }
+    requires externs { E.kept context.now.externs.now ≡ externs_of context.now.design.now }
+    requires ports { ArePortWires net.old (register_widths context.now.design.now) context.now.ports.now }
+    requires run { IsRunning net.old (register_widths context.now.design.now) run.old }
+    requires ready { CanBe (LetHasWidth (declarations context.now.design.now) value.now body.now) net.old locals.now }
+    ensures grows { Grows (input_widths context.now.design.now) net.old net.new }
+    ensures part { IfOk result (λ wire. IsMade (declarations context.now.design.now) context.now.ports.now net.old run.old (LetHasWidth (declarations context.now.design.now) value.now body.now) (let_of value.now body.now) locals.now net.new run.new wire) }
+{
+    let x = operand(context, net, run, value, locals)?;
+    let inner = Scope::bind(x, &*locals);
+    let wire = part(context, net, run, body, &inner)?;
+    Ok(wire)
+}
+
+// One action after another.
+#[cycle(part)]
+fn sequence<E: Outside>(
+    context: &Context<E>,
+    net: &mut Net,
+    run: &mut RuleNet,
+    first: &Action,
+    second: &Action,
+    locals: &Scope<NetId>,
+) -> Result<Option<NetId>, NoMemory>
+    requires valid { IsValid context.now.design.now }
+    requires externs { E.kept context.now.externs.now ≡ externs_of context.now.design.now }
+    requires ports { ArePortWires net.old (register_widths context.now.design.now) context.now.ports.now }
+    requires run { IsRunning net.old (register_widths context.now.design.now) run.old }
+    requires ready { CanBe (SequenceHasWidth (declarations context.now.design.now) first.now second.now) net.old locals.now }
+    ensures grows { Grows (input_widths context.now.design.now) net.old net.new }
+    ensures part { IfOk result (λ wire. IsMade (declarations context.now.design.now) context.now.ports.now net.old run.old (SequenceHasWidth (declarations context.now.design.now) first.now second.now) (sequence_of first.now second.now) locals.now net.new run.new wire) }
+{
+    let _dropped = part(context, net, run, first, locals)?;
+    let wire = part(context, net, run, second, locals)?;
+    Ok(wire)
+}
+
+// A write of a value.
+#[cycle(part)]
+fn written<E: Outside>(
+    context: &Context<E>,
+    net: &mut Net,
+    run: &mut RuleNet,
+    port: u32,
+    register: u32,
+    a: &Action,
+    locals: &Scope<NetId>,
+) -> Result<Option<NetId>, NoMemory>
+    requires valid { IsValid context.now.design.now }
+    requires externs { E.kept context.now.externs.now ≡ externs_of context.now.design.now }
+    requires ports { ArePortWires net.old (register_widths context.now.design.now) context.now.ports.now }
+    requires run { IsRunning net.old (register_widths context.now.design.now) run.old }
+    requires ready { CanBe (WriteHasWidth (declarations context.now.design.now) port register a.now) net.old locals.now }
+    ensures grows { Grows (input_widths context.now.design.now) net.old net.new }
+    ensures part { IfOk result (λ wire. IsMade (declarations context.now.design.now) context.now.ports.now net.old run.old (WriteHasWidth (declarations context.now.design.now) port register a.now) (write_of port register a.now) locals.now net.new run.new wire) }
+{
+    let value = operand(context, net, run, a, locals)?;
+    write(
+        context.design,
+        context.ports,
+        net,
+        run,
+        port,
+        register,
+        value,
+    )?;
+    Ok(None)
+}
+
+// Both arms, of which one is taken.
+#[cycle(part)]
+fn conditional<E: Outside>(
+    context: &Context<E>,
+    net: &mut Net,
+    run: &mut RuleNet,
+    condition: &Action,
+    first: &Action,
+    second: &Action,
+    locals: &Scope<NetId>,
+) -> Result<Option<NetId>, NoMemory>
+    requires valid { IsValid context.now.design.now }
+    requires externs { E.kept context.now.externs.now ≡ externs_of context.now.design.now }
+    requires ports { ArePortWires net.old (register_widths context.now.design.now) context.now.ports.now }
+    requires run { IsRunning net.old (register_widths context.now.design.now) run.old }
+    requires ready { CanBe (IfHasWidth (declarations context.now.design.now) condition.now first.now second.now) net.old locals.now }
+    ensures grows { Grows (input_widths context.now.design.now) net.old net.new }
+    ensures part { IfOk result (λ wire. IsMade (declarations context.now.design.now) context.now.ports.now net.old run.old (IfHasWidth (declarations context.now.design.now) condition.now first.now second.now) (if_of condition.now first.now second.now) locals.now net.new run.new wire) }
+{
+    let x = operand(context, net, run, condition, locals)?;
+    let before = run.fires;
+    let taken = both(net, before, x)?;
+    run.fires = taken;
+    let a = part(context, net, run, first, locals)?;
+    let after_first = run.fires;
+    let other = both_not(net, before, x)?;
+    run.fires = other;
+    let b = part(context, net, run, second, locals)?;
+    let after = either(net, after_first, run.fires)?;
+    run.fires = after;
+    let wire = chosen(net, x, a, b)?;
+    Ok(wire)
+}
+
+// A wire with the value of the arm that is taken, where the arms come to values.
+fn chosen(
+    net: &mut Net,
+    condition: NetId,
+    first: Option<NetId>,
+    second: Option<NetId>,
+) -> Result<Option<NetId>, NoMemory>
+    requires condition { HasWire net.old condition 1 }
+    requires arms { (width : ℕ) × WireFits net.old width first × WireFits net.old width second }
+    ensures grows { (inputs : List ℕ) → Grows inputs net.old net.new }
+    ensures wire { IfOk result (λ wire. (width : ℕ) → WireFits net.old width first → WireFits net.new width wire) }
+    ensures value { IfOk result (λ wire. (s : Sources) (values : List BitVector) → AreValues s net.new values → wire_value values wire ≡ (if is_up values condition then wire_value values first else wire_value values second)) }
+{
+    match first {
+        None => Ok(None),
+        Some(a) => match second {
+            None => Ok(None),
+            Some(b) => {
+                let wire = choice(net, condition, a, b)?;
+                Ok(Some(wire))
+            }
+        },
+    }
+}
