@@ -1,0 +1,4 @@
+pub mod Caps
+pub mod Equations
+pub mod Runs
+pub mod Steps

@@ -1,0 +1,82 @@
+use crate::typed::{Typed, ValueType};
+use koika_types::{EnumDecl, Value};
+use kw_bits::{Sequence, Text};
+use typed_core::{HostSpec, Node, TableSpec};
+
+/// A field of a struct: its name and its type.
+#[derive(Debug, PartialEq, Eq, Drop)]
+pub struct Field {
+    pub name: Text,
+    pub of: ValueType,
+}
+
+/// A struct: its name, its fields in order and its width, which is 129 where it is more than 128.
+#[derive(Debug, PartialEq, Eq, Drop)]
+pub struct Struct {
+    pub name: Text,
+    pub fields: Sequence<Field>,
+    pub width: u32,
+}
+
+/// A register: its name, its type and width, and its first value.
+#[derive(Debug, PartialEq, Eq, Drop)]
+pub struct Register {
+    pub name: Text,
+    pub of: ValueType,
+    pub width: u32,
+    pub first: Value,
+}
+
+/// An input: its name, its type and width.
+#[derive(Debug, PartialEq, Eq, Drop)]
+pub struct Input {
+    pub name: Text,
+    pub of: ValueType,
+    pub width: u32,
+}
+
+/// A table and its name.
+#[derive(Debug, PartialEq, Eq, Drop)]
+pub struct Table {
+    pub name: Text,
+    pub spec: TableSpec,
+}
+
+/// A host function and its name.
+#[derive(Debug, PartialEq, Eq, Drop)]
+pub struct Host {
+    pub name: Text,
+    pub spec: HostSpec,
+}
+
+/// A function: its name, the types of its parameters, that of its result if it has one, and its body.
+#[derive(Debug, PartialEq, Eq, Drop)]
+pub struct Function {
+    pub name: Text,
+    pub parameters: Sequence<ValueType>,
+    pub result: Option<ValueType>,
+    pub body: Typed,
+}
+
+/// A rule: its name and its body.
+#[derive(Debug, PartialEq, Eq, Drop)]
+pub struct Rule {
+    pub name: Text,
+    pub body: Typed,
+}
+
+/// A design that is well typed, with the declarations of each kind in order and its names resolved to their numbers.
+#[derive(Debug, Drop)]
+pub struct Checked {
+    pub enums: Sequence<EnumDecl>,
+    pub structs: Sequence<Struct>,
+    pub registers: Sequence<Register>,
+    pub inputs: Sequence<Input>,
+    pub tables: Sequence<Table>,
+    pub hosts: Sequence<Host>,
+    pub functions: Sequence<Function>,
+    pub rules: Sequence<Rule>,
+    pub asserts: Sequence<u32>,
+    pub nodes: Sequence<Node>,
+    pub weight: u32,
+}

@@ -1,0 +1,16 @@
+//! Designs whose names are resolved: the typed tree that the checker makes of a design's tree.
+//!
+//! `specs/Sizes.antt` says what the weight and the depth of a typed tree are. The lowering takes a `Checked` without looking
+//! a name up.
+#![tactic(auto)]
+
+mod checked;
+mod measure;
+mod typed;
+
+pub use checked::{Checked, Field, Function, Host, Input, Register, Rule, Struct, Table};
+pub use measure::{MAX_DEPTH, MAX_WEIGHT, Measure, measure_of};
+pub use typed::{BaseType, Operation, Selection, Step, Typed, ValueType};
+
+#[cfg(test)]
+mod tests;

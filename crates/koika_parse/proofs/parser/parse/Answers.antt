@@ -1,0 +1,13 @@
+use Rattle.std.proofs.Common.{refl, arith}
+use Rattle.koika_parse.proofs.Names.{names_stand, starts_stand}
+use Rattle.koika_parse.proofs.Reading.{whole}
+use Rattle.koika_parse.proofs.parser.parse.Goals as goal
+
+pub invariant_of-source : goal.invariant_of-source
+invariant_of-source c = record { starts = starts_stand c.args.text.now c.args.tokens.now c.requires.stands; names = names_stand c.args.text.now c.args.tokens.now c.requires.stands }
+
+pub returns-in-Ok-clause-derived : goal.returns-in-Ok-clause-derived
+returns-in-Ok-clause-derived c = record { design = c.in-Ok.ensures.is; leaves = whole c.in-Ok.ensures.read refl c.in-Ok.ensures.all }
+
+pub returns-in-Ok-clause-few : goal.returns-in-Ok-clause-few
+returns-in-Ok-clause-few c = c.in-Ok.ensures.read.few (omega arith)

@@ -1,0 +1,13 @@
+use Rattle.koika_parse.proofs.Reading.{as_leaves}
+use Rattle.koika_parse.proofs.Parts.{is_literal, level_literal}
+use Rattle.koika_parse.proofs.Calls.{leaves_literal}
+use Rattle.koika_parse.proofs.source.Source.literal_expression.Goals as goal
+
+pub returns-clause-read : goal.returns-clause-read
+returns-clause-read c = as_leaves _ (leaves_literal c.in_ok-literal.literal) (c.in_ok-literal.ensures.read)
+
+pub returns-clause-is : goal.returns-clause-is
+returns-clause-is c = is_literal c.in_ok-literal.literal c.in_ok-literal.ensures.is
+
+pub returns-clause-level : goal.returns-clause-level
+returns-clause-level c = level_literal c.in_ok-literal.literal

@@ -1,0 +1,111 @@
+ghost use Rattle.std.specs.Prelude.{◌++◌, All, IfOk, map};
+ghost use Rattle.koika_syntax.specs.Grammar.{IsConstant, IsName, IsNonempty, constant_field_leaves, constant_leaves, struct_leaves};
+ghost use Rattle.koika_syntax.specs.Tree.{commas, name_leaves, sign};
+ghost use Rattle.koika_syntax.specs.declared.symbol.Symbol.TheVariants as symbols;
+ghost use Rattle.koika_parse.specs.Reading.{Reads};
+ghost use Rattle.koika_parse.specs.Parts.{IsConstantField};
+
+use crate::cursor::Cursor;
+use crate::source::Source;
+use crate::stop::Stop;
+use koika_syntax::{Constant, ConstantField, Symbol, TokenKind};
+
+impl<'a> Source<'a> {
+    /// Reads a constant.
+    #[cycle(constant)]
+    pub(crate) fn constant(&self, cursor: &mut Cursor) -> Result<Constant, Stop>
+        ensures read { IfOk result (λ found. Reads self.now cursor.old cursor.new (constant_leaves found)) }
+        ensures is { IfOk result IsConstant }
+    {
+        match self.peek(cursor) {
+            Some(TokenKind::Literal(_)) => self.literal_constant(cursor),
+            Some(TokenKind::Name) => self.named_constant(cursor),
+            Some(TokenKind::Symbol(Symbol::LeftBracket)) => self.constant_array(cursor),
+            _ => Err(Stop::Unexpected),
+        }
+    }
+
+    fn literal_constant(&self, cursor: &mut Cursor) -> Result<Constant, Stop>
+        ensures read { IfOk result (λ found. Reads self.now cursor.old cursor.new (constant_leaves found)) }
+        ensures is { IfOk result IsConstant }
+    {
+        let literal = self.literal(cursor)?;
+        Ok(Constant::Literal(literal))
+    }
+
+    // Reads `E::M` or `S::{..}`.
+    #[cycle(constant)]
+    fn named_constant(&self, cursor: &mut Cursor) -> Result<Constant, Stop>
+        ensures read { IfOk result (λ found. Reads self.now cursor.old cursor.new (constant_leaves found)) }
+        ensures is { IfOk result IsConstant }
+    {
+        let of = self.name(cursor)?;
+        self.sign(cursor, Symbol::ColonColon)?;
+        if self.is_at_name(cursor) {
+            let member = self.name(cursor)?;
+            return Ok(Constant::Member { of, member });
+        }
+        self.sign(cursor, Symbol::LeftBrace)?;
+        let fields = self.constant_fields(cursor)?;
+        let close = self.sign_at(cursor, Symbol::RightBrace)?;
+        Ok(Constant::Struct { of, fields, close })
+    }
+
+    // Reads fields with commas between them.
+    #[cycle(constant)]
+    fn constant_fields(&self, cursor: &mut Cursor) -> Result<Vec<ConstantField>, Stop>
+        ensures read { IfOk result (λ found. Reads self.now cursor.old cursor.new (commas (map constant_field_leaves found.items))) }
+        ensures is { IfOk result (λ found. All IsConstantField found.items) }
+        ensures some { IfOk result (λ found. IsNonempty found.items) }
+    {
+        let mut all = Vec::new(self.alloc);
+        let first = self.constant_field(cursor)?;
+        all.push(first)?;
+        'more: while self.is_at_sign(cursor, Symbol::Comma) {
+            self.sign(cursor, Symbol::Comma)?;
+            let next = self.constant_field(cursor)?;
+            all.push(next)?;
+        }
+        Ok(all)
+    }
+
+    #[cycle(constant)]
+    fn constant_field(&self, cursor: &mut Cursor) -> Result<ConstantField, Stop>
+        ensures read { IfOk result (λ found. Reads self.now cursor.old cursor.new (constant_field_leaves found)) }
+        ensures is { IfOk result IsConstantField }
+    {
+        let name = self.name(cursor)?;
+        self.sign(cursor, Symbol::Colon)?;
+        let value = self.constant(cursor)?;
+        Ok(ConstantField { name, value })
+    }
+
+    #[cycle(constant)]
+    fn constant_array(&self, cursor: &mut Cursor) -> Result<Constant, Stop>
+        ensures read { IfOk result (λ found. Reads self.now cursor.old cursor.new (constant_leaves found)) }
+        ensures is { IfOk result IsConstant }
+    {
+        let place = self.sign_at(cursor, Symbol::LeftBracket)?;
+        let elements = self.constants(cursor)?;
+        self.sign(cursor, Symbol::RightBracket)?;
+        Ok(Constant::Array { place, elements })
+    }
+
+    // Reads constants with commas between them.
+    #[cycle(constant)]
+    fn constants(&self, cursor: &mut Cursor) -> Result<Vec<Constant>, Stop>
+        ensures read { IfOk result (λ found. Reads self.now cursor.old cursor.new (commas (map constant_leaves found.items))) }
+        ensures is { IfOk result (λ found. All IsConstant found.items) }
+        ensures some { IfOk result (λ found. IsNonempty found.items) }
+    {
+        let mut all = Vec::new(self.alloc);
+        let first = self.constant(cursor)?;
+        all.push(first)?;
+        'more: while self.is_at_sign(cursor, Symbol::Comma) {
+            self.sign(cursor, Symbol::Comma)?;
+            let next = self.constant(cursor)?;
+            all.push(next)?;
+        }
+        Ok(all)
+    }
+}

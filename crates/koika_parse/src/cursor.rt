@@ -1,0 +1,8 @@
+/// How far the tokens of a text have been read.
+#[derive(Clone, Copy, Debug)]
+pub(crate) struct Cursor {
+    /// How many tokens have been read.
+    pub at: usize,
+    /// How many brackets are open.
+    pub depth: u32,
+}

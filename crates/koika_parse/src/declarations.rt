@@ -1,0 +1,270 @@
+ghost use Rattle.std.specs.Prelude.{◌<◌, ◌++◌, All, IfOk, OnOk, IfSome, map};
+ghost use Rattle.koika_syntax.specs.Grammar.{IsDeclaration, IsField, IsLiteral, IsMember, IsName, IsNonempty, IsType, declaration_leaves, field_leaves, member_leaves, result_leaves};
+ghost use Rattle.koika_syntax.specs.Tree.{commas, literal_leaves, name_leaves, word};
+ghost use Rattle.koika_parse.specs.Reading.{Reads, tokens_left};
+
+use crate::cursor::Cursor;
+use crate::source::Source;
+use crate::stop::Stop;
+use koika_syntax::{
+    Declaration, Field, Keyword, Literal, Member, Name, Symbol, TokenKind, TypeExpression, Width,
+};
+use kw_bits::Sequence;
+
+impl<'a> Source<'a> {
+    /// Reads a declaration.
+    pub(crate) fn declaration(&self, cursor: &mut Cursor) -> Result<Declaration, Stop>
+        ensures read { IfOk result (λ found. Reads self.now cursor.old cursor.new (declaration_leaves found)) }
+        ensures is { IfOk result IsDeclaration }
+        ensures some { OnOk result (tokens_left self.now cursor.new < tokens_left self.now cursor.old) }
+    {
+        match self.peek(cursor) {
+            Some(TokenKind::Keyword(Keyword::Enum)) => self.enum_declaration(cursor),
+            Some(TokenKind::Keyword(Keyword::Struct)) => self.struct_declaration(cursor),
+            Some(TokenKind::Keyword(Keyword::Reg)) => self.register_declaration(cursor),
+            Some(TokenKind::Keyword(Keyword::Input)) => self.input_declaration(cursor),
+            Some(TokenKind::Keyword(Keyword::Table)) => self.table_declaration(cursor),
+            Some(TokenKind::Keyword(Keyword::Host)) => self.host_declaration(cursor),
+            Some(TokenKind::Keyword(Keyword::Fun)) => self.function_declaration(cursor),
+            Some(TokenKind::Keyword(Keyword::Rule)) => self.rule_declaration(cursor),
+            Some(TokenKind::Keyword(Keyword::Assert)) => self.assert_declaration(cursor),
+            _ => Err(Stop::Unexpected),
+        }
+    }
+
+    // Reads the word of a declaration and the name behind it.
+    fn declared(&self, cursor: &mut Cursor, begin: Keyword) -> Result<Name, Stop>
+        ensures read { IfOk result (λ found. Reads self.now cursor.old cursor.new (word begin ++ name_leaves found)) }
+        ensures is { IfOk result IsName }
+    {
+        self.word(cursor, begin)?;
+        let name = self.name(cursor)?;
+        Ok(name)
+    }
+
+    fn enum_declaration(&self, cursor: &mut Cursor) -> Result<Declaration, Stop>
+        ensures read { IfOk result (λ found. Reads self.now cursor.old cursor.new (declaration_leaves found)) }
+        ensures is { IfOk result IsDeclaration }
+        ensures some { OnOk result (tokens_left self.now cursor.new < tokens_left self.now cursor.old) }
+    {
+        let name = self.declared(cursor, Keyword::Enum)?;
+        self.sign(cursor, Symbol::Colon)?;
+        let width = self.width(cursor)?;
+        self.sign(cursor, Symbol::LeftBrace)?;
+        let members = self.members(cursor)?;
+        self.sign(cursor, Symbol::RightBrace)?;
+        Ok(Declaration::Enum {
+            name,
+            width,
+            members,
+        })
+    }
+
+    fn members(&self, cursor: &mut Cursor) -> Result<Sequence<Member>, Stop>
+        ensures read { IfOk result (λ found. Reads self.now cursor.old cursor.new (commas (map member_leaves found))) }
+        ensures is { IfOk result (λ found. All IsMember found) }
+        ensures some { IfOk result (λ found. IsNonempty found) }
+    {
+        let mut all = Sequence::new(self.alloc);
+        let first = self.member(cursor)?;
+        all.push(first)?;
+        'more: while self.is_at_sign(cursor, Symbol::Comma) {
+            self.sign(cursor, Symbol::Comma)?;
+            let next = self.member(cursor)?;
+            all.push(next)?;
+        }
+        Ok(all)
+    }
+
+    fn member(&self, cursor: &mut Cursor) -> Result<Member, Stop>
+        ensures read { IfOk result (λ found. Reads self.now cursor.old cursor.new (member_leaves found)) }
+        ensures is { IfOk result IsMember }
+    {
+        let name = self.name(cursor)?;
+        self.sign(cursor, Symbol::Equals)?;
+        let value = self.literal(cursor)?;
+        Ok(Member { name, value })
+    }
+
+    fn struct_declaration(&self, cursor: &mut Cursor) -> Result<Declaration, Stop>
+        ensures read { IfOk result (λ found. Reads self.now cursor.old cursor.new (declaration_leaves found)) }
+        ensures is { IfOk result IsDeclaration }
+        ensures some { OnOk result (tokens_left self.now cursor.new < tokens_left self.now cursor.old) }
+    {
+        let name = self.declared(cursor, Keyword::Struct)?;
+        self.sign(cursor, Symbol::LeftBrace)?;
+        let fields = self.fields(cursor)?;
+        self.sign(cursor, Symbol::RightBrace)?;
+        Ok(Declaration::Struct { name, fields })
+    }
+
+    fn fields(&self, cursor: &mut Cursor) -> Result<Sequence<Field>, Stop>
+        ensures read { IfOk result (λ found. Reads self.now cursor.old cursor.new (commas (map field_leaves found))) }
+        ensures is { IfOk result (λ found. All IsField found) }
+        ensures some { IfOk result (λ found. IsNonempty found) }
+    {
+        let mut all = Sequence::new(self.alloc);
+        let first = self.field(cursor)?;
+        all.push(first)?;
+        'more: while self.is_at_sign(cursor, Symbol::Comma) {
+            self.sign(cursor, Symbol::Comma)?;
+            let next = self.field(cursor)?;
+            all.push(next)?;
+        }
+        Ok(all)
+    }
+
+    fn field(&self, cursor: &mut Cursor) -> Result<Field, Stop>
+        ensures read { IfOk result (λ found. Reads self.now cursor.old cursor.new (field_leaves found)) }
+        ensures is { IfOk result IsField }
+    {
+        let name = self.name(cursor)?;
+        self.sign(cursor, Symbol::Colon)?;
+        let of = self.type_expression(cursor)?;
+        Ok(Field { name, of })
+    }
+
+    fn register_declaration(&self, cursor: &mut Cursor) -> Result<Declaration, Stop>
+        ensures read { IfOk result (λ found. Reads self.now cursor.old cursor.new (declaration_leaves found)) }
+        ensures is { IfOk result IsDeclaration }
+        ensures some { OnOk result (tokens_left self.now cursor.new < tokens_left self.now cursor.old) }
+    {
+        let name = self.declared(cursor, Keyword::Reg)?;
+        self.sign(cursor, Symbol::Colon)?;
+        let of = self.type_expression(cursor)?;
+        self.sign(cursor, Symbol::Equals)?;
+        let first = self.constant(cursor)?;
+        self.sign(cursor, Symbol::Semicolon)?;
+        Ok(Declaration::Register { name, of, first })
+    }
+
+    fn input_declaration(&self, cursor: &mut Cursor) -> Result<Declaration, Stop>
+        ensures read { IfOk result (λ found. Reads self.now cursor.old cursor.new (declaration_leaves found)) }
+        ensures is { IfOk result IsDeclaration }
+        ensures some { OnOk result (tokens_left self.now cursor.new < tokens_left self.now cursor.old) }
+    {
+        let name = self.declared(cursor, Keyword::Input)?;
+        self.sign(cursor, Symbol::Colon)?;
+        let of = self.type_expression(cursor)?;
+        self.sign(cursor, Symbol::Semicolon)?;
+        Ok(Declaration::Input { name, of })
+    }
+
+    fn table_declaration(&self, cursor: &mut Cursor) -> Result<Declaration, Stop>
+        ensures read { IfOk result (λ found. Reads self.now cursor.old cursor.new (declaration_leaves found)) }
+        ensures is { IfOk result IsDeclaration }
+        ensures some { OnOk result (tokens_left self.now cursor.new < tokens_left self.now cursor.old) }
+    {
+        let name = self.declared(cursor, Keyword::Table)?;
+        self.sign(cursor, Symbol::Colon)?;
+        let input = self.width(cursor)?;
+        self.sign(cursor, Symbol::Arrow)?;
+        let output = self.width(cursor)?;
+        self.sign(cursor, Symbol::LeftBrace)?;
+        let entries = self.literals(cursor)?;
+        self.sign(cursor, Symbol::RightBrace)?;
+        Ok(Declaration::Table {
+            name,
+            input,
+            output,
+            entries,
+        })
+    }
+
+    fn literals(&self, cursor: &mut Cursor) -> Result<Sequence<Literal>, Stop>
+        ensures read { IfOk result (λ found. Reads self.now cursor.old cursor.new (commas (map literal_leaves found))) }
+        ensures is { IfOk result (λ found. All IsLiteral found) }
+        ensures some { IfOk result (λ found. IsNonempty found) }
+    {
+        let mut all = Sequence::new(self.alloc);
+        let first = self.literal(cursor)?;
+        all.push(first)?;
+        'more: while self.is_at_sign(cursor, Symbol::Comma) {
+            self.sign(cursor, Symbol::Comma)?;
+            let next = self.literal(cursor)?;
+            all.push(next)?;
+        }
+        Ok(all)
+    }
+
+    fn host_declaration(&self, cursor: &mut Cursor) -> Result<Declaration, Stop>
+        ensures read { IfOk result (λ found. Reads self.now cursor.old cursor.new (declaration_leaves found)) }
+        ensures is { IfOk result IsDeclaration }
+        ensures some { OnOk result (tokens_left self.now cursor.new < tokens_left self.now cursor.old) }
+    {
+        let name = self.declared(cursor, Keyword::Host)?;
+        self.sign(cursor, Symbol::Colon)?;
+        let input = self.width(cursor)?;
+        self.sign(cursor, Symbol::Arrow)?;
+        let output = self.width(cursor)?;
+        self.sign(cursor, Symbol::Semicolon)?;
+        Ok(Declaration::Host {
+            name,
+            input,
+            output,
+        })
+    }
+
+    fn function_declaration(&self, cursor: &mut Cursor) -> Result<Declaration, Stop>
+        ensures read { IfOk result (λ found. Reads self.now cursor.old cursor.new (declaration_leaves found)) }
+        ensures is { IfOk result IsDeclaration }
+        ensures some { OnOk result (tokens_left self.now cursor.new < tokens_left self.now cursor.old) }
+    {
+        let name = self.declared(cursor, Keyword::Fun)?;
+        self.sign(cursor, Symbol::LeftParenthesis)?;
+        let parameters = self.parameters(cursor)?;
+        self.sign(cursor, Symbol::RightParenthesis)?;
+        self.sign(cursor, Symbol::Colon)?;
+        let result = self.result(cursor)?;
+        let body = self.block(cursor)?;
+        Ok(Declaration::Function {
+            name,
+            parameters,
+            result,
+            body,
+        })
+    }
+
+    fn parameters(&self, cursor: &mut Cursor) -> Result<Sequence<Field>, Stop>
+        ensures read { IfOk result (λ found. Reads self.now cursor.old cursor.new (commas (map field_leaves found))) }
+        ensures is { IfOk result (λ found. All IsField found) }
+    {
+        if self.is_at_sign(cursor, Symbol::RightParenthesis) {
+            let none = Sequence::new(self.alloc);
+            return Ok(none);
+        }
+        self.fields(cursor)
+    }
+
+    // Reads a type or `unit`.
+    fn result(&self, cursor: &mut Cursor) -> Result<Option<TypeExpression>, Stop>
+        ensures read { IfOk result (λ found. Reads self.now cursor.old cursor.new (result_leaves found)) }
+        ensures is { IfOk result (λ found. IfSome found IsType) }
+    {
+        if self.is_at_word(cursor, Keyword::Unit) {
+            self.word(cursor, Keyword::Unit)?;
+            return Ok(None);
+        }
+        Ok(Some(self.type_expression(cursor)?))
+    }
+
+    fn rule_declaration(&self, cursor: &mut Cursor) -> Result<Declaration, Stop>
+        ensures read { IfOk result (λ found. Reads self.now cursor.old cursor.new (declaration_leaves found)) }
+        ensures is { IfOk result IsDeclaration }
+        ensures some { OnOk result (tokens_left self.now cursor.new < tokens_left self.now cursor.old) }
+    {
+        let name = self.declared(cursor, Keyword::Rule)?;
+        let body = self.block(cursor)?;
+        Ok(Declaration::Rule { name, body })
+    }
+
+    fn assert_declaration(&self, cursor: &mut Cursor) -> Result<Declaration, Stop>
+        ensures read { IfOk result (λ found. Reads self.now cursor.old cursor.new (declaration_leaves found)) }
+        ensures is { IfOk result IsDeclaration }
+        ensures some { OnOk result (tokens_left self.now cursor.new < tokens_left self.now cursor.old) }
+    {
+        let name = self.declared(cursor, Keyword::Assert)?;
+        self.sign(cursor, Symbol::Semicolon)?;
+        Ok(Declaration::Assert(name))
+    }
+}

@@ -1,0 +1,269 @@
+ghost use Rattle.std.specs.Prelude.{ℕ, ◌≡◌, ◌<◌, ◌≤◌, ◌++◌, All, IfOk, OnOk, IfSome, map};
+ghost use Rattle.koika_syntax.specs.Grammar.{IsBlock, IsExpression, IsNonempty, arm_leaves, block_leaves, expression_leaves, last_leaves, level, level_of, operand_leaves, statement_leaves};
+ghost use Rattle.koika_syntax.specs.Tree.{all_of, binary_symbol, sign};
+ghost use Rattle.koika_parse.specs.Reading.{Reads, tokens_left};
+ghost use Rattle.koika_parse.specs.Parts.{IsArm, IsOperandIn, IsStatement};
+
+use crate::cursor::Cursor;
+use crate::source::Source;
+use crate::stop::Stop;
+use koika_syntax::{
+    Arm, BinaryOperator, Block, Expression, Keyword, Operand, Statement, Symbol, TokenKind,
+};
+
+// The statements of a block, and its last expression.
+#[derive(Drop)]
+struct Inside {
+    statements: Vec<Statement>,
+    value: Option<Box<Expression>>,
+}
+
+/// The tightest level of operators.
+const TIGHTEST: u32 = 9;
+
+impl<'a> Source<'a> {
+    /// Reads an expression.
+    #[cycle(expression)]
+    pub(crate) fn expression(&self, cursor: &mut Cursor) -> Result<Expression, Stop>
+        ensures read { IfOk result (λ found. Reads self.now cursor.old cursor.new (expression_leaves found)) }
+        ensures is { IfOk result IsExpression }
+    {
+        if self.is_at_word(cursor, Keyword::If) {
+            self.conditional(cursor)
+        } else {
+            self.chain(cursor, 1)
+        }
+    }
+
+    /// Reads an expression.
+    #[cycle(expression)]
+    pub(crate) fn boxed(&self, cursor: &mut Cursor) -> Result<Box<Expression>, Stop>
+        ensures read { IfOk result (λ found. Reads self.now cursor.old cursor.new (expression_leaves found.value)) }
+        ensures is { IfOk result (λ found. IsExpression found.value) }
+    {
+        let inside = self.expression(cursor)?;
+        let boxed = Box::new(self.alloc, inside)?;
+        Ok(boxed)
+    }
+
+    // Reads `if c { .. }`, and what hangs on it by `else`.
+    #[cycle(expression)]
+    fn conditional(&self, cursor: &mut Cursor) -> Result<Expression, Stop>
+        ensures read { IfOk result (λ found. Reads self.now cursor.old cursor.new (expression_leaves found)) }
+        ensures is { IfOk result IsExpression }
+    {
+        let mut arms = Vec::new(self.alloc);
+        let first = self.arm(cursor)?;
+        arms.push(first)?;
+        'more: while self.is_at_word(cursor, Keyword::Else) {
+            self.word(cursor, Keyword::Else)?;
+            if !self.is_at_word(cursor, Keyword::If) {
+                let last = self.block(cursor)?;
+                return Ok(Expression::If {
+                    arms,
+                    otherwise: Some(last),
+                });
+            }
+            let next = self.arm(cursor)?;
+            arms.push(next)?;
+        }
+        Ok(Expression::If {
+            arms,
+            otherwise: None,
+        })
+    }
+
+    #[cycle(expression)]
+    fn arm(&self, cursor: &mut Cursor) -> Result<Arm, Stop>
+        ensures read { IfOk result (λ found. Reads self.now cursor.old cursor.new (arm_leaves found)) }
+        ensures is { IfOk result IsArm }
+    {
+        let place = self.word_at(cursor, Keyword::If)?;
+        let condition = self.chain(cursor, 1)?;
+        let body = self.block(cursor)?;
+        Ok(Arm {
+            place,
+            condition,
+            body,
+        })
+    }
+
+    /// Reads statements and a last expression in their brackets.
+    #[cycle(expression)]
+    pub(crate) fn block(&self, cursor: &mut Cursor) -> Result<Block, Stop>
+        ensures read { IfOk result (λ found. Reads self.now cursor.old cursor.new (block_leaves found)) }
+        ensures is { IfOk result IsBlock }
+    {
+        let place = self.sign_at(cursor, Symbol::LeftBrace)?;
+        let inside = self.inside(cursor)?;
+        self.sign(cursor, Symbol::RightBrace)?;
+        Ok(Block {
+            place,
+            statements: inside.statements,
+            value: inside.value,
+        })
+    }
+
+    // Reads what stands between the brackets of a block.
+    #[cycle(expression)]
+    fn inside(&self, cursor: &mut Cursor) -> Result<Inside, Stop>
+        ensures read { IfOk result (λ found. Reads self.now cursor.old cursor.new
+            (all_of (map statement_leaves found.statements.items) ++ last_leaves found.value (λ value. expression_leaves value.value))) }
+        ensures statements { IfOk result (λ found. All IsStatement found.statements.items) }
+        ensures value { IfOk result (λ found. IfSome found.value (λ value. IsExpression value.value)) }
+    {
+        let mut statements = Vec::new(self.alloc);
+        'more: while !self.is_at_sign(cursor, Symbol::RightBrace) {
+            if self.is_at_word(cursor, Keyword::Let) {
+                let next = self.binding(cursor)?;
+                statements.push(next)?;
+                continue;
+            }
+            let found = self.expression(cursor)?;
+            if !self.is_at_sign(cursor, Symbol::Semicolon) {
+                let last = Box::new(self.alloc, found)?;
+                return Ok(Inside {
+                    statements,
+                    value: Some(last),
+                });
+            }
+            self.sign(cursor, Symbol::Semicolon)?;
+            statements.push(Statement::Do(found))?;
+        }
+        Ok(Inside {
+            statements,
+            value: None,
+        })
+    }
+
+    // Reads `let NAME = e ;`.
+    #[cycle(expression)]
+    fn binding(&self, cursor: &mut Cursor) -> Result<Statement, Stop>
+        ensures read { IfOk result (λ found. Reads self.now cursor.old cursor.new (statement_leaves found)) }
+        ensures is { IfOk result IsStatement }
+        ensures some { OnOk result (tokens_left self.now cursor.new < tokens_left self.now cursor.old) }
+    {
+        self.word(cursor, Keyword::Let)?;
+        let name = self.name(cursor)?;
+        self.sign(cursor, Symbol::Equals)?;
+        let value = self.expression(cursor)?;
+        self.sign(cursor, Symbol::Semicolon)?;
+        Ok(Statement::Let { name, value })
+    }
+
+    // Reads operands that are joined by operators of this level, or one operand.
+    #[cycle(expression)]
+    fn chain(&self, cursor: &mut Cursor, loosest: u32) -> Result<Expression, Stop>
+        requires low { 0 < loosest }
+        requires high { loosest ≤ 10 }
+        ensures read { IfOk result (λ found. Reads self.now cursor.old cursor.new (expression_leaves found)) }
+        ensures is { IfOk result IsExpression }
+        ensures level { IfOk result (λ found. loosest ≤ level found) }
+    {
+        if loosest > TIGHTEST {
+            return self.unary(cursor);
+        }
+        let inside = self.chain(cursor, loosest + 1)?;
+        if !self.is_at_operator(cursor, loosest) {
+            return Ok(inside);
+        }
+        let first = Box::new(self.alloc, inside)?;
+        let rest = self.operands(cursor, loosest)?;
+        Ok(Expression::Chain { first, rest })
+    }
+
+    // Reads operators of a level, each with the operand behind it, at least one.
+    #[cycle(expression)]
+    fn operands(&self, cursor: &mut Cursor, wanted: u32) -> Result<Vec<Operand>, Stop>
+        requires low { 0 < wanted }
+        requires high { wanted ≤ 9 }
+        ensures read { IfOk result (λ found. Reads self.now cursor.old cursor.new (all_of (map operand_leaves found.items))) }
+        ensures is { IfOk result (λ found. All (IsOperandIn wanted) found.items) }
+        ensures some { IfOk result (λ found. IsNonempty found.items) }
+    {
+        let mut all = Vec::new(self.alloc);
+        let first = self.operand(cursor, wanted)?;
+        all.push(first)?;
+        'more: while self.is_at_operator(cursor, wanted) {
+            let next = self.operand(cursor, wanted)?;
+            all.push(next)?;
+        }
+        Ok(all)
+    }
+
+    #[cycle(expression)]
+    fn operand(&self, cursor: &mut Cursor, wanted: u32) -> Result<Operand, Stop>
+        requires low { 0 < wanted }
+        requires high { wanted ≤ 9 }
+        ensures read { IfOk result (λ found. Reads self.now cursor.old cursor.new (operand_leaves found)) }
+        ensures is { IfOk result (IsOperandIn wanted) }
+        ensures some { OnOk result (tokens_left self.now cursor.new < tokens_left self.now cursor.old) }
+    {
+        let operator = self.operator(cursor, wanted)?;
+        let operand = self.chain(cursor, wanted + 1)?;
+        Ok(Operand { operator, operand })
+    }
+
+    // Reads an operator of this level.
+    fn operator(&self, cursor: &mut Cursor, wanted: u32) -> Result<BinaryOperator, Stop>
+        ensures read { IfOk result (λ found. Reads self.now cursor.old cursor.new (sign (binary_symbol found))) }
+        ensures level { IfOk result (λ found. level_of found ≡ wanted) }
+    {
+        match self.operator_at(cursor, wanted) {
+            None => Err(Stop::Unexpected),
+            Some(operator) => {
+                self.sign(cursor, operator.symbol())?;
+                Ok(operator)
+            }
+        }
+    }
+
+    // Whether the next token is an operator of this level.
+    fn is_at_operator(&self, cursor: &Cursor, wanted: u32) -> bool {
+        self.operator_at(cursor, wanted).is_some()
+    }
+
+    // The next token, if it is an operator of this level.
+    fn operator_at(&self, cursor: &Cursor, wanted: u32) -> Option<BinaryOperator>
+        ensures { IfSome result (λ operator. level_of operator ≡ wanted) }
+    {
+        match self.peek(cursor) {
+            Some(TokenKind::Symbol(found)) => of_level(operator_of(found)?, wanted),
+            _ => None,
+        }
+    }
+}
+
+// The operator, if it is of this level.
+fn of_level(operator: BinaryOperator, wanted: u32) -> Option<BinaryOperator>
+    ensures { IfSome result (λ found. level_of found ≡ wanted) }
+{
+    if operator.level() == wanted {
+        Some(operator)
+    } else {
+        None
+    }
+}
+
+// The operator between two operands that is written so.
+fn operator_of(found: Symbol) -> Option<BinaryOperator> {
+    match found {
+        Symbol::Bar => Some(BinaryOperator::Or),
+        Symbol::Caret => Some(BinaryOperator::Xor),
+        Symbol::Ampersand => Some(BinaryOperator::And),
+        Symbol::EqualsEquals => Some(BinaryOperator::Equal),
+        Symbol::NotEquals => Some(BinaryOperator::NotEqual),
+        Symbol::Less => Some(BinaryOperator::Less),
+        Symbol::LessEquals => Some(BinaryOperator::LessOrEqual),
+        Symbol::Greater => Some(BinaryOperator::Greater),
+        Symbol::GreaterEquals => Some(BinaryOperator::GreaterOrEqual),
+        Symbol::PlusPlus => Some(BinaryOperator::Concat),
+        Symbol::LessLess => Some(BinaryOperator::ShiftLeft),
+        Symbol::GreaterGreater => Some(BinaryOperator::ShiftRight),
+        Symbol::GreaterGreaterGreater => Some(BinaryOperator::ShiftRightSigned),
+        Symbol::Plus => Some(BinaryOperator::Add),
+        Symbol::Minus => Some(BinaryOperator::Subtract),
+        Symbol::Star => Some(BinaryOperator::Multiply),
+        _ => None,
+    }
+}

@@ -1,0 +1,22 @@
+//! From the tokens of a design to its tree.
+//!
+//! What tokens a tree stands for and which trees are the grammar's stands in `koika_syntax`;
+//! `specs/Reading.antt` says what a reader of a part has read. The checker and the command `print` call
+//! `parse`.
+#![tactic(auto, using(crate::proofs::Reading::reading))]
+
+mod constants;
+mod cursor;
+mod declarations;
+mod expressions;
+mod parser;
+mod primaries;
+mod scheduler;
+mod source;
+mod stop;
+#[cfg(test)]
+mod tests;
+mod tokens;
+mod types;
+
+pub use parser::parse;

@@ -1,0 +1,101 @@
+ghost use Rattle.std.specs.Prelude.{◌≡◌, ◌≤◌, All, Err, IfOk, length};
+ghost use Rattle.kw_base.specs.Fault.{IfFault};
+ghost use Rattle.std.specs.List.{flat_map};
+ghost use Rattle.koika_syntax.specs.Grammar.{Derives, IsDeclaration, IsDesign, declaration_leaves, tree_leaves};
+ghost use Rattle.koika_syntax.specs.Tokens.{StandsIn};
+ghost use Rattle.koika_syntax.specs.declared.tree.Tree.{Tree};
+ghost use Rattle.koika_parse.specs.Brackets.{AreFewOpen};
+ghost use Rattle.koika_parse.specs.Faults.{IsAtToken, offset_at};
+ghost use Rattle.koika_parse.specs.Reading.{Reads};
+
+use crate::cursor::Cursor;
+use crate::source::Source;
+use crate::stop::Stop;
+use koika_syntax::{Declaration, Keyword, Token, Tree};
+use kw_base::{Fault, Refusal, place_of};
+use kw_bits::Sequence;
+use std::alloc::Global;
+
+/// The tree of a text, whose tokens these are, or its first fault: 11 at a token that the grammar doesn't
+/// allow, or behind the text where it ends too early, and 12 at a 65th open bracket.
+pub fn parse(alloc: Global, text: &[u8], tokens: &[Token]) -> Result<Tree, Refusal>
+    requires stands { All (StandsIn text.now) tokens.now }
+    ensures derived { IfOk result (λ tree. Derives text.now tree tokens.now) }
+    ensures few { IfOk result (λ tree. AreFewOpen 0 (tree_leaves tree)) }
+    ensures fault { IfFault result (IsAtToken text.now tokens.now) }
+{
+    let source = Source {
+        alloc,
+        text,
+        tokens,
+    };
+    let mut cursor = Cursor { at: 0, depth: 0 };
+    match source.tree(&mut cursor) {
+        Ok(tree) => Ok(tree),
+        Err(stop) => Err(source.refusal(&cursor, stop)),
+    }
+}
+
+impl<'a> Source<'a> {
+    // Reads a whole design.
+    fn tree(&self, cursor: &mut Cursor) -> Result<Tree, Stop>
+        ensures read { IfOk result (λ found. Reads self.now cursor.old cursor.new (tree_leaves found)) }
+        ensures is { IfOk result IsDesign }
+        ensures all { IfOk result (λ found. length self.now.tokens.now ≤ cursor.new.at) }
+    {
+        let declarations = self.declarations(cursor)?;
+        let schedule = self.word_at(cursor, Keyword::Schedule)?;
+        let scheduler = self.scheduler(cursor)?;
+        if cursor.at < self.tokens.len() {
+            return Err(Stop::Unexpected);
+        }
+        Ok(Tree {
+            declarations,
+            schedule,
+            scheduler,
+        })
+    }
+
+    fn declarations(&self, cursor: &mut Cursor) -> Result<Sequence<Declaration>, Stop>
+        ensures read { IfOk result (λ found. Reads self.now cursor.old cursor.new (flat_map declaration_leaves found)) }
+        ensures is { IfOk result (λ found. All IsDeclaration found) }
+    {
+        let mut all = Sequence::new(self.alloc);
+        'more: while !self.is_at_word(cursor, Keyword::Schedule) {
+            let next = self.declaration(cursor)?;
+            all.push(next)?;
+        }
+        Ok(all)
+    }
+
+    // What is answered where reading ends at the next token.
+    fn refusal(&self, cursor: &Cursor, stop: Stop) -> Refusal
+        ensures { IfFault {X = Tree} (Err result) (IsAtToken self.now.text.now self.now.tokens.now) }
+    {
+        match stop {
+            Stop::Unexpected => Refusal::Fault(self.fault(cursor, 11)),
+            Stop::TooDeep => Refusal::Fault(self.fault(cursor, 12)),
+            Stop::NoMemory => Refusal::NoMemory,
+        }
+    }
+
+    fn fault(&self, cursor: &Cursor, number: u32) -> Fault
+        requires low { 11 ≤ number }
+        requires high { number ≤ 12 }
+        ensures { IsAtToken self.now.text.now self.now.tokens.now result }
+    {
+        Fault::new(number, place_of(self.text, self.offset(cursor)))
+    }
+
+    // Where the next token begins, or where the text ends.
+    fn offset(&self, cursor: &Cursor) -> usize
+        ensures offset { result ≡ offset_at self.now.text.now self.now.tokens.now cursor.now.at }
+        ensures within { result ≤ length self.now.text.now }
+    {
+        if cursor.at < self.tokens.len() {
+            self.tokens[cursor.at].start as usize
+        } else {
+            self.text.len()
+        }
+    }
+}

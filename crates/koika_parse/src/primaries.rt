@@ -1,0 +1,489 @@
+ghost use Rattle.std.specs.Prelude.{◌≡◌, ◌<◌, ◌++◌, All, IfOk, OnOk, map};
+ghost use Rattle.std.specs.List.{flat_map};
+ghost use Rattle.koika_syntax.specs.Grammar.{IsExpression, IsNonempty, IsPart, IsSuffix, expression_leaves, field_value_leaves, level, part_leaves, prefix_leaves, suffix_leaves};
+ghost use Rattle.koika_syntax.specs.Tree.{commas, read_word, write_word};
+ghost use Rattle.koika_parse.specs.Reading.{Reads, tokens_left};
+ghost use Rattle.koika_parse.specs.Parts.{IsFieldValue};
+
+use crate::cursor::Cursor;
+use crate::source::Source;
+use crate::stop::Stop;
+use koika_syntax::{
+    Expression, Extension, FieldValue, Keyword, Part, Prefix, SignedComparison, Suffix, Symbol,
+    TokenKind, UnaryOperator,
+};
+use kw_bits::Sequence;
+
+impl<'a> Source<'a> {
+    /// Reads operators in front of an operand, and the operand.
+    #[cycle(expression)]
+    pub(crate) fn unary(&self, cursor: &mut Cursor) -> Result<Expression, Stop>
+        ensures read { IfOk result (λ found. Reads self.now cursor.old cursor.new (expression_leaves found)) }
+        ensures is { IfOk result IsExpression }
+        ensures level { IfOk result (λ found. 9 < level found) }
+    {
+        if !self.is_at_prefix(cursor) {
+            return self.postfix(cursor);
+        }
+        let prefixes = self.prefixes(cursor)?;
+        let inside = self.postfix(cursor)?;
+        let operand = Box::new(self.alloc, inside)?;
+        Ok(Expression::Unary { prefixes, operand })
+    }
+
+    // Reads operators in front of an operand, at least one.
+    fn prefixes(&self, cursor: &mut Cursor) -> Result<Sequence<Prefix>, Stop>
+        ensures read { IfOk result (λ found. Reads self.now cursor.old cursor.new (flat_map prefix_leaves found)) }
+        ensures some { IfOk result (λ found. IsNonempty found) }
+    {
+        let mut all = Sequence::new(self.alloc);
+        let first = self.prefix(cursor)?;
+        all.push(first)?;
+        'more: while self.is_at_prefix(cursor) {
+            let next = self.prefix(cursor)?;
+            all.push(next)?;
+        }
+        Ok(all)
+    }
+
+    fn prefix(&self, cursor: &mut Cursor) -> Result<Prefix, Stop>
+        ensures read { IfOk result (λ found. Reads self.now cursor.old cursor.new (prefix_leaves found)) }
+        ensures some { OnOk result (tokens_left self.now cursor.new < tokens_left self.now cursor.old) }
+    {
+        match self.prefix_at(cursor) {
+            None => Err(Stop::Unexpected),
+            Some(operator) => {
+                let place = self.sign_at(cursor, operator.symbol())?;
+                Ok(Prefix { operator, place })
+            }
+        }
+    }
+
+    // Whether the next token is an operator that stands in front of its operand.
+    fn is_at_prefix(&self, cursor: &Cursor) -> bool {
+        self.prefix_at(cursor).is_some()
+    }
+
+    // The next token, if it is an operator that stands in front of its operand.
+    fn prefix_at(&self, cursor: &Cursor) -> Option<UnaryOperator> {
+        match self.peek(cursor) {
+            Some(TokenKind::Symbol(Symbol::Tilde)) => Some(UnaryOperator::Not),
+            Some(TokenKind::Symbol(Symbol::Minus)) => Some(UnaryOperator::Negate),
+            _ => None,
+        }
+    }
+
+    // Reads a primary and what stands behind it.
+    #[cycle(expression)]
+    fn postfix(&self, cursor: &mut Cursor) -> Result<Expression, Stop>
+        ensures read { IfOk result (λ found. Reads self.now cursor.old cursor.new (expression_leaves found)) }
+        ensures is { IfOk result IsExpression }
+        ensures level { IfOk result (λ found. 10 < level found) }
+    {
+        let inside = self.primary(cursor)?;
+        if !self.is_at_suffix(cursor) {
+            return Ok(inside);
+        }
+        let primary = Box::new(self.alloc, inside)?;
+        let suffixes = self.suffixes(cursor)?;
+        Ok(Expression::Postfix { primary, suffixes })
+    }
+
+    // Whether the next token begins a suffix.
+    fn is_at_suffix(&self, cursor: &Cursor) -> bool {
+        self.is_at_sign(cursor, Symbol::Dot) || self.is_at_sign(cursor, Symbol::LeftBracket)
+    }
+
+    // Reads suffixes, at least one.
+    fn suffixes(&self, cursor: &mut Cursor) -> Result<Sequence<Suffix>, Stop>
+        ensures read { IfOk result (λ found. Reads self.now cursor.old cursor.new (flat_map suffix_leaves found)) }
+        ensures is { IfOk result (λ found. All IsSuffix found) }
+        ensures some { IfOk result (λ found. IsNonempty found) }
+    {
+        let mut all = Sequence::new(self.alloc);
+        let first = self.suffix(cursor)?;
+        all.push(first)?;
+        'more: while self.is_at_suffix(cursor) {
+            let next = self.suffix(cursor)?;
+            all.push(next)?;
+        }
+        Ok(all)
+    }
+
+    fn suffix(&self, cursor: &mut Cursor) -> Result<Suffix, Stop>
+        ensures read { IfOk result (λ found. Reads self.now cursor.old cursor.new (suffix_leaves found)) }
+        ensures is { IfOk result IsSuffix }
+        ensures some { OnOk result (tokens_left self.now cursor.new < tokens_left self.now cursor.old) }
+    {
+        if self.is_at_sign(cursor, Symbol::Dot) {
+            self.sign(cursor, Symbol::Dot)?;
+            return Ok(Suffix::Field(self.name(cursor)?));
+        }
+        self.sign(cursor, Symbol::LeftBracket)?;
+        let high = self.number(cursor)?;
+        if self.is_at_sign(cursor, Symbol::Colon) {
+            self.sign(cursor, Symbol::Colon)?;
+            let low = self.number(cursor)?;
+            self.sign(cursor, Symbol::RightBracket)?;
+            return Ok(Suffix::Slice { high, low });
+        }
+        self.sign(cursor, Symbol::RightBracket)?;
+        Ok(Suffix::Index(high))
+    }
+
+    #[cycle(expression)]
+    fn primary(&self, cursor: &mut Cursor) -> Result<Expression, Stop>
+        ensures read { IfOk result (λ found. Reads self.now cursor.old cursor.new (expression_leaves found)) }
+        ensures is { IfOk result IsExpression }
+        ensures level { IfOk result (λ found. level found ≡ 12) }
+    {
+        match self.peek(cursor) {
+            Some(TokenKind::Literal(_)) => self.literal_expression(cursor),
+            Some(TokenKind::Name) => self.named(cursor),
+            Some(TokenKind::Symbol(Symbol::LeftBracket)) => self.array(cursor),
+            Some(TokenKind::Symbol(Symbol::LeftParenthesis)) => self.parentheses(cursor),
+            Some(TokenKind::Symbol(Symbol::LeftBrace)) => self.block_expression(cursor),
+            Some(TokenKind::Keyword(keyword)) => self.keyword_primary(cursor, keyword),
+            _ => Err(Stop::Unexpected),
+        }
+    }
+
+    fn literal_expression(&self, cursor: &mut Cursor) -> Result<Expression, Stop>
+        ensures read { IfOk result (λ found. Reads self.now cursor.old cursor.new (expression_leaves found)) }
+        ensures is { IfOk result IsExpression }
+        ensures level { IfOk result (λ found. level found ≡ 12) }
+    {
+        let literal = self.literal(cursor)?;
+        Ok(Expression::Literal(literal))
+    }
+
+    #[cycle(expression)]
+    fn block_expression(&self, cursor: &mut Cursor) -> Result<Expression, Stop>
+        ensures read { IfOk result (λ found. Reads self.now cursor.old cursor.new (expression_leaves found)) }
+        ensures is { IfOk result IsExpression }
+        ensures level { IfOk result (λ found. level found ≡ 12) }
+    {
+        let block = self.block(cursor)?;
+        Ok(Expression::Block(block))
+    }
+
+    // Reads what begins with this keyword.
+    #[cycle(expression)]
+    fn keyword_primary(&self, cursor: &mut Cursor, keyword: Keyword) -> Result<Expression, Stop>
+        ensures read { IfOk result (λ found. Reads self.now cursor.old cursor.new (expression_leaves found)) }
+        ensures is { IfOk result IsExpression }
+        ensures level { IfOk result (λ found. level found ≡ 12) }
+    {
+        match keyword {
+            Keyword::Read0 => self.read(cursor, 0),
+            Keyword::Read1 => self.read(cursor, 1),
+            Keyword::Read2 => self.read(cursor, 2),
+            Keyword::Read3 => self.read(cursor, 3),
+            Keyword::Write0 => self.write(cursor, 0),
+            Keyword::Write1 => self.write(cursor, 1),
+            Keyword::Write2 => self.write(cursor, 2),
+            Keyword::Write3 => self.write(cursor, 3),
+            Keyword::Abort => self.abort(cursor),
+            Keyword::Pack => self.pack(cursor),
+            Keyword::Unpack => self.unpack(cursor),
+            Keyword::Zext => self.extend(cursor, Extension::Zero),
+            Keyword::Sext => self.extend(cursor, Extension::Sign),
+            Keyword::Slt => self.compare(cursor, SignedComparison::Less),
+            Keyword::Sle => self.compare(cursor, SignedComparison::LessOrEqual),
+            Keyword::Sgt => self.compare(cursor, SignedComparison::Greater),
+            Keyword::Sge => self.compare(cursor, SignedComparison::GreaterOrEqual),
+            Keyword::Update => self.update(cursor),
+            _ => Err(Stop::Unexpected),
+        }
+    }
+
+    // Reads what begins with a name.
+    #[cycle(expression)]
+    fn named(&self, cursor: &mut Cursor) -> Result<Expression, Stop>
+        ensures read { IfOk result (λ found. Reads self.now cursor.old cursor.new (expression_leaves found)) }
+        ensures is { IfOk result IsExpression }
+        ensures level { IfOk result (λ found. level found ≡ 12) }
+    {
+        let name = self.name(cursor)?;
+        if self.is_at_sign(cursor, Symbol::LeftParenthesis) {
+            self.sign(cursor, Symbol::LeftParenthesis)?;
+            let arguments = self.arguments(cursor)?;
+            self.sign(cursor, Symbol::RightParenthesis)?;
+            return Ok(Expression::Call {
+                called: name,
+                arguments,
+            });
+        }
+        if self.is_at_sign(cursor, Symbol::ColonColon) {
+            self.sign(cursor, Symbol::ColonColon)?;
+            if self.is_at_name(cursor) {
+                let member = self.name(cursor)?;
+                return Ok(Expression::Member { of: name, member });
+            }
+            self.sign(cursor, Symbol::LeftBrace)?;
+            let fields = self.field_values(cursor)?;
+            let close = self.sign_at(cursor, Symbol::RightBrace)?;
+            return Ok(Expression::Struct {
+                of: name,
+                fields,
+                close,
+            });
+        }
+        Ok(Expression::Name(name))
+    }
+
+    #[cycle(expression)]
+    fn array(&self, cursor: &mut Cursor) -> Result<Expression, Stop>
+        ensures read { IfOk result (λ found. Reads self.now cursor.old cursor.new (expression_leaves found)) }
+        ensures is { IfOk result IsExpression }
+        ensures level { IfOk result (λ found. level found ≡ 12) }
+    {
+        let place = self.sign_at(cursor, Symbol::LeftBracket)?;
+        let elements = self.values(cursor)?;
+        self.sign(cursor, Symbol::RightBracket)?;
+        Ok(Expression::Array { place, elements })
+    }
+
+    #[cycle(expression)]
+    fn parentheses(&self, cursor: &mut Cursor) -> Result<Expression, Stop>
+        ensures read { IfOk result (λ found. Reads self.now cursor.old cursor.new (expression_leaves found)) }
+        ensures is { IfOk result IsExpression }
+        ensures level { IfOk result (λ found. level found ≡ 12) }
+    {
+        let place = self.sign_at(cursor, Symbol::LeftParenthesis)?;
+        let inside = self.boxed(cursor)?;
+        self.sign(cursor, Symbol::RightParenthesis)?;
+        Ok(Expression::Parentheses { place, inside })
+    }
+
+    fn read(&self, cursor: &mut Cursor, port: u32) -> Result<Expression, Stop>
+        requires { port < 4 }
+        ensures read { IfOk result (λ found. Reads self.now cursor.old cursor.new (expression_leaves found)) }
+        ensures is { IfOk result IsExpression }
+        ensures level { IfOk result (λ found. level found ≡ 12) }
+    {
+        let place = self.word_at(cursor, read_word(port))?;
+        self.sign(cursor, Symbol::LeftParenthesis)?;
+        let register = self.name(cursor)?;
+        self.sign(cursor, Symbol::RightParenthesis)?;
+        Ok(Expression::Read {
+            place,
+            port,
+            register,
+        })
+    }
+
+    #[cycle(expression)]
+    fn write(&self, cursor: &mut Cursor, port: u32) -> Result<Expression, Stop>
+        requires { port < 4 }
+        ensures read { IfOk result (λ found. Reads self.now cursor.old cursor.new (expression_leaves found)) }
+        ensures is { IfOk result IsExpression }
+        ensures level { IfOk result (λ found. level found ≡ 12) }
+    {
+        let place = self.word_at(cursor, write_word(port))?;
+        self.sign(cursor, Symbol::LeftParenthesis)?;
+        let register = self.name(cursor)?;
+        self.sign(cursor, Symbol::Comma)?;
+        let value = self.boxed(cursor)?;
+        self.sign(cursor, Symbol::RightParenthesis)?;
+        Ok(Expression::Write {
+            place,
+            port,
+            register,
+            value,
+        })
+    }
+
+    fn abort(&self, cursor: &mut Cursor) -> Result<Expression, Stop>
+        ensures read { IfOk result (λ found. Reads self.now cursor.old cursor.new (expression_leaves found)) }
+        ensures is { IfOk result IsExpression }
+        ensures level { IfOk result (λ found. level found ≡ 12) }
+    {
+        let place = self.word_at(cursor, Keyword::Abort)?;
+        Ok(Expression::Abort { place })
+    }
+
+    #[cycle(expression)]
+    fn pack(&self, cursor: &mut Cursor) -> Result<Expression, Stop>
+        ensures read { IfOk result (λ found. Reads self.now cursor.old cursor.new (expression_leaves found)) }
+        ensures is { IfOk result IsExpression }
+        ensures level { IfOk result (λ found. level found ≡ 12) }
+    {
+        let place = self.word_at(cursor, Keyword::Pack)?;
+        self.sign(cursor, Symbol::LeftParenthesis)?;
+        let value = self.boxed(cursor)?;
+        self.sign(cursor, Symbol::RightParenthesis)?;
+        Ok(Expression::Pack { place, value })
+    }
+
+    #[cycle(expression)]
+    fn unpack(&self, cursor: &mut Cursor) -> Result<Expression, Stop>
+        ensures read { IfOk result (λ found. Reads self.now cursor.old cursor.new (expression_leaves found)) }
+        ensures is { IfOk result IsExpression }
+        ensures level { IfOk result (λ found. level found ≡ 12) }
+    {
+        let place = self.word_at(cursor, Keyword::Unpack)?;
+        self.sign(cursor, Symbol::LeftParenthesis)?;
+        let to = self.type_expression(cursor)?;
+        self.sign(cursor, Symbol::Comma)?;
+        let value = self.boxed(cursor)?;
+        self.sign(cursor, Symbol::RightParenthesis)?;
+        Ok(Expression::Unpack { place, to, value })
+    }
+
+    #[cycle(expression)]
+    fn extend(&self, cursor: &mut Cursor, extension: Extension) -> Result<Expression, Stop>
+        ensures read { IfOk result (λ found. Reads self.now cursor.old cursor.new (expression_leaves found)) }
+        ensures is { IfOk result IsExpression }
+        ensures level { IfOk result (λ found. level found ≡ 12) }
+    {
+        let place = self.word_at(cursor, extension.word())?;
+        self.sign(cursor, Symbol::LeftParenthesis)?;
+        let value = self.boxed(cursor)?;
+        self.sign(cursor, Symbol::Comma)?;
+        let width = self.number(cursor)?;
+        self.sign(cursor, Symbol::RightParenthesis)?;
+        Ok(Expression::Extend {
+            place,
+            extension,
+            value,
+            width,
+        })
+    }
+
+    #[cycle(expression)]
+    fn compare(&self, cursor: &mut Cursor, comparison: SignedComparison) -> Result<Expression, Stop>
+        ensures read { IfOk result (λ found. Reads self.now cursor.old cursor.new (expression_leaves found)) }
+        ensures is { IfOk result IsExpression }
+        ensures level { IfOk result (λ found. level found ≡ 12) }
+    {
+        let place = self.word_at(cursor, comparison.word())?;
+        self.sign(cursor, Symbol::LeftParenthesis)?;
+        let left = self.boxed(cursor)?;
+        self.sign(cursor, Symbol::Comma)?;
+        let right = self.boxed(cursor)?;
+        self.sign(cursor, Symbol::RightParenthesis)?;
+        Ok(Expression::Compare {
+            place,
+            comparison,
+            left,
+            right,
+        })
+    }
+
+    #[cycle(expression)]
+    fn update(&self, cursor: &mut Cursor) -> Result<Expression, Stop>
+        ensures read { IfOk result (λ found. Reads self.now cursor.old cursor.new (expression_leaves found)) }
+        ensures is { IfOk result IsExpression }
+        ensures level { IfOk result (λ found. level found ≡ 12) }
+    {
+        let place = self.word_at(cursor, Keyword::Update)?;
+        self.sign(cursor, Symbol::LeftParenthesis)?;
+        let whole = self.boxed(cursor)?;
+        self.sign(cursor, Symbol::Comma)?;
+        let part = self.part(cursor)?;
+        self.sign(cursor, Symbol::Comma)?;
+        let value = self.boxed(cursor)?;
+        self.sign(cursor, Symbol::RightParenthesis)?;
+        Ok(Expression::Update {
+            place,
+            whole,
+            part,
+            value,
+        })
+    }
+
+    #[cycle(expression)]
+    fn arguments(&self, cursor: &mut Cursor) -> Result<Vec<Expression>, Stop>
+        ensures read { IfOk result (λ found. Reads self.now cursor.old cursor.new (commas (map expression_leaves found.items))) }
+        ensures is { IfOk result (λ found. All IsExpression found.items) }
+    {
+        if self.is_at_sign(cursor, Symbol::RightParenthesis) {
+            let none = Vec::new(self.alloc);
+            return Ok(none);
+        }
+        self.values(cursor)
+    }
+
+    // Reads expressions with commas between them.
+    #[cycle(expression)]
+    fn values(&self, cursor: &mut Cursor) -> Result<Vec<Expression>, Stop>
+        ensures read { IfOk result (λ found. Reads self.now cursor.old cursor.new (commas (map expression_leaves found.items))) }
+        ensures is { IfOk result (λ found. All IsExpression found.items) }
+        ensures some { IfOk result (λ found. IsNonempty found.items) }
+    {
+        let mut all = Vec::new(self.alloc);
+        let first = self.expression(cursor)?;
+        all.push(first)?;
+        'more: while self.is_at_sign(cursor, Symbol::Comma) {
+            self.sign(cursor, Symbol::Comma)?;
+            let next = self.expression(cursor)?;
+            all.push(next)?;
+        }
+        Ok(all)
+    }
+
+    #[cycle(expression)]
+    fn field_values(&self, cursor: &mut Cursor) -> Result<Vec<FieldValue>, Stop>
+        ensures read { IfOk result (λ found. Reads self.now cursor.old cursor.new (commas (map field_value_leaves found.items))) }
+        ensures is { IfOk result (λ found. All IsFieldValue found.items) }
+        ensures some { IfOk result (λ found. IsNonempty found.items) }
+    {
+        let mut all = Vec::new(self.alloc);
+        let first = self.field_value(cursor)?;
+        all.push(first)?;
+        'more: while self.is_at_sign(cursor, Symbol::Comma) {
+            self.sign(cursor, Symbol::Comma)?;
+            let next = self.field_value(cursor)?;
+            all.push(next)?;
+        }
+        Ok(all)
+    }
+
+    #[cycle(expression)]
+    fn field_value(&self, cursor: &mut Cursor) -> Result<FieldValue, Stop>
+        ensures read { IfOk result (λ found. Reads self.now cursor.old cursor.new (field_value_leaves found)) }
+        ensures is { IfOk result IsFieldValue }
+    {
+        let name = self.name(cursor)?;
+        self.sign(cursor, Symbol::Colon)?;
+        let value = self.expression(cursor)?;
+        Ok(FieldValue { name, value })
+    }
+
+    // Reads the part that an update replaces.
+    fn part(&self, cursor: &mut Cursor) -> Result<Part, Stop>
+        ensures read { IfOk result (λ found. Reads self.now cursor.old cursor.new (part_leaves found)) }
+        ensures is { IfOk result IsPart }
+    {
+        if self.is_at_name(cursor) {
+            Ok(Part::Field(self.name(cursor)?))
+        } else {
+            Ok(Part::Index(self.number(cursor)?))
+        }
+    }
+}
+
+// How a read at a port is written.
+fn read_word(port: u32) -> Keyword
+    ensures { result ≡ read_word port }
+{
+    match port {
+        1 => Keyword::Read1,
+        2 => Keyword::Read2,
+        3 => Keyword::Read3,
+        _ => Keyword::Read0,
+    }
+}
+
+// How a write at a port is written.
+fn write_word(port: u32) -> Keyword
+    ensures { result ≡ write_word port }
+{
+    match port {
+        1 => Keyword::Write1,
+        2 => Keyword::Write2,
+        3 => Keyword::Write3,
+        _ => Keyword::Write0,
+    }
+}

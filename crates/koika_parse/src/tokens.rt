@@ -1,0 +1,216 @@
+ghost use Rattle.std.specs.Prelude.{◌≡◌, ◌<◌, ◌≤◌, Some, None, IfOk, IfSome, OnOk, IsTrue, ◌↔◌, length};
+ghost use Rattle.koika_syntax.specs.Grammar.{IsLiteral, IsName, IsNumber, IsWidth};
+ghost use Rattle.koika_syntax.specs.Tree.{Terminal, keyword, literal_leaves, name_leaves, number_leaves, placed, sign, symbol, width_leaves, word};
+ghost use Rattle.koika_syntax.specs.declared.token.TokenKind.TheVariants as kinds;
+ghost use Rattle.koika_parse.specs.Names.{IsNameIn};
+ghost use Rattle.koika_parse.specs.Brackets.{open_behind_kind, open_behind_symbol};
+ghost use Rattle.koika_parse.specs.Reading.{Reads, kind_at, next, token_at};
+
+use crate::cursor::Cursor;
+use crate::source::Source;
+use crate::stop::Stop;
+use koika_syntax::{Keyword, Literal, Name, Number, Symbol, Token, TokenKind, Width};
+use kw_bits::{Bits, Text};
+
+/// At most this many brackets are open at once.
+const MOST_OPEN: u32 = 64;
+
+impl<'a> Source<'a> {
+    /// What the next token is.
+    pub(crate) fn peek(&self, cursor: &Cursor) -> Option<TokenKind>
+        ensures { result ≡ kind_at self.now cursor.now }
+    {
+        if cursor.at < self.tokens.len() {
+            Some(self.tokens[cursor.at].kind)
+        } else {
+            None
+        }
+    }
+
+    /// Whether the next token is this symbol.
+    pub(crate) fn is_at_sign(&self, cursor: &Cursor, wanted: Symbol) -> bool
+        ensures { IsTrue result ↔ (next self.now cursor.now ≡ Some (symbol wanted)) }
+    {
+        match self.peek(cursor) {
+            Some(TokenKind::Symbol(found)) => found == wanted,
+            _ => false,
+        }
+    }
+
+    /// Whether the next token is this keyword.
+    pub(crate) fn is_at_word(&self, cursor: &Cursor, wanted: Keyword) -> bool
+        ensures { IsTrue result ↔ (next self.now cursor.now ≡ Some (keyword wanted)) }
+    {
+        match self.peek(cursor) {
+            Some(TokenKind::Keyword(found)) => found == wanted,
+            _ => false,
+        }
+    }
+
+    /// Whether the next token is a name.
+    pub(crate) fn is_at_name(&self, cursor: &Cursor) -> bool
+        ensures { IsTrue result ↔ (kind_at self.now cursor.now ≡ Some kinds.Name) }
+    {
+        match self.peek(cursor) {
+            Some(TokenKind::Name) => true,
+            _ => false,
+        }
+    }
+
+    // The next token, if it is a name.
+    fn name_at(&self, cursor: &Cursor) -> Option<Token>
+        ensures at { IfSome result (λ token. token_at self.now cursor.now ≡ Some token) }
+        ensures kind { IfSome result (λ token. token.kind ≡ kinds.Name) }
+        ensures name { IfSome result (IsNameIn self.now.text.now) }
+    {
+        if cursor.at < self.tokens.len() {
+            let token = self.tokens[cursor.at];
+            match token.kind {
+                TokenKind::Name => Some(token),
+                _ => None,
+            }
+        } else {
+            None
+        }
+    }
+
+    // Goes over the next token, counts the brackets that are open then, and answers its place.
+    fn step(&self, cursor: &mut Cursor) -> Result<u32, Stop>
+        requires { cursor.old.at < length self.now.tokens.now }
+        ensures { IfOk result (λ place. (terminal : Terminal) → next self.now cursor.old ≡ Some terminal →
+            Reads self.now cursor.old cursor.new (placed terminal place)) }
+    {
+        let token = self.tokens[cursor.at];
+        let depth = depth_behind(cursor.depth, token.kind)?;
+        cursor.at += 1;
+        cursor.depth = depth;
+        Ok(token.start)
+    }
+
+    /// Reads this symbol, and answers its place.
+    pub(crate) fn sign_at(&self, cursor: &mut Cursor, wanted: Symbol) -> Result<u32, Stop>
+        ensures { IfOk result (λ place. Reads self.now cursor.old cursor.new (placed (symbol wanted) place)) }
+    {
+        if !self.is_at_sign(cursor, wanted) {
+            return Err(Stop::Unexpected);
+        }
+        self.step(cursor)
+    }
+
+    /// Reads this symbol.
+    pub(crate) fn sign(&self, cursor: &mut Cursor, wanted: Symbol) -> Result<(), Stop>
+        ensures { OnOk result (Reads self.now cursor.old cursor.new (sign wanted)) }
+    {
+        self.sign_at(cursor, wanted)?;
+        Ok(())
+    }
+
+    /// Reads this keyword, and answers its place.
+    pub(crate) fn word_at(&self, cursor: &mut Cursor, wanted: Keyword) -> Result<u32, Stop>
+        ensures { IfOk result (λ place. Reads self.now cursor.old cursor.new (placed (keyword wanted) place)) }
+    {
+        if !self.is_at_word(cursor, wanted) {
+            return Err(Stop::Unexpected);
+        }
+        self.step(cursor)
+    }
+
+    /// Reads this keyword.
+    pub(crate) fn word(&self, cursor: &mut Cursor, wanted: Keyword) -> Result<(), Stop>
+        ensures { OnOk result (Reads self.now cursor.old cursor.new (word wanted)) }
+    {
+        self.word_at(cursor, wanted)?;
+        Ok(())
+    }
+
+    /// Reads a name.
+    pub(crate) fn name(&self, cursor: &mut Cursor) -> Result<Name, Stop>
+        ensures read { IfOk result (λ name. Reads self.now cursor.old cursor.new (name_leaves name)) }
+        ensures is { IfOk result IsName }
+    {
+        match self.name_at(cursor) {
+            None => Err(Stop::Unexpected),
+            Some(token) => {
+                let bytes = &self.text[token.start as usize..token.end as usize];
+                let text = Text::from_slice(self.alloc, bytes)?;
+                let place = self.step(cursor)?;
+                Ok(Name { text, place })
+            }
+        }
+    }
+
+    /// Reads a number.
+    pub(crate) fn number(&self, cursor: &mut Cursor) -> Result<Number, Stop>
+        ensures read { IfOk result (λ number. Reads self.now cursor.old cursor.new (number_leaves number)) }
+        ensures is { IfOk result IsNumber }
+    {
+        match self.peek(cursor) {
+            Some(TokenKind::Number(value)) => {
+                let place = self.step(cursor)?;
+                Ok(Number { value, place })
+            }
+            _ => Err(Stop::Unexpected),
+        }
+    }
+
+    /// Reads a literal.
+    pub(crate) fn literal(&self, cursor: &mut Cursor) -> Result<Literal, Stop>
+        ensures read { IfOk result (λ literal. Reads self.now cursor.old cursor.new (literal_leaves literal)) }
+        ensures is { IfOk result IsLiteral }
+    {
+        if cursor.at < self.tokens.len() {
+            if let TokenKind::Literal(bits) = self.tokens[cursor.at].kind {
+                let place = self.step(cursor)?;
+                return Ok(literal_at(bits, place));
+            }
+        }
+        Err(Stop::Unexpected)
+    }
+
+    /// Reads `bits` and a number.
+    pub(crate) fn width(&self, cursor: &mut Cursor) -> Result<Width, Stop>
+        ensures read { IfOk result (λ width. Reads self.now cursor.old cursor.new (width_leaves width)) }
+        ensures is { IfOk result IsWidth }
+    {
+        let place = self.word_at(cursor, Keyword::Bits)?;
+        let number = self.number(cursor)?;
+        Ok(Width { place, number })
+    }
+}
+
+fn literal_at(bits: Bits, place: u32) -> Literal
+    ensures fields { result ≡ record { bits = bits; place = place } }
+    ensures is { IsLiteral result }
+{
+    Literal { bits, place }
+}
+
+// How many brackets are open behind a token, where so many are open in front of it.
+fn depth_behind(before: u32, kind: TokenKind) -> Result<u32, Stop>
+    ensures behind { IfOk result (λ behind. behind ≡ open_behind_kind before kind) }
+    ensures few { IfOk result (λ behind. before ≤ 64 → behind ≤ 64) }
+{
+    match kind {
+        TokenKind::Symbol(found) => depth_behind_symbol(before, found),
+        _ => Ok(before),
+    }
+}
+
+fn depth_behind_symbol(before: u32, found: Symbol) -> Result<u32, Stop>
+    ensures behind { IfOk result (λ behind. behind ≡ open_behind_symbol before found) }
+    ensures few { IfOk result (λ behind. before ≤ 64 → behind ≤ 64) }
+{
+    match found {
+        Symbol::LeftParenthesis | Symbol::LeftBracket | Symbol::LeftBrace => {
+            if before < MOST_OPEN {
+                Ok(before + 1)
+            } else {
+                Err(Stop::TooDeep)
+            }
+        }
+        Symbol::RightParenthesis | Symbol::RightBracket | Symbol::RightBrace => {
+            Ok(before.saturating_sub(1))
+        }
+        _ => Ok(before),
+    }
+}
