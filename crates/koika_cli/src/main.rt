@@ -1,18 +1,24 @@
-//! The program: its arguments, standard input and standard output go to `koika_top::run`, whose status is the
-//! exit status.
+//! The program: its arguments, standard input and standard output and its host functions go to `koika_top::run_here`,
+//! whose status is the exit status.
 //!
-//! It stands on no definition of its own: what it answers is the contract of `run`. Nothing calls it.
+//! It stands on no definition of its own: what it answers is the contract of `run_here`. Nothing calls it.
 #![tactic(auto)]
 
-use koika_top::{Status, run};
-use kw_io::{StdSink, StdSource};
+mod hosts;
+
+use crate::hosts::{BITS_OF_ONE, BITS_OF_TWO};
+use host_fn::HostFn;
+use koika_top::{Status, run_here};
+use kw_bits::HostKind;
+use kw_io::{Sink, Source, StdSink, StdSource};
+use std::alloc::Global;
 use std::env::{Env, args};
 use std::io;
 use std::io::ErrorKind;
 use std::process::ExitCode;
 
 // The exit status where the arguments can't be taken and memory isn't the cause, as where they aren't UTF-8.
-// `run` never answers it.
+// `run_here` never answers it.
 const NO_ARGUMENTS: u8 = 6;
 
 fn main(rt: HostRuntime) -> ExitCode {
@@ -20,13 +26,35 @@ fn main(rt: HostRuntime) -> ExitCode {
         Ok(arguments) => {
             let mut source = StdSource::new(rt.stdin());
             let mut sink = StdSink::new(rt.stdout());
-            ExitCode::from(run(rt.alloc(), &arguments, &mut source, &mut sink) as u8)
+            let status = run_with_hosts(rt.alloc(), &arguments, &mut source, &mut sink);
+            ExitCode::from(status as u8)
         }
         Err(error) if error.kind() == ErrorKind::OutOfMemory => {
             ExitCode::from(Status::NoMemory as u8)
         }
         Err(_) => ExitCode::from(NO_ARGUMENTS),
     }
+}
+
+// Runs the program with a host function of each kind.
+#[tactic(auto, unfolding(kw_bits::specs::Host::arity))]
+fn run_with_hosts<S: Source, K: Sink>(
+    alloc: Global,
+    words: &[String],
+    source: &mut S,
+    sink: &mut K,
+) -> Status {
+    let hosts = [
+        HostFn::new(HostKind::Popcount, BITS_OF_ONE, hosts::popcount).unwrap(),
+        HostFn::new(HostKind::Parity, BITS_OF_ONE, hosts::parity).unwrap(),
+        HostFn::new(HostKind::Reverse, BITS_OF_ONE, hosts::reverse).unwrap(),
+        HostFn::new(HostKind::LeadingZeros, BITS_OF_ONE, hosts::leading_zeros).unwrap(),
+        HostFn::new(HostKind::Gray, BITS_OF_ONE, hosts::gray).unwrap(),
+        HostFn::new_two(HostKind::Hamming, BITS_OF_TWO, hosts::hamming).unwrap(),
+        HostFn::new_two(HostKind::Morton, BITS_OF_TWO, hosts::morton).unwrap(),
+        HostFn::new_two(HostKind::SatAdd, BITS_OF_TWO, hosts::sat_add).unwrap(),
+    ];
+    run_here(alloc, words, &hosts, source, sink)
 }
 
 // The arguments of the command line, without the program's own name.

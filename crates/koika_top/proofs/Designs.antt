@@ -1,7 +1,7 @@
 -- The design that a well formed form spells is valid.
 use Rattle.std.proofs.Common.{◌≡◌, ◌⊎◌, ℕ, zero, suc, List, [], ◌∷◌, All, Option, Some, None, refl, sym, subst, inl, inr, arith}
 use Rattle.std.specs.Prelude.{slice_get, AllPairs, IfSome}
-use Rattle.typed_core.specs.Valid.{ActionHasWidth, Declarations, IsWidth, IsRegister, IsNode, Continues, IsPath, TryOthers, IsValid}
+use Rattle.typed_core.specs.Valid.{ActionHasWidth, Declarations, IsWidth, IsRegister, IsNode, LeadsTo, IsPath, TryOthers, IsValid}
 use Rattle.typed_core.specs.declared.action.TwoOp.TheVariants.{Add}
 use Rattle.typed_core.specs.declared.action.Action.{Action}
 use Rattle.typed_core.specs.declared.action.Action.TheVariants.{Two', Write'}
@@ -62,7 +62,7 @@ single_nodes zero node e =
     subst (λ (n : Node). IsNode 1 1 0 n) tries (record { rule = omega arith; yes = tt; no = tt })
 single_nodes (suc number) node e = absurd cc
 
-goes_nowhere : (to : ℕ) → Continues single 0 to → ⊥
+goes_nowhere : (to : ℕ) → LeadsTo single 0 to → ⊥
 unfolding single
 goes_nowhere to (node, e, goes) =
     let ends : record { rule = 0; yes = next.End; no = next.End } ≡ node = cc in

@@ -1,24 +1,34 @@
--- One row more of a run.
-use Rattle.std.proofs.Common.{◌≡◌, ℕ, suc, ◌+◌, ◌-◌, ◌<◌, List, [], ◌∷◌, ◌++◌, sym, ap, ◌∙◌, arith, append_assoc}
+-- A run doesn't depend on how its inputs are told, and without inputs none are.
+use Rattle.std.proofs.Common.{◌≡◌, ℕ, zero, suc, ◌+◌, ◌-◌, List, [], ◌∷◌, Result, Ok, Err, IfOk, refl, ap, ◌∙◌}
+use Rattle.kw_bits.specs.BitVector.{BitVector}
 use Rattle.typed_core.specs.declared.design.Parts.{Parts}
 use Rattle.one_rule.specs.declared.rows.Row.{Row}
-use Rattle.one_rule.specs.Cycle.{System, cycle}
-use Rattle.one_rule.specs.Rows.{RowFits, RowsFit}
-use Rattle.one_rule.specs.Run.{InputsByCycle, rows_after}
+use Rattle.one_rule.specs.Cycle.{System, cycle, system_of}
+use Rattle.one_rule.specs.Run.{InputsByCycle, first_values, opening, rows_after, run_of}
+use Rattle.one_rule.specs.Stimulus.{InputVectors, inputs_by, inputs_of}
 
--- the rows that are left begin with the next cycle's
-rows_after-next : (system : System) (inputs : InputsByCycle) (n i : ℕ) (last next : Row) → i < n → next ≡ cycle system (inputs (i + 1)) last.regs → rows_after system inputs (n - i) i last.regs ≡ next ∷ rows_after system inputs (n - (i + 1)) (i + 1) next.regs
-rows_after-next system inputs n i last next h e =
-    let left : n - i ≡ suc (n - (i + 1)) = omega arith in
-    ap (λ count. rows_after system inputs count i last.regs) left ∙ ap (λ row. row ∷ rows_after system inputs (n - (i + 1)) (i + 1) row.regs) (sym e)
+-- the rows are the same where the inputs of each cycle are
+rows_after-alike : (system : System) (f g : InputsByCycle) (count last : ℕ) (regs : List BitVector) → ((cycle : ℕ) → f cycle ≡ g cycle) → rows_after system f count last regs ≡ rows_after system g count last regs
+rows_after-alike system f g zero last regs alike = refl
+rows_after-alike system f g (suc count) last regs alike =
+    ap (λ (rows : List Row). cycle system (f (last + 1)) regs ∷ rows) (rows_after-alike system f g count (last + 1) (cycle system (f (last + 1)) regs).regs alike)
+    ∙ ap (λ (inputs : List BitVector). cycle system inputs regs ∷ rows_after system g count (last + 1) (cycle system inputs regs).regs) (alike (last + 1))
 
--- a row moves from the one that is next to those that stand
-pub run_step : (system : System) (inputs : InputsByCycle) (n i : ℕ) (rows rows' all : List Row) (last next : Row) → i < n → rows' ≡ rows ++ last ∷ [] → next ≡ cycle system (inputs (i + 1)) last.regs → rows ++ last ∷ rows_after system inputs (n - i) i last.regs ≡ all → rows' ++ next ∷ rows_after system inputs (n - (i + 1)) (i + 1) next.regs ≡ all
-run_step system inputs n i rows rows' all last next h pushed e same =
-    let rest = next ∷ rows_after system inputs (n - (i + 1)) (i + 1) next.regs in
-    ap (λ front. front ++ rest) pushed ∙ append_assoc rows (last ∷ []) rest
-    ∙ ap (λ left. rows ++ last ∷ left) (sym (rows_after-next system inputs n i last next h e)) ∙ same
+-- a stimulus without inputs and without lines
+abbrev pub no_stimulus : InputVectors
+no_stimulus = record { widths = []; cycles = [] }
 
-pub RowsFit-push : (design : Parts) (rows : List Row) (row : Row) → RowsFit design rows → RowFits design row → RowsFit design (rows ++ row ∷ [])
-RowsFit-push design [] row f g = (g, tt)
-RowsFit-push design (x ∷ rows) row f g = (f.0, RowsFit-push design rows row f.1 g)
+-- it gives no values in any cycle
+no_inputs : (cycle : ℕ) → inputs_of no_stimulus cycle ≡ []
+unfolding inputs_of inputs_by
+no_inputs zero = refl
+no_inputs (suc before) = refl
+
+pub run_without_inputs : (design : Parts) (n : ℕ) → run_of design (inputs_of no_stimulus) n ≡ run_of design (λ _. []) n
+run_without_inputs design n =
+    let regs = first_values design in
+    ap (λ (rows : List Row). opening (system_of design).rules regs ∷ rows) (rows_after-alike (system_of design) (inputs_of no_stimulus) (λ _. []) (n - 0) 0 regs no_inputs)
+
+pub IfOk-moved : {E : Type 0} (result : Result (List Row) E) (a b : List Row) → a ≡ b → IfOk result (λ rows. rows ≡ a) → IfOk result (λ rows. rows ≡ b)
+IfOk-moved (Ok rows) a b e h = h ∙ e
+IfOk-moved (Err error) a b e h = h

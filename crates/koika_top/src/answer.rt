@@ -8,6 +8,7 @@ use crate::first_form::read_design;
 use crate::report::report;
 use crate::simulate::simulate;
 use crate::status::Status;
+use host_fn::HostFn;
 use kw_base::{Fault, Refusal, fault_line, fault_number};
 use kw_bits::{NoMemory, Text};
 use kw_io::{Sink, WriteFault, write_all};
@@ -50,7 +51,12 @@ impl Answer {
 }
 
 /// The answer to a source whose design is to run for these cycles.
-pub(crate) fn answer_source(alloc: Global, cycles: u32, source: &[u8]) -> Result<Answer, NoMemory>
+pub(crate) fn answer_source(
+    alloc: Global,
+    cycles: u32,
+    hosts: &[HostFn],
+    source: &[u8],
+) -> Result<Answer, NoMemory>
     requires { length source.now ≤ longest_source }
     ensures { IfOk result (λ answer. AnswersSource cycles source.now answer) }
 {
@@ -62,7 +68,7 @@ pub(crate) fn answer_source(alloc: Global, cycles: u32, source: &[u8]) -> Result
     if is_too_long(cycles, &design) {
         return Ok(Answer::Refused(fault_of_source(fault_number::RUN_TOO_LONG)));
     }
-    let rows = simulate(alloc, &design, cycles)?;
+    let rows = simulate(alloc, &design, hosts, cycles)?;
     let text = report(alloc, &design, &rows)?;
     Ok(Answer::Written(text))
 }

@@ -1,7 +1,7 @@
 //! The commands of the program: arguments and a source's bytes in, a text or a refusal out.
 //!
-//! `specs/Answer.antt` says what the program answers; the contract of `run` ties the status, what was
-//! read and what was written to it. The program's `main` calls `run`.
+//! `specs/Answer.antt` says what the program answers; the contract of `run_here` ties the status, what was
+//! read and what was written to it. The program's `main` calls `run_here`.
 #![tactic(auto)]
 
 mod answer;
@@ -15,5 +15,5 @@ mod words;
 
 pub use answer::Answer;
 pub use laws::{one_answer, spells_one_design};
-pub use program::run;
+pub use program::run_here;
 pub use status::Status;

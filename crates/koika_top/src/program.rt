@@ -14,6 +14,7 @@ mod tests;
 use crate::answer::{Answer, LONGEST_SOURCE, answer_source, fault_of_source, write_answer};
 use crate::status::Status;
 use crate::words::cycles_of;
+use host_fn::HostFn;
 use kw_base::fault_number;
 use kw_bits::NoMemory;
 use kw_io::{ReadAll, Sink, Source, read_all};
@@ -21,10 +22,11 @@ use std::alloc::Global;
 
 /// Runs the program on its arguments, without the program's own name: reads the source if the arguments are
 /// valid, and writes the answer to the sink. The clauses on content hold where the source tells
-/// which bytes it has left and the sink which were written.
-pub fn run<S: Source, K: Sink>(
+/// which bytes it has left and the sink which were written. Rules may ask the host functions.
+pub fn run_here<S: Source, K: Sink>(
     alloc: Global,
     words: &[String],
+    hosts: &[HostFn],
     source: &mut S,
     sink: &mut K,
 ) -> Status
@@ -63,7 +65,7 @@ pub fn run<S: Source, K: Sink>(
     ensures nothing_written { result ≡ Status.ReadFault → Keeps (K.written sink.old) (K.written sink.new) }
     ensures write_fault { result ≡ Status.WriteFault → Rose (K.faults sink.old) (K.faults sink.new) }
 {
-    match answer(alloc, words, source) {
+    match answer(alloc, words, hosts, source) {
         Ok(answer) => write_answer(alloc, &answer, sink),
         Err(Unanswered::ReadFault) => Status::ReadFault,
         Err(Unanswered::NoMemory) => Status::NoMemory,
@@ -89,7 +91,12 @@ impl From<NoMemory> for Unanswered {
 }
 
 // The answer to the words and to the bytes of the source, which is read if the words are understood.
-fn answer<S: Source>(alloc: Global, words: &[String], source: &mut S) -> Result<Answer, Unanswered>
+fn answer<S: Source>(
+    alloc: Global,
+    words: &[String],
+    hosts: &[HostFn],
+    source: &mut S,
+) -> Result<Answer, Unanswered>
     ensures answer { IfOk result (λ answer. IfSome (S.left source.old) (λ bytes.
         IsAnswer (map string_bytes words.now) bytes answer)) }
     ensures read { IfOk result (λ answer. IsText answer → IfSome (S.left source.old) (λ _. IsAtEnd (S.left source.new))) }
@@ -101,7 +108,7 @@ fn answer<S: Source>(alloc: Global, words: &[String], source: &mut S) -> Result<
         return Ok(Answer::Usage);
     };
     match read_all(alloc, source, LONGEST_SOURCE) {
-        Ok(bytes) => Ok(answer_source(alloc, cycles, &bytes)?),
+        Ok(bytes) => Ok(answer_source(alloc, cycles, hosts, &bytes)?),
         Err(ReadAll::TooLong) => Ok(Answer::Refused(fault_of_source(
             fault_number::SOURCE_TOO_LONG,
         ))),

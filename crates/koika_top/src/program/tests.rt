@@ -1,4 +1,4 @@
-use crate::{Status, run};
+use crate::{Status, run_here};
 use kw_bits::NoMemory;
 use kw_io::{MemSink, MemSource};
 use std::alloc::Global;
@@ -36,7 +36,7 @@ fn run_in_memory(
     let piece = piece.max(1);
     let mut source = MemSource::new(text, piece, Vec::from_slice(alloc, failing_reads)?);
     let mut sink = MemSink::new(alloc, 4096, piece, Vec::from_slice(alloc, failing_writes)?)?;
-    let status = run(alloc, owned.as_slice(), &mut source, &mut sink);
+    let status = run_here(alloc, owned.as_slice(), &[], &mut source, &mut sink);
     Ok(Ended {
         status,
         written: Vec::from_slice(alloc, sink.written())?,

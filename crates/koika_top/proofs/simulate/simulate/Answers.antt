@@ -1,17 +1,11 @@
-use Rattle.std.proofs.Common.{◌≡◌, [], ◌∷◌, ◌++◌, ap, ◌∙◌, arith}
-use Rattle.one_rule.specs.declared.rows.Row.{Row}
-use Rattle.one_rule.specs.Cycle.{cycle, system_of}
-use Rattle.koika_top.proofs.Simulation.{run_step, RowsFit-push}
+use Rattle.std.proofs.Common.{◌≡◌, List, [], ap, ◌∙◌}
+use Rattle.one_rule.specs.Run.{run_of}
+use Rattle.one_rule.specs.Stimulus.{InputVectors, inputs_of}
+use Rattle.koika_top.proofs.Simulation.{no_stimulus, run_without_inputs, IfOk-moved}
 use Rattle.koika_top.proofs.simulate.simulate.Goals as goal
 
-pub loop-cycle-preserved : goal.loop-cycle-preserved
-loop-cycle-preserved c =
-    let l = c.loop-cycle in
+pub returns-clause-run : goal.returns-clause-run
+returns-clause-run g c =
     let design = c.args.design.now in
-    let pushed : c.push.new.self ≡ l.rows ++ l.last ∷ [] = c.in_ok-push.ensures.ok ∙ ap (λ (row : Row). l.rows ++ row ∷ []) c.replace.ensures.value in
-    let next : c.in_ok-next.next ≡ cycle (system_of design) [] l.last.regs = c.in_ok-next.ensures.cycle ∙ ap (λ inputs. cycle (system_of design) inputs l.last.regs) c.new-inputs.ensures in
-    record {
-      same = rw c.replace.ensures.after (run_step (system_of design) (λ _. []) c.args.cycles l._cycle l.rows c.push.new.self _ l.last c.in_ok-next.next (omega arith) pushed next l.invariant.same);
-      fit = rw pushed (RowsFit-push design l.rows l.last l.invariant.fit l.invariant.last);
-      last = rw c.replace.ensures.after c.in_ok-next.ensures.fits;
-    }
+    let told : c.new-stimulus.result ≡ no_stimulus = c.new-stimulus.ensures ∙ ap (λ (widths : List _). record { widths = widths; cycles = [] }) c.new-2.ensures.items in
+    IfOk-moved c.run.result _ _ (ap (λ (s : InputVectors). run_of design (inputs_of s) c.args.cycles) told ∙ run_without_inputs design c.args.cycles) c.run.ensures.run

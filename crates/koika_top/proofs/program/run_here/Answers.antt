@@ -1,6 +1,6 @@
 use Rattle.std.specs.Prelude.{map, string_bytes}
 use Rattle.koika_top.proofs.Statuses.{status_of_each, front_of_each}
-use Rattle.koika_top.proofs.program.run.Goals as goal
+use Rattle.koika_top.proofs.program.run_here.Goals as goal
 
 pub returns-in-Ok-clause-exact : goal.returns-in-Ok-clause-exact
 returns-in-Ok-clause-exact g c = status_of_each _ (map string_bytes c.args.words.now) c.in-Ok.answer _ c.in-Ok.ensures.answer c.write_answer.ensures.status
