@@ -72,7 +72,8 @@ pub fn run_rule(
     })
 }
 
-/// The same, with a log of no access that the rule's reads and writes are noted in. It takes no memory.
+/// The same, with a log of no access that the rule's reads and writes are noted in. Nothing here takes memory: `NoMemory` is
+/// only passed on, as ports in general may answer it.
 pub fn run_logged(
     design: &Design,
     externs: &Externs,
