@@ -12,6 +12,7 @@ pub mod LineParts
 pub mod LinesInTurn
 pub mod LinesRead
 pub mod Pages
+pub mod RowsTold
 pub mod ShapesOfDesigns
 pub mod SourceInTurn
 pub mod TotalsOfBatches

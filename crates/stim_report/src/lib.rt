@@ -28,4 +28,4 @@ pub use lines::{report, report_part};
 pub use shape::{NameWidth, Shape, shape_of};
 pub use source::{SourceParts, source_parts};
 pub use stimulus::read_stimulus;
-pub use tally::{Tally, summary};
+pub use tally::{Tally, has_fired, summary};

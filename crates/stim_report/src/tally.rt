@@ -160,7 +160,8 @@ fn replace(last: &mut Reserved<Bits>, values: &[Bits])
     last.extend_from_slice(values);
 }
 
-fn has_fired(row: &Row, rule: usize) -> bool
+/// Whether the rule of this number fired.
+pub fn has_fired(row: &Row, rule: usize) -> bool
     ensures { result ≡ has_fired rule row.now }
 {
     rule < row.fired.len() && row.fired[rule]

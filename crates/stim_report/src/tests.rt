@@ -1,6 +1,10 @@
 ghost use Rattle.std.specs.Prelude.{◌≡◌, ◌∷◌, [], IfOk, length};
 ghost use Rattle.stim_report.specs.Shapes.{widths_of};
 
+mod costs;
+mod reports;
+mod rows;
+
 use crate::{NameWidth, Shape, read_stimulus, source_parts};
 use kw_base::{Fault, Place, Refusal};
 use kw_bits::{NoMemory, Sequence, Text};

@@ -1,0 +1,75 @@
+-- The first cycle of a rule in the rows so far and in a batch that goes on from them.
+use Rattle.std.proofs.Common.{◌≡◌, ℕ, zero, suc, ◌+◌, ◌-◌, ◌<◌, Bool, true, false, cond, List, [], ◌∷◌, ◌++◌, length, length-append, map, replicate, take, drop, get_or, Option, None, Some, refl, sym, ap, ◌∙◌, subst, arith}
+use Rattle.std.specs.List.{position_from}
+use Rattle.std.specs.Option.{option_or}
+use Rattle.std.proofs.lemmas.List.{ext_get_or, get_or-map, length-map, take_all}
+use Rattle.one_rule.specs.declared.rows.Row.{Row}
+use Rattle.stim_report.specs.Batches.{joined, last_cycle}
+use Rattle.stim_report.specs.Summary.{has_fired}
+use Rattle.koika_assert.specs.Marks.{AddsFirsts}
+use Rattle.koika_assert.specs.Violations.{Watched, first_violated, watched}
+
+or_later : (b : Bool) (i : ℕ) (x y : Option ℕ) → cond b (Some i) (option_or x y) ≡ option_or (cond b (Some i) x) y
+or_later true i x y = refl
+or_later false i x y = refl
+
+-- the first place in two lists joined is the one in the first of them, or else the one in the second
+pub position_joined : {X : Type 0} (p : X → Bool) (i : ℕ) (xs ys : List X) → position_from p i (xs ++ ys) ≡ option_or (position_from p i xs) (position_from p (i + length xs) ys)
+position_joined p i [] ys = ap (λ (n : ℕ). position_from p n ys) (omega arith)
+position_joined p i (x ∷ xs) ys =
+    ap (cond (p x) (Some i)) (position_joined p (i + 1) xs ys) ∙ or_later (p x) i (position_from p (i + 1) xs) (position_from p (i + 1 + length xs) ys)
+    ∙ ap (λ (n : ℕ). option_or (position_from p i (x ∷ xs)) (position_from p n ys)) (omega arith)
+
+-- the same of the cycles of a rule
+pub first_joined : (before batch : List Row) (mark : ℕ)
+    → option_or (first_violated before mark) (position_from (has_fired mark) (last_cycle before + 1) (drop 1 batch)) ≡ first_violated (joined before batch) mark
+first_joined [] batch mark = refl
+first_joined (row ∷ rows) batch mark =
+    ap (λ (n : ℕ). option_or (first_violated (row ∷ rows) mark) (position_from (has_fired mark) n (drop 1 batch))) (omega arith) ∙ sym (position_joined (has_fired mark) 1 rows (drop 1 batch))
+
+-- the rows end with the batch's last cycle
+pub cycles_joined : (before batch : List Row) → 0 < length batch → last_cycle (joined before batch) ≡ last_cycle before + length (drop 1 batch)
+cycles_joined before [] some = absurd (omega (arith, some))
+cycles_joined [] (first ∷ batch) some = omega arith
+cycles_joined (row ∷ rows) (first ∷ batch) some = omega (arith, length-append (row ∷ rows) batch)
+
+-- the first cycles of all marks
+pub firsts_joined : (before batch : List Row) (marks : List ℕ) (new : List (Option ℕ))
+    → AddsFirsts marks (last_cycle before + 1) (drop 1 batch) (map (first_violated before) marks) new → new ≡ map (first_violated (joined before batch)) marks
+firsts_joined before batch marks new adds =
+    let count : length new ≡ length marks = adds.count ∙ length-map marks (first_violated before) in
+    ext_get_or None new (map (first_violated (joined before batch)) marks) (count ∙ sym (length-map marks (first_violated (joined before batch))))
+    (λ k below.
+    adds.added k (omega (arith, below, adds.count))
+    ∙ ap (λ (o : Option ℕ). option_or o (position_from (has_fired (get_or marks k 0)) (last_cycle before + 1) (drop 1 batch))) (get_or-map (first_violated before) marks k 0 None (omega (arith, below, count)))
+    ∙ first_joined before batch (get_or marks k 0)
+    ∙ sym (get_or-map (first_violated (joined before batch)) marks k 0 None (omega (arith, below, count))))
+
+-- what the rows and the batch tell of marks
+pub watched_joined : (names : List (List ℕ)) (marks : List ℕ) (before batch : List Row) (known : Watched) (firsts : List (Option ℕ)) (cycles : ℕ) → known ≡ watched names marks before → 0 < length batch
+    → AddsFirsts known.marks (known.cycles + 1) (drop 1 batch) known.firsts firsts → cycles ≡ known.cycles + length (drop 1 batch)
+    → record { names = known.names; marks = known.marks; cycles = cycles; firsts = firsts } ≡ watched names marks (joined before batch)
+unfolding watched
+watched_joined names marks before batch known firsts cycles is some adds more =
+    let P : Watched → Type 0 = λ w. AddsFirsts w.marks (w.cycles + 1) (drop 1 batch) w.firsts firsts → cycles ≡ w.cycles + length (drop 1 batch)
+    → record { names = w.names; marks = w.marks; cycles = cycles; firsts = firsts } ≡ watched names marks (joined before batch) in
+    subst P (sym is)
+    (λ adds more.
+    ap (λ (c : ℕ). record { names = names; marks = marks; cycles = c; firsts = firsts }) (more ∙ sym (cycles_joined before batch some))
+    ∙ ap (λ (fs : List (Option ℕ)). record { names = names; marks = marks; cycles = last_cycle (joined before batch); firsts = fs }) (firsts_joined before batch marks firsts adds))
+    adds more
+
+-- no rows tell of no cycle
+pub none_yet : (marks : List ℕ) → replicate (length marks) None ≡ map (first_violated []) marks
+none_yet [] = refl
+none_yet (mark ∷ marks) = ap (λ (firsts : List (Option ℕ)). None ∷ firsts) (none_yet marks)
+
+-- all behind the first
+pub behind_first : {X : Type 0} (xs : List X) → take (length xs - 1) (drop 1 xs) ≡ drop 1 xs
+behind_first [] = refl
+behind_first (x ∷ xs) = take_all (length (x ∷ xs) - 1) xs (omega arith)
+
+-- what is known of rows has the cycle that they end with
+pub cycles_known : (names : List (List ℕ)) (marks : List ℕ) (rows : List Row) (known : Watched) → known ≡ watched names marks rows → known.cycles ≡ last_cycle rows
+unfolding watched
+cycles_known names marks rows known is = ap (λ (w : Watched). w.cycles) is

@@ -1,0 +1,41 @@
+-- Violations of assertions: a rule may be marked, and a cycle in which a marked rule fires violates its assertion. The text of
+-- violations is this project's own.
+use Rattle.std.specs.Prelude.{ℕ, Option, None, Some, List, [], ◌∷◌, ◌++◌, map, drop, codes, decimal}
+use Rattle.std.specs.List.{position_from}
+use Rattle.one_rule.specs.declared.rows.Row.{Row}
+use Rattle.stim_report.specs.Batches.{last_cycle}
+use Rattle.stim_report.specs.Summary.{has_fired}
+
+-- the first cycle that a marked rule fired in; the first row is of none
+abbrev pub first_violated : List Row → ℕ → Option ℕ
+first_violated rows mark = position_from (has_fired mark) 1 (drop 1 rows)
+
+-- what is known of marks: their names, their rules, how many cycles there were, and the first that violated each
+pub record Watched : Type 0 where
+  pub names : List (List ℕ)
+  pub marks : List ℕ
+  pub cycles : ℕ
+  pub firsts : List (Option ℕ)
+
+-- what rows tell of marks
+unfoldable pub watched : List (List ℕ) → List ℕ → List Row → Watched
+watched names marks rows = record { names = names; marks = marks; cycles = last_cycle rows; firsts = map (first_violated rows) marks }
+
+-- the line of a mark that was violated
+abbrev pub violated_line : List ℕ → Option ℕ → List ℕ
+violated_line name None = []
+violated_line name (Some cycle) = codes "violated " ++ name ++ codes " at " ++ decimal cycle ++ 10 ∷ []
+
+-- the lines of marks, in their order
+abbrev pub violated_lines : List (List ℕ) → List (Option ℕ) → List ℕ
+violated_lines [] firsts = []
+violated_lines (name ∷ names) [] = []
+violated_lines (name ∷ names) (first ∷ firsts) = violated_line name first ++ violated_lines names firsts
+
+-- the text of what is known
+abbrev pub watched_text : Watched → List ℕ
+watched_text known = violated_lines known.names known.firsts
+
+-- what stands behind the report, or the summary, of a run with these marks
+abbrev pub violations : List (List ℕ) → List ℕ → List Row → List ℕ
+violations names marks rows = watched_text (watched names marks rows)
