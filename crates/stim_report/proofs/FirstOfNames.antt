@@ -1,14 +1,15 @@
 -- The first input of each name, as names come one by one.
 use Rattle.std.proofs.Common.{◌≡◌, ℕ, zero, suc, ◌+◌, ◌<◌, ◌≤◌, Bool, true, false, cond, eqb, List, [], ◌∷◌, ◌++◌, length, length-append, get_or, Option, Some, None, refl, sym, ap, ap₂, ◌∙◌, subst, arith, true≢false}
-use Rattle.std.specs.Prelude.{nat_lt, option_map, position, slice_index, bytes_eq}
+use Rattle.std.specs.Prelude.{nat_lt, option_map, position, slice_get, slice_index, bytes_eq}
 use Rattle.std.specs.List.{position_or_len}
-use Rattle.std.proofs.lemmas.Bool.{eqb-true, eqb-false, ltb-true, ltb-false, lt-ltb, le-ltb}
+use Rattle.std.proofs.lemmas.Bool.{eqb-true, eqb-false, false_from_ne_true, ltb-true, ltb-false, lt-ltb, le-ltb}
 use Rattle.std.proofs.lemmas.List.{get_or_default}
 use Rattle.std.proofs.lemmas.List.Folds.{position_or_len_push}
 use Rattle.std.proofs.lemmas.List.Quantifiers.{position-Some}
-use Rattle.std.proofs.lemmas.List.Sums.{prefix_len-le-length}
+use Rattle.std.proofs.lemmas.List.Sums.{position_or_len_is, prefix_len-le-length}
+use Rattle.std.proofs.lemmas.Option.{get_or_from_slice_get, slice_get_within}
 use Rattle.std.proofs.lemmas.Slice.Eq.{bytes_eq-Decides}
-use Rattle.kw_base.specs.Names.{Adds, number_of}
+use Rattle.kw_base.specs.Names.{Adds, AreNumbered, number_of}
 use Rattle.kw_base.specs.declared.names.Added.{Added}
 use Rattle.kw_base.specs.declared.names.Added.TheVariants.{New, There}
 use Rattle.stim_report.specs.Assignments.{input_of}
@@ -65,6 +66,7 @@ map_found f o k is = ap (option_map f) is
 pub first_there : (names : List (List ℕ)) (firsts : List ℕ) (before : List NameWidth) (input : NameWidth) (number : ℕ) → AreFirst names firsts before → number_of names input.name ≡ Some number
     → AreFirst names firsts (before ++ input ∷ [])
 first_there names firsts before input number first found = record {
+  numbered = first.numbered;
   count = first.count;
   first = λ name. position_push (λ (i : NameWidth). bytes_eq name i.name) before input ∙ same name (bytes_eq name input.name) refl ∙ first.first name;
 }
@@ -86,10 +88,11 @@ before_last (x ∷ firsts) n zero h = refl
 before_last (x ∷ firsts) n (suc k) h = before_last firsts n k (omega (arith, h))
 
 -- an input of a new name is the first of it
-pub first_new : (names : List (List ℕ)) (firsts : List ℕ) (before : List NameWidth) (input : NameWidth) → AreFirst names firsts before
+pub first_new : (names : List (List ℕ)) (firsts : List ℕ) (before : List NameWidth) (input : NameWidth) → AreFirst names firsts before → AreNumbered (names ++ input.name ∷ [])
     → AreFirst (names ++ input.name ∷ []) (firsts ++ length before ∷ []) (before ++ input ∷ [])
 unfolding or_at
-first_new names firsts before input first = record {
+first_new names firsts before input first numbered = record {
+  numbered = numbered;
   count = omega (arith, length-append firsts (length before ∷ []), length-append names (input.name ∷ []), first.count);
   first = λ name.
       position_push (λ (i : NameWidth). bytes_eq name i.name) before input
@@ -106,7 +109,22 @@ first_new names firsts before input first = record {
 
 -- no names and no inputs
 pub first_none : (firsts : List ℕ) → firsts ≡ [] → AreFirst [] firsts []
-first_none firsts none = record { count = ap length none; first = λ name. refl }
+first_none firsts none = record {
+  numbered = record { distinct = λ i j d less below. absurd (omega (arith, below)); few = omega arith };
+  count = ap length none;
+  first = λ name. refl;
+}
+
+-- the number of a name is that of its place, since no two are equal
+pub number_at : (names : List (List ℕ)) (name : List ℕ) (k : ℕ) → AreNumbered names → slice_get names k ≡ Some name → Some k ≡ number_of names name
+number_at names name k numbered found =
+    let within : k < length names = slice_get_within names k name found in
+    let at : get_or names k [] ≡ name = get_or_from_slice_get names k name [] found in
+    let place : position_or_len (bytes_eq name) names ≡ k =
+    position_or_len_is (bytes_eq name) names k [] (omega (arith, within))
+    (λ i below. false_from_ne_true (bytes_eq name (get_or names i [])) (λ same. numbered.distinct i k [] below within (sym ((bytes_eq-Decides name (get_or names i [])).0 same) ∙ sym at)))
+    (λ h. (bytes_eq-Decides name (get_or names k [])).1 (sym at)) in
+    sym (ap (λ (n : ℕ). cond (nat_lt n (length names)) (Some n) None) place ∙ ap (λ (b : Bool). cond b (Some k) None) (lt-ltb k (length names) within))
 
 -- the number of a name is one of those that are kept
 pub first_within : (names : List (List ℕ)) (firsts : List ℕ) (inputs : List NameWidth) (name : List ℕ) (number : ℕ) → AreFirst names firsts inputs → number_of names name ≡ Some number → number < length firsts

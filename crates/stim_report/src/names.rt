@@ -1,5 +1,6 @@
 // The inputs by their names.
 ghost use Rattle.std.specs.Prelude.{◌≡◌, ◌≤◌, ◌<◌, ◌+◌, ◌^◌, ◌++◌, ◌∷◌, [], List, IfOk, OnOk, length};
+ghost use Rattle.kw_base.specs.Names.{AreNumbered, number_of};
 ghost use Rattle.stim_report.specs.Assignments.{input_of};
 ghost use Rattle.stim_report.specs.FirstNames.{AreFirst};
 ghost use Rattle.stim_report.specs.declared.shape.NameWidth.{NameWidth as NamedInput};
@@ -30,14 +31,25 @@ impl InputNames {
         Ok(InputNames { names, firsts })
     }
 
-    /// The first input of a name.
-    pub(crate) fn find(&self, inputs: &[NameWidth], name: &[u8]) -> Option<u32>
+    /// The first input of a name, found faster where it is the one that is expected.
+    pub(crate) fn find(&self, inputs: &[NameWidth], name: &[u8], expected: u32) -> Option<u32>
         requires { AreFirst self.now.names self.now.firsts.items inputs.now }
         ensures { result ≡ input_of inputs.now name.now }
     {
-        let number = self.names.find(name)?;
+        let number = find_near(&self.names, name, expected)?;
         Some(self.firsts[number as usize])
     }
+}
+
+// The number of a name. That of the expected one is told without a hash, which costs more than the rest of a short assignment.
+fn find_near(names: &Names, name: &[u8], expected: u32) -> Option<u32>
+    requires { AreNumbered names.now }
+    ensures number { result ≡ number_of names.now name.now }
+{
+    if (expected as usize) < names.len() && names.name(expected) == name {
+        return Some(expected);
+    }
+    names.find(name)
 }
 
 // Adds the name of the next input.

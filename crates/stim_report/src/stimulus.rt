@@ -112,7 +112,11 @@ fn read_word(
     ensures given { OnOk result (AreGiven given.new.items line.new.items) }
     ensures fits { OnOk result (IsLine (widths_of inputs.now) line.new.items) }
 {
-    match read_assignment(inputs, names, given.as_slice(), word) {
+    let expected = match line.last() {
+        Some(last) => last.0.saturating_add(1),
+        None => 0,
+    };
+    match read_assignment(inputs, names, given.as_slice(), word, expected) {
         Ok(assignment) => {
             let input = assignment.0 as usize;
             line.push(assignment)?;
@@ -136,12 +140,14 @@ fn place(line: u32, column: usize) -> Place
     }
 }
 
-// What a word assigns, where these inputs are given before it in its line, or the number of its fault.
+// What a word assigns, where these inputs are given before it in its line, or the number of its fault. Most lines assign
+// the inputs in their order, so one is expected, and any may come.
 fn read_assignment(
     inputs: &[NameWidth],
     names: &InputNames,
     given: &[bool],
     word: &[u8],
+    expected: u32,
 ) -> Result<(u32, Bits), u32>
     requires widths { All IsWidth (widths_of inputs.now) }
     requires names { AreFirst names.now.names names.now.firsts.items inputs.now }
@@ -156,7 +162,7 @@ fn read_assignment(
     let Some(value) = numeral_of(parts.value) else {
         return Err(MALFORMED_ASSIGNMENT);
     };
-    let Some(input) = names.find(inputs, parts.name) else {
+    let Some(input) = names.find(inputs, parts.name, expected) else {
         return Err(UNKNOWN_INPUT);
     };
     if given[input as usize] {
