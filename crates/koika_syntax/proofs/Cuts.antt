@@ -1,13 +1,15 @@
 -- A text is cut into pieces in one way, up to its end or to its first fault.
-use Rattle.std.proofs.Common.{◌≡◌, ℕ, true, get_or, ◌+◌, ◌<◌, ◌≤◌, List, [], ◌∷◌, ◌++◌, length, length-append, length-drop, length-take-le, take, drop, take-append-drop, Option, Some, None, refl, sym, ap, ◌∙◌, subst, arith, ⊎_elim}
+use Rattle.std.proofs.Common.{◌≡◌, ℕ, true, get_or, ◌+◌, ◌<◌, ◌≤◌, List, [], ◌∷◌, ◌++◌, length, length-append, length-drop, length-take-le, take, drop, take-append-drop, Option, Some, None, Result, Err, refl, sym, ap, ◌∙◌, subst, arith, ⊎_elim}
 use Rattle.std.specs.List.{flat_map}
 use Rattle.std.proofs.lemmas.List.{append_assoc, append-nil, drop_all, get_or-drop}
 use Rattle.std.proofs.Math.Seq.{drop-append_seam}
-use Rattle.kw_base.specs.Fault.{fault_at}
+use Rattle.kw_base.specs.Fault.{fault_at, IfFault, IsOkUnlessNoMemory, IsFaultUnlessNoMemory}
 use Rattle.kw_base.specs.Place.{place_at}
 use Rattle.kw_base.specs.declared.fault.Fault.{Fault}
+use Rattle.kw_base.specs.declared.fault.Refusal.{Refusal}
+use Rattle.kw_base.specs.declared.fault.Refusal.TheVariants as refusals
 use Rattle.koika_syntax.specs.Lexemes.{is_blank, Kind, IsLongest}
-use Rattle.koika_syntax.specs.LexemeAnswers.{BeginsWithPiece}
+use Rattle.koika_syntax.specs.LexemeAnswers.{BeginsWithPiece, tokens_of, HasRead, BeginsFault}
 use Rattle.koika_syntax.specs.Tokens.{Piece, bytes_of, IsPiece, IsCut, tokens_behind, AreTokensOf}
 use Rattle.koika_syntax.specs.TokenFaults.{IsWrong, BeginsStray, BeginsWrong, BeginsFaulty, IsFirstFault}
 use Rattle.koika_syntax.specs.declared.lexeme.Lexeme.{Lexeme}
@@ -118,12 +120,7 @@ module _ (text : List ℕ) (tokens : List Token) (offset : ℕ) (so_far : CutTo 
         within = omega (arith, size, length-drop offset text, so_far.within);
       }
 
-  -- the token of a lexeme at the offset, if it is one
-  abbrev spans_of : Option TokenKind → ℕ → List Token
-  spans_of None len = []
-  spans_of (Some kind) len = record { kind = kind; start = offset; end = offset + len } ∷ []
-
-  with_lexeme : (found : Option TokenKind) (len : ℕ) → BeginsWithPiece (drop offset text) (record { token = found; len = len }) → CutTo text (tokens ++ spans_of found len) (offset + len)
+  with_lexeme : (found : Option TokenKind) (len : ℕ) → BeginsWithPiece (drop offset text) (record { token = found; len = len }) → CutTo text (tokens ++ tokens_of found offset (offset + len)) (offset + len)
   with_lexeme None len begins =
       subst (λ n. CutTo text (tokens ++ []) (offset + n)) (sym begins.len) (with_piece (Piece.gap begins.bytes) begins.after [] begins.front begins.piece begins.longest refl)
   with_lexeme (Some kind) len begins =
@@ -131,7 +128,7 @@ module _ (text : List ℕ) (tokens : List Token) (offset : ℕ) (so_far : CutTo 
       let end : length (front ++ begins.bytes) ≡ offset + len = length-append front begins.bytes ∙ (λ i. so_far.offset_is i + (sym begins.len) i) in
       let span : record { kind = kind; start = offset; end = offset + len } ∷ [] ≡ tokens_behind front (Piece.token kind begins.bytes ∷ []) =
       (λ i. record { kind = kind; start = (sym so_far.offset_is) i; end = (sym end) i } ∷ []) in
-      subst (λ n. CutTo text (tokens ++ spans_of (Some kind) len) (offset + n)) (sym begins.len) (with_piece (Piece.token kind begins.bytes) begins.after (spans_of (Some kind) len) begins.front begins.piece begins.longest span)
+      subst (λ n. CutTo text (tokens ++ tokens_of (Some kind) offset (offset + len)) (offset + n)) (sym begins.len) (with_piece (Piece.token kind begins.bytes) begins.after (tokens_of (Some kind) offset (offset + len)) begins.front begins.piece begins.longest span)
 
   -- a blank or a comment
   pub CutTo-gap : (lexeme : Lexeme) → lexeme.token ≡ None → BeginsWithPiece (drop offset text) lexeme → CutTo text tokens (offset + lexeme.len)
@@ -143,11 +140,13 @@ module _ (text : List ℕ) (tokens : List Token) (offset : ℕ) (so_far : CutTo 
   CutTo-blank within blank =
       CutTo-gap (record { token = None; len = 1 }) refl (text_begins_blank (drop offset text) (omega (arith, length-drop offset text)) (ap is_blank (get_or-drop offset text 0 0 ∙ ap (λ k. get_or text k 0) (omega arith)) ∙ blank))
 
-  -- a token
-  pub CutTo-token : (lexeme : Lexeme) (kind : TokenKind) → lexeme.token ≡ Some kind → BeginsWithPiece (drop offset text) lexeme
-      → CutTo text (tokens ++ record { kind = kind; start = offset; end = offset + lexeme.len } ∷ []) (offset + lexeme.len)
-  CutTo-token lexeme kind found begins =
-      with_lexeme (Some kind) lexeme.len (subst (λ t. BeginsWithPiece (drop offset text) (record { token = t; len = lexeme.len })) found begins)
+  -- a lexeme that was read
+  pub CutTo-read : (after : List Token) (end : ℕ) → HasRead text offset tokens after end → CutTo text after end
+  CutTo-read after end read =
+      let lexeme = read.lexeme in
+      let cut = with_lexeme lexeme.token lexeme.len read.begins in
+      let at_end = subst (λ n. CutTo text (tokens ++ tokens_of lexeme.token offset n) n) (sym read.end_is) cut in
+      subst (λ l. CutTo text l end) (sym read.tokens) at_end
 
   -- the end of the text
   pub CutTo-end : length text ≤ offset → AreTokensOf tokens text
@@ -158,15 +157,38 @@ module _ (text : List ℕ) (tokens : List Token) (offset : ℕ) (so_far : CutTo 
   }
 
   -- a fault
-  pub CutTo-fault : (number further : ℕ) → BeginsFaulty (drop offset text) number further → IsFirstFault text (fault_at number (place_at text (offset + further)))
-  CutTo-fault number further faulty = record {
+  pub CutTo-fault : (fault : Fault) → BeginsFault text offset fault → IsFirstFault text fault
+  CutTo-fault fault begins = record {
     pieces = so_far.pieces;
     rest = drop offset text;
     cut = so_far.cut;
-    offset = further;
-    faulty = faulty;
-    place = ap (λ n. fault_at number (place_at text (n + further))) (sym so_far.offset_is);
+    offset = begins.further;
+    faulty = begins.faulty;
+    place = begins.place ∙ ap (λ n. fault_at fault.number (place_at text (n + begins.further))) (sym so_far.offset_is);
   }
+
+  -- what is refused for a fault behind the offset is refused for the first fault
+  pub CutTo-refused : (refusal : Refusal) → IfFault {X = ℕ} (Err refusal) (BeginsFault text offset) → IfFault {X = ℕ} (Err refusal) (IsFirstFault text)
+  CutTo-refused (refusals.Fault fault) begins = CutTo-fault fault begins
+  CutTo-refused refusals.NoMemory begins = tt
+
+-- a text that is refused for its first fault has no tokens
+pub refused-no_tokens : {X : Type 0} (text : List ℕ) (result : Result X Refusal) (refusal : Refusal) → result ≡ Err refusal → IfFault {X = ℕ} (Err refusal) (IsFirstFault text)
+    → (tokens : List Token) → AreTokensOf tokens text → (P : X → Type 0) → IsOkUnlessNoMemory result P
+refused-no_tokens {X} text result refusal is first tokens are P = subst (λ r. IsOkUnlessNoMemory r P) (sym is) (by refusal first)
+  where
+    by : (r : Refusal) → IfFault {X = ℕ} (Err r) (IsFirstFault text) → IsOkUnlessNoMemory {X = X} (Err r) P
+    by (refusals.Fault fault) f = tokens_or_fault text tokens fault are f
+    by refusals.NoMemory f = tt
+
+-- nor another first fault
+pub refused-one_fault : {X : Type 0} (text : List ℕ) (result : Result X Refusal) (refusal : Refusal) → result ≡ Err refusal → IfFault {X = ℕ} (Err refusal) (IsFirstFault text)
+    → (fault : Fault) → IsFirstFault text fault → IsFaultUnlessNoMemory result fault
+refused-one_fault {X} text result refusal is first other other_is = subst (λ r. IsFaultUnlessNoMemory r other) (sym is) (by refusal first)
+  where
+    by : (r : Refusal) → IfFault {X = ℕ} (Err r) (IsFirstFault text) → IsFaultUnlessNoMemory {X = X} (Err r) other
+    by (refusals.Fault fault) f = one_fault text fault other f other_is
+    by refusals.NoMemory f = tt
 
 wrong_within : (kind : Kind) (bytes : List ℕ) (number offset : ℕ) → IsWrong kind bytes number offset → offset ≤ length bytes
 wrong_within Kind.blank bytes number offset wrong = absurd wrong

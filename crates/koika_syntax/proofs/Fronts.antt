@@ -275,13 +275,15 @@ module _ (b : ℕ) (text : List ℕ) (blank : is_blank b ≡ false) (word : begi
     offset_is = refl;
   })
 
--- a symbol
+-- a symbol of so many bytes, where no symbol is longer
 pub text_begins_symbol : (text : List ℕ) → 0 < length text → is_blank (get_or text 0 0) ≡ false → begins_word (get_or text 0 0) ≡ false
-    → is_ascii_digit (get_or text 0 0) ≡ false → ¬ BeginsWith text (47 ∷ 47 ∷ []) → (s : Symbol) → BeginsWith text (symbol_text s)
-    → ((other : Symbol) → BeginsWith text (symbol_text other) → length (symbol_text other) ≤ length (symbol_text s))
-    → BeginsWithPiece text (record { token = Some (kinds.Symbol s); len = length (symbol_text s) })
-text_begins_symbol [] some blank word digit comment s found most = absurd (omega (arith, some))
-text_begins_symbol (b ∷ text) some blank word digit comment s found most = begins_symbol b text blank word digit comment s found most
+    → is_ascii_digit (get_or text 0 0) ≡ false → ¬ BeginsWith text (47 ∷ 47 ∷ []) → (s : Symbol) (len : ℕ) → length (symbol_text s) ≡ len → BeginsWith text (symbol_text s)
+    → ((other : Symbol) → BeginsWith text (symbol_text other) → length (symbol_text other) ≤ len)
+    → BeginsWithPiece text (record { token = Some (kinds.Symbol s); len = len })
+text_begins_symbol [] some blank word digit comment s len size found most = absurd (omega (arith, some))
+text_begins_symbol (b ∷ text) some blank word digit comment s len size found most =
+    subst (λ n. BeginsWithPiece (b ∷ text) (record { token = Some (kinds.Symbol s); len = n })) size
+    (begins_symbol b text blank word digit comment s found (λ other at. omega (arith, most other at, size)))
 
 -- nothing
 pub text_faulty_byte : (text : List ℕ) → 0 < length text → is_blank (get_or text 0 0) ≡ false → begins_word (get_or text 0 0) ≡ false

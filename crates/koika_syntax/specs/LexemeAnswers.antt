@@ -1,11 +1,15 @@
 -- What the calls that read one lexeme answer: the piece that a text begins with, or the fault.
-use Rattle.std.specs.Prelude.{◌≡◌, ℕ, ◌<◌, List, ◌++◌, length, Option, None, Some, Result, Ok, Err}
+use Rattle.std.specs.Prelude.{◌≡◌, ℕ, ◌+◌, ◌<◌, List, [], ◌∷◌, ◌++◌, length, drop, Option, None, Some, Result, Ok, Err}
+use Rattle.kw_base.specs.declared.fault.Fault.{Fault}
+use Rattle.kw_base.specs.Fault.{fault_at}
+use Rattle.kw_base.specs.Place.{place_at}
 use Rattle.koika_syntax.specs.Lexemes.{IsLongest}
 use Rattle.koika_syntax.specs.Tokens.{Piece, IsPiece}
 use Rattle.koika_syntax.specs.TokenFaults.{BeginsFaulty}
 use Rattle.koika_syntax.specs.declared.lexeme.Flaw.{Flaw}
 use Rattle.koika_syntax.specs.declared.lexeme.Flaw.TheVariants as flaws
 use Rattle.koika_syntax.specs.declared.lexeme.Lexeme.{Lexeme}
+use Rattle.koika_syntax.specs.declared.token.Token.{Token}
 use Rattle.koika_syntax.specs.declared.token.TokenKind.{TokenKind}
 
 -- the piece of these bytes: a token of a kind, or else a blank or a comment
@@ -39,3 +43,21 @@ offset_of flaws.LongName = 0
 abbrev pub IsAnswer : List ℕ → Result Lexeme Flaw → Type 0
 IsAnswer text (Ok lexeme) = BeginsWithPiece text lexeme
 IsAnswer text (Err flaw) = BeginsFaulty text (number_of flaw) (offset_of flaw)
+
+-- the token of a span, if what stands there is one
+abbrev pub tokens_of : Option TokenKind → (start end : ℕ) → List Token
+tokens_of None start end = []
+tokens_of (Some kind) start end = record { kind = kind; start = start; end = end } ∷ []
+
+-- a lexeme of the text stands between the offset and the end, and its token, if it is one, came behind those before
+pub record HasRead (text : List ℕ) (offset : ℕ) (before after : List Token) (end : ℕ) : Type 0 where
+  pub lexeme : Lexeme
+  pub begins : BeginsWithPiece (drop offset text) lexeme
+  pub end_is : end ≡ offset + lexeme.len
+  pub tokens : after ≡ before ++ tokens_of lexeme.token offset end
+
+-- the text behind the offset begins with the fault
+pub record BeginsFault (text : List ℕ) (offset : ℕ) (fault : Fault) : Type 0 where
+  pub further : ℕ
+  pub faulty : BeginsFaulty (drop offset text) fault.number further
+  pub place : fault ≡ fault_at fault.number (place_at text (offset + further))

@@ -1,37 +1,43 @@
-ghost use Rattle.std.specs.Prelude.{◌≡◌, ◌<◌, false, length, slice_index};
+ghost use Rattle.std.specs.Prelude.{◌≡◌, ◌<◌, ◌∷◌, [], false, length, slice_index};
+ghost use Rattle.std.specs.Char.{is_ascii_digit};
 ghost use Rattle.std.specs.List.{prefix_len};
 ghost use Rattle.koika_syntax.specs.Lexemes as lexemes;
 ghost use Rattle.koika_syntax.specs.LexemeAnswers.{IsAnswer};
+ghost use Rattle.koika_syntax.specs.Symbols.{BeginsWith};
 
+use crate::Symbol;
 use crate::lexeme::{Flaw, Lexeme};
-use crate::literal::numeral;
-use crate::word::{begins_word, word};
-use crate::{Symbol, TokenKind};
 
-/// What a text begins with whose first byte is no blank.
-pub(crate) fn lexeme_of(text: &[u8]) -> Result<Lexeme, Flaw>
-    requires some_byte { 0 < length text.now }
-    requires no_blank { lexemes.is_blank (slice_index text.now 0) ≡ false }
+/// The comment that a text begins with.
+pub(crate) fn comment(text: &[u8]) -> Result<Lexeme, Flaw>
+    requires { BeginsWith text.now (47 ∷ 47 ∷ []) }
     ensures { IsAnswer text.now result }
 {
-    let first = text[0];
-    if begins_word(first) {
-        return word(text);
+    Ok(Lexeme {
+        token: None,
+        len: line_len(text),
+    })
+}
+
+/// The longest symbol that a text begins with, which is no blank, word, number or comment.
+pub(crate) fn symbol(text: &[u8]) -> Result<Lexeme, Flaw>
+    requires some_byte { 0 < length text.now }
+    requires no_blank { lexemes.is_blank (slice_index text.now 0) ≡ false }
+    requires no_word { lexemes.begins_word (slice_index text.now 0) ≡ false }
+    requires no_digit { is_ascii_digit (slice_index text.now 0) ≡ false }
+    requires no_comment { ¬ BeginsWith text.now (47 ∷ 47 ∷ []) }
+    ensures { IsAnswer text.now result }
+{
+    if text.starts_with(b">>>") {
+        return Ok(Lexeme::of_symbol(Symbol::GreaterGreaterGreater, 3));
     }
-    if first.is_ascii_digit() {
-        return numeral(text);
+    if text.len() > 1 {
+        if let Some(symbol) = Symbol::of_bytes(text[0], text[1]) {
+            return Ok(Lexeme::of_symbol(symbol, 2));
+        }
     }
-    if text.starts_with(b"//") {
-        return Ok(Lexeme {
-            token: None,
-            len: line_len(text),
-        });
-    }
-    match Symbol::at_front(text) {
-        Some(symbol) => Ok(Lexeme {
-            token: Some(TokenKind::Symbol(symbol)),
-            len: symbol.text().len(),
-        }),
+    match Symbol::of_byte(text[0]) {
+        Some(symbol) => Ok(Lexeme::of_symbol(symbol, 1)),
         None => Err(Flaw::Byte(0)),
     }
 }

@@ -141,7 +141,7 @@ impl Keyword {
         ensures found { IfSome result (λ keyword. word.now ≡ keyword_text keyword) }
         ensures absent { IfNone result ((keyword : Keyword) → word.now ≢ keyword_text keyword) }
     {
-        if word.is_empty() {
+        if word.len() < 2 {
             return None;
         }
         let mix = 4 * usize::from(word[0])

@@ -3,13 +3,15 @@ ghost use Rattle.koika_syntax.specs.Lexemes as lexemes;
 ghost use Rattle.kw_base.specs.Place.{place_at};
 ghost use Rattle.kw_base.specs.Fault.{fault_at, IfFault, IsOkUnlessNoMemory, IsFaultUnlessNoMemory};
 ghost use Rattle.kw_base.specs.declared.fault.Fault.{Fault};
-ghost use Rattle.koika_syntax.specs.LexemeAnswers.{IsAnswer, number_of, offset_of};
+ghost use Rattle.koika_syntax.specs.LexemeAnswers.{IsAnswer, HasRead, BeginsFault, number_of, offset_of};
 ghost use Rattle.koika_syntax.specs.Tokens.{AreTokensOf, StandsIn, AreAscending};
 ghost use Rattle.koika_syntax.specs.TokenFaults.{IsFirstFault};
 
 use crate::Token;
-use crate::front::lexeme_of;
+use crate::front::{comment, symbol};
 use crate::lexeme::{Flaw, Lexeme};
+use crate::literal::numeral;
+use crate::word::{begins_word, word};
 use kw_base::{Fault, Refusal, place_of};
 use std::alloc::Global;
 
@@ -33,19 +35,7 @@ pub fn lex(alloc: Global, text: &[u8]) -> Result<Vec<Token>, Refusal>
             offset += 1;
             continue;
         }
-        let lexeme = match lexeme_at(text, offset) {
-            Ok(lexeme) => lexeme,
-            Err(flaw) => return Err(Refusal::Fault(fault_of(text, offset, flaw))),
-        };
-        let end = offset + lexeme.len;
-        if let Some(kind) = lexeme.token {
-            tokens.push(Token {
-                kind,
-                start: offset as u32,
-                end: end as u32,
-            })?;
-        }
-        offset = end;
+        offset = read_at(text, offset, &mut tokens)?;
     }
     Ok(tokens)
 }
@@ -57,13 +47,64 @@ fn is_blank(byte: u8) -> bool
     byte == b' ' || byte == b'\t' || byte == b'\r' || byte == b'\n'
 }
 
-// What the text behind an offset begins with, where no blank stands.
-fn lexeme_at(text: &[u8], offset: usize) -> Result<Lexeme, Flaw>
+// Adds the token that stands at an offset, if it is no comment, and gives the offset behind it. Each kind of
+// lexeme is added on its own, since most of what a token costs is moving it.
+fn read_at(text: &[u8], offset: usize, tokens: &mut Vec<Token>) -> Result<usize, Refusal>
+    requires short { length text.now ≤ 1048576 }
     requires within { offset < length text.now }
     requires no_blank { lexemes.is_blank (slice_index text.now offset) ≡ false }
-    ensures { IsAnswer (drop offset text.now) result }
+    ensures read { IfOk result (HasRead text.now offset tokens.old.items tokens.new.items) }
+    ensures fault { IfFault result (BeginsFault text.now offset) }
 {
-    lexeme_of(&text[offset..])
+    let behind = behind(text, offset);
+    let first = behind[0];
+    if begins_word(first) {
+        return add(text, offset, word(behind), tokens);
+    }
+    if first.is_ascii_digit() {
+        return add(text, offset, numeral(behind), tokens);
+    }
+    if first == b'/' && behind.starts_with(b"//") {
+        return add(text, offset, comment(behind), tokens);
+    }
+    add(text, offset, symbol(behind), tokens)
+}
+
+// The text behind an offset.
+fn behind(text: &[u8], offset: usize) -> &[u8]
+    requires { offset ≤ length text.now }
+    ensures { result.now ≡ drop offset text.now }
+{
+    &text[offset..]
+}
+
+// Adds the token of a lexeme at an offset, if it is one, and gives the offset behind it.
+fn add(
+    text: &[u8],
+    offset: usize,
+    answer: Result<Lexeme, Flaw>,
+    tokens: &mut Vec<Token>,
+) -> Result<usize, Refusal>
+    requires short { length text.now ≤ 1048576 }
+    requires within { offset ≤ length text.now }
+    requires answer { IsAnswer (drop offset text.now) answer }
+    ensures read { IfOk result (HasRead text.now offset tokens.old.items tokens.new.items) }
+    ensures fault { IfFault result (BeginsFault text.now offset) }
+{
+    match answer {
+        Ok(lexeme) => {
+            let end = offset + lexeme.len;
+            if let Some(kind) = lexeme.token {
+                tokens.push(Token {
+                    kind,
+                    start: offset as u32,
+                    end: end as u32,
+                })?;
+            }
+            Ok(end)
+        }
+        Err(flaw) => Err(Refusal::Fault(fault_of(text, offset, flaw))),
+    }
 }
 
 // The fault that a flaw of the text behind an offset is.

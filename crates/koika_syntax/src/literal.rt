@@ -93,7 +93,19 @@ fn number_of(digits: &[u8]) -> Option<u32>
     requires { IsNumeral 10 digits.now }
     ensures { SomeIff result (digits_value 10 digits.now < 2 ^ 32) (digits_value 10 digits.now) }
 {
-    u32::try_from(value_of(digits, Base::Decimal)?).ok()
+    let mut number: u32 = 0;
+    for digit in digits {
+        let digit = char::from(*digit).to_digit(10).unwrap();
+        number = with_decimal_digit(number, digit)?;
+    }
+    Some(number)
+}
+
+// The number with one more decimal digit behind it, if it is below 2^32.
+fn with_decimal_digit(number: u32, digit: u32) -> Option<u32>
+    ensures { SomeIff result (number * 10 + digit < 2 ^ 32) (number * 10 + digit) }
+{
+    number.checked_mul(10)?.checked_add(digit)
 }
 
 // The bits of a literal of these parts, if they are in range.

@@ -1,6 +1,5 @@
-ghost use Rattle.std.specs.Prelude.{◌≡◌, ◌<◌, ◌≤◌, ◌↔◌, ◌%◌, length, slice_get, slice_index, Some, IsTrue, IfSome, IfNone};
-ghost use Rattle.koika_syntax.specs.declared.symbol.TheConstants.{SYMBOLS, PLACES};
-ghost use Rattle.koika_syntax.specs.Symbols.{symbol_text, BeginsWith};
+ghost use Rattle.std.specs.Prelude.{◌≡◌, ◌≢◌, ◌∷◌, [], IfSome, IfNone};
+ghost use Rattle.koika_syntax.specs.Symbols.{symbol_text};
 
 /// A symbol: one to three bytes that are neither letters nor digits.
 #[derive(Clone, Copy, Debug, PartialEq, Eq)]
@@ -67,51 +66,6 @@ pub enum Symbol {
     PlusPlus,
 }
 
-// Every symbol, in the order of the declaration.
-const SYMBOLS: [Symbol; 30] = [
-    Symbol::LeftBrace,
-    Symbol::RightBrace,
-    Symbol::LeftParenthesis,
-    Symbol::RightParenthesis,
-    Symbol::LeftBracket,
-    Symbol::RightBracket,
-    Symbol::Semicolon,
-    Symbol::Colon,
-    Symbol::ColonColon,
-    Symbol::Comma,
-    Symbol::Equals,
-    Symbol::Dot,
-    Symbol::Arrow,
-    Symbol::Plus,
-    Symbol::Minus,
-    Symbol::Star,
-    Symbol::Ampersand,
-    Symbol::Bar,
-    Symbol::Caret,
-    Symbol::Tilde,
-    Symbol::EqualsEquals,
-    Symbol::NotEquals,
-    Symbol::Less,
-    Symbol::LessEquals,
-    Symbol::Greater,
-    Symbol::GreaterEquals,
-    Symbol::LessLess,
-    Symbol::GreaterGreater,
-    Symbol::GreaterGreaterGreater,
-    Symbol::PlusPlus,
-];
-
-// The places in that table of the symbols of one and of two bytes, 30 for none. That of a symbol stands at
-// its first byte and five times its second one, modulo 128.
-const PLACES: [u8; 128] = [
-    30, 30, 29, 30, 30, 30, 30, 30, 30, 30, 30, 30, 30, 30, 30, 30, 30, 30, 30, 30, 30, 30, 30, 30,
-    30, 30, 30, 30, 30, 30, 30, 30, 30, 30, 30, 30, 30, 30, 16, 30, 2, 3, 15, 13, 9, 14, 11, 30,
-    30, 30, 30, 30, 30, 30, 30, 30, 30, 30, 7, 6, 22, 10, 24, 30, 30, 30, 30, 30, 30, 30, 30, 30,
-    30, 30, 30, 30, 30, 30, 30, 30, 30, 30, 21, 30, 30, 30, 30, 30, 30, 30, 30, 4, 8, 5, 18, 30,
-    30, 30, 30, 12, 30, 30, 30, 30, 26, 30, 30, 30, 30, 23, 20, 25, 30, 30, 30, 30, 27, 30, 30, 30,
-    30, 30, 30, 0, 17, 1, 19, 30,
-];
-
 impl Symbol {
     /// The bytes of the symbol.
     pub fn text(self) -> &'static [u8]
@@ -151,52 +105,52 @@ impl Symbol {
         }
     }
 
-    /// The longest symbol that a text begins with, if there is one.
-    pub(crate) fn at_front(text: &[u8]) -> Option<Symbol>
-        requires { 0 < length text.now }
-        ensures found { IfSome result (λ symbol. BeginsWith text.now (symbol_text symbol)) }
-        ensures longest { IfSome result (λ symbol. (other : Symbol) →
-            BeginsWith text.now (symbol_text other) → length (symbol_text other) ≤ length (symbol_text symbol)) }
-        ensures absent { IfNone result ((symbol : Symbol) → ¬ BeginsWith text.now (symbol_text symbol)) }
+    /// The symbol of one byte, if it is one.
+    pub(crate) fn of_byte(byte: u8) -> Option<Symbol>
+        ensures found { IfSome result (λ symbol. symbol_text symbol ≡ byte ∷ []) }
+        ensures absent { IfNone result ((symbol : Symbol) → symbol_text symbol ≢ byte ∷ []) }
     {
-        if text.starts_with(b">>>") {
-            return Some(Symbol::GreaterGreaterGreater);
+        match byte {
+            b'{' => Some(Symbol::LeftBrace),
+            b'}' => Some(Symbol::RightBrace),
+            b'(' => Some(Symbol::LeftParenthesis),
+            b')' => Some(Symbol::RightParenthesis),
+            b'[' => Some(Symbol::LeftBracket),
+            b']' => Some(Symbol::RightBracket),
+            b';' => Some(Symbol::Semicolon),
+            b':' => Some(Symbol::Colon),
+            b',' => Some(Symbol::Comma),
+            b'=' => Some(Symbol::Equals),
+            b'.' => Some(Symbol::Dot),
+            b'+' => Some(Symbol::Plus),
+            b'-' => Some(Symbol::Minus),
+            b'*' => Some(Symbol::Star),
+            b'&' => Some(Symbol::Ampersand),
+            b'|' => Some(Symbol::Bar),
+            b'^' => Some(Symbol::Caret),
+            b'~' => Some(Symbol::Tilde),
+            b'<' => Some(Symbol::Less),
+            b'>' => Some(Symbol::Greater),
+            _ => None,
         }
-        let first = usize::from(text[0]);
-        if text.len() > 1 {
-            let second = usize::from(text[1]);
-            if let Some(symbol) = Symbol::at_place(first + 5 * second, text) {
-                return Some(symbol);
-            }
-        }
-        Symbol::at_place(first, text)
     }
 
-    // The symbol that has this place, if the text begins with it.
-    fn at_place(mix: usize, text: &[u8]) -> Option<Symbol>
-        ensures found { IfSome result (λ symbol. BeginsWith text.now (symbol_text symbol)) }
-        ensures only { (symbol : Symbol) → slice_get SYMBOLS (slice_index PLACES (mix % 128)) ≡ Some symbol
-            → BeginsWith text.now (symbol_text symbol) → result ≡ Some symbol }
+    /// The symbol of two bytes, if they are one.
+    pub(crate) fn of_bytes(first: u8, second: u8) -> Option<Symbol>
+        ensures found { IfSome result (λ symbol. symbol_text symbol ≡ first ∷ second ∷ []) }
+        ensures absent { IfNone result ((symbol : Symbol) → symbol_text symbol ≢ first ∷ second ∷ []) }
     {
-        if let Some(symbol) = Symbol::in_place(mix) {
-            if symbol.begins(text) {
-                return Some(symbol);
-            }
+        match (first, second) {
+            (b':', b':') => Some(Symbol::ColonColon),
+            (b'-', b'>') => Some(Symbol::Arrow),
+            (b'=', b'=') => Some(Symbol::EqualsEquals),
+            (b'!', b'=') => Some(Symbol::NotEquals),
+            (b'<', b'=') => Some(Symbol::LessEquals),
+            (b'>', b'=') => Some(Symbol::GreaterEquals),
+            (b'<', b'<') => Some(Symbol::LessLess),
+            (b'>', b'>') => Some(Symbol::GreaterGreater),
+            (b'+', b'+') => Some(Symbol::PlusPlus),
+            _ => None,
         }
-        None
-    }
-
-    // The symbol that has this place.
-    fn in_place(mix: usize) -> Option<Symbol>
-        ensures { result ≡ slice_get SYMBOLS (slice_index PLACES (mix % 128)) }
-    {
-        SYMBOLS.get(usize::from(PLACES[mix % 128])).copied()
-    }
-
-    // Whether a text begins with the symbol.
-    fn begins(self, text: &[u8]) -> bool
-        ensures { IsTrue result ↔ BeginsWith text.now (symbol_text self) }
-    {
-        text.starts_with(self.text())
     }
 }

@@ -44,11 +44,13 @@ pub(crate) fn word(text: &[u8]) -> Result<Lexeme, Flaw>
     })
 }
 
-// How many bytes at the front can stand in a word.
+// How many bytes at the front can stand in a word, whose first byte begins one.
 fn word_len(bytes: &[u8]) -> usize
+    requires some_byte { 0 < length bytes.now }
+    requires first { IsTrue (lexemes.begins_word (slice_index bytes.now 0)) }
     ensures { result ≡ prefix_len lexemes.continues_word bytes.now }
 {
-    let mut len = 0;
+    let mut len = 1;
     while len < bytes.len() && continues_word(bytes[len]) {
         len += 1;
     }
