@@ -1,13 +1,13 @@
 -- Tokens as they are written in decimal, and that none of them goes on over a blank.
-use Rattle.std.proofs.Common.{◌≡◌, ℕ, suc, ◌+◌, ◌≤◌, ◌<◌, ◌^◌, Bool, true, false, not, List, [], ◌∷◌, ◌++◌, length, length-append, get_or, drop, decimal, refl, sym, ap, ◌∙◌, subst, arith}
+use Rattle.std.proofs.Common.{◌≡◌, ℕ, ◌+◌, ◌≤◌, Bool, true, false, not, List, [], ◌∷◌, ◌++◌, length, length-append, get_or, drop, decimal, refl, sym, ap, ◌∙◌, subst, arith}
 use Rattle.std.specs.Char.{is_digit}
-use Rattle.std.specs.List.{list_all, prefix_len}
+use Rattle.std.specs.List.{list_all}
 use Rattle.std.specs.Str.Parse.{IsNumeral, digits_value}
 use Rattle.std.proofs.lemmas.Bool.Decides.{nat_tests}
 use Rattle.std.proofs.lemmas.Fmt.{decimal_is_IsNumeral, decimal_is_IsNumeral_wide}
 use Rattle.std.proofs.lemmas.List.{append_assoc}
 use Rattle.kw_bits.specs.BitVector.{BitVector, IsBitVector}
-use Rattle.koika_syntax.specs.Lexemes.{is_blank, begins_word, continues_word, IsWord, Kind, HasKind, IsLongest}
+use Rattle.koika_syntax.specs.Lexemes.{is_blank, continues_word, IsWord, Kind, HasKind, IsLongest}
 use Rattle.koika_syntax.specs.Symbols.{symbol_text}
 use Rattle.koika_syntax.specs.Tokens.{IsToken}
 use Rattle.koika_syntax.specs.declared.literal.Base.TheVariants as bases

@@ -12,7 +12,6 @@ use Rattle.koika_syntax.specs.Lexemes.{is_blank, Kind, IsLongest}
 use Rattle.koika_syntax.specs.LexemeAnswers.{BeginsWithPiece, tokens_of, HasRead, BeginsFault}
 use Rattle.koika_syntax.specs.Tokens.{Piece, bytes_of, IsPiece, IsCut, tokens_behind, AreTokensOf}
 use Rattle.koika_syntax.specs.TokenFaults.{IsWrong, BeginsStray, BeginsWrong, BeginsFaulty, IsFirstFault}
-use Rattle.koika_syntax.specs.declared.lexeme.Lexeme.{Lexeme}
 use Rattle.koika_syntax.specs.declared.token.Token.{Token}
 use Rattle.koika_syntax.specs.declared.token.TokenKind.{TokenKind}
 use Rattle.koika_syntax.proofs.Fronts.{text_begins_blank}
@@ -120,32 +119,27 @@ module _ (text : List ℕ) (tokens : List Token) (offset : ℕ) (so_far : CutTo 
         within = omega (arith, size, length-drop offset text, so_far.within);
       }
 
-  with_lexeme : (found : Option TokenKind) (len : ℕ) → BeginsWithPiece (drop offset text) (record { token = found; len = len }) → CutTo text (tokens ++ tokens_of found offset (offset + len)) (offset + len)
+  with_lexeme : (found : Option TokenKind) (len : ℕ) → BeginsWithPiece (drop offset text) found len → CutTo text (tokens ++ tokens_of found offset (offset + len)) (offset + len)
   with_lexeme None len begins =
-      subst (λ n. CutTo text (tokens ++ []) (offset + n)) (sym begins.len) (with_piece (Piece.gap begins.bytes) begins.after [] begins.front begins.piece begins.longest refl)
+      subst (λ n. CutTo text (tokens ++ []) (offset + n)) (sym begins.len_is) (with_piece (Piece.gap begins.bytes) begins.after [] begins.front begins.piece begins.longest refl)
   with_lexeme (Some kind) len begins =
       let front = flat_map bytes_of so_far.pieces in
-      let end : length (front ++ begins.bytes) ≡ offset + len = length-append front begins.bytes ∙ (λ i. so_far.offset_is i + (sym begins.len) i) in
+      let end : length (front ++ begins.bytes) ≡ offset + len = length-append front begins.bytes ∙ (λ i. so_far.offset_is i + (sym begins.len_is) i) in
       let span : record { kind = kind; start = offset; end = offset + len } ∷ [] ≡ tokens_behind front (Piece.token kind begins.bytes ∷ []) =
       (λ i. record { kind = kind; start = (sym so_far.offset_is) i; end = (sym end) i } ∷ []) in
-      subst (λ n. CutTo text (tokens ++ tokens_of (Some kind) offset (offset + len)) (offset + n)) (sym begins.len) (with_piece (Piece.token kind begins.bytes) begins.after (tokens_of (Some kind) offset (offset + len)) begins.front begins.piece begins.longest span)
+      subst (λ n. CutTo text (tokens ++ tokens_of (Some kind) offset (offset + len)) (offset + n)) (sym begins.len_is) (with_piece (Piece.token kind begins.bytes) begins.after (tokens_of (Some kind) offset (offset + len)) begins.front begins.piece begins.longest span)
 
-  -- a blank or a comment
-  pub CutTo-gap : (lexeme : Lexeme) → lexeme.token ≡ None → BeginsWithPiece (drop offset text) lexeme → CutTo text tokens (offset + lexeme.len)
-  CutTo-gap lexeme none begins =
-      let at_none = with_lexeme None lexeme.len (subst (λ t. BeginsWithPiece (drop offset text) (record { token = t; len = lexeme.len })) none begins) in
-      subst (λ l. CutTo text l (offset + lexeme.len)) (append-nil tokens) at_none
-
+  -- a blank
   pub CutTo-blank : offset < length text → is_blank (get_or text offset 0) ≡ true → CutTo text tokens (offset + 1)
   CutTo-blank within blank =
-      CutTo-gap (record { token = None; len = 1 }) refl (text_begins_blank (drop offset text) (omega (arith, length-drop offset text)) (ap is_blank (get_or-drop offset text 0 0 ∙ ap (λ k. get_or text k 0) (omega arith)) ∙ blank))
+      let begins = text_begins_blank (drop offset text) (omega (arith, length-drop offset text)) (ap is_blank (get_or-drop offset text 0 0 ∙ ap (λ k. get_or text k 0) (omega arith)) ∙ blank) in
+      subst (λ l. CutTo text l (offset + 1)) (append-nil tokens) (with_lexeme None 1 begins)
 
-  -- a lexeme that was read
+  -- a piece that was read
   pub CutTo-read : (after : List Token) (end : ℕ) → HasRead text offset tokens after end → CutTo text after end
   CutTo-read after end read =
-      let lexeme = read.lexeme in
-      let cut = with_lexeme lexeme.token lexeme.len read.begins in
-      let at_end = subst (λ n. CutTo text (tokens ++ tokens_of lexeme.token offset n) n) (sym read.end_is) cut in
+      let cut = with_lexeme read.token read.len read.begins in
+      let at_end = subst (λ n. CutTo text (tokens ++ tokens_of read.token offset n) n) (sym read.end_is) cut in
       subst (λ l. CutTo text l end) (sym read.tokens) at_end
 
   -- the end of the text
@@ -211,7 +205,11 @@ faulty_within text number offset faulty =
     faulty
 
 -- so does a piece
-pub piece_within : (text : List ℕ) (lexeme : Lexeme) → BeginsWithPiece text lexeme → (0 < lexeme.len) × (lexeme.len ≤ length text)
-piece_within text lexeme begins =
+pub piece_within : (text : List ℕ) (token : Option TokenKind) (len : ℕ) → BeginsWithPiece text token len → len ≤ length text
+piece_within text token len begins =
     let size = ap length begins.front ∙ length-append begins.bytes begins.after in
-    (omega (arith, begins.len, begins.some_byte), omega (arith, begins.len, size))
+    omega (arith, begins.len_is, size)
+
+-- in a text that isn't too long
+pub piece_fits : (text : List ℕ) (offset : ℕ) (token : Option TokenKind) (len : ℕ) → length text ≤ 1048576 → offset ≤ length text → BeginsWithPiece (drop offset text) token len → offset + len ≤ 1048576
+piece_fits text offset token len short within begins = omega (arith, piece_within (drop offset text) token len begins, length-drop offset text, short, within)

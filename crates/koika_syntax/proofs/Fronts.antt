@@ -88,13 +88,13 @@ module _ (width tail : List ℕ) (base : Base) (numeral : IsNumeral 10 width) wh
 
   -- digits of the base follow it
   pub begins_literal : (bits : BitVector) → 0 < run → IsLiteralOf bits parts
-      → BeginsWithPiece (width ++ 39 ∷ letter_of base ∷ tail) (record { token = Some (kinds.Literal bits); len = length width + 2 + run })
+      → BeginsWithPiece (width ++ 39 ∷ letter_of base ∷ tail) (Some (kinds.Literal bits)) (length width + 2 + run)
   begins_literal bits some found = record {
     bytes = literal_text parts;
     after = drop run tail;
     front = split;
     some_byte = omega (arith, size);
-    len = sym size;
+    len_is = sym size;
     piece = (parts, is_literal some, found);
     longest = longest;
   }
@@ -118,13 +118,13 @@ module _ (digits behind : List ℕ) (numeral : IsNumeral 10 digits) (whole : pre
   longest_number = IsLongest-from_none_longer digits behind (NoneLonger-number digits behind numeral whole other)
 
   -- digits without an apostrophe
-  begins_number : (n : ℕ) → n ≡ digits_value 10 digits → n < 2 ^ 32 → BeginsWithPiece (digits ++ behind) (record { token = Some (kinds.Number n); len = length digits })
+  begins_number : (n : ℕ) → n ≡ digits_value 10 digits → n < 2 ^ 32 → BeginsWithPiece (digits ++ behind) (Some (kinds.Number n)) (length digits)
   begins_number n is below = record {
     bytes = digits;
     after = behind;
     front = refl;
     some_byte = numeral.0;
-    len = refl;
+    len_is = refl;
     piece = (numeral, is, below);
     longest = longest_number;
   }
@@ -141,19 +141,19 @@ module _ (digits behind : List ℕ) (numeral : IsNumeral 10 digits) (whole : pre
     wrong = (above, refl, refl);
   })
 
-begins_blank : (b : ℕ) (text : List ℕ) → is_blank b ≡ true → BeginsWithPiece (b ∷ text) (record { token = None; len = 1 })
+begins_blank : (b : ℕ) (text : List ℕ) → is_blank b ≡ true → BeginsWithPiece (b ∷ text) None 1
 begins_blank b text blank = record {
   bytes = b ∷ [];
   after = text;
   front = refl;
   some_byte = lit< tt;
-  len = refl;
+  len_is = refl;
   piece = inl (b, refl, blank);
   longest = IsLongest-from_none_longer (b ∷ []) text (NoneLonger-blank b text blank);
 }
 
 -- a blank
-pub text_begins_blank : (text : List ℕ) → 0 < length text → is_blank (get_or text 0 0) ≡ true → BeginsWithPiece text (record { token = None; len = 1 })
+pub text_begins_blank : (text : List ℕ) → 0 < length text → is_blank (get_or text 0 0) ≡ true → BeginsWithPiece text None 1
 text_begins_blank [] some blank = absurd (omega (arith, some))
 text_begins_blank (b ∷ text) some blank = begins_blank b text blank
 
@@ -168,7 +168,7 @@ module _ (test : ℕ → Bool) (text : List ℕ) where
 take_while_yes : (test : ℕ → Bool) (b : ℕ) (text : List ℕ) → test b ≡ true → take_while test (b ∷ text) ≡ b ∷ take_while test text
 take_while_yes test b text passes = take_while-cons test b text ∙ ap (λ c. cond c (b ∷ take_while test text) []) passes
 
-begins_comment : (text : List ℕ) → BeginsWithPiece (47 ∷ 47 ∷ text) (record { token = None; len = prefix_len stays_on_line (47 ∷ 47 ∷ text) })
+begins_comment : (text : List ℕ) → BeginsWithPiece (47 ∷ 47 ∷ text) None (prefix_len stays_on_line (47 ∷ 47 ∷ text))
 begins_comment text =
     let whole = 47 ∷ 47 ∷ text in
     let size = length-take_while stays_on_line whole in
@@ -179,14 +179,14 @@ begins_comment text =
       after = drop (prefix_len stays_on_line whole) whole;
       front = front_run stays_on_line whole;
       some_byte = omega (arith, ap length body);
-      len = sym size;
+      len_is = sym size;
       piece = inr (take_while stays_on_line text, body, list_all-take_while stays_on_line text);
       longest = longest_by_length whole (take_while stays_on_line whole) (drop (prefix_len stays_on_line whole) whole) (prefix_len stays_on_line whole) (front_run stays_on_line whole) size (NoneLonger-comment (47 ∷ text));
     }
 
 -- a comment
-pub text_begins_comment : (text rest : List ℕ) → text ≡ 47 ∷ 47 ∷ rest → BeginsWithPiece text (record { token = None; len = prefix_len stays_on_line text })
-text_begins_comment text rest is = subst (λ l. BeginsWithPiece l (record { token = None; len = prefix_len stays_on_line l })) (sym is) (begins_comment rest)
+pub text_begins_comment : (text rest : List ℕ) → text ≡ 47 ∷ 47 ∷ rest → BeginsWithPiece text None (prefix_len stays_on_line text)
+text_begins_comment text rest is = subst (λ l. BeginsWithPiece l None (prefix_len stays_on_line l)) (sym is) (begins_comment rest)
 
 module _ (b : ℕ) (text : List ℕ) (begins : begins_word b ≡ true) where
   abbrev word_bytes : List ℕ
@@ -205,21 +205,21 @@ module _ (b : ℕ) (text : List ℕ) (begins : begins_word b ≡ true) where
   longest_word =
       longest_by_length (b ∷ text) word_bytes (drop word_len (b ∷ text)) word_len (front_run continues_word (b ∷ text)) (length-take_while continues_word (b ∷ text)) (NoneLonger-word b text begins)
 
-  begins_token : (kind : TokenKind) → IsToken kind word_bytes → BeginsWithPiece (b ∷ text) (record { token = Some kind; len = word_len })
+  begins_token : (kind : TokenKind) → IsToken kind word_bytes → BeginsWithPiece (b ∷ text) (Some kind) word_len
   begins_token kind is_token = record {
     bytes = word_bytes;
     after = drop word_len (b ∷ text);
     front = front_run continues_word (b ∷ text);
     some_byte = omega (arith, ap length word_is);
-    len = sym (length-take_while continues_word (b ∷ text));
+    len_is = sym (length-take_while continues_word (b ∷ text));
     piece = is_token;
     longest = longest_word;
   }
 
-  begins_keyword : (keyword : Keyword) → word_bytes ≡ keyword_text keyword → BeginsWithPiece (b ∷ text) (record { token = Some (kinds.Keyword keyword); len = word_len })
+  begins_keyword : (keyword : Keyword) → word_bytes ≡ keyword_text keyword → BeginsWithPiece (b ∷ text) (Some (kinds.Keyword keyword)) word_len
   begins_keyword keyword is = begins_token (kinds.Keyword keyword) is
 
-  begins_name : ((keyword : Keyword) → word_bytes ≢ keyword_text keyword) → word_len ≤ 64 → BeginsWithPiece (b ∷ text) (record { token = Some kinds.Name; len = word_len })
+  begins_name : ((keyword : Keyword) → word_bytes ≢ keyword_text keyword) → word_len ≤ 64 → BeginsWithPiece (b ∷ text) (Some kinds.Name) word_len
   begins_name other short = begins_token kinds.Name (is_word, omega (arith, length-take_while continues_word (b ∷ text), short), other)
 
   faulty_name : 64 < word_len → BeginsFaulty (b ∷ text) 14 0
@@ -236,14 +236,14 @@ module _ (b : ℕ) (text : List ℕ) (begins : begins_word b ≡ true) where
 -- the same of a text that isn't taken apart
 -- a keyword
 pub text_begins_keyword : (text : List ℕ) → 0 < length text → begins_word (get_or text 0 0) ≡ true → (keyword : Keyword)
-    → take_while continues_word text ≡ keyword_text keyword → BeginsWithPiece text (record { token = Some (kinds.Keyword keyword); len = prefix_len continues_word text })
+    → take_while continues_word text ≡ keyword_text keyword → BeginsWithPiece text (Some (kinds.Keyword keyword)) (prefix_len continues_word text)
 text_begins_keyword [] some first keyword is = absurd (omega (arith, some))
 text_begins_keyword (b ∷ text) some first keyword is = begins_keyword b text first keyword is
 
 -- a name
 pub text_begins_name : (text : List ℕ) → 0 < length text → begins_word (get_or text 0 0) ≡ true
     → ((keyword : Keyword) → take_while continues_word text ≢ keyword_text keyword) → prefix_len continues_word text ≤ 64
-    → BeginsWithPiece text (record { token = Some kinds.Name; len = prefix_len continues_word text })
+    → BeginsWithPiece text (Some kinds.Name) (prefix_len continues_word text)
 text_begins_name [] some first other short = absurd (omega (arith, some))
 text_begins_name (b ∷ text) some first other short = begins_name b text first other short
 
@@ -256,13 +256,13 @@ module _ (b : ℕ) (text : List ℕ) (blank : is_blank b ≡ false) (word : begi
     (comment : ¬ BeginsWith (b ∷ text) (47 ∷ 47 ∷ [])) where
   begins_symbol : (s : Symbol) → BeginsWith (b ∷ text) (symbol_text s)
       → ((other : Symbol) → BeginsWith (b ∷ text) (symbol_text other) → length (symbol_text other) ≤ length (symbol_text s))
-      → BeginsWithPiece (b ∷ text) (record { token = Some (kinds.Symbol s); len = length (symbol_text s) })
+      → BeginsWithPiece (b ∷ text) (Some (kinds.Symbol s)) (length (symbol_text s))
   begins_symbol s found most = record {
     bytes = symbol_text s;
     after = found.0;
     front = found.1;
     some_byte = length-lexeme Kind.symbol (symbol_text s) (s, refl);
-    len = refl;
+    len_is = refl;
     piece = refl;
     longest = longest_by_length (b ∷ text) (symbol_text s) found.0 (length (symbol_text s)) found.1 refl (NoneLonger-symbol b text (length (symbol_text s)) blank word digit comment most);
   }
@@ -279,10 +279,10 @@ module _ (b : ℕ) (text : List ℕ) (blank : is_blank b ≡ false) (word : begi
 pub text_begins_symbol : (text : List ℕ) → 0 < length text → is_blank (get_or text 0 0) ≡ false → begins_word (get_or text 0 0) ≡ false
     → is_ascii_digit (get_or text 0 0) ≡ false → ¬ BeginsWith text (47 ∷ 47 ∷ []) → (s : Symbol) (len : ℕ) → length (symbol_text s) ≡ len → BeginsWith text (symbol_text s)
     → ((other : Symbol) → BeginsWith text (symbol_text other) → length (symbol_text other) ≤ len)
-    → BeginsWithPiece text (record { token = Some (kinds.Symbol s); len = len })
+    → BeginsWithPiece text (Some (kinds.Symbol s)) len
 text_begins_symbol [] some blank word digit comment s len size found most = absurd (omega (arith, some))
 text_begins_symbol (b ∷ text) some blank word digit comment s len size found most =
-    subst (λ n. BeginsWithPiece (b ∷ text) (record { token = Some (kinds.Symbol s); len = n })) size
+    subst (λ n. BeginsWithPiece (b ∷ text) (Some (kinds.Symbol s)) n) size
     (begins_symbol b text blank word digit comment s found (λ other at. omega (arith, most other at, size)))
 
 -- nothing
@@ -313,9 +313,9 @@ module _ (text : List ℕ) (some : 0 < length text) (first : is_digit (get_or te
   end = ap (prefix_len (λ b. is_digit b 10)) whole ∙ sym (length-take_while (λ b. is_digit b 10) text)
 
   pub text_begins_number : ((tail : List ℕ) → behind ≢ 39 ∷ tail) → (n : ℕ) → n ≡ digits_value 10 digits → n < 2 ^ 32
-      → BeginsWithPiece text (record { token = Some (kinds.Number n); len = length digits })
+      → BeginsWithPiece text (Some (kinds.Number n)) (length digits)
   text_begins_number other n is below =
-      subst (λ l. BeginsWithPiece l (record { token = Some (kinds.Number n); len = length digits })) whole (begins_number digits behind first_digits end other n is below)
+      subst (λ l. BeginsWithPiece l (Some (kinds.Number n)) (length digits)) whole (begins_number digits behind first_digits end other n is below)
 
   pub text_faulty_number : ((tail : List ℕ) → behind ≢ 39 ∷ tail) → 2 ^ 32 ≤ digits_value 10 digits → BeginsFaulty text 13 0
   text_faulty_number other above = subst (λ l. BeginsFaulty l 13 0) whole (faulty_number digits behind first_digits end other above)

@@ -11,20 +11,23 @@ use Rattle.koika_syntax.specs.declared.lexeme.Flaw.TheVariants as flaws
 use Rattle.koika_syntax.specs.declared.lexeme.Lexeme.{Lexeme}
 use Rattle.koika_syntax.specs.declared.token.Token.{Token}
 use Rattle.koika_syntax.specs.declared.token.TokenKind.{TokenKind}
+use Rattle.koika_syntax.specs.declared.token.TokenKind.TheVariants as kinds
+use Rattle.koika_syntax.specs.declared.word.WordKind.{WordKind}
+use Rattle.koika_syntax.specs.declared.word.WordKind.TheVariants as words
 
 -- the piece of these bytes: a token of a kind, or else a blank or a comment
 abbrev pub piece_of : Option TokenKind → List ℕ → Piece
 piece_of None bytes = Piece.gap bytes
 piece_of (Some kind) bytes = Piece.token kind bytes
 
--- the text begins with the piece, and it is the longest lexeme there
-pub record BeginsWithPiece (text : List ℕ) (lexeme : Lexeme) : Type 0 where
+-- the text begins with this piece, of so many bytes, and it is the longest lexeme there
+pub record BeginsWithPiece (text : List ℕ) (token : Option TokenKind) (len : ℕ) : Type 0 where
   pub bytes : List ℕ
   pub after : List ℕ
   pub front : text ≡ bytes ++ after
   pub some_byte : 0 < length bytes
-  pub len : lexeme.len ≡ length bytes
-  pub piece : IsPiece (piece_of lexeme.token bytes)
+  pub len_is : len ≡ length bytes
+  pub piece : IsPiece (piece_of token bytes)
   pub longest : IsLongest bytes after
 
 -- the number of the fault
@@ -39,22 +42,28 @@ offset_of (flaws.Byte offset) = offset
 offset_of flaws.Range = 0
 offset_of flaws.LongName = 0
 
--- the answer is what the text begins with
-abbrev pub IsAnswer : List ℕ → Result Lexeme Flaw → Type 0
-IsAnswer text (Ok lexeme) = BeginsWithPiece text lexeme
-IsAnswer text (Err flaw) = BeginsFaulty text (number_of flaw) (offset_of flaw)
+-- the token that a word is
+abbrev pub token_of_word : WordKind → TokenKind
+token_of_word (words.Keyword keyword) = kinds.Keyword keyword
+token_of_word words.Name = kinds.Name
+
+-- the answer is the token that the text begins with, or its fault
+abbrev pub IsAnswer : {K : Type 0} → (K → TokenKind) → List ℕ → Result (Lexeme K) Flaw → Type 0
+IsAnswer token_of text (Ok lexeme) = BeginsWithPiece text (Some (token_of lexeme.kind)) lexeme.len
+IsAnswer token_of text (Err flaw) = BeginsFaulty text (number_of flaw) (offset_of flaw)
 
 -- the token of a span, if what stands there is one
 abbrev pub tokens_of : Option TokenKind → (start end : ℕ) → List Token
 tokens_of None start end = []
 tokens_of (Some kind) start end = record { kind = kind; start = start; end = end } ∷ []
 
--- a lexeme of the text stands between the offset and the end, and its token, if it is one, came behind those before
+-- a piece of the text stands between the offset and the end, and its token, if it is one, came behind those before
 pub record HasRead (text : List ℕ) (offset : ℕ) (before after : List Token) (end : ℕ) : Type 0 where
-  pub lexeme : Lexeme
-  pub begins : BeginsWithPiece (drop offset text) lexeme
-  pub end_is : end ≡ offset + lexeme.len
-  pub tokens : after ≡ before ++ tokens_of lexeme.token offset end
+  pub token : Option TokenKind
+  pub len : ℕ
+  pub begins : BeginsWithPiece (drop offset text) token len
+  pub end_is : end ≡ offset + len
+  pub tokens : after ≡ before ++ tokens_of token offset end
 
 -- the text behind the offset begins with the fault
 pub record BeginsFault (text : List ℕ) (offset : ℕ) (fault : Fault) : Type 0 where

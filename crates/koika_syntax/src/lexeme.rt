@@ -1,27 +1,13 @@
 ghost use Rattle.koika_syntax.specs.LexemeAnswers.{number_of, offset_of};
-ghost use Rattle.koika_syntax.specs.declared.token.TokenKind.TheVariants as kinds;
-ghost use Rattle.std.specs.Prelude.{◌≡◌, Some};
+ghost use Rattle.std.specs.Prelude.{◌≡◌};
 
-use crate::{Symbol, TokenKind};
 use kw_base::fault_number;
 
-/// What a text begins with, and how many bytes it takes. What is no token is a blank or a comment.
+/// What a text begins with, and how many bytes it takes.
 #[derive(Clone, Copy, Debug)]
-pub(crate) struct Lexeme {
-    pub token: Option<TokenKind>,
+pub(crate) struct Lexeme<K> {
+    pub kind: K,
     pub len: usize,
-}
-
-impl Lexeme {
-    /// A symbol of so many bytes.
-    pub(crate) fn of_symbol(symbol: Symbol, len: usize) -> Lexeme
-        ensures { result ≡ record { token = Some (kinds.Symbol symbol); len = len } }
-    {
-        Lexeme {
-            token: Some(TokenKind::Symbol(symbol)),
-            len,
-        }
-    }
 }
 
 /// Why a text begins with no token, no blank and no comment.

@@ -1,17 +1,16 @@
-ghost use Rattle.std.specs.Prelude.{◌≡◌, ◌+◌, ◌<◌, ◌≤◌, List, false, length, drop, slice_index, All, IfOk};
+ghost use Rattle.std.specs.Prelude.{◌≡◌, ◌+◌, ◌<◌, ◌≤◌, ◌++◌, List, Some, false, length, drop, slice_index, All, IfOk};
 ghost use Rattle.koika_syntax.specs.Lexemes as lexemes;
-ghost use Rattle.kw_base.specs.Place.{place_at};
-ghost use Rattle.kw_base.specs.Fault.{fault_at, IfFault, IsOkUnlessNoMemory, IsFaultUnlessNoMemory};
+ghost use Rattle.kw_base.specs.Fault.{IfFault, IsOkUnlessNoMemory, IsFaultUnlessNoMemory};
 ghost use Rattle.kw_base.specs.declared.fault.Fault.{Fault};
-ghost use Rattle.koika_syntax.specs.LexemeAnswers.{IsAnswer, HasRead, BeginsFault, number_of, offset_of};
+ghost use Rattle.koika_syntax.specs.LexemeAnswers.{HasRead, BeginsFault, tokens_of, number_of, offset_of};
 ghost use Rattle.koika_syntax.specs.Tokens.{AreTokensOf, StandsIn, AreAscending};
-ghost use Rattle.koika_syntax.specs.TokenFaults.{IsFirstFault};
+ghost use Rattle.koika_syntax.specs.TokenFaults.{BeginsFaulty, IsFirstFault};
 
-use crate::Token;
-use crate::front::{comment, symbol};
-use crate::lexeme::{Flaw, Lexeme};
+use crate::front::{line_len, symbol};
+use crate::lexeme::Flaw;
 use crate::literal::numeral;
-use crate::word::{begins_word, word};
+use crate::word::{WordKind, begins_word, word};
+use crate::{Token, TokenKind};
 use kw_base::{Fault, Refusal, place_of};
 use std::alloc::Global;
 
@@ -47,8 +46,7 @@ fn is_blank(byte: u8) -> bool
     byte == b' ' || byte == b'\t' || byte == b'\r' || byte == b'\n'
 }
 
-// Adds the token that stands at an offset, if it is no comment, and gives the offset behind it. Each kind of
-// lexeme is added on its own, since most of what a token costs is moving it.
+// Adds the token that stands at an offset, if it is no comment, and gives the offset behind it.
 fn read_at(text: &[u8], offset: usize, tokens: &mut Vec<Token>) -> Result<usize, Refusal>
     requires short { length text.now ≤ 1048576 }
     requires within { offset < length text.now }
@@ -58,16 +56,36 @@ fn read_at(text: &[u8], offset: usize, tokens: &mut Vec<Token>) -> Result<usize,
 {
     let behind = behind(text, offset);
     let first = behind[0];
-    if begins_word(first) {
-        return add(text, offset, word(behind), tokens);
-    }
     if first.is_ascii_digit() {
-        return add(text, offset, numeral(behind), tokens);
+        return match numeral(behind) {
+            Ok(lexeme) => match lexeme.kind {
+                // On its own, since it leaves the bits of a literal out.
+                TokenKind::Number(number) => {
+                    add(tokens, TokenKind::Number(number), offset, lexeme.len)
+                }
+                literal => add(tokens, literal, offset, lexeme.len),
+            },
+            Err(flaw) => Err(Refusal::Fault(fault_of(text, offset, flaw))),
+        };
+    }
+    if begins_word(first) {
+        return match word(behind) {
+            Ok(lexeme) => match lexeme.kind {
+                WordKind::Keyword(keyword) => {
+                    add(tokens, TokenKind::Keyword(keyword), offset, lexeme.len)
+                }
+                WordKind::Name => add(tokens, TokenKind::Name, offset, lexeme.len),
+            },
+            Err(flaw) => Err(Refusal::Fault(fault_of(text, offset, flaw))),
+        };
     }
     if first == b'/' && behind.starts_with(b"//") {
-        return add(text, offset, comment(behind), tokens);
+        return Ok(offset + line_len(behind));
     }
-    add(text, offset, symbol(behind), tokens)
+    match symbol(behind) {
+        Ok(lexeme) => add(tokens, TokenKind::Symbol(lexeme.kind), offset, lexeme.len),
+        Err(flaw) => Err(Refusal::Fault(fault_of(text, offset, flaw))),
+    }
 }
 
 // The text behind an offset.
@@ -78,39 +96,32 @@ fn behind(text: &[u8], offset: usize) -> &[u8]
     &text[offset..]
 }
 
-// Adds the token of a lexeme at an offset, if it is one, and gives the offset behind it.
+// Adds a token of so many bytes at an offset, and gives the offset behind it.
 fn add(
-    text: &[u8],
-    offset: usize,
-    answer: Result<Lexeme, Flaw>,
     tokens: &mut Vec<Token>,
+    kind: TokenKind,
+    offset: usize,
+    len: usize,
 ) -> Result<usize, Refusal>
-    requires short { length text.now ≤ 1048576 }
-    requires within { offset ≤ length text.now }
-    requires answer { IsAnswer (drop offset text.now) answer }
-    ensures read { IfOk result (HasRead text.now offset tokens.old.items tokens.new.items) }
-    ensures fault { IfFault result (BeginsFault text.now offset) }
+    requires { offset + len ≤ 1048576 }
+    ensures end { IfOk result (λ end. end ≡ offset + len) }
+    ensures token { IfOk result (λ end. tokens.new.items ≡ tokens.old.items ++ tokens_of (Some kind) offset end) }
+    ensures no_fault { IfFault result (λ fault. ⊥) }
 {
-    match answer {
-        Ok(lexeme) => {
-            let end = offset + lexeme.len;
-            if let Some(kind) = lexeme.token {
-                tokens.push(Token {
-                    kind,
-                    start: offset as u32,
-                    end: end as u32,
-                })?;
-            }
-            Ok(end)
-        }
-        Err(flaw) => Err(Refusal::Fault(fault_of(text, offset, flaw))),
-    }
+    let end = offset + len;
+    tokens.push(Token {
+        kind,
+        start: offset as u32,
+        end: end as u32,
+    })?;
+    Ok(end)
 }
 
 // The fault that a flaw of the text behind an offset is.
 fn fault_of(text: &[u8], offset: usize, flaw: Flaw) -> Fault
-    requires { offset + offset_of flaw ≤ length text.now }
-    ensures { result ≡ fault_at (number_of flaw) (place_at text.now (offset + offset_of flaw)) }
+    requires within { offset ≤ length text.now }
+    requires faulty { BeginsFaulty (drop offset text.now) (number_of flaw) (offset_of flaw) }
+    ensures { BeginsFault text.now offset result }
 {
     Fault::new(flaw.number(), place_of(text, offset + flaw.offset()))
 }

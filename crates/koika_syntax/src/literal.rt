@@ -46,17 +46,17 @@ impl Base {
 }
 
 /// What a text begins with whose first byte is a decimal digit: a number, or a literal.
-pub(crate) fn numeral(text: &[u8]) -> Result<Lexeme, Flaw>
+pub(crate) fn numeral(text: &[u8]) -> Result<Lexeme<TokenKind>, Flaw>
     requires some_byte { 0 < length text.now }
     requires digit { IsTrue (is_digit (slice_index text.now 0) 10) }
-    ensures { IsAnswer text.now result }
+    ensures { IsAnswer (λ kind. kind) text.now result }
 {
-    let (digits, behind) = text.split_at(digits_len(text, Base::Decimal));
+    let (digits, behind) = text.split_at(decimal_len(text));
     match behind.strip_prefix(b"'") {
         Some(behind) => literal(digits, behind),
         None => match number_of(digits) {
             Some(number) => Ok(Lexeme {
-                token: Some(TokenKind::Number(number)),
+                kind: TokenKind::Number(number),
                 len: digits.len(),
             }),
             None => Err(Flaw::Range),
@@ -65,9 +65,9 @@ pub(crate) fn numeral(text: &[u8]) -> Result<Lexeme, Flaw>
 }
 
 // The literal of this width, whose apostrophe these bytes follow.
-fn literal(width: &[u8], behind: &[u8]) -> Result<Lexeme, Flaw>
+fn literal(width: &[u8], behind: &[u8]) -> Result<Lexeme<TokenKind>, Flaw>
     requires { IsNumeral 10 width.now }
-    ensures { IsAnswer (width.now ++ 39 ∷ behind.now) result }
+    ensures { IsAnswer (λ kind. kind) (width.now ++ 39 ∷ behind.now) result }
 {
     let Some((letter, behind)) = behind.split_first() else {
         return Err(Flaw::Byte(width.len() + 1));
@@ -81,7 +81,7 @@ fn literal(width: &[u8], behind: &[u8]) -> Result<Lexeme, Flaw>
     }
     match bits_of(width, base, &behind[..len]) {
         Some(bits) => Ok(Lexeme {
-            token: Some(TokenKind::Literal(bits)),
+            kind: TokenKind::Literal(bits),
             len: width.len() + 2 + len,
         }),
         None => Err(Flaw::Range),
@@ -116,6 +116,19 @@ fn bits_of(width: &[u8], base: Base, value: &[u8]) -> Option<Bits>
     ensures absent { IfNone result (¬ IsBitVector (digits_value 10 width.now) (digits_value (radix_of base) value.now)) }
 {
     Bits::new(number_of(width)?, value_of(value, base)?)
+}
+
+// How many bytes at the front are decimal digits, of which the first one is.
+fn decimal_len(bytes: &[u8]) -> usize
+    requires some_byte { 0 < length bytes.now }
+    requires digit { IsTrue (is_digit (slice_index bytes.now 0) 10) }
+    ensures { result ≡ prefix_len (λ b. is_digit b 10) bytes.now }
+{
+    let mut len = 1;
+    while len < bytes.len() && char::from(bytes[len]).is_digit(10) {
+        len += 1;
+    }
+    len
 }
 
 // How many bytes at the front are digits of this base.

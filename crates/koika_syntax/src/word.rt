@@ -1,13 +1,20 @@
 ghost use Rattle.std.specs.Prelude.{◌≡◌, ◌<◌, length, slice_index, IsTrue};
 ghost use Rattle.std.specs.List.{prefix_len};
 ghost use Rattle.koika_syntax.specs.Lexemes as lexemes;
-ghost use Rattle.koika_syntax.specs.LexemeAnswers.{IsAnswer};
+ghost use Rattle.koika_syntax.specs.LexemeAnswers.{IsAnswer, token_of_word};
 
+use crate::Keyword;
 use crate::lexeme::{Flaw, Lexeme};
-use crate::{Keyword, TokenKind};
 
 /// A name has at most this many bytes.
 const LONGEST_NAME: usize = 64;
+
+/// What a word is: a keyword, or a name.
+#[derive(Clone, Copy, Debug)]
+pub(crate) enum WordKind {
+    Keyword(Keyword),
+    Name,
+}
 
 /// Whether a byte can begin a word: a letter or an underscore.
 pub(crate) fn begins_word(byte: u8) -> bool
@@ -23,15 +30,15 @@ fn continues_word(byte: u8) -> bool
 }
 
 /// What a text begins with whose first byte begins a word: a keyword, or a name.
-pub(crate) fn word(text: &[u8]) -> Result<Lexeme, Flaw>
+pub(crate) fn word(text: &[u8]) -> Result<Lexeme<WordKind>, Flaw>
     requires some_byte { 0 < length text.now }
     requires first { IsTrue (lexemes.begins_word (slice_index text.now 0)) }
-    ensures { IsAnswer text.now result }
+    ensures { IsAnswer token_of_word text.now result }
 {
     let len = word_len(text);
     if let Some(keyword) = Keyword::of_word(&text[..len]) {
         return Ok(Lexeme {
-            token: Some(TokenKind::Keyword(keyword)),
+            kind: WordKind::Keyword(keyword),
             len,
         });
     }
@@ -39,7 +46,7 @@ pub(crate) fn word(text: &[u8]) -> Result<Lexeme, Flaw>
         return Err(Flaw::LongName);
     }
     Ok(Lexeme {
-        token: Some(TokenKind::Name),
+        kind: WordKind::Name,
         len,
     })
 }

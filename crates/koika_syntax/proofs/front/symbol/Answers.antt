@@ -14,7 +14,6 @@ use Rattle.koika_syntax.proofs.front.symbol.Goals.{then-text-gt1+in_default, els
 pub returns-then-starts_with : goal.returns-then-starts_with
 returns-then-starts_with c =
     let three = starts_is Decides-eqb c.args.text.now (62 ∷ 62 ∷ 62 ∷ []) c.starts_with.result c.starts_with.ensures.value in
-    rw c.of_symbol.ensures
     (text_begins_symbol c.args.text.now c.requires.some_byte c.requires.no_blank c.requires.no_word c.requires.no_digit c.requires.no_comment symbols.GreaterGreaterGreater 3 refl (drop 3 c.args.text.now, three.0 c.if-starts_with.true) (λ other at. length-symbol_text-le3 other))
 
 pub returns-in-Some : goal.returns-in-Some
@@ -22,7 +21,6 @@ returns-in-Some c =
     let three = starts_is Decides-eqb c.args.text.now (62 ∷ 62 ∷ 62 ∷ []) c.starts_with.result c.starts_with.ensures.value in
     let no_three : ¬ BeginsWith c.args.text.now (62 ∷ 62 ∷ 62 ∷ []) = λ begins. false≢true (sym c.if-starts_with.false ∙ three.1 begins.0 begins.1) in
     let found = c.in-Some.ensures.found in
-    rw c.of_symbol-in-Some.ensures
     (text_begins_symbol c.args.text.now c.requires.some_byte c.requires.no_blank c.requires.no_word c.requires.no_digit c.requires.no_comment c.in-Some.symbol 2 (ap length found) (begins-two c.args.text.now (symbol_text c.in-Some.symbol) c.if-text-gt1.true found) (length-le2 c.args.text.now no_three))
 
 pub returns-in-Some-of_byte : goal.returns-in-Some-of_byte
@@ -36,7 +34,6 @@ returns-in-Some-of_byte c =
     ] in
     let only = only_first c.args.text.now no_three no_two in
     let found = c.in-Some-of_byte.ensures.found in
-    rw c.of_symbol-in-Some-of_byte.ensures
     (text_begins_symbol c.args.text.now c.requires.some_byte c.requires.no_blank c.requires.no_word c.requires.no_digit c.requires.no_comment c.in-Some-of_byte.symbol 1 (ap length found) (begins-first c.args.text.now (symbol_text c.in-Some-of_byte.symbol) c.requires.some_byte found) (λ other at. omega (arith, ap length (only other at))))
 
 pub returns-in-None : goal.returns-in-None

@@ -1,6 +1,4 @@
-use Rattle.std.proofs.Common.{◌≡◌, ◌+◌, arith, take, ap, ◌∙◌, lit<}
-use Rattle.std.specs.Str.Parse.{digits_value}
-use Rattle.std.proofs.lemmas.List.{take_all}
+use Rattle.std.proofs.Common.{◌+◌, arith, ◌∙◌, lit<}
 use Rattle.std.proofs.lemmas.Str.Parse.{digits_value-take-le}
 use Rattle.koika_syntax.proofs.Numerals.{digit_value-get_or, digits_value_next}
 use Rattle.koika_syntax.proofs.literal.number_of.Goals as goal
