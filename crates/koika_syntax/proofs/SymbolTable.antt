@@ -82,14 +82,17 @@ length-le2 text no_three symbol begins = elim (shown text symbol begins) [
   | inr (inr triple) ↦ absurd (no_three triple)
 ]
 
--- and where its first two bytes are none either, its first byte is
-pub only_first : (text : List ℕ) → ¬ BeginsWith text (62 ∷ 62 ∷ 62 ∷ [])
-    → (1 < length text → (symbol : Symbol) → symbol_text symbol ≢ slice_index text 0 ∷ slice_index text 1 ∷ [])
+-- a text that begins with the symbol of three bytes begins with one of two
+pub two_of_three : (text : List ℕ) → BeginsWith text (62 ∷ 62 ∷ 62 ∷ []) → (1 < length text) × (symbol_text symbols.GreaterGreater ≡ slice_index text 0 ∷ slice_index text 1 ∷ [])
+two_of_three text begins = (omega (arith, ap length begins.1), ap (λ l. slice_index l 0 ∷ slice_index l 1 ∷ []) (sym begins.1))
+
+-- where the first two bytes of a text are no symbol, it begins with none but its first byte
+pub only_first : (text : List ℕ) → (1 < length text → (symbol : Symbol) → symbol_text symbol ≢ slice_index text 0 ∷ slice_index text 1 ∷ [])
     → (symbol : Symbol) → BeginsWith text (symbol_text symbol) → symbol_text symbol ≡ slice_index text 0 ∷ []
-only_first text no_three no_two symbol begins = elim (shown text symbol begins) [
+only_first text no_two symbol begins = elim (shown text symbol begins) [
   | inl single ↦ single
   | inr (inl pair) ↦ absurd (no_two pair.0 symbol pair.1)
-  | inr (inr triple) ↦ absurd (no_three triple)
+  | inr (inr triple) ↦ let pair = two_of_three text triple in absurd (no_two pair.0 symbols.GreaterGreater pair.1)
 ]
 
 -- a text begins with its first byte

@@ -18,14 +18,14 @@ pub(crate) fn symbol(text: &[u8]) -> Result<Lexeme<Symbol>, Flaw>
     requires no_comment { ¬ BeginsWith text.now (47 ∷ 47 ∷ []) }
     ensures { IsAnswer kinds.Symbol text.now result }
 {
-    if text.starts_with(b">>>") {
-        return Ok(Lexeme {
-            kind: Symbol::GreaterGreaterGreater,
-            len: 3,
-        });
-    }
     if text.len() > 1 {
         if let Some(symbol) = Symbol::of_bytes(text[0], text[1]) {
+            if symbol == Symbol::GreaterGreater && text.starts_with(b">>>") {
+                return Ok(Lexeme {
+                    kind: Symbol::GreaterGreaterGreater,
+                    len: 3,
+                });
+            }
             return Ok(Lexeme {
                 kind: symbol,
                 len: 2,

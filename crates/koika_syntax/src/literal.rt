@@ -1,5 +1,5 @@
 ghost use Rattle.std.specs.Prelude.{◌≡◌, ◌≢◌, ◌+◌, ◌*◌, ◌<◌, ◌^◌, ◌∷◌, ◌++◌, length, slice_index, IfSome, IfNone, IsTrue};
-ghost use Rattle.std.specs.Char.{is_digit};
+ghost use Rattle.std.specs.Char.{digit_value, is_digit};
 ghost use Rattle.std.specs.List.{prefix_len};
 ghost use Rattle.std.specs.Option.{SomeIff};
 ghost use Rattle.std.specs.Str.Parse.{IsNumeral, digits_value};
@@ -93,12 +93,20 @@ fn number_of(digits: &[u8]) -> Option<u32>
     requires { IsNumeral 10 digits.now }
     ensures { SomeIff result (digits_value 10 digits.now < 2 ^ 32) (digits_value 10 digits.now) }
 {
-    let mut number: u32 = 0;
-    for digit in digits {
-        let digit = char::from(*digit).to_digit(10).unwrap();
-        number = with_decimal_digit(number, digit)?;
+    let mut number = decimal_digit(digits[0]);
+    let mut len = 1;
+    while len < digits.len() {
+        number = with_decimal_digit(number, decimal_digit(digits[len]))?;
+        len += 1;
     }
     Some(number)
+}
+
+fn decimal_digit(byte: u8) -> u32
+    requires { digit_value byte < 10 }
+    ensures { result ≡ digit_value byte }
+{
+    char::from(byte).to_digit(10).unwrap()
 }
 
 // The number with one more decimal digit behind it, if it is below 2^32.
