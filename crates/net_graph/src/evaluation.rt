@@ -32,7 +32,7 @@ fn value_of(op: &NetOp, inputs: &[Bits], states: &[Bits], before: &[Bits]) -> Bi
         NetOp::Input(number, _) => inputs[number as usize],
         NetOp::State(number, _) => states[number as usize],
         NetOp::One(operator, a) => one(operator, before[a as usize]),
-        NetOp::Two(operator, a, b) => two(operator, before[a as usize], before[b as usize]),
+        NetOp::Two(operator, a, b) => two(operator, &before[a as usize], &before[b as usize]),
         NetOp::Slice(a, upper, lower) => before[a as usize].slice(upper, lower),
         NetOp::Uext(a, added) => uext(before[a as usize], added),
         NetOp::Sext(a, added) => sext(before[a as usize], added),

@@ -31,37 +31,38 @@ fn one_at(width: u32) -> Bits
     Bits::new(width, 1).unwrap()
 }
 
+// The operands are lent, so that an operator reads only what it needs of them.
 #[inline]
 #[tactic(auto, unfolding(crate::specs::Operators::two_value, crate::specs::Operators::TakesTwo, kw_bits::specs::Operators::not))]
-pub(crate) fn two(operator: NetTwo, a: Bits, b: Bits) -> Bits
-    requires { TakesTwo operator a.width b.width }
-    ensures { result ≡ two_value operator a b }
+pub(crate) fn two(operator: NetTwo, a: &Bits, b: &Bits) -> Bits
+    requires { TakesTwo operator a.now.width b.now.width }
+    ensures { result ≡ two_value operator a.now b.now }
 {
     match operator {
-        NetTwo::And => a.and(b),
-        NetTwo::Or => a.or(b),
-        NetTwo::Xor => a.xor(b),
-        NetTwo::Nand => a.and(b).not(),
-        NetTwo::Nor => a.or(b).not(),
-        NetTwo::Xnor => a.xor(b).not(),
-        NetTwo::Add => a.add(b),
-        NetTwo::Sub => a.sub(b),
-        NetTwo::Mul => a.mul(b),
-        NetTwo::Sll => a.sll(b),
-        NetTwo::Srl => a.srl(b),
-        NetTwo::Sra => a.sra(b),
-        NetTwo::EqBits | NetTwo::Iff => a.eq_bits(b),
-        NetTwo::Neq => a.eq_bits(b).not(),
-        NetTwo::Ult => a.ult(b),
-        NetTwo::Ulte => a.ulte(b),
-        NetTwo::Ugt => b.ult(a),
-        NetTwo::Ugte => b.ulte(a),
-        NetTwo::Slt => a.slt(b),
-        NetTwo::Slte => a.slte(b),
-        NetTwo::Sgt => b.slt(a),
-        NetTwo::Sgte => b.slte(a),
-        NetTwo::Implies => a.not().or(b),
-        NetTwo::Concat => a.concat(b),
+        NetTwo::And => a.and(*b),
+        NetTwo::Or => a.or(*b),
+        NetTwo::Xor => a.xor(*b),
+        NetTwo::Nand => a.and(*b).not(),
+        NetTwo::Nor => a.or(*b).not(),
+        NetTwo::Xnor => a.xor(*b).not(),
+        NetTwo::Add => a.add(*b),
+        NetTwo::Sub => a.sub(*b),
+        NetTwo::Mul => a.mul(*b),
+        NetTwo::Sll => a.sll(*b),
+        NetTwo::Srl => a.srl(*b),
+        NetTwo::Sra => a.sra(*b),
+        NetTwo::EqBits | NetTwo::Iff => a.eq_bits(*b),
+        NetTwo::Neq => a.eq_bits(*b).not(),
+        NetTwo::Ult => a.ult(*b),
+        NetTwo::Ulte => a.ulte(*b),
+        NetTwo::Ugt => b.ult(*a),
+        NetTwo::Ugte => b.ulte(*a),
+        NetTwo::Slt => a.slt(*b),
+        NetTwo::Slte => a.slte(*b),
+        NetTwo::Sgt => b.slt(*a),
+        NetTwo::Sgte => b.slte(*a),
+        NetTwo::Implies => a.not().or(*b),
+        NetTwo::Concat => a.concat(*b),
     }
 }
 
