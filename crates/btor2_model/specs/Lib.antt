@@ -3,4 +3,5 @@ pub mod Known
 pub mod Rules
 pub mod Run
 pub mod Scope
+pub mod SlowRun
 pub mod Table

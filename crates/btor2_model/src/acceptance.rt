@@ -30,8 +30,8 @@ pub fn accept(alloc: Global, lines: Lines) -> Result<Btor, Refusal>
     Ok(Btor::new(lines))
 }
 
-// What lines declare, if none has a fault.
-fn declared(alloc: Global, lines: &[Line]) -> Result<Known, Refusal>
+/// What lines declare, if none has a fault.
+pub(crate) fn declared(alloc: Global, lines: &[Line]) -> Result<Known, Refusal>
     ensures accepted { OnOk result (acceptance.lines_fault scope.no_lines lines.now ≡ None) }
     ensures declared { IfOk result (λ known. scope_of known ≡ scope.behind_all scope.no_lines lines.now) }
     ensures fault { IfFault result (λ fault. acceptance.lines_fault scope.no_lines lines.now ≡ Some fault) }

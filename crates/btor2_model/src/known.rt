@@ -1,4 +1,4 @@
-ghost use Rattle.std.specs.Prelude.{◌≡◌, ◌≤◌, is_some, IfOk, IfErr, IfSome, OnOk, None, Some, option_map, slice_get};
+ghost use Rattle.std.specs.Prelude.{◌≡◌, ◌≤◌, is_some, IfOk, IfErr, IfSome, OnOk, None, Some, option_map, slice_get, unwrap_or};
 ghost use Rattle.std.specs.BTreeSet as set;
 ghost use Rattle.std.specs.List.{list_all, list_any};
 ghost use Rattle.std.specs.Ordering.{nat_cmp};
@@ -8,6 +8,7 @@ ghost use Rattle.btor2_model.specs.Acceptance as acceptance;
 ghost use Rattle.btor2_model.specs.Known.{scope_of, AreNarrow};
 ghost use Rattle.btor2_model.specs.Rules.{rule_of};
 ghost use Rattle.btor2_model.specs.Scope as scope;
+ghost use Rattle.btor2_model.specs.declared.meaning.Meaning.{Meaning as MeaningOf};
 ghost use Rattle.btor2_model.specs.declared.meaning.Role.TheVariants as roles;
 
 use crate::meaning::{Meaning, Role};
@@ -253,8 +254,18 @@ impl Known {
         }
     }
 
-    // The width of the sort that an id names, or 0.
-    fn sort_width(&self, id: u64) -> u32
+    /// The width of what an id stands for, or 0.
+    pub(crate) fn width(&self, id: u64) -> u32
+        ensures { result ≡ unwrap_or (option_map (λ (meaning : MeaningOf). meaning.width) ((scope_of self.now).meanings id)) 0 }
+    {
+        match self.meaning(id) {
+            Some(meaning) => meaning.width,
+            None => 0,
+        }
+    }
+
+    /// The width of the sort that an id names, or 0.
+    pub(crate) fn sort_width(&self, id: u64) -> u32
         requires { AreNarrow (scope_of self.now) }
         ensures width { result ≡ scope.sort_width_in (scope_of self.now) id }
         ensures narrow { result ≤ 128 }
@@ -280,8 +291,8 @@ impl Known {
     }
 }
 
-// The id that an argument is, or 0, which is none.
-fn id_at(arguments: &[Argument], place: usize) -> u64
+/// The id that an argument is, or 0, which is none.
+pub(crate) fn id_at(arguments: &[Argument], place: usize) -> u64
     ensures { result ≡ scope.id_at arguments.now place }
 {
     match arguments.get(place) {

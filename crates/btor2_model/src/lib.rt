@@ -8,13 +8,19 @@
 mod acceptance;
 mod btor;
 mod known;
+mod known_values;
+mod line_values;
 mod meaning;
 mod numeral;
+mod operators;
 mod refusal;
+mod rows;
 mod rule;
+mod states;
 mod table;
 #[cfg(test)]
 mod tests;
 
 pub use acceptance::accept;
 pub use btor::Btor;
+pub use rows::slow_run;

@@ -146,6 +146,13 @@ impl Rule {
         matches!(self, Rule::Next)
     }
 
+    /// Whether the line is an output.
+    pub(crate) fn is_output(self) -> bool
+        ensures { result ≡ form.is_output self }
+    {
+        matches!(self, Rule::Output)
+    }
+
     /// Whether the line is a state.
     pub(crate) fn is_state(self) -> bool
         ensures { result ≡ form.is_state self }

@@ -1,25 +1,30 @@
 ghost use Rattle.std.specs.Prelude.{IfOk};
 ghost use Rattle.btor2_text.specs.Printable.{ArePrintable};
 
-use crate::accept;
+use crate::{accept, slow_run};
 use btor2_text::{Lines, print_lines, read_lines};
 use kw_base::{Fault, Refusal};
 use kw_bits::{NoMemory, Text};
+use one_rule::Stimulus;
 use std::alloc::Global;
 use std::process::Abort;
 use std::test::Fail;
 
 // Expects that a text is accepted, where the number is 0, or else the fault of this number at this line.
 fn expect(rt: &impl Abort, alloc: Global, text: &str, want: (u32, u32)) -> Result<(), Fail> {
-    let answer = match read_lines(alloc, text.as_bytes()) {
-        Ok(lines) => match accept(alloc, lines) {
-            Ok(_) => (0, 0),
-            Err(refusal) => place_of(refusal)?,
-        },
-        Err(refusal) => place_of(refusal)?,
-    };
-    assert_eq!(rt; answer, want, "{text:?}");
+    assert_eq!(rt; answer(alloc, text.as_bytes())?, want, "{text:?}");
     Ok(())
+}
+
+// The number and the line of a text's fault, 0 and 0 where there is none.
+fn answer(alloc: Global, text: &[u8]) -> Result<(u32, u32), NoMemory> {
+    match read_lines(alloc, text) {
+        Ok(lines) => match accept(alloc, lines) {
+            Ok(_) => Ok((0, 0)),
+            Err(refusal) => place_of(refusal),
+        },
+        Err(refusal) => place_of(refusal),
+    }
 }
 
 fn place_of(refusal: Refusal) -> Result<(u32, u32), NoMemory> {
@@ -47,6 +52,39 @@ fn counters(rt: HostRuntime) -> Result<(), Fail> {
     ] {
         let text = format!(in rt.alloc(); "{start}{rest}")?;
         expect(&rt, rt.alloc(), &text, want)?;
+    }
+    Ok(())
+}
+
+const ZEROS: &str =
+    "00000000000000000000000000000000000000000000000000000000000000000000000000000000000000000000000000000000000000000000000000000000000000000000000000000000000000000000000000000000000000000000000000000000";
+
+#[test]
+fn bounds_of_numbers(rt: HostRuntime) -> Result<(), Fail> {
+    let constant = format!(in rt.alloc(); "1 sort bitvec 8\n2 constd 1 {ZEROS}255")?;
+    for (text, want) in [
+        ("", (0, 0)),
+        ("1 sort bitvec 8", (0, 0)),
+        ("18446744073709551615 sort bitvec 8", (0, 0)),
+        ("18446744073709551616 sort bitvec 8", (50, 1)),
+        ("1 sort bitvec 0", (55, 1)),
+        ("1 sort bitvec 128", (0, 0)),
+        ("1 sort bitvec 129", (55, 1)),
+        ("1 sort bitvec 4294967296", (50, 1)),
+        (&constant, (0, 0)),
+    ] {
+        expect(&rt, rt.alloc(), text, want)?;
+    }
+    Ok(())
+}
+
+#[test]
+fn counter_cut_at_each_byte(rt: HostRuntime) -> Result<(), Fail> {
+    let state = "1 sort bitvec 8\n2 zero 1\n3 state 1";
+    let text = format!(in rt.alloc(); "{state}\n4 init 1 3 2\n5 one 1\n6 add 1 3 5\n7 next 1 3 6")?;
+    for end in state.len()..text.len() {
+        let (number, _) = answer(rt.alloc(), &text.as_bytes()[..end])?;
+        assert!(rt; number == 50 || number == 56, "cut at {end}");
     }
     Ok(())
 }
@@ -127,6 +165,52 @@ fn dependence_goes_through_lines(rt: HostRuntime) -> Result<(), Fail> {
     Ok(())
 }
 
+// Expects the states' numbers and the flags in the rows of a run without inputs.
+fn expect_run(
+    rt: &impl Abort,
+    alloc: Global,
+    text: &str,
+    want: &[(&[u128], &[bool])],
+) -> Result<(), Fail> {
+    let Ok(text) = accept(alloc, lines_of(alloc, text.as_bytes())?) else {
+        return Err("a fault".into());
+    };
+    let stimulus = Stimulus::new(alloc, Vec::new(alloc));
+    let Some(rows) = slow_run(alloc, &text, &stimulus, 2)? else {
+        return Err("no run".into());
+    };
+    assert_eq!(rt; rows.len(), want.len());
+    for (row, (numbers, flags)) in rows.as_slice().iter().zip(want) {
+        assert_eq!(rt; row.regs.len(), numbers.len());
+        for (value, number) in row.regs.as_slice().iter().zip(*numbers) {
+            assert_eq!(rt; value.number(), *number);
+        }
+        assert_eq!(rt; row.fired.as_slice(), *flags);
+    }
+    Ok(())
+}
+
+#[test]
+fn runs_of_small_texts(rt: HostRuntime) -> Result<(), Fail> {
+    expect_run(
+        &rt,
+        rt.alloc(),
+        "1 sort bitvec 8\n2 zero 1\n3 state 1 count\n4 init 1 3 2\n5 one 1\n6 add 1 3 5\n7 next 1 3 6\n",
+        &[(&[0], &[]), (&[1], &[]), (&[2], &[])],
+    )?;
+    // A state that grows by 3, and one that takes it above 3; whether the first is 3, and an output that is no flag.
+    expect_run(
+        &rt,
+        rt.alloc(),
+        "1 sort bitvec 4\n2 sort bitvec 8\n3 state 1\n4 state 2\n5 constd 1 3\n6 init 1 3 5\n7 concat 2 3 5\n8 next 2 4 7\n9 add 1 3 5\n10 next 1 3 9\n11 sort bitvec 1\n12 eq 11 3 5\n13 output 12\n14 output 3\n",
+        &[
+            (&[3, 0], &[false]),
+            (&[6, 0x33], &[true]),
+            (&[9, 0x63], &[false]),
+        ],
+    )
+}
+
 // A text of lines of 20 to 40 bytes, as other tools write them, up to this id.
 fn long_text(alloc: Global, end: u32) -> Result<Text, Fail> {
     let mut text = Text::new(alloc);
@@ -145,10 +229,10 @@ fn long_text(alloc: Global, end: u32) -> Result<Text, Fail> {
 }
 
 // The lines of a text that has no fault.
-fn lines_of(alloc: Global, text: &Text) -> Result<Lines, Fail>
+fn lines_of(alloc: Global, text: &[u8]) -> Result<Lines, Fail>
     ensures { IfOk result ArePrintable }
 {
-    match read_lines(alloc, text.as_slice()) {
+    match read_lines(alloc, text) {
         Ok(lines) => Ok(lines),
         Err(_) => Err("a fault".into()),
     }
@@ -164,7 +248,7 @@ fn ten_megabytes_made(rt: HostRuntime) -> Result<(), Fail> {
 #[test]
 fn ten_megabytes_read(rt: HostRuntime) -> Result<(), Fail> {
     let text = long_text(rt.alloc(), 410_000)?;
-    let lines = lines_of(rt.alloc(), &text)?;
+    let lines = lines_of(rt.alloc(), text.as_slice())?;
     assert_eq!(rt; lines.len(), 409_999);
     Ok(())
 }
@@ -172,7 +256,7 @@ fn ten_megabytes_read(rt: HostRuntime) -> Result<(), Fail> {
 #[test]
 fn ten_megabytes_accepted(rt: HostRuntime) -> Result<(), Fail> {
     let text = long_text(rt.alloc(), 410_000)?;
-    let lines = lines_of(rt.alloc(), &text)?;
+    let lines = lines_of(rt.alloc(), text.as_slice())?;
     assert!(rt; accept(rt.alloc(), lines).is_ok());
     Ok(())
 }
@@ -180,7 +264,7 @@ fn ten_megabytes_accepted(rt: HostRuntime) -> Result<(), Fail> {
 #[test]
 fn ten_megabytes_printed(rt: HostRuntime) -> Result<(), Fail> {
     let text = long_text(rt.alloc(), 410_000)?;
-    let lines = lines_of(rt.alloc(), &text)?;
+    let lines = lines_of(rt.alloc(), text.as_slice())?;
     let printed = print_lines(rt.alloc(), &lines)?;
     assert!(rt; printed.as_slice() == text.as_slice());
     Ok(())

@@ -1,0 +1,8 @@
+use Rattle.std.proofs.Common.{◌≡◌, None, take}
+use Rattle.std.specs.List.{find}
+use Rattle.btor2_model.specs.Rules.{is_next}
+use Rattle.btor2_model.specs.SlowRun.{sets}
+use Rattle.btor2_model.proofs.states.next_of.Given as goal
+
+abbrev pub invariant-loop-line : goal.invariant-loop-line
+invariant-loop-line l = find (sets is_next l.state) (take l.line-index l.lines) ≡ None
