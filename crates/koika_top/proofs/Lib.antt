@@ -1,4 +1,3 @@
-pub mod Hex
 pub mod Simulation
 pub mod OneAnswer
 pub mod Statuses

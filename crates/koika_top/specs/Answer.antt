@@ -6,8 +6,9 @@ use Rattle.kw_base.specs.declared.fault.Fault.{Fault}
 use Rattle.kw_base.specs.FaultLine.{line_of_fault}
 use Rattle.typed_core.specs.declared.design.Parts.{Parts}
 use Rattle.one_rule.specs.Run.{run_of}
+use Rattle.stim_report.specs.Report.{report}
+use Rattle.stim_report.specs.Shapes.{shape_of}
 use Rattle.koika_top.specs.FirstForm.{fault_of_source, IsFirstForm, IsFormFault}
-use Rattle.koika_top.specs.Report.{report}
 use Rattle.koika_top.specs.Words.{cycles_of}
 use Rattle.koika_top.specs.declared.answer.Answer.{Answer}
 use Rattle.koika_top.specs.declared.answer.Answer.TheVariants.{Usage, Refused, Written}
@@ -37,7 +38,7 @@ pub record IsReport (cycles : ℕ) (source text : List ℕ) : Type 0 where
   pub design : Parts
   pub spelled : IsFirstForm source design
   pub within : is_too_long cycles design ≡ false
-  pub reported : text ≡ report design (run_of design (λ _. []) cycles)
+  pub reported : text ≡ report (shape_of design) (run_of design (λ _. []) cycles)
 
 -- the answer to a source whose design is to run for these cycles
 abbrev pub AnswersSource : ℕ → List ℕ → Answer → Type 0

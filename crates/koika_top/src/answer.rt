@@ -5,7 +5,6 @@ ghost use Rattle.koika_top.specs.FirstForm.{fault_of_source};
 ghost use Rattle.koika_top.specs.Answer.{AnswersSource, AppendsFront, is_too_long, longest_source, status_of, text_of};
 
 use crate::first_form::read_design;
-use crate::report::report;
 use crate::simulate::simulate;
 use crate::status::Status;
 use host_fn::HostFn;
@@ -13,6 +12,7 @@ use kw_base::{Fault, Refusal, fault_line, fault_number};
 use kw_bits::{NoMemory, Text};
 use kw_io::{Sink, WriteFault, write_all};
 use std::alloc::Global;
+use stim_report::{report, shape_of};
 use typed_core::Design;
 
 /// A source may have this many bytes.
@@ -69,7 +69,8 @@ pub(crate) fn answer_source(
         return Ok(Answer::Refused(fault_of_source(fault_number::RUN_TOO_LONG)));
     }
     let rows = simulate(alloc, &design, hosts, cycles)?;
-    let text = report(alloc, &design, &rows)?;
+    let shape = shape_of(alloc, &design)?;
+    let text = report(alloc, &shape, &rows)?;
     Ok(Answer::Written(text))
 }
 

@@ -8,7 +8,6 @@ mod answer;
 mod first_form;
 mod laws;
 mod program;
-mod report;
 mod simulate;
 mod status;
 mod words;

@@ -10,6 +10,9 @@ ghost use Rattle.typed_core.specs.Valid.{IsWidth};
 
 use kw_bits::Bits;
 
+// A number below it has room for one more digit in 64 bits.
+const SMALL: u128 = 1 << 59;
+
 /// Digits of a base, one or more.
 #[derive(Clone, Copy)]
 pub(crate) struct Numeral<'a> {
@@ -89,10 +92,15 @@ fn number_of(radix: u32, digits: &[u8]) -> Option<u128>
     Some(number)
 }
 
-// The number with one more digit behind it, if it is below 2^128.
+// The number with one more digit behind it, if it is below 2^128. Most numbers are small, and then 64 bits are faster.
 fn with_digit(radix: u32, number: u128, digit: u32) -> Option<u128>
+    requires { IsBase radix }
     ensures { SomeIff result (number * radix + digit < 2 ^ 128) (number * radix + digit) }
 {
+    if number < SMALL {
+        let number = number as u64;
+        return Some(u128::from(number * u64::from(radix) + u64::from(digit)));
+    }
     number
         .checked_mul(u128::from(radix))?
         .checked_add(u128::from(digit))
