@@ -1,0 +1,7 @@
+mod Beginnings
+mod Circuits
+mod Joining
+mod Passing
+mod Pushing
+mod Rows
+mod StateWires
