@@ -2,3 +2,4 @@ pub mod Caps
 pub mod Equations
 pub mod Runs
 pub mod Steps
+pub mod Telling

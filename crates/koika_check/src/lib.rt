@@ -4,8 +4,12 @@
 //! a name up.
 #![tactic(auto)]
 
+mod agreement;
 mod checked;
 mod measure;
+mod operators;
+mod shapes;
+mod stop;
 mod typed;
 
 pub use checked::{Checked, Field, Function, Host, Input, Register, Rule, Struct, Table};

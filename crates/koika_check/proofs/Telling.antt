@@ -1,0 +1,60 @@
+-- What a call answers where the calls that it makes tell what outcomes say.
+use Rattle.std.proofs.Common.{◌≡◌, refl, sym, ◌∙◌, ap, subst, Result, Ok, Err, Option, None, Some, [], ◌∷◌}
+use Rattle.koika_check.specs.Outcomes.{Condition, Gives, Fails, Outcome, Passes, Tells, ◌>>=◌, smaller, unless, where_all}
+use Rattle.koika_check.specs.declared.stop.Stop.{Stop}
+use Rattle.koika_check.specs.declared.stop.Stop.TheVariants as stops
+
+-- a result is told as a result
+pub tells-ok : {X Y : Type 0} (is : Y → X → Type 0) (o : Outcome X) (y : Y) → Tells is o (Ok y) → (x : X) × (o ≡ Gives x) × is y x
+tells-ok is (Gives x) y h = (x, refl, h)
+tells-ok is (Fails f) y h = absurd h
+
+-- why a part ends is why the whole ends
+pub tells-err : {X Y X' Y' : Type 0} (is : Y → X → Type 0) (is' : Y' → X' → Type 0) (o : Outcome X) (f : X → Outcome X') (e : Stop) → Tells is o (Err e) → Tells is' (o >>= f) (Err e)
+tells-err is is' (Gives x) f (stops.Wrong w) h = absurd h
+tells-err is is' (Fails w') f (stops.Wrong w) h = h
+tells-err is is' o f stops.NoMemory h = h
+
+-- a condition holds behind a call that goes on; its fault is that of a call that ends
+pub passes-ok : {X : Type 0} (c : Condition) (x : X) → Passes c (Ok x) → c ≡ None
+passes-ok None x h = refl
+passes-ok (Some w) x h = absurd h
+
+pub passes-err : (X : Type 0) {Y Z : Type 0} (is : Z → Y → Type 0) (c : Condition) (y : Y) (e : Stop) → Passes {X = X} c (Err e) → Tells is (unless c y) (Err e)
+passes-err X is None y e h = absurd h
+passes-err X is (Some w) y (stops.Wrong w') h = h
+passes-err X is (Some w) y stops.NoMemory h = absurd h
+
+smaller-none : (c : Condition) → smaller c None ≡ c
+smaller-none None = refl
+smaller-none (Some w) = refl
+
+-- one condition, and two
+pub one-ok : {X Y : Type 0} (c c' : Condition) (x : X) (y : Y) → c ≡ c' → Passes c (Ok x) → where_all (c' ∷ []) y ≡ Gives y
+one-ok c c' x y e h = ap (λ d. unless d y) (smaller-none c' ∙ sym e ∙ passes-ok c x h)
+
+pub one-err : (X : Type 0) {Y Z : Type 0} (is : Z → Y → Type 0) (c c' : Condition) (y : Y) (e : Stop) → c ≡ c' → Passes {X = X} c (Err e) → Tells is (where_all (c' ∷ []) y) (Err e)
+one-err X is c c' y e same h = subst (λ d. Tells is (unless d y) (Err e)) (same ∙ sym (smaller-none c')) (passes-err X is c y e h)
+
+pub two-ok : {X Y : Type 0} (a b a' b' c : Condition) (x : X) (y : Y) → c ≡ smaller a b → a ≡ a' → b ≡ b' → Passes c (Ok x) → where_all (a' ∷ b' ∷ []) y ≡ Gives y
+two-ok a b a' b' c x y is ea eb h =
+    ap (λ d. unless d y) (ap (smaller a') (smaller-none b') ∙ sym (is ∙ ap (λ d. smaller d b) ea ∙ ap (smaller a') eb) ∙ passes-ok c x h)
+
+pub two-err : (X : Type 0) {Y Z : Type 0} (is : Z → Y → Type 0) (a b a' b' c : Condition) (y : Y) (e : Stop) → c ≡ smaller a b → a ≡ a' → b ≡ b' → Passes {X = X} c (Err e) → Tells is (where_all (a' ∷ b' ∷ []) y) (Err e)
+two-err X is a b a' b' c y e whole ea eb h =
+    subst (λ d. Tells is (unless d y) (Err e)) (whole ∙ ap (λ d. smaller d b) ea ∙ ap (smaller a') eb ∙ ap (smaller a') (sym (smaller-none b'))) (passes-err X is c y e h)
+
+-- whether conditions hold doesn't rest on what there is where they do
+pub unless-ok : {X Y Z : Type 0} (is : Z → X → Type 0) (c : Condition) (x : X) (y : Y) (z : Z) → Tells is (unless c x) (Ok z) → unless c y ≡ Gives y
+unless-ok is None x y z h = refl
+unless-ok is (Some w) x y z h = absurd h
+
+pub unless-err : {X Y Z Z' : Type 0} (is : Z → X → Type 0) (is' : Z' → Y → Type 0) (c : Condition) (x : X) (y : Y) (e : Stop) → Tells is (unless c x) (Err e) → Tells is' (unless c y) (Err e)
+unless-err is is' c x y stops.NoMemory h = h
+unless-err is is' None x y (stops.Wrong w) h = absurd h
+unless-err is is' (Some v) x y (stops.Wrong w) h = h
+
+-- what stands for what there is
+pub tells-with : {X Y Y' : Type 0} (is : Y → X → Type 0) (is' : Y' → X → Type 0) (o : Outcome X) (y : Y) (y' : Y') → ((x : X) → is y x → is' y' x) → Tells is o (Ok y) → Tells is' o (Ok y')
+tells-with is is' (Gives x) y y' f h = f x h
+tells-with is is' (Fails w) y y' f h = absurd h

@@ -1,0 +1,87 @@
+-- What checking comes to: a result, or the first fault. Parts are looked at from left to right; of the conditions of one
+-- construct that don't hold, the smallest number counts, and of equal ones the first. This project's own rule.
+use Rattle.std.specs.Prelude.{◌≡◌, ℕ, ⊤, Result, Ok, Err, nat_lt, Bool, if◌then◌else◌, Option, Some, None, List, [], ◌∷◌, ◌++◌}
+use Rattle.koika_check.specs.declared.stop.Stop.{Stop}
+use Rattle.koika_check.specs.declared.stop.Stop.TheVariants as stops
+use Rattle.koika_check.specs.declared.stop.Wrong.{Wrong}
+
+-- this fault at this place, the offset of a byte
+abbrev pub wrong : (number place : ℕ) → Wrong
+wrong number place = record { number = number; place = place }
+
+-- a result, or a fault
+pub data Outcome (X : Type 0) : Type 0 where
+  Gives : (value : X) → Outcome X
+  Fails : (fault : Wrong) → Outcome X
+
+-- one part, and what comes behind it
+infixl 10 ◌>>=◌
+abbrev pub ◌>>=◌ : {X Y : Type 0} → Outcome X → (X → Outcome Y) → Outcome Y
+Gives value >>= next = next value
+Fails fault >>= next = Fails fault
+
+-- all parts, from left to right
+abbrev pub in_turn : {X Y : Type 0} → (X → Outcome Y) → List X → Outcome (List Y)
+in_turn look [] = Gives []
+in_turn look (x ∷ xs) = look x >>= λ y. in_turn look xs >>= λ ys. Gives (y ∷ ys)
+
+-- parts of which each is looked at behind what those before it leave
+abbrev pub one_by_one : {X S : Type 0} → (X → S → Outcome S) → List X → S → Outcome S
+one_by_one look [] s = Gives s
+one_by_one look (x ∷ xs) s = look x s >>= λ next. one_by_one look xs next
+
+-- a condition of a construct: none where it holds, else its fault
+abbrev pub Condition : Type 0
+Condition = Option Wrong
+
+-- the test holds, or this is the fault
+abbrev pub holds : Bool → Wrong → Condition
+holds test fault = if test then None else Some fault
+
+-- the first of two faults; and of two the one with the smaller number, the first of two with one number
+abbrev pub earlier : Condition → Condition → Condition
+earlier None other = other
+earlier (Some fault) other = Some fault
+
+abbrev pub smaller : Condition → Condition → Condition
+smaller None other = other
+smaller (Some fault) None = Some fault
+smaller (Some fault) (Some other) = if nat_lt other.number fault.number then Some other else Some fault
+
+-- the first fault of the conditions, and the smallest
+abbrev pub first : List Condition → Condition
+first [] = None
+first (condition ∷ rest) = earlier condition (first rest)
+
+abbrev pub smallest : List Condition → Condition
+smallest [] = None
+smallest (condition ∷ rest) = smaller condition (smallest rest)
+
+-- the result where there is no fault
+abbrev pub unless : {X : Type 0} → Condition → X → Outcome X
+unless None value = Gives value
+unless (Some fault) value = Fails fault
+
+-- the result where the conditions of a construct hold
+abbrev pub where_all : {X : Type 0} → List Condition → X → Outcome X
+where_all conditions value = unless (smallest conditions) value
+
+-- what is looked for, or this is the fault
+abbrev pub found : {X : Type 0} → Option X → Wrong → Outcome X
+found None fault = Fails fault
+found (Some value) fault = Gives value
+
+-- A call answers what an outcome says, where its values stand for those of outcomes as `is` says: a value for a result, the
+-- fault for a fault. Want of memory is free.
+abbrev pub Tells : {X Y : Type 0} → (Y → X → Type 0) → Outcome X → Result Y Stop → Type 0
+Tells is outcome (Err stops.NoMemory) = ⊤
+Tells is (Gives value) (Ok y) = is y value
+Tells is (Fails fault) (Ok y) = ⊥
+Tells is (Gives value) (Err (stops.Wrong found)) = ⊥
+Tells is (Fails fault) (Err (stops.Wrong found)) = found ≡ fault
+
+-- a call goes on where the condition holds, and answers its fault where it doesn't
+abbrev pub Passes : {X : Type 0} → Condition → Result X Stop → Type 0
+Passes None (Ok x) = ⊤
+Passes (Some fault) (Err (stops.Wrong found)) = found ≡ fault
+Passes condition answer = ⊥

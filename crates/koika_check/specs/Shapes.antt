@@ -1,0 +1,46 @@
+-- The shapes by which the checker compares types in one step: an array's type is told by its number. All of it serves
+-- private functions alone.
+use Rattle.std.specs.Prelude.{◌≡◌, ℕ, ◌<◌, ⊤, List, length, Option, Some, None, IfSome, option_map, slice_index_or}
+use Rattle.koika_check.specs.Types.{Part as TypedPart, array, bits, of_base, part}
+use Rattle.koika_check.specs.declared.agreement.Part.{Part}
+use Rattle.koika_check.specs.declared.shapes.Shape.{Shape}
+use Rattle.koika_check.specs.declared.shapes.Shape.TheVariants as shape
+use Rattle.koika_check.specs.declared.typed.BaseType.TheVariants as base
+use Rattle.koika_check.specs.declared.typed.ValueType.{ValueType}
+
+-- the type of a shape, where these are the types of arrays by their numbers
+abbrev pub type_of_shape : List ValueType → Shape → ValueType
+type_of_shape arrays (shape.Bits width) = bits width
+type_of_shape arrays (shape.Enum number) = of_base (base.Enum number)
+type_of_shape arrays (shape.Struct number) = of_base (base.Struct number)
+type_of_shape arrays (shape.Array number) = slice_index_or arrays number (bits 0)
+
+-- a shape that is one of so many arrays, if it is an array
+abbrev pub IsShape : (arrays : ℕ) → Shape → Type 0
+IsShape arrays (shape.Array number) = number < arrays
+IsShape arrays s = ⊤
+
+-- the type of an array
+pub record IsArray (of : ValueType) : Type 0 where
+  pub length : ℕ
+  pub item : ValueType
+  pub is : of ≡ array length item
+
+-- types of arrays, each of which has one number
+pub record AreArrays (arrays : List ValueType) : Type 0 where
+  pub each : (i : ℕ) → i < length arrays → IsArray (slice_index_or arrays i (bits 0))
+  pub distinct : (i j : ℕ) → i < length arrays → j < length arrays → slice_index_or arrays i (bits 0) ≡ slice_index_or arrays j (bits 0) → i ≡ j
+
+-- the type of what isn't unit, and that of a part
+abbrev pub type_if : List ValueType → Option Shape → Option ValueType
+type_if arrays = option_map (type_of_shape arrays)
+
+abbrev pub part_of : List ValueType → Part → TypedPart
+part_of arrays p = part (type_if arrays p.of) p.place
+
+abbrev pub IsShapeIf : List ValueType → Option Shape → Type 0
+IsShapeIf arrays of = IfSome of (IsShape (length arrays))
+
+-- a shape that stands for a type
+abbrev pub Denotes : List ValueType → Shape → Option ValueType → Type 0
+Denotes arrays s of = (of ≡ Some (type_of_shape arrays s)) × IsShape (length arrays) s
