@@ -1,5 +1,7 @@
+pub mod ArrayTypes
 pub mod Caps
 pub mod Equations
+pub mod Positions
 pub mod Runs
 pub mod Steps
 pub mod Telling

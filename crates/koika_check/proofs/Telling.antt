@@ -1,5 +1,5 @@
 -- What a call answers where the calls that it makes tell what outcomes say.
-use Rattle.std.proofs.Common.{◌≡◌, refl, sym, ◌∙◌, ap, subst, Result, Ok, Err, Option, None, Some, [], ◌∷◌}
+use Rattle.std.proofs.Common.{◌≡◌, refl, sym, ◌∙◌, ap, subst, Ok, Err, None, Some, [], ◌∷◌}
 use Rattle.koika_check.specs.Outcomes.{Condition, Gives, Fails, Outcome, Passes, Tells, ◌>>=◌, smaller, unless, where_all}
 use Rattle.koika_check.specs.declared.stop.Stop.{Stop}
 use Rattle.koika_check.specs.declared.stop.Stop.TheVariants as stops

@@ -1,10 +1,13 @@
 -- The shapes by which the checker compares types in one step: an array's type is told by its number. All of it serves
 -- private functions alone.
-use Rattle.std.specs.Prelude.{◌≡◌, ℕ, ◌<◌, ⊤, List, length, Option, Some, None, IfSome, option_map, slice_index_or}
+use Rattle.std.specs.Prelude.{◌≡◌, ℕ, ◌<◌, ◌^◌, ◌⊎◌, ⊤, List, [], ◌∷◌, ◌++◌, length, map, Option, Some, IfSome, option_map, slice_index_or}
+use Rattle.std.specs.Int.{to_le_bytes, w32}
 use Rattle.koika_check.specs.Types.{Part as TypedPart, array, bits, of_base, part}
 use Rattle.koika_check.specs.declared.agreement.Part.{Part}
+use Rattle.koika_check.specs.declared.shapes.ArrayShape.{ArrayShape}
 use Rattle.koika_check.specs.declared.shapes.Shape.{Shape}
 use Rattle.koika_check.specs.declared.shapes.Shape.TheVariants as shape
+use Rattle.koika_check.specs.declared.shapes.Shapes.{Shapes}
 use Rattle.koika_check.specs.declared.typed.BaseType.TheVariants as base
 use Rattle.koika_check.specs.declared.typed.ValueType.{ValueType}
 
@@ -44,3 +47,44 @@ IsShapeIf arrays of = IfSome of (IsShape (length arrays))
 -- a shape that stands for a type
 abbrev pub Denotes : List ValueType → Shape → Option ValueType → Type 0
 Denotes arrays s of = (of ≡ Some (type_of_shape arrays s)) × IsShape (length arrays) s
+
+-- ---- the numbers of array types
+
+-- behind these types the types of arrays of items that are known before
+abbrev pub array_types : (before : List ValueType) → List ArrayShape → List ValueType
+array_types before [] = before
+array_types before (a ∷ later) = array_types (before ++ array a.length (type_of_shape before a.element) ∷ []) later
+
+-- which shape it is, and its number
+abbrev pub tag_of : Shape → ℕ
+tag_of (shape.Bits width) = 0
+tag_of (shape.Enum number) = 1
+tag_of (shape.Struct number) = 2
+tag_of (shape.Array number) = 3
+
+abbrev pub number_in : Shape → ℕ
+number_in (shape.Bits width) = width
+number_in (shape.Enum number) = number
+number_in (shape.Struct number) = number
+number_in (shape.Array number) = number
+
+-- the bytes that tell an array type from others
+abbrev pub key_of : ArrayShape → List ℕ
+key_of a = tag_of a.element ∷ to_le_bytes w32 (number_in a.element) ++ to_le_bytes w32 a.length
+
+-- the array type of this number
+pub record IsNumbered (types : List ValueType) (i : ℕ) (a : ArrayShape) : Type 0 where
+  pub known : IsShape (length types) a.element
+  pub is : slice_index_or types i (bits 0) ≡ array a.length (type_of_shape types a.element)
+  pub number_fits : number_in a.element < 2 ^ 32
+  pub length_fits : a.length < 2 ^ 32
+
+-- array types under their keys, each once
+pub record AreShapes (s : Shapes) : Type 0 where
+  pub keys : s.keys ≡ map key_of s.arrays
+  pub arrays : AreArrays (array_types [] s.arrays)
+  pub each : (i : ℕ) (d : ArrayShape) → i < length s.arrays → IsNumbered (array_types [] s.arrays) i (slice_index_or s.arrays i d)
+
+-- nothing was added, or this array type
+abbrev pub Grows : List ArrayShape → ArrayShape → List ArrayShape → Type 0
+Grows old a new = (new ≡ old) ⊎ (new ≡ old ++ a ∷ [])

@@ -1,7 +1,7 @@
 -- Types of values as the checker sees them: a base and the lengths of the arrays round it, the outermost first; what a type
 -- expression comes to, and when a part is of a wanted type. Packed types with 1 to 128 bits, as IEEE 1800-2017 has them
 -- (7.2.1, 7.4.1).
-use Rattle.std.specs.Prelude.{ℕ, ◌*◌, nat_eq, nat_le, Bool, true, false, ◌&&◌, if◌then◌else◌, map, List, [], ◌∷◌, Option, Some, None, slice_index, is_some}
+use Rattle.std.specs.Prelude.{ℕ, ◌*◌, nat_eq, nat_le, Bool, true, false, ◌&&◌, map, List, [], ◌∷◌, Option, Some, None, slice_index, is_some}
 use Rattle.std.specs.Str.{bytes_eq}
 use Rattle.kw_base.specs.Names.{number_of}
 use Rattle.kw_base.specs.declared.fault_number.TheConstants.{UNKNOWN_NAME, WRONG_TYPE, WRONG_WIDTH}

@@ -1,4 +1,3 @@
-use Rattle.std.proofs.Common.{ap, sym, ◌∙◌}
 use Rattle.koika_check.proofs.operators.are_bits.Goals as goal
 
 pub returns-in-Some-None : goal.returns-in-Some-None
