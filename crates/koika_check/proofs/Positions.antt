@@ -1,9 +1,10 @@
 -- The first index at which a test passes, by cases on the list, and with one more item behind it.
-use Rattle.std.proofs.Common.{◌≡◌, ℕ, zero, suc, ◌+◌, ◌<◌, Bool, true, false, cond, not, ltb, List, [], ◌∷◌, ◌++◌, length, get_or, Option, Some, None, position, refl, ap, ap₂, sym, ◌∙◌, arith}
+use Rattle.std.proofs.Common.{◌≡◌, ℕ, zero, suc, ◌+◌, ◌<◌, Bool, true, false, cond, not, ltb, List, [], ◌∷◌, ◌++◌, length, get_or, slice_get, Option, Some, None, position, refl, ap, ap₂, sym, ◌∙◌, arith}
 use Rattle.std.specs.List.{position_or_len}
-use Rattle.std.specs.Option.{option_map}
+use Rattle.std.specs.Option.{option_and_then, option_map}
 use Rattle.std.proofs.lemmas.Bool.Decides.{nat_tests}
 use Rattle.std.proofs.lemmas.Slice.Eq.{bytes_eq-Decides}
+use Rattle.std.proofs.lemmas.List.Quantifiers.{position-Some}
 use Rattle.std.specs.Str.{bytes_eq}
 use Rattle.kw_base.specs.Names.{number_of}
 
@@ -83,3 +84,36 @@ not_there names name d i h lt e =
   where
     false_true : false ≡ true → ⊥
     false_true e = cc
+
+-- ---- what stands at the number of a name
+
+pub slice_get-push : {X : Type 0} (xs : List X) (x : X) (i : ℕ) → i < length xs → slice_get (xs ++ x ∷ []) i ≡ slice_get xs i
+slice_get-push [] x i lt = absurd (omega (arith, lt))
+slice_get-push (y ∷ xs) x zero lt = refl
+slice_get-push (y ∷ xs) x (suc i) lt = slice_get-push xs x i (omega (arith, lt))
+
+pub slice_get-last : {X : Type 0} (xs : List X) (x : X) (i : ℕ) → i ≡ length xs → slice_get (xs ++ x ∷ []) i ≡ Some x
+slice_get-last [] x i e = rw e
+slice_get-last (y ∷ xs) x zero e = absurd (omega (arith, e))
+slice_get-last (y ∷ xs) x (suc i) e = slice_get-last xs x i (omega (arith, e))
+
+pub number_of-within : (names : List (List ℕ)) (name : List ℕ) (k : ℕ) → number_of names name ≡ Some k → (k < length names) × (get_or names k [] ≡ name)
+number_of-within names name k e = let found = position-Some (bytes_eq name) names k [] e in (found.0, sym (same-is name (get_or names k []) found.1))
+
+-- one more name that wasn't there, and what stands there
+pub at-push : {X : Type 0} (names : List (List ℕ)) (xs : List X) (name : List ℕ) (x : X) (other : List ℕ) → length xs ≡ length names → number_of names name ≡ None →
+    option_and_then (slice_get (xs ++ x ∷ [])) (number_of (names ++ name ∷ []) other) ≡ cond (bytes_eq other name) (Some x) (option_and_then (slice_get xs) (number_of names other))
+at-push names xs name x other l none =
+    ap (option_and_then (slice_get (xs ++ x ∷ []))) (position-index (bytes_eq other) (names ++ name ∷ []) ∙ index-push (bytes_eq other) names name)
+    ∙ by_cases (number_of names other) (index (bytes_eq other) names) (bytes_eq other name) (position-index (bytes_eq other) names) refl refl
+  where
+    by_cases : (n o : Option ℕ) (b : Bool) → n ≡ o → number_of names other ≡ n → bytes_eq other name ≡ b → option_and_then (slice_get (xs ++ x ∷ [])) (or_last o b (length names)) ≡ cond b (Some x) (option_and_then (slice_get xs) n)
+    by_cases (Some m) (Some k) true e f g = absurd (none_some m (sym (ap (number_of names) (same-is other name g) ∙ none) ∙ f))
+      where
+        none_some : (m : ℕ) → None ≡ Some m → ⊥
+        none_some m e = cc
+    by_cases (Some m) (Some k) false e f g = slice_get-push xs x k (omega (arith, l, (number_of-within names other k (f ∙ e)).0)) ∙ ap (option_and_then (slice_get xs)) (sym e)
+    by_cases None (Some k) b e f g = absurd cc
+    by_cases (Some m) None b e f g = absurd cc
+    by_cases None None true e f g = slice_get-last xs x (length names) (sym l)
+    by_cases None None false e f g = refl

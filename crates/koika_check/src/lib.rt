@@ -8,8 +8,11 @@ mod agreement;
 mod checked;
 mod measure;
 mod operators;
+mod parts;
 mod shapes;
 mod stop;
+mod suffixes;
+mod things;
 mod typed;
 
 pub use checked::{Checked, Field, Function, Host, Input, Register, Rule, Struct, Table};

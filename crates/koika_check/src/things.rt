@@ -1,0 +1,66 @@
+ghost use Rattle.std.specs.Prelude.{◌≡◌, List, ℕ, None, Some, OnOk, if◌then◌else◌};
+ghost use Rattle.std.specs.Str.{bytes_eq};
+ghost use Rattle.koika_check.specs.Things.{AreThings, thing_named};
+
+use kw_base::{Added, Names};
+use kw_bits::{NoMemory, Sequence};
+use std::alloc::Global;
+
+/// What a declared name stands for: its kind, and its number among those of the kind.
+#[derive(Clone, Copy, Debug, PartialEq, Eq)]
+pub(crate) enum Thing {
+    Enum(u32),
+    Struct(u32),
+    Register(u32),
+    Input(u32),
+    Table(u32),
+    Host(u32),
+    Function(u32),
+    Rule(u32),
+}
+
+/// What the names of a design are declared as.
+#[derive(Drop)]
+pub(crate) struct Things {
+    names: Names,
+    // One for each name, by its number.
+    things: Sequence<Thing>,
+}
+
+impl Things {
+    /// Nothing is declared. The names are those of a text.
+    pub(crate) fn new(alloc: Global, text: &[u8]) -> Things
+        ensures kept { AreThings result }
+        ensures none { (name : List ℕ) → thing_named result name ≡ None }
+    {
+        Things {
+            names: Names::of_text(alloc, text),
+            things: Sequence::new(alloc),
+        }
+    }
+
+    /// What the name is declared as.
+    pub(crate) fn named(&self, name: &[u8]) -> Option<Thing>
+        requires { AreThings self.now }
+        ensures { result ≡ thing_named self.now name.now }
+    {
+        let number = self.names.find(name)?;
+        Some(self.things[number as usize])
+    }
+
+    /// Declares a name that isn't declared yet. Numbers run out as memory does.
+    pub(crate) fn declare(&mut self, name: &[u8], thing: Thing) -> Result<(), NoMemory>
+        requires kept { AreThings self.old }
+        requires new { thing_named self.old name.now ≡ None }
+        ensures kept { OnOk result (AreThings self.new) }
+        ensures declares { OnOk result ((other : List ℕ) → thing_named self.new other ≡ (if bytes_eq other name.now then Some thing else thing_named self.old other)) }
+    {
+        if self.names.len() > u32::MAX as usize {
+            return Err(NoMemory);
+        }
+        match self.names.add(name)? {
+            Added::There(_) => Ok(()),
+            Added::New(_) => Ok(self.things.push(thing)?),
+        }
+    }
+}
