@@ -95,7 +95,7 @@ one_shape types (shape.Array w) (shape.Enum v) a h k e = absurd (no_array (base.
 one_shape types (shape.Array w) (shape.Struct v) a h k e = absurd (no_array (base.Struct v) types w a h (sym e))
 one_shape types (shape.Array w) (shape.Array v) a h k e = ap shape.Array (a.distinct w v h k e)
 
-le_split : (i n : ℕ) → i ≤ n → (i < n) ⊎ (i ≡ n)
+pub le_split : (i n : ℕ) → i ≤ n → (i < n) ⊎ (i ≡ n)
 le_split i n h = elim (ltb i n) as (λ b. ltb i n ≡ b → (i < n) ⊎ (i ≡ n)) [ true ↦ λ e. inl (ltb-true i n e) | false ↦ λ e. inr (omega (arith, h, ltb-false i n e)) ] refl
 
 -- one more type that isn't there is an array of its own

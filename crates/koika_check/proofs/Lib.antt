@@ -1,4 +1,5 @@
 pub mod ArrayTypes
+pub mod Bindings
 pub mod Caps
 pub mod Equations
 pub mod Positions

@@ -1,6 +1,8 @@
 pub mod Capped
+pub mod Locals
 pub mod Operators
 pub mod Outcomes
+pub mod Scopes
 pub mod Selections
 pub mod Shapes
 pub mod Sizes

@@ -6,6 +6,7 @@
 
 mod agreement;
 mod checked;
+mod locals;
 mod measure;
 mod operators;
 mod parts;

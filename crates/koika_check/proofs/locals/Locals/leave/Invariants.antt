@@ -1,0 +1,12 @@
+use Rattle.std.proofs.Common.{◌≡◌, ◌-◌, ◌≤◌, List, drop, length}
+use Rattle.koika_check.specs.Locals.{AreLocals, locals_of}
+use Rattle.koika_check.specs.declared.typed.ValueType.{ValueType}
+use Rattle.koika_check.proofs.locals.Locals.leave.Given as goal
+
+abbrev pub invariant-loop-self : goal.invariant-loop-self
+invariant-loop-self l =
+    AreLocals l.self × (l.bound ≤ length l.self.bound) × (length l.self.bound ≤ length l.fn.self.bound) ×
+    ((arrays : List ValueType) → locals_of arrays l.self ≡ drop (length l.fn.self.bound - length l.self.bound) (locals_of arrays l.fn.self))
+
+abbrev pub decreases-loop-self : goal.decreases-loop-self
+decreases-loop-self l = length l.self.bound
