@@ -146,7 +146,7 @@ numbered s h n a lt e f l =
     let same = one_key (get_or s.arrays n a) a old.number_fits old.length_fits f l e in
     old.is ∙ ap₂ (λ m t. array m (type_of_shape (array_types [] s.arrays) t)) same.1 same.0
 
-length_types : (arrays : List ArrayShape) → length (array_types [] arrays) ≡ length arrays
+pub length_types : (arrays : List ArrayShape) → length (array_types [] arrays) ≡ length arrays
 length_types arrays = omega (arith, length-array_types [] arrays)
 
 pub There-denotes : (s : Shapes) → AreShapes s → (n : ℕ) (a : ArrayShape) → number_of s.keys (key_of a) ≡ Some n → number_in a.element < 2 ^ 32 → a.length < 2 ^ 32 →

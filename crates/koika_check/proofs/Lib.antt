@@ -1,6 +1,7 @@
 pub mod ArrayTypes
 pub mod Bindings
 pub mod Caps
+pub mod Checkers
 pub mod Equations
 pub mod Positions
 pub mod Runs

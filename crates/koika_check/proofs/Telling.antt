@@ -58,3 +58,8 @@ unless-err is is' (Some v) x y (stops.Wrong w) h = h
 pub tells-with : {X Y Y' : Type 0} (is : Y → X → Type 0) (is' : Y' → X → Type 0) (o : Outcome X) (y : Y) (y' : Y') → ((x : X) → is y x → is' y' x) → Tells is o (Ok y) → Tells is' o (Ok y')
 tells-with is is' (Gives x) y y' f h = f x h
 tells-with is is' (Fails w) y y' f h = absurd h
+
+-- what stands for the result where the conditions hold
+pub unless-with : {X Y Y' : Type 0} (is : Y → X → Type 0) (is' : Y' → X → Type 0) (c : Condition) (x : X) (y : Y) (y' : Y') → (is y x → is' y' x) → Tells is (unless c x) (Ok y) → Tells is' (unless c x) (Ok y')
+unless-with is is' None x y y' f h = f h
+unless-with is is' (Some w) x y y' f h = absurd h

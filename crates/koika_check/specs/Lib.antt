@@ -1,4 +1,5 @@
 pub mod Capped
+pub mod Checking
 pub mod Locals
 pub mod Operators
 pub mod Outcomes

@@ -5,6 +5,7 @@ use Rattle.std.specs.Prelude.{ℕ, ◌*◌, nat_eq, nat_le, Bool, true, false, �
 use Rattle.std.specs.Str.{bytes_eq}
 use Rattle.kw_base.specs.Names.{number_of}
 use Rattle.kw_base.specs.declared.fault_number.TheConstants.{UNKNOWN_NAME, WRONG_TYPE, WRONG_WIDTH}
+use Rattle.koika_syntax.specs.declared.tree.Name.{Name}
 use Rattle.koika_syntax.specs.declared.tree.TypeExpression.{TypeExpression, Bits, Named, Array'}
 use Rattle.koika_types.specs.declared.declarations.EnumDecl.{EnumDecl}
 use Rattle.koika_check.specs.Outcomes.{Outcome, ◌>>=◌, Condition, holds, first, where_all, found, wrong}
@@ -71,16 +72,22 @@ type_by None None = None
 abbrev pub type_named : Checked → List ℕ → Option BaseType
 type_named d name = type_by (enum_named d name) (struct_named d name)
 
--- What a type expression comes to: a total width of 1 to 128, and an array's length of 1 to 128, else 23; a named type is
--- declared, else 20.
+-- a named type is declared, else 20; its width is 1 to 128, else 23
+abbrev pub named_type : Checked → Name → Outcome ValueType
+named_type d n = found (type_named d n.text) (wrong UNKNOWN_NAME n.place) >>= λ b.
+    where_all (holds (is_width (base_width d b)) (wrong WRONG_WIDTH n.place) ∷ []) (of_base b)
+
+-- an array's length and its total width are 1 to 128, else 23
+abbrev pub array_type : Checked → (length place : ℕ) → ValueType → Outcome ValueType
+array_type d length place item =
+    where_all (holds (is_width length && is_width (width_of d (array length item))) (wrong WRONG_WIDTH place) ∷ []) (array length item)
+
+-- what a type expression comes to
 abbrev pub type_of : Checked → TypeExpression → Outcome ValueType
 type_of d (Bits width) =
     where_all (holds (is_width width.number.value) (wrong WRONG_WIDTH width.place) ∷ []) (bits width.number.value)
-type_of d (Named n) = found (type_named d n.text) (wrong UNKNOWN_NAME n.place) >>= λ b.
-    where_all (holds (is_width (base_width d b)) (wrong WRONG_WIDTH n.place) ∷ []) (of_base b)
-type_of d (Array' place _ element length) = type_of d element >>= λ item.
-    where_all (holds (is_width length.value && is_width (width_of d (array length.value item))) (wrong WRONG_WIDTH place) ∷ [])
-    (array length.value item)
+type_of d (Named n) = named_type d n
+type_of d (Array' place _ element length) = type_of d element >>= array_type d length.value place
 
 -- ---- parts
 

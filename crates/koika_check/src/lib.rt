@@ -6,6 +6,7 @@
 
 mod agreement;
 mod checked;
+mod checker;
 mod locals;
 mod measure;
 mod operators;
@@ -15,6 +16,7 @@ mod stop;
 mod suffixes;
 mod things;
 mod typed;
+mod types;
 
 pub use checked::{Checked, Field, Function, Host, Input, Register, Rule, Struct, Table};
 pub use measure::{MAX_DEPTH, MAX_WEIGHT, Measure, measure_of};
