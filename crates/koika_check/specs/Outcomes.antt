@@ -20,16 +20,6 @@ abbrev pub ◌>>=◌ : {X Y : Type 0} → Outcome X → (X → Outcome Y) → Ou
 Gives value >>= next = next value
 Fails fault >>= next = Fails fault
 
--- all parts, from left to right
-abbrev pub in_turn : {X Y : Type 0} → (X → Outcome Y) → List X → Outcome (List Y)
-in_turn look [] = Gives []
-in_turn look (x ∷ xs) = look x >>= λ y. in_turn look xs >>= λ ys. Gives (y ∷ ys)
-
--- parts of which each is looked at behind what those before it leave
-abbrev pub one_by_one : {X S : Type 0} → (X → S → Outcome S) → List X → S → Outcome S
-one_by_one look [] s = Gives s
-one_by_one look (x ∷ xs) s = look x s >>= λ next. one_by_one look xs next
-
 -- a condition of a construct: none where it holds, else its fault
 abbrev pub Condition : Type 0
 Condition = Option Wrong

@@ -99,7 +99,7 @@ pub record Part : Type 0 where
 abbrev pub part : Option ValueType → ℕ → Part
 part of place = record { of = of; place = place }
 
--- the width of bits, the number of a struct; none for all else
+-- the width of bits; none for all else
 abbrev pub bits_by : BaseType → List ℕ → Option ℕ
 bits_by (base.Bits width) [] = Some width
 bits_by b lengths = None
@@ -107,14 +107,6 @@ bits_by b lengths = None
 abbrev pub as_bits : Option ValueType → Option ℕ
 as_bits (Some t) = bits_by t.base t.lengths
 as_bits None = None
-
-abbrev pub struct_by : BaseType → List ℕ → Option ℕ
-struct_by (base.Struct number) [] = Some number
-struct_by b lengths = None
-
-abbrev pub as_struct : Option ValueType → Option ℕ
-as_struct (Some t) = struct_by t.base t.lengths
-as_struct None = None
 
 -- 22 at a part, which isn't of the type that is wanted there
 abbrev pub wrong_type : Part → Wrong

@@ -6,6 +6,7 @@ ghost use Rattle.koika_check.specs.Types.{width_of};
 use crate::checked::Checked;
 use crate::shapes::{Shape, Shapes};
 use crate::things::Things;
+use kw_bits::Sequence;
 use std::alloc::Global;
 
 /// A design as far as it is checked.
@@ -18,6 +19,30 @@ pub(crate) struct Checker {
 }
 
 impl Checker {
+    /// Nothing is declared. The names are those of a text.
+    pub(crate) fn new(alloc: Global, text: &[u8]) -> Checker
+        ensures { IsChecker result }
+    {
+        Checker {
+            alloc,
+            design: Checked {
+                enums: Sequence::new(alloc),
+                structs: Sequence::new(alloc),
+                registers: Sequence::new(alloc),
+                inputs: Sequence::new(alloc),
+                tables: Sequence::new(alloc),
+                hosts: Sequence::new(alloc),
+                functions: Sequence::new(alloc),
+                rules: Sequence::new(alloc),
+                asserts: Sequence::new(alloc),
+                nodes: Sequence::new(alloc),
+                weight: 0,
+            },
+            things: Things::new(alloc, text),
+            shapes: Shapes::new(alloc),
+        }
+    }
+
     /// How many bits a value of the type has: a struct that is too wide has 129.
     pub(crate) fn width(&self, shape: Shape) -> u32
         requires checker { IsChecker self.now }

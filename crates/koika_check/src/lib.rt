@@ -1,7 +1,9 @@
-//! Designs whose names are resolved: the typed tree that the checker makes of a design's tree.
+//! Designs whose names are resolved: the typed tree that the checker makes of a design's tree, and the lower layers of the
+//! checker, which nothing calls yet.
 //!
-//! `specs/Sizes.antt` says what the weight and the depth of a typed tree are. The lowering takes a `Checked` without looking
-//! a name up.
+//! `specs/Sizes.antt` says what the weight and the depth of a typed tree are; `specs/Outcomes.antt`, `Types.antt`,
+//! `Operators.antt`, `Selections.antt` and `Scopes.antt` what the checks come to. The lowering takes a `Checked` without
+//! looking a name up.
 #![tactic(auto)]
 
 mod agreement;
