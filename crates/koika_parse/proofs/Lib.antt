@@ -1,4 +1,10 @@
 pub mod Reading
+pub mod Expected
+pub mod Words
+pub mod SchedulerWords
+pub mod ConstantWords
+pub mod Commas
+pub mod Rows
 pub mod Names
 pub mod Lists
 pub mod Parts

@@ -56,6 +56,16 @@ open_of_kind depth text token = of_kind token.kind token.start token.end
     of_kind (kinds.Keyword k) first last = refl
     of_kind (kinds.Symbol s) first last = refl
 
+-- the brackets that are open behind the next token
+pub open_behind_next : (source : Source) (old : Cursor) (d : Token) (terminal : Terminal) → old.at < length source.tokens.now → next source old ≡ Some terminal →
+    open_behind old.depth terminal ≡ open_behind_kind old.depth (get_or source.tokens.now old.at d).kind
+open_behind_next source old d terminal within at_terminal =
+    let text = source.text.now in
+    let token = get_or source.tokens.now old.at d in
+    let some : token_at source old ≡ Some token = slice_get-get_or source.tokens.now old.at d within in
+    let same : terminal ≡ terminal_of text token = cc (ap (option_map (terminal_of text)) some, at_terminal) in
+    ap (open_behind old.depth) same ∙ open_of_kind old.depth text token
+
 -- one token
 pub one_token : (source : Source) (old new : Cursor) (d : Token) (terminal : Terminal) → old.at < length source.tokens.now → next source old ≡ Some terminal → new.at ≡ old.at + 1 →
     new.depth ≡ open_behind_kind old.depth (get_or source.tokens.now old.at d).kind → (old.depth ≤ 64 → new.depth ≤ 64) → Reads source old new (placed terminal (get_or source.tokens.now old.at d).start)

@@ -1,14 +1,16 @@
 ghost use Rattle.std.specs.Prelude.{◌++◌, All, IfOk, map};
-ghost use Rattle.koika_syntax.specs.Grammar.{IsConstant, IsName, IsNonempty, constant_field_leaves, constant_leaves, struct_leaves};
-ghost use Rattle.koika_syntax.specs.Tree.{commas, name_leaves, sign};
+ghost use Rattle.koika_syntax.specs.Grammar.{IsConstant, IsLiteral, IsName, IsNonempty, constant_field_leaves, constant_leaves, struct_leaves};
+ghost use Rattle.koika_syntax.specs.Tree.{commas, literal_leaves, name_leaves, sign};
 ghost use Rattle.koika_syntax.specs.declared.symbol.Symbol.TheVariants as symbols;
+ghost use Rattle.koika_parse.specs.Expected.{Any, Commas, NoComma, Part, Takes};
 ghost use Rattle.koika_parse.specs.Reading.{Reads};
 ghost use Rattle.koika_parse.specs.Parts.{IsConstantField};
+ghost use Rattle.koika_parse.specs.Words.{ConstantArrayWord, NamedConstantWord};
 
 use crate::cursor::Cursor;
 use crate::source::Source;
 use crate::stop::Stop;
-use koika_syntax::{Constant, ConstantField, Symbol, TokenKind};
+use koika_syntax::{Constant, ConstantField, Symbol};
 
 impl<'a> Source<'a> {
     /// Reads a constant.
@@ -16,18 +18,21 @@ impl<'a> Source<'a> {
     pub(crate) fn constant(&self, cursor: &mut Cursor) -> Result<Constant, Stop>
         ensures read { IfOk result (λ found. Reads self.now cursor.old cursor.new (constant_leaves found)) }
         ensures is { IfOk result IsConstant }
+        ensures takes { Takes self.now cursor.old cursor.new (Part IsConstant constant_leaves) Any result }
     {
-        match self.peek(cursor) {
-            Some(TokenKind::Literal(_)) => self.literal_constant(cursor),
-            Some(TokenKind::Name) => self.named_constant(cursor),
-            Some(TokenKind::Symbol(Symbol::LeftBracket)) => self.constant_array(cursor),
-            _ => Err(Stop::Unexpected),
+        if self.is_at_name(cursor) {
+            return self.named_constant(cursor);
         }
+        if self.is_at_sign(cursor, Symbol::LeftBracket) {
+            return self.constant_array(cursor);
+        }
+        self.literal_constant(cursor)
     }
 
     fn literal_constant(&self, cursor: &mut Cursor) -> Result<Constant, Stop>
         ensures read { IfOk result (λ found. Reads self.now cursor.old cursor.new (constant_leaves found)) }
         ensures is { IfOk result IsConstant }
+        ensures takes { Takes self.now cursor.old cursor.new (Part IsLiteral literal_leaves) Any result }
     {
         let literal = self.literal(cursor)?;
         Ok(Constant::Literal(literal))
@@ -38,6 +43,7 @@ impl<'a> Source<'a> {
     fn named_constant(&self, cursor: &mut Cursor) -> Result<Constant, Stop>
         ensures read { IfOk result (λ found. Reads self.now cursor.old cursor.new (constant_leaves found)) }
         ensures is { IfOk result IsConstant }
+        ensures takes { Takes self.now cursor.old cursor.new NamedConstantWord Any result }
     {
         let of = self.name(cursor)?;
         self.sign(cursor, Symbol::ColonColon)?;
@@ -57,6 +63,7 @@ impl<'a> Source<'a> {
         ensures read { IfOk result (λ found. Reads self.now cursor.old cursor.new (commas (map constant_field_leaves found.items))) }
         ensures is { IfOk result (λ found. All IsConstantField found.items) }
         ensures some { IfOk result (λ found. IsNonempty found.items) }
+        ensures takes { Takes self.now cursor.old cursor.new (Commas IsConstantField constant_field_leaves) (NoComma Any) result }
     {
         let mut all = Vec::new(self.alloc);
         let first = self.constant_field(cursor)?;
@@ -73,6 +80,7 @@ impl<'a> Source<'a> {
     fn constant_field(&self, cursor: &mut Cursor) -> Result<ConstantField, Stop>
         ensures read { IfOk result (λ found. Reads self.now cursor.old cursor.new (constant_field_leaves found)) }
         ensures is { IfOk result IsConstantField }
+        ensures takes { Takes self.now cursor.old cursor.new (Part IsConstantField constant_field_leaves) Any result }
     {
         let name = self.name(cursor)?;
         self.sign(cursor, Symbol::Colon)?;
@@ -84,6 +92,7 @@ impl<'a> Source<'a> {
     fn constant_array(&self, cursor: &mut Cursor) -> Result<Constant, Stop>
         ensures read { IfOk result (λ found. Reads self.now cursor.old cursor.new (constant_leaves found)) }
         ensures is { IfOk result IsConstant }
+        ensures takes { Takes self.now cursor.old cursor.new ConstantArrayWord Any result }
     {
         let place = self.sign_at(cursor, Symbol::LeftBracket)?;
         let elements = self.constants(cursor)?;
@@ -97,6 +106,7 @@ impl<'a> Source<'a> {
         ensures read { IfOk result (λ found. Reads self.now cursor.old cursor.new (commas (map constant_leaves found.items))) }
         ensures is { IfOk result (λ found. All IsConstant found.items) }
         ensures some { IfOk result (λ found. IsNonempty found.items) }
+        ensures takes { Takes self.now cursor.old cursor.new (Commas IsConstant constant_leaves) (NoComma Any) result }
     {
         let mut all = Vec::new(self.alloc);
         let first = self.constant(cursor)?;

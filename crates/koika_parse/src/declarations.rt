@@ -1,7 +1,9 @@
 ghost use Rattle.std.specs.Prelude.{◌<◌, ◌++◌, All, IfOk, OnOk, IfSome, map};
 ghost use Rattle.koika_syntax.specs.Grammar.{IsDeclaration, IsField, IsLiteral, IsMember, IsName, IsNonempty, IsType, declaration_leaves, field_leaves, member_leaves, result_leaves};
-ghost use Rattle.koika_syntax.specs.Tree.{commas, literal_leaves, name_leaves, word};
+ghost use Rattle.koika_syntax.specs.Tree.{commas, keyword, literal_leaves, name_leaves, word};
+ghost use Rattle.koika_parse.specs.Expected.{Any, Commas, NoComma, One, Part, Takes, Then};
 ghost use Rattle.koika_parse.specs.Reading.{Reads, tokens_left};
+ghost use Rattle.koika_parse.specs.Words.{AssertWord, EnumWord, HostWord, InputWord, RegisterWord, StructWord, TableWord};
 
 use crate::cursor::Cursor;
 use crate::source::Source;
@@ -36,6 +38,7 @@ impl<'a> Source<'a> {
     fn declared(&self, cursor: &mut Cursor, begin: Keyword) -> Result<Name, Stop>
         ensures read { IfOk result (λ found. Reads self.now cursor.old cursor.new (word begin ++ name_leaves found)) }
         ensures is { IfOk result IsName }
+        ensures takes { Takes self.now cursor.old cursor.new (Then (One (keyword begin)) (Part IsName name_leaves)) Any result }
     {
         self.word(cursor, begin)?;
         let name = self.name(cursor)?;
@@ -46,6 +49,7 @@ impl<'a> Source<'a> {
         ensures read { IfOk result (λ found. Reads self.now cursor.old cursor.new (declaration_leaves found)) }
         ensures is { IfOk result IsDeclaration }
         ensures some { OnOk result (tokens_left self.now cursor.new < tokens_left self.now cursor.old) }
+        ensures takes { Takes self.now cursor.old cursor.new EnumWord Any result }
     {
         let name = self.declared(cursor, Keyword::Enum)?;
         self.sign(cursor, Symbol::Colon)?;
@@ -64,6 +68,7 @@ impl<'a> Source<'a> {
         ensures read { IfOk result (λ found. Reads self.now cursor.old cursor.new (commas (map member_leaves found))) }
         ensures is { IfOk result (λ found. All IsMember found) }
         ensures some { IfOk result (λ found. IsNonempty found) }
+        ensures takes { Takes self.now cursor.old cursor.new (Commas IsMember member_leaves) (NoComma Any) result }
     {
         let mut all = Sequence::new(self.alloc);
         let first = self.member(cursor)?;
@@ -79,6 +84,7 @@ impl<'a> Source<'a> {
     fn member(&self, cursor: &mut Cursor) -> Result<Member, Stop>
         ensures read { IfOk result (λ found. Reads self.now cursor.old cursor.new (member_leaves found)) }
         ensures is { IfOk result IsMember }
+        ensures takes { Takes self.now cursor.old cursor.new (Part IsMember member_leaves) Any result }
     {
         let name = self.name(cursor)?;
         self.sign(cursor, Symbol::Equals)?;
@@ -90,6 +96,7 @@ impl<'a> Source<'a> {
         ensures read { IfOk result (λ found. Reads self.now cursor.old cursor.new (declaration_leaves found)) }
         ensures is { IfOk result IsDeclaration }
         ensures some { OnOk result (tokens_left self.now cursor.new < tokens_left self.now cursor.old) }
+        ensures takes { Takes self.now cursor.old cursor.new StructWord Any result }
     {
         let name = self.declared(cursor, Keyword::Struct)?;
         self.sign(cursor, Symbol::LeftBrace)?;
@@ -102,6 +109,7 @@ impl<'a> Source<'a> {
         ensures read { IfOk result (λ found. Reads self.now cursor.old cursor.new (commas (map field_leaves found))) }
         ensures is { IfOk result (λ found. All IsField found) }
         ensures some { IfOk result (λ found. IsNonempty found) }
+        ensures takes { Takes self.now cursor.old cursor.new (Commas IsField field_leaves) (NoComma Any) result }
     {
         let mut all = Sequence::new(self.alloc);
         let first = self.field(cursor)?;
@@ -117,6 +125,7 @@ impl<'a> Source<'a> {
     fn field(&self, cursor: &mut Cursor) -> Result<Field, Stop>
         ensures read { IfOk result (λ found. Reads self.now cursor.old cursor.new (field_leaves found)) }
         ensures is { IfOk result IsField }
+        ensures takes { Takes self.now cursor.old cursor.new (Part IsField field_leaves) Any result }
     {
         let name = self.name(cursor)?;
         self.sign(cursor, Symbol::Colon)?;
@@ -128,6 +137,7 @@ impl<'a> Source<'a> {
         ensures read { IfOk result (λ found. Reads self.now cursor.old cursor.new (declaration_leaves found)) }
         ensures is { IfOk result IsDeclaration }
         ensures some { OnOk result (tokens_left self.now cursor.new < tokens_left self.now cursor.old) }
+        ensures takes { Takes self.now cursor.old cursor.new RegisterWord Any result }
     {
         let name = self.declared(cursor, Keyword::Reg)?;
         self.sign(cursor, Symbol::Colon)?;
@@ -142,6 +152,7 @@ impl<'a> Source<'a> {
         ensures read { IfOk result (λ found. Reads self.now cursor.old cursor.new (declaration_leaves found)) }
         ensures is { IfOk result IsDeclaration }
         ensures some { OnOk result (tokens_left self.now cursor.new < tokens_left self.now cursor.old) }
+        ensures takes { Takes self.now cursor.old cursor.new InputWord Any result }
     {
         let name = self.declared(cursor, Keyword::Input)?;
         self.sign(cursor, Symbol::Colon)?;
@@ -154,6 +165,7 @@ impl<'a> Source<'a> {
         ensures read { IfOk result (λ found. Reads self.now cursor.old cursor.new (declaration_leaves found)) }
         ensures is { IfOk result IsDeclaration }
         ensures some { OnOk result (tokens_left self.now cursor.new < tokens_left self.now cursor.old) }
+        ensures takes { Takes self.now cursor.old cursor.new TableWord Any result }
     {
         let name = self.declared(cursor, Keyword::Table)?;
         self.sign(cursor, Symbol::Colon)?;
@@ -175,6 +187,7 @@ impl<'a> Source<'a> {
         ensures read { IfOk result (λ found. Reads self.now cursor.old cursor.new (commas (map literal_leaves found))) }
         ensures is { IfOk result (λ found. All IsLiteral found) }
         ensures some { IfOk result (λ found. IsNonempty found) }
+        ensures takes { Takes self.now cursor.old cursor.new (Commas IsLiteral literal_leaves) (NoComma Any) result }
     {
         let mut all = Sequence::new(self.alloc);
         let first = self.literal(cursor)?;
@@ -191,6 +204,7 @@ impl<'a> Source<'a> {
         ensures read { IfOk result (λ found. Reads self.now cursor.old cursor.new (declaration_leaves found)) }
         ensures is { IfOk result IsDeclaration }
         ensures some { OnOk result (tokens_left self.now cursor.new < tokens_left self.now cursor.old) }
+        ensures takes { Takes self.now cursor.old cursor.new HostWord Any result }
     {
         let name = self.declared(cursor, Keyword::Host)?;
         self.sign(cursor, Symbol::Colon)?;
@@ -262,6 +276,7 @@ impl<'a> Source<'a> {
         ensures read { IfOk result (λ found. Reads self.now cursor.old cursor.new (declaration_leaves found)) }
         ensures is { IfOk result IsDeclaration }
         ensures some { OnOk result (tokens_left self.now cursor.new < tokens_left self.now cursor.old) }
+        ensures takes { Takes self.now cursor.old cursor.new AssertWord Any result }
     {
         let name = self.declared(cursor, Keyword::Assert)?;
         self.sign(cursor, Symbol::Semicolon)?;

@@ -2,8 +2,10 @@ ghost use Rattle.std.specs.Prelude.{All, IfOk, IfSome};
 ghost use Rattle.std.specs.List.{flat_map};
 ghost use Rattle.koika_syntax.specs.Grammar.{IsName, IsScheduler, choice_leaves, last_leaves, rule_leaves, scheduler_leaves};
 ghost use Rattle.koika_syntax.specs.Tree.{in_braces};
+ghost use Rattle.koika_parse.specs.Expected.{Any, Part, Takes};
 ghost use Rattle.koika_parse.specs.Reading.{Reads};
 ghost use Rattle.koika_parse.specs.Parts.{IsChoice};
+ghost use Rattle.koika_parse.specs.Words.{LastChoiceWord, RulesWord, no_name, no_try};
 
 use crate::cursor::Cursor;
 use crate::source::Source;
@@ -17,6 +19,7 @@ impl<'a> Source<'a> {
     pub(crate) fn scheduler(&self, cursor: &mut Cursor) -> Result<Scheduler, Stop>
         ensures read { IfOk result (λ found. Reads self.now cursor.old cursor.new (in_braces (scheduler_leaves found))) }
         ensures is { IfOk result IsScheduler }
+        ensures takes { Takes self.now cursor.old cursor.new (Part IsScheduler (λ s. in_braces (scheduler_leaves s))) Any result }
     {
         self.sign(cursor, Symbol::LeftBrace)?;
         let rules = self.rules(cursor)?;
@@ -29,6 +32,7 @@ impl<'a> Source<'a> {
     fn rules(&self, cursor: &mut Cursor) -> Result<Sequence<Name>, Stop>
         ensures read { IfOk result (λ found. Reads self.now cursor.old cursor.new (flat_map rule_leaves found)) }
         ensures is { IfOk result (λ found. All IsName found) }
+        ensures takes { Takes self.now cursor.old cursor.new RulesWord no_name result }
     {
         let mut all = Sequence::new(self.alloc);
         'more: while self.is_at_name(cursor) {
@@ -43,6 +47,7 @@ impl<'a> Source<'a> {
     fn last_choice(&self, cursor: &mut Cursor) -> Result<Option<Box<Choice>>, Stop>
         ensures read { IfOk result (λ found. Reads self.now cursor.old cursor.new (last_leaves found (λ choice. choice_leaves choice.value))) }
         ensures is { IfOk result (λ found. IfSome found (λ choice. IsChoice choice.value)) }
+        ensures takes { Takes self.now cursor.old cursor.new LastChoiceWord no_try result }
     {
         if !self.is_at_word(cursor, Keyword::Try) {
             return Ok(None);
@@ -56,6 +61,7 @@ impl<'a> Source<'a> {
     fn choice(&self, cursor: &mut Cursor) -> Result<Choice, Stop>
         ensures read { IfOk result (λ found. Reads self.now cursor.old cursor.new (choice_leaves found)) }
         ensures is { IfOk result IsChoice }
+        ensures takes { Takes self.now cursor.old cursor.new (Part IsChoice choice_leaves) Any result }
     {
         self.word(cursor, Keyword::Try)?;
         let rule = self.name(cursor)?;

@@ -1,9 +1,11 @@
-ghost use Rattle.std.specs.Prelude.{◌≡◌, ◌<◌, ◌≤◌, Some, None, IfOk, IfSome, OnOk, IsTrue, ◌↔◌, length};
+ghost use Rattle.std.specs.Prelude.{◌≡◌, ◌≢◌, ◌<◌, ◌≤◌, Some, None, IfOk, IfNone, IfErr, IfSome, OnOk, IsTrue, ◌↔◌, length};
 ghost use Rattle.koika_syntax.specs.Grammar.{IsLiteral, IsName, IsNumber, IsWidth};
 ghost use Rattle.koika_syntax.specs.Tree.{Terminal, keyword, literal_leaves, name_leaves, number_leaves, placed, sign, symbol, width_leaves, word};
 ghost use Rattle.koika_syntax.specs.declared.token.TokenKind.TheVariants as kinds;
 ghost use Rattle.koika_parse.specs.Names.{IsNameIn};
 ghost use Rattle.koika_parse.specs.Brackets.{open_behind_kind, open_behind_symbol};
+ghost use Rattle.koika_parse.specs.Expected.{Any, One, Part, Takes};
+ghost use Rattle.koika_parse.specs.declared.stop.Stop.TheVariants as stops;
 ghost use Rattle.koika_parse.specs.Reading.{Reads, kind_at, next, token_at};
 
 use crate::cursor::Cursor;
@@ -62,6 +64,7 @@ impl<'a> Source<'a> {
         ensures at { IfSome result (λ token. token_at self.now cursor.now ≡ Some token) }
         ensures kind { IfSome result (λ token. token.kind ≡ kinds.Name) }
         ensures name { IfSome result (IsNameIn self.now.text.now) }
+        ensures none { IfNone result (kind_at self.now cursor.now ≢ Some kinds.Name) }
     {
         if cursor.at < self.tokens.len() {
             let token = self.tokens[cursor.at];
@@ -77,8 +80,9 @@ impl<'a> Source<'a> {
     // Goes over the next token, counts the brackets that are open then, and answers its place.
     fn step(&self, cursor: &mut Cursor) -> Result<u32, Stop>
         requires { cursor.old.at < length self.now.tokens.now }
-        ensures { IfOk result (λ place. (terminal : Terminal) → next self.now cursor.old ≡ Some terminal →
+        ensures read { IfOk result (λ place. (terminal : Terminal) → next self.now cursor.old ≡ Some terminal →
             Reads self.now cursor.old cursor.new (placed terminal place)) }
+        ensures takes { (terminal : Terminal) → next self.now cursor.old ≡ Some terminal → Takes self.now cursor.old cursor.new (One terminal) Any result }
     {
         let token = self.tokens[cursor.at];
         let depth = depth_behind(cursor.depth, token.kind)?;
@@ -89,7 +93,8 @@ impl<'a> Source<'a> {
 
     /// Reads this symbol, and answers its place.
     pub(crate) fn sign_at(&self, cursor: &mut Cursor, wanted: Symbol) -> Result<u32, Stop>
-        ensures { IfOk result (λ place. Reads self.now cursor.old cursor.new (placed (symbol wanted) place)) }
+        ensures read { IfOk result (λ place. Reads self.now cursor.old cursor.new (placed (symbol wanted) place)) }
+        ensures takes { Takes self.now cursor.old cursor.new (One (symbol wanted)) Any result }
     {
         if !self.is_at_sign(cursor, wanted) {
             return Err(Stop::Unexpected);
@@ -99,7 +104,8 @@ impl<'a> Source<'a> {
 
     /// Reads this symbol.
     pub(crate) fn sign(&self, cursor: &mut Cursor, wanted: Symbol) -> Result<(), Stop>
-        ensures { OnOk result (Reads self.now cursor.old cursor.new (sign wanted)) }
+        ensures read { OnOk result (Reads self.now cursor.old cursor.new (sign wanted)) }
+        ensures takes { Takes self.now cursor.old cursor.new (One (symbol wanted)) Any result }
     {
         self.sign_at(cursor, wanted)?;
         Ok(())
@@ -107,7 +113,8 @@ impl<'a> Source<'a> {
 
     /// Reads this keyword, and answers its place.
     pub(crate) fn word_at(&self, cursor: &mut Cursor, wanted: Keyword) -> Result<u32, Stop>
-        ensures { IfOk result (λ place. Reads self.now cursor.old cursor.new (placed (keyword wanted) place)) }
+        ensures read { IfOk result (λ place. Reads self.now cursor.old cursor.new (placed (keyword wanted) place)) }
+        ensures takes { Takes self.now cursor.old cursor.new (One (keyword wanted)) Any result }
     {
         if !self.is_at_word(cursor, wanted) {
             return Err(Stop::Unexpected);
@@ -117,7 +124,8 @@ impl<'a> Source<'a> {
 
     /// Reads this keyword.
     pub(crate) fn word(&self, cursor: &mut Cursor, wanted: Keyword) -> Result<(), Stop>
-        ensures { OnOk result (Reads self.now cursor.old cursor.new (word wanted)) }
+        ensures read { OnOk result (Reads self.now cursor.old cursor.new (word wanted)) }
+        ensures takes { Takes self.now cursor.old cursor.new (One (keyword wanted)) Any result }
     {
         self.word_at(cursor, wanted)?;
         Ok(())
@@ -127,6 +135,7 @@ impl<'a> Source<'a> {
     pub(crate) fn name(&self, cursor: &mut Cursor) -> Result<Name, Stop>
         ensures read { IfOk result (λ name. Reads self.now cursor.old cursor.new (name_leaves name)) }
         ensures is { IfOk result IsName }
+        ensures takes { Takes self.now cursor.old cursor.new (Part IsName name_leaves) Any result }
     {
         match self.name_at(cursor) {
             None => Err(Stop::Unexpected),
@@ -143,6 +152,7 @@ impl<'a> Source<'a> {
     pub(crate) fn number(&self, cursor: &mut Cursor) -> Result<Number, Stop>
         ensures read { IfOk result (λ number. Reads self.now cursor.old cursor.new (number_leaves number)) }
         ensures is { IfOk result IsNumber }
+        ensures takes { Takes self.now cursor.old cursor.new (Part IsNumber number_leaves) Any result }
     {
         match self.peek(cursor) {
             Some(TokenKind::Number(value)) => {
@@ -157,6 +167,7 @@ impl<'a> Source<'a> {
     pub(crate) fn literal(&self, cursor: &mut Cursor) -> Result<Literal, Stop>
         ensures read { IfOk result (λ literal. Reads self.now cursor.old cursor.new (literal_leaves literal)) }
         ensures is { IfOk result IsLiteral }
+        ensures takes { Takes self.now cursor.old cursor.new (Part IsLiteral literal_leaves) Any result }
     {
         if cursor.at < self.tokens.len() {
             if let TokenKind::Literal(bits) = self.tokens[cursor.at].kind {
@@ -171,6 +182,7 @@ impl<'a> Source<'a> {
     pub(crate) fn width(&self, cursor: &mut Cursor) -> Result<Width, Stop>
         ensures read { IfOk result (λ width. Reads self.now cursor.old cursor.new (width_leaves width)) }
         ensures is { IfOk result IsWidth }
+        ensures takes { Takes self.now cursor.old cursor.new (Part IsWidth width_leaves) Any result }
     {
         let place = self.word_at(cursor, Keyword::Bits)?;
         let number = self.number(cursor)?;
@@ -188,6 +200,7 @@ fn literal_at(bits: Bits, place: u32) -> Literal
 // How many brackets are open behind a token, where so many are open in front of it.
 fn depth_behind(before: u32, kind: TokenKind) -> Result<u32, Stop>
     ensures behind { IfOk result (λ behind. behind ≡ open_behind_kind before kind) }
+    ensures deep { IfErr result (λ stop. (stop ≡ stops.TooDeep) × (64 < open_behind_kind before kind)) }
     ensures few { IfOk result (λ behind. before ≤ 64 → behind ≤ 64) }
 {
     match kind {
@@ -198,6 +211,7 @@ fn depth_behind(before: u32, kind: TokenKind) -> Result<u32, Stop>
 
 fn depth_behind_symbol(before: u32, found: Symbol) -> Result<u32, Stop>
     ensures behind { IfOk result (λ behind. behind ≡ open_behind_symbol before found) }
+    ensures deep { IfErr result (λ stop. (stop ≡ stops.TooDeep) × (64 < open_behind_symbol before found)) }
     ensures few { IfOk result (λ behind. before ≤ 64 → behind ≤ 64) }
 {
     match found {

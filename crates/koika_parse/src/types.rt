@@ -1,11 +1,14 @@
 ghost use Rattle.std.specs.Prelude.{IfOk};
-ghost use Rattle.koika_syntax.specs.Grammar.{IsType, type_leaves};
+ghost use Rattle.koika_syntax.specs.Grammar.{IsName, IsType, IsWidth, type_leaves};
+ghost use Rattle.koika_syntax.specs.Tree.{name_leaves, width_leaves};
+ghost use Rattle.koika_parse.specs.Expected.{Any, Part, Takes};
 ghost use Rattle.koika_parse.specs.Reading.{Reads};
+ghost use Rattle.koika_parse.specs.Words.{ArrayTypeWord};
 
 use crate::cursor::Cursor;
 use crate::source::Source;
 use crate::stop::Stop;
-use koika_syntax::{Keyword, Symbol, TokenKind, TypeExpression};
+use koika_syntax::{Keyword, Symbol, TypeExpression};
 
 impl<'a> Source<'a> {
     /// Reads a type.
@@ -13,18 +16,21 @@ impl<'a> Source<'a> {
     pub(crate) fn type_expression(&self, cursor: &mut Cursor) -> Result<TypeExpression, Stop>
         ensures read { IfOk result (λ of. Reads self.now cursor.old cursor.new (type_leaves of)) }
         ensures is { IfOk result IsType }
+        ensures takes { Takes self.now cursor.old cursor.new (Part IsType type_leaves) Any result }
     {
-        match self.peek(cursor) {
-            Some(TokenKind::Keyword(Keyword::Bits)) => self.width_type(cursor),
-            Some(TokenKind::Name) => self.named_type(cursor),
-            Some(TokenKind::Symbol(Symbol::LeftBracket)) => self.array_type(cursor),
-            _ => Err(Stop::Unexpected),
+        if self.is_at_word(cursor, Keyword::Bits) {
+            return self.width_type(cursor);
         }
+        if self.is_at_name(cursor) {
+            return self.named_type(cursor);
+        }
+        self.array_type(cursor)
     }
 
     fn width_type(&self, cursor: &mut Cursor) -> Result<TypeExpression, Stop>
         ensures read { IfOk result (λ of. Reads self.now cursor.old cursor.new (type_leaves of)) }
         ensures is { IfOk result IsType }
+        ensures takes { Takes self.now cursor.old cursor.new (Part IsWidth width_leaves) Any result }
     {
         let width = self.width(cursor)?;
         Ok(TypeExpression::Bits(width))
@@ -33,6 +39,7 @@ impl<'a> Source<'a> {
     fn named_type(&self, cursor: &mut Cursor) -> Result<TypeExpression, Stop>
         ensures read { IfOk result (λ of. Reads self.now cursor.old cursor.new (type_leaves of)) }
         ensures is { IfOk result IsType }
+        ensures takes { Takes self.now cursor.old cursor.new (Part IsName name_leaves) Any result }
     {
         let name = self.name(cursor)?;
         Ok(TypeExpression::Named(name))
@@ -43,6 +50,7 @@ impl<'a> Source<'a> {
     fn array_type(&self, cursor: &mut Cursor) -> Result<TypeExpression, Stop>
         ensures read { IfOk result (λ of. Reads self.now cursor.old cursor.new (type_leaves of)) }
         ensures is { IfOk result IsType }
+        ensures takes { Takes self.now cursor.old cursor.new ArrayTypeWord Any result }
     {
         let place = self.sign_at(cursor, Symbol::LeftBracket)?;
         let inside = self.type_expression(cursor)?;

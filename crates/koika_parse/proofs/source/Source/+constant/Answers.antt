@@ -1,5 +1,5 @@
-use Rattle.koika_syntax.specs.Grammar.{IsConstant, constant_field_leaves, constant_leaves}
-use Rattle.koika_syntax.specs.Tree.{sign}
+use Rattle.koika_syntax.specs.Grammar.{IsConstant, constant_field_leaves, constant_leaves, IsLiteral}
+use Rattle.koika_syntax.specs.Tree.{sign, literal_leaves, symbol}
 use Rattle.koika_syntax.specs.declared.symbol.Symbol.TheVariants as symbols
 use Rattle.koika_syntax.proofs.Leaves.{struct_constant, array_constant}
 use Rattle.koika_parse.specs.Parts.{IsConstantField}
@@ -7,40 +7,129 @@ use Rattle.koika_parse.proofs.Reading.{in_turn, as_leaves}
 use Rattle.koika_parse.proofs.Lists.{joined_start, joined_again}
 use Rattle.koika_parse.proofs.Parts.{is_constant_array, is_constant_field, is_constant_member, is_constant_struct}
 use Rattle.koika_parse.proofs.Calls.{leaves_constant_field, leaves_constant_member}
+use Rattle.std.proofs.Common.{refl, sym, ◌∙◌}
+use Rattle.koika_parse.proofs.Expected.{start, starts, step, finish, next_part, last_part, fails, fails_before, fails_last, tail, before_one, narrow_part, kind_of_next, free_last}
+use Rattle.koika_parse.specs.Expected.{Part, Any, NoComma, One, Then, Commas}
+use Rattle.koika_parse.proofs.Commas.{commas_start, commas_apart, commas_at, commas_end}
+use Rattle.koika_parse.specs.Reading.{next}
+use Rattle.koika_parse.specs.Words.{NamedConstantWord, ConstantArrayWord}
+use Rattle.koika_parse.proofs.ConstantWords.{ConstantFieldWord, constant_named, constant_bracket, constant_literal, constant_field_word}
+use Rattle.koika_parse.proofs.Rows.{name_not_brace, brace_not_name}
 use Rattle.koika_parse.proofs.source.Source.+constant.Goals as goal
 
 pub constants-more-init : goal.constants-more-init
-constants-more-init t c = joined_start _ _ _ (sign symbols.Comma) constant_leaves IsConstant c.in_ok-first.first _ c.push.new.self.items c.in_ok-first.ensures.read c.in_ok-first.ensures.is c.new-all.ensures.items c.in_ok-push.ensures.items
+constants-more-init t c = (joined_start _ _ _ (sign symbols.Comma) constant_leaves IsConstant c.in_ok-first.first _ c.push.new.self.items c.in_ok-first.ensures.read c.in_ok-first.ensures.is c.new-all.ensures.items c.in_ok-push.ensures.items, step (commas_start IsConstant constant_leaves) c.in_ok-first.ensures.takes (commas_apart IsConstant constant_leaves Any tt))
 
 pub constants-more-preserved : goal.constants-more-preserved
-constants-more-preserved t c = joined_again c.in_ok-next.next c.push-in-more.new.self.items c.more.invariant c.in_ok-sign.ensures c.in_ok-next.ensures.read c.in_ok-next.ensures.is c.in_ok-push-2.ensures.items
+constants-more-preserved t c = (joined_again c.in_ok-next.next c.push-in-more.new.self.items c.more.invariant.0 c.in_ok-sign.ensures.read c.in_ok-next.ensures.read c.in_ok-next.ensures.is c.in_ok-push-2.ensures.items, step (next_part (commas_at IsConstant constant_leaves (c.is_at_sign.ensures.0 c.more-test.true) c.more.invariant.1) c.in_ok-sign.ensures.takes) c.in_ok-next.ensures.takes (commas_apart IsConstant constant_leaves Any tt))
 
 pub constant_fields-more-init : goal.constant_fields-more-init
-constant_fields-more-init t c = joined_start _ _ _ (sign symbols.Comma) constant_field_leaves IsConstantField c.in_ok-first.first _ c.push.new.self.items c.in_ok-first.ensures.read c.in_ok-first.ensures.is c.new-all.ensures.items c.in_ok-push.ensures.items
+constant_fields-more-init t c = (joined_start _ _ _ (sign symbols.Comma) constant_field_leaves IsConstantField c.in_ok-first.first _ c.push.new.self.items c.in_ok-first.ensures.read c.in_ok-first.ensures.is c.new-all.ensures.items c.in_ok-push.ensures.items, step (commas_start IsConstantField constant_field_leaves) c.in_ok-first.ensures.takes (commas_apart IsConstantField constant_field_leaves Any tt))
 
 pub constant_fields-more-preserved : goal.constant_fields-more-preserved
-constant_fields-more-preserved t c = joined_again c.in_ok-next.next c.push-in-more.new.self.items c.more.invariant c.in_ok-sign.ensures c.in_ok-next.ensures.read c.in_ok-next.ensures.is c.in_ok-push-2.ensures.items
+constant_fields-more-preserved t c = (joined_again c.in_ok-next.next c.push-in-more.new.self.items c.more.invariant.0 c.in_ok-sign.ensures.read c.in_ok-next.ensures.read c.in_ok-next.ensures.is c.in_ok-push-2.ensures.items, step (next_part (commas_at IsConstantField constant_field_leaves (c.is_at_sign.ensures.0 c.more-test.true) c.more.invariant.1) c.in_ok-sign.ensures.takes) c.in_ok-next.ensures.takes (commas_apart IsConstantField constant_field_leaves Any tt))
 
 pub constant_array-returns-clause-read : goal.constant_array-returns-clause-read
-constant_array-returns-clause-read t c = as_leaves _ (array_constant c.in_ok-place.place c.in_ok-elements.elements) (in_turn (in_turn c.in_ok-place.ensures c.in_ok-elements.ensures.read) c.in_ok-sign.ensures)
+constant_array-returns-clause-read t c = as_leaves _ (array_constant c.in_ok-place.place c.in_ok-elements.elements) (in_turn (in_turn c.in_ok-place.ensures.read c.in_ok-elements.ensures.read) c.in_ok-sign.ensures.read)
 
 pub constant_array-returns-clause-is : goal.constant_array-returns-clause-is
 constant_array-returns-clause-is t c = is_constant_array c.in_ok-place.place c.in_ok-elements.elements c.in_ok-elements.ensures.is c.in_ok-elements.ensures.some
 
 pub constant_field-returns-clause-read : goal.constant_field-returns-clause-read
-constant_field-returns-clause-read t c = as_leaves _ (leaves_constant_field c.in_ok-name.name c.in_ok-value.value) (in_turn (in_turn c.in_ok-name.ensures.read c.in_ok-sign.ensures) c.in_ok-value.ensures.read)
+constant_field-returns-clause-read t c = as_leaves _ (leaves_constant_field c.in_ok-name.name c.in_ok-value.value) (in_turn (in_turn c.in_ok-name.ensures.read c.in_ok-sign.ensures.read) c.in_ok-value.ensures.read)
 
 pub constant_field-returns-clause-is : goal.constant_field-returns-clause-is
 constant_field-returns-clause-is t c = is_constant_field c.in_ok-name.name c.in_ok-value.value c.in_ok-name.ensures.is c.in_ok-value.ensures.is
 
 pub named_constant-returns-then-is_at_name-clause-read : goal.named_constant-returns-then-is_at_name-clause-read
-named_constant-returns-then-is_at_name-clause-read t c = as_leaves _ (leaves_constant_member c.in_ok-of.of c.in_ok-member.member) (in_turn (in_turn c.in_ok-of.ensures.read c.in_ok-sign.ensures) c.in_ok-member.ensures.read)
+named_constant-returns-then-is_at_name-clause-read t c = as_leaves _ (leaves_constant_member c.in_ok-of.of c.in_ok-member.member) (in_turn (in_turn c.in_ok-of.ensures.read c.in_ok-sign.ensures.read) c.in_ok-member.ensures.read)
 
 pub named_constant-returns-then-is_at_name-clause-is : goal.named_constant-returns-then-is_at_name-clause-is
 named_constant-returns-then-is_at_name-clause-is t c = is_constant_member c.in_ok-of.of c.in_ok-member.member (c.in_ok-of.ensures.is, c.in_ok-member.ensures.is)
 
 pub named_constant-returns-clause-read : goal.named_constant-returns-clause-read
-named_constant-returns-clause-read t c = as_leaves _ (struct_constant c.in_ok-of.of c.in_ok-fields.fields c.in_ok-close.close) (in_turn (in_turn (in_turn (in_turn c.in_ok-of.ensures.read c.in_ok-sign.ensures) c.in_ok-sign-2.ensures) c.in_ok-fields.ensures.read) c.in_ok-close.ensures)
+named_constant-returns-clause-read t c = as_leaves _ (struct_constant c.in_ok-of.of c.in_ok-fields.fields c.in_ok-close.close) (in_turn (in_turn (in_turn (in_turn c.in_ok-of.ensures.read c.in_ok-sign.ensures.read) c.in_ok-sign-2.ensures.read) c.in_ok-fields.ensures.read) c.in_ok-close.ensures.read)
 
 pub named_constant-returns-clause-is : goal.named_constant-returns-clause-is
 named_constant-returns-clause-is t c = is_constant_struct c.in_ok-of.of c.in_ok-fields.fields c.in_ok-close.close c.in_ok-fields.ensures.is (c.in_ok-of.ensures.is, c.in_ok-fields.ensures.some)
+
+pub constant-returns-then-is_at_name-clause-takes : goal.constant-returns-then-is_at_name-clause-takes
+constant-returns-then-is_at_name-clause-takes t c = tail c.named_constant.result (narrow_part NamedConstantWord (λ x is v at. constant_named x is v (next c.args.self.now c.args.cursor.now) at (kind_of_next c.args.self.now c.args.cursor.now ∙ c.is_at_name.ensures.0 c.if-is_at_name.true))) c.named_constant.ensures.takes (free_last Any)
+
+pub constant-returns-then-is_at_sign-clause-takes : goal.constant-returns-then-is_at_sign-clause-takes
+constant-returns-then-is_at_sign-clause-takes t c = tail c.constant_array.result (narrow_part ConstantArrayWord (λ x is v at. constant_bracket x is v (next c.args.self.now c.args.cursor.now) at (c.is_at_sign.ensures.0 c.if-is_at_sign.true))) c.constant_array.ensures.takes (free_last Any)
+
+pub constant-returns-clause-takes : goal.constant-returns-clause-takes
+constant-returns-clause-takes t c = tail c.literal_constant.result (narrow_part (Part IsLiteral literal_leaves) (λ x is v at. constant_literal x is v (next c.args.self.now c.args.cursor.now) at (λ e. cc (c.if-is_at_name.false, c.is_at_name.ensures.1 (sym (kind_of_next c.args.self.now c.args.cursor.now) ∙ e))) (λ e. cc (c.if-is_at_sign.false, c.is_at_sign.ensures.1 e)))) c.literal_constant.ensures.takes (free_last Any)
+
+pub constant_field-returns-in_err-name-clause-takes : goal.constant_field-returns-in_err-name-clause-takes
+constant_field-returns-in_err-name-clause-takes t c = fails c.from_residual.result c.from_residual.ensures (starts ConstantFieldWord constant_field_word) c.in_err-name.ensures.takes
+
+pub constant_field-returns-in_err-sign-clause-takes : goal.constant_field-returns-in_err-sign-clause-takes
+constant_field-returns-in_err-sign-clause-takes t c = fails c.from_residual-in_err-sign.result c.from_residual-in_err-sign.ensures (next_part (starts ConstantFieldWord constant_field_word) c.in_ok-name.ensures.takes) c.in_err-sign.ensures.takes
+
+pub constant_field-returns-in_err-value-clause-takes : goal.constant_field-returns-in_err-value-clause-takes
+constant_field-returns-in_err-value-clause-takes t c = fails_last c.from_residual-in_err-value.result c.from_residual-in_err-value.ensures (next_part (next_part (starts ConstantFieldWord constant_field_word) c.in_ok-name.ensures.takes) c.in_ok-sign.ensures.takes) c.in_err-value.ensures.takes
+
+pub constant_field-returns-clause-takes : goal.constant_field-returns-clause-takes
+constant_field-returns-clause-takes t c = last_part _ (next_part (next_part (starts ConstantFieldWord constant_field_word) c.in_ok-name.ensures.takes) c.in_ok-sign.ensures.takes) c.in_ok-value.ensures.takes
+
+pub constant_array-returns-in_err-place-clause-takes : goal.constant_array-returns-in_err-place-clause-takes
+constant_array-returns-in_err-place-clause-takes t c = fails c.from_residual.result c.from_residual.ensures (start (λ u word. word)) c.in_err-place.ensures.takes
+
+pub constant_array-returns-in_err-elements-clause-takes : goal.constant_array-returns-in_err-elements-clause-takes
+constant_array-returns-in_err-elements-clause-takes t c = fails_before c.from_residual-in_err-elements.result c.from_residual-in_err-elements.ensures (next_part (start (λ u word. word)) c.in_ok-place.ensures.takes) c.in_err-elements.ensures.takes (before_one Any (NoComma Any) (symbol symbols.RightBracket) (tt, refl))
+
+pub constant_array-returns-in_err-sign-clause-takes : goal.constant_array-returns-in_err-sign-clause-takes
+constant_array-returns-in_err-sign-clause-takes t c = fails_last c.from_residual-in_err-sign.result c.from_residual-in_err-sign.ensures (step (next_part (start (λ u word. word)) c.in_ok-place.ensures.takes) c.in_ok-elements.ensures.takes (before_one Any (NoComma Any) (symbol symbols.RightBracket) (tt, refl))) c.in_err-sign.ensures.takes
+
+pub constant_array-returns-clause-takes : goal.constant_array-returns-clause-takes
+constant_array-returns-clause-takes t c = last_part _ (step (next_part (start (λ u word. word)) c.in_ok-place.ensures.takes) c.in_ok-elements.ensures.takes (before_one Any (NoComma Any) (symbol symbols.RightBracket) (tt, refl))) c.in_ok-sign.ensures.takes
+
+pub constant_fields-returns-in_err-first-clause-takes : goal.constant_fields-returns-in_err-first-clause-takes
+constant_fields-returns-in_err-first-clause-takes t c = fails_before c.from_residual.result c.from_residual.ensures (commas_start IsConstantField constant_field_leaves) c.in_err-first.ensures.takes (commas_apart IsConstantField constant_field_leaves Any tt)
+
+pub constant_fields-returns-in_err-sign-clause-takes : goal.constant_fields-returns-in_err-sign-clause-takes
+constant_fields-returns-in_err-sign-clause-takes t c = fails c.from_residual-in_err-sign.result c.from_residual-in_err-sign.ensures (commas_at IsConstantField constant_field_leaves (c.is_at_sign.ensures.0 c.more-test.true) c.more.invariant.1) c.in_err-sign.ensures.takes
+
+pub constant_fields-returns-in_err-next-clause-takes : goal.constant_fields-returns-in_err-next-clause-takes
+constant_fields-returns-in_err-next-clause-takes t c = fails_before c.from_residual-in_err-next.result c.from_residual-in_err-next.ensures (next_part (commas_at IsConstantField constant_field_leaves (c.is_at_sign.ensures.0 c.more-test.true) c.more.invariant.1) c.in_ok-sign.ensures.takes) c.in_err-next.ensures.takes (commas_apart IsConstantField constant_field_leaves Any tt)
+
+pub constant_fields-returns-clause-takes : goal.constant_fields-returns-clause-takes
+constant_fields-returns-clause-takes t c = finish _ (commas_end IsConstantField constant_field_leaves (λ e. cc (c.more-test.false, c.is_at_sign.ensures.1 e)) c.more.invariant.1)
+
+pub constants-returns-in_err-first-clause-takes : goal.constants-returns-in_err-first-clause-takes
+constants-returns-in_err-first-clause-takes t c = fails_before c.from_residual.result c.from_residual.ensures (commas_start IsConstant constant_leaves) c.in_err-first.ensures.takes (commas_apart IsConstant constant_leaves Any tt)
+
+pub constants-returns-in_err-sign-clause-takes : goal.constants-returns-in_err-sign-clause-takes
+constants-returns-in_err-sign-clause-takes t c = fails c.from_residual-in_err-sign.result c.from_residual-in_err-sign.ensures (commas_at IsConstant constant_leaves (c.is_at_sign.ensures.0 c.more-test.true) c.more.invariant.1) c.in_err-sign.ensures.takes
+
+pub constants-returns-in_err-next-clause-takes : goal.constants-returns-in_err-next-clause-takes
+constants-returns-in_err-next-clause-takes t c = fails_before c.from_residual-in_err-next.result c.from_residual-in_err-next.ensures (next_part (commas_at IsConstant constant_leaves (c.is_at_sign.ensures.0 c.more-test.true) c.more.invariant.1) c.in_ok-sign.ensures.takes) c.in_err-next.ensures.takes (commas_apart IsConstant constant_leaves Any tt)
+
+pub constants-returns-clause-takes : goal.constants-returns-clause-takes
+constants-returns-clause-takes t c = finish _ (commas_end IsConstant constant_leaves (λ e. cc (c.more-test.false, c.is_at_sign.ensures.1 e)) c.more.invariant.1)
+
+pub named_constant-returns-in_err-of-clause-takes : goal.named_constant-returns-in_err-of-clause-takes
+named_constant-returns-in_err-of-clause-takes t c = fails c.from_residual.result c.from_residual.ensures (start (λ u word. word)) c.in_err-of.ensures.takes
+
+pub named_constant-returns-in_err-sign-clause-takes : goal.named_constant-returns-in_err-sign-clause-takes
+named_constant-returns-in_err-sign-clause-takes t c = fails c.from_residual-in_err-sign.result c.from_residual-in_err-sign.ensures (next_part (start (λ u word. word)) c.in_ok-of.ensures.takes) c.in_err-sign.ensures.takes
+
+pub named_constant-returns-in_err-member-clause-takes : goal.named_constant-returns-in_err-member-clause-takes
+named_constant-returns-in_err-member-clause-takes t c = fails_last c.from_residual-in_err-member.result c.from_residual-in_err-member.ensures (name_not_brace (Then (Commas IsConstantField constant_field_leaves) (One (symbol symbols.RightBrace))) (c.is_at_name.ensures.0 c.if-is_at_name.true) (next_part (next_part (start (λ u word. word)) c.in_ok-of.ensures.takes) c.in_ok-sign.ensures.takes)) c.in_err-member.ensures.takes
+
+pub named_constant-returns-then-is_at_name-clause-takes : goal.named_constant-returns-then-is_at_name-clause-takes
+named_constant-returns-then-is_at_name-clause-takes t c = last_part _ (name_not_brace (Then (Commas IsConstantField constant_field_leaves) (One (symbol symbols.RightBrace))) (c.is_at_name.ensures.0 c.if-is_at_name.true) (next_part (next_part (start (λ u word. word)) c.in_ok-of.ensures.takes) c.in_ok-sign.ensures.takes)) c.in_ok-member.ensures.takes
+
+pub named_constant-returns-in_err-sign-2-clause-takes : goal.named_constant-returns-in_err-sign-2-clause-takes
+named_constant-returns-in_err-sign-2-clause-takes t c = fails c.from_residual-in_err-sign-2.result c.from_residual-in_err-sign-2.ensures (brace_not_name (Then (Commas IsConstantField constant_field_leaves) (One (symbol symbols.RightBrace))) (λ e. cc (c.if-is_at_name.false, c.is_at_name.ensures.1 e)) (next_part (next_part (start (λ u word. word)) c.in_ok-of.ensures.takes) c.in_ok-sign.ensures.takes)) c.in_err-sign-2.ensures.takes
+
+pub named_constant-returns-in_err-fields-clause-takes : goal.named_constant-returns-in_err-fields-clause-takes
+named_constant-returns-in_err-fields-clause-takes t c = fails_before c.from_residual-in_err-fields.result c.from_residual-in_err-fields.ensures (next_part (brace_not_name (Then (Commas IsConstantField constant_field_leaves) (One (symbol symbols.RightBrace))) (λ e. cc (c.if-is_at_name.false, c.is_at_name.ensures.1 e)) (next_part (next_part (start (λ u word. word)) c.in_ok-of.ensures.takes) c.in_ok-sign.ensures.takes)) c.in_ok-sign-2.ensures.takes) c.in_err-fields.ensures.takes (before_one Any (NoComma Any) (symbol symbols.RightBrace) (tt, refl))
+
+pub named_constant-returns-in_err-close-clause-takes : goal.named_constant-returns-in_err-close-clause-takes
+named_constant-returns-in_err-close-clause-takes t c = fails_last c.from_residual-in_err-close.result c.from_residual-in_err-close.ensures (step (next_part (brace_not_name (Then (Commas IsConstantField constant_field_leaves) (One (symbol symbols.RightBrace))) (λ e. cc (c.if-is_at_name.false, c.is_at_name.ensures.1 e)) (next_part (next_part (start (λ u word. word)) c.in_ok-of.ensures.takes) c.in_ok-sign.ensures.takes)) c.in_ok-sign-2.ensures.takes) c.in_ok-fields.ensures.takes (before_one Any (NoComma Any) (symbol symbols.RightBrace) (tt, refl))) c.in_err-close.ensures.takes
+
+pub named_constant-returns-clause-takes : goal.named_constant-returns-clause-takes
+named_constant-returns-clause-takes t c = last_part _ (step (next_part (brace_not_name (Then (Commas IsConstantField constant_field_leaves) (One (symbol symbols.RightBrace))) (λ e. cc (c.if-is_at_name.false, c.is_at_name.ensures.1 e)) (next_part (next_part (start (λ u word. word)) c.in_ok-of.ensures.takes) c.in_ok-sign.ensures.takes)) c.in_ok-sign-2.ensures.takes) c.in_ok-fields.ensures.takes (before_one Any (NoComma Any) (symbol symbols.RightBrace) (tt, refl))) c.in_ok-close.ensures.takes

@@ -4,7 +4,7 @@ use Rattle.koika_parse.proofs.Calls.{leaves_abort}
 use Rattle.koika_parse.proofs.source.Source.abort.Goals as goal
 
 pub returns-clause-read : goal.returns-clause-read
-returns-clause-read c = as_leaves _ (leaves_abort c.in_ok-place.place) (c.in_ok-place.ensures)
+returns-clause-read c = as_leaves _ (leaves_abort c.in_ok-place.place) (c.in_ok-place.ensures.read)
 
 pub returns-clause-is : goal.returns-clause-is
 returns-clause-is c = is_abort c.in_ok-place.place tt

@@ -1,0 +1,323 @@
+-- From step to step, what is left of a word of a part.
+use Rattle.std.proofs.Common.{◌≡◌, ℕ, ◌+◌, ◌<◌, ◌≤◌, Option, None, Some, Result, Ok, Err, IsErr, IsErrAnd, List, [], ◌∷◌, ◌++◌, drop, length, get_or, append_assoc, refl, sym, ap, ◌∙◌, subst, arith}
+use Rattle.std.proofs.lemmas.List.{drop-drop}
+use Rattle.std.proofs.lemmas.Option.{slice_get-get_or, slice_get_past}
+use Rattle.kw_bits.specs.BitVector.{BitVector}
+use Rattle.std.specs.Bool.{⊤}
+use Rattle.std.specs.Option.{option_map}
+use Rattle.koika_syntax.specs.Tree.{Leaf, Terminal, name, number, literal, keyword, symbol, placed, terminal_of}
+use Rattle.koika_syntax.specs.declared.keyword.Keyword.{Keyword}
+use Rattle.koika_syntax.specs.declared.symbol.Symbol.{Symbol}
+use Rattle.koika_syntax.specs.declared.token.Token.{Token}
+use Rattle.koika_syntax.specs.declared.token.TokenKind.{TokenKind}
+use Rattle.koika_syntax.specs.declared.token.TokenKind.TheVariants as kinds
+use Rattle.koika_parse.specs.Brackets.{AreFewOpen, open_behind}
+use Rattle.koika_parse.specs.Expected.{Part, One, Then, first, Any, Behind, AgreesUpTo, Leaves, Ends, Takes}
+use Rattle.koika_parse.specs.Reading.{Reads, next, kind_at, token_at}
+use Rattle.koika_parse.specs.declared.cursor.Cursor.{Cursor}
+use Rattle.koika_parse.specs.declared.source.Source.{Source}
+use Rattle.koika_parse.specs.declared.stop.Stop.{Stop}
+use Rattle.koika_parse.specs.declared.stop.Stop.TheVariants as stops
+
+-- no token
+abbrev pub Empty : List Leaf → Type 0
+Empty u = u ≡ []
+
+-- of a word of the language such a word is left
+pub record Goes (source : Source) (old new : Cursor) (Word : List Leaf → Type 0) (Follow : Option Terminal → Type 0) (Rest : List Leaf → Type 0) : Type 0 where
+  pub forward : old.at ≤ new.at
+  pub left : (w u v : List Leaf) → AgreesUpTo source new w → Word u → Behind Follow v → drop old.at w ≡ u ++ v → (rest : List Leaf) × Rest rest × Leaves old new w (u ++ v) (rest ++ v)
+
+before : (source : Source) (mid new : Cursor) (w : List Leaf) → mid.at ≤ new.at → AgreesUpTo source new w → AgreesUpTo source mid w
+before source mid new w low agrees = λ cursor at. agrees cursor (omega (arith, low, at))
+
+-- what may stand behind a part, where another part and then such a token follows
+abbrev pub Apart : (Q : List Leaf → Type 0) (Follow Mid : Option Terminal → Type 0) → Type 0
+Apart Q Follow Mid = (q v : List Leaf) → Q q → Behind Follow v → Behind Mid (q ++ v)
+
+pub free : (Q : List Leaf → Type 0) (Follow : Option Terminal → Type 0) → Apart Q Follow Any
+free Q Follow q v is behind = tt
+
+-- before anything is read
+pub start : {source : Source} {cursor : Cursor} {Word : List Leaf → Type 0} {Follow : Option Terminal → Type 0} {Rest : List Leaf → Type 0} → ((u : List Leaf) → Word u → Rest u) → Goes source cursor cursor Word Follow Rest
+start into = record { forward = omega arith; left = λ w u v agrees word behind here. (u, into u word, record { rest = here; few = λ few. few }) }
+
+-- a part more
+pub step : {X : Type 0} {source : Source} {old mid new : Cursor} {Word : List Leaf → Type 0} {Follow Mid : Option Terminal → Type 0} {P Q : List Leaf → Type 0} {x : X} →
+    Goes source old mid Word Follow (Then P Q) → Takes source mid new P Mid (Ok x) → Apart Q Follow Mid → Goes source old new Word Follow Q
+step {X} {source} {old} {mid} {new} {Word} {Follow} {Mid} {P} {Q} {x} goes takes apart = record {
+  forward = omega (arith, goes.forward, takes.forward);
+  left = λ w u v agrees word behind here.
+      let found = goes.left w u v (before source mid new w takes.forward agrees) word behind here in
+      let a = found.1.0 in
+      let q = found.1.1 in
+      let same : found.0 ++ v ≡ a ++ (q ++ v) = ap (λ r. r ++ v) found.1.4 ∙ append_assoc a q v in
+      let end : Leaves mid new w (a ++ (q ++ v)) (q ++ v) = takes.takes w a (q ++ v) agrees found.1.2 (apart q v found.1.3 behind) (found.2.rest ∙ same) in
+      (q, found.1.3, record { rest = end.rest; few = λ few. end.few (subst (AreFewOpen mid.depth) same (found.2.few few)) });
+}
+
+ends_as : (X Y : Type 0) (stop : Stop) (few few' left left' : Type 0) → (few' → few) → Ends {X = X} (Err stop) few left → Ends {X = Y} (Err stop) few' left'
+ends_as X Y stops.Unexpected few few' left left' fewer ends = ends
+ends_as X Y stops.TooDeep few few' left left' fewer ends = λ f. ends (fewer f)
+ends_as X Y stops.NoMemory few few' left left' fewer ends = tt
+
+-- a part that isn't read
+pub stopped : {X Y : Type 0} {source : Source} {old mid new : Cursor} {Word : List Leaf → Type 0} {Follow Mid : Option Terminal → Type 0} {P Q : List Leaf → Type 0} {stop : Stop} →
+    Goes source old mid Word Follow (Then P Q) → Takes {X = X} source mid new P Mid (Err stop) → Apart Q Follow Mid → Takes {X = Y} source old new Word Follow (Err stop)
+stopped {X} {Y} {source} {old} {mid} {new} {Word} {Follow} {Mid} {P} {Q} {stop} goes takes apart = record {
+  forward = omega (arith, goes.forward, takes.forward);
+  takes = λ w u v agrees word behind here.
+      let found = goes.left w u v (before source mid new w takes.forward agrees) word behind here in
+      let a = found.1.0 in
+      let q = found.1.1 in
+      let same : found.0 ++ v ≡ a ++ (q ++ v) = ap (λ r. r ++ v) found.1.4 ∙ append_assoc a q v in
+      ends_as X Y stop _ _ _ _ (λ few. subst (AreFewOpen mid.depth) same (found.2.few few)) (takes.takes w a (q ++ v) agrees found.1.2 (apart q v found.1.3 behind) (found.2.rest ∙ same));
+}
+
+-- all of it has been read
+pub finish : {X : Type 0} {source : Source} {old new : Cursor} {Word : List Leaf → Type 0} {Follow : Option Terminal → Type 0} (x : X) → Goes source old new Word Follow Empty → Takes source old new Word Follow (Ok x)
+finish {X} {source} {old} {new} x goes = record {
+  forward = goes.forward;
+  takes = λ w u v agrees word behind here.
+      let found = goes.left w u v agrees word behind here in
+      subst (λ r. Leaves old new w (u ++ v) (r ++ v)) found.1 found.2;
+}
+
+-- the next token tells what is left
+pub narrow : {source : Source} {old new : Cursor} {Word : List Leaf → Type 0} {Follow : Option Terminal → Type 0} {Rest Narrower : List Leaf → Type 0} →
+    Goes source old new Word Follow Rest → ((r v : List Leaf) → Rest r → Behind Follow v → first (r ++ v) ≡ next source new → Narrower r) → Goes source old new Word Follow Narrower
+narrow {source} {old} {new} goes tells = record {
+  forward = goes.forward;
+  left = λ w u v agrees word behind here.
+      let found = goes.left w u v agrees word behind here in
+      (found.0, tells found.0 v found.1 behind (sym (ap first found.2.rest) ∙ agrees new (omega arith)), found.2);
+}
+
+-- the next token cannot be
+pub refused : {Y : Type 0} {source : Source} {old new : Cursor} {Word : List Leaf → Type 0} {Follow : Option Terminal → Type 0} {Rest : List Leaf → Type 0} →
+    Goes source old new Word Follow Rest → ((r v : List Leaf) → Rest r → Behind Follow v → first (r ++ v) ≡ next source new → ⊥) → Takes {X = Y} source old new Word Follow (Err stops.Unexpected)
+refused {Y} {source} {old} {new} goes tells = record {
+  forward = goes.forward;
+  takes = λ w u v agrees word behind here.
+      let found = goes.left w u v agrees word behind here in
+      tells found.0 v found.1 behind (sym (ap first found.2.rest) ∙ agrees new (omega arith));
+}
+
+-- the last part, and what is made of it
+pub last : {X Y : Type 0} {source : Source} {old mid new : Cursor} {Word : List Leaf → Type 0} {Follow Mid : Option Terminal → Type 0} {P : List Leaf → Type 0} {x : X} (y : Y) →
+    Goes source old mid Word Follow P → Takes source mid new P Mid (Ok x) → ((v : List Leaf) → Behind Follow v → Behind Mid v) → Takes source old new Word Follow (Ok y)
+last {X} {Y} {source} {old} {mid} {new} {Word} {Follow} {Mid} {P} {x} y goes takes apart = record {
+  forward = omega (arith, goes.forward, takes.forward);
+  takes = λ w u v agrees word behind here.
+      let found = goes.left w u v (before source mid new w takes.forward agrees) word behind here in
+      let end : Leaves mid new w (found.0 ++ v) v = takes.takes w found.0 v agrees found.1 (apart v behind) found.2.rest in
+      record { rest = end.rest; few = λ few. end.few (found.2.few few) };
+}
+
+pub last_stopped : {X Y : Type 0} {source : Source} {old mid new : Cursor} {Word : List Leaf → Type 0} {Follow Mid : Option Terminal → Type 0} {P : List Leaf → Type 0} {stop : Stop} →
+    Goes source old mid Word Follow P → Takes {X = X} source mid new P Mid (Err stop) → ((v : List Leaf) → Behind Follow v → Behind Mid v) → Takes {X = Y} source old new Word Follow (Err stop)
+last_stopped {X} {Y} {source} {old} {mid} {new} {Word} {Follow} {Mid} {P} {stop} goes takes apart = record {
+  forward = omega (arith, goes.forward, takes.forward);
+  takes = λ w u v agrees word behind here.
+      let found = goes.left w u v (before source mid new w takes.forward agrees) word behind here in
+      ends_as X Y stop _ _ _ _ (λ few. found.2.few few) (takes.takes w found.0 v agrees found.1 (apart v behind) found.2.rest);
+}
+
+-- what any token may follow
+pub free_last : (Follow : Option Terminal → Type 0) (v : List Leaf) → Behind Follow v → Behind Any v
+free_last Follow v behind = tt
+
+-- a stop that is handed on
+pub handed : {Y : Type 0} {source : Source} {old new : Cursor} {Word : List Leaf → Type 0} {Follow : Option Terminal → Type 0} {stop : Stop} (result : Result Y Stop) →
+    IsErr result × IsErrAnd result (λ found. found ≡ stop) → Takes {X = Y} source old new Word Follow (Err stop) → Takes source old new Word Follow result
+handed {Y} {source} {old} {new} {Word} {Follow} (Ok y) is takes = absurd is.1
+handed {Y} {source} {old} {new} {Word} {Follow} (Err found) is takes = subst (λ s. Takes {X = Y} source old new Word Follow (Err s)) (sym is.1) takes
+
+or_this : {A : Type 0} → A → Option A → A
+or_this d None = d
+or_this d (Some x) = x
+
+pub same_of_some : {A : Type 0} {x y : A} → Some x ≡ Some y → x ≡ y
+unfolding or_this
+same_of_some {A} {x} {y} e = ap (or_this x) e
+
+IsOne : {A : Type 0} → Option A → Type 0
+IsOne None = ⊥
+IsOne (Some x) = ⊤
+
+pub never_none : {A : Type 0} {x : A} → None ≡ Some x → ⊥
+unfolding IsOne
+never_none e = subst IsOne (sym e) tt
+
+-- words of one token each, where the next token is known
+pub single : {X : Type 0} {source : Source} {cursor : Cursor} {Is : X → Type 0} {leaves : X → List Leaf} {terminal : Terminal} (leaf : X → Leaf) →
+    ((x : X) → leaves x ≡ leaf x ∷ []) → next source cursor ≡ Some terminal → Goes source cursor cursor (Part Is leaves) Any (One terminal)
+single {X} {source} {cursor} {Is} {leaves} {terminal} leaf each at =
+    narrow (start {source = source} {cursor = cursor} {Word = Part Is leaves} {Follow = Any} {Rest = Part Is leaves} (λ u word. word)) (λ r v word behind next_is. (leaf word.0, same_of_some (sym (ap (λ l. first (l ++ v)) (word.2 ∙ each word.0)) ∙ next_is ∙ at), word.2 ∙ each word.0))
+
+-- a token has a kind
+abbrev pub kind_of : Terminal → TokenKind
+kind_of (name bytes) = kinds.Name
+kind_of (number n) = kinds.Number n
+kind_of (literal bits) = kinds.Literal bits
+kind_of (keyword k) = kinds.Keyword k
+kind_of (symbol s) = kinds.Symbol s
+
+pub kind_of_next : (source : Source) (cursor : Cursor) → option_map kind_of (next source cursor) ≡ kind_at source cursor
+kind_of_next source cursor = of_token (token_at source cursor)
+  where
+    of_kind : (kind : TokenKind) (start end : ℕ) → kind_of (terminal_of source.text.now (record { kind = kind; start = start; end = end })) ≡ kind
+    of_kind kinds.Name start end = refl
+    of_kind (kinds.Number n) start end = refl
+    of_kind (kinds.Literal bits) start end = refl
+    of_kind (kinds.Keyword k) start end = refl
+    of_kind (kinds.Symbol s) start end = refl
+
+    of_token : (token : Option Token) → option_map kind_of (option_map (terminal_of source.text.now) token) ≡ option_map (λ t. t.kind) token
+    of_token None = refl
+    of_token (Some token) = ap Some (of_kind token.kind token.start token.end)
+
+-- where there is a kind, there is a token
+pub some_next : (source : Source) (cursor : Cursor) {kind : TokenKind} → kind_at source cursor ≡ Some kind → (terminal : Terminal) × (next source cursor ≡ Some terminal)
+some_next source cursor {kind} at = of_next (next source cursor) (kind_of_next source cursor ∙ at)
+  where
+    of_next : (o : Option Terminal) → option_map kind_of o ≡ Some kind → (terminal : Terminal) × (o ≡ Some terminal)
+    of_next None e = absurd (never_none e)
+    of_next (Some terminal) e = (terminal, refl)
+
+-- the kind of the next token
+pub kind_is : (source : Source) (cursor : Cursor) {terminal : Terminal} → Some terminal ≡ next source cursor → kind_at source cursor ≡ Some (kind_of terminal)
+kind_is source cursor at = sym (kind_of_next source cursor) ∙ ap (option_map kind_of) (sym at)
+
+pub kind_is_of : (source : Source) (cursor : Cursor) {terminal : Terminal} → next source cursor ≡ Some terminal → Some (kind_of terminal) ≡ kind_at source cursor
+kind_is_of source cursor at = sym (ap (option_map kind_of) at) ∙ kind_of_next source cursor
+
+-- one token is read
+pub one_takes : {X : Type 0} {source : Source} {old new : Cursor} {terminal : Terminal} {place : ℕ} (x : X) → new.at ≡ old.at + 1 → Reads source old new (placed terminal place) → Takes source old new (One terminal) Any (Ok x)
+one_takes {X} {source} {old} {new} {terminal} {place} x forward reads = record {
+  forward = omega (arith, forward);
+  takes = λ w u v agrees one behind here.
+      let front : drop old.at w ≡ one.0 ∷ v = here ∙ ap (λ l. l ++ v) one.2 in
+      let depth : open_behind old.depth one.0.terminal ≡ new.depth = ap (open_behind old.depth) one.1 ∙ sym reads.depth in
+      record {
+        rest = ap (λ n. drop n w) forward ∙ sym (drop-drop 1 old.at w) ∙ ap (drop 1) front;
+        few = λ few. subst (λ d. AreFewOpen d v) depth (subst (AreFewOpen old.depth) (ap (λ l. l ++ v) one.2) few).1;
+      };
+}
+
+-- the same, where any token may follow the part
+pub next_part : {X : Type 0} {source : Source} {old mid new : Cursor} {Word : List Leaf → Type 0} {Follow : Option Terminal → Type 0} {P Q : List Leaf → Type 0} {x : X} →
+    Goes source old mid Word Follow (Then P Q) → Takes source mid new P Any (Ok x) → Goes source old new Word Follow Q
+next_part {Follow = Follow} {Q = Q} goes takes = step goes takes (free Q Follow)
+
+pub last_part : {X Y : Type 0} {source : Source} {old mid new : Cursor} {Word : List Leaf → Type 0} {Follow : Option Terminal → Type 0} {P : List Leaf → Type 0} {x : X} (y : Y) →
+    Goes source old mid Word Follow P → Takes source mid new P Any (Ok x) → Takes source old new Word Follow (Ok y)
+last_part {Follow = Follow} y goes takes = last y goes takes (free_last Follow)
+
+-- a part isn't read, and that is handed on
+pub fails_before : {X Y : Type 0} {source : Source} {old mid new : Cursor} {Word : List Leaf → Type 0} {Follow Mid : Option Terminal → Type 0} {P Q : List Leaf → Type 0} {stop : Stop} (result : Result Y Stop) →
+    IsErr result × IsErrAnd result (λ found. found ≡ stop) → Goes source old mid Word Follow (Then P Q) → Takes {X = X} source mid new P Mid (Err stop) → Apart Q Follow Mid → Takes source old new Word Follow result
+fails_before result is goes takes apart = handed result is (stopped goes takes apart)
+
+pub fails : {X Y : Type 0} {source : Source} {old mid new : Cursor} {Word : List Leaf → Type 0} {Follow : Option Terminal → Type 0} {P Q : List Leaf → Type 0} {stop : Stop} (result : Result Y Stop) →
+    IsErr result × IsErrAnd result (λ found. found ≡ stop) → Goes source old mid Word Follow (Then P Q) → Takes {X = X} source mid new P Any (Err stop) → Takes source old new Word Follow result
+fails {Follow = Follow} {Q = Q} result is goes takes = fails_before result is goes takes (free Q Follow)
+
+pub fails_last : {X Y : Type 0} {source : Source} {old mid new : Cursor} {Word : List Leaf → Type 0} {Follow : Option Terminal → Type 0} {P : List Leaf → Type 0} {stop : Stop} (result : Result Y Stop) →
+    IsErr result × IsErrAnd result (λ found. found ≡ stop) → Goes source old mid Word Follow P → Takes {X = X} source mid new P Any (Err stop) → Takes source old new Word Follow result
+fails_last {Follow = Follow} result is goes takes = handed result is (last_stopped goes takes (free_last Follow))
+
+-- the words of a part, as their own parts
+pub starts : {X : Type 0} {source : Source} {cursor : Cursor} {Is : X → Type 0} {leaves : X → List Leaf} {Follow : Option Terminal → Type 0} (Rest : List Leaf → Type 0) →
+    ((x : X) → Is x → Rest (leaves x)) → Goes source cursor cursor (Part Is leaves) Follow Rest
+starts Rest parts = start (λ u word. subst Rest (sym word.2) (parts word.0 word.1))
+
+-- what is left is read by another reader
+pub tail : {X : Type 0} {source : Source} {old mid new : Cursor} {Word : List Leaf → Type 0} {Follow Mid : Option Terminal → Type 0} {P : List Leaf → Type 0} (result : Result X Stop) →
+    Goes source old mid Word Follow P → Takes source mid new P Mid result → ((v : List Leaf) → Behind Follow v → Behind Mid v) → Takes source old new Word Follow result
+tail (Ok x) goes takes apart = last x goes takes apart
+tail (Err stop) goes takes apart = last_stopped goes takes apart
+
+literal_of_kind : (terminal : Terminal) (bits : BitVector) → kind_of terminal ≡ kinds.Literal bits → terminal ≡ literal bits
+literal_of_kind (name bytes) bits e = cc e
+literal_of_kind (number n) bits e = cc e
+literal_of_kind (literal found) bits e = cc e
+literal_of_kind (keyword k) bits e = cc e
+literal_of_kind (symbol s) bits e = cc e
+
+-- the next token is a literal
+pub literal_next : (source : Source) (cursor : Cursor) (d : Token) (bits : BitVector) → cursor.at < length source.tokens.now → (get_or source.tokens.now cursor.at d).kind ≡ kinds.Literal bits → next source cursor ≡ Some (literal bits)
+literal_next source cursor d bits within kind =
+    let found = some_next source cursor (ap (option_map (λ t. t.kind)) (slice_get-get_or source.tokens.now cursor.at d within)) in
+    let is : kind_of found.0 ≡ kinds.Literal bits = same_of_some (kind_is_of source cursor found.1 ∙ ap (option_map (λ t. t.kind)) (slice_get-get_or source.tokens.now cursor.at d within)) ∙ kind in
+    found.1 ∙ ap Some (literal_of_kind found.0 bits is)
+
+-- a part that begins with a known token
+pub before_one : (Follow Mid : Option Terminal → Type 0) (terminal : Terminal) → Mid (Some terminal) → Apart (One terminal) Follow Mid
+before_one Follow Mid terminal mid q v one behind = subst (λ l. Behind Mid (l ++ v)) (sym one.2) (subst (λ t. Mid (Some t)) (sym one.1) mid)
+
+-- what is left, said otherwise
+pub goes_as : {source : Source} {old new : Cursor} {Word : List Leaf → Type 0} {Follow : Option Terminal → Type 0} {Rest Other : List Leaf → Type 0} →
+    Goes source old new Word Follow Rest → ((r : List Leaf) → Rest r → Other r) → Goes source old new Word Follow Other
+goes_as goes other = narrow goes (λ r v word behind next_is. other r word)
+
+pub name_of : (t : Terminal) → kind_of t ≡ kinds.Name → (bytes : List ℕ) × (t ≡ name bytes)
+name_of (name bytes) e = (bytes, refl)
+name_of (number n) e = cc e
+name_of (literal bits) e = cc e
+name_of (keyword k) e = cc e
+name_of (symbol s) e = cc e
+
+pub literal_kind : (source : Source) (cursor : Cursor) (d : Token) {kind : TokenKind} → cursor.at < length source.tokens.now → kind_at source cursor ≡ Some kind → (get_or source.tokens.now cursor.at d).kind ≡ kind
+literal_kind source cursor d within at = same_of_some (sym (ap (option_map (λ t. t.kind)) (slice_get-get_or source.tokens.now cursor.at d within)) ∙ at)
+
+pub no_kind : (source : Source) (cursor : Cursor) {kind : TokenKind} → length source.tokens.now ≤ cursor.at → kind_at source cursor ≡ Some kind → ⊥
+no_kind source cursor past at = never_none (sym (ap (option_map (λ t. t.kind)) (slice_get_past source.tokens.now cursor.at past)) ∙ at)
+
+-- a part by the next token
+pub narrow_part : {X : Type 0} {source : Source} {cursor : Cursor} {Is : X → Type 0} {leaves : X → List Leaf} {Follow : Option Terminal → Type 0} (P : List Leaf → Type 0) →
+    ((x : X) → Is x → (v : List Leaf) → first (leaves x ++ v) ≡ next source cursor → P (leaves x)) → Goes source cursor cursor (Part Is leaves) Follow P
+narrow_part P tells = narrow (start (λ u word. word)) (λ r v word behind next_is. subst P (sym word.2) (tells word.0 word.1 v (ap (λ l. first (l ++ v)) (sym word.2) ∙ next_is)))
+
+-- tokens of two kinds differ
+terminal_tag : Terminal → ℕ
+terminal_tag (name bytes) = 0
+terminal_tag (number n) = 1
+terminal_tag (literal bits) = 2
+terminal_tag (keyword k) = 3
+terminal_tag (symbol s) = 4
+
+kind_tag : TokenKind → ℕ
+kind_tag kinds.Name = 0
+kind_tag (kinds.Number n) = 1
+kind_tag (kinds.Literal bits) = 2
+kind_tag (kinds.Keyword k) = 3
+kind_tag (kinds.Symbol s) = 4
+
+pub name_or_word : {bytes : List ℕ} {k : Keyword} → Some (name bytes) ≡ Some (keyword k) → ⊥
+unfolding terminal_tag
+name_or_word e = omega (arith, ap terminal_tag (same_of_some e))
+
+pub sign_or_word : {s : Symbol} {k : Keyword} → Some (symbol s) ≡ Some (keyword k) → ⊥
+unfolding terminal_tag
+sign_or_word e = omega (arith, ap terminal_tag (same_of_some e))
+
+pub literal_or_sign : {bits : BitVector} {s : Symbol} → Some (literal bits) ≡ Some (symbol s) → ⊥
+unfolding terminal_tag
+literal_or_sign e = omega (arith, ap terminal_tag (same_of_some e))
+
+pub name_or_sign : {bytes : List ℕ} {s : Symbol} → Some (name bytes) ≡ Some (symbol s) → ⊥
+unfolding terminal_tag
+name_or_sign e = omega (arith, ap terminal_tag (same_of_some e))
+
+pub word_or_name : {k : Keyword} → Some (kinds.Keyword k) ≡ Some kinds.Name → ⊥
+unfolding kind_tag
+word_or_name e = omega (arith, ap kind_tag (same_of_some e))
+
+pub sign_or_name : {s : Symbol} → Some (kinds.Symbol s) ≡ Some kinds.Name → ⊥
+unfolding kind_tag
+sign_or_name e = omega (arith, ap kind_tag (same_of_some e))
+
+pub literal_or_name : {bits : BitVector} → Some (kinds.Literal bits) ≡ Some kinds.Name → ⊥
+unfolding kind_tag
+literal_or_name e = omega (arith, ap kind_tag (same_of_some e))

@@ -1,0 +1,55 @@
+-- Parts one after another, part by part.
+use Rattle.std.proofs.Common.{◌≡◌, Option, Some, List, [], ◌∷◌, ◌++◌, refl, sym, ap, ◌∙◌, subst, inl, inr}
+use Rattle.std.specs.Prelude.{◌⊎◌}
+use Rattle.std.specs.List.{All, flat_map}
+use Rattle.std.proofs.lemmas.List.Elements.{All-head, All-tail}
+use Rattle.koika_syntax.specs.Grammar.{IsName}
+use Rattle.koika_syntax.specs.declared.symbol.Symbol.TheVariants as symbols
+use Rattle.koika_syntax.specs.declared.token.TokenKind.TheVariants as kinds
+use Rattle.koika_syntax.specs.Tree.{Leaf, Terminal, symbol, name_leaves}
+use Rattle.koika_parse.specs.Expected.{One, Part, Then, first, Behind}
+use Rattle.koika_parse.specs.Reading.{kind_at, next}
+use Rattle.koika_parse.specs.declared.cursor.Cursor.{Cursor}
+use Rattle.koika_parse.specs.declared.source.Source.{Source}
+use Rattle.koika_parse.proofs.Expected.{Empty, Goes, narrow, kind_is, sign_or_name}
+
+abbrev pub Rows : {X : Type 0} → (X → Type 0) → (X → List Leaf) → List Leaf → Type 0
+Rows {X} Is leaves = Part (λ xs. All Is xs) (λ xs. flat_map leaves xs)
+
+-- none, or the first and the others
+pub rows_cases : {X : Type 0} (Is : X → Type 0) (leaves : X → List Leaf) (r : List Leaf) → Rows Is leaves r → Empty r ⊎ Then (Part Is leaves) (Rows Is leaves) r
+rows_cases {X} Is leaves r rows = subst (λ r. Empty r ⊎ Then (Part Is leaves) (Rows Is leaves) r) (sym rows.2) (of rows.0 rows.1)
+  where
+    of : (xs : List X) → All Is xs → Empty (flat_map leaves xs) ⊎ Then (Part Is leaves) (Rows Is leaves) (flat_map leaves xs)
+    of [] all = inl refl
+    of (x ∷ xs) all = inr (leaves x, flat_map leaves xs, (x, All-head Is x xs all, refl), (xs, All-tail Is x xs all, refl), refl)
+
+-- one of two, by the next token
+pub the_first : {source : Source} {old new : Cursor} {Word : List Leaf → Type 0} {Follow : Option Terminal → Type 0} {A B : List Leaf → Type 0} →
+    Goes source old new Word Follow (λ u. A u ⊎ B u) → ((r v : List Leaf) → B r → Behind Follow v → first (r ++ v) ≡ next source new → ⊥) → Goes source old new Word Follow A
+the_first {source} {old} {new} {Word} {Follow} {A} {B} goes never = narrow goes (λ r v word behind at. of r v word behind at)
+  where
+    of : (r v : List Leaf) → A r ⊎ B r → Behind Follow v → first (r ++ v) ≡ next source new → A r
+    of r v (inl a) behind at = a
+    of r v (inr b) behind at = absurd (never r v b behind at)
+
+pub the_second : {source : Source} {old new : Cursor} {Word : List Leaf → Type 0} {Follow : Option Terminal → Type 0} {A B : List Leaf → Type 0} →
+    Goes source old new Word Follow (λ u. A u ⊎ B u) → ((r v : List Leaf) → A r → Behind Follow v → first (r ++ v) ≡ next source new → ⊥) → Goes source old new Word Follow B
+the_second {source} {old} {new} {Word} {Follow} {A} {B} goes never = narrow goes (λ r v word behind at. of r v word behind at)
+  where
+    of : (r v : List Leaf) → A r ⊎ B r → Behind Follow v → first (r ++ v) ≡ next source new → B r
+    of r v (inl a) behind at = absurd (never r v a behind at)
+    of r v (inr b) behind at = b
+
+-- a part that begins with a known token
+pub first_one : (terminal : Terminal) (Q : List Leaf → Type 0) (u v : List Leaf) → Then (One terminal) Q u → first (u ++ v) ≡ Some terminal
+first_one terminal Q u v both = ap (λ l. first (l ++ v)) (both.4 ∙ ap (λ l. l ++ both.1) both.2.2) ∙ ap Some both.2.1
+
+-- a name or what begins with a brace, by the next token
+pub name_not_brace : {source : Source} {old new : Cursor} {Word : List Leaf → Type 0} {Follow : Option Terminal → Type 0} (Q : List Leaf → Type 0) → kind_at source new ≡ Some kinds.Name →
+    Goes source old new Word Follow (λ u. Part IsName name_leaves u ⊎ Then (One (symbol symbols.LeftBrace)) Q u) → Goes source old new Word Follow (Part IsName name_leaves)
+name_not_brace {source} {old} {new} Q named goes = the_first goes (λ r v brace behind at. sign_or_name (sym (kind_is source new (sym (first_one (symbol symbols.LeftBrace) Q r v brace) ∙ at)) ∙ named))
+
+pub brace_not_name : {source : Source} {old new : Cursor} {Word : List Leaf → Type 0} {Follow : Option Terminal → Type 0} (Q : List Leaf → Type 0) → (kind_at source new ≡ Some kinds.Name → ⊥) →
+    Goes source old new Word Follow (λ u. Part IsName name_leaves u ⊎ Then (One (symbol symbols.LeftBrace)) Q u) → Goes source old new Word Follow (Then (One (symbol symbols.LeftBrace)) Q)
+brace_not_name {source} {old} {new} Q other goes = the_second goes (λ r v named behind at. other (kind_is source new (sym (ap (λ l. first (l ++ v)) named.2) ∙ at)))

@@ -1,0 +1,68 @@
+-- The words of each part, as the words of its own parts in turn.
+use Rattle.std.proofs.Common.{◌≡◌, ℕ, Option, Some, List, ◌++◌, append_assoc, refl, ap, sym, ◌∙◌}
+use Rattle.koika_syntax.specs.Grammar.{IsName, IsNumber, IsLiteral, IsWidth, IsType, IsMember, IsField, type_leaves, member_leaves, field_leaves}
+use Rattle.koika_syntax.specs.Tree.{Leaf, Terminal, keyword, symbol, name_leaves, number_leaves, literal_leaves, width_leaves, word, sign, placed}
+use Rattle.koika_syntax.specs.declared.keyword.Keyword.{Keyword}
+use Rattle.koika_syntax.specs.declared.keyword.Keyword.TheVariants as keywords
+use Rattle.koika_syntax.specs.declared.symbol.Symbol.{Symbol}
+use Rattle.koika_syntax.specs.declared.symbol.Symbol.TheVariants as symbols
+use Rattle.koika_syntax.specs.declared.tree.Field.{Field}
+use Rattle.koika_syntax.specs.declared.tree.Member.{Member}
+use Rattle.koika_syntax.specs.declared.tree.TypeExpression.{TypeExpression, Bits, Named, Array'}
+use Rattle.koika_syntax.specs.declared.tree.Width.{Width}
+use Rattle.koika_parse.specs.Expected.{One, Part, Then, first}
+use Rattle.koika_parse.specs.Words.{ArrayTypeWord}
+use Rattle.std.specs.Option.{option_map}
+use Rattle.koika_syntax.specs.declared.token.TokenKind.TheVariants as kinds
+use Rattle.koika_parse.proofs.Expected.{kind_of, name_or_word, sign_or_word, word_or_name, sign_or_name}
+
+pub sign_word : (s : Symbol) → One (symbol s) (sign s)
+sign_word s = (_, refl, refl)
+
+pub word_word : (k : Keyword) → One (keyword k) (word k)
+word_word k = (_, refl, refl)
+
+pub assoc2 : (e a b : List Leaf) → e ++ a ++ b ≡ e ++ (a ++ b)
+assoc2 e a b = append_assoc e a b
+
+pub assoc3 : (e a b c : List Leaf) → e ++ a ++ b ++ c ≡ e ++ (a ++ b ++ c)
+assoc3 e a b c = ap (λ t. t ++ c) (assoc2 e a b) ∙ append_assoc e (a ++ b) c
+
+pub placed_word : (terminal : Terminal) (place : ℕ) → One terminal (placed terminal place)
+placed_word terminal place = (_, refl, refl)
+
+-- `bits` and a number
+abbrev pub WidthWord : List Leaf → Type 0
+WidthWord = Then (One (keyword keywords.Bits)) (Part IsNumber number_leaves)
+
+pub width_word : (width : Width) → IsWidth width → WidthWord (width_leaves width)
+width_word width is = (placed (keyword keywords.Bits) width.place, number_leaves width.number, placed_word (keyword keywords.Bits) width.place, (width.number, is, refl), refl)
+
+-- a member, and a field
+abbrev pub MemberWord : List Leaf → Type 0
+MemberWord = Then (Part IsName name_leaves) (Then (One (symbol symbols.Equals)) (Part IsLiteral literal_leaves))
+
+pub member_word : (member : Member) → IsMember member → MemberWord (member_leaves member)
+member_word member is = (name_leaves member.name, sign symbols.Equals ++ literal_leaves member.value, (member.name, is.0, refl), (sign symbols.Equals, literal_leaves member.value, sign_word symbols.Equals, (member.value, is.1, refl), refl), refl)
+
+abbrev pub FieldWord : List Leaf → Type 0
+FieldWord = Then (Part IsName name_leaves) (Then (One (symbol symbols.Colon)) (Part IsType type_leaves))
+
+pub field_word : (field : Field) → IsField field → FieldWord (field_leaves field)
+field_word field is = (name_leaves field.name, sign symbols.Colon ++ type_leaves field.of, (field.name, is.0, refl), (sign symbols.Colon, type_leaves field.of, sign_word symbols.Colon, (field.of, is.1, refl), refl), refl)
+
+-- a type by its next token
+pub type_bits : (of : TypeExpression) → IsType of → (v : List Leaf) (next : Option Terminal) → first (type_leaves of ++ v) ≡ next → next ≡ Some (keyword keywords.Bits) → Part IsWidth width_leaves (type_leaves of)
+type_bits (Bits width) is v next at bits = (width, is, refl)
+type_bits (Named n) is v next at bits = absurd (name_or_word (at ∙ bits))
+type_bits (Array' place _ element size) is v next at bits = absurd (sign_or_word (at ∙ bits))
+
+pub type_name : (of : TypeExpression) → IsType of → (v : List Leaf) (next : Option Terminal) → first (type_leaves of ++ v) ≡ next → option_map kind_of next ≡ Some kinds.Name → Part IsName name_leaves (type_leaves of)
+type_name (Bits width) is v next at named = absurd (word_or_name (ap (option_map kind_of) at ∙ named))
+type_name (Named n) is v next at named = (n, is, refl)
+type_name (Array' place _ element size) is v next at named = absurd (sign_or_name (ap (option_map kind_of) at ∙ named))
+
+pub type_array : (of : TypeExpression) → IsType of → (v : List Leaf) (next : Option Terminal) → first (type_leaves of ++ v) ≡ next → (next ≡ Some (keyword keywords.Bits) → ⊥) → (option_map kind_of next ≡ Some kinds.Name → ⊥) → ArrayTypeWord (type_leaves of)
+type_array (Bits width) is v next at bits named = absurd (bits (sym at))
+type_array (Named n) is v next at bits named = absurd (named (sym (ap (option_map kind_of) at)))
+type_array (Array' place _ element size) is v next at bits named = (placed (symbol symbols.LeftBracket) place, type_leaves element ++ sign symbols.Semicolon ++ number_leaves size ++ sign symbols.RightBracket, placed_word (symbol symbols.LeftBracket) place, (type_leaves element, sign symbols.Semicolon ++ number_leaves size ++ sign symbols.RightBracket, (element, is.0, refl), (sign symbols.Semicolon, number_leaves size ++ sign symbols.RightBracket, sign_word symbols.Semicolon, (number_leaves size, sign symbols.RightBracket, (size, is.1, refl), sign_word symbols.RightBracket, refl), refl), assoc3 (type_leaves element) (sign symbols.Semicolon) (number_leaves size) (sign symbols.RightBracket)), refl)
