@@ -1,5 +1,5 @@
 -- The lines that a loop picks out: their ids, the first of them, and the values of ids.
-use Rattle.std.proofs.Common.{◌≡◌, ◌≢◌, ◌==◌, ⊎_elim, ℕ, suc, arith, ◌+◌, ◌<◌, ◌≤◌, nat_eq, Bool, true, false, ◌&&◌, cond, filter, List, [], ◌∷◌, ◌++◌, length, get_or, take, drop, map, Option, None, Some, refl, sym, ap, ◌∙◌, append-nil}
+use Rattle.std.proofs.Common.{◌≡◌, ◌≢◌, ◌==◌, ⊎_elim, ℕ, suc, arith, ◌+◌, ◌<◌, nat_eq, Bool, true, false, ◌&&◌, cond, filter, List, [], ◌∷◌, ◌++◌, length, get_or, take, drop, map, Option, Some, refl, sym, ap, ◌∙◌, append-nil}
 use Rattle.std.proofs.Math.Path.{fun_ext}
 use Rattle.std.proofs.lemmas.List.{drop-drop, drop_more, map-append, take_more}
 use Rattle.std.proofs.lemmas.List.Elements.{filter-append}

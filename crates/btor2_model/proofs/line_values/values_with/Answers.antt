@@ -1,8 +1,7 @@
-use Rattle.std.proofs.Common.{◌≡◌, ℕ, List, ap, sym, ◌∙◌, subst, IfSome}
-use Rattle.kw_bits.specs.BitVector.{BitVector}
+use Rattle.std.proofs.Common.{◌≡◌, ℕ, List, sym, ◌∙◌, subst, IfSome}
 use Rattle.btor2_model.specs.Known.{AreNarrow, scope_of}
 use Rattle.btor2_model.specs.Rules.{rule_of}
-use Rattle.btor2_model.specs.Run.{Values, value_by}
+use Rattle.btor2_model.specs.Run.{value_by}
 use Rattle.btor2_model.specs.SlowRun.{step_with}
 use Rattle.btor2_model.proofs.Evaluation.{accepted-next, Evaluated-end, Evaluated-next, Evaluated-start}
 use Rattle.btor2_model.proofs.Walk.{narrow-none}

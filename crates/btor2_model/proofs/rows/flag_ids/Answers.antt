@@ -1,4 +1,4 @@
-use Rattle.std.proofs.Common.{ℕ, List, true, false, ◌++◌, ◌∷◌, [], ap, sym, ◌∙◌, append-nil}
+use Rattle.std.proofs.Common.{ℕ, true, false, ◌++◌, ◌∷◌, [], ap, sym, ◌∙◌, append-nil}
 use Rattle.btor2_model.specs.Scope.{id_at}
 use Rattle.btor2_model.specs.SlowRun.{is_flag}
 use Rattle.btor2_model.proofs.Selections.{flags-next}

@@ -1,4 +1,4 @@
-use Rattle.std.proofs.Common.{◌≡◌, ◌==◌, ℕ, ◌+◌, Bool, List, [], ◌∷◌, ◌++◌, map, ap, subst, sym, ◌∙◌}
+use Rattle.std.proofs.Common.{◌≡◌, ◌==◌, ℕ, ◌+◌, List, [], ◌∷◌, ◌++◌, map, ap, subst, sym, ◌∙◌}
 use Rattle.kw_bits.specs.BitVector.{BitVector}
 use Rattle.btor2_text.specs.declared.line.Line.{Line}
 use Rattle.one_rule.specs.Run.{InputsByCycle}

@@ -1,5 +1,5 @@
 use Rattle.std.proofs.Common.{subst}
-use Rattle.btor2_model.specs.Run.{Step, Values, first_values, no_bits, values_at}
+use Rattle.btor2_model.specs.Run.{Values, first_values, no_bits, values_at}
 use Rattle.btor2_model.specs.SlowRun.{Knows}
 use Rattle.btor2_model.proofs.Evaluation.{Knows-more, Knows-nothing}
 use Rattle.btor2_model.proofs.Selections.{no-inputs}
