@@ -1,4 +1,4 @@
-use Rattle.std.proofs.Common.{◌≡◌, ℕ, ◌+◌, ◌-◌, List, length, take, drop, sym, ap, ap₂, ◌∙◌, arith}
+use Rattle.std.proofs.Common.{ℕ, ◌+◌, ◌-◌, List, length, take, drop, sym, ap, ap₂, ◌∙◌}
 use Rattle.one_rule.specs.declared.rows.Row.{Row}
 use Rattle.koika_assert.specs.Violations.{Watched}
 use Rattle.koika_assert.proofs.FirstsJoined.{behind_first, watched_joined}
