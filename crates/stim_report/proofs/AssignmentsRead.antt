@@ -1,14 +1,14 @@
 -- What a word gives, by what was found of it.
-use Rattle.std.proofs.Common.{◌≡◌, ℕ, zero, suc, ◌<◌, ◌^◌, Bool, true, false, List, [], ◌∷◌, length, map, get_or, Option, Some, None, Result, Ok, Err, refl, sym, ap, ap₂, ◌∙◌, subst, arith}
-use Rattle.std.specs.Prelude.{All, bytes_eq, if◌then◌else◌, nat_lt, option_and_then, option_map, slice_get, slice_index}
+use Rattle.std.proofs.Common.{◌≡◌, ℕ, zero, suc, ◌<◌, ◌^◌, Bool, true, false, List, [], ◌∷◌, length, get_or, Option, Some, None, Result, Ok, Err, refl, sym, ap, ◌∙◌, subst, arith}
+use Rattle.std.specs.Prelude.{All, bytes_eq, if◌then◌else◌, nat_lt, option_and_then, option_map, slice_index}
 use Rattle.std.proofs.lemmas.Bool.{ltb-true}
 use Rattle.std.proofs.lemmas.List.{length-map}
 use Rattle.std.proofs.lemmas.List.Quantifiers.{position-Some}
 use Rattle.std.proofs.lemmas.Option.{slice_get-map, slice_get-get_or}
-use Rattle.kw_bits.specs.BitVector.{BitVector, IsBitVector}
+use Rattle.kw_bits.specs.BitVector.{BitVector}
 use Rattle.kw_bits.specs.Laws.{HasWidth}
 use Rattle.one_rule.specs.Stimulus.{Assignment, Assigns}
-use Rattle.stim_report.specs.Assignments.{assigned, assigned_by, assigned_to, assignment_of, input_of, is_assigned, name_and_number, name_and_value, number_of}
+use Rattle.stim_report.specs.Assignments.{assigned, assigned_by, assigned_to, assignment_of, input_of, is_assigned, name_and_value, number_of}
 use Rattle.typed_core.specs.Valid.{IsWidth}
 use Rattle.stim_report.specs.Shapes.{widths_of}
 use Rattle.stim_report.specs.declared.shape.NameWidth.{NameWidth}

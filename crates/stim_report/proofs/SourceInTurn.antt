@@ -1,14 +1,14 @@
 -- A source, piece by piece up to its mark.
-use Rattle.std.proofs.Common.{◌≡◌, ℕ, zero, suc, ◌+◌, ◌-◌, ◌<◌, ◌≤◌, Bool, true, false, not, cond, List, [], ◌∷◌, ◌++◌, length, length-append, take, drop, get_or, Option, Some, None, refl, sym, ap, ap₂, ◌∙◌, append_assoc, append-nil, subst, arith, inl, inr}
+use Rattle.std.proofs.Common.{◌≡◌, ℕ, zero, suc, ◌+◌, ◌-◌, ◌<◌, ◌≤◌, Bool, true, false, not, cond, List, [], ◌∷◌, ◌++◌, length, length-append, take, drop, get_or, Option, Some, None, refl, sym, ap, ap₂, ◌∙◌, append_assoc, arith, inl, inr}
 use Rattle.std.specs.Prelude.{nat_lt, ◌⊎◌}
 use Rattle.std.specs.List.{flat_map, join_with_byte, position_or_len, slice_split}
 use Rattle.std.proofs.lemmas.Bool.{cases_lt, le-ltb, lt-ltb}
-use Rattle.std.proofs.lemmas.List.{drop_more, length-drop, take_all}
+use Rattle.std.proofs.lemmas.List.{drop_more, length-drop}
 use Rattle.std.proofs.lemmas.List.Splits.{join_with_byte-slice_split, length-slice_split}
 use Rattle.std.proofs.lemmas.List.Sums.{count_by-le-length, prefix_len_is}
 use Rattle.std.proofs.Math.Seq.{take-append_seam}
 use Rattle.kw_base.specs.Place.{capped}
-use Rattle.stim_report.specs.Cuts.{Parts, cut_at, ends_line, is_mark, parts_of, with_line_feed}
+use Rattle.stim_report.specs.Cuts.{cut_at, ends_line, is_mark, parts_of, with_line_feed}
 use Rattle.stim_report.specs.Runs.{pieces_of, text_behind}
 use denote.Ref.{Bor}
 

@@ -1,5 +1,5 @@
 -- What the calls that read a stimulus answer.
-use Rattle.std.specs.Prelude.{◌≡◌, ℕ, List, [], ◌∷◌, ◌++◌, Result, Ok, Err}
+use Rattle.std.specs.Prelude.{◌≡◌, List, [], ◌∷◌, ◌++◌, Result, Ok, Err}
 use Rattle.kw_base.specs.declared.fault.Fault.{Fault}
 use Rattle.kw_base.specs.declared.fault.Refusal.{Refusal}
 use Rattle.kw_base.specs.declared.fault.Refusal.TheVariants as refusals

@@ -1,7 +1,7 @@
 -- What the calls that cut bytes answer: runs of bytes of a class, and what stands behind a line.
 use Rattle.std.specs.Prelude.{◌≡◌, ℕ, Bool, false, not, List, [], ◌∷◌, Option, None, Some}
 use Rattle.std.specs.List.{slice_split}
-use Rattle.stim_report.specs.Cuts.{ends_line, is_blank, lines_of}
+use Rattle.stim_report.specs.Cuts.{ends_line, is_blank}
 use Rattle.stim_report.specs.declared.cuts.Class.{Class}
 use Rattle.stim_report.specs.declared.cuts.Class.TheVariants.{Blank, Word, Line}
 use denote.Ref.{Bor}

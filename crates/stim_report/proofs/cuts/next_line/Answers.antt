@@ -1,4 +1,4 @@
-use Rattle.std.proofs.Common.{ℕ, List, [], ◌∷◌, ◌++◌, append-nil, sym, ap, ap₂, ◌∙◌}
+use Rattle.std.proofs.Common.{ℕ, List, ◌∷◌, ◌++◌, append-nil, sym, ap, ap₂, ◌∙◌}
 use Rattle.stim_report.specs.Cuts.{lines_of}
 use Rattle.stim_report.specs.Runs.{bytes_behind, pieces_of}
 use Rattle.stim_report.proofs.CutsInTurn.{lines_of-last, lines_of-more, lines_of-nil, none_by_test, some_by_test}

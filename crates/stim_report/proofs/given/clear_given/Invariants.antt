@@ -1,4 +1,4 @@
-use Rattle.std.proofs.Common.{◌≡◌, ◌<◌, ℕ, Bool, true, false, length, drop, get_or}
+use Rattle.std.proofs.Common.{◌≡◌, ◌<◌, ℕ, true, false, length, drop, get_or}
 use Rattle.std.specs.List.{AllByRecursion}
 use Rattle.one_rule.specs.Stimulus.{Assignment}
 use Rattle.stim_report.specs.Assignments.{is_assigned}

@@ -1,4 +1,4 @@
-use Rattle.std.proofs.Common.{◌≡◌, ℕ, ◌+◌, ◌-◌, ◌/◌, ◌^◌, ◌<◌, List, sym, ap, ap₂, ◌∙◌, subst, arith}
+use Rattle.std.proofs.Common.{◌≡◌, ℕ, ◌+◌, ◌-◌, ◌/◌, ◌^◌, List, sym, ap₂, ◌∙◌, subst, arith}
 use Rattle.stim_report.specs.Pages.{Gains, HasRoom}
 use Rattle.stim_report.specs.Report.{hex, hex_digits}
 use Rattle.stim_report.proofs.Hex.{low_digits, split_digits}
