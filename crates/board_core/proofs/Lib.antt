@@ -1,0 +1,6 @@
+pub mod Positions
+pub mod Paths
+pub mod Plain
+pub mod Flags
+pub mod Slots
+pub mod Sound

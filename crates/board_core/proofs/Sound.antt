@@ -1,0 +1,371 @@
+-- What a core does to what it keeps is what the board step does to the board that it stands for.
+use Rattle.std.proofs.Common.{◌≡◌, ℕ, ◌+◌, ◌-◌, ◌<◌, ◌≤◌, Bool, true, false, List, [], ◌∷◌, ◌++◌, length, replicate, Option, Some, None, All, refl, sym, ap, ap₂, ◌∙◌, subst, eqb-true, arith}
+use Rattle.std.specs.Prelude.{◌==◌, ◌&&◌, ◌||◌, nat_le, nat_lt, slice_index_or, slice_set, if◌then◌else◌}
+use Rattle.std.proofs.lemmas.Bool.{le-ltb, leb-false, ltb-false}
+use Rattle.std.proofs.lemmas.List.{get_or_default, get_or-replicate, length-replicate, length-set, length_push}
+use Rattle.std.proofs.lemmas.List.Elements.{All-pop, All-set}
+use Rattle.kw_bits.specs.BitVector.{BitVector}
+use Rattle.typed_core.specs.declared.design.Next.TheVariants as next
+use Rattle.typed_core.specs.declared.design.Node.{Node}
+use Rattle.one_rule.specs.Cycle.{begin, is_among, system_of}
+use Rattle.one_rule.specs.Run.{last_registers, opening}
+use Rattle.one_rule.specs.Stimulus.{inputs_of}
+use Rattle.one_rule.specs.Walk.{Walk, start}
+use Rattle.one_rule.specs.declared.cycle.State.{State}
+use Rattle.one_rule.specs.declared.rows.Row.{Row}
+use Rattle.one_rule.proofs.WalkLaws.{IsAhead}
+use Rattle.attempt_log.specs.Attempt.{Attempted, IsAttempt}
+use Rattle.attempt_log.specs.Verdict.{verdict}
+use Rattle.attempt_log.specs.declared.cause.Verdict.{Verdict}
+use Rattle.attempt_log.specs.declared.cause.Verdict.TheVariants.{Commit, Skip, Stale}
+use Rattle.attempt_log.specs.declared.entry.Settled.TheVariants as settled
+use Rattle.attempt_log.specs.declared.entry.Submitted.TheVariants as submitted
+use Rattle.board_core.specs.Board.{Board, Opening, Step, closed, committed, head, is_ahead, is_late, judged, node_at, opened, replaced, settle, settle_at, settle_with, stands, stays, stored, submit}
+use Rattle.board_core.specs.Kept.{Does, HasSlots, IsAt, IsBlank, IsNear, IsShaped, IsSound, Kept, StandsFor, comes_ahead, comes_late, opened_on, slots_from}
+use Rattle.board_core.specs.Position.{IsFor, IsOpening, IsPlain, StandsRight}
+use Rattle.board_core.specs.declared.blank.Blank.{Blank}
+use Rattle.board_core.specs.declared.event.BoardAnswer.{BoardAnswer}
+use Rattle.board_core.specs.declared.event.BoardAnswer.TheVariants as answer
+use Rattle.board_core.specs.declared.kept.TheConstants.{MAX_CYCLES, MAX_WINDOW}
+use Rattle.board_core.specs.declared.place.Place.{Place}
+use Rattle.board_core.proofs.Flags.{flag_at}
+use Rattle.board_core.proofs.Paths.{next_is_new}
+use Rattle.board_core.proofs.Plain.{held_slot, opened_plain, scheduled, settle_plain, stored_plain}
+use Rattle.board_core.proofs.Positions.{at_node, position_inside}
+use Rattle.board_core.proofs.Slots.{All-moved_up, from_on, moved_up, none_stands, slots_next, slots_set}
+
+-- ---- submitting
+
+module _ (o : Opening) (board : Board) (a : Attempted) where
+  pub submit_late : is_late board a ≡ true → submit o board a ≡ stays board (answer.Submit (submitted.Late a))
+  submit_late late = ap (λ (b : Bool). if b then stays board (answer.Submit (submitted.Late a)) else if is_ahead o board a then stays board (answer.Submit (submitted.Ahead a)) else if stands board a.cycle a.rule then stays board (answer.Submit (submitted.Twice a)) else record { answer = answer.Submit submitted.Stored; board = stored board a }) late
+
+  in_time : is_late board a ≡ false → submit o board a ≡ (if is_ahead o board a then stays board (answer.Submit (submitted.Ahead a)) else if stands board a.cycle a.rule then stays board (answer.Submit (submitted.Twice a)) else record { answer = answer.Submit submitted.Stored; board = stored board a })
+  in_time late = ap (λ (b : Bool). if b then stays board (answer.Submit (submitted.Late a)) else if is_ahead o board a then stays board (answer.Submit (submitted.Ahead a)) else if stands board a.cycle a.rule then stays board (answer.Submit (submitted.Twice a)) else record { answer = answer.Submit submitted.Stored; board = stored board a }) late
+
+  pub submit_ahead : is_late board a ≡ false → is_ahead o board a ≡ true → submit o board a ≡ stays board (answer.Submit (submitted.Ahead a))
+  submit_ahead late ahead = in_time late ∙ ap (λ (b : Bool). if b then stays board (answer.Submit (submitted.Ahead a)) else if stands board a.cycle a.rule then stays board (answer.Submit (submitted.Twice a)) else record { answer = answer.Submit submitted.Stored; board = stored board a }) ahead
+
+  pub submit_near : is_late board a ≡ false → is_ahead o board a ≡ false → submit o board a ≡ (if stands board a.cycle a.rule then stays board (answer.Submit (submitted.Twice a)) else record { answer = answer.Submit submitted.Stored; board = stored board a })
+  submit_near late ahead = in_time late ∙ ap (λ (b : Bool). if b then stays board (answer.Submit (submitted.Ahead a)) else if stands board a.cycle a.rule then stays board (answer.Submit (submitted.Twice a)) else record { answer = answer.Submit submitted.Stored; board = stored board a }) ahead
+
+-- a step that is this one
+pub steps_so : (kept : Kept) (told : BoardAnswer) (s t : Step) → s ≡ t → told ≡ t.answer → StandsFor kept t.board → (told ≡ s.answer) × StandsFor kept s.board
+steps_so kept told s t e same st = (same ∙ sym (ap (λ (x : Step). x.answer) e), subst (λ (x : Step). StandsFor kept x.board) (sym e) st)
+
+-- the tests are the board's
+module _ (kept : Kept) (board : Board) (st : StandsFor kept board) (a : Attempted) where
+  pub late_same : a.rule < length kept.opening.design.rules → comes_late kept a ≡ is_late board a
+  late_same within =
+      let flag = ap (λ (fs : List Bool). slice_index_or fs a.rule false) st.place.settled ∙ flag_at (length kept.opening.design.rules) board.settled a.rule false within in
+      ap₂ (λ (c : ℕ) (f : Bool). nat_lt a.cycle c || ((a.cycle == c) && f)) st.cycle flag
+
+  pub ahead_same : comes_ahead kept a ≡ is_ahead kept.opening board a
+  ahead_same = ap (λ (c : ℕ). nat_le (c + kept.opening.window) a.cycle || nat_lt kept.opening.to a.cycle) st.cycle
+
+or_none : (x y : Bool) → (x || y) ≡ false → (x ≡ false) × (y ≡ false)
+or_none true y h = absurd cc
+or_none false y h = (refl, h)
+
+-- an attempt that is near is in the window
+pub near_is : (kept : Kept) (a : Attempted) → IsNear kept a → (kept.cycle ≤ a.cycle) × (a.cycle < kept.cycle + kept.opening.window)
+near_is kept a near =
+    let late = or_none (nat_lt a.cycle kept.cycle) ((a.cycle == kept.cycle) && slice_index_or kept.place.settled.items a.rule false) near.in_time in
+    let ahead = or_none (nat_le (kept.cycle + kept.opening.window) a.cycle) (nat_lt kept.opening.to a.cycle) near.in_window in
+    (ltb-false a.cycle kept.cycle late.0, leb-false (kept.cycle + kept.opening.window) a.cycle ahead.0)
+
+-- the slots with one that is written
+abbrev pub written : Kept → ℕ → ℕ → Option Attempted → Kept
+written kept ahead rule held = record kept { slots = slice_set kept.slots ahead (slice_set (slice_index_or kept.slots ahead []) rule held) }
+
+-- there is a slot for each rule
+pub has_slot : (kept : Kept) (blanks : List Blank) (room : ℕ) → IsSound kept blanks room → (ahead rule : ℕ) → ahead < length kept.slots → rule < length kept.opening.design.rules → rule < length (slice_index_or kept.slots ahead [])
+has_slot kept blanks room s ahead rule inside within = omega (arith, s.slots ahead [] inside, within)
+
+pub slots_written : (kept : Kept) (blanks : List Blank) (room : ℕ) → IsSound kept blanks room → (ahead rule : ℕ) (held : Option Attempted) → ahead < length kept.slots → All (HasSlots kept.opening.design) (written kept ahead rule held).slots
+slots_written kept blanks room s ahead rule held inside =
+    All-set (HasSlots kept.opening.design) kept.slots ahead (slice_set (slice_index_or kept.slots ahead []) rule held) (length-set (slice_index_or kept.slots ahead []) rule held ∙ s.slots ahead [] inside) s.slots
+
+module _ (kept : Kept) (blanks : List Blank) (room : ℕ) (s : IsSound kept blanks room) (a : Attempted) (is : IsAttempt a) (for : IsFor kept.opening a) (near : IsNear kept a) where
+  ahead_by : ℕ
+  ahead_by = a.cycle - kept.cycle
+
+  pub store_inside : a.cycle - kept.cycle < length kept.slots
+  store_inside = let n = near_is kept a near in omega (arith, n.0, n.1, s.cycles)
+
+  rule_within : a.rule < length kept.opening.design.rules
+  rule_within = subst (λ (d : _). a.rule < length d.rules) for.design is.rule
+
+  pub store_stands : (board : Board) → StandsFor kept board → StandsFor (written kept (a.cycle - kept.cycle) a.rule (Some a)) (stored board a)
+  store_stands board st =
+      let n = near_is kept a near in
+      let this : kept.cycle + (a.cycle - kept.cycle) ≡ a.cycle = omega (arith, n.0) in
+      record {
+        cycle = st.cycle;
+        place = st.place;
+        rows = st.rows;
+        slots = λ c r.
+            slots_set kept.cycle kept.slots (a.cycle - kept.cycle) a.rule (Some a) store_inside (has_slot kept blanks room s (a.cycle - kept.cycle) a.rule store_inside rule_within) c r
+            ∙ ap₂ (λ (k : ℕ) (old : Option Attempted). if (c == k) && (r == a.rule) then Some a else old) this (st.slots c r);
+      }
+
+  pub store_sound : IsSound (written kept (a.cycle - kept.cycle) a.rule (Some a)) blanks room
+  store_sound =
+      record {
+        opening = s.opening;
+        last = s.last;
+        window = s.window;
+        few_ahead = s.few_ahead;
+        board = stored s.board a;
+        stands = store_stands s.board s.stands;
+        plain = stored_plain kept.opening s.opening s.board a (record { attempt = is; is_for = for }) s.plain;
+        place = s.place;
+        cycles = length-set kept.slots (a.cycle - kept.cycle) (slice_set (slice_index_or kept.slots (a.cycle - kept.cycle) []) a.rule (Some a)) ∙ s.cycles;
+        slots = slots_written kept blanks room s (a.cycle - kept.cycle) a.rule (Some a) store_inside;
+        rooms = s.rooms;
+        left = s.left;
+        room = s.room;
+      }
+
+-- ---- settling
+
+module _ (o : Opening) (board : Board) (less : board.cycle ≤ o.to) where
+  settle_here : settle o board ≡ settle_at o board (head o board)
+  settle_here = ap (λ (b : Bool). if b then stays board (answer.Settle settled.Finished) else settle_at o board (head o board)) (le-ltb o.to board.cycle less)
+
+  pub settle_node : (node : Node) (held : Option Attempted) → head o board ≡ Some node → board.slots board.cycle node.rule ≡ held → settle o board ≡ settle_with board node held
+  settle_node node held here is = settle_here ∙ ap (settle_at o board) here ∙ ap (settle_with board node) is
+
+  pub settle_end : head o board ≡ None → settle o board ≡ record { answer = answer.Settle (settled.CycleClosed board.cycle); board = closed o board }
+  settle_end here = settle_here ∙ ap (settle_at o board) here
+
+-- the rest of a board doesn't depend on the verdict
+judged_slots : (board : Board) (node : Node) (a : Attempted) (v : Verdict) → (judged board node a v).board.slots ≡ replaced board.slots board.cycle node.rule None
+judged_slots board node a Commit = refl
+judged_slots board node a (Skip cause) = refl
+judged_slots board node a (Stale read) = refl
+
+judged_cycle : (board : Board) (node : Node) (a : Attempted) (v : Verdict) → (judged board node a v).board.cycle ≡ board.cycle
+judged_cycle board node a Commit = refl
+judged_cycle board node a (Skip cause) = refl
+judged_cycle board node a (Stale read) = refl
+
+judged_rows : (board : Board) (node : Node) (a : Attempted) (v : Verdict) → (judged board node a v).board.rows ≡ board.rows
+judged_rows board node a Commit = refl
+judged_rows board node a (Skip cause) = refl
+judged_rows board node a (Stale read) = refl
+
+module _ (kept : Kept) (blanks : List Blank) (room : ℕ) (s : IsSound kept blanks room) where
+  -- the first list is the current cycle's
+  pub some_slots : 0 < length kept.slots
+  some_slots = omega (arith, s.window, s.cycles)
+
+  pub first_slot : (board : Board) → StandsFor kept board → (rule : ℕ) → slice_index_or (slice_index_or kept.slots 0 []) rule None ≡ board.slots board.cycle rule
+  first_slot board st rule =
+      let none : kept.cycle - kept.cycle ≡ 0 = omega arith in
+      sym (from_on kept.cycle kept.slots kept.cycle rule (omega arith) ∙ ap (λ (n : ℕ). slice_index_or (slice_index_or kept.slots n []) rule None) none)
+      ∙ st.slots kept.cycle rule ∙ ap (λ (c : ℕ). board.slots c rule) st.cycle
+
+  head_same : (board : Board) → StandsFor kept board → node_at kept.opening.design.nodes kept.place.at ≡ head kept.opening board
+  head_same board st = ap (node_at kept.opening.design.nodes) st.place.at
+
+  module _ (node : Node) (here : node_at kept.opening.design.nodes kept.place.at ≡ Some node) where
+    board_here : head kept.opening s.board ≡ Some node
+    board_here = sym (head_same s.board s.stands) ∙ here
+
+    pub head_rule : node.rule < length kept.opening.design.rules
+    head_rule = let (to, at, found) = at_node kept.opening.design.nodes kept.place.at node here in (s.opening.design.nodes to node found).rule
+
+    pub head_new : slice_index_or kept.place.settled.items node.rule true ≡ false
+    head_new =
+        let o = kept.opening in
+        let position' = ap (λ (w : Walk State). node_at o.design.nodes w.at) (sym s.plain.walk) ∙ board_here in
+        ap (λ (fs : List Bool). slice_index_or fs node.rule true) s.stands.place.settled
+        ∙ flag_at (length o.design.rules) s.board.settled node.rule true head_rule
+        ∙ ap (λ (rules : List ℕ). is_among rules node.rule) s.plain.settled
+        ∙ next_is_new (system_of o.design) (scheduled o s.opening) (inputs_of o.stimulus s.board.cycle) (last_registers o.regs s.board.rows) s.plain.visits node position'
+
+    pub head_right : (a : Attempted) → slice_index_or (slice_index_or kept.slots 0 []) node.rule None ≡ Some a → StandsRight kept.opening s.board.cycle node.rule a
+    head_right a is =
+        held_slot (StandsRight kept.opening s.board.cycle node.rule) (s.board.slots s.board.cycle node.rule) a (sym (first_slot s.board s.stands node.rule) ∙ is) (s.plain.slots s.board.cycle node.rule)
+
+    -- the first list without the rule's attempt
+    abbrev pub taken : Place → Kept
+    taken place = record (written kept 0 node.rule None) { place = place }
+
+    taken_slots : (board : Board) → StandsFor kept board → (c r : ℕ) → slots_from kept.cycle (taken kept.place).slots c r ≡ replaced board.slots board.cycle node.rule None c r
+    taken_slots board st c r =
+        let this : kept.cycle + 0 ≡ board.cycle = omega (arith, st.cycle) in
+        slots_set kept.cycle kept.slots 0 node.rule None some_slots (has_slot kept blanks room s 0 node.rule some_slots head_rule) c r
+        ∙ ap₂ (λ (k : ℕ) (old : Option Attempted). if (c == k) && (r == node.rule) then None else old) this (st.slots c r)
+
+    module _ (place : Place) (shape : IsShaped kept.opening.design place) where
+      pub taken_sound : (board : Board) → StandsFor (taken place) board → IsPlain kept.opening board → IsSound (taken place) blanks room
+      taken_sound board st plain =
+          record {
+            opening = s.opening;
+            last = s.last;
+            window = s.window;
+            few_ahead = s.few_ahead;
+            board = board;
+            stands = st;
+            plain = plain;
+            place = shape;
+            cycles = length-set kept.slots 0 (slice_set (slice_index_or kept.slots 0 []) node.rule None) ∙ s.cycles;
+            slots = slots_written kept blanks room s 0 node.rule None some_slots;
+            rooms = s.rooms;
+            left = s.left;
+            room = s.room;
+          }
+
+    -- nothing waits
+    pub waits : slice_index_or (slice_index_or kept.slots 0 []) node.rule None ≡ None → kept.cycle ≤ kept.opening.to → Does settle kept (answer.Settle (settled.Waiting kept.cycle node.rule)) (taken kept.place)
+    waits none less board st =
+        let slot : board.slots board.cycle node.rule ≡ None = sym (first_slot board st node.rule) ∙ none in
+        steps_so (taken kept.place) (answer.Settle (settled.Waiting kept.cycle node.rule)) (settle kept.opening board) (settle_with board node None)
+        (settle_node kept.opening board (omega (arith, less, st.cycle)) node None (sym (head_same board st) ∙ here) slot)
+        (ap (λ (c : ℕ). answer.Settle (settled.Waiting c node.rule)) st.cycle)
+        (record { cycle = st.cycle; place = st.place; rows = st.rows; slots = λ c r. taken_slots board st c r ∙ unchanged board slot c r })
+      where
+        unchanged : (board : Board) → board.slots board.cycle node.rule ≡ None → (c r : ℕ) → replaced board.slots board.cycle node.rule None c r ≡ board.slots c r
+        unchanged board slot c r = by (c == board.cycle) (r == node.rule) refl refl
+          where
+            by : (b d : Bool) → (c == board.cycle) ≡ b → (r == node.rule) ≡ d → (if b && d then None else board.slots c r) ≡ board.slots c r
+            by true true e f = sym (ap₂ board.slots (eqb-true c board.cycle e) (eqb-true r node.rule f) ∙ slot)
+            by true false e f = refl
+            by false d e f = refl
+
+    -- an attempt is judged
+    pub judges : (a : Attempted) (v : Verdict) (place : Place) (told : BoardAnswer) → slice_index_or (slice_index_or kept.slots 0 []) node.rule None ≡ Some a → kept.cycle ≤ kept.opening.to
+        → ((board : Board) → StandsFor kept board → v ≡ verdict board.walk.state.regs (committed board.walk.state.past) a.run)
+        → ((board : Board) → StandsFor kept board → told ≡ (judged board node a v).answer)
+        → ((board : Board) → StandsFor kept board → IsAt kept.opening.design place (judged board node a v).board.walk (judged board node a v).board.settled)
+        → Does settle kept told (taken place)
+    judges a v place told some less is_verdict is_told at board st =
+        steps_so (taken place) told (settle kept.opening board) (judged board node a v)
+        (settle_node kept.opening board (omega (arith, less, st.cycle)) node (Some a) (sym (head_same board st) ∙ here) (sym (first_slot board st node.rule) ∙ some) ∙ ap (judged board node a) (sym (is_verdict board st)))
+        (is_told board st)
+        (record {
+          cycle = st.cycle ∙ sym (judged_cycle board node a v);
+          place = at board st;
+          rows = st.rows ∙ sym (judged_rows board node a v);
+          slots = λ c r. taken_slots board st c r ∙ sym (ap (λ (slots : ℕ → ℕ → Option Attempted). slots c r) (judged_slots board node a v));
+        })
+
+  -- the head is at a node that there is, or at the end
+  pub head_inside : (number : ℕ) → kept.place.at ≡ next.Node number → number < length kept.opening.design.nodes
+  head_inside number at =
+      let o = kept.opening in
+      let inside = position_inside (system_of o.design) s.opening.design.nodes (inputs_of o.stimulus s.board.cycle) (last_registers o.regs s.board.rows) s.plain.visits in
+      let same = sym (ap (λ (w : Walk State). w.at) s.plain.walk) ∙ sym s.stands.place.at ∙ at in
+      (subst (IsAhead (length o.design.nodes) 0) same inside).1
+
+  -- ---- closing
+
+  -- a cycle later, at this place, with these rows and without the first blank
+  abbrev pub closed_to : Place → Row → Kept
+  closed_to place row =
+      record { opening = kept.opening; cycle = kept.cycle + 1; place = place; rows = kept.rows ++ row ∷ []; slots = moved_up (length kept.opening.design.rules) kept.slots }
+
+  -- the rows begin on the same registers
+  pub opened_same : (row : Row) → opened_on (kept.rows ++ row ∷ []) ≡ opened_on kept.rows
+  opened_same row =
+      let same = s.stands.rows ∙ s.plain.rows in
+      ap (λ (rows : List Row). opened_on (rows ++ row ∷ [])) same ∙ sym (ap opened_on same)
+
+  length-moved_up : (n : ℕ) (lists : List (List (Option Attempted))) → length (moved_up n lists) ≡ length lists
+  length-moved_up n [] = refl
+  length-moved_up n (row ∷ rest) = length_push rest (replicate n None) ∙ (let e : length rest + 1 ≡ length (row ∷ rest) = omega arith in e)
+
+  module _ (place : Place) (row : Row) (made : row ≡ record { regs = kept.place.regs; fired = kept.place.fired.items })
+      (begins : (walk : Walk State) (done : List ℕ) → IsAt kept.opening.design kept.place walk done → IsAt kept.opening.design place (start kept.opening.design.nodes (begin walk.state.regs)) [])
+      (less : kept.cycle ≤ kept.opening.to) (end : kept.place.at ≡ next.End) where
+    closed_stands : (board : Board) → StandsFor kept board → StandsFor (closed_to place row) (closed kept.opening board)
+    closed_stands board st =
+        record {
+          cycle = ap (λ (c : ℕ). c + 1) st.cycle;
+          place = begins board.walk board.settled st.place;
+          rows = ap₂ (λ (rows : List Row) (r : Row). rows ++ r ∷ []) st.rows (made ∙ ap₂ (λ (regs : List BitVector) (fired : List Bool). let r : Row = record { regs = regs; fired = fired } in r) st.place.registers st.place.fired);
+          slots = λ c r. slots_next kept.cycle (length kept.opening.design.rules) kept.slots (omega (arith, some_slots)) c r
+              ∙ ap₂ (λ (k : ℕ) (old : Option Attempted). if c == k then None else old) st.cycle (st.slots c r);
+        }
+
+    no_head : (board : Board) → StandsFor kept board → head kept.opening board ≡ None
+    no_head board st = sym (head_same board st) ∙ ap (node_at kept.opening.design.nodes) end
+
+    -- the cycle is closed
+    pub closes : Does settle kept (answer.Settle (settled.CycleClosed kept.cycle)) (closed_to place row)
+    closes board st =
+        steps_so (closed_to place row) (answer.Settle (settled.CycleClosed kept.cycle)) (settle kept.opening board) (record { answer = answer.Settle (settled.CycleClosed board.cycle); board = closed kept.opening board })
+        (settle_end kept.opening board (omega (arith, less, st.cycle)) (no_head board st))
+        (ap (λ (c : ℕ). answer.Settle (settled.CycleClosed c)) st.cycle)
+        (closed_stands board st)
+
+    pub closed_sound : (fewer : List Blank) (last : Blank) → blanks ≡ fewer ++ last ∷ [] → IsShaped kept.opening.design place → IsSound (closed_to place row) fewer room
+    closed_sound fewer last' popped shape =
+        let count = ap (λ (bs : List Blank). length bs) popped ∙ length_push fewer last' in
+        let plain = settle_plain kept.opening s.opening s.board s.plain in
+        let done = closes s.board s.stands in
+        record {
+          opening = s.opening;
+          last = s.last;
+          window = s.window;
+          few_ahead = s.few_ahead;
+          board = (settle kept.opening s.board).board;
+          stands = done.1;
+          plain = plain;
+          place = shape;
+          cycles = length-moved_up (length kept.opening.design.rules) kept.slots ∙ s.cycles;
+          slots = All-moved_up (HasSlots kept.opening.design) (length kept.opening.design.rules) kept.slots s.slots (length-replicate (length kept.opening.design.rules) (let o : Option Attempted = None in o));
+          rooms = (All-pop (IsBlank kept.opening.design) blanks fewer (Some last') popped s.rooms).0;
+          left = omega (arith, count, s.left);
+          room = omega (arith, count, s.room, length_push kept.rows row);
+        }
+
+-- ---- the code's slots
+
+pub does_for : (step : Opening → Board → Step) (kept old new new' : Kept) (told : BoardAnswer) → kept ≡ old → new ≡ new' → Does step kept told new → Does step old told new'
+does_for step kept old new new' told e f d = subst (λ (k : Kept). Does step k told new') e (subst (λ (k : Kept). Does step kept told k) f d)
+
+-- a list that was borrowed and written back
+pub written_back : (slots : List (List (Option Attempted))) (k k' rule rule' : ℕ) (row new : List (Option Attempted)) (held : Option Attempted) → k ≡ k' → rule ≡ rule' → row ≡ slice_index_or slots k row → k < length slots → new ≡ slice_set row rule held
+    → slice_set slots k new ≡ slice_set slots k' (slice_set (slice_index_or slots k' []) rule' held)
+written_back slots k k' rule rule' row new held e f is inside made =
+    ap (slice_set slots k) (made ∙ ap (λ (w : List (Option Attempted)). slice_set w rule held) (is ∙ get_or_default slots k row [] inside))
+    ∙ ap₂ (λ (n m : ℕ). slice_set slots n (slice_set (slice_index_or slots n []) m held)) e f
+
+-- ---- beginning
+
+module _ (o : Opening) (sure : IsOpening o) (place : Place) (at : IsAt o.design place (start o.design.nodes (begin o.regs)) []) where
+  -- what a core keeps when it is begun
+  abbrev pub begun : Kept
+  begun =
+      record {
+        opening = o;
+        cycle = o.from + 1;
+        place = place;
+        rows = opening (length o.design.rules) o.regs ∷ [];
+        slots = replicate o.window (replicate (length o.design.rules) None);
+      }
+
+  pub begun_stands : StandsFor begun (opened o)
+  begun_stands = record { cycle = refl; place = at; rows = refl; slots = λ c r. none_stands (o.from + 1) o.window (length o.design.rules) c r }
+
+  pub begun_sound : (blanks : List Blank) (room : ℕ) → o.to ≤ MAX_CYCLES → 1 ≤ o.window → o.window ≤ MAX_WINDOW → IsShaped o.design place → All (IsBlank o.design) blanks → length blanks + (o.from + 1) ≡ o.to + 1 → 1 + length blanks ≤ room → IsSound begun blanks room
+  begun_sound blanks room last some few shape all count fits =
+      record {
+        opening = sure;
+        last = last;
+        window = some;
+        few_ahead = few;
+        board = opened o;
+        stands = begun_stands;
+        plain = opened_plain o sure;
+        place = shape;
+        cycles = length-replicate o.window (replicate (length o.design.rules) (let none : Option Attempted = None in none));
+        slots = λ k d inside. let empty : List (Option Attempted) = replicate (length o.design.rules) None in
+            ap length (get_or-replicate o.window k empty d (omega (arith, inside, length-replicate o.window empty))) ∙ length-replicate (length o.design.rules) (let none : Option Attempted = None in none);
+        rooms = all;
+        left = count;
+        room = omega (arith, fits);
+      }

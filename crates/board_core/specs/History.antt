@@ -1,0 +1,58 @@
+-- Legal histories: calls of a board with their answers, as a linear history has them (Herlihy and Wing, TOPLAS 1990). It
+-- doesn't say which worker makes which call.
+use Rattle.std.specs.Prelude.{◌≡◌, List, map}
+use Rattle.std.specs.List.{AllByRecursion}
+use Rattle.typed_core.specs.declared.design.Parts.{Parts}
+use Rattle.attempt_log.specs.Attempt.{Attempted, IsAttempt}
+use Rattle.attempt_log.specs.declared.entry.Entry.{Entry}
+use Rattle.attempt_log.specs.declared.entry.Entry.TheVariants as entry
+use Rattle.attempt_log.specs.declared.entry.Settled.{Settled}
+use Rattle.attempt_log.specs.declared.entry.Submitted.{Submitted}
+use Rattle.attempt_log.specs.declared.entry.Submitted.TheVariants as submitted
+use Rattle.attempt_log.specs.declared.entry.Taken.{Taken}
+use Rattle.attempt_log.specs.declared.entry.Taken.TheVariants as taken
+use Rattle.board_core.specs.Board.{Opening, opened, run_events}
+use Rattle.board_core.specs.Position.{IsFor}
+use Rattle.board_core.specs.declared.event.BoardAnswer.{BoardAnswer}
+use Rattle.board_core.specs.declared.event.BoardAnswer.TheVariants as answer
+use Rattle.board_core.specs.declared.event.BoardEvent.{BoardEvent}
+use Rattle.board_core.specs.declared.event.BoardEvent.TheVariants as event
+
+-- an answer without the attempt that it hands back
+pub data Told : Type 0 where
+  Submit : (taken : Taken) → Told
+  Settle : (settled : Settled) → Told
+
+abbrev pub taken_of : Submitted → Taken
+taken_of submitted.Stored = taken.Stored
+taken_of (submitted.Late a) = taken.Late
+taken_of (submitted.Ahead a) = taken.Ahead
+taken_of (submitted.Twice a) = taken.Twice
+
+abbrev pub told_of : BoardAnswer → Told
+told_of (answer.Submit s) = Submit (taken_of s)
+told_of (answer.Settle s) = Settle s
+
+-- the event of an entry on the board of a design, and its answer
+abbrev pub event_of : Parts → Entry → BoardEvent
+event_of design (entry.Submit worker cycle rule inputs events outcome answer) =
+    event.Submit (record { design = design; cycle = cycle; rule = rule; inputs = inputs; run = record { events = events; outcome = outcome } })
+event_of design (entry.Settle worker answer) = event.Settle
+
+abbrev pub told_by : Entry → Told
+told_by (entry.Submit worker cycle rule inputs events outcome answer) = Submit answer
+told_by (entry.Settle worker answer) = Settle answer
+
+-- an attempt that is submitted is one for the board
+pub record IsAttemptFor (o : Opening) (a : Attempted) : Type 0 where
+  pub attempt : IsAttempt a
+  pub is_for : IsFor o a
+
+abbrev pub SubmitsFor : Opening → BoardEvent → Type 0
+SubmitsFor o (event.Submit a) = IsAttemptFor o a
+SubmitsFor o event.Settle = Unit {0}
+
+-- a legal history of the board of this opening
+pub record IsLegal (o : Opening) (entries : List Entry) : Type 0 where
+  pub attempts : AllByRecursion (SubmitsFor o) (map (event_of o.design) entries)
+  pub answers : map told_by entries ≡ map told_of (run_events o (opened o) (map (event_of o.design) entries)).answers

@@ -1,0 +1,5 @@
+pub mod Board
+pub mod Position
+pub mod History
+pub mod Kept
+pub mod Laws

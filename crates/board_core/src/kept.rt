@@ -1,0 +1,315 @@
+ghost use Rattle.std.specs.Prelude.{◌≡◌, ◌+◌, ◌<◌, ◌≤◌, ◌⊎◌, ℕ, All, IfOk, Some, None, length, replicate};
+ghost use Rattle.std.specs.Arc.{arc_value};
+ghost use Rattle.typed_core.specs.Widths.{HaveWidths, register_widths};
+ghost use Rattle.one_rule.specs.Stimulus.{AlwaysFits, StimulusFits};
+ghost use Rattle.typed_core.specs.declared.design.Next.TheVariants as next;
+ghost use Rattle.typed_core.specs.declared.design.Node.{Node};
+ghost use Rattle.attempt_log.specs.Attempt.{Attempted, IsAttempt};
+ghost use Rattle.attempt_log.specs.Firsts.{is_some};
+ghost use Rattle.attempt_log.specs.declared.entry.Submitted.TheVariants as submitted;
+ghost use Rattle.board_core.specs.Board.{Board, judged, node_at, opened, settle, stored, submit};
+ghost use Rattle.board_core.specs.Kept.{AtPlain, Does, IsBlank, IsNear, StandsFor, comes_ahead, comes_late, slots_from};
+ghost use Rattle.board_core.specs.Position.{IsFor, IsOpening};
+ghost use Rattle.board_core.specs.declared.event.BoardAnswer.TheVariants as answer;
+
+use crate::blank::Blank;
+use crate::place::Place;
+use crate::waiting::Waiting;
+use attempt_log::{Attempt, Settled, Submitted, Verdict};
+use kw_bits::{NoMemory, Reserved};
+use one_rule::{Inputs, Regs, Row, Rows, Stimulus, opening};
+use std::alloc::Global;
+use std::marker::Model;
+use std::sync::Arc;
+use typed_core::{Design, Next, Node};
+
+/// A board's last cycle has at most this number.
+pub const MAX_CYCLES: u32 = 16_777_216;
+
+/// A board takes attempts for at most this many cycles at a time.
+pub const MAX_WINDOW: u32 = 16;
+
+// A board without its externs: the rows of the cycles that are closed, the place in the current one, and the attempts that stand.
+#[derive(Drop)]
+pub(crate) struct KeptBoard {
+    design: Arc<Design>,
+    stimulus: Arc<Stimulus>,
+    first: u32,
+    last: u32,
+    window: u32,
+    cycle: u32,
+    place: Place,
+    rows: Reserved<Row>,
+    // Room for the rows that are to come.
+    blanks: Vec<Blank>,
+    // The slots of each cycle of the window, from the current one on.
+    slots: Vec<Waiting>,
+}
+
+impl Model for KeptBoard {
+    ghost use Rattle.std.specs.Arc.{arc_value};
+    ghost use Rattle.std.specs.Coded.{codes};
+    ghost use Rattle.typed_core.specs.contracts.action.Action as action;
+    ghost use Rattle.board_core.specs.Kept.{IsSound, Kept, kept_by};
+
+    ghost Value = { Kept };
+
+    ghost coded = { Prim.hlevel (codes, action.the_row.coded) };
+
+    ghost view = { λ c. kept_by (arc_value c.design) (arc_value c.stimulus) c.first c.last c.window c.cycle c.place c.rows.items c.slots.items };
+
+    ghost invariant = { λ c. IsSound (kept_by (arc_value c.design) (arc_value c.stimulus) c.first c.last c.window c.cycle c.place c.rows.items c.slots.items) c.blanks.items c.rows.capacity };
+}
+
+impl KeptBoard {
+    // A board before its first cycle, on registers that cycle `from` left.
+    pub(crate) fn begin(
+        alloc: Global,
+        design: Arc<Design>,
+        stimulus: Arc<Stimulus>,
+        regs: Regs,
+        from: u32,
+        to: u32,
+        window: u32,
+    ) -> Result<KeptBoard, NoMemory>
+        requires stimulus { StimulusFits (arc_value design) (arc_value stimulus) }
+        requires registers { HaveWidths (register_widths (arc_value design)) regs }
+        requires order { from ≤ to }
+        requires last { to ≤ MAX_CYCLES }
+        requires window { 1 ≤ window }
+        requires few_ahead { window ≤ MAX_WINDOW }
+        ensures opening { IfOk result (λ kept. kept.opening ≡ record { design = arc_value design; stimulus = arc_value stimulus; regs = regs; from = from; to = to; window = window }) }
+        ensures opened { IfOk result (λ kept. StandsFor kept (opened kept.opening)) }
+    {
+        always_fits(alloc, &stimulus);
+        let cycles = (to - from) as usize;
+        let mut rows = Reserved::with_capacity(alloc, cycles + 1)?;
+        let copy = Regs::from_slice(alloc, regs.as_slice())?;
+        rows.push(opening(alloc, &design, copy)?);
+        Ok(KeptBoard {
+            place: Place::new(alloc, &design, regs)?,
+            rows,
+            blanks: room(alloc, &design, cycles)?,
+            slots: empty_slots(alloc, design.rules.len(), window as usize)?,
+            design,
+            stimulus,
+            first: from,
+            last: to,
+            window,
+            cycle: from + 1,
+        })
+    }
+
+    // Takes an attempt, or hands it back and changes nothing.
+    pub(crate) fn submit(&mut self, attempt: Attempt) -> Submitted
+        requires { IsFor self.old.opening attempt }
+        ensures step { Does (λ o board. submit o board attempt) self.old (answer.Submit result) self.new }
+        ensures opening { self.new.opening ≡ self.old.opening }
+        ensures refused { (result ≡ submitted.Stored) ⊎ (self.new ≡ self.old) }
+    {
+        is_attempt(&attempt);
+        if self.is_late(&attempt) {
+            return Submitted::Late(attempt);
+        }
+        if self.is_ahead(&attempt) {
+            return Submitted::Ahead(attempt);
+        }
+        if self.stands(&attempt) {
+            return Submitted::Twice(attempt);
+        }
+        self.store(attempt);
+        Submitted::Stored
+    }
+
+    // Settles the rule of the head, or closes the cycle at the end of its path.
+    pub(crate) fn settle(&mut self) -> Settled
+        ensures step { Does settle self.old (answer.Settle result) self.new }
+        ensures opening { self.new.opening ≡ self.old.opening }
+    {
+        if self.last < self.cycle {
+            return Settled::Finished;
+        }
+        match self.place.at {
+            Next::Node(number) => {
+                let node = *self.design.nodes.get(number as usize);
+                self.settle_rule(node)
+            }
+            Next::End => self.close(),
+        }
+    }
+
+    // The core stands for a board at a plain position.
+    pub(crate) fn is_plain(&self)
+        ensures plain { AtPlain self.now }
+        ensures opening { IsOpening self.now.opening }
+    {
+        let _ = &self.design;
+    }
+
+    pub(crate) fn rows(&self) -> &[Row]
+        ensures { result.now ≡ self.now.rows }
+    {
+        self.rows.as_slice()
+    }
+
+    pub(crate) fn into_rows(self) -> Rows
+        ensures { result ≡ self.rows }
+    {
+        self.rows.into_sequence()
+    }
+
+    pub(crate) fn regs(&self) -> &Regs
+        ensures { result.now ≡ self.now.place.regs }
+    {
+        &self.place.regs
+    }
+
+    pub(crate) fn design(&self) -> &Design
+        ensures { result.now ≡ self.now.opening.design }
+    {
+        &self.design
+    }
+
+    pub(crate) fn stimulus(&self) -> &Stimulus
+        ensures { result.now ≡ self.now.opening.stimulus }
+    {
+        &self.stimulus
+    }
+
+    pub(crate) fn first(&self) -> u32
+        ensures { result ≡ self.now.opening.from }
+    {
+        self.first
+    }
+
+    pub(crate) fn last(&self) -> u32
+        ensures { result ≡ self.now.opening.to }
+    {
+        self.last
+    }
+
+    // Whether the attempt's cycle is closed, or its rule settled in it.
+    fn is_late(&self, attempt: &Attempt) -> bool
+        requires { attempt.now.design ≡ self.now.opening.design }
+        ensures { result ≡ comes_late self.now attempt.now }
+    {
+        let (cycle, rule) = (attempt.cycle(), attempt.rule());
+        cycle < self.cycle || cycle == self.cycle && self.place.settled[rule as usize]
+    }
+
+    // Whether the attempt's cycle is past the window, or past the last one.
+    fn is_ahead(&self, attempt: &Attempt) -> bool
+        ensures { result ≡ comes_ahead self.now attempt.now }
+    {
+        let cycle = attempt.cycle();
+        self.cycle + self.window <= cycle || self.last < cycle
+    }
+
+    // Whether an attempt stands for the same cycle and rule.
+    fn stands(&self, attempt: &Attempt) -> bool
+        requires design { attempt.now.design ≡ self.now.opening.design }
+        requires near { IsNear self.now attempt.now }
+        ensures { result ≡ is_some (slots_from self.now.cycle self.now.slots attempt.now.cycle attempt.now.rule) }
+    {
+        let ahead = (attempt.cycle() - self.cycle) as usize;
+        self.slots[ahead].stands(attempt.rule() as usize)
+    }
+
+    // Puts an attempt in its slot.
+    fn store(&mut self, attempt: Attempt)
+        requires fits { IsFor self.old.opening attempt }
+        requires near { IsNear self.old attempt }
+        ensures stored { (board : Board) → StandsFor self.old board → StandsFor self.new (stored board attempt) }
+        ensures opening { self.new.opening ≡ self.old.opening }
+    {
+        is_attempt(&attempt);
+        let ahead = (attempt.cycle() - self.cycle) as usize;
+        let rule = attempt.rule() as usize;
+        self.slots[ahead].put(rule, attempt);
+    }
+
+    // Settles the rule of the node that is the head.
+    fn settle_rule(&mut self, node: Node) -> Settled
+        requires within { self.old.cycle ≤ self.old.opening.to }
+        requires head { node_at self.old.opening.design.nodes self.old.place.at ≡ Some node }
+        ensures step { Does settle self.old (answer.Settle result) self.new }
+        ensures opening { self.new.opening ≡ self.old.opening }
+    {
+        let (cycle, rule) = (self.cycle, node.rule);
+        match self.slots[0].take(rule as usize) {
+            None => Settled::Waiting { cycle, rule },
+            Some(attempt) => told(cycle, rule, self.place.judge(&node, &attempt)),
+        }
+    }
+
+    // Closes the cycle, whose path is at its end.
+    fn close(&mut self) -> Settled
+        requires within { self.old.cycle ≤ self.old.opening.to }
+        requires end { self.old.place.at ≡ next.End }
+        ensures step { Does settle self.old (answer.Settle result) self.new }
+        ensures opening { self.new.opening ≡ self.old.opening }
+    {
+        let cycle = self.cycle;
+        match self.blanks.pop() {
+            Some(blank) => self
+                .rows
+                .push(blank.filled(&self.place.regs, &self.place.fired)),
+            None => unreachable!(),
+        }
+        self.place.begin_next(&self.design);
+        self.slots[0].clear();
+        self.slots.rotate_left(1);
+        self.cycle += 1;
+        Settled::CycleClosed { cycle }
+    }
+}
+
+// Room for so many rows of the design.
+fn room(alloc: Global, design: &Design, count: usize) -> Result<Vec<Blank>, NoMemory>
+    ensures blank { IfOk result (λ blanks. All (IsBlank design.now) blanks.items) }
+    ensures count { IfOk result (λ blanks. length blanks.items ≡ count) }
+{
+    let mut blanks = Vec::with_capacity(alloc, count)?;
+    for _ in 0..count {
+        blanks.push_reserved(Blank::new(alloc, design)?);
+    }
+    Ok(blanks)
+}
+
+// Empty slots for so many cycles.
+fn empty_slots(alloc: Global, rules: usize, cycles: usize) -> Result<Vec<Waiting>, NoMemory>
+    ensures { IfOk result (λ slots. slots.items ≡ replicate cycles (replicate rules None)) }
+{
+    let mut slots = Vec::with_capacity(alloc, cycles)?;
+    for _ in 0..cycles {
+        slots.push_reserved(Waiting::new(alloc, rules)?);
+    }
+    Ok(slots)
+}
+
+// Any stimulus has values of its widths in every cycle.
+fn always_fits(alloc: Global, stimulus: &Stimulus)
+    ensures { AlwaysFits stimulus.now }
+{
+    let _ = stimulus.agrees(0, &Inputs::new(alloc));
+}
+
+// What any attempt is: a trace of a rule that its design has.
+fn is_attempt(attempt: &Attempt)
+    ensures { IsAttempt attempt.now }
+{
+    let _rule = attempt.rule();
+    let _inputs = attempt.inputs();
+    let _events = attempt.events();
+}
+
+// The answer to the attempt at the head's rule.
+fn told(cycle: u32, rule: u32, verdict: Verdict) -> Settled
+    ensures { (board : Board) (node : Node) (a : Attempted) → board.cycle ≡ cycle → node.rule ≡ rule → answer.Settle result ≡ (judged board node a verdict).answer }
+{
+    match verdict {
+        Verdict::Commit => Settled::Committed { cycle, rule },
+        Verdict::Skip(cause) => Settled::Skipped { cycle, rule, cause },
+        Verdict::Stale(read) => Settled::Stale { cycle, rule, read },
+    }
+}

@@ -1,0 +1,21 @@
+//! The board: attempts are taken in any order and settled one at a time, in scheduler order.
+//!
+//! `specs/Board.antt` is the board step that the contracts of `Core` cite, and `specs/Position.antt` says at which plain
+//! positions a core stands. The boards that workers share keep a `Core` behind a lock.
+#![tactic(auto)]
+
+mod blank;
+mod board;
+mod event;
+mod kept;
+mod laws;
+mod place;
+mod waiting;
+
+pub use board::Core;
+pub use event::{BoardAnswer, BoardEvent};
+pub use kept::{MAX_CYCLES, MAX_WINDOW};
+pub use laws::{
+    a_board_past_its_end_has_the_run, a_head_is_never_stale, a_legal_history_leaves_a_plain_board,
+    a_settled_rule_is_told_by_its_firing, every_list_of_events_keeps_a_plain_position,
+};
