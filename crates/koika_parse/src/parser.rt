@@ -16,8 +16,8 @@ use kw_base::{Fault, Refusal, place_of};
 use kw_bits::Sequence;
 use std::alloc::Global;
 
-/// The tree of a text, whose tokens these are, or its first fault: 11 at a token that the grammar doesn't
-/// allow, or behind the text where it ends too early, and 12 at a 65th open bracket.
+/// The tree of a text, whose tokens these are, or a fault: 11 at a token that the grammar doesn't allow, or behind
+/// the text where it ends too early, and 12 at a 65th open bracket. That it is the first fault isn't proved.
 pub fn parse(alloc: Global, text: &[u8], tokens: &[Token]) -> Result<Tree, Refusal>
     requires stands { All (StandsIn text.now) tokens.now }
     ensures derived { IfOk result (λ tree. Derives text.now tree tokens.now) }
