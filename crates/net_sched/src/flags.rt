@@ -22,11 +22,7 @@ pub(crate) fn nth(wires: &Sequence<NetId>, number: usize) -> NetId
 }
 
 /// So many wires, all the same.
-pub(crate) fn filled(
-    alloc: Global,
-    wire: NetId,
-    count: usize,
-) -> Result<Sequence<NetId>, NoMemory>
+pub(crate) fn filled(alloc: Global, wire: NetId, count: usize) -> Result<Sequence<NetId>, NoMemory>
     ensures { IfOk result (λ wires. wires ≡ replicate count wire) }
 {
     let mut wires = Sequence::new(alloc);

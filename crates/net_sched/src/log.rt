@@ -75,12 +75,7 @@ fn joined_flags(
 }
 
 // A flag, and another where it counts.
-fn joined_flag(
-    net: &mut Net,
-    sched: NetId,
-    rule: NetId,
-    fires: NetId,
-) -> Result<NetId, NoMemory>
+fn joined_flag(net: &mut Net, sched: NetId, rule: NetId, fires: NetId) -> Result<NetId, NoMemory>
     requires sched { HasWire net.old sched 1 }
     requires rule { HasWire net.old rule 1 }
     requires fires { HasWire net.old fires 1 }
