@@ -13,3 +13,4 @@ pub mod UniquePieces
 pub mod Places
 pub mod Leaves
 pub mod Blanks
+pub mod Lexing

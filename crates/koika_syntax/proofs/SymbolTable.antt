@@ -111,10 +111,11 @@ every_symbol : List Symbol
 every_symbol =
     symbols.LeftBrace ∷ symbols.RightBrace ∷ symbols.LeftParenthesis ∷ symbols.RightParenthesis ∷ symbols.LeftBracket ∷ symbols.RightBracket ∷ symbols.Semicolon ∷ symbols.Colon ∷ symbols.ColonColon ∷ symbols.Comma ∷ symbols.Equals ∷ symbols.Dot ∷ symbols.Arrow ∷ symbols.Plus ∷ symbols.Minus ∷ symbols.Star ∷ symbols.Ampersand ∷ symbols.Bar ∷ symbols.Caret ∷ symbols.Tilde ∷ symbols.EqualsEquals ∷ symbols.NotEquals ∷ symbols.Less ∷ symbols.LessEquals ∷ symbols.Greater ∷ symbols.GreaterEquals ∷ symbols.LessLess ∷ symbols.GreaterGreater ∷ symbols.GreaterGreaterGreater ∷ symbols.PlusPlus ∷ []
 
-symbol_at : List ℕ → Option Symbol
+-- the symbol of bytes
+pub symbol_at : List ℕ → Option Symbol
 symbol_at bytes = find (λ symbol. bytes_eq (symbol_text symbol) bytes) every_symbol
 
-symbol_at-symbol_text : (symbol : Symbol) → symbol_at (symbol_text symbol) ≡ Some symbol
+pub symbol_at-symbol_text : (symbol : Symbol) → symbol_at (symbol_text symbol) ≡ Some symbol
 unfolding symbol_at every_symbol
 symbol_at-symbol_text symbols.GreaterGreaterGreater = refl
 symbol_at-symbol_text symbols.ColonColon = refl

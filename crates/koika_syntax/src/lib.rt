@@ -8,6 +8,7 @@
 
 mod front;
 mod keyword;
+mod laws;
 mod lexeme;
 mod lexer;
 mod literal;
@@ -20,6 +21,7 @@ mod tree;
 mod word;
 
 pub use keyword::Keyword;
+pub use laws::tokens_or_fault;
 pub use lexer::lex;
 pub use operator::{BinaryOperator, Extension, SignedComparison, UnaryOperator};
 pub use symbol::Symbol;
