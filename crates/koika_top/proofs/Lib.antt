@@ -5,3 +5,4 @@ pub mod Shapes
 pub mod Designs
 pub mod Unique
 pub mod SameReports
+pub mod Answered

@@ -13,6 +13,11 @@ pub fn one_answer()
         IsAnswer words source a → IsAnswer words source b → IsSameAnswer a b }
 {}
 
+/// Arguments and a source have an answer.
+pub fn some_answer()
+    ensures { (words : List (List ℕ)) (source : List ℕ) → (answer : Answer) × IsAnswer words source answer }
+{}
+
 /// A text spells one design at most, up to where the parts of its rule lie in memory.
 pub fn spells_one_design()
     ensures { (text : List ℕ) (d e : Parts) → IsFirstForm text d → IsFirstForm text e → SameDesign d e }

@@ -13,6 +13,6 @@ mod status;
 mod words;
 
 pub use answer::Answer;
-pub use laws::{one_answer, spells_one_design};
+pub use laws::{one_answer, some_answer, spells_one_design};
 pub use program::run_here;
 pub use status::Status;
