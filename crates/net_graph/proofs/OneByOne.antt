@@ -1,5 +1,5 @@
 -- Lists that grow one by one, each item by those before it.
-use Rattle.std.proofs.Common.{◌≡◌, ℕ, suc, ◌+◌, ◌<◌, ◌≤◌, List, [], ◌∷◌, ◌++◌, length, get_or, take, drop, refl, sym, ap, subst, ◌∙◌, arith, length-append}
+use Rattle.std.proofs.Common.{◌≡◌, ℕ, ◌+◌, ◌<◌, ◌≤◌, List, [], ◌∷◌, ◌++◌, length, get_or, take, drop, refl, sym, ap, ◌∙◌, arith}
 use Rattle.std.proofs.lemmas.List.{length_push, take-take, take-append-drop, take_all, take_at, take_more, length-take-le, get_or-take}
 use Rattle.net_graph.specs.Nets.{one_by_one}
 use Rattle.net_graph.specs.declared.node.NetOp.{NetOp}

@@ -1,12 +1,12 @@
 -- Equal operators, and how a net grows by one that is new.
-use Rattle.std.proofs.Common.{◌≡◌, ◌≢◌, ◌↔◌, ℕ, Bool, true, false, cond, List, [], ◌∷◌, ◌++◌, length, refl, sym, ap, ◌∙◌, Contains, Decides, rules, true≢false, not}
+use Rattle.std.proofs.Common.{◌≡◌, ℕ, Bool, true, false, cond, List, [], ◌∷◌, ◌++◌, refl, sym, ap, ◌∙◌, Contains, Decides, rules, not}
 use Rattle.std.specs.Prelude.{slice_get, Some}
 use Rattle.indexmap.specs.IndexSet.{insert_key}
-use Rattle.std.specs.List.{list_any, IsDistinct, AllPairs, All}
+use Rattle.std.specs.List.{list_any, IsDistinct}
 use Rattle.std.proofs.lemmas.Map.Views.{list_any-from_Contains, Contains-from_any}
 use Rattle.std.proofs.lemmas.Map.Made.{AllPairs-from_IsDistinct}
 use Rattle.std.proofs.lemmas.List.Elements.{All-push}
-use Rattle.net_graph.specs.Nets.{Adds, AllStand, HoldsBits, IsNet, one_by_one, op_width, Stands, widths_of}
+use Rattle.net_graph.specs.Nets.{Adds, HoldsBits, IsNet, op_width, Stands, widths_of}
 use Rattle.net_graph.specs.declared.node.NetOp.{NetOp}
 use Rattle.net_graph.specs.contracts.node.NetOpPartialEq.TheImpl as like
 use Rattle.net_graph.specs.contracts.node.NetOpEq.TheImpl.Laws as laws

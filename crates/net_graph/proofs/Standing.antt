@@ -1,5 +1,5 @@
 -- Where the operators of a net stand.
-use Rattle.std.proofs.Common.{◌≡◌, ℕ, zero, suc, ◌+◌, ◌<◌, ◌≤◌, List, [], ◌∷◌, ◌++◌, length, get_or, take, refl, sym, ap, subst, ◌∙◌, arith}
+use Rattle.std.proofs.Common.{ℕ, zero, suc, ◌<◌, List, [], ◌∷◌, ◌++◌, length, get_or, take, subst, arith}
 use Rattle.net_graph.specs.Nets.{one_by_one, op_width, widths_of, AllStand, Stands}
 use Rattle.net_graph.specs.declared.node.NetOp.{NetOp}
 use Rattle.net_graph.proofs.OneByOne.{one_by_one-take}

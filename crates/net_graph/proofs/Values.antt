@@ -1,15 +1,14 @@
 -- The values of a net's nodes.
-use Rattle.std.proofs.Common.{◌≡◌, ℕ, suc, ◌+◌, ◌<◌, ◌≤◌, List, [], ◌∷◌, ◌++◌, length, get_or, take, map, refl, sym, ap, subst, ◌∙◌, arith}
-use Rattle.std.specs.Prelude.{slice_get, Some}
+use Rattle.std.proofs.Common.{◌≡◌, ℕ, suc, ◌+◌, ◌<◌, ◌≤◌, List, [], ◌∷◌, ◌++◌, length, get_or, take, refl, sym, ap, subst, ◌∙◌, arith}
 use Rattle.std.specs.List.{All}
-use Rattle.std.proofs.lemmas.List.{map-append, length-map, take-map, length-take-le, get_or-take, get_or_at}
+use Rattle.std.proofs.lemmas.List.{map-append, take-map, length-take-le, get_or-take, get_or_at}
 use Rattle.std.proofs.lemmas.List.Elements.{All-push}
 use Rattle.std.proofs.lemmas.Option.{get_or_from_slice_get, slice_get_within}
 use Rattle.kw_bits.specs.BitVector.{BitVector, IsBits}
 use Rattle.kw_bits.specs.Laws.{HasWidth}
 use Rattle.net_graph.specs.Laws.{Feeds, FollowOperators, HaveWidths, KeepValues}
 use Rattle.net_graph.specs.Nets.{AllStand, HoldsBits, IsNet, one_by_one, op_width, Stands, widths_of}
-use Rattle.net_graph.specs.Values.{AllRead, no_bits, op_value, Reads, Sources, value_at, values_of, widths}
+use Rattle.net_graph.specs.Values.{AllRead, no_bits, op_value, Sources, value_at, values_of, widths}
 use Rattle.net_graph.specs.declared.node.NetOp.{NetOp}
 use Rattle.net_graph.specs.declared.node.NetOp.TheVariants.{Const, Input, State, One, Two, Slice, Uext, Sext, Ite}
 use Rattle.net_graph.proofs.OneByOne.{get_or-one_by_one-append, length-one_by_one, take_more-one_by_one}

@@ -1,7 +1,7 @@
 -- Nets: lists of operators on nodes, each node the number of an earlier operator. What an operator may stand on, and the
 -- widths that nodes have one after another.
-use Rattle.std.specs.Prelude.{◌≡◌, ◌≢◌, ℕ, ◌+◌, ◌-◌, ◌<◌, ◌≤◌, ◌⊎◌, List, [], ◌∷◌, ◌++◌, length, Some, slice_get, slice_index_or, All, AllPairs, Contains}
-use Rattle.kw_bits.specs.BitVector.{BitVector, IsBits}
+use Rattle.std.specs.Prelude.{◌≡◌, ◌≢◌, ℕ, ◌+◌, ◌-◌, ◌<◌, ◌≤◌, List, [], ◌∷◌, ◌++◌, length, Some, slice_get, slice_index_or, All, AllPairs, Contains}
+use Rattle.kw_bits.specs.BitVector.{IsBits}
 use Rattle.net_graph.specs.Operators.{one_width, two_width, TakesTwo}
 use Rattle.net_graph.specs.declared.node.NetOp.{NetOp}
 use Rattle.net_graph.specs.declared.node.NetOp.TheVariants.{Const, Input, State, One, Two, Slice, Uext, Sext, Ite}

@@ -1,4 +1,4 @@
-use Rattle.std.proofs.Common.{◌≡◌, length, take}
+use Rattle.std.proofs.Common.{◌≡◌, take}
 use Rattle.net_graph.specs.Values.{values_of}
 use Rattle.net_graph.proofs.evaluation.evaluate.Given as goal
 

@@ -1,5 +1,5 @@
-use Rattle.std.proofs.Common.{◌≡◌, true, List, [], ◌∷◌, ◌++◌, sym, ◌∙◌, ap, subst}
-use Rattle.net_graph.specs.Nets.{IsNet, op_width, widths_of}
+use Rattle.std.proofs.Common.{◌≡◌, true, List, [], ◌∷◌, ◌++◌, ◌∙◌, ap, subst}
+use Rattle.net_graph.specs.Nets.{IsNet, widths_of}
 use Rattle.net_graph.specs.declared.node.NetOp.{NetOp}
 use Rattle.net_graph.proofs.Sharing.{Adds-insert, IsNet-push, new_last, widths_of-push}
 use Rattle.net_graph.proofs.net.Net.add.Goals as goal
