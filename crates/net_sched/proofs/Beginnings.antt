@@ -1,6 +1,6 @@
 -- The wires of a cycle that has come past no node.
-use Rattle.std.proofs.Common.{◌≡◌, ◌⊎◌, ℕ, zero, suc, ◌+◌, ◌*◌, ◌≤◌, ◌<◌, Bool, true, false, List, [], ◌∷◌, length, replicate, refl, sym, ap, ◌∙◌, subst, inl, inr, arith, Some}
-use Rattle.std.specs.Prelude.{◌==◌, slice_get, slice_index_or, slice_set}
+use Rattle.std.proofs.Common.{◌≡◌, ℕ, zero, suc, ◌+◌, ◌*◌, ◌≤◌, ◌<◌, true, false, List, [], ◌∷◌, length, replicate, refl, sym, ap, ◌∙◌, subst, arith, Some}
+use Rattle.std.specs.Prelude.{◌==◌, slice_get, slice_set}
 use Rattle.std.proofs.lemmas.Bool.{ne_eqb}
 use Rattle.std.proofs.lemmas.List.{get_or-replicate, get_or-set_other, get_or-set_same, length-replicate, length-set}
 use Rattle.std.proofs.lemmas.Option.{get_or_from_slice_get, slice_get_within}
@@ -13,13 +13,12 @@ use Rattle.typed_core.specs.declared.design.Node.{Node}
 use Rattle.typed_core.specs.declared.limits.TheConstants.{PORTS}
 use Rattle.one_rule.specs.Walk.{is_at, root, start}
 use Rattle.net_action.specs.Gates.{Grows}
-use Rattle.net_action.specs.Wires.{AreLogWires, ArePortWires, AreValues, HasWire, LogStandsFor, is_up, wire_at}
+use Rattle.net_action.specs.Wires.{AreLogWires, AreValues, HasWire, is_up, wire_at}
 use Rattle.net_action.specs.declared.wires.LogWires.{LogWires}
 use Rattle.net_action.proofs.Beginning.{nothing_stands}
 use Rattle.net_action.proofs.Growth.{found_more, wire_kept}
 use Rattle.net_sched.specs.Cycles.{AreCycleWires, AreFlags, AreStates, CycleStandsFor, nothing, nth}
 use Rattle.net_sched.specs.declared.cycle.CycleWires.{CycleWires}
-use Rattle.net_sched.proofs.Joining.{flags_by_place}
 
 pub states_kept : (old new : List NetOp) (widths wires : List ℕ) → Grows [] old new → AreStates old widths wires → AreStates new widths wires
 states_kept old new widths wires grows are = record {

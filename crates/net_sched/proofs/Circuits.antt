@@ -1,10 +1,10 @@
 -- The wires that were made of a design are those of its circuit.
-use Rattle.std.proofs.Common.{◌≡◌, ℕ, ◌<◌, List, [], length, map, sym, ap, ◌∙◌, subst, arith, All, Option, Some}
+use Rattle.std.proofs.Common.{◌≡◌, ℕ, ◌<◌, List, length, map, sym, ap, ◌∙◌, subst, arith, All, Option, Some}
 use Rattle.std.specs.Prelude.{slice_index_or, IfSome}
 use Rattle.std.proofs.lemmas.List.{get_or-map, length-map}
 use Rattle.kw_bits.specs.BitVector.{BitVector}
 use Rattle.kw_bits.specs.Laws.{HasWidth}
-use Rattle.net_graph.specs.Nets.{IsNet, width_at, widths_of}
+use Rattle.net_graph.specs.Nets.{IsNet}
 use Rattle.net_graph.specs.Values.{AllRead, Sources}
 use Rattle.typed_core.specs.Valid.{IsValid}
 use Rattle.typed_core.specs.Widths as design
@@ -13,7 +13,7 @@ use Rattle.typed_core.specs.declared.design.Parts.{Parts}
 use Rattle.typed_core.specs.declared.design.RegDecl.{RegDecl}
 use Rattle.typed_core.specs.declared.design.Rule.{Rule}
 use Rattle.one_rule.specs.Run.{first_values}
-use Rattle.circuit_eval.specs.Circuits.{IsCircuit, IsInput, IsOutput, IsState, input_widths, state_widths}
+use Rattle.circuit_eval.specs.Circuits.{IsCircuit, IsInput, IsState, input_widths, state_widths}
 use Rattle.circuit_eval.specs.Run.{first_states}
 use Rattle.circuit_eval.specs.declared.circuit.InputWire.{InputWire}
 use Rattle.circuit_eval.specs.declared.circuit.OutputWire.{OutputWire}

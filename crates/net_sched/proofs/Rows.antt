@@ -1,14 +1,13 @@
 -- A circuit whose wires stand for the cycles of a design has the design's rows.
-use Rattle.std.proofs.Common.{◌≡◌, ℕ, zero, suc, ◌+◌, ◌-◌, ◌≤◌, ◌<◌, Bool, true, false, List, [], ◌∷◌, ◌++◌, length, map, replicate, refl, sym, ap, ap₂, ◌∙◌, subst, arith, append-nil, All}
+use Rattle.std.proofs.Common.{◌≡◌, ℕ, zero, suc, ◌+◌, ◌-◌, ◌<◌, Bool, true, false, List, [], ◌∷◌, length, map, replicate, refl, sym, ap, ap₂, ◌∙◌, subst, arith, append-nil, All}
 use Rattle.std.specs.Prelude.{slice_index_or, nat_eq, filter, cond}
-use Rattle.std.specs.List.{range_with_len}
 use Rattle.std.proofs.lemmas.List.{get_or_default, get_or-map, length-map, same_lists}
 use Rattle.std.proofs.lemmas.List.FromFn.{get_or-map-range_with_len, length-map-range_with_len}
 use Rattle.std.proofs.lemmas.Simd.{map-map}
 use Rattle.kw_bits.specs.BitVector.{BitVector}
 use Rattle.net_graph.specs.Laws.{Feeds}
 use Rattle.net_graph.specs.Nets.{IsNet, width_at, widths_of}
-use Rattle.net_graph.specs.Values.{Sources, no_bits, value_at, values_of}
+use Rattle.net_graph.specs.Values.{Sources, value_at, values_of}
 use Rattle.net_graph.specs.declared.node.NetOp.{NetOp}
 use Rattle.net_graph.proofs.OperatorWidths.{width-value_at}
 use Rattle.net_graph.proofs.Values.{values-widths}
@@ -18,16 +17,15 @@ use Rattle.typed_core.specs.Valid.{IsValid}
 use Rattle.typed_core.specs.Widths.{HaveWidths, input_widths, register_widths}
 use Rattle.typed_core.specs.declared.design.Parts.{Parts}
 use Rattle.one_rule.specs.Cycle as whole
-use Rattle.one_rule.specs.PortRun.{PortState, port_cycle, port_walk}
+use Rattle.one_rule.specs.PortRun.{PortState, port_walk}
 use Rattle.one_rule.specs.Run.{InputsByCycle, first_values, opening, rows_after as design_rows}
-use Rattle.one_rule.specs.Stimulus.{InputVectors, inputs_of}
+use Rattle.one_rule.specs.Stimulus.{inputs_of}
 use Rattle.one_rule.specs.declared.rows.Row.{Row}
 use Rattle.one_rule.proofs.Fitting.{cycle_fits, first_values_fit}
 use Rattle.one_rule.proofs.PortRuns.{port_cycles_are_cycles}
 use Rattle.rule_log.proofs.Telling.{length-after}
-use Rattle.circuit_eval.specs.Circuits as circuit
 use Rattle.circuit_eval.specs.Circuits.{AreBits, IsCircuit}
-use Rattle.circuit_eval.specs.Run.{first_row, first_states, flags, is_one, is_one_bit, next_states, outputs_in, row_after, rows_after as circuit_rows, zero_outputs}
+use Rattle.circuit_eval.specs.Run.{first_row, first_states, flags, is_one, is_one_bit, next_states, outputs_in, row_after, rows_after as circuit_rows}
 use Rattle.circuit_eval.specs.declared.circuit.OutputWire.{OutputWire}
 use Rattle.circuit_eval.specs.declared.circuit.StateWire.{StateWire}
 use Rattle.circuit_eval.specs.declared.circuit.Wires.{Wires}

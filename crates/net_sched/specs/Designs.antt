@@ -1,6 +1,6 @@
 -- When a circuit is that of a design: it has the names of the design's parts, and its run is the design's. The run of a
 -- circuit is after BTOR2 (Niemetz et al., CAV 2018), that of a design after Kôika (Bourgeat et al., PLDI 2020).
-use Rattle.std.specs.Prelude.{◌≡◌, ℕ, List, All, map}
+use Rattle.std.specs.Prelude.{◌≡◌, ℕ, All, map}
 use Rattle.net_graph.specs.Nets.{width_at, widths_of}
 use Rattle.typed_core.specs.Widths as design
 use Rattle.typed_core.specs.declared.design.InputDecl.{InputDecl}

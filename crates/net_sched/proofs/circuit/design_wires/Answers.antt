@@ -1,4 +1,4 @@
-use Rattle.std.proofs.Common.{◌≡◌, ◌<◌, ℕ, [], List, length, map, ap, sym, subst, ◌∙◌, arith}
+use Rattle.std.proofs.Common.{◌≡◌, ℕ, [], List, length, map, ap, sym, subst, ◌∙◌, arith}
 use Rattle.net_graph.specs.Nets.{IsNet}
 use Rattle.net_graph.specs.Values.{AllRead}
 use Rattle.net_graph.specs.declared.node.NetOp.{NetOp}

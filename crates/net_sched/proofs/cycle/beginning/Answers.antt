@@ -1,4 +1,4 @@
-use Rattle.std.proofs.Common.{◌≡◌, ◌*◌, ℕ, [], List, length, replicate, ap, sym, subst, ◌∙◌}
+use Rattle.std.proofs.Common.{◌≡◌, ◌*◌, ℕ, [], length, replicate, ap, sym, subst, ◌∙◌}
 use Rattle.std.specs.Prelude.{nat_eq, slice_set}
 use Rattle.kw_bits.specs.BitVector.{BitVector}
 use Rattle.typed_core.specs.Widths.{register_widths}

@@ -1,4 +1,4 @@
-use Rattle.std.proofs.Common.{ℕ, List, length, take}
+use Rattle.std.proofs.Common.{List, length, take}
 use Rattle.kw_bits.specs.BitVector.{BitVector}
 use Rattle.net_graph.specs.Values.{Sources}
 use Rattle.typed_core.specs.Widths.{input_widths, register_widths}

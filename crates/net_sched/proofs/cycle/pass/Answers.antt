@@ -1,4 +1,4 @@
-use Rattle.std.proofs.Common.{◌≡◌, ◌<◌, ℕ, [], List, length, refl, ap, sym, subst, ◌∙◌, arith, Bool}
+use Rattle.std.proofs.Common.{◌≡◌, ℕ, [], length, refl, ap, sym, subst, ◌∙◌, arith, Bool}
 use Rattle.std.specs.Prelude.{slice_get}
 use Rattle.typed_core.specs.Widths.{input_widths, register_widths}
 use Rattle.one_rule.specs.Cycle.{environment}
@@ -7,7 +7,7 @@ use Rattle.one_rule.specs.Walk.{is_at}
 use Rattle.net_action.specs.Gates.{Grows}
 use Rattle.net_action.specs.Wires.{HasWire, is_up}
 use Rattle.net_action.proofs.Growth.{grows_on, log_kept, ports_kept, values_before, wire_kept}
-use Rattle.net_sched.specs.Cycles.{AreFlags, IsVisit, IsWithin, nth}
+use Rattle.net_sched.specs.Cycles.{AreFlags, IsVisit, IsWithin}
 use Rattle.net_sched.specs.declared.cycle.CycleWires.{CycleWires}
 use Rattle.net_sched.proofs.Passing.{gone, is_within}
 use Rattle.net_sched.proofs.Pushing.{flags_kept}

@@ -1,8 +1,6 @@
-use Rattle.std.proofs.Common.{◌≡◌, ◌<◌, ◌+◌, ℕ, [], ◌∷◌, ◌++◌, List, sym, subst, ap₂, ap, ◌∙◌}
+use Rattle.std.proofs.Common.{◌≡◌, ◌+◌, ℕ, [], List, sym, subst, ap₂, ◌∙◌}
 use Rattle.std.specs.Prelude.{◌&&◌, ◌||◌}
-use Rattle.kw_bits.specs.BitVector.{BitVector}
-use Rattle.net_graph.specs.Values.{Sources}
-use Rattle.net_action.specs.Wires.{AreValues, HasWire, is_up}
+use Rattle.net_action.specs.Wires.{HasWire, is_up}
 use Rattle.net_action.proofs.Growth.{grows_on, values_before, wire_kept}
 use Rattle.net_sched.specs.Cycles.{AreFlags, JoinsFlags, nth}
 use Rattle.net_sched.proofs.Pushing.{flags_more, pushed}

@@ -1,4 +1,4 @@
-use Rattle.std.proofs.Common.{◌≡◌, ◌*◌, ℕ, [], List, length, subst}
+use Rattle.std.proofs.Common.{◌≡◌, ◌*◌, [], length, subst}
 use Rattle.typed_core.specs.Widths.{register_widths}
 use Rattle.typed_core.specs.declared.design.Parts.{Parts}
 use Rattle.typed_core.specs.declared.limits.TheConstants.{PORTS}

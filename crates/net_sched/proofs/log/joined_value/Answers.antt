@@ -1,4 +1,4 @@
-use Rattle.std.proofs.Common.{ℕ, [], ap, sym, subst, ◌∙◌, Bool}
+use Rattle.std.proofs.Common.{ℕ, [], ap, subst, ◌∙◌, Bool}
 use Rattle.std.specs.Prelude.{if◌then◌else◌}
 use Rattle.net_graph.specs.Values.{value_at}
 use Rattle.net_action.specs.Wires.{HasWire}

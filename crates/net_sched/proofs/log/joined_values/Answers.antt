@@ -1,8 +1,7 @@
 use Rattle.std.proofs.Common.{◌≡◌, ◌<◌, ◌+◌, ℕ, [], ◌∷◌, ◌++◌, List, length, sym, subst, ap, ap₂, ◌∙◌}
 use Rattle.std.specs.Prelude.{◌&&◌, if◌then◌else◌}
-use Rattle.kw_bits.specs.BitVector.{BitVector}
-use Rattle.net_graph.specs.Values.{Sources, value_at}
-use Rattle.net_action.specs.Wires.{AreValues, HasWire, is_up}
+use Rattle.net_graph.specs.Values.{value_at}
+use Rattle.net_action.specs.Wires.{HasWire, is_up}
 use Rattle.net_action.proofs.Growth.{grows_on, values_before, wire_kept}
 use Rattle.net_sched.specs.Cycles.{nth}
 use Rattle.net_sched.proofs.Pushing.{longer, pushed}
