@@ -9,6 +9,8 @@ mod cycle;
 mod flags;
 mod log;
 mod registers;
+#[cfg(test)]
+mod tests;
 mod visit;
 
 pub use circuit::build;
