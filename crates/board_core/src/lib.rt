@@ -10,6 +10,8 @@ mod event;
 mod kept;
 mod laws;
 mod place;
+#[cfg(test)]
+mod tests;
 mod waiting;
 
 pub use board::Core;

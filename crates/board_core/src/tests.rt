@@ -1,0 +1,231 @@
+ghost use Rattle.std.specs.Prelude.{◌≡◌, [], IfOk};
+ghost use Rattle.std.specs.Arc.{arc_value};
+ghost use Rattle.one_rule.specs.Stimulus.{StimulusFits, inputs_of};
+
+use crate::Core;
+use attempt_log::{Attempt, Settled, Submitted, Taken};
+use kw_bits::{Bits, NoMemory, Sequence, Text};
+use one_rule::{Externs, Stimulus, first_values};
+use std::alloc::Global;
+use std::process::Abort;
+use std::sync::Arc;
+use std::test::Fail;
+use typed_core::{
+    Access, Action, Design, Event, Events, Next, Node, Outcome, Parts, RegDecl, Rule,
+};
+
+// Whether it is a write, its port, its register and its value.
+type Listed = (bool, u32, u32, u128);
+
+// What is done to a board, and what it answers.
+#[derive(Clone, Copy)]
+enum Move {
+    // An attempt at a rule in a cycle that gave these events.
+    Submit(u32, u32, &'static [Listed], Taken),
+    Settle(Told),
+}
+
+// An answer with its rule, and of a stale read its register, its port and its values.
+#[derive(Clone, Copy, Debug, PartialEq, Eq)]
+enum Told {
+    Committed(u32),
+    Skipped(u32),
+    Stale(u32, u32, u32, u128, u128),
+    Closed,
+    Waiting(u32),
+    Finished,
+}
+
+// One rule writes 7 to register 1, the next copies it to register 0.
+const SENDS: &[Listed] = &[(true, 0, 1, 7)];
+
+const COPIES_2: &[Listed] = &[(false, 1, 1, 2), (true, 0, 0, 2)];
+
+const COPIES_7: &[Listed] = &[(false, 1, 1, 7), (true, 0, 0, 7)];
+
+const MOVES: [Move; 14] = [
+    Move::Submit(1, 1, COPIES_2, Taken::Stored),
+    Move::Submit(1, 1, COPIES_7, Taken::Twice),
+    Move::Settle(Told::Waiting(0)),
+    Move::Submit(1, 0, SENDS, Taken::Stored),
+    Move::Settle(Told::Committed(0)),
+    Move::Submit(1, 0, SENDS, Taken::Late),
+    Move::Settle(Told::Stale(1, 1, 1, 2, 7)),
+    Move::Settle(Told::Waiting(1)),
+    Move::Submit(1, 1, COPIES_7, Taken::Stored),
+    Move::Settle(Told::Committed(1)),
+    Move::Settle(Told::Closed),
+    Move::Settle(Told::Finished),
+    Move::Submit(1, 0, SENDS, Taken::Late),
+    Move::Submit(2, 0, SENDS, Taken::Ahead),
+];
+
+fn bits(rt: &impl Abort, number: u128) -> Bits {
+    Bits::new(8, number).expect(rt, "a bit vector")
+}
+
+fn rule(alloc: Global, register: u32, value: Action) -> Result<Rule, NoMemory> {
+    Ok(Rule {
+        name: Text::new(alloc),
+        body: Action::Write(0, register, Box::new(alloc, value)?),
+    })
+}
+
+fn design_of(rt: &impl Abort, alloc: Global) -> Result<Design, NoMemory>
+    ensures inputs { IfOk result (λ design. design.inputs ≡ []) }
+    ensures hosts { IfOk result (λ design. design.hosts ≡ []) }
+{
+    let mut regs = Sequence::new(alloc);
+    for number in [1, 2] {
+        regs.push(RegDecl {
+            name: Text::new(alloc),
+            width: 8,
+            first: bits(rt, number),
+        })?;
+    }
+    let mut rules = Sequence::new(alloc);
+    rules.push(rule(alloc, 1, Action::Const(bits(rt, 7)))?)?;
+    rules.push(rule(alloc, 0, Action::Read(1, 1))?)?;
+    let (yes, no) = (Next::Node(1), Next::Node(1));
+    let first = Node { rule: 0, yes, no };
+    let (yes, no) = (Next::End, Next::End);
+    let second = Node { rule: 1, yes, no };
+    let parts = Parts {
+        regs,
+        inputs: Sequence::new(alloc),
+        tables: Sequence::new(alloc),
+        hosts: Sequence::new(alloc),
+        rules,
+        nodes: Sequence::from_slice(alloc, &[first, second])?,
+    };
+    Ok(Design::new(parts).expect(rt, "a valid design"))
+}
+
+fn events_of(rt: &impl Abort, alloc: Global, listed: &[Listed]) -> Result<Events, NoMemory> {
+    let mut events = Events::new(alloc);
+    for (write, port, register, number) in listed {
+        let access = Access {
+            write: *write,
+            port: *port,
+            register: *register,
+        };
+        let value = bits(rt, *number);
+        events.push(Event { access, value })?;
+    }
+    Ok(events)
+}
+
+// A board, with what it was begun with.
+#[derive(Drop)]
+struct Table {
+    core: Core,
+    design: Arc<Design>,
+    stimulus: Arc<Stimulus>,
+    ghost same_design: { core.board.opening.design ≡ arc_value design },
+    ghost same_stimulus: { core.board.opening.stimulus ≡ arc_value stimulus },
+    ghost stimulus_fits: { StimulusFits (arc_value design) (arc_value stimulus) },
+}
+
+fn attempt_of(
+    rt: &impl Abort,
+    alloc: Global,
+    table: &Table,
+    cycle: u32,
+    rule: u32,
+    listed: &[Listed],
+) -> Result<Attempt, NoMemory>
+    ensures design { IfOk result (λ a. a.design ≡ arc_value table.now.design) }
+    ensures inputs { IfOk result (λ a. a.inputs ≡ inputs_of (arc_value table.now.stimulus) a.cycle) }
+{
+    assert!(rt; (rule as usize) < table.design.rules.len());
+    let events = events_of(rt, alloc, listed)?;
+    let inputs = table.stimulus.inputs(cycle)?;
+    let design = Arc::try_clone(&table.design)?;
+    let made = Attempt::of_trace(
+        alloc,
+        design,
+        &table.core.externs,
+        cycle,
+        rule,
+        inputs,
+        events,
+        Outcome::Done,
+    )?;
+    Ok(made.expect(rt, "a trace"))
+}
+
+fn taken(answer: &Submitted) -> Taken {
+    match answer {
+        Submitted::Stored => Taken::Stored,
+        Submitted::Late(_) => Taken::Late,
+        Submitted::Ahead(_) => Taken::Ahead,
+        Submitted::Twice(_) => Taken::Twice,
+    }
+}
+
+fn summary(answer: Settled) -> Told {
+    match answer {
+        Settled::Committed { rule, .. } => Told::Committed(rule),
+        Settled::Skipped { rule, .. } => Told::Skipped(rule),
+        Settled::Stale { rule, read, .. } => Told::Stale(
+            rule,
+            read.register,
+            read.port,
+            read.held.number(),
+            read.now.number(),
+        ),
+        Settled::CycleClosed { .. } => Told::Closed,
+        Settled::Waiting { rule, .. } => Told::Waiting(rule),
+        Settled::Finished => Told::Finished,
+    }
+}
+
+fn make(rt: &impl Abort, alloc: Global, table: &mut Table, made: Move) -> Result<(), NoMemory> {
+    match made {
+        Move::Submit(cycle, rule, listed, want) => {
+            let attempt = attempt_of(rt, alloc, table, cycle, rule, listed)?;
+            let answer = table.core.submit(attempt);
+            assert_eq!(rt; taken(&answer), want);
+        }
+        Move::Settle(want) => assert_eq!(rt; summary(table.core.settle()), want),
+    }
+    Ok(())
+}
+
+fn begin(rt: &impl Abort, alloc: Global) -> Result<Table, NoMemory> {
+    let design = design_of(rt, alloc)?;
+    let externs = Externs::new(alloc, &design, &[])?;
+    let regs = first_values(alloc, &design)?;
+    let design = Arc::new(alloc, design)?;
+    let externs = Arc::new(alloc, externs)?;
+    let stimulus = Arc::new(alloc, Stimulus::new(alloc, Vec::new(alloc)))?;
+    let core = Core::begin(
+        alloc,
+        Arc::try_clone(&design)?,
+        externs,
+        Arc::try_clone(&stimulus)?,
+        regs,
+        0,
+        1,
+        1,
+    )?;
+    Ok(Table {
+        core,
+        design,
+        stimulus,
+    })
+}
+
+#[test]
+fn a_stale_copy_is_made_again(rt: HostRuntime) -> Result<(), Fail> {
+    let mut table = begin(&rt, rt.alloc())?;
+    for made in MOVES {
+        make(&rt, rt.alloc(), &mut table, made)?;
+    }
+    let rows = table.core.rows();
+    assert_eq!(&rt; rows.len(), 2);
+    let seven = bits(&rt, 7);
+    assert_eq!(&rt; rows[1].regs.as_slice(), [seven, seven].as_slice());
+    assert_eq!(&rt; rows[1].fired.as_slice(), [true, true].as_slice());
+    Ok(())
+}
