@@ -4,3 +4,4 @@ pub mod Plain
 pub mod Flags
 pub mod Slots
 pub mod Sound
+pub mod Runs

@@ -12,7 +12,7 @@ use Rattle.one_rule.specs.declared.cycle.State.{State}
 use Rattle.one_rule.specs.declared.rows.Row.{Row}
 use Rattle.attempt_log.specs.Attempt.{Attempted}
 use Rattle.attempt_log.specs.Past as past
-use Rattle.board_core.specs.Board.{Board, Opening, Slots, Step, committed}
+use Rattle.board_core.specs.Board.{Board, Opening, Slots, Step, committed, run_events}
 use Rattle.board_core.specs.Position.{IsFor, IsOpening, IsPlain}
 use Rattle.board_core.specs.declared.event.BoardAnswer.{BoardAnswer}
 use Rattle.board_core.specs.declared.event.BoardEvent.{BoardEvent}
@@ -78,6 +78,11 @@ pub record StandsFor (kept : Kept) (board : Board) : Type 0 where
 abbrev pub Does : (Opening → Board → Step) → Kept → BoardAnswer → Kept → Type 0
 Does step old told new =
     (board : Board) → StandsFor old board → let next = step old.opening board in (told ≡ next.answer) × StandsFor new next.board
+
+-- a list of events is answered by the answers of the board run, and the new core stands for the board after it
+abbrev pub Runs : List BoardEvent → Kept → List BoardAnswer → Kept → Type 0
+Runs events old answers new =
+    (board : Board) → StandsFor old board → let run = run_events old.opening board events in (answers ≡ run.answers) × StandsFor new run.board
 
 -- the core stands for a board at a plain position
 abbrev pub AtPlain : Kept → Type 0

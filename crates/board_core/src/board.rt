@@ -1,4 +1,5 @@
-ghost use Rattle.std.specs.Prelude.{◌≡◌, ◌≤◌, ◌⊎◌, IfOk};
+ghost use Rattle.std.specs.Prelude.{◌≡◌, ◌≤◌, ◌⊎◌, IfOk, OnErr};
+ghost use Rattle.std.specs.List.{AllByRecursion};
 ghost use Rattle.std.specs.Arc.{arc_value};
 ghost use Rattle.typed_core.specs.Valid.{externs_of};
 ghost use Rattle.typed_core.specs.Widths.{HaveWidths, register_widths};
@@ -6,7 +7,7 @@ ghost use Rattle.one_rule.specs.Externs.{kept};
 ghost use Rattle.one_rule.specs.Stimulus.{StimulusFits};
 ghost use Rattle.attempt_log.specs.declared.entry.Submitted.TheVariants as submitted;
 ghost use Rattle.board_core.specs.Board.{Board, opened, settle, step, submit};
-ghost use Rattle.board_core.specs.Kept.{AtPlain, Does, EventFits, StandsFor};
+ghost use Rattle.board_core.specs.Kept.{AtPlain, Does, EventFits, Runs, StandsFor};
 ghost use Rattle.board_core.specs.Laws.{TellsFiring};
 ghost use Rattle.board_core.specs.Position.{IsFor, IsPlain};
 ghost use Rattle.board_core.specs.declared.event.BoardAnswer.TheVariants as answer;
@@ -93,6 +94,22 @@ impl Core {
             BoardEvent::Submit(attempt) => BoardAnswer::Submit(self.submit(attempt)),
             BoardEvent::Settle => BoardAnswer::Settle(self.settle()),
         }
+    }
+
+    /// Makes events in order. Its memory is taken first, so that after an `Err` no event was made.
+    pub fn run_events(&mut self, mut events: Vec<BoardEvent>) -> Result<Vec<BoardAnswer>, NoMemory>
+        requires { AllByRecursion (EventFits self.old.board.opening) events.items }
+        ensures ok { IfOk result (λ answers. Runs events.items self.old.board answers.items self.new.board) }
+        ensures opening { self.new.board.opening ≡ self.old.board.opening }
+        ensures err { OnErr result (self.new.board ≡ self.old.board) }
+    {
+        let mut answers = Vec::with_capacity(*events.allocator(), events.len())?;
+        // They are taken from the end.
+        events.reverse();
+        while let Some(event) = events.pop() {
+            answers.push_reserved(self.step(event));
+        }
+        Ok(answers)
     }
 
     /// The rows of the cycles that are closed, behind the row of the opening registers. The board is at a plain position,
