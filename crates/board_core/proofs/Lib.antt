@@ -5,3 +5,4 @@ pub mod Flags
 pub mod Slots
 pub mod Sound
 pub mod Runs
+pub mod Finds

@@ -3,3 +3,5 @@ pub mod Position
 pub mod History
 pub mod Kept
 pub mod Laws
+pub mod Candidates
+pub mod Search

@@ -7,6 +7,7 @@ ghost use Rattle.one_rule.specs.Externs.{kept};
 ghost use Rattle.one_rule.specs.Stimulus.{StimulusFits};
 ghost use Rattle.attempt_log.specs.declared.entry.Submitted.TheVariants as submitted;
 ghost use Rattle.board_core.specs.Board.{Board, opened, settle, step, submit};
+ghost use Rattle.board_core.specs.Candidates.{Chooses, JobFits};
 ghost use Rattle.board_core.specs.Kept.{AtPlain, Does, EventFits, Runs, StandsFor};
 ghost use Rattle.board_core.specs.Laws.{TellsFiring};
 ghost use Rattle.board_core.specs.Position.{IsFor, IsPlain};
@@ -14,7 +15,7 @@ ghost use Rattle.board_core.specs.declared.event.BoardAnswer.TheVariants as answ
 
 use crate::event::{BoardAnswer, BoardEvent};
 use crate::kept::{KeptBoard, MAX_CYCLES, MAX_WINDOW};
-use attempt_log::{Attempt, Settled, Submitted};
+use attempt_log::{Attempt, JobAnswer, Settled, Submitted};
 use kw_bits::NoMemory;
 use one_rule::{Externs, Regs, Row, Rows, Stimulus};
 use std::alloc::Global;
@@ -110,6 +111,24 @@ impl Core {
             answers.push_reserved(self.step(event));
         }
         Ok(answers)
+    }
+
+    /// The job of candidate number `pick`, counted round; it looks at each node of the window's cycles at most twice, and takes
+    /// memory for a copy of the inputs and the registers alone.
+    pub fn job(&self, pick: u64) -> Result<JobAnswer, NoMemory>
+        ensures chooses { IfOk result (λ answer. (board : Board) → StandsFor self.now.board board → Chooses self.now.board.opening board pick answer) }
+        ensures fits { IfOk result (JobFits self.now.board.opening) }
+    {
+        if self.board.is_finished() {
+            return Ok(JobAnswer::Finished);
+        }
+        match self.board.choose(pick) {
+            None => Ok(JobAnswer::Idle),
+            Some(candidate) => {
+                let externs = Arc::try_clone(&self.externs)?;
+                Ok(JobAnswer::Job(self.board.job(externs, candidate)?))
+            },
+        }
     }
 
     /// The rows of the cycles that are closed, behind the row of the opening registers. The board is at a plain position,

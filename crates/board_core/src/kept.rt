@@ -1,4 +1,4 @@
-ghost use Rattle.std.specs.Prelude.{◌≡◌, ◌+◌, ◌<◌, ◌≤◌, ◌⊎◌, ℕ, All, IfOk, Some, None, length, replicate};
+ghost use Rattle.std.specs.Prelude.{◌≡◌, ◌+◌, ◌<◌, ◌≤◌, ◌⊎◌, ℕ, List, [], ◌∷◌, ◌++◌, All, IfOk, IfSome, Some, None, nat_lt, length, replicate, slice_get};
 ghost use Rattle.std.specs.Arc.{arc_value};
 ghost use Rattle.typed_core.specs.Widths.{HaveWidths, register_widths};
 ghost use Rattle.one_rule.specs.Stimulus.{AlwaysFits, StimulusFits};
@@ -6,18 +6,25 @@ ghost use Rattle.typed_core.specs.declared.design.Next.TheVariants as next;
 ghost use Rattle.typed_core.specs.declared.design.Node.{Node};
 ghost use Rattle.attempt_log.specs.Attempt.{Attempted, IsAttempt};
 ghost use Rattle.attempt_log.specs.Firsts.{is_some};
+ghost use Rattle.one_rule.specs.Externs.{kept};
+ghost use Rattle.typed_core.specs.Valid.{externs_of};
 ghost use Rattle.attempt_log.specs.declared.entry.Submitted.TheVariants as submitted;
 ghost use Rattle.board_core.specs.Board.{Board, judged, node_at, opened, settle, stored, submit};
 ghost use Rattle.board_core.specs.Kept.{AtPlain, Does, IsBlank, IsNear, StandsFor, comes_ahead, comes_late, slots_from};
+ghost use Rattle.board_core.specs.Candidates.{Fits, IsJobOf, Picks, candidates, first, further, pair_at, pairs};
 ghost use Rattle.board_core.specs.Position.{IsFor, IsOpening};
+ghost use Rattle.board_core.specs.Search.{FindsIn, HasRule, comes_further};
+ghost use Rattle.board_core.specs.declared.candidate.Candidate.{Candidate};
+ghost use Rattle.one_rule.specs.Walk.{is_at};
 ghost use Rattle.board_core.specs.declared.event.BoardAnswer.TheVariants as answer;
 
 use crate::blank::Blank;
+use crate::candidate::{Candidate, Search};
 use crate::place::Place;
 use crate::waiting::Waiting;
-use attempt_log::{Attempt, Settled, Submitted, Verdict};
+use attempt_log::{Attempt, Job, Settled, Submitted, Verdict};
 use kw_bits::{NoMemory, Reserved};
-use one_rule::{Inputs, Regs, Row, Rows, Stimulus, opening};
+use one_rule::{Externs, Inputs, Regs, Row, Rows, Stimulus, opening};
 use std::alloc::Global;
 use std::marker::Model;
 use std::sync::Arc;
@@ -215,6 +222,135 @@ impl KeptBoard {
         self.slots[ahead].stands(attempt.rule() as usize)
     }
 
+    // The candidate of number `pick`, counted round.
+    pub(crate) fn choose(&self, pick: u64) -> Option<Candidate>
+        requires { self.now.cycle ≤ self.now.opening.to }
+        ensures picks { (board : Board) → StandsFor self.now board → Picks (candidates self.now.opening board) pick result }
+        ensures rule { IfSome result (λ c. c.rule < length self.now.opening.design.rules) }
+    {
+        self.is_plain();
+        match self.search(pick) {
+            Search::Found(candidate) => Some(candidate),
+            Search::Left(left) => {
+                if left == pick {
+                    return None;
+                }
+                match self.search(pick % (pick - left)) {
+                    Search::Found(candidate) => Some(candidate),
+                    Search::Left(_) => None,
+                }
+            }
+        }
+    }
+
+    // The job of a candidate.
+    pub(crate) fn job(&self, externs: Arc<Externs>, candidate: Candidate) -> Result<Job, NoMemory>
+        requires externs { kept (arc_value externs) ≡ externs_of self.now.opening.design }
+        requires rule { candidate.rule < length self.now.opening.design.rules }
+        ensures job { IfOk result (λ job. (board : Board) → StandsFor self.now board → IsJobOf self.now.opening board candidate job) }
+        ensures fits { IfOk result (Fits self.now.opening) }
+    {
+        let alloc = *self.place.fired.allocator();
+        Ok(Job {
+            design: Arc::try_clone(&self.design)?,
+            externs,
+            cycle: candidate.cycle,
+            rule: candidate.rule,
+            inputs: self.stimulus.inputs(candidate.cycle)?,
+            regs: Regs::from_slice(alloc, self.place.regs.as_slice())?,
+        })
+    }
+
+    // Whether the last cycle is closed.
+    pub(crate) fn is_finished(&self) -> bool
+        ensures { result ≡ nat_lt self.now.opening.to self.now.cycle }
+    {
+        self.last < self.cycle
+    }
+
+    // Searches for the candidate of a number.
+    fn search(&self, number: u64) -> Search
+        requires { self.now.cycle ≤ self.now.opening.to }
+        ensures finds { FindsIn self.now (candidates self.now.opening) number result }
+        ensures rule { HasRule self.now.opening.design.rules result }
+    {
+        let mut search = self.search_head(number);
+        let cycles = self.window.min(self.last + 1 - self.cycle);
+        for ahead in 0..cycles {
+            search = self.search_cycle(search, self.cycle + ahead);
+        }
+        search
+    }
+
+    // Looks whether the head is a candidate.
+    fn search_head(&self, number: u64) -> Search
+        ensures finds { FindsIn self.now (first self.now.opening) number result }
+        ensures rule { HasRule self.now.opening.design.rules result }
+    {
+        match self.place.at {
+            Next::End => Search::Left(number),
+            Next::Node(node) => {
+                let pair = self.pair(self.cycle, node as usize);
+                Search::Left(number).past(pair, !self.stands_at(self.cycle, pair.rule))
+            }
+        }
+    }
+
+    // Goes past the further candidates of a cycle.
+    fn search_cycle(&self, search: Search, cycle: u32) -> Search
+        requires from { self.now.cycle ≤ cycle }
+        requires within { cycle < self.now.cycle + self.now.opening.window }
+        requires rule { HasRule self.now.opening.design.rules search }
+        ensures finds { (all : Board → List Candidate) (number : ℕ) → FindsIn self.now all number search → FindsIn self.now (λ board. all board ++ further self.now.opening board cycle) number result }
+        ensures rule { HasRule self.now.opening.design.rules result }
+    {
+        let mut search = search;
+        for number in 0..self.design.nodes.len() {
+            let pair = self.pair(cycle, number);
+            search = search.past(pair, self.is_further(pair));
+        }
+        search
+    }
+
+    // The pair of a cycle and a node.
+    fn pair(&self, cycle: u32, number: usize) -> Candidate
+        requires { number < length self.now.opening.design.nodes }
+        ensures pair { slice_get (pairs self.now.opening.design.nodes cycle) number ≡ Some result }
+        ensures head { pair_at cycle (next.Node number) (slice_get self.now.opening.design.nodes number) ≡ result ∷ [] }
+        ensures cycle { result.cycle ≡ cycle }
+        ensures rule { result.rule < length self.now.opening.design.rules }
+    {
+        let node = *self.design.nodes.get(number);
+        Candidate {
+            cycle,
+            node: number as u32,
+            rule: node.rule,
+        }
+    }
+
+    // Whether the pair isn't the head, and its rule is open in its cycle.
+    fn is_further(&self, pair: Candidate) -> bool
+        requires from { self.now.cycle ≤ pair.cycle }
+        requires within { pair.cycle < self.now.cycle + self.now.opening.window }
+        requires rule { pair.rule < length self.now.opening.design.rules }
+        ensures { result ≡ comes_further self.now pair }
+    {
+        let is_current = pair.cycle == self.cycle;
+        !(is_current && is_at(pair.node, self.place.at))
+            && !(is_current && self.place.settled[pair.rule as usize])
+            && !self.stands_at(pair.cycle, pair.rule)
+    }
+
+    // Whether an attempt stands for the cycle and the rule.
+    fn stands_at(&self, cycle: u32, rule: u32) -> bool
+        requires from { self.now.cycle ≤ cycle }
+        requires within { cycle < self.now.cycle + self.now.opening.window }
+        requires rule { rule < length self.now.opening.design.rules }
+        ensures { result ≡ is_some (slots_from self.now.cycle self.now.slots cycle rule) }
+    {
+        self.slots[(cycle - self.cycle) as usize].stands(rule as usize)
+    }
+
     // Puts an attempt in its slot.
     fn store(&mut self, attempt: Attempt)
         requires fits { IsFor self.old.opening attempt }
@@ -261,6 +397,16 @@ impl KeptBoard {
         self.slots.rotate_left(1);
         self.cycle += 1;
         Settled::CycleClosed { cycle }
+    }
+}
+
+// Whether the walk is at the node of this number.
+fn is_at(number: u32, at: Next) -> bool
+    ensures { result ≡ is_at number at }
+{
+    match at {
+        Next::Node(to) => number == to,
+        Next::End => false,
     }
 }
 

@@ -6,6 +6,7 @@
 
 mod blank;
 mod board;
+mod candidate;
 mod event;
 mod kept;
 mod laws;
