@@ -42,11 +42,11 @@ Knows-more known next id value f is knows here = λ q v found.
 pub Knows-nothing : (known : KnownValues) (f : Values) → known_value known ≡ (λ _. None) → Knows known f
 Knows-nothing known f is = λ q v found. let none : None ≡ Some v = sym (ap (λ (g : ℕ → Option BitVector). g q) is) ∙ found in absurd (cc)
 
-option_or-none : (a b : Option Fault) → option_or a b ≡ None → (a ≡ None) × (b ≡ None)
+pub option_or-none : (a b : Option Fault) → option_or a b ≡ None → (a ≡ None) × (b ≡ None)
 option_or-none None b is = (refl, is)
 option_or-none (Some x) b is = absurd (cc)
 
-option_map-none : (f : ℕ → Fault) (a : Option ℕ) → option_map f a ≡ None → a ≡ None
+pub option_map-none : (f : ℕ → Fault) (a : Option ℕ) → option_map f a ≡ None → a ≡ None
 option_map-none f None is = refl
 option_map-none f (Some x) is = absurd (cc)
 

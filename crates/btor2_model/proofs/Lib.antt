@@ -1,7 +1,11 @@
 pub mod Evaluation
 pub mod Examples
+pub mod Filled
+pub mod Filling
+pub mod KindsByRule
 pub mod Narrow
 pub mod Numerals
+pub mod One
 pub mod Places
 pub mod Selections
 pub mod Walk

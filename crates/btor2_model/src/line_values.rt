@@ -1,14 +1,15 @@
 // The values of lines in a step.
-ghost use Rattle.std.specs.Prelude.{◌≡◌, ℕ, None, Some, nat_eq, IfOk, IfSome, OnOk, unwrap_or};
+ghost use Rattle.std.specs.Prelude.{◌≡◌, ℕ, Bool, true, None, Some, nat_eq, IfOk, IfSome, OnOk, unwrap_or};
 ghost use Rattle.std.specs.List.{zip};
 ghost use Rattle.std.specs.Map.{lookup};
 ghost use Rattle.kw_bits.specs.BitVector.{BitVector};
+ghost use Rattle.btor2_text.specs.Printable.{ArePrintable};
 ghost use Rattle.btor2_model.specs.Acceptance as acceptance;
 ghost use Rattle.btor2_model.specs.Known.{scope_of, AreNarrow};
 ghost use Rattle.btor2_model.specs.Rules as form;
 ghost use Rattle.btor2_model.specs.Run as run;
 ghost use Rattle.btor2_model.specs.Scope as scope;
-ghost use Rattle.btor2_model.specs.SlowRun.{Knows, step_with};
+ghost use Rattle.btor2_model.specs.SlowRun.{computes, known_value, step_with, GivesValue, InputsHave, IsFilled, Knows, StatesHave};
 
 use crate::known::Known;
 use crate::known_values::KnownValues;
@@ -27,7 +28,10 @@ pub(crate) fn values_with(
     states: &KnownValues,
 ) -> Result<KnownValues, NoMemory>
     requires { acceptance.lines_fault scope.no_lines lines.now ≡ None }
-    ensures { IfOk result (λ values. (all : ℕ → BitVector) → Knows states.now all → Knows values (run.values_with lines.now inputs.now all)) }
+    ensures known { IfOk result (λ values. (all : ℕ → BitVector) → Knows states.now all → Knows values (run.values_with lines.now inputs.now all)) }
+    // What depends on inputs and states has a value where each of those has one of its width; all else always has.
+    ensures filled { IfOk result (λ values. (given : Bool) → ArePrintable lines.now → (given ≡ true → InputsHave lines.now inputs.now) → (given ≡ true → StatesHave lines.now states.now)
+        → IsFilled given (scope.behind_all scope.no_lines lines.now) values) }
 {
     let ids = input_ids(alloc, lines)?;
     let mut known = Known::new(alloc, lines.len())?;
@@ -77,7 +81,10 @@ fn line_value(
     line: &Line,
 ) -> Option<Bits>
     requires { AreNarrow (scope_of known.now) }
-    ensures { (before after : ℕ → BitVector) → Knows states.now before → Knows values.now after
+    ensures input { form.is_input (form.rule_of line.now.keyword) ≡ true → result ≡ lookup (nat_eq line.now.id) (zip ids.now inputs.now) }
+    ensures state { form.is_state (form.rule_of line.now.keyword) ≡ true → result ≡ known_value states.now line.now.id }
+    ensures some { computes (form.rule_of line.now.keyword) ≡ true → GivesValue (scope_of known.now) values.now line.now.keyword line.now.arguments result }
+    ensures value { (before after : ℕ → BitVector) → Knows states.now before → Knows values.now after
         → IfSome result (λ value. value ≡ run.value_by (form.rule_of line.now.keyword) (step_with ids.now inputs.now before) (scope_of known.now) after line.now) }
 {
     match Rule::of(line.keyword) {
@@ -95,7 +102,8 @@ fn operator_value(
     arguments: &[Argument],
 ) -> Option<Bits>
     requires { AreNarrow (scope_of known.now) }
-    ensures { (all : ℕ → BitVector) → Knows values.now all
+    ensures some { GivesValue (scope_of known.now) values.now keyword arguments.now result }
+    ensures value { (all : ℕ → BitVector) → Knows values.now all
         → IfSome result (λ value. value ≡ run.operator_value (scope_of known.now) all keyword arguments.now) }
 {
     match arguments {

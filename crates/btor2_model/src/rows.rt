@@ -22,8 +22,10 @@ use kw_bits::{Bits, NoMemory};
 use one_rule::{FiredSet, Regs, Row, Rows, Stimulus};
 use std::alloc::{AllocError, Global};
 
-/// The rows of a text's run of n cycles, each line evaluated anew in each step. There are none where an operand has no
-/// value of a width that its operator takes, as where the stimulus gives an input a value of another width.
+/// The rows of a text's run of n cycles, each line evaluated anew in each step. There are none where a value is missing, as
+/// where the stimulus gives an input one of another width. Where the inputs and the states have values of their widths, each
+/// line of a step has one; that the states still do behind a step, and so that there always are rows for a stimulus of the
+/// inputs' widths, isn't proved.
 pub fn slow_run(
     alloc: Global,
     text: &Btor,

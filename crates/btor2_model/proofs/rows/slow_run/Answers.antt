@@ -31,7 +31,7 @@ loop-step-preserved c =
     let after : Values = states_at text inputs (step + 1) in
     let values : Knows c.in_ok-values.values before =
     subst (λ (lines : List Line). Knows c.in_ok-values.values (values_with lines (inputs (step + 1)) now)) same
-    (subst (λ (given : List BitVector). Knows c.in_ok-values.values (values_with c.as_slice-lines.result.now given now)) (c.as_slice.ensures ∙ c.in_ok-inputs.ensures.inputs) (c.in_ok-values.ensures now c.loop-step.invariant.states)) in
+    (subst (λ (given : List BitVector). Knows c.in_ok-values.values (values_with c.as_slice-lines.result.now given now)) (c.as_slice.ensures ∙ c.in_ok-inputs.ensures.inputs) (c.in_ok-values.ensures.known now c.loop-step.invariant.states)) in
     let states : Knows c.in_ok-states-2.states after =
     subst (Knows c.in_ok-states-2.states) (sym (states-next text inputs step)) (subst (λ (lines : List Line). Knows c.in_ok-states-2.states (next_values lines before)) same (c.in_ok-states-2.ensures before values)) in
     let made = λ (lines : List Line) (row : Row) (old new : Values). row ≡ record { regs = map new (ids_of is_state lines); fired = map (λ (id : ℕ). (old id).number == 1) (flag_ids lines) } in
