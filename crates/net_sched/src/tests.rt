@@ -3,6 +3,8 @@ ghost use Rattle.typed_core.specs.Valid.{externs_of};
 ghost use Rattle.one_rule.specs.Externs.{kept};
 ghost use Rattle.one_rule.specs.Stimulus.{StimulusFits};
 
+mod outside;
+
 use crate::build;
 use circuit_eval::run_circuit;
 use kw_bits::{Bits, NoMemory, Sequence, Text};
