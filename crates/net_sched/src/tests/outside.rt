@@ -2,7 +2,6 @@
 ghost use Rattle.std.specs.Prelude.{◌≡◌, ◌+◌, ◌*◌, ◌^◌, ◌<◌, ◌∷◌, [], IfOk};
 ghost use Rattle.kw_bits.specs.Host as host;
 ghost use Rattle.kw_bits.specs.declared.host.HostKind.TheVariants.{Hamming};
-ghost use Rattle.typed_core.specs.Widths.{input_widths};
 ghost use Rattle.one_rule.specs.Externs.{host_spec};
 
 use super::{expect_run, register};
