@@ -1,11 +1,11 @@
-ghost use Rattle.std.specs.Prelude.{◌≡◌, [], IfOk};
+ghost use Rattle.std.specs.Prelude.{◌≡◌, ◌≤◌, [], IfOk};
 ghost use Rattle.std.specs.Arc.{arc_value};
 ghost use Rattle.one_rule.specs.Stimulus.{StimulusFits, inputs_of};
 
 use crate::Core;
-use attempt_log::{Attempt, Settled, Submitted, Taken};
+use attempt_log::{Attempt, JobAnswer, Settled, Submitted, Taken, attempt};
 use kw_bits::{Bits, NoMemory, Sequence, Text};
-use one_rule::{Externs, Stimulus, first_values};
+use one_rule::{Externs, Row, Stimulus, first_values};
 use std::alloc::Global;
 use std::process::Abort;
 use std::sync::Arc;
@@ -42,6 +42,8 @@ const SENDS: &[Listed] = &[(true, 0, 1, 7)];
 const COPIES_2: &[Listed] = &[(false, 1, 1, 2), (true, 0, 0, 2)];
 
 const COPIES_7: &[Listed] = &[(false, 1, 1, 7), (true, 0, 0, 7)];
+
+const COPIES_255: &[Listed] = &[(false, 1, 1, 255), (true, 0, 0, 255)];
 
 const MOVES: [Move; 14] = [
     Move::Submit(1, 1, COPIES_2, Taken::Stored),
@@ -192,7 +194,11 @@ fn make(rt: &impl Abort, alloc: Global, table: &mut Table, made: Move) -> Result
     Ok(())
 }
 
-fn begin(rt: &impl Abort, alloc: Global) -> Result<Table, NoMemory> {
+fn begin(rt: &impl Abort, alloc: Global, to: u32, window: u32) -> Result<Table, NoMemory>
+    requires last { to ≤ 16 }
+    requires window { 1 ≤ window }
+    requires few_ahead { window ≤ 16 }
+{
     let design = design_of(rt, alloc)?;
     let externs = Externs::new(alloc, &design, &[])?;
     let regs = first_values(alloc, &design)?;
@@ -206,8 +212,8 @@ fn begin(rt: &impl Abort, alloc: Global) -> Result<Table, NoMemory> {
         Arc::try_clone(&stimulus)?,
         regs,
         0,
-        1,
-        1,
+        to,
+        window,
     )?;
     Ok(Table {
         core,
@@ -216,16 +222,52 @@ fn begin(rt: &impl Abort, alloc: Global) -> Result<Table, NoMemory> {
     })
 }
 
+// Settles the head, or does its job where no attempt stands for it.
+fn settle_or_do(alloc: Global, table: &mut Table) -> Result<(), NoMemory> {
+    if let Settled::Waiting { .. } = table.core.settle() {
+        if let JobAnswer::Job(job) = table.core.job(0)? {
+            let made = attempt(alloc, &job)?;
+            let _ = table.core.submit(made);
+        }
+    }
+    Ok(())
+}
+
+fn assert_sevens(rt: &impl Abort, row: &Row) {
+    let seven = bits(rt, 7);
+    assert_eq!(rt; row.regs.as_slice(), [seven, seven].as_slice());
+    assert_eq!(rt; row.fired.as_slice(), [true, true].as_slice());
+}
+
 #[test]
 fn a_stale_copy_is_made_again(rt: HostRuntime) -> Result<(), Fail> {
-    let mut table = begin(&rt, rt.alloc())?;
+    let mut table = begin(&rt, rt.alloc(), 1, 1)?;
     for made in MOVES {
         make(&rt, rt.alloc(), &mut table, made)?;
     }
     let rows = table.core.rows();
     assert_eq!(&rt; rows.len(), 2);
-    let seven = bits(&rt, 7);
-    assert_eq!(&rt; rows[1].regs.as_slice(), [seven, seven].as_slice());
-    assert_eq!(&rt; rows[1].fired.as_slice(), [true, true].as_slice());
+    assert_sevens(&rt, &rows[1]);
+    Ok(())
+}
+
+#[test]
+fn guesses_leave_the_rows_of_the_run(rt: HostRuntime) -> Result<(), Fail> {
+    let mut table = begin(&rt, rt.alloc(), 3, 2)?;
+    for (cycle, want) in [(1, Taken::Stored), (2, Taken::Stored), (3, Taken::Ahead)] {
+        let sent = Move::Submit(cycle, 0, SENDS, want);
+        let copied = Move::Submit(cycle, 1, COPIES_255, want);
+        make(&rt, rt.alloc(), &mut table, sent)?;
+        make(&rt, rt.alloc(), &mut table, copied)?;
+    }
+    for _ in 0..24 {
+        settle_or_do(rt.alloc(), &mut table)?;
+    }
+    make(&rt, rt.alloc(), &mut table, Move::Settle(Told::Finished))?;
+    let rows = table.core.rows();
+    assert_eq!(&rt; rows.len(), 4);
+    for row in &rows[1..] {
+        assert_sevens(&rt, row);
+    }
     Ok(())
 }
