@@ -1,7 +1,6 @@
 -- What a search finds in a list, and in one that goes on.
-use Rattle.std.proofs.Common.{◌≡◌, ℕ, zero, suc, ◌+◌, ◌<◌, ◌≤◌, ◌%◌, Bool, true, false, List, [], ◌∷◌, ◌++◌, length, Option, Some, None, refl, sym, ap, ◌∙◌, subst, arith, append-nil, append_assoc, take, filter, map, flat_map, not, ap₂}
+use Rattle.std.proofs.Common.{◌≡◌, ℕ, zero, suc, ◌+◌, ◌<◌, ◌≤◌, ◌%◌, Bool, false, List, [], ◌∷◌, ◌++◌, length, Option, Some, None, refl, sym, ap, ◌∙◌, subst, arith, append-nil, append_assoc, take, filter, map, flat_map, not, ap₂}
 use Rattle.std.specs.Prelude.{slice_get, if◌then◌else◌}
-use Rattle.std.proofs.lemmas.List.{length-append}
 use Rattle.std.proofs.Math.Nat.{mod-eq_of_lt, mod-lt}
 use Rattle.std.proofs.lemmas.Option.{slice_get_within}
 use Rattle.std.specs.List.{enumerate_from, range_with_len}
@@ -18,14 +17,13 @@ use Rattle.typed_core.specs.declared.design.Node.{Node}
 use Rattle.one_rule.specs.Cycle.{is_among}
 use Rattle.one_rule.specs.Walk.{is_at}
 use Rattle.attempt_log.specs.Firsts.{is_some}
-use Rattle.board_core.specs.Board.{Board, Opening, head, node_at, stands}
-use Rattle.board_core.specs.Candidates.{Picks, first, further, is_further, pair_at, pair_of, pairs}
+use Rattle.board_core.specs.Board.{Board, node_at, stands}
+use Rattle.board_core.specs.Candidates.{Picks, first, is_further, pair_at, pair_of, pairs}
 use Rattle.board_core.specs.Kept.{Kept, StandsFor, slots_from}
 use Rattle.board_core.proofs.Flags.{flag_at}
 use Rattle.board_core.specs.Search.{Finds, comes_further}
 use Rattle.board_core.specs.declared.candidate.Candidate.{Candidate}
 use Rattle.board_core.specs.declared.candidate.Search.{Search}
-use Rattle.board_core.specs.declared.candidate.Search.TheVariants as search
 
 -- what stands in a list stands in one that goes on
 pub found_more : (xs ys : List Candidate) (n : ℕ) (c : Candidate) → slice_get xs n ≡ Some c → slice_get (xs ++ ys) n ≡ Some c

@@ -1,4 +1,4 @@
-use Rattle.std.proofs.Common.{Bool, List, [], ◌∷◌, ◌++◌, sym, subst}
+use Rattle.std.proofs.Common.{Bool, [], ◌∷◌, ◌++◌, sym, subst}
 use Rattle.std.specs.Prelude.{if◌then◌else◌}
 use Rattle.board_core.specs.Search.{Finds}
 use Rattle.board_core.proofs.candidate.Search.past.Goals as goal

@@ -1,4 +1,4 @@
-use Rattle.std.proofs.Common.{List, ◌++◌, flat_map}
+use Rattle.std.proofs.Common.{◌++◌, flat_map}
 use Rattle.std.specs.List.{range_with_len}
 use Rattle.board_core.specs.Candidates.{first, further}
 use Rattle.board_core.specs.Search.{FindsIn, HasRule}
