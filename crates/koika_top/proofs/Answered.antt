@@ -1,5 +1,5 @@
 -- Words and a source have an answer: what the definitions ask of each text and each form is told one way or the other.
-use Rattle.std.proofs.Common.{◌≡◌, ◌≢◌, ◌⊎◌, ◌<◌, ◌≤◌, ◌+◌, ◌^◌, ℕ, Box, Global, Bool, true, false, List, [], ◌∷◌, ◌++◌, length, drop, get_or, map, Option, Some, None, refl, sym, ap, subst, ◌∙◌, inl, inr, ⊎_elim, arith}
+use Rattle.std.proofs.Common.{◌≡◌, ◌≢◌, ◌⊎◌, ◌<◌, ◌≤◌, ◌^◌, ℕ, Box, Global, Bool, true, false, List, [], ◌∷◌, length, drop, get_or, map, Option, Some, None, refl, sym, ap, subst, ◌∙◌, inl, inr, ⊎_elim, arith}
 use Rattle.std.specs.Prelude.{slice_get, MatchOption, IfSome}
 use Rattle.std.specs.Ptr.{null_ptr}
 use Rattle.std.specs.Str.{bytes_eq}
@@ -18,15 +18,15 @@ use Rattle.koika_syntax.proofs.KeywordTable.{same_keyword}
 use Rattle.koika_syntax.proofs.Lexing.{tokens_or_first_fault}
 use Rattle.koika_syntax.proofs.SymbolTable.{same_symbol}
 use Rattle.one_rule.specs.Run.{run_of}
-use Rattle.typed_core.specs.Valid.{IsWidth}
 use Rattle.typed_core.specs.declared.action.TwoOp.TheVariants.{Add}
 use Rattle.typed_core.specs.declared.action.Action.{Action}
 use Rattle.typed_core.specs.declared.action.Action.TheVariants.{Const, Two', Read, Write'}
 use Rattle.typed_core.specs.declared.design.Next.TheVariants as next
 use Rattle.typed_core.specs.declared.design.Parts.{Parts}
 use Rattle.koika_top.specs.Answer.{AnswersSource, IsAnswer, is_too_long, longest_source}
-use Rattle.koika_top.specs.FirstForm.{fault_of_source, form_token, tokens_of, OperandHasBits, IsWellFormed, Fills, IsOperandOf, IsSumOf, IsDesignOf, IsFirstForm, IsFormFault}
-use Rattle.koika_top.specs.Report.{report}
+use Rattle.koika_top.specs.FirstForm.{fault_of_source, form_token, tokens_of, OperandHasBits, IsWellFormed, IsOperandOf, IsSumOf, IsDesignOf, IsFirstForm, IsFormFault}
+use Rattle.stim_report.specs.Report.{report}
+use Rattle.stim_report.specs.Shapes.{shape_of}
 use Rattle.koika_top.specs.Words.{cycles_of}
 use Rattle.koika_top.specs.declared.answer.Answer.{Answer}
 use Rattle.koika_top.specs.declared.answer.Answer.TheVariants.{Usage, Refused, Written}
@@ -270,7 +270,7 @@ source_answer cycles source =
     ⊎_elim
     (λ long_run. (Refused (fault_of_source 45), inr (inr (refl, short, (spelled.0, spelled.1, long_run)))))
     (λ within.
-    (Written (report spelled.0 (run_of spelled.0 (λ _. []) cycles)), record { short = short; design = spelled.0; spelled = spelled.1; within = within; reported = refl }))
+    (Written (report (shape_of spelled.0) (run_of spelled.0 (λ _. []) cycles)), record { short = short; design = spelled.0; spelled = spelled.1; within = within; reported = refl }))
     (yes_or_no (is_too_long cycles spelled.0)))
     (λ refused. (Refused refused.0, inr (inl (short, refused.1))))
     (spelled_or_refused source))
