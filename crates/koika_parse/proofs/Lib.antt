@@ -9,3 +9,12 @@ pub mod Names
 pub mod Lists
 pub mod Parts
 pub mod Calls
+pub mod UnambiguousReaders
+pub mod UnambiguousGrammar
+pub mod UnambiguousLevels
+pub mod UnambiguousLists
+pub mod UnambiguousConstants
+pub mod UnambiguousBlocks
+pub mod UnambiguousExpressions
+pub mod UnambiguousDesigns
+pub mod Unambiguous

@@ -5,3 +5,5 @@ pub mod Names
 pub mod Parts
 pub mod Reading
 pub mod Words
+pub mod Outline
+pub mod Laws

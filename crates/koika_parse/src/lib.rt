@@ -9,6 +9,7 @@ mod constants;
 mod cursor;
 mod declarations;
 mod expressions;
+mod laws;
 mod parser;
 mod primaries;
 mod scheduler;
@@ -19,4 +20,8 @@ mod tests;
 mod tokens;
 mod types;
 
+pub use laws::{
+    tokens_are_derived_by_one_tree, trees_of_the_same_tokens_differ_in_places_alone,
+    what_is_printed_is_read_again,
+};
 pub use parser::parse;

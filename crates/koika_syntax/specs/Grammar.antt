@@ -247,11 +247,11 @@ abbrev ExpressionLayer : Type 0
 ExpressionLayer = Expression-F Expression Statement Arm Block FieldValue Operand
 
 -- how tightly an expression holds together: 0 is an `if`, 1 to 9 a chain of that level, 10 a unary run, 11 a postfix, 12 a primary
-abbrev level_of_chain : List Operand → ℕ
+abbrev pub level_of_chain : List Operand → ℕ
 level_of_chain [] = 0
 level_of_chain (operand ∷ operands) = level_of (out-Operand operand).operator
 
-abbrev level_of_layer : ExpressionLayer → ℕ
+abbrev pub level_of_layer : ExpressionLayer → ℕ
 level_of_layer (expression.If arms otherwise) = 0
 level_of_layer (expression.Chain first rest) = level_of_chain rest.items
 level_of_layer (expression.Unary prefixes operand) = 10

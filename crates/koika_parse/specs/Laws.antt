@@ -1,0 +1,26 @@
+-- The laws of the grammar: tokens are derived by one tree at most.
+use Rattle.std.specs.Prelude.{◌≡◌, ℕ, List, map}
+use Rattle.koika_syntax.specs.Grammar.{Derives, IsDesign, tree_leaves}
+use Rattle.koika_syntax.specs.Tree.{Terminal, terminal_of}
+use Rattle.koika_syntax.specs.declared.token.Token.{Token}
+use Rattle.koika_syntax.specs.declared.tree.Tree.{Tree}
+use Rattle.koika_parse.specs.Outline.{SameTree, SameUpToPlaces}
+
+-- what the grammar sees of the tokens of a tree, and of those of a text
+abbrev pub terminals : Tree → List Terminal
+terminals tree = map (λ leaf. leaf.terminal) (tree_leaves tree)
+
+abbrev pub terminals_in : List ℕ → List Token → List Terminal
+terminals_in text tokens = map (terminal_of text) tokens
+
+-- two trees that derive the same tokens of a text are the same
+abbrev pub OneTree : Type 0
+OneTree = (text : List ℕ) (tokens : List Token) (t u : Tree) → Derives text t tokens → Derives text u tokens → SameTree t u
+
+-- two trees of the grammar that have the same tokens are the same up to places
+abbrev pub OneTreeUpToPlaces : Type 0
+OneTreeUpToPlaces = (t u : Tree) → IsDesign t → IsDesign u → terminals t ≡ terminals u → SameUpToPlaces t u
+
+-- where the tokens of a text are those of a tree, as in a printed text, each tree that derives them is that tree up to places
+abbrev pub ReadAgain : Type 0
+ReadAgain = (text : List ℕ) (tokens : List Token) (t u : Tree) → IsDesign t → terminals_in text tokens ≡ terminals t → Derives text u tokens → SameUpToPlaces t u
