@@ -1,18 +1,13 @@
 -- What is printed is lexed as the tokens that were printed, since no token goes on over a blank.
-use Rattle.std.proofs.Common.{◌≡◌, ℕ, suc, ◌+◌, ◌-◌, ◌≤◌, ◌<◌, ◌^◌, Bool, true, false, not, List, [], ◌∷◌, ◌++◌, length, length-append, get_or, take, drop, map, decimal, Result, Ok, Err, IfOk, inl, refl, sym, ap, ◌∙◌, subst, arith}
+use Rattle.std.proofs.Common.{◌≡◌, ℕ, ◌-◌, true, List, [], ◌∷◌, ◌++◌, length, length-append, take, map, decimal, inl, refl, sym, ap, ◌∙◌, subst, arith}
 use Rattle.std.specs.Prelude.{slice_range}
-use Rattle.std.specs.List.{list_all, prefix_len, flat_map}
-use Rattle.std.specs.Str.Parse.{IsNumeral}
 use Rattle.std.proofs.lemmas.Fmt.{decimal_is_IsNumeral}
 use Rattle.std.proofs.lemmas.List.{append_assoc}
 use Rattle.std.proofs.Math.Seq.{take-append_seam, drop-append_seam}
-use Rattle.kw_bits.specs.BitVector.{BitVector, IsBitVector}
 use Rattle.koika_syntax.specs.Keywords.{keyword_text}
-use Rattle.koika_syntax.specs.Lexemes.{is_blank, begins_word, continues_word, IsWord, Kind, HasKind, IsLongest, LiteralParts}
-use Rattle.koika_syntax.specs.Symbols.{symbol_text}
-use Rattle.koika_syntax.specs.Tokens.{IsToken, Piece, IsCut, IsPiece, bytes_of, tokens_behind, AreTokensOf}
+use Rattle.koika_syntax.specs.Lexemes.{is_blank, IsLongest}
+use Rattle.koika_syntax.specs.Tokens.{IsToken, Piece, IsCut, tokens_behind}
 use Rattle.koika_syntax.specs.Tree.{Leaf, Terminal, name, number, literal, keyword, symbol, terminal_of}
-use Rattle.koika_syntax.specs.declared.keyword.Keyword.{Keyword}
 use Rattle.koika_syntax.specs.declared.symbol.Symbol.{Symbol}
 use Rattle.koika_syntax.specs.declared.symbol.Symbol.TheVariants as symbols
 use Rattle.koika_syntax.specs.declared.token.Token.{Token}
@@ -21,7 +16,7 @@ use Rattle.koika_syntax.specs.declared.token.TokenKind.TheVariants as kinds
 use Rattle.koika_syntax.proofs.KeywordTable.{IsWord-keyword_text}
 use Rattle.koika_syntax.proofs.Blanks.{literal_token, longest_word, longest_number, longest_literal, longest_symbol}
 use Rattle.koika_syntax.proofs.Longest.{IsLongest-from_none_longer, NoneLonger-blank}
-use Rattle.koika_print.specs.Printed.{written, blank_after, blank_after_symbol, leaf_text, printed, IsWritable, AreWritable, IsLexedAs}
+use Rattle.koika_print.specs.Printed.{written, blank_after, blank_after_symbol, printed, IsWritable, AreWritable, IsLexedAs}
 
 abbrev kind_of : Terminal → TokenKind
 kind_of (name text) = kinds.Name

@@ -1,2 +1,4 @@
 pub mod Printing
 pub mod Lexed
+pub mod Levels
+pub mod Writable

@@ -1,6 +1,6 @@
 ghost use Rattle.std.specs.Prelude.{OnOk, ◌≡◌, IfOk};
 ghost use Rattle.std.specs.List.{flat_map};
-ghost use Rattle.koika_syntax.specs.Grammar.{declaration_leaves, tree_leaves};
+ghost use Rattle.koika_syntax.specs.Grammar.{IsDesign, declaration_leaves, tree_leaves};
 ghost use Rattle.koika_print.specs.Printed.{AreWritable, IsLexedAs, Prints, printed};
 
 use crate::declarations::declaration;
@@ -15,8 +15,9 @@ use std::alloc::Global;
 pub fn print(alloc: Global, tree: &Tree) -> Result<Text, NoMemory>
     ensures text { IfOk result (λ text. text ≡ printed (tree_leaves tree.now)) }
 
-    // What is printed is lexed as the tree's tokens.
+    // What is printed is lexed as the tree's tokens, for each tree of the grammar and for each whose tokens can be written.
     ensures tokens { AreWritable (tree_leaves tree.now) → IfOk result (λ text. IsLexedAs text (tree_leaves tree.now)) }
+    ensures derived { IsDesign tree.now → IfOk result (λ text. IsLexedAs text (tree_leaves tree.now)) }
 {
     let mut out = Text::new(alloc);
     design(&mut out, tree)?;
