@@ -4,6 +4,7 @@ use Rattle.std.proofs.lemmas.List.{drop-drop}
 use Rattle.std.proofs.lemmas.Option.{slice_get-get_or, slice_get_past}
 use Rattle.kw_bits.specs.BitVector.{BitVector}
 use Rattle.std.specs.Bool.{⊤}
+use Rattle.std.specs.Prelude.{Bool, false, IsTrue, ◌↔◌}
 use Rattle.std.specs.Option.{option_map}
 use Rattle.koika_syntax.specs.Tree.{Leaf, Terminal, name, number, literal, keyword, symbol, placed, terminal_of}
 use Rattle.koika_syntax.specs.declared.keyword.Keyword.{Keyword}
@@ -41,6 +42,9 @@ free Q Follow q v is behind = tt
 -- before anything is read
 pub start : {source : Source} {cursor : Cursor} {Word : List Leaf → Type 0} {Follow : Option Terminal → Type 0} {Rest : List Leaf → Type 0} → ((u : List Leaf) → Word u → Rest u) → Goes source cursor cursor Word Follow Rest
 start into = record { forward = omega arith; left = λ w u v agrees word behind here. (u, into u word, record { rest = here; few = λ few. few }) }
+
+pub begin : {source : Source} {cursor : Cursor} {Follow : Option Terminal → Type 0} (Word : List Leaf → Type 0) → Goes source cursor cursor Word Follow Word
+begin Word = start (λ u word. word)
 
 -- a part more
 pub step : {X : Type 0} {source : Source} {old mid new : Cursor} {Word : List Leaf → Type 0} {Follow Mid : Option Terminal → Type 0} {P Q : List Leaf → Type 0} {x : X} →
@@ -256,6 +260,14 @@ literal_next source cursor d bits within kind =
 pub before_one : (Follow Mid : Option Terminal → Type 0) (terminal : Terminal) → Mid (Some terminal) → Apart (One terminal) Follow Mid
 before_one Follow Mid terminal mid q v one behind = subst (λ l. Behind Mid (l ++ v)) (sym one.2) (subst (λ t. Mid (Some t)) (sym one.1) mid)
 
+pub before_one_then : (Q : List Leaf → Type 0) (Follow Mid : Option Terminal → Type 0) (terminal : Terminal) → Mid (Some terminal) → Apart (Then (One terminal) Q) Follow Mid
+before_one_then Q Follow Mid terminal mid q v both behind = subst (λ l. Behind Mid (l ++ v)) (sym (both.4 ∙ ap (λ l. l ++ both.1) both.2.2)) (subst (λ t. Mid (Some t)) (sym both.2.1) mid)
+
+-- the last part isn't read, and that is handed on
+pub fails_last_as : {X Y : Type 0} {source : Source} {old mid new : Cursor} {Word : List Leaf → Type 0} {Follow Mid : Option Terminal → Type 0} {P : List Leaf → Type 0} {stop : Stop} (result : Result Y Stop) →
+    IsErr result × IsErrAnd result (λ found. found ≡ stop) → Goes source old mid Word Follow P → Takes {X = X} source mid new P Mid (Err stop) → ((v : List Leaf) → Behind Follow v → Behind Mid v) → Takes source old new Word Follow result
+fails_last_as result is goes takes apart = handed result is (last_stopped goes takes apart)
+
 -- what is left, said otherwise
 pub goes_as : {source : Source} {old new : Cursor} {Word : List Leaf → Type 0} {Follow : Option Terminal → Type 0} {Rest Other : List Leaf → Type 0} →
     Goes source old new Word Follow Rest → ((r : List Leaf) → Rest r → Other r) → Goes source old new Word Follow Other
@@ -321,3 +333,14 @@ sign_or_name e = omega (arith, ap kind_tag (same_of_some e))
 pub literal_or_name : {bits : BitVector} → Some (kinds.Literal bits) ≡ Some kinds.Name → ⊥
 unfolding kind_tag
 literal_or_name e = omega (arith, ap kind_tag (same_of_some e))
+
+-- the token is that one
+pub takes_word : {X : Type 0} {source : Source} {old new : Cursor} {Follow : Option Terminal → Type 0} {result : Result X Stop} {a b : Keyword} → a ≡ b → Takes source old new (One (keyword a)) Follow result → Takes source old new (One (keyword b)) Follow result
+takes_word {X} {source} {old} {new} {Follow} {result} same takes = subst (λ k. Takes source old new (One (keyword k)) Follow result) same takes
+
+pub takes_sign : {X : Type 0} {source : Source} {old new : Cursor} {Follow : Option Terminal → Type 0} {result : Result X Stop} {a b : Symbol} → a ≡ b → Takes source old new (One (symbol a)) Follow result → Takes source old new (One (symbol b)) Follow result
+takes_sign {X} {source} {old} {new} {Follow} {result} same takes = subst (λ s. Takes source old new (One (symbol s)) Follow result) same takes
+
+-- a test that failed
+pub not_so : {b : Bool} {P : Type 0} → (IsTrue b ↔ P) → b ≡ false → P → ⊥
+not_so iff fails p = cc (fails, iff.1 p)

@@ -18,3 +18,7 @@ pub mod UnambiguousBlocks
 pub mod UnambiguousExpressions
 pub mod UnambiguousDesigns
 pub mod Unambiguous
+pub mod ExpressionWords
+pub mod ChainWords
+pub mod PrimaryWords
+pub mod BlockWords

@@ -2,7 +2,7 @@
 use Rattle.std.proofs.Common.{◌≡◌, Option, Some, List, [], ◌∷◌, ◌++◌, refl, sym, ap, ◌∙◌, subst, inl, inr}
 use Rattle.std.specs.Prelude.{◌⊎◌}
 use Rattle.std.specs.List.{All, flat_map}
-use Rattle.std.proofs.lemmas.List.Elements.{All-head, All-tail}
+use Rattle.std.proofs.lemmas.List.Elements.{All-head, All-tail, All-cons, All-nil}
 use Rattle.koika_syntax.specs.Grammar.{IsName}
 use Rattle.koika_syntax.specs.declared.symbol.Symbol.TheVariants as symbols
 use Rattle.koika_syntax.specs.declared.token.TokenKind.TheVariants as kinds
@@ -23,6 +23,12 @@ rows_cases {X} Is leaves r rows = subst (λ r. Empty r ⊎ Then (Part Is leaves)
     of : (xs : List X) → All Is xs → Empty (flat_map leaves xs) ⊎ Then (Part Is leaves) (Rows Is leaves) (flat_map leaves xs)
     of [] all = inl refl
     of (x ∷ xs) all = inr (leaves x, flat_map leaves xs, (x, All-head Is x xs all, refl), (xs, All-tail Is x xs all, refl), refl)
+
+pub rows_made : {X : Type 0} (Is : X → Type 0) (leaves : X → List Leaf) (r : List Leaf) → Then (Part Is leaves) (Rows Is leaves) r → Rows Is leaves r
+rows_made Is leaves r both = (both.2.0 ∷ both.3.0, All-cons Is both.2.0 both.3.0 both.2.1 both.3.1, both.4 ∙ ap (λ l. l ++ both.1) both.2.2 ∙ ap (λ l. leaves both.2.0 ++ l) both.3.2)
+
+pub rows_none : {X : Type 0} (Is : X → Type 0) (leaves : X → List Leaf) → Rows Is leaves []
+rows_none Is leaves = ([], All-nil Is, refl)
 
 -- one of two, by the next token
 pub the_first : {source : Source} {old new : Cursor} {Word : List Leaf → Type 0} {Follow : Option Terminal → Type 0} {A B : List Leaf → Type 0} →

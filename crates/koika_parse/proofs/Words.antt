@@ -28,6 +28,12 @@ assoc2 e a b = append_assoc e a b
 pub assoc3 : (e a b c : List Leaf) → e ++ a ++ b ++ c ≡ e ++ (a ++ b ++ c)
 assoc3 e a b c = ap (λ t. t ++ c) (assoc2 e a b) ∙ append_assoc e (a ++ b) c
 
+pub assoc4 : (e a b c d : List Leaf) → e ++ a ++ b ++ c ++ d ≡ e ++ (a ++ b ++ c ++ d)
+assoc4 e a b c d = ap (λ t. t ++ d) (assoc3 e a b c) ∙ append_assoc e (a ++ b ++ c) d
+
+pub assoc5 : (e a b c d f : List Leaf) → e ++ a ++ b ++ c ++ d ++ f ≡ e ++ (a ++ b ++ c ++ d ++ f)
+assoc5 e a b c d f = ap (λ t. t ++ f) (assoc4 e a b c d) ∙ append_assoc e (a ++ b ++ c ++ d) f
+
 pub placed_word : (terminal : Terminal) (place : ℕ) → One terminal (placed terminal place)
 placed_word terminal place = (_, refl, refl)
 

@@ -1,5 +1,6 @@
 pub mod Brackets
 pub mod Expected
+pub mod ExpressionWords
 pub mod Faults
 pub mod Names
 pub mod Parts

@@ -1,14 +1,17 @@
-ghost use Rattle.std.specs.Prelude.{ℕ, ◌≡◌, ◌<◌, ◌≤◌, ◌++◌, All, IfOk, OnOk, IfSome, map};
+ghost use Rattle.std.specs.Prelude.{ℕ, ◌+◌, ◌≡◌, ◌≢◌, ◌<◌, ◌≤◌, ◌↔◌, ◌++◌, All, IfNone, IfOk, IsTrue, OnOk, IfSome, Some, map};
 ghost use Rattle.koika_syntax.specs.Grammar.{IsBlock, IsExpression, IsNonempty, arm_leaves, block_leaves, expression_leaves, last_leaves, level, level_of, operand_leaves, statement_leaves};
-ghost use Rattle.koika_syntax.specs.Tree.{all_of, binary_symbol, sign};
-ghost use Rattle.koika_parse.specs.Reading.{Reads, tokens_left};
+ghost use Rattle.koika_syntax.specs.Tree.{all_of, binary_symbol, sign, symbol};
+ghost use Rattle.koika_syntax.specs.declared.operator.BinaryOperator.{BinaryOperator};
+ghost use Rattle.koika_parse.specs.Expected.{Any, Part, Takes};
+ghost use Rattle.koika_parse.specs.ExpressionWords.{ConditionalWord, Free, InsideWord, IsAtOperator, LetWord, LevelWord, OperatorWord, SomeOperandsWord, brace_follows};
+ghost use Rattle.koika_parse.specs.Reading.{Reads, next, tokens_left};
 ghost use Rattle.koika_parse.specs.Parts.{IsArm, IsOperandIn, IsStatement};
 
 use crate::cursor::Cursor;
 use crate::source::Source;
 use crate::stop::Stop;
 use koika_syntax::{
-    Arm, BinaryOperator, Block, Expression, Keyword, Operand, Statement, Symbol, TokenKind,
+    Arm, BinaryOperator, Block, Expression, Keyword, Operand, Statement, Symbol,
 };
 
 // The statements of a block, and its last expression.
@@ -27,6 +30,7 @@ impl<'a> Source<'a> {
     pub(crate) fn expression(&self, cursor: &mut Cursor) -> Result<Expression, Stop>
         ensures read { IfOk result (λ found. Reads self.now cursor.old cursor.new (expression_leaves found)) }
         ensures is { IfOk result IsExpression }
+        ensures takes { Takes self.now cursor.old cursor.new (Part IsExpression expression_leaves) (Free 0) result }
     {
         if self.is_at_word(cursor, Keyword::If) {
             self.conditional(cursor)
@@ -40,6 +44,7 @@ impl<'a> Source<'a> {
     pub(crate) fn boxed(&self, cursor: &mut Cursor) -> Result<Box<Expression>, Stop>
         ensures read { IfOk result (λ found. Reads self.now cursor.old cursor.new (expression_leaves found.value)) }
         ensures is { IfOk result (λ found. IsExpression found.value) }
+        ensures takes { Takes self.now cursor.old cursor.new (Part IsExpression expression_leaves) (Free 0) result }
     {
         let inside = self.expression(cursor)?;
         let boxed = Box::new(self.alloc, inside)?;
@@ -51,6 +56,7 @@ impl<'a> Source<'a> {
     fn conditional(&self, cursor: &mut Cursor) -> Result<Expression, Stop>
         ensures read { IfOk result (λ found. Reads self.now cursor.old cursor.new (expression_leaves found)) }
         ensures is { IfOk result IsExpression }
+        ensures takes { Takes self.now cursor.old cursor.new ConditionalWord (Free 0) result }
     {
         let mut arms = Vec::new(self.alloc);
         let first = self.arm(cursor)?;
@@ -77,6 +83,7 @@ impl<'a> Source<'a> {
     fn arm(&self, cursor: &mut Cursor) -> Result<Arm, Stop>
         ensures read { IfOk result (λ found. Reads self.now cursor.old cursor.new (arm_leaves found)) }
         ensures is { IfOk result IsArm }
+        ensures takes { Takes self.now cursor.old cursor.new (Part IsArm arm_leaves) Any result }
     {
         let place = self.word_at(cursor, Keyword::If)?;
         let condition = self.chain(cursor, 1)?;
@@ -93,6 +100,7 @@ impl<'a> Source<'a> {
     pub(crate) fn block(&self, cursor: &mut Cursor) -> Result<Block, Stop>
         ensures read { IfOk result (λ found. Reads self.now cursor.old cursor.new (block_leaves found)) }
         ensures is { IfOk result IsBlock }
+        ensures takes { Takes self.now cursor.old cursor.new (Part IsBlock block_leaves) Any result }
     {
         let place = self.sign_at(cursor, Symbol::LeftBrace)?;
         let inside = self.inside(cursor)?;
@@ -111,6 +119,7 @@ impl<'a> Source<'a> {
             (all_of (map statement_leaves found.statements.items) ++ last_leaves found.value (λ value. expression_leaves value.value))) }
         ensures statements { IfOk result (λ found. All IsStatement found.statements.items) }
         ensures value { IfOk result (λ found. IfSome found.value (λ value. IsExpression value.value)) }
+        ensures takes { Takes self.now cursor.old cursor.new InsideWord brace_follows result }
     {
         let mut statements = Vec::new(self.alloc);
         'more: while !self.is_at_sign(cursor, Symbol::RightBrace) {
@@ -142,6 +151,7 @@ impl<'a> Source<'a> {
         ensures read { IfOk result (λ found. Reads self.now cursor.old cursor.new (statement_leaves found)) }
         ensures is { IfOk result IsStatement }
         ensures some { OnOk result (tokens_left self.now cursor.new < tokens_left self.now cursor.old) }
+        ensures takes { Takes self.now cursor.old cursor.new LetWord Any result }
     {
         self.word(cursor, Keyword::Let)?;
         let name = self.name(cursor)?;
@@ -159,6 +169,7 @@ impl<'a> Source<'a> {
         ensures read { IfOk result (λ found. Reads self.now cursor.old cursor.new (expression_leaves found)) }
         ensures is { IfOk result IsExpression }
         ensures level { IfOk result (λ found. loosest ≤ level found) }
+        ensures takes { Takes self.now cursor.old cursor.new (LevelWord loosest) (Free loosest) result }
     {
         if loosest > TIGHTEST {
             return self.unary(cursor);
@@ -180,6 +191,7 @@ impl<'a> Source<'a> {
         ensures read { IfOk result (λ found. Reads self.now cursor.old cursor.new (all_of (map operand_leaves found.items))) }
         ensures is { IfOk result (λ found. All (IsOperandIn wanted) found.items) }
         ensures some { IfOk result (λ found. IsNonempty found.items) }
+        ensures takes { Takes self.now cursor.old cursor.new (SomeOperandsWord wanted) (Free wanted) result }
     {
         let mut all = Vec::new(self.alloc);
         let first = self.operand(cursor, wanted)?;
@@ -198,6 +210,7 @@ impl<'a> Source<'a> {
         ensures read { IfOk result (λ found. Reads self.now cursor.old cursor.new (operand_leaves found)) }
         ensures is { IfOk result (IsOperandIn wanted) }
         ensures some { OnOk result (tokens_left self.now cursor.new < tokens_left self.now cursor.old) }
+        ensures takes { Takes self.now cursor.old cursor.new (Part (IsOperandIn wanted) operand_leaves) (Free (wanted + 1)) result }
     {
         let operator = self.operator(cursor, wanted)?;
         let operand = self.chain(cursor, wanted + 1)?;
@@ -208,6 +221,7 @@ impl<'a> Source<'a> {
     fn operator(&self, cursor: &mut Cursor, wanted: u32) -> Result<BinaryOperator, Stop>
         ensures read { IfOk result (λ found. Reads self.now cursor.old cursor.new (sign (binary_symbol found))) }
         ensures level { IfOk result (λ found. level_of found ≡ wanted) }
+        ensures takes { Takes self.now cursor.old cursor.new (OperatorWord wanted) Any result }
     {
         match self.operator_at(cursor, wanted) {
             None => Err(Stop::Unexpected),
@@ -219,24 +233,27 @@ impl<'a> Source<'a> {
     }
 
     // Whether the next token is an operator of this level.
-    fn is_at_operator(&self, cursor: &Cursor, wanted: u32) -> bool {
+    fn is_at_operator(&self, cursor: &Cursor, wanted: u32) -> bool
+        ensures { IsTrue result ↔ IsAtOperator self.now cursor.now wanted }
+    {
         self.operator_at(cursor, wanted).is_some()
     }
 
     // The next token, if it is an operator of this level.
     fn operator_at(&self, cursor: &Cursor, wanted: u32) -> Option<BinaryOperator>
-        ensures { IfSome result (λ operator. level_of operator ≡ wanted) }
+        ensures level { IfSome result (λ operator. level_of operator ≡ wanted) }
+        ensures at { IfSome result (λ operator. next self.now cursor.now ≡ Some (symbol (binary_symbol operator))) }
+        ensures none { IfNone result (IsAtOperator self.now cursor.now wanted → ⊥) }
     {
-        match self.peek(cursor) {
-            Some(TokenKind::Symbol(found)) => of_level(operator_of(found)?, wanted),
-            _ => None,
-        }
+        of_level(operator_of(self.symbol_at(cursor)?)?, wanted)
     }
 }
 
 // The operator, if it is of this level.
 fn of_level(operator: BinaryOperator, wanted: u32) -> Option<BinaryOperator>
-    ensures { IfSome result (λ found. level_of found ≡ wanted) }
+    ensures level { IfSome result (λ found. level_of found ≡ wanted) }
+    ensures same { IfSome result (λ found. found ≡ operator) }
+    ensures none { IfNone result (level_of operator ≢ wanted) }
 {
     if operator.level() == wanted {
         Some(operator)
@@ -246,7 +263,10 @@ fn of_level(operator: BinaryOperator, wanted: u32) -> Option<BinaryOperator>
 }
 
 // The operator between two operands that is written so.
-fn operator_of(found: Symbol) -> Option<BinaryOperator> {
+fn operator_of(found: Symbol) -> Option<BinaryOperator>
+    ensures some { IfSome result (λ operator. found ≡ binary_symbol operator) }
+    ensures none { IfNone result ((operator : BinaryOperator) → found ≢ binary_symbol operator) }
+{
     match found {
         Symbol::Bar => Some(BinaryOperator::Or),
         Symbol::Caret => Some(BinaryOperator::Xor),

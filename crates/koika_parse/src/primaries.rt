@@ -1,8 +1,12 @@
-ghost use Rattle.std.specs.Prelude.{◌≡◌, ◌<◌, ◌++◌, All, IfOk, OnOk, map};
+ghost use Rattle.std.specs.Prelude.{◌≡◌, ◌≢◌, ◌<◌, ◌↔◌, ◌++◌, All, IfNone, IfOk, IfSome, IsTrue, OnOk, Some, map};
 ghost use Rattle.std.specs.List.{flat_map};
 ghost use Rattle.koika_syntax.specs.Grammar.{IsExpression, IsNonempty, IsPart, IsSuffix, expression_leaves, field_value_leaves, level, part_leaves, prefix_leaves, suffix_leaves};
-ghost use Rattle.koika_syntax.specs.Tree.{commas, read_word, write_word};
-ghost use Rattle.koika_parse.specs.Reading.{Reads, tokens_left};
+ghost use Rattle.koika_syntax.specs.Tree.{commas, keyword, read_word, symbol, unary_symbol, write_word};
+ghost use Rattle.koika_syntax.specs.declared.keyword.Keyword.TheVariants as keywords;
+ghost use Rattle.koika_syntax.specs.declared.operator.UnaryOperator.{UnaryOperator};
+ghost use Rattle.koika_parse.specs.Expected.{Any, Commas, NoComma, One, Takes};
+ghost use Rattle.koika_parse.specs.ExpressionWords.{ArgumentsWord, ArrayWord, CompareWord, ExtendWord, Free, IsAtPrefix, IsAtSuffix, KeywordWord, LevelWord, NamedWord, OneBlock, OneFieldValue, OneLiteral, OnePart, OneSuffix, PackWord, ParenthesesWord, PrefixWord, PrefixesWord, ReadWord, SuffixesWord, SymbolWord, UnpackWord, UpdateWord, WriteWord, no_prefix, parenthesis_follows};
+ghost use Rattle.koika_parse.specs.Reading.{Reads, kind_at, next, tokens_left};
 ghost use Rattle.koika_parse.specs.Parts.{IsFieldValue};
 
 use crate::cursor::Cursor;
@@ -21,6 +25,7 @@ impl<'a> Source<'a> {
         ensures read { IfOk result (λ found. Reads self.now cursor.old cursor.new (expression_leaves found)) }
         ensures is { IfOk result IsExpression }
         ensures level { IfOk result (λ found. 9 < level found) }
+        ensures takes { Takes self.now cursor.old cursor.new (LevelWord 10) (Free 10) result }
     {
         if !self.is_at_prefix(cursor) {
             return self.postfix(cursor);
@@ -35,6 +40,7 @@ impl<'a> Source<'a> {
     fn prefixes(&self, cursor: &mut Cursor) -> Result<Sequence<Prefix>, Stop>
         ensures read { IfOk result (λ found. Reads self.now cursor.old cursor.new (flat_map prefix_leaves found)) }
         ensures some { IfOk result (λ found. IsNonempty found) }
+        ensures takes { Takes self.now cursor.old cursor.new PrefixesWord no_prefix result }
     {
         let mut all = Sequence::new(self.alloc);
         let first = self.prefix(cursor)?;
@@ -49,6 +55,7 @@ impl<'a> Source<'a> {
     fn prefix(&self, cursor: &mut Cursor) -> Result<Prefix, Stop>
         ensures read { IfOk result (λ found. Reads self.now cursor.old cursor.new (prefix_leaves found)) }
         ensures some { OnOk result (tokens_left self.now cursor.new < tokens_left self.now cursor.old) }
+        ensures takes { Takes self.now cursor.old cursor.new PrefixWord Any result }
     {
         match self.prefix_at(cursor) {
             None => Err(Stop::Unexpected),
@@ -60,17 +67,18 @@ impl<'a> Source<'a> {
     }
 
     // Whether the next token is an operator that stands in front of its operand.
-    fn is_at_prefix(&self, cursor: &Cursor) -> bool {
+    fn is_at_prefix(&self, cursor: &Cursor) -> bool
+        ensures { IsTrue result ↔ IsAtPrefix self.now cursor.now }
+    {
         self.prefix_at(cursor).is_some()
     }
 
     // The next token, if it is an operator that stands in front of its operand.
-    fn prefix_at(&self, cursor: &Cursor) -> Option<UnaryOperator> {
-        match self.peek(cursor) {
-            Some(TokenKind::Symbol(Symbol::Tilde)) => Some(UnaryOperator::Not),
-            Some(TokenKind::Symbol(Symbol::Minus)) => Some(UnaryOperator::Negate),
-            _ => None,
-        }
+    fn prefix_at(&self, cursor: &Cursor) -> Option<UnaryOperator>
+        ensures at { IfSome result (λ operator. next self.now cursor.now ≡ Some (symbol (unary_symbol operator))) }
+        ensures none { IfNone result (IsAtPrefix self.now cursor.now → ⊥) }
+    {
+        prefix_of(self.symbol_at(cursor)?)
     }
 
     // Reads a primary and what stands behind it.
@@ -79,6 +87,7 @@ impl<'a> Source<'a> {
         ensures read { IfOk result (λ found. Reads self.now cursor.old cursor.new (expression_leaves found)) }
         ensures is { IfOk result IsExpression }
         ensures level { IfOk result (λ found. 10 < level found) }
+        ensures takes { Takes self.now cursor.old cursor.new (LevelWord 11) (Free 11) result }
     {
         let inside = self.primary(cursor)?;
         if !self.is_at_suffix(cursor) {
@@ -90,7 +99,9 @@ impl<'a> Source<'a> {
     }
 
     // Whether the next token begins a suffix.
-    fn is_at_suffix(&self, cursor: &Cursor) -> bool {
+    fn is_at_suffix(&self, cursor: &Cursor) -> bool
+        ensures { IsTrue result ↔ IsAtSuffix self.now cursor.now }
+    {
         self.is_at_sign(cursor, Symbol::Dot) || self.is_at_sign(cursor, Symbol::LeftBracket)
     }
 
@@ -99,6 +110,7 @@ impl<'a> Source<'a> {
         ensures read { IfOk result (λ found. Reads self.now cursor.old cursor.new (flat_map suffix_leaves found)) }
         ensures is { IfOk result (λ found. All IsSuffix found) }
         ensures some { IfOk result (λ found. IsNonempty found) }
+        ensures takes { Takes self.now cursor.old cursor.new SuffixesWord (Free 11) result }
     {
         let mut all = Sequence::new(self.alloc);
         let first = self.suffix(cursor)?;
@@ -114,6 +126,7 @@ impl<'a> Source<'a> {
         ensures read { IfOk result (λ found. Reads self.now cursor.old cursor.new (suffix_leaves found)) }
         ensures is { IfOk result IsSuffix }
         ensures some { OnOk result (tokens_left self.now cursor.new < tokens_left self.now cursor.old) }
+        ensures takes { Takes self.now cursor.old cursor.new OneSuffix Any result }
     {
         if self.is_at_sign(cursor, Symbol::Dot) {
             self.sign(cursor, Symbol::Dot)?;
@@ -136,14 +149,44 @@ impl<'a> Source<'a> {
         ensures read { IfOk result (λ found. Reads self.now cursor.old cursor.new (expression_leaves found)) }
         ensures is { IfOk result IsExpression }
         ensures level { IfOk result (λ found. level found ≡ 12) }
+        ensures takes { Takes self.now cursor.old cursor.new (LevelWord 12) (Free 12) result }
     {
         match self.peek(cursor) {
-            Some(TokenKind::Literal(_)) => self.literal_expression(cursor),
-            Some(TokenKind::Name) => self.named(cursor),
-            Some(TokenKind::Symbol(Symbol::LeftBracket)) => self.array(cursor),
-            Some(TokenKind::Symbol(Symbol::LeftParenthesis)) => self.parentheses(cursor),
-            Some(TokenKind::Symbol(Symbol::LeftBrace)) => self.block_expression(cursor),
-            Some(TokenKind::Keyword(keyword)) => self.keyword_primary(cursor, keyword),
+            Some(kind) => self.begun(cursor, kind),
+            None => Err(Stop::Unexpected),
+        }
+    }
+
+    // Reads what begins with a token of this kind.
+    #[cycle(expression)]
+    fn begun(&self, cursor: &mut Cursor, kind: TokenKind) -> Result<Expression, Stop>
+        requires { kind_at self.now cursor.old ≡ Some kind }
+        ensures read { IfOk result (λ found. Reads self.now cursor.old cursor.new (expression_leaves found)) }
+        ensures is { IfOk result IsExpression }
+        ensures level { IfOk result (λ found. level found ≡ 12) }
+        ensures takes { Takes self.now cursor.old cursor.new (LevelWord 12) (Free 12) result }
+    {
+        match kind {
+            TokenKind::Literal(_) => self.literal_expression(cursor),
+            TokenKind::Name => self.named(cursor),
+            TokenKind::Symbol(symbol) => self.bracketed(cursor, symbol),
+            TokenKind::Keyword(keyword) => self.keyword_primary(cursor, keyword),
+            TokenKind::Number(_) => Err(Stop::Unexpected),
+        }
+    }
+
+    // Reads what begins with this symbol.
+    #[cycle(expression)]
+    fn bracketed(&self, cursor: &mut Cursor, begin: Symbol) -> Result<Expression, Stop>
+        ensures read { IfOk result (λ found. Reads self.now cursor.old cursor.new (expression_leaves found)) }
+        ensures is { IfOk result IsExpression }
+        ensures level { IfOk result (λ found. level found ≡ 12) }
+        ensures takes { Takes self.now cursor.old cursor.new (SymbolWord begin) Any result }
+    {
+        match begin {
+            Symbol::LeftBracket => self.array(cursor),
+            Symbol::LeftParenthesis => self.parentheses(cursor),
+            Symbol::LeftBrace => self.block_expression(cursor),
             _ => Err(Stop::Unexpected),
         }
     }
@@ -152,6 +195,7 @@ impl<'a> Source<'a> {
         ensures read { IfOk result (λ found. Reads self.now cursor.old cursor.new (expression_leaves found)) }
         ensures is { IfOk result IsExpression }
         ensures level { IfOk result (λ found. level found ≡ 12) }
+        ensures takes { Takes self.now cursor.old cursor.new OneLiteral Any result }
     {
         let literal = self.literal(cursor)?;
         Ok(Expression::Literal(literal))
@@ -162,6 +206,7 @@ impl<'a> Source<'a> {
         ensures read { IfOk result (λ found. Reads self.now cursor.old cursor.new (expression_leaves found)) }
         ensures is { IfOk result IsExpression }
         ensures level { IfOk result (λ found. level found ≡ 12) }
+        ensures takes { Takes self.now cursor.old cursor.new OneBlock Any result }
     {
         let block = self.block(cursor)?;
         Ok(Expression::Block(block))
@@ -173,6 +218,7 @@ impl<'a> Source<'a> {
         ensures read { IfOk result (λ found. Reads self.now cursor.old cursor.new (expression_leaves found)) }
         ensures is { IfOk result IsExpression }
         ensures level { IfOk result (λ found. level found ≡ 12) }
+        ensures takes { Takes self.now cursor.old cursor.new (KeywordWord keyword) Any result }
     {
         match keyword {
             Keyword::Read0 => self.read(cursor, 0),
@@ -203,6 +249,7 @@ impl<'a> Source<'a> {
         ensures read { IfOk result (λ found. Reads self.now cursor.old cursor.new (expression_leaves found)) }
         ensures is { IfOk result IsExpression }
         ensures level { IfOk result (λ found. level found ≡ 12) }
+        ensures takes { Takes self.now cursor.old cursor.new NamedWord (Free 12) result }
     {
         let name = self.name(cursor)?;
         if self.is_at_sign(cursor, Symbol::LeftParenthesis) {
@@ -237,6 +284,7 @@ impl<'a> Source<'a> {
         ensures read { IfOk result (λ found. Reads self.now cursor.old cursor.new (expression_leaves found)) }
         ensures is { IfOk result IsExpression }
         ensures level { IfOk result (λ found. level found ≡ 12) }
+        ensures takes { Takes self.now cursor.old cursor.new ArrayWord Any result }
     {
         let place = self.sign_at(cursor, Symbol::LeftBracket)?;
         let elements = self.values(cursor)?;
@@ -249,6 +297,7 @@ impl<'a> Source<'a> {
         ensures read { IfOk result (λ found. Reads self.now cursor.old cursor.new (expression_leaves found)) }
         ensures is { IfOk result IsExpression }
         ensures level { IfOk result (λ found. level found ≡ 12) }
+        ensures takes { Takes self.now cursor.old cursor.new ParenthesesWord Any result }
     {
         let place = self.sign_at(cursor, Symbol::LeftParenthesis)?;
         let inside = self.boxed(cursor)?;
@@ -261,6 +310,7 @@ impl<'a> Source<'a> {
         ensures read { IfOk result (λ found. Reads self.now cursor.old cursor.new (expression_leaves found)) }
         ensures is { IfOk result IsExpression }
         ensures level { IfOk result (λ found. level found ≡ 12) }
+        ensures takes { Takes self.now cursor.old cursor.new (ReadWord port) Any result }
     {
         let place = self.word_at(cursor, read_word(port))?;
         self.sign(cursor, Symbol::LeftParenthesis)?;
@@ -279,6 +329,7 @@ impl<'a> Source<'a> {
         ensures read { IfOk result (λ found. Reads self.now cursor.old cursor.new (expression_leaves found)) }
         ensures is { IfOk result IsExpression }
         ensures level { IfOk result (λ found. level found ≡ 12) }
+        ensures takes { Takes self.now cursor.old cursor.new (WriteWord port) Any result }
     {
         let place = self.word_at(cursor, write_word(port))?;
         self.sign(cursor, Symbol::LeftParenthesis)?;
@@ -298,6 +349,7 @@ impl<'a> Source<'a> {
         ensures read { IfOk result (λ found. Reads self.now cursor.old cursor.new (expression_leaves found)) }
         ensures is { IfOk result IsExpression }
         ensures level { IfOk result (λ found. level found ≡ 12) }
+        ensures takes { Takes self.now cursor.old cursor.new (One (keyword keywords.Abort)) Any result }
     {
         let place = self.word_at(cursor, Keyword::Abort)?;
         Ok(Expression::Abort { place })
@@ -308,6 +360,7 @@ impl<'a> Source<'a> {
         ensures read { IfOk result (λ found. Reads self.now cursor.old cursor.new (expression_leaves found)) }
         ensures is { IfOk result IsExpression }
         ensures level { IfOk result (λ found. level found ≡ 12) }
+        ensures takes { Takes self.now cursor.old cursor.new PackWord Any result }
     {
         let place = self.word_at(cursor, Keyword::Pack)?;
         self.sign(cursor, Symbol::LeftParenthesis)?;
@@ -321,6 +374,7 @@ impl<'a> Source<'a> {
         ensures read { IfOk result (λ found. Reads self.now cursor.old cursor.new (expression_leaves found)) }
         ensures is { IfOk result IsExpression }
         ensures level { IfOk result (λ found. level found ≡ 12) }
+        ensures takes { Takes self.now cursor.old cursor.new UnpackWord Any result }
     {
         let place = self.word_at(cursor, Keyword::Unpack)?;
         self.sign(cursor, Symbol::LeftParenthesis)?;
@@ -336,6 +390,7 @@ impl<'a> Source<'a> {
         ensures read { IfOk result (λ found. Reads self.now cursor.old cursor.new (expression_leaves found)) }
         ensures is { IfOk result IsExpression }
         ensures level { IfOk result (λ found. level found ≡ 12) }
+        ensures takes { Takes self.now cursor.old cursor.new (ExtendWord extension) Any result }
     {
         let place = self.word_at(cursor, extension.word())?;
         self.sign(cursor, Symbol::LeftParenthesis)?;
@@ -356,6 +411,7 @@ impl<'a> Source<'a> {
         ensures read { IfOk result (λ found. Reads self.now cursor.old cursor.new (expression_leaves found)) }
         ensures is { IfOk result IsExpression }
         ensures level { IfOk result (λ found. level found ≡ 12) }
+        ensures takes { Takes self.now cursor.old cursor.new (CompareWord comparison) Any result }
     {
         let place = self.word_at(cursor, comparison.word())?;
         self.sign(cursor, Symbol::LeftParenthesis)?;
@@ -376,6 +432,7 @@ impl<'a> Source<'a> {
         ensures read { IfOk result (λ found. Reads self.now cursor.old cursor.new (expression_leaves found)) }
         ensures is { IfOk result IsExpression }
         ensures level { IfOk result (λ found. level found ≡ 12) }
+        ensures takes { Takes self.now cursor.old cursor.new UpdateWord Any result }
     {
         let place = self.word_at(cursor, Keyword::Update)?;
         self.sign(cursor, Symbol::LeftParenthesis)?;
@@ -397,6 +454,7 @@ impl<'a> Source<'a> {
     fn arguments(&self, cursor: &mut Cursor) -> Result<Vec<Expression>, Stop>
         ensures read { IfOk result (λ found. Reads self.now cursor.old cursor.new (commas (map expression_leaves found.items))) }
         ensures is { IfOk result (λ found. All IsExpression found.items) }
+        ensures takes { Takes self.now cursor.old cursor.new ArgumentsWord parenthesis_follows result }
     {
         if self.is_at_sign(cursor, Symbol::RightParenthesis) {
             let none = Vec::new(self.alloc);
@@ -411,6 +469,7 @@ impl<'a> Source<'a> {
         ensures read { IfOk result (λ found. Reads self.now cursor.old cursor.new (commas (map expression_leaves found.items))) }
         ensures is { IfOk result (λ found. All IsExpression found.items) }
         ensures some { IfOk result (λ found. IsNonempty found.items) }
+        ensures takes { Takes self.now cursor.old cursor.new (Commas IsExpression expression_leaves) (NoComma (Free 0)) result }
     {
         let mut all = Vec::new(self.alloc);
         let first = self.expression(cursor)?;
@@ -428,6 +487,7 @@ impl<'a> Source<'a> {
         ensures read { IfOk result (λ found. Reads self.now cursor.old cursor.new (commas (map field_value_leaves found.items))) }
         ensures is { IfOk result (λ found. All IsFieldValue found.items) }
         ensures some { IfOk result (λ found. IsNonempty found.items) }
+        ensures takes { Takes self.now cursor.old cursor.new (Commas IsFieldValue field_value_leaves) (NoComma (Free 0)) result }
     {
         let mut all = Vec::new(self.alloc);
         let first = self.field_value(cursor)?;
@@ -444,6 +504,7 @@ impl<'a> Source<'a> {
     fn field_value(&self, cursor: &mut Cursor) -> Result<FieldValue, Stop>
         ensures read { IfOk result (λ found. Reads self.now cursor.old cursor.new (field_value_leaves found)) }
         ensures is { IfOk result IsFieldValue }
+        ensures takes { Takes self.now cursor.old cursor.new OneFieldValue (Free 0) result }
     {
         let name = self.name(cursor)?;
         self.sign(cursor, Symbol::Colon)?;
@@ -455,12 +516,25 @@ impl<'a> Source<'a> {
     fn part(&self, cursor: &mut Cursor) -> Result<Part, Stop>
         ensures read { IfOk result (λ found. Reads self.now cursor.old cursor.new (part_leaves found)) }
         ensures is { IfOk result IsPart }
+        ensures takes { Takes self.now cursor.old cursor.new OnePart Any result }
     {
         if self.is_at_name(cursor) {
             Ok(Part::Field(self.name(cursor)?))
         } else {
             Ok(Part::Index(self.number(cursor)?))
         }
+    }
+}
+
+// The operator in front of an operand that is written so.
+fn prefix_of(found: Symbol) -> Option<UnaryOperator>
+    ensures some { IfSome result (λ operator. found ≡ unary_symbol operator) }
+    ensures none { IfNone result ((operator : UnaryOperator) → found ≢ unary_symbol operator) }
+{
+    match found {
+        Symbol::Tilde => Some(UnaryOperator::Not),
+        Symbol::Minus => Some(UnaryOperator::Negate),
+        _ => None,
     }
 }
 

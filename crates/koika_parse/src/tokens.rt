@@ -1,6 +1,7 @@
 ghost use Rattle.std.specs.Prelude.{◌≡◌, ◌≢◌, ◌<◌, ◌≤◌, Some, None, IfOk, IfNone, IfErr, IfSome, OnOk, IsTrue, ◌↔◌, length};
 ghost use Rattle.koika_syntax.specs.Grammar.{IsLiteral, IsName, IsNumber, IsWidth};
 ghost use Rattle.koika_syntax.specs.Tree.{Terminal, keyword, literal_leaves, name_leaves, number_leaves, placed, sign, symbol, width_leaves, word};
+ghost use Rattle.koika_syntax.specs.declared.symbol.Symbol.{Symbol};
 ghost use Rattle.koika_syntax.specs.declared.token.TokenKind.TheVariants as kinds;
 ghost use Rattle.koika_parse.specs.Names.{IsNameIn};
 ghost use Rattle.koika_parse.specs.Brackets.{open_behind_kind, open_behind_symbol};
@@ -46,6 +47,17 @@ impl<'a> Source<'a> {
         match self.peek(cursor) {
             Some(TokenKind::Keyword(found)) => found == wanted,
             _ => false,
+        }
+    }
+
+    /// The next token, if it is a symbol.
+    pub(crate) fn symbol_at(&self, cursor: &Cursor) -> Option<Symbol>
+        ensures at { IfSome result (λ found. next self.now cursor.now ≡ Some (symbol found)) }
+        ensures none { IfNone result ((found : Symbol) → next self.now cursor.now ≢ Some (symbol found)) }
+    {
+        match self.peek(cursor) {
+            Some(kind) => symbol_of(kind),
+            None => None,
         }
     }
 
@@ -187,6 +199,17 @@ impl<'a> Source<'a> {
         let place = self.word_at(cursor, Keyword::Bits)?;
         let number = self.number(cursor)?;
         Ok(Width { place, number })
+    }
+}
+
+// The symbol, if it is one.
+fn symbol_of(kind: TokenKind) -> Option<Symbol>
+    ensures some { IfSome result (λ found. kind ≡ kinds.Symbol found) }
+    ensures none { IfNone result ((found : Symbol) → kind ≢ kinds.Symbol found) }
+{
+    match kind {
+        TokenKind::Symbol(found) => Some(found),
+        _ => None,
     }
 }
 

@@ -1,17 +1,25 @@
 use Rattle.std.proofs.Common.{subst, sym, refl, ap, arith, [], ◌∙◌, append-nil, map, None, Some}
-use Rattle.koika_syntax.specs.Grammar.{IsExpression, expression_leaves, field_value_leaves, operand_leaves, arm_leaves, statement_leaves, level}
-use Rattle.koika_syntax.specs.Tree.{commas, comparison_word, extension_word, joined, keyword, placed, sign, word, write_word}
+use Rattle.koika_syntax.specs.Grammar.{IsExpression, expression_leaves, field_value_leaves, operand_leaves, arm_leaves, statement_leaves, level, IsBlock, block_leaves}
+use Rattle.koika_syntax.specs.Tree.{commas, comparison_word, extension_word, joined, keyword, placed, sign, word, write_word, symbol}
 use Rattle.std.specs.List.{All}
 use Rattle.std.proofs.lemmas.List.Elements.{All-nil}
-use Rattle.koika_syntax.specs.declared.keyword.Keyword.TheVariants as keywords
-use Rattle.koika_syntax.specs.declared.symbol.Symbol.TheVariants as symbols
 use Rattle.koika_syntax.proofs.Leaves.{array_expression, chain_expression, if_expression, block_expression, call_expression, compare_expression, struct_expression, update_expression}
-use Rattle.koika_syntax.specs.declared.tree.Expression.TheViews as views
 use Rattle.koika_parse.specs.Parts.{IsFieldValue, IsOperandIn, IsArm, IsStatement}
 use Rattle.koika_parse.proofs.Reading.{in_turn, in_place_of, as_leaves, shorter, nothing}
 use Rattle.koika_parse.proofs.Lists.{joined_start, joined_again, parts_after_another, row_start, row_again}
 use Rattle.koika_parse.proofs.Parts.{is_array, is_parentheses, is_write, is_pack, is_unpack, is_extend, is_compare, is_update, is_block_expression, is_call, is_name, is_member, is_struct, is_field_value, is_arm, is_let, is_do, is_block, is_if, is_chain_of, level_chain_of, is_operand, is_operand_at, is_unary, is_postfix, level_unary, level_postfix, level_array, level_parentheses, level_write, level_pack, level_unpack, level_extend, level_compare, level_update, level_block, level_call, level_name, level_member, level_struct}
 use Rattle.koika_parse.proofs.Calls.{leaves_parentheses, leaves_write, leaves_pack, leaves_unpack, leaves_extend, leaves_name, leaves_member, leaves_field_value, leaves_arm, leaves_let, leaves_block, leaves_unary, leaves_postfix, leaves_operand, leaves_do, all_of_map}
+use Rattle.koika_parse.specs.Expected.{Any, Commas, NoComma, One, Part, Takes, Then, first}
+use Rattle.koika_parse.specs.ExpressionWords.{ArrayWord, CompareWord, ExtendWord, Free, LevelWord, PackWord, ParenthesesWord, UnpackWord, UpdateWord, WriteWord, brace_follows, parenthesis_follows}
+use Rattle.koika_parse.proofs.BlockWords.{after_apart, after_at, after_end, arm_start, before_block, block_start, conditional_start, else_arm, else_at, else_block, else_end, expression_chain, expression_if, expression_start, field_value_start, inside_end, inside_expression, inside_let, inside_start, let_start}
+use Rattle.koika_parse.proofs.PrimaryWords.{arguments_at, arguments_end, named_call, named_colons, named_end, named_start, parenthesis_free, primary_at, primary_none}
+use Rattle.koika_parse.proofs.Expected.{before_one, before_one_then, begin, fails, fails_before, fails_last, fails_last_as, finish, free_last, last, last_part, next_part, not_so, refused, step, tail, takes_word}
+use Rattle.koika_parse.proofs.Rows.{brace_not_name, name_not_brace}
+use Rattle.koika_parse.proofs.ChainWords.{chain_start, free_more, operand_start, operands_apart, operands_at, operands_end, operands_start, postfix_start, prefixes_apart, suffixes_apart, suffixes_at, suffixes_end, unary_at, unary_end}
+use Rattle.koika_parse.proofs.Commas.{commas_apart, commas_at, commas_end, commas_start}
+use Rattle.koika_syntax.specs.declared.keyword.Keyword.TheVariants as keywords
+use Rattle.koika_syntax.specs.declared.symbol.Symbol.TheVariants as symbols
+use Rattle.koika_syntax.specs.declared.tree.Expression.TheViews as views
 use Rattle.koika_parse.proofs.source.Source.+expression.Goals as goal
 
 pub boxed-returns-clause-read : goal.boxed-returns-clause-read
@@ -138,16 +146,16 @@ pub named-returns-then-is_at_sign-2-clause-level : goal.named-returns-then-is_at
 named-returns-then-is_at_sign-2-clause-level t c = level_struct c.in_ok-name.name c.in_ok-fields.fields c.in_ok-close.close
 
 pub values-more-init : goal.values-more-init
-values-more-init t c = joined_start _ _ _ (sign symbols.Comma) expression_leaves IsExpression c.in_ok-first.first _ c.push.new.self.items c.in_ok-first.ensures.read c.in_ok-first.ensures.is c.new-all.ensures.items c.in_ok-push.ensures.items
+values-more-init t c = (joined_start _ _ _ (sign symbols.Comma) expression_leaves IsExpression c.in_ok-first.first _ c.push.new.self.items c.in_ok-first.ensures.read c.in_ok-first.ensures.is c.new-all.ensures.items c.in_ok-push.ensures.items, step (commas_start IsExpression expression_leaves) c.in_ok-first.ensures.takes (commas_apart IsExpression expression_leaves (Free 0) tt))
 
 pub values-more-preserved : goal.values-more-preserved
-values-more-preserved t c = joined_again c.in_ok-next.next c.push-in-more.new.self.items c.more.invariant c.in_ok-sign.ensures.read c.in_ok-next.ensures.read c.in_ok-next.ensures.is c.in_ok-push-2.ensures.items
+values-more-preserved t c = (joined_again c.in_ok-next.next c.push-in-more.new.self.items c.more.invariant.0 c.in_ok-sign.ensures.read c.in_ok-next.ensures.read c.in_ok-next.ensures.is c.in_ok-push-2.ensures.items, step (next_part (commas_at IsExpression expression_leaves (c.is_at_sign.ensures.0 c.more-test.true) c.more.invariant.1) c.in_ok-sign.ensures.takes) c.in_ok-next.ensures.takes (commas_apart IsExpression expression_leaves (Free 0) tt))
 
 pub field_values-more-init : goal.field_values-more-init
-field_values-more-init t c = joined_start _ _ _ (sign symbols.Comma) field_value_leaves IsFieldValue c.in_ok-first.first _ c.push.new.self.items c.in_ok-first.ensures.read c.in_ok-first.ensures.is c.new-all.ensures.items c.in_ok-push.ensures.items
+field_values-more-init t c = (joined_start _ _ _ (sign symbols.Comma) field_value_leaves IsFieldValue c.in_ok-first.first _ c.push.new.self.items c.in_ok-first.ensures.read c.in_ok-first.ensures.is c.new-all.ensures.items c.in_ok-push.ensures.items, step (commas_start IsFieldValue field_value_leaves) c.in_ok-first.ensures.takes (commas_apart IsFieldValue field_value_leaves (Free 0) tt))
 
 pub field_values-more-preserved : goal.field_values-more-preserved
-field_values-more-preserved t c = joined_again c.in_ok-next.next c.push-in-more.new.self.items c.more.invariant c.in_ok-sign.ensures.read c.in_ok-next.ensures.read c.in_ok-next.ensures.is c.in_ok-push-2.ensures.items
+field_values-more-preserved t c = (joined_again c.in_ok-next.next c.push-in-more.new.self.items c.more.invariant.0 c.in_ok-sign.ensures.read c.in_ok-next.ensures.read c.in_ok-next.ensures.is c.in_ok-push-2.ensures.items, step (next_part (commas_at IsFieldValue field_value_leaves (c.is_at_sign.ensures.0 c.more-test.true) c.more.invariant.1) c.in_ok-sign.ensures.takes) c.in_ok-next.ensures.takes (commas_apart IsFieldValue field_value_leaves (Free 0) tt))
 
 pub field_value-returns-clause-read : goal.field_value-returns-clause-read
 field_value-returns-clause-read t c = as_leaves _ (leaves_field_value c.in_ok-name.name c.in_ok-value.value) (in_turn (in_turn c.in_ok-name.ensures.read c.in_ok-sign.ensures.read) c.in_ok-value.ensures.read)
@@ -186,13 +194,13 @@ pub chain-returns-clause-level : goal.chain-returns-clause-level
 chain-returns-clause-level t c = omega (arith, level_chain_of c.args.loosest c.in_ok-first.first c.in_ok-rest.rest c.in_ok-rest.ensures.some c.in_ok-rest.ensures.is (omega (arith, ap level c.in_ok-first.ensures.ok, c.in_ok-inside.ensures.level)))
 
 pub operands-more-init : goal.operands-more-init
-operands-more-init t c = joined_start _ _ _ [] operand_leaves (IsOperandIn c.args.wanted) c.in_ok-first.first _ c.push.new.self.items c.in_ok-first.ensures.read c.in_ok-first.ensures.is c.new-all.ensures.items c.in_ok-push.ensures.items
+operands-more-init t c = (joined_start _ _ _ [] operand_leaves (IsOperandIn c.args.wanted) c.in_ok-first.first _ c.push.new.self.items c.in_ok-first.ensures.read c.in_ok-first.ensures.is c.new-all.ensures.items c.in_ok-push.ensures.items, step (operands_start c.args.wanted) c.in_ok-first.ensures.takes (operands_apart c.args.wanted))
 
 pub operands-more-preserved : goal.operands-more-preserved
-operands-more-preserved t c = joined_again c.in_ok-next.next c.push-in-more.new.self.items c.more.invariant (nothing _ _ _ refl) c.in_ok-next.ensures.read c.in_ok-next.ensures.is c.in_ok-push-2.ensures.items
+operands-more-preserved t c = (joined_again c.in_ok-next.next c.push-in-more.new.self.items c.more.invariant.0 (nothing _ _ _ refl) c.in_ok-next.ensures.read c.in_ok-next.ensures.is c.in_ok-push-2.ensures.items, step (operands_at c.args.wanted (c.is_at_operator.ensures.0 c.more-test.true) c.more.invariant.1) c.in_ok-next.ensures.takes (operands_apart c.args.wanted))
 
 pub operands-returns-clause-read : goal.operands-returns-clause-read
-operands-returns-clause-read t c = as_leaves _ (parts_after_another operand_leaves c.more.all.items) c.more.invariant.read
+operands-returns-clause-read t c = as_leaves _ (parts_after_another operand_leaves c.more.all.items) c.more.invariant.0.read
 
 pub operand-returns-clause-read : goal.operand-returns-clause-read
 operand-returns-clause-read t c = as_leaves _ (leaves_operand c.in_ok-operator.operator c.in_ok-operand.operand) (in_turn c.in_ok-operator.ensures.read c.in_ok-operand.ensures.read)
@@ -222,16 +230,16 @@ pub postfix-returns-clause-level : goal.postfix-returns-clause-level
 postfix-returns-clause-level t c = omega (arith, level_postfix c.in_ok-primary.primary c.in_ok-suffixes.suffixes)
 
 pub conditional-more-init : goal.conditional-more-init
-conditional-more-init t c = joined_start _ _ _ (word keywords.Else) arm_leaves IsArm c.in_ok-first.first _ c.push.new.self.items c.in_ok-first.ensures.read c.in_ok-first.ensures.is c.new-arms.ensures.items c.in_ok-push.ensures.items
+conditional-more-init t c = (joined_start _ _ _ (word keywords.Else) arm_leaves IsArm c.in_ok-first.first _ c.push.new.self.items c.in_ok-first.ensures.read c.in_ok-first.ensures.is c.new-arms.ensures.items c.in_ok-push.ensures.items, next_part conditional_start c.in_ok-first.ensures.takes)
 
 pub conditional-more-preserved : goal.conditional-more-preserved
-conditional-more-preserved t c = joined_again c.in_ok-next.next c.push-in-more.new.self.items c.more.invariant c.in_ok-word.ensures.read c.in_ok-next.ensures.read c.in_ok-next.ensures.is c.in_ok-push-2.ensures.items
+conditional-more-preserved t c = (joined_again c.in_ok-next.next c.push-in-more.new.self.items c.more.invariant.0 c.in_ok-word.ensures.read c.in_ok-next.ensures.read c.in_ok-next.ensures.is c.in_ok-push-2.ensures.items, next_part (else_arm (c.is_at_word-in-more.ensures.0 c.if-not-is_at_word.false) (next_part (else_at (c.is_at_word.ensures.0 c.more-test.true) c.more.invariant.1) c.in_ok-word.ensures.takes)) c.in_ok-next.ensures.takes)
 
 pub conditional-returns-clause-read : goal.conditional-returns-clause-read
-conditional-returns-clause-read t c = as_leaves _ (if_expression c.more.arms None ∙ append-nil _) c.more.invariant.read
+conditional-returns-clause-read t c = as_leaves _ (if_expression c.more.arms None ∙ append-nil _) c.more.invariant.0.read
 
 pub conditional-returns-clause-is : goal.conditional-returns-clause-is
-conditional-returns-clause-is t c = is_if c.more.arms None c.more.invariant.is tt c.more.invariant.some
+conditional-returns-clause-is t c = is_if c.more.arms None c.more.invariant.0.is tt c.more.invariant.0.some
 
 pub arguments-returns-then-is_at_sign-clause-read : goal.arguments-returns-then-is_at_sign-clause-read
 unfolding joined
@@ -241,22 +249,424 @@ pub arguments-returns-then-is_at_sign-clause-is : goal.arguments-returns-then-is
 arguments-returns-then-is_at_sign-clause-is t c = subst (λ xs. All IsExpression xs) (sym c.new-none.ensures.items) (All-nil IsExpression)
 
 pub inside-returns-clause-read : goal.inside-returns-clause-read
-inside-returns-clause-read t c = as_leaves _ (append-nil _ ∙ sym (all_of_map statement_leaves c.more.statements.items)) c.more.invariant.read
+inside-returns-clause-read t c = as_leaves _ (append-nil _ ∙ sym (all_of_map statement_leaves c.more.statements.items)) c.more.invariant.0.read
 
 pub conditional-returns-then-not-is_at_word-clause-read : goal.conditional-returns-then-not-is_at_word-clause-read
-conditional-returns-then-not-is_at_word-clause-read t c = as_leaves _ (if_expression c.more.arms (Some c.in_ok-last.last)) (in_turn c.more.invariant.read (in_turn c.in_ok-word.ensures.read c.in_ok-last.ensures.read))
+conditional-returns-then-not-is_at_word-clause-read t c = as_leaves _ (if_expression c.more.arms (Some c.in_ok-last.last)) (in_turn c.more.invariant.0.read (in_turn c.in_ok-word.ensures.read c.in_ok-last.ensures.read))
 
 pub conditional-returns-then-not-is_at_word-clause-is : goal.conditional-returns-then-not-is_at_word-clause-is
-conditional-returns-then-not-is_at_word-clause-is t c = is_if c.more.arms (Some c.in_ok-last.last) c.more.invariant.is c.in_ok-last.ensures.is c.more.invariant.some
+conditional-returns-then-not-is_at_word-clause-is t c = is_if c.more.arms (Some c.in_ok-last.last) c.more.invariant.0.is c.in_ok-last.ensures.is c.more.invariant.0.some
 
 pub inside-more-preserved-then-is_at_word : goal.inside-more-preserved-then-is_at_word
-inside-more-preserved-then-is_at_word t c = row_again c.in_ok-next.next c.push.new.self.items c.more.invariant c.in_ok-next.ensures.read c.in_ok-next.ensures.is c.in_ok-push.ensures.items
+inside-more-preserved-then-is_at_word t c = (row_again c.in_ok-next.next c.push.new.self.items c.more.invariant.0 c.in_ok-next.ensures.read c.in_ok-next.ensures.is c.in_ok-push.ensures.items, next_part (inside_let (not_so c.is_at_sign.ensures c.more-test.true) (c.is_at_word.ensures.0 c.if-is_at_word.true) c.more.invariant.1) c.in_ok-next.ensures.takes)
 
 pub inside-more-preserved : goal.inside-more-preserved
-inside-more-preserved t c = row_again (views.made-Do c.in_ok-found.found) c.push-in-more.new.self.items c.more.invariant (as_leaves _ (leaves_do c.in_ok-found.found) (in_turn c.in_ok-found.ensures.read c.in_ok-sign.ensures.read)) (is_do c.in_ok-found.found c.in_ok-found.ensures.is) c.in_ok-push-2.ensures.items
+inside-more-preserved t c = (row_again (views.made-Do c.in_ok-found.found) c.push-in-more.new.self.items c.more.invariant.0 (as_leaves _ (leaves_do c.in_ok-found.found) (in_turn c.in_ok-found.ensures.read c.in_ok-sign.ensures.read)) (is_do c.in_ok-found.found c.in_ok-found.ensures.is) c.in_ok-push-2.ensures.items, next_part (after_at (c.is_at_sign-in-more.ensures.0 c.if-not-is_at_sign.false) (step (inside_expression (not_so c.is_at_sign.ensures c.more-test.true) (not_so c.is_at_word.ensures c.if-is_at_word.false) c.more.invariant.1) c.in_ok-found.ensures.takes after_apart)) c.in_ok-sign.ensures.takes)
 
 pub inside-returns-then-not-is_at_sign-clause-read : goal.inside-returns-then-not-is_at_sign-clause-read
-inside-returns-then-not-is_at_sign-clause-read t c = in_turn (as_leaves _ (sym (all_of_map statement_leaves c.more.statements.items)) c.more.invariant.read) (in_place_of expression_leaves c.in_ok-last.last.value c.in_ok-last.ensures.ok c.in_ok-found.ensures.read)
+inside-returns-then-not-is_at_sign-clause-read t c = in_turn (as_leaves _ (sym (all_of_map statement_leaves c.more.statements.items)) c.more.invariant.0.read) (in_place_of expression_leaves c.in_ok-last.last.value c.in_ok-last.ensures.ok c.in_ok-found.ensures.read)
 
 pub inside-more-init : goal.inside-more-init
-inside-more-init t c = row_start _ _ _ statement_leaves IsStatement _ refl c.new-statements.ensures.items
+inside-more-init t c = (row_start _ _ _ statement_leaves IsStatement _ refl c.new-statements.ensures.items, inside_start)
+
+pub arm-returns-in_err-place-clause-takes : goal.arm-returns-in_err-place-clause-takes
+arm-returns-in_err-place-clause-takes t c = fails c.from_residual.result c.from_residual.ensures arm_start c.in_err-place.ensures.takes
+
+pub arm-returns-in_err-condition-clause-takes : goal.arm-returns-in_err-condition-clause-takes
+arm-returns-in_err-condition-clause-takes t c = fails_before c.from_residual-in_err-condition.result c.from_residual-in_err-condition.ensures (next_part arm_start c.in_ok-place.ensures.takes) c.in_err-condition.ensures.takes (before_block 1 Any)
+
+pub arm-returns-in_err-body-clause-takes : goal.arm-returns-in_err-body-clause-takes
+arm-returns-in_err-body-clause-takes t c = fails_last c.from_residual-in_err-body.result c.from_residual-in_err-body.ensures (step (next_part arm_start c.in_ok-place.ensures.takes) c.in_ok-condition.ensures.takes (before_block 1 Any)) c.in_err-body.ensures.takes
+
+pub arm-returns-clause-takes : goal.arm-returns-clause-takes
+arm-returns-clause-takes t c = last_part _ (step (next_part arm_start c.in_ok-place.ensures.takes) c.in_ok-condition.ensures.takes (before_block 1 Any)) c.in_ok-body.ensures.takes
+
+pub block-returns-in_err-place-clause-takes : goal.block-returns-in_err-place-clause-takes
+block-returns-in_err-place-clause-takes t c = fails c.from_residual.result c.from_residual.ensures block_start c.in_err-place.ensures.takes
+
+pub block-returns-in_err-inside-clause-takes : goal.block-returns-in_err-inside-clause-takes
+block-returns-in_err-inside-clause-takes t c = fails_before c.from_residual-in_err-inside.result c.from_residual-in_err-inside.ensures (next_part block_start c.in_ok-place.ensures.takes) c.in_err-inside.ensures.takes (before_one Any brace_follows (symbol symbols.RightBrace) refl)
+
+pub block-returns-in_err-sign-clause-takes : goal.block-returns-in_err-sign-clause-takes
+block-returns-in_err-sign-clause-takes t c = fails_last c.from_residual-in_err-sign.result c.from_residual-in_err-sign.ensures (step (next_part block_start c.in_ok-place.ensures.takes) c.in_ok-inside.ensures.takes (before_one Any brace_follows (symbol symbols.RightBrace) refl)) c.in_err-sign.ensures.takes
+
+pub block-returns-clause-takes : goal.block-returns-clause-takes
+block-returns-clause-takes t c = last_part _ (step (next_part block_start c.in_ok-place.ensures.takes) c.in_ok-inside.ensures.takes (before_one Any brace_follows (symbol symbols.RightBrace) refl)) c.in_ok-sign.ensures.takes
+
+pub binding-returns-in_err-word-clause-takes : goal.binding-returns-in_err-word-clause-takes
+binding-returns-in_err-word-clause-takes t c = fails c.from_residual.result c.from_residual.ensures let_start c.in_err-word.ensures.takes
+
+pub binding-returns-in_err-name-clause-takes : goal.binding-returns-in_err-name-clause-takes
+binding-returns-in_err-name-clause-takes t c = fails c.from_residual-in_err-name.result c.from_residual-in_err-name.ensures (next_part let_start c.in_ok-word.ensures.takes) c.in_err-name.ensures.takes
+
+pub binding-returns-in_err-sign-clause-takes : goal.binding-returns-in_err-sign-clause-takes
+binding-returns-in_err-sign-clause-takes t c = fails c.from_residual-in_err-sign.result c.from_residual-in_err-sign.ensures (next_part (next_part let_start c.in_ok-word.ensures.takes) c.in_ok-name.ensures.takes) c.in_err-sign.ensures.takes
+
+pub binding-returns-in_err-value-clause-takes : goal.binding-returns-in_err-value-clause-takes
+binding-returns-in_err-value-clause-takes t c = fails_before c.from_residual-in_err-value.result c.from_residual-in_err-value.ensures (next_part (next_part (next_part let_start c.in_ok-word.ensures.takes) c.in_ok-name.ensures.takes) c.in_ok-sign.ensures.takes) c.in_err-value.ensures.takes (before_one Any (Free 0) (symbol symbols.Semicolon) tt)
+
+pub binding-returns-in_err-sign-2-clause-takes : goal.binding-returns-in_err-sign-2-clause-takes
+binding-returns-in_err-sign-2-clause-takes t c = fails_last c.from_residual-in_err-sign-2.result c.from_residual-in_err-sign-2.ensures (step (next_part (next_part (next_part let_start c.in_ok-word.ensures.takes) c.in_ok-name.ensures.takes) c.in_ok-sign.ensures.takes) c.in_ok-value.ensures.takes (before_one Any (Free 0) (symbol symbols.Semicolon) tt)) c.in_err-sign-2.ensures.takes
+
+pub binding-returns-clause-takes : goal.binding-returns-clause-takes
+binding-returns-clause-takes t c = last_part _ (step (next_part (next_part (next_part let_start c.in_ok-word.ensures.takes) c.in_ok-name.ensures.takes) c.in_ok-sign.ensures.takes) c.in_ok-value.ensures.takes (before_one Any (Free 0) (symbol symbols.Semicolon) tt)) c.in_ok-sign-2.ensures.takes
+
+pub array-returns-in_err-place-clause-takes : goal.array-returns-in_err-place-clause-takes
+array-returns-in_err-place-clause-takes t c = fails c.from_residual.result c.from_residual.ensures (begin ArrayWord) c.in_err-place.ensures.takes
+
+pub array-returns-in_err-elements-clause-takes : goal.array-returns-in_err-elements-clause-takes
+array-returns-in_err-elements-clause-takes t c = fails_before c.from_residual-in_err-elements.result c.from_residual-in_err-elements.ensures (next_part (begin ArrayWord) c.in_ok-place.ensures.takes) c.in_err-elements.ensures.takes (before_one Any (NoComma (Free 0)) (symbol symbols.RightBracket) (tt, refl))
+
+pub array-returns-in_err-sign-clause-takes : goal.array-returns-in_err-sign-clause-takes
+array-returns-in_err-sign-clause-takes t c = fails_last c.from_residual-in_err-sign.result c.from_residual-in_err-sign.ensures (step (next_part (begin ArrayWord) c.in_ok-place.ensures.takes) c.in_ok-elements.ensures.takes (before_one Any (NoComma (Free 0)) (symbol symbols.RightBracket) (tt, refl))) c.in_err-sign.ensures.takes
+
+pub array-returns-clause-takes : goal.array-returns-clause-takes
+array-returns-clause-takes t c = last_part _ (step (next_part (begin ArrayWord) c.in_ok-place.ensures.takes) c.in_ok-elements.ensures.takes (before_one Any (NoComma (Free 0)) (symbol symbols.RightBracket) (tt, refl))) c.in_ok-sign.ensures.takes
+
+pub parentheses-returns-in_err-place-clause-takes : goal.parentheses-returns-in_err-place-clause-takes
+parentheses-returns-in_err-place-clause-takes t c = fails c.from_residual.result c.from_residual.ensures (begin ParenthesesWord) c.in_err-place.ensures.takes
+
+pub parentheses-returns-in_err-inside-clause-takes : goal.parentheses-returns-in_err-inside-clause-takes
+parentheses-returns-in_err-inside-clause-takes t c = fails_before c.from_residual-in_err-inside.result c.from_residual-in_err-inside.ensures (next_part (begin ParenthesesWord) c.in_ok-place.ensures.takes) c.in_err-inside.ensures.takes (before_one Any (Free 0) (symbol symbols.RightParenthesis) tt)
+
+pub parentheses-returns-in_err-sign-clause-takes : goal.parentheses-returns-in_err-sign-clause-takes
+parentheses-returns-in_err-sign-clause-takes t c = fails_last c.from_residual-in_err-sign.result c.from_residual-in_err-sign.ensures (step (next_part (begin ParenthesesWord) c.in_ok-place.ensures.takes) c.in_ok-inside.ensures.takes (before_one Any (Free 0) (symbol symbols.RightParenthesis) tt)) c.in_err-sign.ensures.takes
+
+pub parentheses-returns-clause-takes : goal.parentheses-returns-clause-takes
+parentheses-returns-clause-takes t c = last_part _ (step (next_part (begin ParenthesesWord) c.in_ok-place.ensures.takes) c.in_ok-inside.ensures.takes (before_one Any (Free 0) (symbol symbols.RightParenthesis) tt)) c.in_ok-sign.ensures.takes
+
+pub write-returns-in_err-place-clause-takes : goal.write-returns-in_err-place-clause-takes
+write-returns-in_err-place-clause-takes t c = fails c.from_residual.result c.from_residual.ensures (begin (WriteWord c.args.port)) (takes_word c.write_word.ensures c.in_err-place.ensures.takes)
+
+pub write-returns-in_err-sign-clause-takes : goal.write-returns-in_err-sign-clause-takes
+write-returns-in_err-sign-clause-takes t c = fails c.from_residual-in_err-sign.result c.from_residual-in_err-sign.ensures (next_part (begin (WriteWord c.args.port)) (takes_word c.write_word.ensures c.in_ok-place.ensures.takes)) c.in_err-sign.ensures.takes
+
+pub write-returns-in_err-register-clause-takes : goal.write-returns-in_err-register-clause-takes
+write-returns-in_err-register-clause-takes t c = fails c.from_residual-in_err-register.result c.from_residual-in_err-register.ensures (next_part (next_part (begin (WriteWord c.args.port)) (takes_word c.write_word.ensures c.in_ok-place.ensures.takes)) c.in_ok-sign.ensures.takes) c.in_err-register.ensures.takes
+
+pub write-returns-in_err-sign-2-clause-takes : goal.write-returns-in_err-sign-2-clause-takes
+write-returns-in_err-sign-2-clause-takes t c = fails c.from_residual-in_err-sign-2.result c.from_residual-in_err-sign-2.ensures (next_part (next_part (next_part (begin (WriteWord c.args.port)) (takes_word c.write_word.ensures c.in_ok-place.ensures.takes)) c.in_ok-sign.ensures.takes) c.in_ok-register.ensures.takes) c.in_err-sign-2.ensures.takes
+
+pub write-returns-in_err-value-clause-takes : goal.write-returns-in_err-value-clause-takes
+write-returns-in_err-value-clause-takes t c = fails_before c.from_residual-in_err-value.result c.from_residual-in_err-value.ensures (next_part (next_part (next_part (next_part (begin (WriteWord c.args.port)) (takes_word c.write_word.ensures c.in_ok-place.ensures.takes)) c.in_ok-sign.ensures.takes) c.in_ok-register.ensures.takes) c.in_ok-sign-2.ensures.takes) c.in_err-value.ensures.takes (before_one Any (Free 0) (symbol symbols.RightParenthesis) tt)
+
+pub write-returns-in_err-sign-3-clause-takes : goal.write-returns-in_err-sign-3-clause-takes
+write-returns-in_err-sign-3-clause-takes t c = fails_last c.from_residual-in_err-sign-3.result c.from_residual-in_err-sign-3.ensures (step (next_part (next_part (next_part (next_part (begin (WriteWord c.args.port)) (takes_word c.write_word.ensures c.in_ok-place.ensures.takes)) c.in_ok-sign.ensures.takes) c.in_ok-register.ensures.takes) c.in_ok-sign-2.ensures.takes) c.in_ok-value.ensures.takes (before_one Any (Free 0) (symbol symbols.RightParenthesis) tt)) c.in_err-sign-3.ensures.takes
+
+pub write-returns-clause-takes : goal.write-returns-clause-takes
+write-returns-clause-takes t c = last_part _ (step (next_part (next_part (next_part (next_part (begin (WriteWord c.args.port)) (takes_word c.write_word.ensures c.in_ok-place.ensures.takes)) c.in_ok-sign.ensures.takes) c.in_ok-register.ensures.takes) c.in_ok-sign-2.ensures.takes) c.in_ok-value.ensures.takes (before_one Any (Free 0) (symbol symbols.RightParenthesis) tt)) c.in_ok-sign-3.ensures.takes
+
+pub pack-returns-in_err-place-clause-takes : goal.pack-returns-in_err-place-clause-takes
+pack-returns-in_err-place-clause-takes t c = fails c.from_residual.result c.from_residual.ensures (begin PackWord) c.in_err-place.ensures.takes
+
+pub pack-returns-in_err-sign-clause-takes : goal.pack-returns-in_err-sign-clause-takes
+pack-returns-in_err-sign-clause-takes t c = fails c.from_residual-in_err-sign.result c.from_residual-in_err-sign.ensures (next_part (begin PackWord) c.in_ok-place.ensures.takes) c.in_err-sign.ensures.takes
+
+pub pack-returns-in_err-value-clause-takes : goal.pack-returns-in_err-value-clause-takes
+pack-returns-in_err-value-clause-takes t c = fails_before c.from_residual-in_err-value.result c.from_residual-in_err-value.ensures (next_part (next_part (begin PackWord) c.in_ok-place.ensures.takes) c.in_ok-sign.ensures.takes) c.in_err-value.ensures.takes (before_one Any (Free 0) (symbol symbols.RightParenthesis) tt)
+
+pub pack-returns-in_err-sign-2-clause-takes : goal.pack-returns-in_err-sign-2-clause-takes
+pack-returns-in_err-sign-2-clause-takes t c = fails_last c.from_residual-in_err-sign-2.result c.from_residual-in_err-sign-2.ensures (step (next_part (next_part (begin PackWord) c.in_ok-place.ensures.takes) c.in_ok-sign.ensures.takes) c.in_ok-value.ensures.takes (before_one Any (Free 0) (symbol symbols.RightParenthesis) tt)) c.in_err-sign-2.ensures.takes
+
+pub pack-returns-clause-takes : goal.pack-returns-clause-takes
+pack-returns-clause-takes t c = last_part _ (step (next_part (next_part (begin PackWord) c.in_ok-place.ensures.takes) c.in_ok-sign.ensures.takes) c.in_ok-value.ensures.takes (before_one Any (Free 0) (symbol symbols.RightParenthesis) tt)) c.in_ok-sign-2.ensures.takes
+
+pub unpack-returns-in_err-place-clause-takes : goal.unpack-returns-in_err-place-clause-takes
+unpack-returns-in_err-place-clause-takes t c = fails c.from_residual.result c.from_residual.ensures (begin UnpackWord) c.in_err-place.ensures.takes
+
+pub unpack-returns-in_err-sign-clause-takes : goal.unpack-returns-in_err-sign-clause-takes
+unpack-returns-in_err-sign-clause-takes t c = fails c.from_residual-in_err-sign.result c.from_residual-in_err-sign.ensures (next_part (begin UnpackWord) c.in_ok-place.ensures.takes) c.in_err-sign.ensures.takes
+
+pub unpack-returns-in_err-to-clause-takes : goal.unpack-returns-in_err-to-clause-takes
+unpack-returns-in_err-to-clause-takes t c = fails c.from_residual-in_err-to.result c.from_residual-in_err-to.ensures (next_part (next_part (begin UnpackWord) c.in_ok-place.ensures.takes) c.in_ok-sign.ensures.takes) c.in_err-to.ensures.takes
+
+pub unpack-returns-in_err-sign-2-clause-takes : goal.unpack-returns-in_err-sign-2-clause-takes
+unpack-returns-in_err-sign-2-clause-takes t c = fails c.from_residual-in_err-sign-2.result c.from_residual-in_err-sign-2.ensures (next_part (next_part (next_part (begin UnpackWord) c.in_ok-place.ensures.takes) c.in_ok-sign.ensures.takes) c.in_ok-to.ensures.takes) c.in_err-sign-2.ensures.takes
+
+pub unpack-returns-in_err-value-clause-takes : goal.unpack-returns-in_err-value-clause-takes
+unpack-returns-in_err-value-clause-takes t c = fails_before c.from_residual-in_err-value.result c.from_residual-in_err-value.ensures (next_part (next_part (next_part (next_part (begin UnpackWord) c.in_ok-place.ensures.takes) c.in_ok-sign.ensures.takes) c.in_ok-to.ensures.takes) c.in_ok-sign-2.ensures.takes) c.in_err-value.ensures.takes (before_one Any (Free 0) (symbol symbols.RightParenthesis) tt)
+
+pub unpack-returns-in_err-sign-3-clause-takes : goal.unpack-returns-in_err-sign-3-clause-takes
+unpack-returns-in_err-sign-3-clause-takes t c = fails_last c.from_residual-in_err-sign-3.result c.from_residual-in_err-sign-3.ensures (step (next_part (next_part (next_part (next_part (begin UnpackWord) c.in_ok-place.ensures.takes) c.in_ok-sign.ensures.takes) c.in_ok-to.ensures.takes) c.in_ok-sign-2.ensures.takes) c.in_ok-value.ensures.takes (before_one Any (Free 0) (symbol symbols.RightParenthesis) tt)) c.in_err-sign-3.ensures.takes
+
+pub unpack-returns-clause-takes : goal.unpack-returns-clause-takes
+unpack-returns-clause-takes t c = last_part _ (step (next_part (next_part (next_part (next_part (begin UnpackWord) c.in_ok-place.ensures.takes) c.in_ok-sign.ensures.takes) c.in_ok-to.ensures.takes) c.in_ok-sign-2.ensures.takes) c.in_ok-value.ensures.takes (before_one Any (Free 0) (symbol symbols.RightParenthesis) tt)) c.in_ok-sign-3.ensures.takes
+
+pub extend-returns-in_err-place-clause-takes : goal.extend-returns-in_err-place-clause-takes
+extend-returns-in_err-place-clause-takes t c = fails c.from_residual.result c.from_residual.ensures (begin (ExtendWord c.args.extension)) (takes_word c.word.ensures c.in_err-place.ensures.takes)
+
+pub extend-returns-in_err-sign-clause-takes : goal.extend-returns-in_err-sign-clause-takes
+extend-returns-in_err-sign-clause-takes t c = fails c.from_residual-in_err-sign.result c.from_residual-in_err-sign.ensures (next_part (begin (ExtendWord c.args.extension)) (takes_word c.word.ensures c.in_ok-place.ensures.takes)) c.in_err-sign.ensures.takes
+
+pub extend-returns-in_err-value-clause-takes : goal.extend-returns-in_err-value-clause-takes
+extend-returns-in_err-value-clause-takes t c = fails_before c.from_residual-in_err-value.result c.from_residual-in_err-value.ensures (next_part (next_part (begin (ExtendWord c.args.extension)) (takes_word c.word.ensures c.in_ok-place.ensures.takes)) c.in_ok-sign.ensures.takes) c.in_err-value.ensures.takes (before_one_then _ Any (Free 0) (symbol symbols.Comma) tt)
+
+pub extend-returns-in_err-sign-2-clause-takes : goal.extend-returns-in_err-sign-2-clause-takes
+extend-returns-in_err-sign-2-clause-takes t c = fails c.from_residual-in_err-sign-2.result c.from_residual-in_err-sign-2.ensures (step (next_part (next_part (begin (ExtendWord c.args.extension)) (takes_word c.word.ensures c.in_ok-place.ensures.takes)) c.in_ok-sign.ensures.takes) c.in_ok-value.ensures.takes (before_one_then _ Any (Free 0) (symbol symbols.Comma) tt)) c.in_err-sign-2.ensures.takes
+
+pub extend-returns-in_err-width-clause-takes : goal.extend-returns-in_err-width-clause-takes
+extend-returns-in_err-width-clause-takes t c = fails c.from_residual-in_err-width.result c.from_residual-in_err-width.ensures (next_part (step (next_part (next_part (begin (ExtendWord c.args.extension)) (takes_word c.word.ensures c.in_ok-place.ensures.takes)) c.in_ok-sign.ensures.takes) c.in_ok-value.ensures.takes (before_one_then _ Any (Free 0) (symbol symbols.Comma) tt)) c.in_ok-sign-2.ensures.takes) c.in_err-width.ensures.takes
+
+pub extend-returns-in_err-sign-3-clause-takes : goal.extend-returns-in_err-sign-3-clause-takes
+extend-returns-in_err-sign-3-clause-takes t c = fails_last c.from_residual-in_err-sign-3.result c.from_residual-in_err-sign-3.ensures (next_part (next_part (step (next_part (next_part (begin (ExtendWord c.args.extension)) (takes_word c.word.ensures c.in_ok-place.ensures.takes)) c.in_ok-sign.ensures.takes) c.in_ok-value.ensures.takes (before_one_then _ Any (Free 0) (symbol symbols.Comma) tt)) c.in_ok-sign-2.ensures.takes) c.in_ok-width.ensures.takes) c.in_err-sign-3.ensures.takes
+
+pub extend-returns-clause-takes : goal.extend-returns-clause-takes
+extend-returns-clause-takes t c = last_part _ (next_part (next_part (step (next_part (next_part (begin (ExtendWord c.args.extension)) (takes_word c.word.ensures c.in_ok-place.ensures.takes)) c.in_ok-sign.ensures.takes) c.in_ok-value.ensures.takes (before_one_then _ Any (Free 0) (symbol symbols.Comma) tt)) c.in_ok-sign-2.ensures.takes) c.in_ok-width.ensures.takes) c.in_ok-sign-3.ensures.takes
+
+pub compare-returns-in_err-place-clause-takes : goal.compare-returns-in_err-place-clause-takes
+compare-returns-in_err-place-clause-takes t c = fails c.from_residual.result c.from_residual.ensures (begin (CompareWord c.args.comparison)) (takes_word c.word.ensures c.in_err-place.ensures.takes)
+
+pub compare-returns-in_err-sign-clause-takes : goal.compare-returns-in_err-sign-clause-takes
+compare-returns-in_err-sign-clause-takes t c = fails c.from_residual-in_err-sign.result c.from_residual-in_err-sign.ensures (next_part (begin (CompareWord c.args.comparison)) (takes_word c.word.ensures c.in_ok-place.ensures.takes)) c.in_err-sign.ensures.takes
+
+pub compare-returns-in_err-left-clause-takes : goal.compare-returns-in_err-left-clause-takes
+compare-returns-in_err-left-clause-takes t c = fails_before c.from_residual-in_err-left.result c.from_residual-in_err-left.ensures (next_part (next_part (begin (CompareWord c.args.comparison)) (takes_word c.word.ensures c.in_ok-place.ensures.takes)) c.in_ok-sign.ensures.takes) c.in_err-left.ensures.takes (before_one_then _ Any (Free 0) (symbol symbols.Comma) tt)
+
+pub compare-returns-in_err-sign-2-clause-takes : goal.compare-returns-in_err-sign-2-clause-takes
+compare-returns-in_err-sign-2-clause-takes t c = fails c.from_residual-in_err-sign-2.result c.from_residual-in_err-sign-2.ensures (step (next_part (next_part (begin (CompareWord c.args.comparison)) (takes_word c.word.ensures c.in_ok-place.ensures.takes)) c.in_ok-sign.ensures.takes) c.in_ok-left.ensures.takes (before_one_then _ Any (Free 0) (symbol symbols.Comma) tt)) c.in_err-sign-2.ensures.takes
+
+pub compare-returns-in_err-right-clause-takes : goal.compare-returns-in_err-right-clause-takes
+compare-returns-in_err-right-clause-takes t c = fails_before c.from_residual-in_err-right.result c.from_residual-in_err-right.ensures (next_part (step (next_part (next_part (begin (CompareWord c.args.comparison)) (takes_word c.word.ensures c.in_ok-place.ensures.takes)) c.in_ok-sign.ensures.takes) c.in_ok-left.ensures.takes (before_one_then _ Any (Free 0) (symbol symbols.Comma) tt)) c.in_ok-sign-2.ensures.takes) c.in_err-right.ensures.takes (before_one Any (Free 0) (symbol symbols.RightParenthesis) tt)
+
+pub compare-returns-in_err-sign-3-clause-takes : goal.compare-returns-in_err-sign-3-clause-takes
+compare-returns-in_err-sign-3-clause-takes t c = fails_last c.from_residual-in_err-sign-3.result c.from_residual-in_err-sign-3.ensures (step (next_part (step (next_part (next_part (begin (CompareWord c.args.comparison)) (takes_word c.word.ensures c.in_ok-place.ensures.takes)) c.in_ok-sign.ensures.takes) c.in_ok-left.ensures.takes (before_one_then _ Any (Free 0) (symbol symbols.Comma) tt)) c.in_ok-sign-2.ensures.takes) c.in_ok-right.ensures.takes (before_one Any (Free 0) (symbol symbols.RightParenthesis) tt)) c.in_err-sign-3.ensures.takes
+
+pub compare-returns-clause-takes : goal.compare-returns-clause-takes
+compare-returns-clause-takes t c = last_part _ (step (next_part (step (next_part (next_part (begin (CompareWord c.args.comparison)) (takes_word c.word.ensures c.in_ok-place.ensures.takes)) c.in_ok-sign.ensures.takes) c.in_ok-left.ensures.takes (before_one_then _ Any (Free 0) (symbol symbols.Comma) tt)) c.in_ok-sign-2.ensures.takes) c.in_ok-right.ensures.takes (before_one Any (Free 0) (symbol symbols.RightParenthesis) tt)) c.in_ok-sign-3.ensures.takes
+
+pub update-returns-in_err-place-clause-takes : goal.update-returns-in_err-place-clause-takes
+update-returns-in_err-place-clause-takes t c = fails c.from_residual.result c.from_residual.ensures (begin UpdateWord) c.in_err-place.ensures.takes
+
+pub update-returns-in_err-sign-clause-takes : goal.update-returns-in_err-sign-clause-takes
+update-returns-in_err-sign-clause-takes t c = fails c.from_residual-in_err-sign.result c.from_residual-in_err-sign.ensures (next_part (begin UpdateWord) c.in_ok-place.ensures.takes) c.in_err-sign.ensures.takes
+
+pub update-returns-in_err-whole-clause-takes : goal.update-returns-in_err-whole-clause-takes
+update-returns-in_err-whole-clause-takes t c = fails_before c.from_residual-in_err-whole.result c.from_residual-in_err-whole.ensures (next_part (next_part (begin UpdateWord) c.in_ok-place.ensures.takes) c.in_ok-sign.ensures.takes) c.in_err-whole.ensures.takes (before_one_then _ Any (Free 0) (symbol symbols.Comma) tt)
+
+pub update-returns-in_err-sign-2-clause-takes : goal.update-returns-in_err-sign-2-clause-takes
+update-returns-in_err-sign-2-clause-takes t c = fails c.from_residual-in_err-sign-2.result c.from_residual-in_err-sign-2.ensures (step (next_part (next_part (begin UpdateWord) c.in_ok-place.ensures.takes) c.in_ok-sign.ensures.takes) c.in_ok-whole.ensures.takes (before_one_then _ Any (Free 0) (symbol symbols.Comma) tt)) c.in_err-sign-2.ensures.takes
+
+pub update-returns-in_err-part-clause-takes : goal.update-returns-in_err-part-clause-takes
+update-returns-in_err-part-clause-takes t c = fails c.from_residual-in_err-part.result c.from_residual-in_err-part.ensures (next_part (step (next_part (next_part (begin UpdateWord) c.in_ok-place.ensures.takes) c.in_ok-sign.ensures.takes) c.in_ok-whole.ensures.takes (before_one_then _ Any (Free 0) (symbol symbols.Comma) tt)) c.in_ok-sign-2.ensures.takes) c.in_err-part.ensures.takes
+
+pub update-returns-in_err-sign-3-clause-takes : goal.update-returns-in_err-sign-3-clause-takes
+update-returns-in_err-sign-3-clause-takes t c = fails c.from_residual-in_err-sign-3.result c.from_residual-in_err-sign-3.ensures (next_part (next_part (step (next_part (next_part (begin UpdateWord) c.in_ok-place.ensures.takes) c.in_ok-sign.ensures.takes) c.in_ok-whole.ensures.takes (before_one_then _ Any (Free 0) (symbol symbols.Comma) tt)) c.in_ok-sign-2.ensures.takes) c.in_ok-part.ensures.takes) c.in_err-sign-3.ensures.takes
+
+pub update-returns-in_err-value-clause-takes : goal.update-returns-in_err-value-clause-takes
+update-returns-in_err-value-clause-takes t c = fails_before c.from_residual-in_err-value.result c.from_residual-in_err-value.ensures (next_part (next_part (next_part (step (next_part (next_part (begin UpdateWord) c.in_ok-place.ensures.takes) c.in_ok-sign.ensures.takes) c.in_ok-whole.ensures.takes (before_one_then _ Any (Free 0) (symbol symbols.Comma) tt)) c.in_ok-sign-2.ensures.takes) c.in_ok-part.ensures.takes) c.in_ok-sign-3.ensures.takes) c.in_err-value.ensures.takes (before_one Any (Free 0) (symbol symbols.RightParenthesis) tt)
+
+pub update-returns-in_err-sign-4-clause-takes : goal.update-returns-in_err-sign-4-clause-takes
+update-returns-in_err-sign-4-clause-takes t c = fails_last c.from_residual-in_err-sign-4.result c.from_residual-in_err-sign-4.ensures (step (next_part (next_part (next_part (step (next_part (next_part (begin UpdateWord) c.in_ok-place.ensures.takes) c.in_ok-sign.ensures.takes) c.in_ok-whole.ensures.takes (before_one_then _ Any (Free 0) (symbol symbols.Comma) tt)) c.in_ok-sign-2.ensures.takes) c.in_ok-part.ensures.takes) c.in_ok-sign-3.ensures.takes) c.in_ok-value.ensures.takes (before_one Any (Free 0) (symbol symbols.RightParenthesis) tt)) c.in_err-sign-4.ensures.takes
+
+pub update-returns-clause-takes : goal.update-returns-clause-takes
+update-returns-clause-takes t c = last_part _ (step (next_part (next_part (next_part (step (next_part (next_part (begin UpdateWord) c.in_ok-place.ensures.takes) c.in_ok-sign.ensures.takes) c.in_ok-whole.ensures.takes (before_one_then _ Any (Free 0) (symbol symbols.Comma) tt)) c.in_ok-sign-2.ensures.takes) c.in_ok-part.ensures.takes) c.in_ok-sign-3.ensures.takes) c.in_ok-value.ensures.takes (before_one Any (Free 0) (symbol symbols.RightParenthesis) tt)) c.in_ok-sign-4.ensures.takes
+
+pub field_value-returns-in_err-name-clause-takes : goal.field_value-returns-in_err-name-clause-takes
+field_value-returns-in_err-name-clause-takes t c = fails c.from_residual.result c.from_residual.ensures field_value_start c.in_err-name.ensures.takes
+
+pub field_value-returns-in_err-sign-clause-takes : goal.field_value-returns-in_err-sign-clause-takes
+field_value-returns-in_err-sign-clause-takes t c = fails c.from_residual-in_err-sign.result c.from_residual-in_err-sign.ensures (next_part field_value_start c.in_ok-name.ensures.takes) c.in_err-sign.ensures.takes
+
+pub field_value-returns-in_err-value-clause-takes : goal.field_value-returns-in_err-value-clause-takes
+field_value-returns-in_err-value-clause-takes t c = fails_last_as c.from_residual-in_err-value.result c.from_residual-in_err-value.ensures (next_part (next_part field_value_start c.in_ok-name.ensures.takes) c.in_ok-sign.ensures.takes) c.in_err-value.ensures.takes (λ v behind. behind)
+
+pub field_value-returns-clause-takes : goal.field_value-returns-clause-takes
+field_value-returns-clause-takes t c = last _ (next_part (next_part field_value_start c.in_ok-name.ensures.takes) c.in_ok-sign.ensures.takes) c.in_ok-value.ensures.takes (λ v behind. behind)
+
+pub boxed-returns-in_err-inside-clause-takes : goal.boxed-returns-in_err-inside-clause-takes
+boxed-returns-in_err-inside-clause-takes t c = fails_last_as c.from_residual.result c.from_residual.ensures expression_start c.in_err-inside.ensures.takes (λ v behind. behind)
+
+pub boxed-returns-clause-takes : goal.boxed-returns-clause-takes
+boxed-returns-clause-takes t c = last _ expression_start c.in_ok-inside.ensures.takes (λ v behind. behind)
+
+pub block_expression-returns-in_err-block-clause-takes : goal.block_expression-returns-in_err-block-clause-takes
+block_expression-returns-in_err-block-clause-takes t c = fails_last c.from_residual.result c.from_residual.ensures (begin (Part IsBlock block_leaves)) c.in_err-block.ensures.takes
+
+pub block_expression-returns-clause-takes : goal.block_expression-returns-clause-takes
+block_expression-returns-clause-takes t c = last_part _ (begin (Part IsBlock block_leaves)) c.in_ok-block.ensures.takes
+
+pub operand-returns-in_err-operator-clause-takes : goal.operand-returns-in_err-operator-clause-takes
+operand-returns-in_err-operator-clause-takes t c = fails c.from_residual.result c.from_residual.ensures (operand_start c.args.wanted) c.in_err-operator.ensures.takes
+
+pub operand-returns-in_err-operand-clause-takes : goal.operand-returns-in_err-operand-clause-takes
+operand-returns-in_err-operand-clause-takes t c = fails_last_as c.from_residual-in_err-operand.result c.from_residual-in_err-operand.ensures (next_part (operand_start c.args.wanted) c.in_ok-operator.ensures.takes) c.in_err-operand.ensures.takes (λ v behind. behind)
+
+pub operand-returns-clause-takes : goal.operand-returns-clause-takes
+operand-returns-clause-takes t c = last _ (next_part (operand_start c.args.wanted) c.in_ok-operator.ensures.takes) c.in_ok-operand.ensures.takes (λ v behind. behind)
+
+pub expression-returns-then-is_at_word-clause-takes : goal.expression-returns-then-is_at_word-clause-takes
+expression-returns-then-is_at_word-clause-takes t c = tail c.conditional.result (expression_if (c.is_at_word.ensures.0 c.if-is_at_word.true)) c.conditional.ensures.takes (λ v behind. behind)
+
+pub expression-returns-else-is_at_word-clause-takes : goal.expression-returns-else-is_at_word-clause-takes
+expression-returns-else-is_at_word-clause-takes t c = tail c.chain.result (expression_chain (not_so c.is_at_word.ensures c.if-is_at_word.false)) c.chain.ensures.takes (λ v behind. free_more 0 1 (omega arith) (first v) behind)
+
+pub chain-returns-then-loosest-gt-TIGHTEST-clause-takes : goal.chain-returns-then-loosest-gt-TIGHTEST-clause-takes
+chain-returns-then-loosest-gt-TIGHTEST-clause-takes t c = subst (λ k. Takes c.args.self.now c.args.cursor.now c.unary.new.cursor (LevelWord k) (Free k) c.unary.result) (omega arith) c.unary.ensures.takes
+
+pub chain-returns-in_err-inside-clause-takes : goal.chain-returns-in_err-inside-clause-takes
+chain-returns-in_err-inside-clause-takes t c = fails_before c.from_residual.result c.from_residual.ensures (chain_start c.args.loosest c.requires.low (omega arith)) c.in_err-inside.ensures.takes (operands_apart c.args.loosest)
+
+pub chain-returns-then-not-is_at_operator-clause-takes : goal.chain-returns-then-not-is_at_operator-clause-takes
+chain-returns-then-not-is_at_operator-clause-takes t c = finish _ (operands_end c.args.loosest (not_so c.is_at_operator.ensures c.if-not-is_at_operator.true) (step (chain_start c.args.loosest c.requires.low (omega arith)) c.in_ok-inside.ensures.takes (operands_apart c.args.loosest)))
+
+pub chain-returns-in_err-rest-clause-takes : goal.chain-returns-in_err-rest-clause-takes
+chain-returns-in_err-rest-clause-takes t c = fails_last_as c.from_residual-in_err-rest.result c.from_residual-in_err-rest.ensures (operands_at c.args.loosest (c.is_at_operator.ensures.0 c.if-not-is_at_operator.false) (step (chain_start c.args.loosest c.requires.low (omega arith)) c.in_ok-inside.ensures.takes (operands_apart c.args.loosest))) c.in_err-rest.ensures.takes (λ v behind. behind)
+
+pub chain-returns-clause-takes : goal.chain-returns-clause-takes
+chain-returns-clause-takes t c = last _ (operands_at c.args.loosest (c.is_at_operator.ensures.0 c.if-not-is_at_operator.false) (step (chain_start c.args.loosest c.requires.low (omega arith)) c.in_ok-inside.ensures.takes (operands_apart c.args.loosest))) c.in_ok-rest.ensures.takes (λ v behind. behind)
+
+pub operands-returns-in_err-first-clause-takes : goal.operands-returns-in_err-first-clause-takes
+operands-returns-in_err-first-clause-takes t c = fails_before c.from_residual.result c.from_residual.ensures (operands_start c.args.wanted) c.in_err-first.ensures.takes (operands_apart c.args.wanted)
+
+pub operands-returns-in_err-next-clause-takes : goal.operands-returns-in_err-next-clause-takes
+operands-returns-in_err-next-clause-takes t c = fails_before c.from_residual-in_err-next.result c.from_residual-in_err-next.ensures (operands_at c.args.wanted (c.is_at_operator.ensures.0 c.more-test.true) c.more.invariant.1) c.in_err-next.ensures.takes (operands_apart c.args.wanted)
+
+pub operands-returns-clause-takes : goal.operands-returns-clause-takes
+operands-returns-clause-takes t c = finish _ (operands_end c.args.wanted (not_so c.is_at_operator.ensures c.more-test.false) c.more.invariant.1)
+
+pub conditional-returns-in_err-first-clause-takes : goal.conditional-returns-in_err-first-clause-takes
+conditional-returns-in_err-first-clause-takes t c = fails c.from_residual.result c.from_residual.ensures conditional_start c.in_err-first.ensures.takes
+
+pub conditional-returns-in_err-word-clause-takes : goal.conditional-returns-in_err-word-clause-takes
+conditional-returns-in_err-word-clause-takes t c = fails c.from_residual-in_err-word.result c.from_residual-in_err-word.ensures (else_at (c.is_at_word.ensures.0 c.more-test.true) c.more.invariant.1) c.in_err-word.ensures.takes
+
+pub conditional-returns-in_err-last-clause-takes : goal.conditional-returns-in_err-last-clause-takes
+conditional-returns-in_err-last-clause-takes t c = fails_last c.from_residual-in_err-last.result c.from_residual-in_err-last.ensures (else_block (not_so c.is_at_word-in-more.ensures c.if-not-is_at_word.true) (next_part (else_at (c.is_at_word.ensures.0 c.more-test.true) c.more.invariant.1) c.in_ok-word.ensures.takes)) c.in_err-last.ensures.takes
+
+pub conditional-returns-then-not-is_at_word-clause-takes : goal.conditional-returns-then-not-is_at_word-clause-takes
+conditional-returns-then-not-is_at_word-clause-takes t c = last_part _ (else_block (not_so c.is_at_word-in-more.ensures c.if-not-is_at_word.true) (next_part (else_at (c.is_at_word.ensures.0 c.more-test.true) c.more.invariant.1) c.in_ok-word.ensures.takes)) c.in_ok-last.ensures.takes
+
+pub conditional-returns-in_err-next-clause-takes : goal.conditional-returns-in_err-next-clause-takes
+conditional-returns-in_err-next-clause-takes t c = fails c.from_residual-in_err-next.result c.from_residual-in_err-next.ensures (else_arm (c.is_at_word-in-more.ensures.0 c.if-not-is_at_word.false) (next_part (else_at (c.is_at_word.ensures.0 c.more-test.true) c.more.invariant.1) c.in_ok-word.ensures.takes)) c.in_err-next.ensures.takes
+
+pub conditional-returns-clause-takes : goal.conditional-returns-clause-takes
+conditional-returns-clause-takes t c = finish _ (else_end (not_so c.is_at_word.ensures c.more-test.false) c.more.invariant.1)
+
+pub inside-returns-in_err-next-clause-takes : goal.inside-returns-in_err-next-clause-takes
+inside-returns-in_err-next-clause-takes t c = fails c.from_residual.result c.from_residual.ensures (inside_let (not_so c.is_at_sign.ensures c.more-test.true) (c.is_at_word.ensures.0 c.if-is_at_word.true) c.more.invariant.1) c.in_err-next.ensures.takes
+
+pub inside-returns-in_err-found-clause-takes : goal.inside-returns-in_err-found-clause-takes
+inside-returns-in_err-found-clause-takes t c = fails_before c.from_residual-in_err-found.result c.from_residual-in_err-found.ensures (inside_expression (not_so c.is_at_sign.ensures c.more-test.true) (not_so c.is_at_word.ensures c.if-is_at_word.false) c.more.invariant.1) c.in_err-found.ensures.takes after_apart
+
+pub inside-returns-then-not-is_at_sign-clause-takes : goal.inside-returns-then-not-is_at_sign-clause-takes
+inside-returns-then-not-is_at_sign-clause-takes t c = finish _ (after_end (not_so c.is_at_sign-in-more.ensures c.if-not-is_at_sign.true) (step (inside_expression (not_so c.is_at_sign.ensures c.more-test.true) (not_so c.is_at_word.ensures c.if-is_at_word.false) c.more.invariant.1) c.in_ok-found.ensures.takes after_apart))
+
+pub inside-returns-in_err-sign-clause-takes : goal.inside-returns-in_err-sign-clause-takes
+inside-returns-in_err-sign-clause-takes t c = fails c.from_residual-in_err-sign.result c.from_residual-in_err-sign.ensures (after_at (c.is_at_sign-in-more.ensures.0 c.if-not-is_at_sign.false) (step (inside_expression (not_so c.is_at_sign.ensures c.more-test.true) (not_so c.is_at_word.ensures c.if-is_at_word.false) c.more.invariant.1) c.in_ok-found.ensures.takes after_apart)) c.in_err-sign.ensures.takes
+
+pub inside-returns-clause-takes : goal.inside-returns-clause-takes
+inside-returns-clause-takes t c = finish _ (inside_end (c.is_at_sign.ensures.0 c.more-test.false) c.more.invariant.1)
+
+pub unary-returns-then-not-is_at_prefix-clause-takes : goal.unary-returns-then-not-is_at_prefix-clause-takes
+unary-returns-then-not-is_at_prefix-clause-takes t c = tail c.postfix.result (unary_end (not_so c.is_at_prefix.ensures c.if-not-is_at_prefix.true)) c.postfix.ensures.takes (λ v behind. free_more 10 11 (omega arith) (first v) behind)
+
+pub unary-returns-in_err-prefixes-clause-takes : goal.unary-returns-in_err-prefixes-clause-takes
+unary-returns-in_err-prefixes-clause-takes t c = fails_before c.from_residual.result c.from_residual.ensures (unary_at (c.is_at_prefix.ensures.0 c.if-not-is_at_prefix.false)) c.in_err-prefixes.ensures.takes (prefixes_apart (Free 10))
+
+pub unary-returns-in_err-inside-clause-takes : goal.unary-returns-in_err-inside-clause-takes
+unary-returns-in_err-inside-clause-takes t c = fails_last_as c.from_residual-in_err-inside.result c.from_residual-in_err-inside.ensures (step (unary_at (c.is_at_prefix.ensures.0 c.if-not-is_at_prefix.false)) c.in_ok-prefixes.ensures.takes (prefixes_apart (Free 10))) c.in_err-inside.ensures.takes (λ v behind. free_more 10 11 (omega arith) (first v) behind)
+
+pub unary-returns-clause-takes : goal.unary-returns-clause-takes
+unary-returns-clause-takes t c = last _ (step (unary_at (c.is_at_prefix.ensures.0 c.if-not-is_at_prefix.false)) c.in_ok-prefixes.ensures.takes (prefixes_apart (Free 10))) c.in_ok-inside.ensures.takes (λ v behind. free_more 10 11 (omega arith) (first v) behind)
+
+pub postfix-returns-in_err-inside-clause-takes : goal.postfix-returns-in_err-inside-clause-takes
+postfix-returns-in_err-inside-clause-takes t c = fails_before c.from_residual.result c.from_residual.ensures postfix_start c.in_err-inside.ensures.takes suffixes_apart
+
+pub postfix-returns-then-not-is_at_suffix-clause-takes : goal.postfix-returns-then-not-is_at_suffix-clause-takes
+postfix-returns-then-not-is_at_suffix-clause-takes t c = finish _ (suffixes_end (not_so c.is_at_suffix.ensures c.if-not-is_at_suffix.true) (step postfix_start c.in_ok-inside.ensures.takes suffixes_apart))
+
+pub postfix-returns-in_err-suffixes-clause-takes : goal.postfix-returns-in_err-suffixes-clause-takes
+postfix-returns-in_err-suffixes-clause-takes t c = fails_last_as c.from_residual-in_err-suffixes.result c.from_residual-in_err-suffixes.ensures (suffixes_at (c.is_at_suffix.ensures.0 c.if-not-is_at_suffix.false) (step postfix_start c.in_ok-inside.ensures.takes suffixes_apart)) c.in_err-suffixes.ensures.takes (λ v behind. behind)
+
+pub postfix-returns-clause-takes : goal.postfix-returns-clause-takes
+postfix-returns-clause-takes t c = last _ (suffixes_at (c.is_at_suffix.ensures.0 c.if-not-is_at_suffix.false) (step postfix_start c.in_ok-inside.ensures.takes suffixes_apart)) c.in_ok-suffixes.ensures.takes (λ v behind. behind)
+
+pub primary-returns-in-Some-clause-takes : goal.primary-returns-in-Some-clause-takes
+primary-returns-in-Some-clause-takes t c = c.begun.ensures.takes
+
+pub primary-returns-in-None-clause-takes : goal.primary-returns-in-None-clause-takes
+primary-returns-in-None-clause-takes t c = primary_none (sym c.peek.ensures ∙ c.in-None.is)
+
+pub begun-returns-in-Literal-clause-takes : goal.begun-returns-in-Literal-clause-takes
+begun-returns-in-Literal-clause-takes t c = tail c.literal_expression.result (primary_at _ (c.requires ∙ ap Some c.in-Literal.is)) c.literal_expression.ensures.takes (free_last (Free 12))
+
+pub begun-returns-in-Name-clause-takes : goal.begun-returns-in-Name-clause-takes
+begun-returns-in-Name-clause-takes t c = tail c.named.result (primary_at _ (c.requires ∙ ap Some c.in-Name.is)) c.named.ensures.takes (λ v behind. behind)
+
+pub begun-returns-in-Symbol-clause-takes : goal.begun-returns-in-Symbol-clause-takes
+begun-returns-in-Symbol-clause-takes t c = tail c.bracketed.result (primary_at _ (c.requires ∙ ap Some c.in-Symbol.is)) c.bracketed.ensures.takes (free_last (Free 12))
+
+pub begun-returns-in-Keyword-clause-takes : goal.begun-returns-in-Keyword-clause-takes
+begun-returns-in-Keyword-clause-takes t c = tail c.keyword_primary.result (primary_at _ (c.requires ∙ ap Some c.in-Keyword.is)) c.keyword_primary.ensures.takes (free_last (Free 12))
+
+pub begun-returns-in-Number-clause-takes : goal.begun-returns-in-Number-clause-takes
+begun-returns-in-Number-clause-takes t c = refused (primary_at _ (c.requires ∙ ap Some c.in-Number.is)) (λ r v word behind same. word)
+
+pub named-returns-in_err-name-clause-takes : goal.named-returns-in_err-name-clause-takes
+named-returns-in_err-name-clause-takes t c = fails c.from_residual.result c.from_residual.ensures named_start c.in_err-name.ensures.takes
+
+pub named-returns-in_err-sign-clause-takes : goal.named-returns-in_err-sign-clause-takes
+named-returns-in_err-sign-clause-takes t c = fails c.from_residual-in_err-sign.result c.from_residual-in_err-sign.ensures (named_call (c.is_at_sign.ensures.0 c.if-is_at_sign.true) (next_part named_start c.in_ok-name.ensures.takes)) c.in_err-sign.ensures.takes
+
+pub named-returns-in_err-arguments-clause-takes : goal.named-returns-in_err-arguments-clause-takes
+named-returns-in_err-arguments-clause-takes t c = fails_before c.from_residual-in_err-arguments.result c.from_residual-in_err-arguments.ensures (next_part (named_call (c.is_at_sign.ensures.0 c.if-is_at_sign.true) (next_part named_start c.in_ok-name.ensures.takes)) c.in_ok-sign.ensures.takes) c.in_err-arguments.ensures.takes (before_one (Free 12) parenthesis_follows (symbol symbols.RightParenthesis) refl)
+
+pub named-returns-in_err-sign-2-clause-takes : goal.named-returns-in_err-sign-2-clause-takes
+named-returns-in_err-sign-2-clause-takes t c = fails_last c.from_residual-in_err-sign-2.result c.from_residual-in_err-sign-2.ensures (step (next_part (named_call (c.is_at_sign.ensures.0 c.if-is_at_sign.true) (next_part named_start c.in_ok-name.ensures.takes)) c.in_ok-sign.ensures.takes) c.in_ok-arguments.ensures.takes (before_one (Free 12) parenthesis_follows (symbol symbols.RightParenthesis) refl)) c.in_err-sign-2.ensures.takes
+
+pub named-returns-then-is_at_sign-clause-takes : goal.named-returns-then-is_at_sign-clause-takes
+named-returns-then-is_at_sign-clause-takes t c = last_part _ (step (next_part (named_call (c.is_at_sign.ensures.0 c.if-is_at_sign.true) (next_part named_start c.in_ok-name.ensures.takes)) c.in_ok-sign.ensures.takes) c.in_ok-arguments.ensures.takes (before_one (Free 12) parenthesis_follows (symbol symbols.RightParenthesis) refl)) c.in_ok-sign-2.ensures.takes
+
+pub named-returns-in_err-sign-3-clause-takes : goal.named-returns-in_err-sign-3-clause-takes
+named-returns-in_err-sign-3-clause-takes t c = fails c.from_residual-in_err-sign-3.result c.from_residual-in_err-sign-3.ensures (named_colons (c.is_at_sign-2.ensures.0 c.if-is_at_sign-2.true) (next_part named_start c.in_ok-name.ensures.takes)) c.in_err-sign-3.ensures.takes
+
+pub named-returns-in_err-member-clause-takes : goal.named-returns-in_err-member-clause-takes
+named-returns-in_err-member-clause-takes t c = fails_last c.from_residual-in_err-member.result c.from_residual-in_err-member.ensures (name_not_brace (Then (Commas IsFieldValue field_value_leaves) (One (symbol symbols.RightBrace))) (c.is_at_name.ensures.0 c.if-is_at_name.true) (next_part (named_colons (c.is_at_sign-2.ensures.0 c.if-is_at_sign-2.true) (next_part named_start c.in_ok-name.ensures.takes)) c.in_ok-sign-3.ensures.takes)) c.in_err-member.ensures.takes
+
+pub named-returns-then-is_at_name-clause-takes : goal.named-returns-then-is_at_name-clause-takes
+named-returns-then-is_at_name-clause-takes t c = last_part _ (name_not_brace (Then (Commas IsFieldValue field_value_leaves) (One (symbol symbols.RightBrace))) (c.is_at_name.ensures.0 c.if-is_at_name.true) (next_part (named_colons (c.is_at_sign-2.ensures.0 c.if-is_at_sign-2.true) (next_part named_start c.in_ok-name.ensures.takes)) c.in_ok-sign-3.ensures.takes)) c.in_ok-member.ensures.takes
+
+pub named-returns-in_err-sign-4-clause-takes : goal.named-returns-in_err-sign-4-clause-takes
+named-returns-in_err-sign-4-clause-takes t c = fails c.from_residual-in_err-sign-4.result c.from_residual-in_err-sign-4.ensures (brace_not_name (Then (Commas IsFieldValue field_value_leaves) (One (symbol symbols.RightBrace))) (not_so c.is_at_name.ensures c.if-is_at_name.false) (next_part (named_colons (c.is_at_sign-2.ensures.0 c.if-is_at_sign-2.true) (next_part named_start c.in_ok-name.ensures.takes)) c.in_ok-sign-3.ensures.takes)) c.in_err-sign-4.ensures.takes
+
+pub named-returns-in_err-fields-clause-takes : goal.named-returns-in_err-fields-clause-takes
+named-returns-in_err-fields-clause-takes t c = fails_before c.from_residual-in_err-fields.result c.from_residual-in_err-fields.ensures (next_part (brace_not_name (Then (Commas IsFieldValue field_value_leaves) (One (symbol symbols.RightBrace))) (not_so c.is_at_name.ensures c.if-is_at_name.false) (next_part (named_colons (c.is_at_sign-2.ensures.0 c.if-is_at_sign-2.true) (next_part named_start c.in_ok-name.ensures.takes)) c.in_ok-sign-3.ensures.takes)) c.in_ok-sign-4.ensures.takes) c.in_err-fields.ensures.takes (before_one (Free 12) (NoComma (Free 0)) (symbol symbols.RightBrace) (tt, refl))
+
+pub named-returns-in_err-close-clause-takes : goal.named-returns-in_err-close-clause-takes
+named-returns-in_err-close-clause-takes t c = fails_last c.from_residual-in_err-close.result c.from_residual-in_err-close.ensures (step (next_part (brace_not_name (Then (Commas IsFieldValue field_value_leaves) (One (symbol symbols.RightBrace))) (not_so c.is_at_name.ensures c.if-is_at_name.false) (next_part (named_colons (c.is_at_sign-2.ensures.0 c.if-is_at_sign-2.true) (next_part named_start c.in_ok-name.ensures.takes)) c.in_ok-sign-3.ensures.takes)) c.in_ok-sign-4.ensures.takes) c.in_ok-fields.ensures.takes (before_one (Free 12) (NoComma (Free 0)) (symbol symbols.RightBrace) (tt, refl))) c.in_err-close.ensures.takes
+
+pub named-returns-then-is_at_sign-2-clause-takes : goal.named-returns-then-is_at_sign-2-clause-takes
+named-returns-then-is_at_sign-2-clause-takes t c = last_part _ (step (next_part (brace_not_name (Then (Commas IsFieldValue field_value_leaves) (One (symbol symbols.RightBrace))) (not_so c.is_at_name.ensures c.if-is_at_name.false) (next_part (named_colons (c.is_at_sign-2.ensures.0 c.if-is_at_sign-2.true) (next_part named_start c.in_ok-name.ensures.takes)) c.in_ok-sign-3.ensures.takes)) c.in_ok-sign-4.ensures.takes) c.in_ok-fields.ensures.takes (before_one (Free 12) (NoComma (Free 0)) (symbol symbols.RightBrace) (tt, refl))) c.in_ok-close.ensures.takes
+
+pub named-returns-clause-takes : goal.named-returns-clause-takes
+named-returns-clause-takes t c = finish _ (named_end (not_so c.is_at_sign.ensures c.if-is_at_sign.false) (not_so c.is_at_sign-2.ensures c.if-is_at_sign-2.false) (next_part named_start c.in_ok-name.ensures.takes))
+
+pub arguments-returns-then-is_at_sign-clause-takes : goal.arguments-returns-then-is_at_sign-clause-takes
+arguments-returns-then-is_at_sign-clause-takes t c = finish _ (arguments_end (c.is_at_sign.ensures.0 c.if-is_at_sign.true))
+
+pub arguments-returns-clause-takes : goal.arguments-returns-clause-takes
+arguments-returns-clause-takes t c = tail c.values.result (arguments_at (not_so c.is_at_sign.ensures c.if-is_at_sign.false)) c.values.ensures.takes (λ v behind. parenthesis_free (first v) behind)
+
+pub values-returns-in_err-first-clause-takes : goal.values-returns-in_err-first-clause-takes
+values-returns-in_err-first-clause-takes t c = fails_before c.from_residual.result c.from_residual.ensures (commas_start IsExpression expression_leaves) c.in_err-first.ensures.takes (commas_apart IsExpression expression_leaves (Free 0) tt)
+
+pub values-returns-in_err-sign-clause-takes : goal.values-returns-in_err-sign-clause-takes
+values-returns-in_err-sign-clause-takes t c = fails c.from_residual-in_err-sign.result c.from_residual-in_err-sign.ensures (commas_at IsExpression expression_leaves (c.is_at_sign.ensures.0 c.more-test.true) c.more.invariant.1) c.in_err-sign.ensures.takes
+
+pub values-returns-in_err-next-clause-takes : goal.values-returns-in_err-next-clause-takes
+values-returns-in_err-next-clause-takes t c = fails_before c.from_residual-in_err-next.result c.from_residual-in_err-next.ensures (next_part (commas_at IsExpression expression_leaves (c.is_at_sign.ensures.0 c.more-test.true) c.more.invariant.1) c.in_ok-sign.ensures.takes) c.in_err-next.ensures.takes (commas_apart IsExpression expression_leaves (Free 0) tt)
+
+pub values-returns-clause-takes : goal.values-returns-clause-takes
+values-returns-clause-takes t c = finish _ (commas_end IsExpression expression_leaves (not_so c.is_at_sign.ensures c.more-test.false) c.more.invariant.1)
+
+pub field_values-returns-in_err-first-clause-takes : goal.field_values-returns-in_err-first-clause-takes
+field_values-returns-in_err-first-clause-takes t c = fails_before c.from_residual.result c.from_residual.ensures (commas_start IsFieldValue field_value_leaves) c.in_err-first.ensures.takes (commas_apart IsFieldValue field_value_leaves (Free 0) tt)
+
+pub field_values-returns-in_err-sign-clause-takes : goal.field_values-returns-in_err-sign-clause-takes
+field_values-returns-in_err-sign-clause-takes t c = fails c.from_residual-in_err-sign.result c.from_residual-in_err-sign.ensures (commas_at IsFieldValue field_value_leaves (c.is_at_sign.ensures.0 c.more-test.true) c.more.invariant.1) c.in_err-sign.ensures.takes
+
+pub field_values-returns-in_err-next-clause-takes : goal.field_values-returns-in_err-next-clause-takes
+field_values-returns-in_err-next-clause-takes t c = fails_before c.from_residual-in_err-next.result c.from_residual-in_err-next.ensures (next_part (commas_at IsFieldValue field_value_leaves (c.is_at_sign.ensures.0 c.more-test.true) c.more.invariant.1) c.in_ok-sign.ensures.takes) c.in_err-next.ensures.takes (commas_apart IsFieldValue field_value_leaves (Free 0) tt)
+
+pub field_values-returns-clause-takes : goal.field_values-returns-clause-takes
+field_values-returns-clause-takes t c = finish _ (commas_end IsFieldValue field_value_leaves (not_so c.is_at_sign.ensures c.more-test.false) c.more.invariant.1)

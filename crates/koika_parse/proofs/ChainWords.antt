@@ -1,0 +1,367 @@
+-- What is left of a chain, of operators in front of an operand and of suffixes behind it, by the next token.
+use Rattle.std.proofs.Common.{◌≡◌, ℕ, zero, suc, ◌+◌, ◌-◌, ◌<◌, ◌≤◌, Option, None, Some, IfSome, Err, List, [], ◌∷◌, ◌++◌, append_assoc, append-nil, inl, inr, refl, ap, sym, subst, ◌∙◌, arith}
+use Rattle.std.specs.Prelude.{◌⊎◌, ⊤}
+use Rattle.koika_syntax.specs.Grammar.{IsSuffix, IsName, IsNumber, level_of, IsExpression, prefix_leaves, suffix_leaves, expression_leaves, operand_leaves}
+use Rattle.koika_syntax.specs.Tree.{Leaf, Terminal, name, number, literal, keyword, symbol, placed, name_leaves, sign, number_leaves, unary_symbol, binary_symbol}
+use Rattle.koika_syntax.specs.declared.keyword.Keyword.TheVariants as keywords
+use Rattle.koika_syntax.specs.declared.symbol.Symbol.{Symbol}
+use Rattle.koika_syntax.specs.declared.symbol.Symbol.TheVariants as symbols
+use Rattle.koika_syntax.specs.declared.operator.BinaryOperator.{BinaryOperator}
+use Rattle.koika_syntax.specs.declared.operator.BinaryOperator.TheVariants as binary
+use Rattle.koika_syntax.specs.declared.operator.UnaryOperator.{UnaryOperator}
+use Rattle.koika_syntax.specs.declared.operator.UnaryOperator.TheVariants as unary
+use Rattle.koika_syntax.specs.declared.token.TokenKind.{TokenKind}
+use Rattle.koika_syntax.specs.declared.token.TokenKind.TheVariants as kinds
+use Rattle.koika_syntax.specs.declared.tree.Suffix.{Suffix}
+use Rattle.koika_syntax.specs.declared.tree.Suffix.TheVariants as suffixes
+use Rattle.koika_syntax.specs.declared.tree.Prefix.{Prefix}
+use Rattle.koika_parse.specs.Expected.{One, Part, Then, first, Behind, Takes}
+use Rattle.koika_parse.specs.ExpressionWords.{holds, Free, LevelWord, OperandWord, OperandsWord, OperatorWord, SomeOperandsWord, IsAtOperator, PrefixWord, PrefixesWord, SuffixesWord, IsAtPrefix, IsAtSuffix, IndexWord, KeywordWord, SymbolWord, no_prefix}
+use Rattle.koika_parse.specs.Parts.{IsOperandIn}
+use Rattle.koika_parse.specs.Reading.{next}
+use Rattle.koika_parse.specs.declared.cursor.Cursor.{Cursor}
+use Rattle.koika_parse.specs.declared.source.Source.{Source}
+use Rattle.koika_parse.specs.declared.stop.Stop.TheVariants as stops
+use Rattle.koika_parse.proofs.Expected.{Empty, Apart, Goes, start, starts, goes_as, narrow, narrow_part, refused, same_of_some, never_none, kind_of}
+use Rattle.koika_parse.proofs.Rows.{Rows, the_first, the_second, rows_cases, rows_made, rows_none, first_one}
+use Rattle.koika_parse.proofs.Words.{sign_word, assoc3}
+use Rattle.koika_parse.proofs.ExpressionWords.{PrimaryWord, primary_word, chain_split, unary_split, postfix_split, operand_word}
+
+-- how tightly what begins with a token may hold together: 2 for a primary, 1 for operators in front of one
+abbrev pub begins : Terminal → ℕ
+begins (literal bits) = 2
+begins (name bytes) = 2
+begins (symbol symbols.LeftBracket) = 2
+begins (symbol symbols.LeftParenthesis) = 2
+begins (symbol symbols.LeftBrace) = 2
+begins (symbol symbols.Tilde) = 1
+begins (symbol symbols.Minus) = 1
+begins (keyword keywords.Abort) = 2
+begins (keyword keywords.Pack) = 2
+begins (keyword keywords.Unpack) = 2
+begins (keyword keywords.Update) = 2
+begins (keyword keywords.Zext) = 2
+begins (keyword keywords.Sext) = 2
+begins (keyword keywords.Slt) = 2
+begins (keyword keywords.Sle) = 2
+begins (keyword keywords.Sgt) = 2
+begins (keyword keywords.Sge) = 2
+begins (keyword keywords.Read0) = 2
+begins (keyword keywords.Read1) = 2
+begins (keyword keywords.Read2) = 2
+begins (keyword keywords.Read3) = 2
+begins (keyword keywords.Write0) = 2
+begins (keyword keywords.Write1) = 2
+begins (keyword keywords.Write2) = 2
+begins (keyword keywords.Write3) = 2
+begins _ = 0
+
+-- a word that begins so
+abbrev pub Begins : ℕ → List Leaf → Type 0
+Begins n u = (leaf : Leaf) × (rest : List Leaf) × (u ≡ leaf ∷ rest) × (n ≤ begins leaf.terminal)
+
+begins_then : {n : ℕ} {a : List Leaf} (b u : List Leaf) → Begins n a → u ≡ a ++ b → Begins n u
+begins_then b u word same = (word.0, word.1 ++ b, same ∙ ap (λ l. l ++ b) word.2, word.3)
+
+-- a word that begins so doesn't begin with this token
+pub other_token : {n : ℕ} {u : List Leaf} (v : List Leaf) (terminal : Terminal) → Begins n u → first (u ++ v) ≡ Some terminal → begins terminal < n → ⊥
+other_token {n} {u} v terminal word at low = omega (arith, low, word.3, ap begins (same_of_some (sym (ap (λ l. first (l ++ v)) word.2) ∙ at)))
+
+primary_begins : (t : Terminal) (u : List Leaf) → PrimaryWord (kind_of t) u → 2 ≤ begins t
+primary_begins (literal bits) u word = omega arith
+primary_begins (name bytes) u word = omega arith
+primary_begins (number n) u word = absurd word
+primary_begins (symbol symbols.LeftBracket) u word = omega arith
+primary_begins (symbol symbols.LeftParenthesis) u word = omega arith
+primary_begins (symbol symbols.LeftBrace) u word = omega arith
+primary_begins (symbol _) u word = absurd word
+primary_begins (keyword keywords.Abort) u word = omega arith
+primary_begins (keyword keywords.Pack) u word = omega arith
+primary_begins (keyword keywords.Unpack) u word = omega arith
+primary_begins (keyword keywords.Update) u word = omega arith
+primary_begins (keyword keywords.Zext) u word = omega arith
+primary_begins (keyword keywords.Sext) u word = omega arith
+primary_begins (keyword keywords.Slt) u word = omega arith
+primary_begins (keyword keywords.Sle) u word = omega arith
+primary_begins (keyword keywords.Sgt) u word = omega arith
+primary_begins (keyword keywords.Sge) u word = omega arith
+primary_begins (keyword keywords.Read0) u word = omega arith
+primary_begins (keyword keywords.Read1) u word = omega arith
+primary_begins (keyword keywords.Read2) u word = omega arith
+primary_begins (keyword keywords.Read3) u word = omega arith
+primary_begins (keyword keywords.Write0) u word = omega arith
+primary_begins (keyword keywords.Write1) u word = omega arith
+primary_begins (keyword keywords.Write2) u word = omega arith
+primary_begins (keyword keywords.Write3) u word = omega arith
+primary_begins (keyword _) u word = absurd word
+
+level_12_begins : (u : List Leaf) → LevelWord 12 u → Begins 2 u
+level_12_begins u word =
+    let headed = primary_word word.0 word.1 in
+    (headed.0, headed.1, word.2 ∙ headed.2, primary_begins headed.0.terminal (expression_leaves word.0) headed.3)
+
+pub postfix_begins : (u : List Leaf) → LevelWord 11 u → Begins 2 u
+postfix_begins u word = of (postfix_split u word)
+  where
+    of : LevelWord 12 u ⊎ Then (LevelWord 12) SuffixesWord u → Begins 2 u
+    of (inl primary) = level_12_begins u primary
+    of (inr both) = begins_then both.1 u (level_12_begins both.0 both.2) both.4
+
+prefix_at : (operator : UnaryOperator) → 1 ≤ begins (symbol (unary_symbol operator))
+prefix_at unary.Not = omega arith
+prefix_at unary.Negate = omega arith
+
+unary_begins : (u : List Leaf) → LevelWord 10 u → Begins 1 u
+unary_begins u word = of (unary_split u word)
+  where
+    lower : (a : List Leaf) → Begins 2 a → Begins 1 a
+    lower a word = (word.0, word.1, word.2, omega (arith, word.3))
+
+    of : LevelWord 11 u ⊎ Then PrefixesWord (LevelWord 11) u → Begins 1 u
+    of (inl postfix) = lower u (postfix_begins u postfix)
+    of (inr both) = begins_then both.1 u (begins_then both.2.1 both.0 (_, [], both.2.2.2, prefix_at both.2.2.0.operator) both.2.4) both.4
+
+level_begins : (n k : ℕ) → k + n ≡ 10 → 0 < k → (u : List Leaf) → LevelWord k u → Begins 1 u
+level_begins zero k same low u word = unary_begins u (subst (λ k. LevelWord k u) (omega (arith, same)) word)
+level_begins (suc n) k same low u word = split (chain_split k low (omega (arith, same)) u word) (λ a tighter. level_begins n (k + 1) (omega (arith, same)) (omega arith) a tighter)
+  where
+    split : LevelWord (k + 1) u ⊎ Then (LevelWord (k + 1)) (SomeOperandsWord k) u → ((a : List Leaf) → LevelWord (k + 1) a → Begins 1 a) → Begins 1 u
+    split (inl tighter) each = each u tighter
+    split (inr both) each = begins_then both.1 u (each both.0 both.2) both.4
+
+-- a chain begins with a primary or operators in front of one
+pub chain_begins : (k : ℕ) → 0 < k → k ≤ 10 → (u : List Leaf) → LevelWord k u → Begins 1 u
+chain_begins k low high u word = level_begins (10 - k) k (omega (arith, high)) low u word
+
+holds_operator : (operator : BinaryOperator) → holds (binary_symbol operator) ≡ Some (level_of operator)
+holds_operator binary.Or = refl
+holds_operator binary.Xor = refl
+holds_operator binary.And = refl
+holds_operator binary.Equal = refl
+holds_operator binary.NotEqual = refl
+holds_operator binary.Less = refl
+holds_operator binary.LessOrEqual = refl
+holds_operator binary.Greater = refl
+holds_operator binary.GreaterOrEqual = refl
+holds_operator binary.Concat = refl
+holds_operator binary.ShiftLeft = refl
+holds_operator binary.ShiftRight = refl
+holds_operator binary.ShiftRightSigned = refl
+holds_operator binary.Add = refl
+holds_operator binary.Subtract = refl
+holds_operator binary.Multiply = refl
+
+-- an operator goes on with the expressions of its level and looser ones alone
+free_operator : (k : ℕ) (operator : BinaryOperator) → level_of operator < k → Free k (Some (symbol (binary_symbol operator)))
+free_operator k operator low = subst (λ o. IfSome o (λ l. l < k)) (sym (holds_operator operator)) low
+
+taken_operator : (k : ℕ) (operator : BinaryOperator) → Free k (Some (symbol (binary_symbol operator))) → level_of operator < k
+taken_operator k operator free = subst (λ o. IfSome o (λ l. l < k)) (holds_operator operator) free
+
+-- what goes on with no looser expression goes on with no tighter one
+pub free_more : (k l : ℕ) → k ≤ l → (next : Option Terminal) → Free k next → Free l next
+free_more k l less None free = tt
+free_more k l less (Some (symbol s)) free = of (holds s) free
+  where
+    of : (o : Option ℕ) → IfSome o (λ n. n < k) → IfSome o (λ n. n < l)
+    of None low = tt
+    of (Some n) low = omega (arith, low, less)
+free_more k l less (Some (keyword keywords.Else)) free = omega (arith, free, less)
+free_more k l less (Some (keyword _)) free = tt
+free_more k l less (Some (name bytes)) free = tt
+free_more k l less (Some (number n)) free = tt
+free_more k l less (Some (literal bits)) free = tt
+
+-- an operand begins with its operator
+operand_first : (k : ℕ) (r v : List Leaf) → Part (IsOperandIn k) operand_leaves r → (operator : BinaryOperator) × (level_of operator ≡ k) × (first (r ++ v) ≡ Some (symbol (binary_symbol operator)))
+operand_first k r v part =
+    let word = operand_word k part.0 part.1 in
+    (word.2.0, word.2.1, ap (λ l. first (l ++ v)) (part.2 ∙ word.4 ∙ ap (λ l. l ++ word.1) word.2.2.2) ∙ ap Some word.2.2.1)
+
+operands_first : (k : ℕ) (r v : List Leaf) → SomeOperandsWord k r → (operator : BinaryOperator) × (level_of operator ≡ k) × (first (r ++ v) ≡ Some (symbol (binary_symbol operator)))
+operands_first k r v both =
+    let head = operand_first k both.0 (both.1 ++ v) both.2 in
+    (head.0, head.1, ap (λ l. first (l ++ v)) both.4 ∙ ap first (append_assoc both.0 both.1 v) ∙ head.2)
+
+-- an operand of a chain may have more operands behind it
+pub operands_apart : (k : ℕ) → Apart (OperandsWord k) (Free k) (Free (k + 1))
+operands_apart k q v word behind = of (rows_cases (IsOperandIn k) operand_leaves q word)
+  where
+    of : Empty q ⊎ SomeOperandsWord k q → Behind (Free (k + 1)) (q ++ v)
+    of (inl empty) = subst (λ l. Behind (Free (k + 1)) (l ++ v)) (sym empty) (free_more k (k + 1) (omega arith) (first v) behind)
+    of (inr some) =
+        let head = operands_first k q v some in
+        subst (Free (k + 1)) (sym head.2) (free_operator (k + 1) head.0 (omega (arith, head.1)))
+
+-- at an operator of the level, one operand more; elsewhere none
+pub operands_at : {source : Source} {old new : Cursor} {Word : List Leaf → Type 0} (k : ℕ) → IsAtOperator source new k → Goes source old new Word (Free k) (OperandsWord k) → Goes source old new Word (Free k) (SomeOperandsWord k)
+operands_at k at goes = the_second (goes_as goes (rows_cases (IsOperandIn k) operand_leaves))
+    (λ r v empty behind same. omega (arith, at.1, taken_operator k at.0 (subst (Free k) (ap (λ l. first (l ++ v)) (sym empty) ∙ same ∙ at.2) behind)))
+
+pub operands_end : {source : Source} {old new : Cursor} {Word : List Leaf → Type 0} {Follow : Option Terminal → Type 0} (k : ℕ) → (IsAtOperator source new k → ⊥) → Goes source old new Word Follow (OperandsWord k) → Goes source old new Word Follow Empty
+operands_end k other goes = the_first (goes_as goes (rows_cases (IsOperandIn k) operand_leaves))
+    (λ r v some behind same. let head = operands_first k r v some in other (head.0, head.1, sym same ∙ head.2))
+
+-- a chain is an operand and those behind it
+pub chain_start : {source : Source} {cursor : Cursor} {Follow : Option Terminal → Type 0} (k : ℕ) → 0 < k → k ≤ 9 → Goes source cursor cursor (LevelWord k) Follow (Then (LevelWord (k + 1)) (OperandsWord k))
+chain_start k low high = start (λ u word. of u (chain_split k low high u word))
+  where
+    of : (u : List Leaf) → LevelWord (k + 1) u ⊎ Then (LevelWord (k + 1)) (SomeOperandsWord k) u → Then (LevelWord (k + 1)) (OperandsWord k) u
+    of u (inl tighter) = (u, [], tighter, rows_none (IsOperandIn k) operand_leaves, sym (append-nil u))
+    of u (inr both) = (both.0, both.1, both.2, rows_made (IsOperandIn k) operand_leaves both.1 both.3, both.4)
+
+pub operands_start : {source : Source} {cursor : Cursor} {Follow : Option Terminal → Type 0} (k : ℕ) → Goes source cursor cursor (SomeOperandsWord k) Follow (SomeOperandsWord k)
+operands_start k = start (λ u word. word)
+
+pub operand_start : {source : Source} {cursor : Cursor} {Follow : Option Terminal → Type 0} (k : ℕ) → Goes source cursor cursor (Part (IsOperandIn k) operand_leaves) Follow (OperandWord k)
+operand_start k = starts (OperandWord k) (operand_word k)
+
+pub operator_start : {source : Source} {cursor : Cursor} {Follow : Option Terminal → Type 0} (k : ℕ) → Goes source cursor cursor (OperatorWord k) Follow (OperatorWord k)
+operator_start k = start (λ u word. word)
+
+-- an operator by the next token
+pub operator_at : {source : Source} {cursor : Cursor} {Follow : Option Terminal → Type 0} (k : ℕ) (operator : BinaryOperator) → next source cursor ≡ Some (symbol (binary_symbol operator)) → Goes source cursor cursor (OperatorWord k) Follow (One (symbol (binary_symbol operator)))
+operator_at k operator at = narrow (operator_start k) (λ r v word behind same. (word.2.0, same_of_some (sym (ap (λ l. first (l ++ v)) word.2.2) ∙ same ∙ at), word.2.2))
+
+pub operator_refused : {Y : Type 0} {source : Source} {cursor : Cursor} {Follow : Option Terminal → Type 0} (k : ℕ) → (IsAtOperator source cursor k → ⊥) → Takes {X = Y} source cursor cursor (OperatorWord k) Follow (Err stops.Unexpected)
+operator_refused k other = refused (operator_start k) (λ r v word behind same. other (word.0, word.1, sym same ∙ ap (λ l. first (l ++ v)) word.2.2 ∙ ap Some word.2.1))
+
+prefix_low : (operator : UnaryOperator) → begins (symbol (unary_symbol operator)) < 2
+prefix_low unary.Not = omega arith
+prefix_low unary.Negate = omega arith
+
+-- operators in front of an operand
+pub unary_start : {source : Source} {cursor : Cursor} {Follow : Option Terminal → Type 0} → Goes source cursor cursor (LevelWord 10) Follow (λ u. LevelWord 11 u ⊎ Then PrefixesWord (LevelWord 11) u)
+unary_start = start unary_split
+
+prefixes_first : (r v : List Leaf) → PrefixesWord r → (operator : UnaryOperator) × (first (r ++ v) ≡ Some (symbol (unary_symbol operator)))
+prefixes_first r v word = (word.2.0.operator, ap (λ l. first (l ++ v)) (word.4 ∙ ap (λ l. l ++ word.1) word.2.2))
+
+pub unary_at : {source : Source} {cursor : Cursor} {Follow : Option Terminal → Type 0} → IsAtPrefix source cursor → Goes source cursor cursor (LevelWord 10) Follow (Then PrefixesWord (LevelWord 11))
+unary_at at = the_second unary_start (λ r v postfix behind same. other_token v (symbol (unary_symbol at.0)) (postfix_begins r postfix) (same ∙ at.1) (prefix_low at.0))
+
+pub unary_end : {source : Source} {cursor : Cursor} {Follow : Option Terminal → Type 0} → (IsAtPrefix source cursor → ⊥) → Goes source cursor cursor (LevelWord 10) Follow (LevelWord 11)
+unary_end other = the_first unary_start (λ r v both behind same.
+    let head = prefixes_first both.0 (both.1 ++ v) both.2 in
+    other (head.0, sym same ∙ ap (λ l. first (l ++ v)) both.4 ∙ ap first (append_assoc both.0 both.1 v) ∙ head.1))
+
+no_prefix_of : (t : Terminal) → 2 ≤ begins t → no_prefix (Some t)
+no_prefix_of (symbol symbols.Tilde) high = omega (arith, high)
+no_prefix_of (symbol symbols.Minus) high = omega (arith, high)
+no_prefix_of (symbol _) high = tt
+no_prefix_of (name bytes) high = tt
+no_prefix_of (number n) high = tt
+no_prefix_of (literal bits) high = tt
+no_prefix_of (keyword k) high = tt
+
+-- a postfix begins with no operator
+pub prefixes_apart : (Follow : Option Terminal → Type 0) → Apart (LevelWord 11) Follow no_prefix
+prefixes_apart Follow q v word behind =
+    let head = postfix_begins q word in
+    subst no_prefix (sym (ap (λ l. first (l ++ v)) head.2)) (no_prefix_of head.0.terminal head.3)
+
+abbrev pub MorePrefixes : List Leaf → Type 0
+MorePrefixes = Rows (λ (prefix : Prefix). ⊤) prefix_leaves
+
+pub prefixes_start : {source : Source} {cursor : Cursor} {Follow : Option Terminal → Type 0} → Goes source cursor cursor PrefixesWord Follow PrefixesWord
+prefixes_start = start (λ u word. word)
+
+no_prefix_next : (operator : UnaryOperator) → no_prefix (Some (symbol (unary_symbol operator))) → ⊥
+no_prefix_next unary.Not free = free
+no_prefix_next unary.Negate free = free
+
+pub prefixes_at : {source : Source} {old new : Cursor} {Word : List Leaf → Type 0} → IsAtPrefix source new → Goes source old new Word no_prefix MorePrefixes → Goes source old new Word no_prefix PrefixesWord
+prefixes_at at goes = the_second (goes_as goes (rows_cases (λ prefix. ⊤) prefix_leaves))
+    (λ r v empty behind same. no_prefix_next at.0 (subst no_prefix (ap (λ l. first (l ++ v)) (sym empty) ∙ same ∙ at.1) behind))
+
+pub prefixes_end : {source : Source} {old new : Cursor} {Word : List Leaf → Type 0} {Follow : Option Terminal → Type 0} → (IsAtPrefix source new → ⊥) → Goes source old new Word Follow MorePrefixes → Goes source old new Word Follow Empty
+prefixes_end other goes = the_first (goes_as goes (rows_cases (λ prefix. ⊤) prefix_leaves))
+    (λ r v some behind same. let head = prefixes_first r v some in other (head.0, sym same ∙ head.1))
+
+pub prefix_start : {source : Source} {cursor : Cursor} {Follow : Option Terminal → Type 0} → Goes source cursor cursor PrefixWord Follow PrefixWord
+prefix_start = start (λ u word. word)
+
+pub prefix_at_sign : {source : Source} {cursor : Cursor} {Follow : Option Terminal → Type 0} (operator : UnaryOperator) → next source cursor ≡ Some (symbol (unary_symbol operator)) → Goes source cursor cursor PrefixWord Follow (One (symbol (unary_symbol operator)))
+prefix_at_sign operator at = narrow prefix_start (λ r v word behind same. (record { terminal = symbol (unary_symbol word.0.operator); place = Some word.0.place }, same_of_some (sym (ap (λ l. first (l ++ v)) word.2) ∙ same ∙ at), word.2))
+
+pub prefix_refused : {Y : Type 0} {source : Source} {cursor : Cursor} {Follow : Option Terminal → Type 0} → (IsAtPrefix source cursor → ⊥) → Takes {X = Y} source cursor cursor PrefixWord Follow (Err stops.Unexpected)
+prefix_refused other = refused prefix_start (λ r v word behind same. other (word.0.operator, sym same ∙ ap (λ l. first (l ++ v)) word.2))
+
+abbrev pub MoreSuffixes : List Leaf → Type 0
+MoreSuffixes = Rows IsSuffix suffix_leaves
+
+bracket_or_dot : Some (symbol symbols.LeftBracket) ≡ Some (symbol symbols.Dot) → ⊥
+bracket_or_dot e = cc e
+
+bracket_or_colon : Some (symbol symbols.RightBracket) ≡ Some (symbol symbols.Colon) → ⊥
+bracket_or_colon e = cc e
+
+-- suffixes behind a primary
+pub postfix_start : {source : Source} {cursor : Cursor} {Follow : Option Terminal → Type 0} → Goes source cursor cursor (LevelWord 11) Follow (Then (LevelWord 12) MoreSuffixes)
+postfix_start = start (λ u word. of u (postfix_split u word))
+  where
+    of : (u : List Leaf) → LevelWord 12 u ⊎ Then (LevelWord 12) SuffixesWord u → Then (LevelWord 12) MoreSuffixes u
+    of u (inl primary) = (u, [], primary, rows_none IsSuffix suffix_leaves, sym (append-nil u))
+    of u (inr both) = (both.0, both.1, both.2, rows_made IsSuffix suffix_leaves both.1 both.3, both.4)
+
+pub suffixes_start : {source : Source} {cursor : Cursor} {Follow : Option Terminal → Type 0} → Goes source cursor cursor SuffixesWord Follow SuffixesWord
+suffixes_start = start (λ u word. word)
+
+-- a suffix begins with a dot or a bracket
+suffix_first : (suffix : Suffix) (v : List Leaf) (next : Option Terminal) → first (suffix_leaves suffix ++ v) ≡ next → (next ≡ Some (symbol symbols.Dot)) ⊎ (next ≡ Some (symbol symbols.LeftBracket))
+suffix_first (suffixes.Field n) v next at = inl (sym at)
+suffix_first (suffixes.Index index) v next at = inr (sym at)
+suffix_first (suffixes.Slice high low) v next at = inr (sym at)
+
+suffixes_first : (r v : List Leaf) (next : Option Terminal) → SuffixesWord r → first (r ++ v) ≡ next → (next ≡ Some (symbol symbols.Dot)) ⊎ (next ≡ Some (symbol symbols.LeftBracket))
+suffixes_first r v next word at = suffix_first word.2.0 (word.1 ++ v) next
+    (ap first (sym (append_assoc (suffix_leaves word.2.0) word.1 v)) ∙ ap (λ l. first (l ++ v)) (sym (word.4 ∙ ap (λ l. l ++ word.1) word.2.2)) ∙ at)
+
+free_suffix : (k : ℕ) → k ≤ 11 → (next : Option Terminal) → Free k next → (next ≡ Some (symbol symbols.Dot)) ⊎ (next ≡ Some (symbol symbols.LeftBracket)) → ⊥
+free_suffix k low next free (inl dot) = let less : 11 < k = subst (Free k) dot free in omega (arith, low, less)
+free_suffix k low next free (inr bracket) = let less : 11 < k = subst (Free k) bracket free in omega (arith, low, less)
+
+pub suffixes_apart : Apart MoreSuffixes (Free 11) (Free 12)
+suffixes_apart q v word behind = of (rows_cases IsSuffix suffix_leaves q word)
+  where
+    begun : (next : Option Terminal) → (next ≡ Some (symbol symbols.Dot)) ⊎ (next ≡ Some (symbol symbols.LeftBracket)) → Free 12 next
+    begun next (inl dot) = subst (Free 12) (sym dot) (omega arith)
+    begun next (inr bracket) = subst (Free 12) (sym bracket) (omega arith)
+
+    of : Empty q ⊎ SuffixesWord q → Behind (Free 12) (q ++ v)
+    of (inl empty) = subst (λ l. Behind (Free 12) (l ++ v)) (sym empty) (free_more 11 12 (omega arith) (first v) behind)
+    of (inr some) = begun (first (q ++ v)) (suffixes_first q v (first (q ++ v)) some refl)
+
+pub suffixes_at : {source : Source} {old new : Cursor} {Word : List Leaf → Type 0} → IsAtSuffix source new → Goes source old new Word (Free 11) MoreSuffixes → Goes source old new Word (Free 11) SuffixesWord
+suffixes_at {source} {old} {new} at goes = the_second (goes_as goes (rows_cases IsSuffix suffix_leaves))
+    (λ r v empty behind same. free_suffix 11 (omega arith) (next source new) (subst (Free 11) (ap (λ l. first (l ++ v)) (sym empty) ∙ same) behind) at)
+
+pub suffixes_end : {source : Source} {old new : Cursor} {Word : List Leaf → Type 0} {Follow : Option Terminal → Type 0} → (IsAtSuffix source new → ⊥) → Goes source old new Word Follow MoreSuffixes → Goes source old new Word Follow Empty
+suffixes_end {source} {old} {new} other goes = the_first (goes_as goes (rows_cases IsSuffix suffix_leaves))
+    (λ r v some behind same. other (suffixes_first r v (next source new) some same))
+
+-- a suffix by the next token
+pub suffix_dot : {source : Source} {cursor : Cursor} {Follow : Option Terminal → Type 0} → next source cursor ≡ Some (symbol symbols.Dot) → Goes source cursor cursor (Part IsSuffix suffix_leaves) Follow (Then (One (symbol symbols.Dot)) (Part IsName name_leaves))
+suffix_dot {source} {cursor} dot = narrow_part (Then (One (symbol symbols.Dot)) (Part IsName name_leaves)) (λ x is v at. of x is v (at ∙ dot))
+  where
+    of : (x : Suffix) → IsSuffix x → (v : List Leaf) → first (suffix_leaves x ++ v) ≡ Some (symbol symbols.Dot) → Then (One (symbol symbols.Dot)) (Part IsName name_leaves) (suffix_leaves x)
+    of (suffixes.Field n) is v at = (sign symbols.Dot, name_leaves n, sign_word symbols.Dot, (n, is, refl), refl)
+    of (suffixes.Index index) is v at = absurd (bracket_or_dot at)
+    of (suffixes.Slice high low) is v at = absurd (bracket_or_dot at)
+
+pub suffix_bracket : {source : Source} {cursor : Cursor} {Follow : Option Terminal → Type 0} → (next source cursor ≡ Some (symbol symbols.Dot) → ⊥) → Goes source cursor cursor (Part IsSuffix suffix_leaves) Follow IndexWord
+suffix_bracket {source} {cursor} other = narrow_part IndexWord (λ x is v at. of x is v at)
+  where
+    of : (x : Suffix) → IsSuffix x → (v : List Leaf) → first (suffix_leaves x ++ v) ≡ next source cursor → IndexWord (suffix_leaves x)
+    of (suffixes.Field n) is v at = absurd (other (sym at))
+    of (suffixes.Index index) is v at = (sign symbols.LeftBracket, number_leaves index ++ sign symbols.RightBracket, sign_word symbols.LeftBracket, (number_leaves index, sign symbols.RightBracket, (index, is, refl), inl (sign_word symbols.RightBracket), refl), refl)
+    of (suffixes.Slice high low) is v at = (sign symbols.LeftBracket, number_leaves high ++ sign symbols.Colon ++ number_leaves low ++ sign symbols.RightBracket, sign_word symbols.LeftBracket, (number_leaves high, sign symbols.Colon ++ number_leaves low ++ sign symbols.RightBracket, (high, is.0, refl), inr (sign symbols.Colon, number_leaves low ++ sign symbols.RightBracket, sign_word symbols.Colon, (number_leaves low, sign symbols.RightBracket, (low, is.1, refl), sign_word symbols.RightBracket, refl), refl), refl), refl)
+
+abbrev pub AfterNumber : List Leaf → Type 0
+AfterNumber u = One (symbol symbols.RightBracket) u ⊎ Then (One (symbol symbols.Colon)) (Then (Part IsNumber number_leaves) (One (symbol symbols.RightBracket))) u
+
+pub slice_at : {source : Source} {old new : Cursor} {Word : List Leaf → Type 0} {Follow : Option Terminal → Type 0} → next source new ≡ Some (symbol symbols.Colon) → Goes source old new Word Follow AfterNumber → Goes source old new Word Follow (Then (One (symbol symbols.Colon)) (Then (Part IsNumber number_leaves) (One (symbol symbols.RightBracket))))
+slice_at colon goes = the_second goes (λ r v one behind at. bracket_or_colon (sym (ap (λ l. first (l ++ v)) one.2 ∙ ap Some one.1) ∙ at ∙ colon))
+
+pub index_at : {source : Source} {old new : Cursor} {Word : List Leaf → Type 0} {Follow : Option Terminal → Type 0} → (next source new ≡ Some (symbol symbols.Colon) → ⊥) → Goes source old new Word Follow AfterNumber → Goes source old new Word Follow (One (symbol symbols.RightBracket))
+index_at other goes = the_first goes (λ r v both behind at. other (sym at ∙ first_one (symbol symbols.Colon) _ r v both))
