@@ -22,3 +22,4 @@ pub mod ExpressionWords
 pub mod ChainWords
 pub mod PrimaryWords
 pub mod BlockWords
+pub mod DeclarationWords

@@ -13,7 +13,7 @@ use Rattle.koika_syntax.specs.declared.token.TokenKind.TheVariants as kinds
 use Rattle.koika_syntax.specs.declared.tree.Expression.{Expression}
 use Rattle.koika_syntax.specs.declared.tree.Part as tree_parts
 use Rattle.koika_syntax.specs.declared.tree.Part.TheVariants as parts
-use Rattle.koika_parse.specs.Expected.{One, Part, Then, first, Behind, Takes, Commas, NoComma}
+use Rattle.koika_parse.specs.Expected.{One, Part, Then, first, Behind, Takes, Commas, Any, NoComma}
 use Rattle.koika_parse.specs.ExpressionWords.{Free, LevelWord, NamedWord, NamedTailWord, CallTailWord, StructTailWord, ColonsWord, ArgumentsWord, ConditionalWord, parenthesis_follows}
 use Rattle.koika_parse.specs.Reading.{kind_at, next}
 use Rattle.koika_parse.specs.declared.cursor.Cursor.{Cursor}
@@ -80,7 +80,7 @@ named_end {source} {old} {new} call colons goes = the_first goes (λ r v more be
     of r v (inl word) same = call (sym same ∙ first_one (symbol symbols.LeftParenthesis) (Then ArgumentsWord (One (symbol symbols.RightParenthesis))) r v word)
     of r v (inr word) same = colons (sym same ∙ first_one (symbol symbols.ColonColon) ColonsWord r v word)
 
-no_commas : commas [] ≡ []
+pub no_commas : commas [] ≡ []
 unfolding joined
 no_commas = refl
 
@@ -134,3 +134,6 @@ part_number {source} {cursor} other = narrow_part (Part IsNumber number_leaves) 
 -- a parenthesis goes on with no expression, and is no comma
 pub parenthesis_free : (next : Option Terminal) → parenthesis_follows next → NoComma (Free 0) next
 parenthesis_free next at = subst (NoComma (Free 0)) (sym at) (tt, refl)
+
+pub parenthesis_any : (next : Option Terminal) → parenthesis_follows next → NoComma Any next
+parenthesis_any next at = subst (NoComma Any) (sym at) (tt, refl)

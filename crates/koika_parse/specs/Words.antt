@@ -1,8 +1,9 @@
 -- The words of each production, in the order of its parts, and of each part by its first token. They are the
 -- grammar's, as the clauses of private functions cite them.
-use Rattle.std.specs.Prelude.{◌⊎◌, Option, Some, IfSome, ⊤, List, All}
-use Rattle.koika_syntax.specs.Grammar.{IsName, IsNumber, IsLiteral, IsWidth, IsType, IsMember, IsField, IsConstant, type_leaves, member_leaves, field_leaves, constant_leaves, choice_leaves, rule_leaves, last_leaves, constant_field_leaves}
-use Rattle.koika_syntax.specs.Tree.{Leaf, Terminal, name, keyword, symbol, name_leaves, number_leaves, literal_leaves, width_leaves}
+use Rattle.std.specs.Prelude.{◌≡◌, ◌⊎◌, Option, None, Some, IfSome, ⊤, List, map, All}
+use Rattle.koika_syntax.specs.Grammar.{IsName, IsNumber, IsLiteral, IsWidth, IsType, IsMember, IsField, IsConstant, IsBlock, IsDeclaration, IsDesign, block_leaves, declaration_leaves, result_leaves, tree_leaves, type_leaves, member_leaves, field_leaves, constant_leaves, choice_leaves, rule_leaves, last_leaves, constant_field_leaves}
+use Rattle.koika_syntax.specs.Tree.{Leaf, Terminal, name, keyword, symbol, commas, name_leaves, number_leaves, literal_leaves, width_leaves}
+use Rattle.koika_syntax.specs.declared.keyword.Keyword.{Keyword}
 use Rattle.koika_syntax.specs.declared.keyword.Keyword.TheVariants as keywords
 use Rattle.koika_syntax.specs.declared.symbol.Symbol.TheVariants as symbols
 use Rattle.koika_parse.specs.Expected.{One, Part, Then, Commas}
@@ -34,6 +35,46 @@ HostWord = Then (Then (One (keyword keywords.Host)) (Part IsName name_leaves)) (
 
 abbrev pub AssertWord : List Leaf → Type 0
 AssertWord = Then (Then (One (keyword keywords.Assert)) (Part IsName name_leaves)) (One (symbol symbols.Semicolon))
+
+-- parameters, a result, functions and rules
+abbrev pub ParametersWord : List Leaf → Type 0
+ParametersWord = Part (λ parameters. All IsField parameters) (λ parameters. commas (map field_leaves parameters))
+
+abbrev pub ResultWord : List Leaf → Type 0
+ResultWord = Part (λ result. IfSome result IsType) result_leaves
+
+abbrev pub FunctionWord : List Leaf → Type 0
+FunctionWord = Then (Then (One (keyword keywords.Fun)) (Part IsName name_leaves)) (Then (One (symbol symbols.LeftParenthesis)) (Then ParametersWord (Then (One (symbol symbols.RightParenthesis)) (Then (One (symbol symbols.Colon)) (Then ResultWord (Part IsBlock block_leaves))))))
+
+abbrev pub RuleWord : List Leaf → Type 0
+RuleWord = Then (Then (One (keyword keywords.Rule)) (Part IsName name_leaves)) (Part IsBlock block_leaves)
+
+-- a declaration by its word
+abbrev pub DeclarationWord : Keyword → List Leaf → Type 0
+DeclarationWord keywords.Enum = EnumWord
+DeclarationWord keywords.Struct = StructWord
+DeclarationWord keywords.Reg = RegisterWord
+DeclarationWord keywords.Input = InputWord
+DeclarationWord keywords.Table = TableWord
+DeclarationWord keywords.Host = HostWord
+DeclarationWord keywords.Fun = FunctionWord
+DeclarationWord keywords.Rule = RuleWord
+DeclarationWord keywords.Assert = AssertWord
+DeclarationWord _ = λ u. ⊥
+
+-- declarations, and a whole design
+abbrev pub DeclarationsWord : List Leaf → Type 0
+DeclarationsWord = Part (λ declarations. All IsDeclaration declarations) (λ declarations. flat_map declaration_leaves declarations)
+
+abbrev pub schedule_follows : Option Terminal → Type 0
+schedule_follows next = next ≡ Some (keyword keywords.Schedule)
+
+abbrev pub DesignWord : List Leaf → Type 0
+DesignWord = Part IsDesign tree_leaves
+
+-- nothing follows
+abbrev pub end_follows : Option Terminal → Type 0
+end_follows next = next ≡ None
 
 -- a constant: what stands behind its `::`, and what it is by its first token
 abbrev pub ConstantTailWord : List Leaf → Type 0

@@ -2,14 +2,15 @@ ghost use Rattle.std.specs.Prelude.{◌<◌, ◌++◌, All, IfOk, OnOk, IfSome, 
 ghost use Rattle.koika_syntax.specs.Grammar.{IsDeclaration, IsField, IsLiteral, IsMember, IsName, IsNonempty, IsType, declaration_leaves, field_leaves, member_leaves, result_leaves};
 ghost use Rattle.koika_syntax.specs.Tree.{commas, keyword, literal_leaves, name_leaves, word};
 ghost use Rattle.koika_parse.specs.Expected.{Any, Commas, NoComma, One, Part, Takes, Then};
+ghost use Rattle.koika_parse.specs.ExpressionWords.{parenthesis_follows};
 ghost use Rattle.koika_parse.specs.Reading.{Reads, tokens_left};
-ghost use Rattle.koika_parse.specs.Words.{AssertWord, EnumWord, HostWord, InputWord, RegisterWord, StructWord, TableWord};
+ghost use Rattle.koika_parse.specs.Words.{AssertWord, DeclarationWord, EnumWord, FunctionWord, HostWord, InputWord, ParametersWord, RegisterWord, ResultWord, RuleWord, StructWord, TableWord};
 
 use crate::cursor::Cursor;
 use crate::source::Source;
 use crate::stop::Stop;
 use koika_syntax::{
-    Declaration, Field, Keyword, Literal, Member, Name, Symbol, TokenKind, TypeExpression, Width,
+    Declaration, Field, Keyword, Literal, Member, Name, Symbol, TypeExpression, Width,
 };
 use kw_bits::Sequence;
 
@@ -19,17 +20,31 @@ impl<'a> Source<'a> {
         ensures read { IfOk result (λ found. Reads self.now cursor.old cursor.new (declaration_leaves found)) }
         ensures is { IfOk result IsDeclaration }
         ensures some { OnOk result (tokens_left self.now cursor.new < tokens_left self.now cursor.old) }
+        ensures takes { Takes self.now cursor.old cursor.new (Part IsDeclaration declaration_leaves) Any result }
     {
-        match self.peek(cursor) {
-            Some(TokenKind::Keyword(Keyword::Enum)) => self.enum_declaration(cursor),
-            Some(TokenKind::Keyword(Keyword::Struct)) => self.struct_declaration(cursor),
-            Some(TokenKind::Keyword(Keyword::Reg)) => self.register_declaration(cursor),
-            Some(TokenKind::Keyword(Keyword::Input)) => self.input_declaration(cursor),
-            Some(TokenKind::Keyword(Keyword::Table)) => self.table_declaration(cursor),
-            Some(TokenKind::Keyword(Keyword::Host)) => self.host_declaration(cursor),
-            Some(TokenKind::Keyword(Keyword::Fun)) => self.function_declaration(cursor),
-            Some(TokenKind::Keyword(Keyword::Rule)) => self.rule_declaration(cursor),
-            Some(TokenKind::Keyword(Keyword::Assert)) => self.assert_declaration(cursor),
+        match self.keyword_at(cursor) {
+            Some(begin) => self.begun_declaration(cursor, begin),
+            None => Err(Stop::Unexpected),
+        }
+    }
+
+    // Reads a declaration that begins with this keyword.
+    fn begun_declaration(&self, cursor: &mut Cursor, begin: Keyword) -> Result<Declaration, Stop>
+        ensures read { IfOk result (λ found. Reads self.now cursor.old cursor.new (declaration_leaves found)) }
+        ensures is { IfOk result IsDeclaration }
+        ensures some { OnOk result (tokens_left self.now cursor.new < tokens_left self.now cursor.old) }
+        ensures takes { Takes self.now cursor.old cursor.new (DeclarationWord begin) Any result }
+    {
+        match begin {
+            Keyword::Enum => self.enum_declaration(cursor),
+            Keyword::Struct => self.struct_declaration(cursor),
+            Keyword::Reg => self.register_declaration(cursor),
+            Keyword::Input => self.input_declaration(cursor),
+            Keyword::Table => self.table_declaration(cursor),
+            Keyword::Host => self.host_declaration(cursor),
+            Keyword::Fun => self.function_declaration(cursor),
+            Keyword::Rule => self.rule_declaration(cursor),
+            Keyword::Assert => self.assert_declaration(cursor),
             _ => Err(Stop::Unexpected),
         }
     }
@@ -223,6 +238,7 @@ impl<'a> Source<'a> {
         ensures read { IfOk result (λ found. Reads self.now cursor.old cursor.new (declaration_leaves found)) }
         ensures is { IfOk result IsDeclaration }
         ensures some { OnOk result (tokens_left self.now cursor.new < tokens_left self.now cursor.old) }
+        ensures takes { Takes self.now cursor.old cursor.new FunctionWord Any result }
     {
         let name = self.declared(cursor, Keyword::Fun)?;
         self.sign(cursor, Symbol::LeftParenthesis)?;
@@ -242,8 +258,9 @@ impl<'a> Source<'a> {
     fn parameters(&self, cursor: &mut Cursor) -> Result<Sequence<Field>, Stop>
         ensures read { IfOk result (λ found. Reads self.now cursor.old cursor.new (commas (map field_leaves found))) }
         ensures is { IfOk result (λ found. All IsField found) }
+        ensures takes { Takes self.now cursor.old cursor.new ParametersWord parenthesis_follows result }
     {
-        if self.is_at_sign(cursor, Symbol::RightParenthesis) {
+        if !self.is_at_name(cursor) {
             let none = Sequence::new(self.alloc);
             return Ok(none);
         }
@@ -254,6 +271,7 @@ impl<'a> Source<'a> {
     fn result(&self, cursor: &mut Cursor) -> Result<Option<TypeExpression>, Stop>
         ensures read { IfOk result (λ found. Reads self.now cursor.old cursor.new (result_leaves found)) }
         ensures is { IfOk result (λ found. IfSome found IsType) }
+        ensures takes { Takes self.now cursor.old cursor.new ResultWord Any result }
     {
         if self.is_at_word(cursor, Keyword::Unit) {
             self.word(cursor, Keyword::Unit)?;
@@ -266,6 +284,7 @@ impl<'a> Source<'a> {
         ensures read { IfOk result (λ found. Reads self.now cursor.old cursor.new (declaration_leaves found)) }
         ensures is { IfOk result IsDeclaration }
         ensures some { OnOk result (tokens_left self.now cursor.new < tokens_left self.now cursor.old) }
+        ensures takes { Takes self.now cursor.old cursor.new RuleWord Any result }
     {
         let name = self.declared(cursor, Keyword::Rule)?;
         let body = self.block(cursor)?;

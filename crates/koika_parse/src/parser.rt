@@ -6,7 +6,9 @@ ghost use Rattle.koika_syntax.specs.Tokens.{StandsIn};
 ghost use Rattle.koika_syntax.specs.declared.tree.Tree.{Tree};
 ghost use Rattle.koika_parse.specs.Brackets.{AreFewOpen};
 ghost use Rattle.koika_parse.specs.Faults.{IsAtToken, offset_at};
+ghost use Rattle.koika_parse.specs.Expected.{Takes};
 ghost use Rattle.koika_parse.specs.Reading.{Reads};
+ghost use Rattle.koika_parse.specs.Words.{DeclarationsWord, DesignWord, end_follows, schedule_follows};
 
 use crate::cursor::Cursor;
 use crate::source::Source;
@@ -42,6 +44,7 @@ impl<'a> Source<'a> {
         ensures read { IfOk result (λ found. Reads self.now cursor.old cursor.new (tree_leaves found)) }
         ensures is { IfOk result IsDesign }
         ensures all { IfOk result (λ found. length self.now.tokens.now ≤ cursor.new.at) }
+        ensures takes { Takes self.now cursor.old cursor.new DesignWord end_follows result }
     {
         let declarations = self.declarations(cursor)?;
         let schedule = self.word_at(cursor, Keyword::Schedule)?;
@@ -59,6 +62,7 @@ impl<'a> Source<'a> {
     fn declarations(&self, cursor: &mut Cursor) -> Result<Sequence<Declaration>, Stop>
         ensures read { IfOk result (λ found. Reads self.now cursor.old cursor.new (flat_map declaration_leaves found)) }
         ensures is { IfOk result (λ found. All IsDeclaration found) }
+        ensures takes { Takes self.now cursor.old cursor.new DeclarationsWord schedule_follows result }
     {
         let mut all = Sequence::new(self.alloc);
         'more: while !self.is_at_word(cursor, Keyword::Schedule) {

@@ -1,6 +1,7 @@
 ghost use Rattle.std.specs.Prelude.{◌≡◌, ◌≢◌, ◌<◌, ◌≤◌, Some, None, IfOk, IfNone, IfErr, IfSome, OnOk, IsTrue, ◌↔◌, length};
 ghost use Rattle.koika_syntax.specs.Grammar.{IsLiteral, IsName, IsNumber, IsWidth};
 ghost use Rattle.koika_syntax.specs.Tree.{Terminal, keyword, literal_leaves, name_leaves, number_leaves, placed, sign, symbol, width_leaves, word};
+ghost use Rattle.koika_syntax.specs.declared.keyword.Keyword.{Keyword};
 ghost use Rattle.koika_syntax.specs.declared.symbol.Symbol.{Symbol};
 ghost use Rattle.koika_syntax.specs.declared.token.TokenKind.TheVariants as kinds;
 ghost use Rattle.koika_parse.specs.Names.{IsNameIn};
@@ -57,6 +58,17 @@ impl<'a> Source<'a> {
     {
         match self.peek(cursor) {
             Some(kind) => symbol_of(kind),
+            None => None,
+        }
+    }
+
+    /// The next token, if it is a keyword.
+    pub(crate) fn keyword_at(&self, cursor: &Cursor) -> Option<Keyword>
+        ensures at { IfSome result (λ found. next self.now cursor.now ≡ Some (keyword found)) }
+        ensures none { IfNone result ((found : Keyword) → next self.now cursor.now ≢ Some (keyword found)) }
+    {
+        match self.peek(cursor) {
+            Some(kind) => keyword_of(kind),
             None => None,
         }
     }
@@ -209,6 +221,17 @@ fn symbol_of(kind: TokenKind) -> Option<Symbol>
 {
     match kind {
         TokenKind::Symbol(found) => Some(found),
+        _ => None,
+    }
+}
+
+// The keyword, if it is one.
+fn keyword_of(kind: TokenKind) -> Option<Keyword>
+    ensures some { IfSome result (λ found. kind ≡ kinds.Keyword found) }
+    ensures none { IfNone result ((found : Keyword) → kind ≢ kinds.Keyword found) }
+{
+    match kind {
+        TokenKind::Keyword(found) => Some(found),
         _ => None,
     }
 }
