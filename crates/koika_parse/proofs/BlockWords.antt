@@ -71,8 +71,13 @@ else_cases r found = subst (λ r. Empty r ⊎ Then (One (keyword keywords.Else))
     of (arm ∷ arms) otherwise all last =
         let more = each_after (word keywords.Else) (map arm_leaves arms) in
         let end = last_leaves otherwise (λ block. word keywords.Else ++ block_leaves block) in
-        inr (word keywords.Else, arm_leaves arm ++ more ++ end, word_word keywords.Else,
-            inl (arm_leaves arm, more ++ end, (arm, All-head IsArm arm arms all, refl), (arms, otherwise, All-tail IsArm arm arms all, last, refl), append_assoc (arm_leaves arm) more end), refl)
+        inr (
+          word keywords.Else,
+          arm_leaves arm ++ more ++ end,
+          word_word keywords.Else,
+          inl (arm_leaves arm, more ++ end, (arm, All-head IsArm arm arms all, refl), (arms, otherwise, All-tail IsArm arm arms all, last, refl), append_assoc (arm_leaves arm) more end),
+          refl,
+        )
 
 else_no_follow : (next : Option Terminal) → Free 0 next → next ≡ Some (keyword keywords.Else) → ⊥
 else_no_follow next free at = let less : 0 < 0 = subst (Free 0) at free in omega (arith, less)
@@ -118,7 +123,7 @@ inside_cases r found = subst (λ r. Empty r ⊎ MoreInside r) (sym found.4) (of 
         let more = flat_map statement_leaves statements in
         let end = last_leaves value expression_leaves in
         inr (subst MoreInside (sym (append_assoc (statement_leaves s) more end))
-            (stated (statement_leaves s) (more ++ end) (statement_word s (All-head IsStatement s statements all)) (statements, value, All-tail IsStatement s statements all, last, refl)))
+        (stated (statement_leaves s) (more ++ end) (statement_word s (All-head IsStatement s statements all)) (statements, value, All-tail IsStatement s statements all, last, refl)))
 
 pub inside_start : {source : Source} {cursor : Cursor} {Follow : Option Terminal → Type 0} → Goes source cursor cursor InsideWord Follow InsideWord
 inside_start = start (λ u word. word)

@@ -67,7 +67,7 @@ declarations_first : (r v : List Leaf) → Then (Part IsDeclaration declaration_
 declarations_first r v both same =
     let head = declaration_word both.2.0 both.2.1 in
     let at : first (declaration_leaves both.2.0 ++ (both.1 ++ v)) ≡ Some (keyword keywords.Schedule) =
-        ap (λ l. first (l ++ (both.1 ++ v))) (sym both.2.2) ∙ ap first (sym (append_assoc both.0 both.1 v)) ∙ ap (λ l. first (l ++ v)) (sym both.4) ∙ same in
+    ap (λ l. first (l ++ (both.1 ++ v))) (sym both.2.2) ∙ ap first (sym (append_assoc both.0 both.1 v)) ∙ ap (λ l. first (l ++ v)) (sym both.4) ∙ same in
     subst (λ j. DeclarationWord j (declaration_leaves both.2.0)) (same_keyword (sym (head.2 (both.1 ++ v)) ∙ at)) head.1
 
 pub declarations_start : {source : Source} {cursor : Cursor} {Follow : Option Terminal → Type 0} → Goes source cursor cursor DeclarationsWord Follow DeclarationsWord
@@ -85,9 +85,13 @@ abbrev pub TreeWord : List Leaf → Type 0
 TreeWord = Then DeclarationsWord (Then (One (keyword keywords.Schedule)) (Part IsScheduler (λ s. in_braces (scheduler_leaves s))))
 
 tree_word : (t : Tree) → IsDesign t → TreeWord (tree_leaves t)
-tree_word t is = (flat_map declaration_leaves t.declarations, placed (keyword keywords.Schedule) t.schedule ++ in_braces (scheduler_leaves t.scheduler), (t.declarations, is.declarations, refl),
-    (placed (keyword keywords.Schedule) t.schedule, in_braces (scheduler_leaves t.scheduler), placed_word (keyword keywords.Schedule) t.schedule, (t.scheduler, is.scheduler, refl), refl),
-    assoc2 (flat_map declaration_leaves t.declarations) (placed (keyword keywords.Schedule) t.schedule) (in_braces (scheduler_leaves t.scheduler)))
+tree_word t is = (
+  flat_map declaration_leaves t.declarations,
+  placed (keyword keywords.Schedule) t.schedule ++ in_braces (scheduler_leaves t.scheduler),
+  (t.declarations, is.declarations, refl),
+  (placed (keyword keywords.Schedule) t.schedule, in_braces (scheduler_leaves t.scheduler), placed_word (keyword keywords.Schedule) t.schedule, (t.scheduler, is.scheduler, refl), refl),
+  assoc2 (flat_map declaration_leaves t.declarations) (placed (keyword keywords.Schedule) t.schedule) (in_braces (scheduler_leaves t.scheduler)),
+)
 
 pub tree_start : {source : Source} {cursor : Cursor} {Follow : Option Terminal → Type 0} → Goes source cursor cursor DesignWord Follow TreeWord
 tree_start = starts TreeWord tree_word

@@ -23,3 +23,4 @@ pub mod ChainWords
 pub mod PrimaryWords
 pub mod BlockWords
 pub mod DeclarationWords
+pub mod Designs

@@ -10,9 +10,7 @@ ghost use Rattle.koika_parse.specs.Parts.{IsArm, IsOperandIn, IsStatement};
 use crate::cursor::Cursor;
 use crate::source::Source;
 use crate::stop::Stop;
-use koika_syntax::{
-    Arm, BinaryOperator, Block, Expression, Keyword, Operand, Statement, Symbol,
-};
+use koika_syntax::{Arm, BinaryOperator, Block, Expression, Keyword, Operand, Statement, Symbol};
 
 // The statements of a block, and its last expression.
 #[derive(Drop)]

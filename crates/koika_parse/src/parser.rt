@@ -1,4 +1,4 @@
-ghost use Rattle.std.specs.Prelude.{◌≡◌, ◌≤◌, All, Err, IfOk, length};
+ghost use Rattle.std.specs.Prelude.{◌≡◌, ◌≢◌, ◌≤◌, All, Err, IfOk, length};
 ghost use Rattle.kw_base.specs.Fault.{IfFault};
 ghost use Rattle.std.specs.List.{flat_map};
 ghost use Rattle.koika_syntax.specs.Grammar.{Derives, IsDeclaration, IsDesign, declaration_leaves, tree_leaves};
@@ -8,6 +8,7 @@ ghost use Rattle.koika_parse.specs.Brackets.{AreFewOpen};
 ghost use Rattle.koika_parse.specs.Faults.{IsAtToken, offset_at};
 ghost use Rattle.koika_parse.specs.Expected.{Takes};
 ghost use Rattle.koika_parse.specs.Reading.{Reads};
+ghost use Rattle.koika_parse.specs.declared.stop.Stop.TheVariants as stops;
 ghost use Rattle.koika_parse.specs.Words.{DeclarationsWord, DesignWord, end_follows, schedule_follows};
 
 use crate::cursor::Cursor;
@@ -19,12 +20,14 @@ use kw_bits::Sequence;
 use std::alloc::Global;
 
 /// The tree of a text, whose tokens these are, or a fault: 11 at a token that the grammar doesn't allow, or behind
-/// the text where it ends too early, and 12 at a 65th open bracket. That it is the first fault isn't proved.
+/// the text where it ends too early, and 12 at a 65th open bracket. A fault is answered exactly where no tree with at
+/// most 64 open brackets derives the tokens, unless memory ran out. That it stands at the first such token isn't proved.
 pub fn parse(alloc: Global, text: &[u8], tokens: &[Token]) -> Result<Tree, Refusal>
     requires stands { All (StandsIn text.now) tokens.now }
     ensures derived { IfOk result (λ tree. Derives text.now tree tokens.now) }
     ensures few { IfOk result (λ tree. AreFewOpen 0 (tree_leaves tree)) }
     ensures fault { IfFault result (IsAtToken text.now tokens.now) }
+    ensures complete { IfFault result (λ fault. (tree : Tree) → Derives text.now tree tokens.now → AreFewOpen 0 (tree_leaves tree) → ⊥) }
 {
     let source = Source {
         alloc,
@@ -74,7 +77,8 @@ impl<'a> Source<'a> {
 
     // What is answered where reading ends at the next token.
     fn refusal(&self, cursor: &Cursor, stop: Stop) -> Refusal
-        ensures { IfFault {X = Tree} (Err result) (IsAtToken self.now.text.now self.now.tokens.now) }
+        ensures at { IfFault {X = Tree} (Err result) (IsAtToken self.now.text.now self.now.tokens.now) }
+        ensures memory { IfFault {X = Tree} (Err result) (λ fault. stop ≢ stops.NoMemory) }
     {
         match stop {
             Stop::Unexpected => Refusal::Fault(self.fault(cursor, 11)),

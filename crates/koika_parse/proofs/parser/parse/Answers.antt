@@ -1,6 +1,8 @@
-use Rattle.std.proofs.Common.{refl, arith}
+use Rattle.std.proofs.Common.{refl, arith, Err}
 use Rattle.koika_parse.proofs.Names.{names_stand, starts_stand}
 use Rattle.koika_parse.proofs.Reading.{whole}
+use Rattle.koika_syntax.specs.declared.tree.Tree.{Tree}
+use Rattle.koika_parse.proofs.Designs.{fault_as, none_derives}
 use Rattle.koika_parse.proofs.parser.parse.Goals as goal
 
 pub invariant_of-source : goal.invariant_of-source
@@ -11,3 +13,6 @@ returns-in-Ok-clause-derived c = record { design = c.in-Ok.ensures.is; leaves = 
 
 pub returns-in-Ok-clause-few : goal.returns-in-Ok-clause-few
 returns-in-Ok-clause-few c = c.in-Ok.ensures.read.few (omega arith)
+
+pub returns-in-Err-clause-complete : goal.returns-in-Err-clause-complete
+returns-in-Err-clause-complete c = fault_as {X = Tree} (Err c.refusal.result) c.refusal.ensures.memory (λ fault memory. none_derives refl refl c.in-Err.ensures.takes memory)
