@@ -1,21 +1,40 @@
--- Where the parser's faults stand: 11 and 12 at a token, or at the end of the text where no token is left.
-use Rattle.std.specs.Prelude.{◌≡◌, ◌≤◌, ℕ, Option, None, Some, List, length, slice_get}
+-- Where the parser's faults stand: 11 at the first token that no design goes on with, or at the end of the text where
+-- no design ends there, and 12 at a token that no design with few open brackets goes on with.
+use Rattle.std.specs.Prelude.{◌≡◌, ◌⊎◌, ℕ, ⊤, List, [], ◌∷◌, ◌++◌, length, map}
 use Rattle.kw_base.specs.Fault.{fault_at}
 use Rattle.kw_base.specs.Place.{place_at}
 use Rattle.kw_base.specs.declared.fault.Fault.{Fault}
+use Rattle.kw_base.specs.declared.place.Place.{Place}
+use Rattle.koika_syntax.specs.Grammar.{IsDesign, tree_leaves}
+use Rattle.koika_syntax.specs.Tree.{Terminal, terminal_of}
 use Rattle.koika_syntax.specs.declared.token.Token.{Token}
+use Rattle.koika_syntax.specs.declared.tree.Tree.{Tree}
+use Rattle.koika_parse.specs.Brackets.{AreFewOpen}
 
--- where a token begins, or where the text ends
-abbrev pub offset_of : List ℕ → Option Token → ℕ
-offset_of text None = length text
-offset_of text (Some token) = token.start
+-- what the grammar sees of a design
+abbrev pub design_terminals : Tree → List Terminal
+design_terminals tree = map (λ leaf. leaf.terminal) (tree_leaves tree)
 
-abbrev pub offset_at : List ℕ → List Token → ℕ → ℕ
-offset_at text tokens number = offset_of text (slice_get tokens number)
+-- a design that begins with these tokens of the text
+pub record BeginsWith (text : List ℕ) (tokens : List Token) (tree : Tree) : Type 0 where
+  pub design : IsDesign tree
+  pub rest : List Terminal
+  pub terminals : design_terminals tree ≡ map (terminal_of text) tokens ++ rest
 
--- the fault is 11 or 12, and stands at a token or at the end of the text
-pub record IsAtToken (text : List ℕ) (tokens : List Token) (fault : Fault) : Type 0 where
-  pub low : 11 ≤ fault.number
-  pub high : fault.number ≤ 12
-  pub token : ℕ
-  pub place : fault ≡ fault_at fault.number (place_at text (offset_at text tokens token))
+-- no such design has the tokens up to the first one behind; where none is behind, no such design is these tokens
+abbrev pub NoneGoesOn : (Tree → Type 0) → List ℕ → (before behind : List Token) → Type 0
+NoneGoesOn Such text before [] = (tree : Tree) → Such tree → IsDesign tree → design_terminals tree ≡ map (terminal_of text) before → ⊥
+NoneGoesOn Such text before (token ∷ behind) = (tree : Tree) → Such tree → BeginsWith text (before ++ token ∷ []) tree → ⊥
+
+-- the place of the first token behind, or of the end of the text
+abbrev pub place_behind : List ℕ → List Token → Place
+place_behind text [] = place_at text (length text)
+place_behind text (token ∷ behind) = place_at text token.start
+
+-- the tokens are those before the fault and those behind it, and the fault says why reading ends between them
+pub record StandsBetween (text : List ℕ) (tokens : List Token) (fault : Fault) : Type 0 where
+  pub before : List Token
+  pub behind : List Token
+  pub split : tokens ≡ before ++ behind
+  pub why : ((fault ≡ fault_at 11 (place_behind text behind)) × NoneGoesOn (λ tree. ⊤) text before behind)
+      ⊎ ((fault ≡ fault_at 12 (place_behind text behind)) × NoneGoesOn (λ tree. AreFewOpen 0 (tree_leaves tree)) text before behind)

@@ -5,6 +5,7 @@ pub mod Faults
 pub mod Names
 pub mod Parts
 pub mod Reading
+pub mod Stops
 pub mod Words
 pub mod Outline
 pub mod Laws

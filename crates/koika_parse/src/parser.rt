@@ -1,14 +1,15 @@
-ghost use Rattle.std.specs.Prelude.{◌≡◌, ◌≢◌, ◌≤◌, All, Err, IfOk, length};
-ghost use Rattle.kw_base.specs.Fault.{IfFault};
+ghost use Rattle.std.specs.Prelude.{◌≡◌, ◌≤◌, All, Err, IfOk, drop, length};
+ghost use Rattle.kw_base.specs.Fault.{IfFault, fault_at};
+ghost use Rattle.kw_base.specs.Place.{place_at};
 ghost use Rattle.std.specs.List.{flat_map};
 ghost use Rattle.koika_syntax.specs.Grammar.{Derives, IsDeclaration, IsDesign, declaration_leaves, tree_leaves};
 ghost use Rattle.koika_syntax.specs.Tokens.{StandsIn};
 ghost use Rattle.koika_syntax.specs.declared.tree.Tree.{Tree};
 ghost use Rattle.koika_parse.specs.Brackets.{AreFewOpen};
-ghost use Rattle.koika_parse.specs.Faults.{IsAtToken, offset_at};
+ghost use Rattle.koika_parse.specs.Faults.{StandsBetween, place_behind};
 ghost use Rattle.koika_parse.specs.Expected.{Takes};
 ghost use Rattle.koika_parse.specs.Reading.{Reads};
-ghost use Rattle.koika_parse.specs.declared.stop.Stop.TheVariants as stops;
+ghost use Rattle.koika_parse.specs.Stops.{IsFaultOf};
 ghost use Rattle.koika_parse.specs.Words.{DeclarationsWord, DesignWord, end_follows, schedule_follows};
 
 use crate::cursor::Cursor;
@@ -19,14 +20,15 @@ use kw_base::{Fault, Refusal, place_of};
 use kw_bits::Sequence;
 use std::alloc::Global;
 
-/// The tree of a text, whose tokens these are, or a fault: 11 at a token that the grammar doesn't allow, or behind
-/// the text where it ends too early, and 12 at a 65th open bracket. A fault is answered exactly where no tree with at
-/// most 64 open brackets derives the tokens, unless memory ran out. That it stands at the first such token isn't proved.
+/// The tree of a text, whose tokens these are, or a fault: 11 at the first token that no design goes on with, or
+/// behind the text where no design ends there, and 12 at an opening bracket that no design with at most 64 open
+/// brackets goes on with. A tree is answered exactly where one with at most 64 open brackets derives the tokens,
+/// unless memory ran out. That some design goes on with all that stands before a fault isn't proved.
 pub fn parse(alloc: Global, text: &[u8], tokens: &[Token]) -> Result<Tree, Refusal>
     requires stands { All (StandsIn text.now) tokens.now }
     ensures derived { IfOk result (λ tree. Derives text.now tree tokens.now) }
     ensures few { IfOk result (λ tree. AreFewOpen 0 (tree_leaves tree)) }
-    ensures fault { IfFault result (IsAtToken text.now tokens.now) }
+    ensures fault { IfFault result (StandsBetween text.now tokens.now) }
     ensures complete { IfFault result (λ fault. (tree : Tree) → Derives text.now tree tokens.now → AreFewOpen 0 (tree_leaves tree) → ⊥) }
 {
     let source = Source {
@@ -77,8 +79,7 @@ impl<'a> Source<'a> {
 
     // What is answered where reading ends at the next token.
     fn refusal(&self, cursor: &Cursor, stop: Stop) -> Refusal
-        ensures at { IfFault {X = Tree} (Err result) (IsAtToken self.now.text.now self.now.tokens.now) }
-        ensures memory { IfFault {X = Tree} (Err result) (λ fault. stop ≢ stops.NoMemory) }
+        ensures { IfFault {X = Tree} (Err result) (IsFaultOf self.now cursor.now stop) }
     {
         match stop {
             Stop::Unexpected => Refusal::Fault(self.fault(cursor, 11)),
@@ -88,16 +89,14 @@ impl<'a> Source<'a> {
     }
 
     fn fault(&self, cursor: &Cursor, number: u32) -> Fault
-        requires low { 11 ≤ number }
-        requires high { number ≤ 12 }
-        ensures { IsAtToken self.now.text.now self.now.tokens.now result }
+        ensures { result ≡ fault_at number (place_behind self.now.text.now (drop cursor.now.at self.now.tokens.now)) }
     {
         Fault::new(number, place_of(self.text, self.offset(cursor)))
     }
 
     // Where the next token begins, or where the text ends.
     fn offset(&self, cursor: &Cursor) -> usize
-        ensures offset { result ≡ offset_at self.now.text.now self.now.tokens.now cursor.now.at }
+        ensures place { place_at self.now.text.now result ≡ place_behind self.now.text.now (drop cursor.now.at self.now.tokens.now) }
         ensures within { result ≤ length self.now.text.now }
     {
         if cursor.at < self.tokens.len() {

@@ -2,7 +2,7 @@ use Rattle.std.proofs.Common.{refl, arith, Err}
 use Rattle.koika_parse.proofs.Names.{names_stand, starts_stand}
 use Rattle.koika_parse.proofs.Reading.{whole}
 use Rattle.koika_syntax.specs.declared.tree.Tree.{Tree}
-use Rattle.koika_parse.proofs.Designs.{fault_as, none_derives}
+use Rattle.koika_parse.proofs.Designs.{fault_as, none_derives, stands_between}
 use Rattle.koika_parse.proofs.parser.parse.Goals as goal
 
 pub invariant_of-source : goal.invariant_of-source
@@ -15,4 +15,7 @@ pub returns-in-Ok-clause-few : goal.returns-in-Ok-clause-few
 returns-in-Ok-clause-few c = c.in-Ok.ensures.read.few (omega arith)
 
 pub returns-in-Err-clause-complete : goal.returns-in-Err-clause-complete
-returns-in-Err-clause-complete c = fault_as {X = Tree} (Err c.refusal.result) c.refusal.ensures.memory (λ fault memory. none_derives refl refl c.in-Err.ensures.takes memory)
+returns-in-Err-clause-complete c = fault_as {X = Tree} (Err c.refusal.result) c.refusal.ensures (λ fault is. none_derives fault refl refl c.in-Err.ensures.takes is)
+
+pub returns-in-Err-clause-fault : goal.returns-in-Err-clause-fault
+returns-in-Err-clause-fault c = fault_as {X = Tree} (Err c.refusal.result) c.refusal.ensures (λ fault is. stands_between fault refl refl c.in-Err.ensures.takes is)
