@@ -1,9 +1,9 @@
 -- What the readers say of whole designs.
-use Rattle.std.proofs.Common.{◌≡◌, ℕ, zero, suc, ◌+◌, ◌-◌, ◌<◌, ◌≤◌, None, Some, Option, Result, Ok, Err, List, [], ◌∷◌, ◌++◌, map, take, drop, length, get_or, length-append, append-nil, append_assoc, drop-cons, inl, inr, refl, sym, ap, ◌∙◌, subst, arith}
+use Rattle.std.proofs.Common.{◌≡◌, ℕ, zero, suc, ◌+◌, ◌-◌, ◌<◌, ◌≤◌, None, Some, Option, Result, Ok, Err, List, [], ◌∷◌, ◌++◌, map, drop, length, get_or, length-append, append-nil, append_assoc, drop-cons, inl, inr, refl, sym, ap, ◌∙◌, subst, arith}
 use Rattle.std.specs.Prelude.{◌⊎◌, slice_get, ⊤}
 use Rattle.std.specs.List.{AllZip}
 use Rattle.std.specs.Option.{option_map}
-use Rattle.std.proofs.lemmas.List.{drop_all, take-append-drop, length-drop, length-take-le}
+use Rattle.std.proofs.lemmas.List.{drop_all, length-drop}
 use Rattle.kw_base.specs.Fault.{IfFault, fault_at}
 use Rattle.kw_base.specs.Place.{place_at}
 use Rattle.kw_base.specs.declared.fault.Fault.{Fault}
@@ -13,11 +13,13 @@ use Rattle.koika_syntax.specs.Grammar.{Derives, IsDesign, tree_leaves}
 use Rattle.koika_syntax.specs.Tree.{Leaf, Terminal, IsLeafAt, terminal_of}
 use Rattle.koika_syntax.specs.declared.token.Token.{Token}
 use Rattle.koika_syntax.specs.declared.tree.Tree.{Tree}
-use Rattle.koika_parse.specs.Brackets.{AreFewOpen}
+use Rattle.koika_parse.specs.Brackets.{AreFewOpen, open_behind, open_behind_all}
 use Rattle.koika_parse.specs.Expected.{AgreesUpTo, first, Ends, Takes}
-use Rattle.koika_parse.specs.Faults.{design_terminals, BeginsWith, NoneGoesOn, place_behind, StandsBetween}
+use Rattle.koika_parse.specs.Faults.{NoneGoesOn, OpensTooMany, place_behind, seen, StandsBetween}
+use Rattle.koika_parse.specs.Reading.{Reads, next}
 use Rattle.koika_parse.specs.Stops.{IsFaultOf}
 use Rattle.koika_parse.specs.Words.{DesignWord, end_follows}
+use Rattle.koika_parse.proofs.Expected.{never_none, same_of_some}
 use Rattle.koika_parse.specs.declared.cursor.Cursor.{Cursor}
 use Rattle.koika_parse.specs.declared.source.Source.{Source}
 use Rattle.koika_parse.specs.declared.stop.Stop.{Stop}
@@ -81,33 +83,84 @@ never {source} {old} {new} {stop} at depth takes tree such design agrees =
     ended stops.TooDeep left such ends = ends (subst (λ d. AreFewOpen d (tree_leaves tree ++ [])) (sym depth) (subst (AreFewOpen 0) (sym (append-nil (tree_leaves tree))) such))
     ended stops.NoMemory left such ends = such
 
-none_goes_on : {source : Source} {old new : Cursor} {stop : Stop} → old.at ≡ 0 → old.depth ≡ 0 → Takes {X = Tree} source old new DesignWord end_follows (Err stop) → (behind : List Token) → drop new.at source.tokens.now ≡ behind →
-    NoneGoesOn (Refuses stop) source.text.now (take new.at source.tokens.now) behind
-none_goes_on {source} {old} {new} at depth takes [] split = λ tree such design same.
+none_goes_on : {source : Source} {old new : Cursor} {stop : Stop} → old.at ≡ 0 → old.depth ≡ 0 → Takes {X = Tree} source old new DesignWord end_follows (Err stop) →
+    (before behind : List Token) → source.tokens.now ≡ before ++ behind → drop new.at source.tokens.now ≡ behind → NoneGoesOn (Refuses stop) source.text.now before behind
+none_goes_on {source} {old} {new} at depth takes before [] split ends = λ tree such design same.
+    let whole : before ≡ source.tokens.now = sym (split ∙ append-nil before) in
+    never at depth takes tree such design (λ cursor low. agrees_whole source.text.now (tree_leaves tree) source.tokens.now cursor.at (same ∙ ap (map (terminal_of source.text.now)) whole))
+none_goes_on {source} {old} {new} at depth takes before (token ∷ behind) split ends = λ tree such begins.
     let all = source.tokens.now in
-    let whole : take new.at all ≡ all = sym (append-nil (take new.at all)) ∙ ap (λ d. take new.at all ++ d) (sym split) ∙ take-append-drop new.at all in
-    never at depth takes tree such design (λ cursor low. agrees_whole source.text.now (tree_leaves tree) all cursor.at (same ∙ ap (map (terminal_of source.text.now)) whole))
-none_goes_on {source} {old} {new} at depth takes (token ∷ behind) split = λ tree such begins.
-    let all = source.tokens.now in
-    let within : new.at < length all = omega (arith, length-drop new.at all, ap length split) in
-    let front : all ≡ (take new.at all ++ token ∷ []) ++ behind = sym (take-append-drop new.at all) ∙ ap (λ d. take new.at all ++ d) split ∙ sym (append_assoc (take new.at all) (token ∷ []) behind) in
-    let long : length (take new.at all ++ token ∷ []) ≡ new.at + 1 = length-append (take new.at all) (token ∷ []) ∙ ap (λ n. n + 1) (length-take-le new.at all (omega (arith, within))) in
+    let front : all ≡ (before ++ token ∷ []) ++ behind = split ∙ sym (append_assoc before (token ∷ []) behind) in
+    let long : length (before ++ token ∷ []) ≡ new.at + 1 = omega (arith, length-append before (token ∷ []), length-append before (token ∷ behind), ap length split, length-drop new.at all, ap length ends) in
     never at depth takes tree such begins.design (λ cursor low.
-    agrees_front source.text.now (tree_leaves tree) (take new.at all ++ token ∷ []) behind begins.rest cursor.at begins.terminals (omega (arith, long, low))
+    agrees_front source.text.now (tree_leaves tree) (before ++ token ∷ []) behind begins.rest cursor.at begins.terminals (omega (arith, long, low))
     ∙ ap (λ ts. option_map (terminal_of source.text.now) (slice_get ts cursor.at)) (sym front))
 
--- the fault stands where reading stops
-pub stands_between : {source : Source} {old new : Cursor} {stop : Stop} (fault : Fault) → old.at ≡ 0 → old.depth ≡ 0 → Takes {X = Tree} source old new DesignWord end_follows (Err stop) → IsFaultOf source new stop fault →
-    StandsBetween source.text.now source.tokens.now fault
-stands_between {source} {old} {new} {stop} fault at depth takes is =
-    record { before = take new.at source.tokens.now; behind = drop new.at source.tokens.now; split = sym (take-append-drop new.at source.tokens.now); why = why stop is (none_goes_on at depth takes (drop new.at source.tokens.now) refl) }
+-- brackets count alike where the terminals are the same
+few_seen : (text : List ℕ) (depth : ℕ) (leaves : List Leaf) (tokens : List Token) → AllZip (IsLeafAt text) leaves tokens → AreFewOpen depth leaves → AreFewOpen depth (seen text tokens)
+few_seen text depth [] [] zip few = tt
+few_seen text depth [] (token ∷ tokens) zip few = absurd zip
+few_seen text depth (leaf ∷ leaves) [] zip few = absurd zip
+few_seen text depth (leaf ∷ leaves) (token ∷ tokens) zip few =
+    let same : open_behind depth leaf.terminal ≡ open_behind depth (terminal_of text token) = ap (open_behind depth) zip.0.0 in
+    (subst (λ n. n ≤ 64) same few.0, few_seen text (open_behind depth (terminal_of text token)) leaves tokens zip.1 (subst (λ n. AreFewOpen n leaves) same few.1))
+
+open_seen : (text : List ℕ) (depth : ℕ) (leaves : List Leaf) (tokens : List Token) → AllZip (IsLeafAt text) leaves tokens → open_behind_all depth leaves ≡ open_behind_all depth (seen text tokens)
+open_seen text depth [] [] zip = refl
+open_seen text depth [] (token ∷ tokens) zip = absurd zip
+open_seen text depth (leaf ∷ leaves) [] zip = absurd zip
+open_seen text depth (leaf ∷ leaves) (token ∷ tokens) zip =
+    ap (λ n. open_behind_all n leaves) (ap (open_behind depth) zip.0.0) ∙ open_seen text (open_behind depth (terminal_of text token)) leaves tokens zip.1
+
+-- the next token is the first one behind
+next_is : (source : Source) (cursor : Cursor) (behind : List Token) → drop cursor.at source.tokens.now ≡ behind → next source cursor ≡ option_map (terminal_of source.text.now) (slice_get behind 0)
+next_is source cursor behind ends = ap (option_map (terminal_of source.text.now)) (at_drop source.tokens.now cursor.at ∙ ap (λ ts. slice_get ts 0) ends)
   where
-    why : (stop : Stop) → IsFaultOf source new stop fault → NoneGoesOn (Refuses stop) source.text.now (take new.at source.tokens.now) (drop new.at source.tokens.now) →
-        ((fault ≡ fault_at 11 (place_behind source.text.now (drop new.at source.tokens.now))) × NoneGoesOn (λ tree. ⊤) source.text.now (take new.at source.tokens.now) (drop new.at source.tokens.now))
-        ⊎ ((fault ≡ fault_at 12 (place_behind source.text.now (drop new.at source.tokens.now))) × NoneGoesOn (λ tree. AreFewOpen 0 (tree_leaves tree)) source.text.now (take new.at source.tokens.now) (drop new.at source.tokens.now))
-    why stops.Unexpected is none = inl (is, none)
-    why stops.TooDeep is none = inr (is, none)
-    why stops.NoMemory is none = absurd is
+    at_drop : (tokens : List Token) (i : ℕ) → slice_get tokens i ≡ slice_get (drop i tokens) 0
+    at_drop [] zero = refl
+    at_drop [] (suc i) = refl
+    at_drop (token ∷ tokens) zero = refl
+    at_drop (token ∷ tokens) (suc i) = at_drop tokens i
+
+opens : (source : Source) (new : Cursor) (before behind : List Token) (terminal : Terminal) → drop new.at source.tokens.now ≡ behind → new.depth ≡ open_behind_all 0 (seen source.text.now before) → next source new ≡ Some terminal → 64 < open_behind new.depth terminal →
+    OpensTooMany source.text.now before behind
+opens source new before [] terminal ends depth at deep = never_none (sym (next_is source new [] ends) ∙ at)
+opens source new before (token ∷ behind) terminal ends depth at deep =
+    let same : terminal_of source.text.now token ≡ terminal = same_of_some (sym (next_is source new (token ∷ behind) ends) ∙ at) in
+    subst (λ n. 64 < open_behind n (terminal_of source.text.now token)) depth (subst (λ t. 64 < open_behind new.depth t) (sym same) deep)
+
+between : {source : Source} {old new : Cursor} (stop : Stop) (fault : Fault) → old.at ≡ 0 → old.depth ≡ 0 → Takes {X = Tree} source old new DesignWord end_follows (Err stop) → IsFaultOf source new stop fault →
+    (read : List Leaf) → (reads : Reads source old new read) → (stop ≡ stops.TooDeep → OpensTooMany source.text.now reads.tokens (drop new.at source.tokens.now)) → StandsBetween source.text.now source.tokens.now fault
+between {source} {old} {new} stop fault at depth takes is read reads deep =
+    let all = source.tokens.now in
+    let split : all ≡ reads.tokens ++ drop new.at all = ap (λ n. drop n all) (sym at) ∙ reads.split in
+    record {
+      before = reads.tokens;
+      behind = drop new.at all;
+      split = split;
+      few = few_seen source.text.now 0 read reads.tokens reads.each (subst (λ d. AreFewOpen d read) depth (reads.few (omega (arith, depth))));
+      why = why stop is deep (none_goes_on at depth takes reads.tokens (drop new.at all) split refl);
+    }
+  where
+    why : (stop : Stop) → IsFaultOf source new stop fault → (stop ≡ stops.TooDeep → OpensTooMany source.text.now reads.tokens (drop new.at source.tokens.now)) → NoneGoesOn (Refuses stop) source.text.now reads.tokens (drop new.at source.tokens.now) →
+        ((fault ≡ fault_at 11 (place_behind source.text.now (drop new.at source.tokens.now))) × NoneGoesOn (λ tree. ⊤) source.text.now reads.tokens (drop new.at source.tokens.now))
+        ⊎ ((fault ≡ fault_at 12 (place_behind source.text.now (drop new.at source.tokens.now))) × OpensTooMany source.text.now reads.tokens (drop new.at source.tokens.now) × NoneGoesOn (λ tree. AreFewOpen 0 (tree_leaves tree)) source.text.now reads.tokens (drop new.at source.tokens.now))
+    why stops.Unexpected is deep none = inl (is, none)
+    why stops.TooDeep is deep none = inr (is, deep refl, none)
+    why stops.NoMemory is deep none = absurd is
+
+unlike : stops.Unexpected ≡ stops.TooDeep → ⊥
+unlike e = cc e
+
+-- the fault stands where reading stops
+pub stands_between : {source : Source} {old new : Cursor} (stop : Stop) (fault : Fault) → old.at ≡ 0 → old.depth ≡ 0 → Takes {X = Tree} source old new DesignWord end_follows (Err stop) → IsFaultOf source new stop fault →
+    StandsBetween source.text.now source.tokens.now fault
+stands_between {source} {old} {new} stops.Unexpected fault at depth takes is = between stops.Unexpected fault at depth takes is takes.stands.0 takes.stands.1 (λ e. absurd (unlike e))
+stands_between {source} {old} {new} stops.TooDeep fault at depth takes is =
+    let reads = takes.stands.1 in
+    let depths : new.depth ≡ open_behind_all 0 (seen source.text.now reads.tokens) = reads.depth ∙ ap (λ n. open_behind_all n takes.stands.0) depth ∙ open_seen source.text.now 0 takes.stands.0 reads.tokens reads.each in
+    between stops.TooDeep fault at depth takes is takes.stands.0 reads (λ e. opens source new reads.tokens (drop new.at source.tokens.now) takes.stands.2 refl depths takes.stands.3 takes.stands.4)
+stands_between {source} {old} {new} stops.NoMemory fault at depth takes is = absurd is
 
 -- where reading stops, no tree with few open brackets derives the tokens
 pub none_derives : {source : Source} {old new : Cursor} {stop : Stop} (fault : Fault) → old.at ≡ 0 → old.depth ≡ 0 → Takes {X = Tree} source old new DesignWord end_follows (Err stop) → IsFaultOf source new stop fault →

@@ -13,7 +13,8 @@ use Rattle.koika_syntax.specs.declared.token.Token.{Token}
 use Rattle.koika_syntax.specs.declared.token.TokenKind.{TokenKind}
 use Rattle.koika_syntax.specs.declared.token.TokenKind.TheVariants as kinds
 use Rattle.koika_parse.specs.Brackets.{AreFewOpen, open_behind}
-use Rattle.koika_parse.specs.Expected.{Part, One, Then, first, Any, Behind, AgreesUpTo, Leaves, Ends, Takes}
+use Rattle.koika_parse.specs.Expected.{Part, One, Then, first, Any, Behind, AgreesUpTo, Leaves, Ends, Stands, Takes}
+use Rattle.koika_parse.proofs.Reading.{in_turn, nothing}
 use Rattle.koika_parse.specs.Reading.{Reads, next, kind_at, token_at}
 use Rattle.koika_parse.specs.declared.cursor.Cursor.{Cursor}
 use Rattle.koika_parse.specs.declared.source.Source.{Source}
@@ -28,6 +29,12 @@ Empty u = u ≡ []
 pub record Goes (source : Source) (old new : Cursor) (Word : List Leaf → Type 0) (Follow : Option Terminal → Type 0) (Rest : List Leaf → Type 0) : Type 0 where
   pub forward : old.at ≤ new.at
   pub left : (w u v : List Leaf) → AgreesUpTo source new w → Word u → Behind Follow v → drop old.at w ≡ u ++ v → (rest : List Leaf) × Rest rest × Leaves old new w (u ++ v) (rest ++ v)
+  pub read : (read : List Leaf) × Reads source old new read
+
+stands_on : (X Y : Type 0) (source : Source) (old mid new : Cursor) (stop : Stop) → (read : List Leaf) × Reads source old mid read → Stands {X = X} source mid new (Err stop) → Stands {X = Y} source old new (Err stop)
+stands_on X Y source old mid new stops.Unexpected front stands = (front.0 ++ stands.0, in_turn front.1 stands.1)
+stands_on X Y source old mid new stops.TooDeep front stands = (front.0 ++ stands.0, in_turn front.1 stands.1, stands.2, stands.3, stands.4)
+stands_on X Y source old mid new stops.NoMemory front stands = tt
 
 before : (source : Source) (mid new : Cursor) (w : List Leaf) → mid.at ≤ new.at → AgreesUpTo source new w → AgreesUpTo source mid w
 before source mid new w low agrees = λ cursor at. agrees cursor (omega (arith, low, at))
@@ -41,7 +48,7 @@ free Q Follow q v is behind = tt
 
 -- before anything is read
 pub start : {source : Source} {cursor : Cursor} {Word : List Leaf → Type 0} {Follow : Option Terminal → Type 0} {Rest : List Leaf → Type 0} → ((u : List Leaf) → Word u → Rest u) → Goes source cursor cursor Word Follow Rest
-start into = record { forward = omega arith; left = λ w u v agrees word behind here. (u, into u word, record { rest = here; few = λ few. few }) }
+start {source} {cursor} into = record { forward = omega arith; left = λ w u v agrees word behind here. (u, into u word, record { rest = here; few = λ few. few }); read = ([], nothing source cursor cursor refl) }
 
 pub begin : {source : Source} {cursor : Cursor} {Follow : Option Terminal → Type 0} (Word : List Leaf → Type 0) → Goes source cursor cursor Word Follow Word
 begin Word = start (λ u word. word)
@@ -58,6 +65,7 @@ step {X} {source} {old} {mid} {new} {Word} {Follow} {Mid} {P} {Q} {x} goes takes
       let same : found.0 ++ v ≡ a ++ (q ++ v) = ap (λ r. r ++ v) found.1.4 ∙ append_assoc a q v in
       let end : Leaves mid new w (a ++ (q ++ v)) (q ++ v) = takes.takes w a (q ++ v) agrees found.1.2 (apart q v found.1.3 behind) (found.2.rest ∙ same) in
       (q, found.1.3, record { rest = end.rest; few = λ few. end.few (subst (AreFewOpen mid.depth) same (found.2.few few)) });
+  read = (goes.read.0 ++ takes.stands.0, in_turn goes.read.1 takes.stands.1);
 }
 
 ends_as : (X Y : Type 0) (stop : Stop) (few few' left left' : Type 0) → (few' → few) → Ends {X = X} (Err stop) few left → Ends {X = Y} (Err stop) few' left'
@@ -76,6 +84,7 @@ stopped {X} {Y} {source} {old} {mid} {new} {Word} {Follow} {Mid} {P} {Q} {stop} 
       let q = found.1.1 in
       let same : found.0 ++ v ≡ a ++ (q ++ v) = ap (λ r. r ++ v) found.1.4 ∙ append_assoc a q v in
       ends_as X Y stop _ _ _ _ (λ few. subst (AreFewOpen mid.depth) same (found.2.few few)) (takes.takes w a (q ++ v) agrees found.1.2 (apart q v found.1.3 behind) (found.2.rest ∙ same));
+  stands = stands_on X Y source old mid new stop goes.read takes.stands;
 }
 
 -- all of it has been read
@@ -85,6 +94,7 @@ finish {X} {source} {old} {new} x goes = record {
   takes = λ w u v agrees word behind here.
       let found = goes.left w u v agrees word behind here in
       subst (λ r. Leaves old new w (u ++ v) (r ++ v)) found.1 found.2;
+  stands = goes.read;
 }
 
 -- the next token tells what is left
@@ -95,6 +105,7 @@ narrow {source} {old} {new} goes tells = record {
   left = λ w u v agrees word behind here.
       let found = goes.left w u v agrees word behind here in
       (found.0, tells found.0 v found.1 behind (sym (ap first found.2.rest) ∙ agrees new (omega arith)), found.2);
+  read = goes.read;
 }
 
 -- the next token cannot be
@@ -105,6 +116,7 @@ refused {Y} {source} {old} {new} goes tells = record {
   takes = λ w u v agrees word behind here.
       let found = goes.left w u v agrees word behind here in
       tells found.0 v found.1 behind (sym (ap first found.2.rest) ∙ agrees new (omega arith));
+  stands = goes.read;
 }
 
 -- the last part, and what is made of it
@@ -116,6 +128,7 @@ last {X} {Y} {source} {old} {mid} {new} {Word} {Follow} {Mid} {P} {x} y goes tak
       let found = goes.left w u v (before source mid new w takes.forward agrees) word behind here in
       let end : Leaves mid new w (found.0 ++ v) v = takes.takes w found.0 v agrees found.1 (apart v behind) found.2.rest in
       record { rest = end.rest; few = λ few. end.few (found.2.few few) };
+  stands = (goes.read.0 ++ takes.stands.0, in_turn goes.read.1 takes.stands.1);
 }
 
 pub last_stopped : {X Y : Type 0} {source : Source} {old mid new : Cursor} {Word : List Leaf → Type 0} {Follow Mid : Option Terminal → Type 0} {P : List Leaf → Type 0} {stop : Stop} →
@@ -125,6 +138,7 @@ last_stopped {X} {Y} {source} {old} {mid} {new} {Word} {Follow} {Mid} {P} {stop}
   takes = λ w u v agrees word behind here.
       let found = goes.left w u v (before source mid new w takes.forward agrees) word behind here in
       ends_as X Y stop _ _ _ _ (λ few. found.2.few few) (takes.takes w found.0 v agrees found.1 (apart v behind) found.2.rest);
+  stands = stands_on X Y source old mid new stop goes.read takes.stands;
 }
 
 -- what any token may follow
@@ -207,6 +221,7 @@ one_takes {X} {source} {old} {new} {terminal} {place} x forward reads = record {
         rest = ap (λ n. drop n w) forward ∙ sym (drop-drop 1 old.at w) ∙ ap (drop 1) front;
         few = λ few. subst (λ d. AreFewOpen d v) depth (subst (AreFewOpen old.depth) (ap (λ l. l ++ v) one.2) few).1;
       };
+  stands = (placed terminal place, reads);
 }
 
 -- the same, where any token may follow the part
@@ -344,3 +359,19 @@ takes_sign {X} {source} {old} {new} {Follow} {result} same takes = subst (λ s. 
 -- a test that failed
 pub not_so : {b : Bool} {P : Type 0} → (IsTrue b ↔ P) → b ≡ false → P → ⊥
 not_so iff fails p = cc (fails, iff.1 p)
+
+-- a token that cannot be
+pub refused_one : {Y : Type 0} {source : Source} {cursor : Cursor} (terminal : Terminal) → (next source cursor ≡ Some terminal → ⊥) → Takes {X = Y} source cursor cursor (One terminal) Any (Err stops.Unexpected)
+refused_one terminal other = refused (begin (One terminal)) (λ r v one behind next_is. other (sym next_is ∙ ap (λ l. first (l ++ v)) one.2 ∙ ap Some one.1))
+
+-- no word at all
+pub refused_all : {Y : Type 0} {source : Source} {cursor : Cursor} {Word : List Leaf → Type 0} {Follow : Option Terminal → Type 0} → ((u : List Leaf) → Word u → ⊥) → Takes {X = Y} source cursor cursor Word Follow (Err stops.Unexpected)
+refused_all {Word = Word} none = refused (begin Word) (λ r v word behind next_is. none r word)
+
+-- a bracket too many
+pub too_deep : {Y : Type 0} {source : Source} {cursor : Cursor} (terminal : Terminal) → next source cursor ≡ Some terminal → 64 < open_behind cursor.depth terminal → Takes {X = Y} source cursor cursor (One terminal) Any (Err stops.TooDeep)
+too_deep {Y} {source} {cursor} terminal at deep = record {
+  forward = omega arith;
+  takes = λ w u v agrees one behind here few. omega (arith, deep, ap (open_behind cursor.depth) one.1, (subst (λ l. AreFewOpen cursor.depth (l ++ v)) one.2 few).0);
+  stands = ([], nothing source cursor cursor refl, terminal, at, deep);
+}

@@ -1,12 +1,12 @@
 -- What readers of parts leave of a word of the grammar: a reader that stands at the front of a word of its language
 -- takes that word and leaves what is behind it, and reading ends unexpectedly nowhere where some word goes on.
 -- This serves private functions alone.
-use Rattle.std.specs.Prelude.{◌≡◌, ◌≤◌, Option, None, Some, Result, Ok, Err, Bool, true, false, ⊤, List, [], ◌∷◌, ◌++◌, map, All, drop}
+use Rattle.std.specs.Prelude.{◌≡◌, ◌<◌, ◌≤◌, Option, None, Some, Result, Ok, Err, Bool, true, false, ⊤, List, [], ◌∷◌, ◌++◌, map, All, drop}
 use Rattle.koika_syntax.specs.Grammar.{IsNonempty}
 use Rattle.koika_syntax.specs.Tree.{Leaf, Terminal, symbol, commas}
 use Rattle.koika_syntax.specs.declared.symbol.Symbol.TheVariants as symbols
-use Rattle.koika_parse.specs.Brackets.{AreFewOpen}
-use Rattle.koika_parse.specs.Reading.{next}
+use Rattle.koika_parse.specs.Brackets.{AreFewOpen, open_behind}
+use Rattle.koika_parse.specs.Reading.{Reads, next}
 use Rattle.koika_parse.specs.declared.cursor.Cursor.{Cursor}
 use Rattle.koika_parse.specs.declared.source.Source.{Source}
 use Rattle.koika_parse.specs.declared.stop.Stop.{Stop}
@@ -53,10 +53,18 @@ Ends (Err stops.Unexpected) few left = ⊥
 Ends (Err stops.TooDeep) few left = few → ⊥
 Ends (Err stops.NoMemory) few left = ⊤
 
+-- what was read where reading ended; where brackets are too many, the next token opens one more than 64
+abbrev pub Stands : {X : Type 0} → Source → (old new : Cursor) → Result X Stop → Type 0
+Stands source old new (Ok x) = (read : List Leaf) × Reads source old new read
+Stands source old new (Err stops.Unexpected) = (read : List Leaf) × Reads source old new read
+Stands source old new (Err stops.TooDeep) = (read : List Leaf) × Reads source old new read × (terminal : Terminal) × (next source new ≡ Some terminal) × (64 < open_behind new.depth terminal)
+Stands source old new (Err stops.NoMemory) = ⊤
+
 -- a reader takes words of this language, wherever such a token follows
 pub record Takes {X : Type 0} (source : Source) (old new : Cursor) (Word : List Leaf → Type 0) (Follow : Option Terminal → Type 0) (result : Result X Stop) : Type 0 where
   pub forward : old.at ≤ new.at
   pub takes : (w u v : List Leaf) → AgreesUpTo source new w → Word u → Behind Follow v → drop old.at w ≡ u ++ v → Ends result (AreFewOpen old.depth (u ++ v)) (Leaves old new w (u ++ v) v)
+  pub stands : Stands source old new result
 
 -- parts with commas between them, at least one
 abbrev pub Commas : {X : Type 0} → (X → Type 0) → (X → List Leaf) → List Leaf → Type 0

@@ -1,15 +1,15 @@
 -- Where the parser's faults stand: 11 at the first token that no design goes on with, or at the end of the text where
 -- no design ends there, and 12 at a token that no design with few open brackets goes on with.
-use Rattle.std.specs.Prelude.{◌≡◌, ◌⊎◌, ℕ, ⊤, List, [], ◌∷◌, ◌++◌, length, map}
+use Rattle.std.specs.Prelude.{◌≡◌, ◌⊎◌, ℕ, ◌<◌, None, ⊤, List, [], ◌∷◌, ◌++◌, length, map}
 use Rattle.kw_base.specs.Fault.{fault_at}
 use Rattle.kw_base.specs.Place.{place_at}
 use Rattle.kw_base.specs.declared.fault.Fault.{Fault}
 use Rattle.kw_base.specs.declared.place.Place.{Place}
 use Rattle.koika_syntax.specs.Grammar.{IsDesign, tree_leaves}
-use Rattle.koika_syntax.specs.Tree.{Terminal, terminal_of}
+use Rattle.koika_syntax.specs.Tree.{Leaf, Terminal, terminal_of}
 use Rattle.koika_syntax.specs.declared.token.Token.{Token}
 use Rattle.koika_syntax.specs.declared.tree.Tree.{Tree}
-use Rattle.koika_parse.specs.Brackets.{AreFewOpen}
+use Rattle.koika_parse.specs.Brackets.{AreFewOpen, open_behind, open_behind_all}
 
 -- what the grammar sees of a design
 abbrev pub design_terminals : Tree → List Terminal
@@ -31,10 +31,21 @@ abbrev pub place_behind : List ℕ → List Token → Place
 place_behind text [] = place_at text (length text)
 place_behind text (token ∷ behind) = place_at text token.start
 
--- the tokens are those before the fault and those behind it, and the fault says why reading ends between them
+-- how many brackets are open behind tokens of the text, and that they are at most 64 behind each
+abbrev pub seen : List ℕ → List Token → List Leaf
+seen text tokens = map (λ token. record { terminal = terminal_of text token; place = None }) tokens
+
+-- the first token behind opens a bracket too many
+abbrev pub OpensTooMany : List ℕ → (before behind : List Token) → Type 0
+OpensTooMany text before [] = ⊥
+OpensTooMany text before (token ∷ behind) = 64 < open_behind (open_behind_all 0 (seen text before)) (terminal_of text token)
+
+-- the tokens are those before the fault and those behind it; there are few open brackets before it, and the fault says
+-- why reading ends there: no design goes on so, or the next token is a 65th open bracket and no design with fewer goes on so
 pub record StandsBetween (text : List ℕ) (tokens : List Token) (fault : Fault) : Type 0 where
   pub before : List Token
   pub behind : List Token
   pub split : tokens ≡ before ++ behind
+  pub few : AreFewOpen 0 (seen text before)
   pub why : ((fault ≡ fault_at 11 (place_behind text behind)) × NoneGoesOn (λ tree. ⊤) text before behind)
-      ⊎ ((fault ≡ fault_at 12 (place_behind text behind)) × NoneGoesOn (λ tree. AreFewOpen 0 (tree_leaves tree)) text before behind)
+      ⊎ ((fault ≡ fault_at 12 (place_behind text behind)) × OpensTooMany text before behind × NoneGoesOn (λ tree. AreFewOpen 0 (tree_leaves tree)) text before behind)

@@ -18,4 +18,4 @@ pub returns-in-Err-clause-complete : goal.returns-in-Err-clause-complete
 returns-in-Err-clause-complete c = fault_as {X = Tree} (Err c.refusal.result) c.refusal.ensures (λ fault is. none_derives fault refl refl c.in-Err.ensures.takes is)
 
 pub returns-in-Err-clause-fault : goal.returns-in-Err-clause-fault
-returns-in-Err-clause-fault c = fault_as {X = Tree} (Err c.refusal.result) c.refusal.ensures (λ fault is. stands_between fault refl refl c.in-Err.ensures.takes is)
+returns-in-Err-clause-fault c = fault_as {X = Tree} (Err c.refusal.result) c.refusal.ensures (λ fault is. stands_between c.in-Err.stop fault refl refl c.in-Err.ensures.takes is)
