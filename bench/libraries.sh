@@ -1,5 +1,5 @@
 #!/usr/bin/env bash
-# Measures what libraries cost, by tests of several sizes: the tokens of a text, the numbers of names, the nodes of a net and
+# Measures what libraries cost, by tests of several sizes: the tokens of a text, its tree, the numbers of names, the nodes of a net and
 # their evaluation. It proves and builds the tests if need be, and is run by hand.
 set -eu
 cd "$(dirname "$0")/.."
@@ -17,6 +17,9 @@ done <<'TESTS'
 koika_syntax:bytes of a text, cut into tokens:262144:a_quarter_of_a_megabyte
 koika_syntax:bytes of a text, cut into tokens:524288:half_a_megabyte
 koika_syntax:bytes of a text, cut into tokens:1048576:a_megabyte
+koika_parse:bytes of a chain of 250,000 operands, cut and parsed:1000021:a_chain_of_250_000_operands
+koika_parse:bytes of 60,000 statements, cut and parsed:1020024:sixty_thousand_statements
+koika_parse:bytes of 100,000 declarations, cut and parsed:1000012:a_hundred_thousand_declarations
 kw_base:names, each added and found:25000:twenty_five_thousand_names
 kw_base:names, each added and found:50000:fifty_thousand_names
 kw_base:names, each added and found:100000:a_hundred_thousand_names

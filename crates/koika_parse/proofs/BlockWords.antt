@@ -1,5 +1,5 @@
 -- What is left of an expression, of an `if` and of a block, by the next token.
-use Rattle.std.proofs.Common.{◌≡◌, ℕ, ◌<◌, ◌≤◌, Option, None, Some, IfSome, List, [], ◌∷◌, ◌++◌, map, append_assoc, append-nil, inl, inr, refl, ap, sym, subst, ◌∙◌, arith}
+use Rattle.std.proofs.Common.{◌≡◌, ℕ, ◌<◌, Option, None, Some, IfSome, List, [], ◌∷◌, ◌++◌, map, append_assoc, append-nil, inl, inr, refl, ap, sym, subst, ◌∙◌, arith}
 use Rattle.std.specs.Prelude.{◌⊎◌}
 use Rattle.std.specs.List.{All, flat_map}
 use Rattle.std.proofs.lemmas.List.Elements.{All-head, All-tail}
@@ -11,16 +11,16 @@ use Rattle.koika_syntax.specs.declared.tree.Arm.{Arm}
 use Rattle.koika_syntax.specs.declared.tree.Block.{Block}
 use Rattle.koika_syntax.specs.declared.tree.Expression.{Expression}
 use Rattle.koika_syntax.specs.declared.tree.Statement.{Statement}
-use Rattle.koika_parse.specs.Expected.{One, Part, Then, first, Behind}
+use Rattle.koika_parse.specs.Expected.{One, Part, Then, first}
 use Rattle.koika_parse.specs.ExpressionWords.{Free, LevelWord, LetWord, ElseWord, ConditionalWord, InsideWord, brace_follows}
 use Rattle.koika_parse.specs.Parts.{IsArm, IsFieldValue, IsStatement}
 use Rattle.koika_parse.specs.Reading.{next}
 use Rattle.koika_parse.specs.declared.cursor.Cursor.{Cursor}
 use Rattle.koika_parse.specs.declared.source.Source.{Source}
-use Rattle.koika_parse.proofs.Expected.{Empty, Apart, Goes, start, starts, goes_as, narrow}
+use Rattle.koika_parse.proofs.Expected.{Empty, Apart, Goes, start, starts, goes_as}
 use Rattle.koika_parse.proofs.Rows.{the_first, the_second, first_one}
 use Rattle.koika_parse.proofs.Words.{word_word}
-use Rattle.koika_parse.proofs.ExpressionWords.{ArmWord, arm_word, BlockWord, block_word, FieldValueWord, field_value_word, DoWord, StatementWord, statement_word, expression_split}
+use Rattle.koika_parse.proofs.ExpressionWords.{ArmWord, arm_word, BlockWord, block_word, FieldValueWord, field_value_word, StatementWord, statement_word, expression_split}
 use Rattle.koika_parse.proofs.ChainWords.{begins, chain_begins, other_token}
 use Rattle.koika_parse.proofs.PrimaryWords.{conditional_first, no_expression}
 

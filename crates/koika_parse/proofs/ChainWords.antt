@@ -1,30 +1,27 @@
 -- What is left of a chain, of operators in front of an operand and of suffixes behind it, by the next token.
 use Rattle.std.proofs.Common.{◌≡◌, ℕ, zero, suc, ◌+◌, ◌-◌, ◌<◌, ◌≤◌, Option, None, Some, IfSome, Err, List, [], ◌∷◌, ◌++◌, append_assoc, append-nil, inl, inr, refl, ap, sym, subst, ◌∙◌, arith}
 use Rattle.std.specs.Prelude.{◌⊎◌, ⊤}
-use Rattle.koika_syntax.specs.Grammar.{IsSuffix, IsName, IsNumber, level_of, IsExpression, prefix_leaves, suffix_leaves, expression_leaves, operand_leaves}
-use Rattle.koika_syntax.specs.Tree.{Leaf, Terminal, name, number, literal, keyword, symbol, placed, name_leaves, sign, number_leaves, unary_symbol, binary_symbol}
+use Rattle.koika_syntax.specs.Grammar.{IsSuffix, IsName, IsNumber, level_of, prefix_leaves, suffix_leaves, expression_leaves, operand_leaves}
+use Rattle.koika_syntax.specs.Tree.{Leaf, Terminal, name, number, literal, keyword, symbol, name_leaves, sign, number_leaves, unary_symbol, binary_symbol}
 use Rattle.koika_syntax.specs.declared.keyword.Keyword.TheVariants as keywords
-use Rattle.koika_syntax.specs.declared.symbol.Symbol.{Symbol}
 use Rattle.koika_syntax.specs.declared.symbol.Symbol.TheVariants as symbols
 use Rattle.koika_syntax.specs.declared.operator.BinaryOperator.{BinaryOperator}
 use Rattle.koika_syntax.specs.declared.operator.BinaryOperator.TheVariants as binary
 use Rattle.koika_syntax.specs.declared.operator.UnaryOperator.{UnaryOperator}
 use Rattle.koika_syntax.specs.declared.operator.UnaryOperator.TheVariants as unary
-use Rattle.koika_syntax.specs.declared.token.TokenKind.{TokenKind}
-use Rattle.koika_syntax.specs.declared.token.TokenKind.TheVariants as kinds
 use Rattle.koika_syntax.specs.declared.tree.Suffix.{Suffix}
 use Rattle.koika_syntax.specs.declared.tree.Suffix.TheVariants as suffixes
 use Rattle.koika_syntax.specs.declared.tree.Prefix.{Prefix}
 use Rattle.koika_parse.specs.Expected.{One, Part, Then, first, Behind, Takes}
-use Rattle.koika_parse.specs.ExpressionWords.{holds, Free, LevelWord, OperandWord, OperandsWord, OperatorWord, SomeOperandsWord, IsAtOperator, PrefixWord, PrefixesWord, SuffixesWord, IsAtPrefix, IsAtSuffix, IndexWord, KeywordWord, SymbolWord, no_prefix}
+use Rattle.koika_parse.specs.ExpressionWords.{holds, Free, LevelWord, OperandWord, OperandsWord, OperatorWord, SomeOperandsWord, IsAtOperator, PrefixWord, PrefixesWord, SuffixesWord, IsAtPrefix, IsAtSuffix, IndexWord, no_prefix}
 use Rattle.koika_parse.specs.Parts.{IsOperandIn}
 use Rattle.koika_parse.specs.Reading.{next}
 use Rattle.koika_parse.specs.declared.cursor.Cursor.{Cursor}
 use Rattle.koika_parse.specs.declared.source.Source.{Source}
 use Rattle.koika_parse.specs.declared.stop.Stop.TheVariants as stops
-use Rattle.koika_parse.proofs.Expected.{Empty, Apart, Goes, start, starts, goes_as, narrow, narrow_part, refused, same_of_some, never_none, kind_of}
+use Rattle.koika_parse.proofs.Expected.{Empty, Apart, Goes, start, starts, goes_as, narrow, narrow_part, refused, same_of_some, kind_of}
 use Rattle.koika_parse.proofs.Rows.{Rows, the_first, the_second, rows_cases, rows_made, rows_none, first_one}
-use Rattle.koika_parse.proofs.Words.{sign_word, assoc3}
+use Rattle.koika_parse.proofs.Words.{sign_word}
 use Rattle.koika_parse.proofs.ExpressionWords.{PrimaryWord, primary_word, chain_split, unary_split, postfix_split, operand_word}
 
 -- how tightly what begins with a token may hold together: 2 for a primary, 1 for operators in front of one

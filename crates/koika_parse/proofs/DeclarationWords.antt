@@ -2,9 +2,8 @@
 use Rattle.std.proofs.Common.{◌≡◌, ℕ, ◌<◌, Option, None, Some, IfSome, Err, List, [], ◌∷◌, ◌++◌, length, map, append_assoc, append-nil, inl, inr, refl, ap, sym, subst, ◌∙◌, arith}
 use Rattle.std.specs.Prelude.{◌⊎◌}
 use Rattle.std.specs.List.{All, flat_map}
-use Rattle.std.proofs.lemmas.List.Elements.{All-head}
-use Rattle.koika_syntax.specs.Grammar.{IsName, IsNumber, IsLiteral, IsWidth, IsType, IsMember, IsField, IsConstant, IsBlock, IsScheduler, IsDeclaration, IsDesign, type_leaves, member_leaves, field_leaves, constant_leaves, block_leaves, scheduler_leaves, result_leaves, declaration_leaves, tree_leaves}
-use Rattle.koika_syntax.specs.Tree.{Leaf, Terminal, terminal_of, name, number, literal, keyword, symbol, word, sign, placed, name_leaves, literal_leaves, width_leaves, commas, joined, each_after, in_braces}
+use Rattle.koika_syntax.specs.Grammar.{IsType, IsField, IsScheduler, IsDeclaration, IsDesign, type_leaves, member_leaves, field_leaves, constant_leaves, block_leaves, scheduler_leaves, result_leaves, declaration_leaves, tree_leaves}
+use Rattle.koika_syntax.specs.Tree.{Leaf, Terminal, terminal_of, name, keyword, symbol, word, sign, placed, name_leaves, literal_leaves, width_leaves, commas, joined, in_braces}
 use Rattle.koika_syntax.specs.declared.keyword.Keyword.{Keyword}
 use Rattle.koika_syntax.specs.declared.keyword.Keyword.TheVariants as keywords
 use Rattle.koika_syntax.specs.declared.symbol.Symbol.TheVariants as symbols
@@ -16,7 +15,7 @@ use Rattle.koika_syntax.specs.declared.tree.Tree.{Tree}
 use Rattle.koika_syntax.specs.declared.tree.TypeExpression.{TypeExpression, Bits, Named, Array'}
 use Rattle.std.specs.Option.{option_map}
 use Rattle.std.proofs.lemmas.Option.{slice_get-get_or}
-use Rattle.koika_parse.specs.Expected.{One, Part, Then, Commas, first, Behind, Takes}
+use Rattle.koika_parse.specs.Expected.{One, Part, Then, Commas, first, Takes}
 use Rattle.koika_parse.specs.ExpressionWords.{parenthesis_follows}
 use Rattle.koika_parse.specs.Reading.{kind_at, next}
 use Rattle.koika_parse.specs.Words.{ParametersWord, ResultWord, DeclarationWord, DeclarationsWord, DesignWord, end_follows, schedule_follows}
@@ -24,7 +23,7 @@ use Rattle.koika_parse.specs.declared.cursor.Cursor.{Cursor}
 use Rattle.koika_parse.specs.declared.source.Source.{Source}
 use Rattle.koika_parse.specs.declared.stop.Stop.TheVariants as stops
 use Rattle.koika_parse.proofs.Expected.{Empty, Goes, start, starts, goes_as, narrow_part, refused, same_of_some, never_none, kind_is, sign_or_name}
-use Rattle.koika_parse.proofs.Rows.{Rows, the_first, the_second, rows_cases}
+use Rattle.koika_parse.proofs.Rows.{the_first, the_second, rows_cases}
 use Rattle.koika_parse.proofs.Words.{sign_word, word_word, placed_word, assoc2, assoc3, assoc4}
 use Rattle.koika_parse.proofs.PrimaryWords.{no_commas}
 

@@ -3,8 +3,8 @@ use Rattle.std.proofs.Common.{◌≡◌, ℕ, zero, suc, ◌+◌, ◌<◌, ◌�
 use Rattle.std.specs.Prelude.{◌⊎◌}
 use Rattle.std.specs.List.{All, flat_map}
 use Rattle.std.proofs.lemmas.List.Elements.{All-cons, All-nil, All-head, All-tail}
-use Rattle.koika_syntax.specs.Grammar.{IsSuffix, IsLiteral, IsName, IsNumber, IsType, IsNonempty, IsExpression, IsBlock, IsPart, IsOperandAt, IsExpressionLayer, IsStatementLayer, IsArmLayer, IsBlockLayer, IsFieldValueLayer, IsOperandLayer, level, level_of, call_leaves, last_leaves, type_leaves, part_leaves, prefix_leaves, suffix_leaves, expression_leaves, statement_leaves, arm_leaves, block_leaves, field_value_leaves, operand_leaves, expression_step, statement_step, arm_step, block_step, field_value_step, operand_step}
-use Rattle.koika_syntax.specs.Tree.{Leaf, Terminal, keyword, symbol, word, sign, placed, name_leaves, number_leaves, literal_leaves, commas, joined, all_of, each_after, in_parentheses, binary_symbol, comparison_word, extension_word, read_word, write_word}
+use Rattle.koika_syntax.specs.Grammar.{IsSuffix, IsLiteral, IsName, IsNumber, IsNonempty, IsExpression, IsBlock, IsOperandAt, IsExpressionLayer, IsStatementLayer, IsArmLayer, IsBlockLayer, IsFieldValueLayer, IsOperandLayer, level, level_of, call_leaves, last_leaves, type_leaves, part_leaves, prefix_leaves, suffix_leaves, expression_leaves, statement_leaves, arm_leaves, block_leaves, field_value_leaves, operand_leaves, expression_step, statement_step, arm_step, block_step, field_value_step, operand_step}
+use Rattle.koika_syntax.specs.Tree.{Leaf, keyword, symbol, word, sign, placed, name_leaves, number_leaves, literal_leaves, commas, joined, all_of, each_after, in_parentheses, binary_symbol, comparison_word, extension_word, read_word, write_word}
 use Rattle.koika_syntax.specs.declared.keyword.Keyword.TheVariants as keywords
 use Rattle.koika_syntax.specs.declared.symbol.Symbol.TheVariants as symbols
 use Rattle.koika_syntax.specs.declared.token.TokenKind.{TokenKind}
@@ -18,13 +18,13 @@ use Rattle.koika_syntax.specs.declared.operator.SignedComparison.TheVariants as 
 use Rattle.koika_syntax.specs.declared.tree.Expression.TheOpen as expression
 use Rattle.koika_syntax.specs.declared.tree.Name.{Name}
 use Rattle.koika_syntax.specs.declared.tree.Number.{Number}
-use Rattle.koika_parse.specs.Expected.{One, Part, Then, Commas}
-use Rattle.koika_parse.specs.ExpressionWords.{LevelWord, OperatorWord, OperandWord, OperandsWord, SomeOperandsWord, PrefixesWord, SuffixesWord, ArrayWord, ParenthesesWord, ReadWord, WriteWord, PackWord, UnpackWord, ExtendWord, CompareWord, UpdateWord, CallTailWord, StructTailWord, ColonsWord, NamedTailWord, NamedWord, KeywordWord, SymbolWord, LetWord, ElseWord, ConditionalWord, InsideWord}
+use Rattle.koika_parse.specs.Expected.{One, Part, Then}
+use Rattle.koika_parse.specs.ExpressionWords.{LevelWord, OperandWord, SomeOperandsWord, PrefixesWord, SuffixesWord, ReadWord, WriteWord, PackWord, UnpackWord, ExtendWord, CompareWord, UpdateWord, NamedWord, KeywordWord, SymbolWord, LetWord, ConditionalWord, InsideWord}
 use Rattle.koika_parse.specs.Parts.{IsArm, IsFieldValue, IsOperand, IsOperandIn, IsStatement}
 use Rattle.koika_parse.proofs.Expected.{kind_of}
 use Rattle.koika_parse.proofs.ConstantWords.{Such, firsts_are}
 use Rattle.koika_parse.proofs.Calls.{all_of_map}
-use Rattle.koika_parse.proofs.Words.{sign_word, word_word, placed_word, assoc2, assoc3, assoc4, assoc5}
+use Rattle.koika_parse.proofs.Words.{sign_word, word_word, placed_word, assoc3, assoc5}
 use Rattle.koika_syntax.specs.declared.tree.Expression.{Expression, Expression-F, map-Expression, out-Expression, every_held-Expression, every_here-Expression, fold_out-Expression}
 use Rattle.koika_syntax.specs.declared.tree.Statement.{Statement, Statement-F, map-Statement, out-Statement, every_held-Statement, every_here-Statement, fold_out-Statement}
 use Rattle.koika_syntax.specs.declared.tree.Arm.{Arm, Arm-F, map-Arm, out-Arm, every_held-Arm, every_here-Arm, fold_out-Arm}

@@ -1,8 +1,7 @@
 -- What is left of a primary, of what stands behind a name, and of arguments, by the next token.
-use Rattle.std.proofs.Common.{◌≡◌, ℕ, ◌+◌, ◌<◌, ◌≤◌, Option, None, Some, Err, List, [], ◌∷◌, ◌++◌, length, map, append_assoc, inl, inr, refl, ap, sym, subst, ◌∙◌, arith}
+use Rattle.std.proofs.Common.{◌≡◌, ℕ, ◌<◌, Option, None, Some, Err, List, [], ◌∷◌, ◌++◌, length, map, append_assoc, inl, inr, refl, ap, sym, subst, ◌∙◌, arith}
 use Rattle.std.specs.Prelude.{◌⊎◌}
 use Rattle.std.specs.List.{All}
-use Rattle.std.specs.Option.{option_map}
 use Rattle.std.proofs.lemmas.List.Elements.{All-head}
 use Rattle.koika_syntax.specs.Grammar.{IsName, IsNumber, IsExpression, IsPart, expression_leaves, part_leaves}
 use Rattle.koika_syntax.specs.Tree.{Leaf, Terminal, keyword, symbol, name_leaves, number_leaves, commas, joined, sign, each_after}
@@ -13,16 +12,16 @@ use Rattle.koika_syntax.specs.declared.token.TokenKind.TheVariants as kinds
 use Rattle.koika_syntax.specs.declared.tree.Expression.{Expression}
 use Rattle.koika_syntax.specs.declared.tree.Part as tree_parts
 use Rattle.koika_syntax.specs.declared.tree.Part.TheVariants as parts
-use Rattle.koika_parse.specs.Expected.{One, Part, Then, first, Behind, Takes, Commas, Any, NoComma}
-use Rattle.koika_parse.specs.ExpressionWords.{Free, LevelWord, NamedWord, NamedTailWord, CallTailWord, StructTailWord, ColonsWord, ArgumentsWord, ConditionalWord, parenthesis_follows}
+use Rattle.koika_parse.specs.Expected.{One, Part, Then, first, Takes, Commas, Any, NoComma}
+use Rattle.koika_parse.specs.ExpressionWords.{Free, LevelWord, NamedWord, NamedTailWord, CallTailWord, ColonsWord, ArgumentsWord, ConditionalWord, parenthesis_follows}
 use Rattle.koika_parse.specs.Reading.{kind_at, next}
 use Rattle.koika_parse.specs.declared.cursor.Cursor.{Cursor}
 use Rattle.koika_parse.specs.declared.source.Source.{Source}
 use Rattle.koika_parse.specs.declared.stop.Stop.TheVariants as stops
-use Rattle.koika_parse.proofs.Expected.{Empty, Apart, Goes, start, starts, goes_as, narrow, narrow_part, refused, same_of_some, never_none, kind_of, kind_of_next, kind_is}
+use Rattle.koika_parse.proofs.Expected.{Empty, Goes, start, starts, narrow, narrow_part, refused, same_of_some, never_none, kind_is}
 use Rattle.koika_parse.proofs.Rows.{the_first, the_second, first_one}
 use Rattle.koika_parse.proofs.ExpressionWords.{Headed, PrimaryWord, primary_word, ArmWord, arm_word, expression_split}
-use Rattle.koika_parse.proofs.ChainWords.{begins, Begins, chain_begins, other_token}
+use Rattle.koika_parse.proofs.ChainWords.{begins, chain_begins, other_token}
 
 -- a primary by the kind of the next token
 primary_start : {source : Source} {cursor : Cursor} {Follow : Option Terminal → Type 0} → Goes source cursor cursor (LevelWord 12) Follow (Headed PrimaryWord)

@@ -3,7 +3,7 @@ use Rattle.std.proofs.Common.{◌≡◌, Option, None, Some, IfSome, List, [], �
 use Rattle.std.specs.Prelude.{◌⊎◌}
 use Rattle.std.specs.List.{All, flat_map}
 use Rattle.koika_syntax.specs.Grammar.{IsName, IsScheduler, IsChoiceLayer, IsSchedulerLayer, scheduler_leaves, choice_leaves, rule_leaves, choice_step, scheduler_step, last_leaves}
-use Rattle.koika_syntax.specs.Tree.{Leaf, Terminal, name, keyword, symbol, name_leaves, word, sign, in_braces}
+use Rattle.koika_syntax.specs.Tree.{Leaf, Terminal, keyword, symbol, name_leaves, word, sign, in_braces}
 use Rattle.koika_syntax.specs.declared.keyword.Keyword.{Keyword}
 use Rattle.koika_syntax.specs.declared.keyword.Keyword.TheVariants as keywords
 use Rattle.koika_syntax.specs.declared.symbol.Symbol.TheVariants as symbols

@@ -1,6 +1,7 @@
 use crate::parse;
-use koika_syntax::{Tree, lex};
+use koika_syntax::{Declaration, Expression, Tree, lex};
 use kw_base::{Fault, Refusal};
+use kw_bits::Text;
 use std::alloc::Global;
 use std::process::Abort;
 use std::test::Fail;
@@ -12,10 +13,24 @@ fn parsed(rt: &impl Abort, alloc: Global, text: &[u8]) -> Result<Tree, Refusal> 
     parse(alloc, text, tokens.as_slice())
 }
 
+// Expects the fault of this number at this column of the first line.
+fn expect_fault(rt: &impl Abort, alloc: Global, text: &str, number: u32, column: u32) {
+    let fault = Fault {
+        number,
+        line: 1,
+        column,
+    };
+    match parsed(rt, alloc, text.as_bytes()) {
+        Err(Refusal::Fault(found)) => assert_eq!(rt; found, fault, "{text}"),
+        _ => assert!(rt; false, "{text}"),
+    }
+}
+
 #[test]
 fn designs_are_read(rt: HostRuntime) -> Result<(), Fail> {
     for text in [
         "schedule { }",
+        "schedule { a; }",
         "reg r : bits 8 = 8'd0; rule a { write0(r, read0(r) + 8'd1) } schedule { a; }",
         "enum E : bits 1 { A = 1'd0, B = 1'd1 } struct S { f : E, g : [bits 2; 3] } schedule { }",
         "fun f(x : bits 8, y : bits 8) : bits 8 { let z = x[7:4] ++ y[3:0]; ~-z } schedule { }",
@@ -28,38 +43,246 @@ fn designs_are_read(rt: HostRuntime) -> Result<(), Fail> {
     Ok(())
 }
 
+// Each production's first wrong token, where the text's own words say it is.
 #[test]
-fn faults_stand_where_a_text_goes_wrong(rt: HostRuntime) -> Result<(), Fail> {
+fn faults_stand_where_a_text_goes_wrong(rt: HostRuntime) {
     for (text, number, column) in [
         ("", 11, 1),
+        ("#", 10, 1),
+        ("reg x : bits 8 = 8'd256; schedule { }", 13, 18),
+        ("schedule {", 11, 11),
+        ("schedule { } x", 11, 14),
+        ("bits", 11, 1),
         ("rule", 11, 5),
+        ("schedule schedule", 11, 10),
         ("regr : bits 8 = 8'd0;", 11, 1),
-        ("reg read2 : bits 8", 11, 5),
-        ("reg r : unit = 8'd0;", 11, 9),
+        ("enum {", 11, 6),
+        ("enum E {", 11, 8),
+        ("enum E : 1", 11, 10),
+        ("enum E : bits {", 11, 15),
+        ("enum E : bits 1 A", 11, 17),
+        ("enum E : bits 1 { }", 11, 19),
+        ("enum E : bits 1 { A }", 11, 21),
+        ("enum E : bits 1 { A = }", 11, 23),
+        ("enum E : bits 1 { A = 1'd0 B", 11, 28),
         ("enum E : bits 1 { A = 1'd0, }", 11, 29),
+        ("struct :", 11, 8),
+        ("struct S ;", 11, 10),
         ("struct S { }", 11, 12),
+        ("struct S { f bits", 11, 14),
+        ("struct S { f : }", 11, 16),
+        ("struct S { f : E ;", 11, 18),
+        ("reg read2 : bits 8", 11, 5),
+        ("reg r bits", 11, 7),
+        ("reg r : 8", 11, 9),
+        ("reg r : unit = 8'd0;", 11, 9),
+        ("reg r : bits 8 ;", 11, 16),
+        ("reg r : bits 8 = 8", 11, 18),
+        ("reg r : bits 8 = 8'd0 }", 11, 23),
+        ("reg r : E = E ;", 11, 15),
+        ("reg r : E = E::;", 11, 16),
+        ("reg r : S = S::{ }", 11, 18),
+        ("reg r : S = S::{ f 1'd0", 11, 20),
+        ("reg r : A = [ ]", 11, 15),
+        ("reg r : A = [ 1'd0 ;", 11, 20),
+        ("input i ;", 11, 9),
+        ("input i : [ bits 1 ]", 11, 20),
+        ("input i : [ bits 1 ; ]", 11, 22),
+        ("input i : [ bits 1 ; 2 ;", 11, 24),
+        ("input i : bits 1 =", 11, 18),
+        ("table t : bits 1 bits", 11, 18),
+        ("table t : bits 1 -> bits 1 { }", 11, 30),
         ("table t : bits 1 -> bits 1 { 1'd0 ; }", 11, 35),
-        ("rule a { if c { } + 1'd1 }", 11, 19),
-        ("rule a { x.1 }", 11, 12),
-        ("rule a { f(x,) }", 11, 14),
-        ("rule a { a < b < }", 11, 18),
+        ("host h : bits 1 -> bits 1 {", 11, 27),
+        ("fun f {", 11, 7),
+        ("fun f(x )", 11, 9),
+        ("fun f(x : bits 1, )", 11, 19),
+        ("fun f() bits", 11, 9),
+        ("fun f() : {", 11, 11),
+        ("fun f() : unit ;", 11, 16),
+        ("rule a ;", 11, 8),
+        ("schedule { a }", 11, 14),
+        ("schedule { try a { }", 11, 18),
+        ("schedule { try a then b", 11, 23),
+        ("schedule { try a then { } }", 11, 27),
+        ("schedule { try a then { } else ;", 11, 32),
         ("schedule { try a then { } else { } b; }", 11, 36),
-        ("schedule { } rule", 11, 14),
-        (
-            "rule a {((((((((((((((((((((((((((((((((((((((((((((((((((((((((((((((((",
-            12,
-            72,
-        ),
+        ("rule a { let = y; }", 11, 14),
+        ("rule a { let x 1'd1; }", 11, 16),
+        ("rule a { let x = ; }", 11, 18),
+        ("rule a { let x = y }", 11, 20),
+        ("rule a { ; }", 11, 10),
+        ("rule a { x y }", 11, 12),
+        ("rule a { x; ) }", 11, 13),
+        ("rule a { if }", 11, 13),
+        ("rule a { if x ;", 11, 15),
+        ("rule a { if x { } else x", 11, 24),
+        ("rule a { if c { } + 1'd1 }", 11, 19),
+        ("rule a { x | | y }", 11, 14),
+        ("rule a { a < b < }", 11, 18),
+        ("rule a { ~ }", 11, 12),
+        ("rule a { x.1 }", 11, 12),
+        ("rule a { x[y] }", 11, 12),
+        ("rule a { x[1.", 11, 13),
+        ("rule a { x[1:]", 11, 14),
+        ("rule a { f(x,) }", 11, 14),
+        ("rule a { f(x ;", 11, 14),
+        ("rule a { E::1", 11, 13),
+        ("rule a { S::{ }", 11, 15),
+        ("rule a { S::{ f = x }", 11, 17),
+        ("rule a { [] }", 11, 11),
+        ("rule a { () }", 11, 11),
+        ("rule a { (x ]", 11, 13),
+        ("rule a { read0 r", 11, 16),
+        ("rule a { read0(1'd1)", 11, 16),
+        ("rule a { write0(r )", 11, 19),
+        ("rule a { write0(r, ) }", 11, 20),
+        ("rule a { abort (", 11, 16),
+        ("rule a { pack() }", 11, 15),
+        ("rule a { unpack(x", 11, 17),
+        ("rule a { unpack(T )", 11, 19),
+        ("rule a { zext(x )", 11, 17),
+        ("rule a { zext(x, y", 11, 18),
+        ("rule a { slt(x )", 11, 16),
+        ("rule a { slt(x, y ,", 11, 19),
+        ("rule a { update(x, 1'd1", 11, 20),
+        ("rule a { update(x, f )", 11, 22),
+        ("rule a { then }", 11, 10),
     ] {
-        let fault = Fault {
-            number,
-            line: 1,
-            column,
-        };
-        match parsed(&rt, rt.alloc(), text.as_bytes()) {
-            Err(Refusal::Fault(found)) => assert_eq!(rt; found, fault, "{text}"),
-            _ => assert!(rt; false, "{text}"),
+        expect_fault(&rt, rt.alloc(), text, number, column);
+    }
+}
+
+// A rule whose body has so many parentheses in it, and its schedule.
+fn nested(alloc: Global, depth: usize) -> Result<Text, Fail> {
+    let mut text = Text::from_slice(alloc, b"rule a {")?;
+    for _ in 0..depth {
+        text.extend_from_slice(b"(")?;
+    }
+    text.extend_from_slice(b"x")?;
+    for _ in 0..depth {
+        text.extend_from_slice(b")")?;
+    }
+    text.extend_from_slice(b"} schedule { }")?;
+    Ok(text)
+}
+
+#[test]
+fn a_65th_bracket_is_one_too_many(rt: HostRuntime) -> Result<(), Fail> {
+    let alloc = rt.alloc();
+    let deepest = nested(alloc, 63)?;
+    let tree = parsed(&rt, alloc, deepest.as_slice())?;
+    let _ = tree;
+    let fault = Fault {
+        number: 12,
+        line: 1,
+        column: 72,
+    };
+    let deeper = nested(alloc, 65)?;
+    match parsed(&rt, alloc, deeper.as_slice()) {
+        Err(Refusal::Fault(found)) => assert_eq!(rt; found, fault),
+        _ => assert!(rt; false, "65 parentheses"),
+    }
+    Ok(())
+}
+
+// The level of the operators that join the whole value of the first rule, and how many they are.
+fn outermost(tree: &Tree) -> Option<(u32, usize)> {
+    match tree.declarations.as_slice().first()? {
+        Declaration::Rule { body, .. } => match &**body.value.as_ref()? {
+            Expression::Chain { rest, .. } => Some((rest.first()?.operator.level(), rest.len())),
+            _ => None,
+        },
+        _ => None,
+    }
+}
+
+// Of two operators the looser one joins the whole, and of two of a level both do.
+#[test]
+fn operators_have_nine_levels(rt: HostRuntime) -> Result<(), Fail> {
+    let operators = [
+        ("|", 1),
+        ("^", 2),
+        ("&", 3),
+        ("==", 4),
+        ("!=", 4),
+        ("<", 5),
+        ("<=", 5),
+        (">", 5),
+        (">=", 5),
+        ("++", 6),
+        ("<<", 7),
+        (">>", 7),
+        (">>>", 7),
+        ("+", 8),
+        ("-", 8),
+        ("*", 9),
+    ];
+    for (first, left) in operators {
+        for (second, right) in operators {
+            let text = format!(in rt.alloc();
+                "rule a {{ x {first} y {second} z }} schedule {{ }}"
+            )?;
+            let tree = parsed(&rt, rt.alloc(), text.as_bytes())?;
+            let looser = if left < right { left } else { right };
+            let many = if left == right { 2 } else { 1 };
+            assert_eq!(rt; outermost(&tree), Some((looser, many)), "{text}");
         }
     }
     Ok(())
+}
+
+// Expects that a text of so many lines between these is read.
+fn expect_read(
+    rt: &impl Abort,
+    alloc: Global,
+    front: &[u8],
+    line: &[u8],
+    times: usize,
+    behind: &[u8],
+) -> Result<(), Fail> {
+    let mut text = Text::from_slice(alloc, front)?;
+    for _ in 0..times {
+        text.extend_from_slice(line)?;
+    }
+    text.extend_from_slice(behind)?;
+    let tree = parsed(rt, alloc, text.as_slice())?;
+    let _ = tree;
+    Ok(())
+}
+
+#[test]
+fn a_chain_of_250_000_operands(rt: HostRuntime) -> Result<(), Fail> {
+    expect_read(
+        &rt,
+        rt.alloc(),
+        b"rule a { x",
+        b" + x",
+        249_999,
+        b" } schedule { }",
+    )
+}
+
+#[test]
+fn sixty_thousand_statements(rt: HostRuntime) -> Result<(), Fail> {
+    expect_read(
+        &rt,
+        rt.alloc(),
+        b"rule a { ",
+        b"let x = y + 1'd1;",
+        60_000,
+        b" } schedule { }",
+    )
+}
+
+#[test]
+fn a_hundred_thousand_declarations(rt: HostRuntime) -> Result<(), Fail> {
+    expect_read(
+        &rt,
+        rt.alloc(),
+        b"",
+        b"input a:E;",
+        100_000,
+        b"schedule { }",
+    )
 }
