@@ -20,9 +20,9 @@ pub fn evaluate(net: &Net, inputs: &[Bits], states: &[Bits], values: &mut [Bits]
     }
 }
 
-// The value of an operator over the nodes before it.
+/// The value of an operator over nodes of these values.
 #[inline]
-fn value_of(op: &NetOp, inputs: &[Bits], states: &[Bits], before: &[Bits]) -> Bits
+pub fn value_of(op: &NetOp, inputs: &[Bits], states: &[Bits], before: &[Bits]) -> Bits
     requires stands { Stands (widths before.now) op.now }
     requires reads { Reads (widths inputs.now) (widths states.now) op.now }
     ensures { result ≡ op_value (record { inputs = inputs.now; states = states.now }) before.now op.now }

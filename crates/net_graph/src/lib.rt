@@ -12,7 +12,7 @@ mod node;
 mod operators;
 mod widths;
 
-pub use evaluation::evaluate;
+pub use evaluation::{evaluate, value_of};
 pub use laws::{nodes_keep_their_values, values_have_their_widths};
 pub use net::Net;
 pub use node::{NetId, NetOne, NetOp, NetTwo};

@@ -1,0 +1,16 @@
+pub mod ChoiceForms
+pub mod Choosing
+pub mod Comparing
+pub mod Folding
+pub mod Forming
+pub mod Growing
+pub mod Laying
+pub mod Marking
+pub mod Opposing
+pub mod OtherOperands
+pub mod Reducing
+pub mod SameRuns
+pub mod Standing
+pub mod Tidying
+pub mod Units
+pub mod Untouched

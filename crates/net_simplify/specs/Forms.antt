@@ -1,0 +1,81 @@
+-- What a node can be in place of an operator: a node that stands already, a constant, or a simpler operator. It serves
+-- private functions alone.
+use Rattle.std.specs.Prelude.{◌≡◌, ℕ, ◌<◌, List, length, All}
+use Rattle.kw_bits.specs.BitVector.{BitVector, IsBits}
+use Rattle.kw_bits.specs.Operators as op
+use Rattle.net_graph.specs.Laws.{Feeds}
+use Rattle.net_graph.specs.Nets.{IsNet, op_width, Stands, width_at, widths_of}
+use Rattle.net_graph.specs.Operators.{two_value, two_width, TakesTwo}
+use Rattle.net_graph.specs.Values.{op_value, Reads, Sources, value_at, values_of}
+use Rattle.net_graph.specs.declared.node.NetOp.{NetOp}
+use Rattle.net_graph.specs.declared.node.NetOp.TheVariants.{Two}
+use Rattle.net_graph.specs.declared.node.NetOne.{NetOne}
+use Rattle.net_graph.specs.declared.node.NetOne.TheVariants.{RedAnd, RedOr, RedXor}
+use Rattle.net_graph.specs.declared.node.NetTwo.{NetTwo}
+use Rattle.net_simplify.specs.Identities.{IsDistinguishing}
+use Rattle.net_simplify.specs.Tidy.{IsNeeded, IsOpen}
+use Rattle.net_simplify.specs.declared.form.Form.{Form}
+use Rattle.net_simplify.specs.declared.form.Form.TheVariants.{Node, Constant, Operator}
+
+-- a net whose operators are such as a tidy circuit may have
+pub record IsLean (net : List NetOp) : Type 0 where
+  pub is_net : IsNet net
+  pub are_open : All (IsOpen net) net
+  pub needed : All (IsNeeded net) net
+
+-- the width and the value of a form over nodes of these
+abbrev pub form_width : List ℕ → Form → ℕ
+form_width widths (Node id) = width_at widths id
+form_width widths (Constant value) = value.width
+form_width widths (Operator op) = op_width widths op
+
+abbrev pub form_value : Sources → List BitVector → Form → BitVector
+form_value s values (Node id) = value_at values id
+form_value s values (Constant value) = value
+form_value s values (Operator op) = op_value s values op
+
+-- a form reads only inputs and states that there are
+abbrev pub FormReads : List ℕ → List ℕ → Form → Type 0
+FormReads inputs states (Operator op) = Reads inputs states op
+FormReads inputs states form = Unit {0}
+
+-- a form has the width and the value of an operator, and reads nothing else from outside
+pub record Equals (net : List NetOp) (op : NetOp) (form : Form) : Type 0 where
+  pub width : form_width (widths_of net) form ≡ op_width (widths_of net) op
+  pub value : (s : Sources) → Feeds s net → form_value s (values_of s net) form ≡ op_value s (values_of s net) op
+  pub reads : (inputs states : List ℕ) → Reads inputs states op → FormReads inputs states form
+
+-- a form can be had in a net that stays lean
+abbrev pub FormStands : List NetOp → Form → Type 0
+FormStands net (Node id) = id < length net
+FormStands net (Constant value) = Unit {0}
+FormStands net (Operator op) = Stands (widths_of net) op × IsOpen net op × IsNeeded net op
+
+-- what an operator can be in a lean net
+pub record IsForm (net : List NetOp) (op : NetOp) (form : Form) : Type 0 where
+  pub stands : FormStands net form
+  pub equals : Equals net op form
+
+-- an operator that tells what another doesn't, on the same operands
+pub record IsOpposite (operator other : NetTwo) : Type 0 where
+  pub takes : (a b : ℕ) → TakesTwo operator a b → TakesTwo other a b
+  pub width : (a b : ℕ) → two_width other a b ≡ two_width operator a b
+  pub value : (x y : BitVector) → IsBits x → IsBits y → TakesTwo operator x.width y.width → two_value other x y ≡ op.not (two_value operator x y)
+  pub other_needs : IsDistinguishing other
+
+-- it is on the operands of another
+pub record Turns (op turned : NetOp) : Type 0 where
+  pub operator : NetTwo
+  pub other : NetTwo
+  pub first : ℕ
+  pub second : ℕ
+  pub is : op ≡ Two operator first second
+  pub turned_is : turned ≡ Two other first second
+  pub opposite : IsOpposite operator other
+
+-- the operator makes one bit of all
+abbrev pub IsReduction : NetOne → Type 0
+IsReduction RedAnd = Unit {0}
+IsReduction RedOr = Unit {0}
+IsReduction RedXor = Unit {0}
+IsReduction _ = ⊥

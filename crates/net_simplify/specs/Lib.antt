@@ -1,0 +1,5 @@
+pub mod Forms
+pub mod Identities
+pub mod Kept
+pub mod Passes
+pub mod Tidy

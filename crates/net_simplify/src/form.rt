@@ -1,0 +1,164 @@
+// The simplest form of an operator in a net whose operators are simplified.
+ghost use Rattle.std.specs.Prelude.{◌<◌, length, IfSome, IsTrue};
+ghost use Rattle.net_graph.specs.Nets.{IsNet, Stands, widths_of};
+ghost use Rattle.net_graph.specs.declared.node.NetOne.TheVariants.{Not};
+ghost use Rattle.net_graph.specs.declared.node.NetOp.TheVariants.{Ite, One, Two};
+ghost use Rattle.net_simplify.specs.Forms.{Equals, IsForm, IsLean, IsReduction};
+ghost use Rattle.net_simplify.specs.Tidy.{IsNeeded};
+ghost use Rattle.net_simplify.specs.declared.form.Form.TheVariants.{Node};
+
+use crate::choices::{Choice, choice_of};
+use crate::fold::folded;
+use crate::identities::{Identity, identity_of};
+use crate::nodes::{known_at, known_if_clear, known_if_set, not_of, op_at};
+use crate::opposites::opposite_of;
+use kw_bits::Bits;
+use net_graph::{Net, NetId, NetOne, NetOp, NetTwo};
+
+/// What a node can be in place of an operator: a node that stands already, a constant, or an operator.
+#[derive(Clone, Copy)]
+pub(crate) enum Form {
+    Node(NetId),
+    Constant(Bits),
+    Operator(NetOp),
+}
+
+/// The simplest form of an operator.
+pub(crate) fn simplest(net: &Net, op: NetOp) -> Form
+    requires stands { Stands (widths_of net.now) op }
+    requires lean { IsLean net.now }
+    ensures { IsForm net.now op result }
+{
+    match op {
+        NetOp::One(operator, a) => one_form(net, operator, a),
+        NetOp::Two(operator, a, b) => two_form(net, operator, a, b),
+        NetOp::Ite(condition, a, b) => ite_form(net, condition, a, b),
+        _ => other_form(net, op),
+    }
+}
+
+fn one_form(net: &Net, operator: NetOne, a: NetId) -> Form
+    requires stands { Stands (widths_of net.now) (One operator a) }
+    requires lean { IsLean net.now }
+    ensures { IsForm net.now (One operator a) result }
+{
+    match operator {
+        NetOne::Not => not_form(net, a),
+        _ => other_form(net, NetOp::One(operator, a)),
+    }
+}
+
+// A `not` of a `not` is the node below both, and one of a comparison is the opposite comparison.
+fn not_form(net: &Net, a: NetId) -> Form
+    requires stands { Stands (widths_of net.now) (One Not a) }
+    requires lean { IsLean net.now }
+    ensures { IsForm net.now (One Not a) result }
+{
+    let op = NetOp::One(NetOne::Not, a);
+    if let Some(value) = folded(net, &op) {
+        return Form::Constant(value);
+    }
+    let below = op_at(net, a);
+    if let Some(b) = not_of(&below) {
+        return Form::Node(b);
+    }
+    if let Some(other) = opposite_of(&below) {
+        return Form::Operator(other);
+    }
+    Form::Operator(op)
+}
+
+fn two_form(net: &Net, operator: NetTwo, a: NetId, b: NetId) -> Form
+    requires stands { Stands (widths_of net.now) (Two operator a b) }
+    requires lean { IsLean net.now }
+    ensures { IsForm net.now (Two operator a b) result }
+{
+    let op = NetOp::Two(operator, a, b);
+    if let Some(value) = folded(net, &op) {
+        return Form::Constant(value);
+    }
+    match identity_of(operator, known_at(net, a), known_at(net, b), a == b) {
+        Identity::Itself => Form::Operator(op),
+        Identity::First => Form::Node(a),
+        Identity::Second => Form::Node(b),
+        Identity::NotFirst => not_form(net, a),
+        Identity::NotSecond => not_form(net, b),
+        Identity::Zero => Form::Constant(Bits::zero(net.width(a))),
+        Identity::False => Form::Constant(Bits::zero(1)),
+        Identity::True => Form::Constant(Bits::zero(1).not()),
+    }
+}
+
+// A choice by a `not` is the other choice.
+fn ite_form(net: &Net, condition: NetId, a: NetId, b: NetId) -> Form
+    requires stands { Stands (widths_of net.now) (Ite condition a b) }
+    requires lean { IsLean net.now }
+    ensures { IsForm net.now (Ite condition a b) result }
+{
+    match not_of(&op_at(net, condition)) {
+        Some(turned) => choice_form(net, turned, b, a),
+        None => choice_form(net, condition, a, b),
+    }
+}
+
+fn choice_form(net: &Net, condition: NetId, a: NetId, b: NetId) -> Form
+    requires stands { Stands (widths_of net.now) (Ite condition a b) }
+    requires lean { IsLean net.now }
+    ensures { IsForm net.now (Ite condition a b) result }
+{
+    let op = NetOp::Ite(condition, a, b);
+    if let Some(value) = folded(net, &op) {
+        return Form::Constant(value);
+    }
+    let first = known_if_set(net, condition, a);
+    let second = known_if_clear(net, condition, b);
+    let is_bit = net.width(a) == 1;
+    match choice_of(known_at(net, condition), first, second, is_bit, a == b) {
+        Choice::Itself => Form::Operator(op),
+        Choice::First => Form::Node(a),
+        Choice::Second => Form::Node(b),
+        Choice::Condition => Form::Node(condition),
+        Choice::NotCondition => not_form(net, condition),
+        Choice::ConditionOrSecond => two_form(net, NetTwo::Or, condition, b),
+        Choice::ConditionAndFirst => two_form(net, NetTwo::And, condition, a),
+    }
+}
+
+// An operator that is needed on whatever operands.
+fn other_form(net: &Net, op: NetOp) -> Form
+    requires stands { Stands (widths_of net.now) op }
+    requires net { IsNet net.now }
+    requires needed { IsNeeded net.now op }
+    ensures { IsForm net.now op result }
+{
+    if let Some(value) = folded(net, &op) {
+        return Form::Constant(value);
+    }
+    match untouched(net, op) {
+        Some(a) => Form::Node(a),
+        None => Form::Operator(op),
+    }
+}
+
+// The operand of an operator that leaves it as it is: a slice of all bits, no bits above, a reduction of one bit.
+fn untouched(net: &Net, op: NetOp) -> Option<NetId>
+    requires stands { Stands (widths_of net.now) op }
+    requires net { IsNet net.now }
+    ensures stands { IfSome result (λ a. a < length net.now) }
+    ensures equals { IfSome result (λ a. Equals net.now op (Node a)) }
+{
+    match op {
+        NetOp::Slice(a, upper, lower) if lower == 0 && upper == net.width(a) - 1 => Some(a),
+        NetOp::Uext(a, added) if added == 0 => Some(a),
+        NetOp::Sext(a, added) if added == 0 => Some(a),
+        NetOp::One(operator, a) if is_reduction(operator) && net.width(a) == 1 => Some(a),
+        _ => None,
+    }
+}
+
+// Whether an operator makes one bit of all.
+fn is_reduction(operator: NetOne) -> bool
+    ensures { IsTrue result → IsReduction operator }
+{
+    matches!(operator, NetOne::RedAnd | NetOne::RedOr | NetOne::RedXor)
+}

@@ -1,0 +1,28 @@
+// What is known of a value whatever the inputs and states are.
+ghost use Rattle.net_simplify.specs.Identities.{IsKnown};
+
+use kw_bits::Bits;
+
+/// What is known of a value: its bits are all 0, or all 1, or it is the number 1 of more than one bit, or nothing.
+#[derive(Clone, Copy)]
+pub(crate) enum Known {
+    Zero,
+    Ones,
+    One,
+    Nothing,
+}
+
+/// What is known of a constant.
+pub(crate) fn known_of(value: Bits) -> Known
+    ensures { IsKnown result value }
+{
+    if value.number() == 0 {
+        Known::Zero
+    } else if value.not().number() == 0 {
+        Known::Ones
+    } else if value.number() == 1 {
+        Known::One
+    } else {
+        Known::Nothing
+    }
+}

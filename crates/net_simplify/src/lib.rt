@@ -1,0 +1,24 @@
+//! Circuits made simpler: the same run and the same names, by a net that is tidy.
+//!
+//! `specs/Tidy.antt` says when a circuit is tidy, and `specs/Kept.antt` what stays as it was. `specs/Identities.antt`,
+//! `specs/Forms.antt` and `specs/Passes.antt` say what single operators and whole nets are made to be, and serve private
+//! functions alone. The compiler calls `simplify`.
+#![tactic(auto)]
+
+mod choices;
+mod circuit;
+mod fold;
+mod form;
+mod identities;
+mod known;
+mod layout;
+mod nodes;
+mod opposites;
+mod reach;
+mod reduced;
+mod renaming;
+#[cfg(test)]
+mod tests;
+mod wiring;
+
+pub use circuit::simplify;

@@ -1,0 +1,88 @@
+// What single nodes of a net are.
+ghost use Rattle.std.specs.Prelude.{◌≡◌, ◌≢◌, ◌<◌, ℕ, length, IfNone, IfSome, Some, slice_get};
+ghost use Rattle.net_graph.specs.Laws.{Feeds};
+ghost use Rattle.net_graph.specs.Nets.{IsNet, width_at, widths_of};
+ghost use Rattle.net_graph.specs.Values.{node_value, Sources};
+ghost use Rattle.net_graph.specs.declared.node.NetOne.TheVariants.{Not};
+ghost use Rattle.net_graph.specs.declared.node.NetOp.TheVariants.{Const, One};
+ghost use Rattle.net_simplify.specs.Identities.{IsKnown};
+ghost use Rattle.net_simplify.specs.Tidy.{IsConstant};
+
+use crate::known::{Known, known_of};
+use kw_bits::Bits;
+use net_graph::{Net, NetId, NetOne, NetOp};
+
+/// The operator of a node.
+pub(crate) fn op_at(net: &Net, id: NetId) -> NetOp
+    requires { id < length net.now }
+    ensures { slice_get net.now id ≡ Some result }
+{
+    net.ops()[id as usize]
+}
+
+/// The value of a node, if it is a constant.
+pub(crate) fn constant_at(net: &Net, id: NetId) -> Option<Bits>
+    requires { id < length net.now }
+    ensures some { IfSome result (λ value. slice_get net.now id ≡ Some (Const value)) }
+    ensures none { IfNone result (¬ IsConstant net.now id) }
+{
+    match op_at(net, id) {
+        NetOp::Const(value) => Some(value),
+        _ => None,
+    }
+}
+
+/// The operand of a `not`.
+pub(crate) fn not_of(op: &NetOp) -> Option<NetId>
+    ensures some { IfSome result (λ a. op.now ≡ One Not a) }
+    ensures none { IfNone result ((a : ℕ) → op.now ≢ One Not a) }
+{
+    match *op {
+        NetOp::One(NetOne::Not, a) => Some(a),
+        _ => None,
+    }
+}
+
+/// What is known of a node's value.
+pub(crate) fn known_at(net: &Net, id: NetId) -> Known
+    requires node { id < length net.now }
+    requires net { IsNet net.now }
+    ensures { (s : Sources) → Feeds s net.now → IsKnown result (node_value s net.now id) }
+{
+    match constant_at(net, id) {
+        Some(value) => known_of(value),
+        None => Known::Nothing,
+    }
+}
+
+/// What is known of a node's value where a condition is 1: the condition itself has only ones there.
+pub(crate) fn known_if_set(net: &Net, condition: NetId, id: NetId) -> Known
+    requires condition { condition < length net.now }
+    requires one_bit { width_at (widths_of net.now) condition ≡ 1 }
+    requires node { id < length net.now }
+    requires net { IsNet net.now }
+    ensures { (s : Sources) → Feeds s net.now → (node_value s net.now condition).number ≡ 1
+        → IsKnown result (node_value s net.now id) }
+{
+    if id == condition {
+        Known::Ones
+    } else {
+        known_at(net, id)
+    }
+}
+
+/// What is known of a node's value where a condition isn't 1: the condition itself is 0 there.
+pub(crate) fn known_if_clear(net: &Net, condition: NetId, id: NetId) -> Known
+    requires condition { condition < length net.now }
+    requires one_bit { width_at (widths_of net.now) condition ≡ 1 }
+    requires node { id < length net.now }
+    requires net { IsNet net.now }
+    ensures { (s : Sources) → Feeds s net.now → (node_value s net.now condition).number ≢ 1
+        → IsKnown result (node_value s net.now id) }
+{
+    if id == condition {
+        Known::Zero
+    } else {
+        known_at(net, id)
+    }
+}

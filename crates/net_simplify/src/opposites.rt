@@ -1,0 +1,37 @@
+// Comparisons that tell what others don't.
+ghost use Rattle.std.specs.Prelude.{IfSome};
+ghost use Rattle.net_simplify.specs.Forms.{IsOpposite, Turns};
+
+use net_graph::{NetOp, NetTwo};
+
+/// The operator that has the turned value of another, if that is a comparison.
+pub(crate) fn opposite_of(op: &NetOp) -> Option<NetOp>
+    ensures { IfSome result (Turns op.now) }
+{
+    match *op {
+        NetOp::Two(operator, a, b) => match opposite(operator) {
+            Some(other) => Some(NetOp::Two(other, a, b)),
+            None => None,
+        },
+        _ => None,
+    }
+}
+
+// The comparison that tells what another doesn't.
+fn opposite(operator: NetTwo) -> Option<NetTwo>
+    ensures { IfSome result (IsOpposite operator) }
+{
+    match operator {
+        NetTwo::EqBits => Some(NetTwo::Neq),
+        NetTwo::Neq => Some(NetTwo::EqBits),
+        NetTwo::Ult => Some(NetTwo::Ugte),
+        NetTwo::Ulte => Some(NetTwo::Ugt),
+        NetTwo::Ugt => Some(NetTwo::Ulte),
+        NetTwo::Ugte => Some(NetTwo::Ult),
+        NetTwo::Slt => Some(NetTwo::Sgte),
+        NetTwo::Slte => Some(NetTwo::Sgt),
+        NetTwo::Sgt => Some(NetTwo::Slte),
+        NetTwo::Sgte => Some(NetTwo::Slt),
+        _ => None,
+    }
+}
