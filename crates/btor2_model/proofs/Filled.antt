@@ -69,16 +69,16 @@ numeral-first base more given fits = (fits.3.0, fits.1, fits.2 ∙ ap (λ (a : A
 put : (first : Argument) (given others rest : List Argument) → given ≡ first ∷ others → others ≡ rest → given ≡ first ∷ rest
 put first given others rest is same = is ∙ ap (λ (more : List Argument). first ∷ more) same
 
-sort-alone : (given : List Argument) → FitKinds (kinds.Sort ∷ []) given → (sort : ℕ) × (given ≡ arguments.Id sort ∷ [])
+pub sort-alone : (given : List Argument) → FitKinds (kinds.Sort ∷ []) given → (sort : ℕ) × (given ≡ arguments.Id sort ∷ [])
 sort-alone given fits = let s = sort-first [] given fits in (s.0, put (arguments.Id s.0) given s.1 [] s.2 s.3)
 
-sort-numeral : (base : Base) (given : List Argument) → FitKinds (kinds.Sort ∷ kinds.Numeral base ∷ []) given → (sort : ℕ) × (digits : List ℕ) × (given ≡ arguments.Id sort ∷ arguments.Numeral digits ∷ [])
+pub sort-numeral : (base : Base) (given : List Argument) → FitKinds (kinds.Sort ∷ kinds.Numeral base ∷ []) given → (sort : ℕ) × (digits : List ℕ) × (given ≡ arguments.Id sort ∷ arguments.Numeral digits ∷ [])
 sort-numeral base given fits =
     let s = sort-first (kinds.Numeral base ∷ []) given fits in
     let d = numeral-first base [] s.1 s.3 in
     (s.0, d.0, put (arguments.Id s.0) given s.1 (arguments.Numeral d.0 ∷ []) s.2 (put (arguments.Numeral d.0) s.1 d.1 [] d.2 d.3))
 
-value-alone : (given : List Argument) → FitKinds (kinds.Value ∷ []) given → (a : ℕ) × (given ≡ arguments.Id a ∷ [])
+pub value-alone : (given : List Argument) → FitKinds (kinds.Value ∷ []) given → (a : ℕ) × (given ≡ arguments.Id a ∷ [])
 value-alone given fits = let s = value-first [] given fits in (s.0, put (arguments.Id s.0) given s.1 [] s.2 s.3)
 
 value-value : (given : List Argument) → FitKinds (kinds.Value ∷ kinds.Value ∷ []) given → (a b : ℕ) × (given ≡ arguments.Id a ∷ arguments.Id b ∷ [])
@@ -87,7 +87,7 @@ value-value given fits =
     let t = value-alone s.1 s.3 in
     (s.0, t.0, put (arguments.Id s.0) given s.1 (arguments.Id t.0 ∷ []) s.2 t.1)
 
-sort-one : (given : List Argument) → FitKinds (kinds.Sort ∷ kinds.Value ∷ []) given → (sort a : ℕ) × (given ≡ arguments.Id sort ∷ arguments.Id a ∷ [])
+pub sort-one : (given : List Argument) → FitKinds (kinds.Sort ∷ kinds.Value ∷ []) given → (sort a : ℕ) × (given ≡ arguments.Id sort ∷ arguments.Id a ∷ [])
 sort-one given fits =
     let s = sort-first (kinds.Value ∷ []) given fits in
     let t = value-alone s.1 s.3 in
@@ -99,21 +99,21 @@ sort-two given fits =
     let t = value-value s.1 s.3 in
     (s.0, t.0, t.1, put (arguments.Id s.0) given s.1 (arguments.Id t.0 ∷ arguments.Id t.1 ∷ []) s.2 t.2)
 
-sort-three : (given : List Argument) → FitKinds (kinds.Sort ∷ kinds.Value ∷ kinds.Value ∷ kinds.Value ∷ []) given → (sort c a b : ℕ) × (given ≡ arguments.Id sort ∷ arguments.Id c ∷ arguments.Id a ∷ arguments.Id b ∷ [])
+pub sort-three : (given : List Argument) → FitKinds (kinds.Sort ∷ kinds.Value ∷ kinds.Value ∷ kinds.Value ∷ []) given → (sort c a b : ℕ) × (given ≡ arguments.Id sort ∷ arguments.Id c ∷ arguments.Id a ∷ arguments.Id b ∷ [])
 sort-three given fits =
     let s = sort-first (kinds.Value ∷ kinds.Value ∷ kinds.Value ∷ []) given fits in
     let v = value-first (kinds.Value ∷ kinds.Value ∷ []) s.1 s.3 in
     let t = value-value v.1 v.3 in
     (s.0, v.0, t.0, t.1, put (arguments.Id s.0) given s.1 (arguments.Id v.0 ∷ arguments.Id t.0 ∷ arguments.Id t.1 ∷ []) s.2 (put (arguments.Id v.0) s.1 v.1 (arguments.Id t.0 ∷ arguments.Id t.1 ∷ []) v.2 t.2))
 
-sort-number : (given : List Argument) → FitKinds (kinds.Sort ∷ kinds.Value ∷ kinds.Number ∷ []) given → (sort a n : ℕ) × (given ≡ arguments.Id sort ∷ arguments.Id a ∷ arguments.Number n ∷ [])
+pub sort-number : (given : List Argument) → FitKinds (kinds.Sort ∷ kinds.Value ∷ kinds.Number ∷ []) given → (sort a n : ℕ) × (given ≡ arguments.Id sort ∷ arguments.Id a ∷ arguments.Number n ∷ [])
 sort-number given fits =
     let s = sort-first (kinds.Value ∷ kinds.Number ∷ []) given fits in
     let v = value-first (kinds.Number ∷ []) s.1 s.3 in
     let n = number-first [] v.1 v.3 in
     (s.0, v.0, n.0, put (arguments.Id s.0) given s.1 (arguments.Id v.0 ∷ arguments.Number n.0 ∷ []) s.2 (put (arguments.Id v.0) s.1 v.1 (arguments.Number n.0 ∷ []) v.2 (put (arguments.Number n.0) v.1 n.1 [] n.2 n.3)))
 
-sort-bounds : (given : List Argument) → FitKinds (kinds.Sort ∷ kinds.Value ∷ kinds.Number ∷ kinds.Number ∷ []) given → (sort a u l : ℕ) × (given ≡ arguments.Id sort ∷ arguments.Id a ∷ arguments.Number u ∷ arguments.Number l ∷ [])
+pub sort-bounds : (given : List Argument) → FitKinds (kinds.Sort ∷ kinds.Value ∷ kinds.Number ∷ kinds.Number ∷ []) given → (sort a u l : ℕ) × (given ≡ arguments.Id sort ∷ arguments.Id a ∷ arguments.Number u ∷ arguments.Number l ∷ [])
 sort-bounds given fits =
     let s = sort-first (kinds.Value ∷ kinds.Number ∷ kinds.Number ∷ []) given fits in
     let v = value-first (kinds.Number ∷ kinds.Number ∷ []) s.1 s.3 in
@@ -302,7 +302,7 @@ by-rule given scope known keyword args result m forms.Output s of fits ms agree 
 by-rule given scope known keyword args result m forms.Bad s of fits ms agree bounds below value = absurd (cc)
 
 -- all conditions are met where none has a fault
-all-met : (a b c d e f g : Bool) → option_map (λ (k : ℕ × Bool). k.0) (find (λ (k : ℕ × Bool). not k.1) ((51, a) ∷ (52, b) ∷ (53, c) ∷ (55, d) ∷ (57, e) ∷ (58, f) ∷ (59, g) ∷ [])) ≡ None
+pub all-met : (a b c d e f g : Bool) → option_map (λ (k : ℕ × Bool). k.0) (find (λ (k : ℕ × Bool). not k.1) ((51, a) ∷ (52, b) ∷ (53, c) ∷ (55, d) ∷ (57, e) ∷ (58, f) ∷ (59, g) ∷ [])) ≡ None
     → (c ≡ true) × (d ≡ true) × (f ≡ true)
 all-met true true true true true true g is = (refl, refl, refl)
 all-met true true true true true false g is = absurd (cc)
@@ -312,11 +312,11 @@ all-met true true false d e f g is = absurd (cc)
 all-met true false c d e f g is = absurd (cc)
 all-met false b c d e f g is = absurd (cc)
 
-passes-some : (test : Rule → Measures → Bool) (rule : Rule) (found : Option Measures) → passes test rule found ≡ true → (m : Measures) × (found ≡ Some m) × (test rule m ≡ true)
+pub passes-some : (test : Rule → Measures → Bool) (rule : Rule) (found : Option Measures) → passes test rule found ≡ true → (m : Measures) × (found ≡ Some m) × (test rule m ≡ true)
 passes-some test rule (Some m) is = (m, refl, is)
 passes-some test rule None is = absurd (cc)
 
-passes-at : (test : Rule → Measures → Bool) (rule : Rule) (found : Option Measures) (m : Measures) → found ≡ Some m → passes test rule found ≡ true → test rule m ≡ true
+pub passes-at : (test : Rule → Measures → Bool) (rule : Rule) (found : Option Measures) (m : Measures) → found ≡ Some m → passes test rule found ≡ true → test rule m ≡ true
 passes-at test rule found m is met = sym (ap (passes test rule) is) ∙ met
 
 -- a line of an operator or a constant has a value of the width that it gives its id

@@ -23,7 +23,7 @@ use Rattle.btor2_model.proofs.Evaluation.{accepted-next, option_map-none, option
 use Rattle.btor2_model.proofs.Filled.{both, later, line-has, some-same, sooner}
 
 -- a line's id and its bounds, where it has no fault
-fresh-and-bounds : (a b c d e f g : Bool) → option_map (λ (k : ℕ × Bool). k.0) (find (λ (k : ℕ × Bool). not k.1) ((51, a) ∷ (52, b) ∷ (53, c) ∷ (55, d) ∷ (57, e) ∷ (58, f) ∷ (59, g) ∷ [])) ≡ None
+pub fresh-and-bounds : (a b c d e f g : Bool) → option_map (λ (k : ℕ × Bool). k.0) (find (λ (k : ℕ × Bool). not k.1) ((51, a) ∷ (52, b) ∷ (53, c) ∷ (55, d) ∷ (57, e) ∷ (58, f) ∷ (59, g) ∷ [])) ≡ None
     → (a ≡ true) × (d ≡ true)
 fresh-and-bounds true true true true e f g is = (refl, refl)
 fresh-and-bounds true true true false e f g is = absurd (cc)
@@ -31,13 +31,13 @@ fresh-and-bounds true true false d e f g is = absurd (cc)
 fresh-and-bounds true false c d e f g is = absurd (cc)
 fresh-and-bounds false b c d e f g is = absurd (cc)
 
-line-met : (scope : Scope) (line : Line) → line_fault scope line ≡ None → (is_fresh scope line.id ≡ true) × (passes bounds_fit (rule_of line.keyword) (measures_of scope line) ≡ true)
+pub line-met : (scope : Scope) (line : Line) → line_fault scope line ≡ None → (is_fresh scope line.id ≡ true) × (passes bounds_fit (rule_of line.keyword) (measures_of scope line) ≡ true)
 line-met scope line fine =
     let rule = rule_of line.keyword in
     fresh-and-bounds (is_fresh scope line.id) (list_all (is_known scope) line.arguments) (agree scope line.keyword line.arguments) (passes bounds_fit rule (measures_of scope line)) (sets_first rule scope line.arguments)
     (numeral_fits rule scope line.arguments) (init_is_fixed rule scope line.arguments) fine
 
-nothing-there : (o : Option Meaning) → not (is_some o) ≡ true → o ≡ None
+pub nothing-there : (o : Option Meaning) → not (is_some o) ≡ true → o ≡ None
 nothing-there None is = refl
 nothing-there (Some m) is = absurd (cc)
 
@@ -46,7 +46,7 @@ other-id true old new m fresh is = let none = fresh refl in absurd (cc)
 other-id false old new m fresh is = is
 
 -- a meaning stays behind a line without a fault
-stays-one : (scope : Scope) (line : Line) (id : ℕ) (m : Meaning) → line_fault scope line ≡ None → scope.meanings id ≡ Some m → (behind scope line).meanings id ≡ Some m
+pub stays-one : (scope : Scope) (line : Line) (id : ℕ) (m : Meaning) → line_fault scope line ≡ None → scope.meanings id ≡ Some m → (behind scope line).meanings id ≡ Some m
 stays-one scope line id m fine is =
     other-id (nat_eq line.id id) (scope.meanings id) (meaning_of scope line) m
     (λ same. ap scope.meanings (sym (eqb-true line.id id same)) ∙ nothing-there (scope.meanings line.id) (line-met scope line fine).0) is
@@ -59,7 +59,7 @@ stays (line ∷ lines) scope id m fine is =
     stays lines (behind scope line) id m each.1 (stays-one scope line id m (option_map-none (fault_in line) (line_fault scope line) each.0) is)
 
 -- a sort has 1 to 128 bits
-sort-new : (rule : Rule) (found : Option Measures) (w : ℕ) → passes bounds_fit rule found ≡ true → sort_width (role_of rule) (width_or_none rule found) ≡ Some w → (1 ≤ w) × (w ≤ 128)
+pub sort-new : (rule : Rule) (found : Option Measures) (w : ℕ) → passes bounds_fit rule found ≡ true → sort_width (role_of rule) (width_or_none rule found) ≡ Some w → (1 ≤ w) × (w ≤ 128)
 sort-new forms.Sort (Some m) w fits is =
     let each = both (nat_le 1 m.second) (nat_le m.second 128) fits in
     let same = some-same m.second w is in
@@ -116,7 +116,7 @@ new-has forms.Next found value w is computed input state = absurd (cc)
 new-has forms.Output found value w is computed input state = absurd (cc)
 new-has forms.Bad found value w is computed input state = absurd (cc)
 
-sorts-at : (here : Bool) (old : Option Meaning) (new : Meaning) (w : ℕ) → (width_wanted kinds.Sort old ≡ Some w → (1 ≤ w) × (w ≤ 128)) → (width_wanted kinds.Sort (Some new) ≡ Some w → (1 ≤ w) × (w ≤ 128))
+pub sorts-at : (here : Bool) (old : Option Meaning) (new : Meaning) (w : ℕ) → (width_wanted kinds.Sort old ≡ Some w → (1 ≤ w) × (w ≤ 128)) → (width_wanted kinds.Sort (Some new) ≡ Some w → (1 ≤ w) × (w ≤ 128))
     → width_wanted kinds.Sort (cond here (Some new) old) ≡ Some w → (1 ≤ w) × (w ≤ 128)
 sorts-at true old new w others one is = one is
 sorts-at false old new w others one is = others is
@@ -158,7 +158,7 @@ Filling-start given lines inputs states scope values is fine forms inputs_have s
     (record { accepted = fine; declared = refl; forms = forms; sorts = λ id w none. absurd (cc); filled = λ id w none ready. absurd (cc); inputs_have = inputs_have; states_have = states_have })
 
 -- the width of a line's id in the whole text
-width-of-line : (lines rest : List Line) (scope : Scope) (line : Line) → behind_all no_lines lines ≡ behind_all (behind scope line) rest → lines_fault (behind scope line) rest ≡ None → (behind scope line).meanings line.id ≡ Some (meaning_of scope line)
+pub width-of-line : (lines rest : List Line) (scope : Scope) (line : Line) → behind_all no_lines lines ≡ behind_all (behind scope line) rest → lines_fault (behind scope line) rest ≡ None → (behind scope line).meanings line.id ≡ Some (meaning_of scope line)
     → width_in lines line.id ≡ width_or_none (rule_of line.keyword) (measures_of scope line)
 width-of-line lines rest scope line declared fine here =
     ap (λ (o : Option Meaning). unwrap_or (option_map (λ (m : Meaning). m.width) o) 0) (ap (λ (s : Scope). s.meanings line.id) declared ∙ stays rest (behind scope line) line.id (meaning_of scope line) fine here)

@@ -1,3 +1,5 @@
+pub mod Conditions
+pub mod Ends
 pub mod Evaluation
 pub mod Examples
 pub mod Filled

@@ -6,20 +6,19 @@ use Rattle.std.proofs.lemmas.Option.{slice_get_past}
 use Rattle.std.specs.Prelude.{slice_get}
 use Rattle.std.specs.Map.{update}
 use Rattle.btor2_model.specs.Table.{at_place}
-use Rattle.btor2_model.specs.declared.meaning.Meaning.{Meaning}
 
-high-at : (low : List (Option Meaning)) (before after : ℕ → Option Meaning) (id q : ℕ) (meaning : Meaning) → length low ≤ id → after ≡ update nat_eq before id (Some meaning)
-    → at_place (slice_get low q) (after q) ≡ cond (nat_eq id q) (Some meaning) (at_place (slice_get low q) (before q))
-high-at low before after id q meaning past is = ⊎_elim
+high-at : {V : Type 0} (low : List (Option V)) (before after : ℕ → Option V) (id q : ℕ) (value : V) → length low ≤ id → after ≡ update nat_eq before id (Some value)
+    → at_place (slice_get low q) (after q) ≡ cond (nat_eq id q) (Some value) (at_place (slice_get low q) (before q))
+high-at {V} low before after id q value past is = ⊎_elim
     (λ here.
     let none : slice_get low q ≡ None = slice_get_past low q (omega (arith, past, here.1)) in
-    ap (λ o. at_place o (after q)) none ∙ ap (λ (f : ℕ → Option Meaning). f q) is ∙ ap (λ b. cond b (Some meaning) (before q)) here.0
-    ∙ sym (ap (λ b. cond b (Some meaning) (at_place (slice_get low q) (before q))) here.0))
+    ap (λ o. at_place o (after q)) none ∙ ap (λ (f : ℕ → Option V). f q) is ∙ ap (λ b. cond b (Some value) (before q)) here.0
+    ∙ sym (ap (λ b. cond b (Some value) (at_place (slice_get low q) (before q))) here.0))
     (λ apart.
-    ap (at_place (slice_get low q)) (ap (λ (f : ℕ → Option Meaning). f q) is ∙ ap (λ b. cond b (Some meaning) (before q)) apart.0)
-    ∙ sym (ap (λ b. cond b (Some meaning) (at_place (slice_get low q) (before q))) apart.0))
+    ap (at_place (slice_get low q)) (ap (λ (f : ℕ → Option V). f q) is ∙ ap (λ b. cond b (Some value) (before q)) apart.0)
+    ∙ sym (ap (λ b. cond b (Some value) (at_place (slice_get low q) (before q))) apart.0))
     (eqb_tells id q)
 
-pub high-insert : (low : List (Option Meaning)) (before after : ℕ → Option Meaning) (id : ℕ) (meaning : Meaning) → length low ≤ id → after ≡ update nat_eq before id (Some meaning)
-    → (λ q. at_place (slice_get low q) (after q)) ≡ update nat_eq (λ q. at_place (slice_get low q) (before q)) id (Some meaning)
-high-insert low before after id meaning past is = fun_ext (λ q. high-at low before after id q meaning past is)
+pub high-insert : {V : Type 0} (low : List (Option V)) (before after : ℕ → Option V) (id : ℕ) (value : V) → length low ≤ id → after ≡ update nat_eq before id (Some value)
+    → (λ q. at_place (slice_get low q) (after q)) ≡ update nat_eq (λ q. at_place (slice_get low q) (before q)) id (Some value)
+high-insert {V} low before after id value past is = fun_ext (λ q. high-at low before after id q value past is)

@@ -5,12 +5,12 @@ use Rattle.std.specs.BTreeSet as set
 use Rattle.btor2_model.specs.Scope.{Scope}
 use Rattle.btor2_model.specs.declared.meaning.Meaning.{Meaning}
 use Rattle.btor2_model.specs.declared.meaning.Role.TheVariants as roles
-use Rattle.btor2_model.specs.Table.{meaning_in}
+use Rattle.btor2_model.specs.Table.{value_in}
 use Rattle.btor2_model.specs.declared.known.Known.{Known}
 
 -- what is declared
 abbrev pub scope_of : Known → Scope
-scope_of known = record { meanings = meaning_in known.meanings; initialized = set.contains nat_cmp known.initialized; continued = set.contains nat_cmp known.continued }
+scope_of known = record { meanings = value_in known.meanings; initialized = set.contains nat_cmp known.initialized; continued = set.contains nat_cmp known.continued }
 
 -- each sort has at most 128 bits
 abbrev pub AreNarrow : Scope → Type 0

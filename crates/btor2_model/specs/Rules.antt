@@ -77,6 +77,10 @@ width_given forms.Sort m = m.second
 width_given other m = m.first
 
 -- the lines of single forms
+abbrev pub is_sort : Rule → Bool
+is_sort forms.Sort = true
+is_sort other = false
+
 abbrev pub is_input : Rule → Bool
 is_input forms.Input = true
 is_input other = false

@@ -34,6 +34,11 @@ id_of other = 0
 abbrev pub id_at : List Argument → ℕ → ℕ
 id_at given place = id_of (slice_get given place)
 
+-- the number that an argument is, or 0
+abbrev pub number_of : Option Argument → ℕ
+number_of (Some (arguments.Number number)) = number
+number_of other = 0
+
 -- the width of a sort; and that of a value, which a state is, too
 abbrev pub sort_width : Role → ℕ → Option ℕ
 sort_width roles.Sort width = Some width

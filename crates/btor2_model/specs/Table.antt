@@ -1,15 +1,14 @@
--- What the table of ids that acceptance fills holds. Contracts of private functions alone cite it.
-use Rattle.std.specs.Prelude.{ℕ, Option, None, Some, slice_get}
-use Rattle.std.specs.Ordering.{nat_cmp}
+-- What a table of ids holds, by its fields.
 use Rattle.std.specs.BTreeMap as map
-use Rattle.btor2_model.specs.declared.meaning.Meaning.{Meaning}
+use Rattle.std.specs.Ordering.{nat_cmp}
+use Rattle.std.specs.Prelude.{ℕ, Option, None, Some, slice_get}
 use Rattle.btor2_model.specs.declared.table.Table.{Table}
 
 -- what stands at a place, if there is such a place, or else the other
-abbrev pub at_place : Option (Option Meaning) → Option Meaning → Option Meaning
+abbrev pub at_place : {V : Type 0} → Option (Option V) → Option V → Option V
 at_place None other = other
-at_place (Some meaning) other = meaning
+at_place (Some value) other = value
 
--- what an id stands for
-abbrev pub meaning_in : Table → ℕ → Option Meaning
-meaning_in table id = at_place (slice_get table.low.items id) (map.get nat_cmp table.high id)
+-- the value of an id, if it has one
+abbrev pub value_in : {V : Type 0} → Table V → ℕ → Option V
+value_in table id = at_place (slice_get table.low.items id) (map.get nat_cmp table.high id)

@@ -11,6 +11,7 @@ ghost use Rattle.btor2_model.specs.Scope as scope;
 ghost use Rattle.btor2_model.specs.declared.meaning.Meaning.{Meaning as MeaningOf};
 ghost use Rattle.btor2_model.specs.declared.meaning.Role.TheVariants as roles;
 
+use crate::arguments::{digits_at, id_at};
 use crate::meaning::{Meaning, Role};
 use crate::numeral::value_below;
 use crate::refusal::refusal_at;
@@ -25,7 +26,7 @@ use std::collections::BTreeSet;
 /// What the lines so far declare.
 #[derive(Drop)]
 pub(crate) struct Known {
-    meanings: Table,
+    meanings: Table<Meaning>,
     initialized: BTreeSet<u64>,
     continued: BTreeSet<u64>,
 }
@@ -288,26 +289,6 @@ impl Known {
             }
             _ => true,
         }
-    }
-}
-
-/// The id that an argument is, or 0, which is none.
-pub(crate) fn id_at(arguments: &[Argument], place: usize) -> u64
-    ensures { result ≡ scope.id_at arguments.now place }
-{
-    match arguments.get(place) {
-        Some(Argument::Id(id)) => *id,
-        _ => 0,
-    }
-}
-
-// The digits that an argument is, or none.
-fn digits_at(arguments: &[Argument], place: usize) -> &[u8]
-    ensures { result.now ≡ acceptance.digits_of (slice_get arguments.now place) }
-{
-    match arguments.get(place) {
-        Some(Argument::Numeral(digits)) => digits.as_slice(),
-        _ => &[],
     }
 }
 

@@ -6,6 +6,7 @@
 #![tactic(auto)]
 
 mod acceptance;
+mod arguments;
 mod btor;
 mod known;
 mod known_values;
@@ -22,5 +23,10 @@ mod table;
 mod tests;
 
 pub use acceptance::accept;
+pub use arguments::{digits_at, id_at, number_at};
 pub use btor::Btor;
+pub use meaning::{Meaning, Role};
+pub use operators::{named_constant, written_constant};
 pub use rows::slow_run;
+pub use rule::{Measures, Rule};
+pub use table::Table;

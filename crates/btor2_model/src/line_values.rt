@@ -13,7 +13,7 @@ ghost use Rattle.btor2_model.specs.SlowRun.{computes, known_value, step_with, Gi
 
 use crate::known::Known;
 use crate::known_values::KnownValues;
-use crate::operators::{binary, chosen, constant, extended, numeral, sliced, unary};
+use crate::operators::{binary, chosen, extended, named_constant, sliced, unary, written_constant};
 use crate::rule::Rule;
 use btor2_text::{Argument, Keyword, Line};
 use kw_base::Refusal;
@@ -107,9 +107,9 @@ fn operator_value(
         → IfSome result (λ value. value ≡ run.operator_value (scope_of known.now) all keyword arguments.now) }
 {
     match arguments {
-        [Argument::Id(sort)] => constant(keyword, known.sort_width(*sort)),
+        [Argument::Id(sort)] => named_constant(keyword, known.sort_width(*sort)),
         [Argument::Id(sort), Argument::Numeral(digits)] => {
-            numeral(keyword, known.sort_width(*sort), digits.as_slice())
+            written_constant(keyword, known.sort_width(*sort), digits.as_slice())
         }
         [Argument::Id(_), Argument::Id(a)] => unary(keyword, values.get(*a)?),
         [Argument::Id(_), Argument::Id(a), Argument::Id(b)] => {

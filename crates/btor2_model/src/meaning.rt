@@ -5,7 +5,7 @@ use btor2_text::Kind;
 
 /// What a line is for later lines.
 #[derive(Clone, Copy, Debug, PartialEq, Eq)]
-pub(crate) enum Role {
+pub enum Role {
     Sort,
     Value,
     /// A value whose `init` and `next` may come.
@@ -15,11 +15,11 @@ pub(crate) enum Role {
 
 /// What an id stands for.
 #[derive(Clone, Copy, Debug, PartialEq, Eq)]
-pub(crate) struct Meaning {
-    pub(crate) role: Role,
-    pub(crate) width: u32,
+pub struct Meaning {
+    pub role: Role,
+    pub width: u32,
     /// Whether its value depends on an input or a state.
-    pub(crate) depends: bool,
+    pub depends: bool,
 }
 
 impl Meaning {

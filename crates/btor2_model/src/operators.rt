@@ -104,7 +104,7 @@ fn compared(keyword: Keyword, a: Bits, b: Bits) -> Option<Bits>
 
 /// The value of a constant that its keyword names.
 #[tactic(auto, unfolding(kw_bits::specs::Operators::not))]
-pub(crate) fn constant(keyword: Keyword, width: u32) -> Option<Bits>
+pub fn named_constant(keyword: Keyword, width: u32) -> Option<Bits>
     ensures some { 1 ≤ width → width ≤ 128 → is_constant (rule_of keyword) ≡ true → HasValue result width }
     ensures value { IfSome result (λ value. value ≡ run.constant keyword width) }
 {
@@ -117,7 +117,7 @@ pub(crate) fn constant(keyword: Keyword, width: u32) -> Option<Bits>
 }
 
 /// The value of a constant that digits write.
-pub(crate) fn numeral(keyword: Keyword, width: u32, digits: &[u8]) -> Option<Bits>
+pub fn written_constant(keyword: Keyword, width: u32, digits: &[u8]) -> Option<Bits>
     requires { width ≤ 128 }
     ensures some { 1 ≤ width → digits_value (radix_of (run.base_of keyword)) digits.now < 2 ^ width → HasValue result width }
     ensures value { IfSome result (λ value. value ≡ record { width = width; number = digits_value (radix_of (run.base_of keyword)) digits.now }) }

@@ -10,8 +10,9 @@ ghost use Rattle.btor2_model.specs.Scope as scope;
 ghost use Rattle.btor2_model.specs.SlowRun.{is_flag, Knows};
 
 use crate::acceptance::declared;
+use crate::arguments::id_at;
 use crate::btor::Btor;
-use crate::known::{Known, id_at};
+use crate::known::Known;
 use crate::known_values::KnownValues;
 use crate::line_values::values_with;
 use crate::rule::Rule;

@@ -6,7 +6,7 @@ use btor2_text::{Base, Keyword};
 
 /// How the widths and numbers of a form belong together.
 #[derive(Clone, Copy, Debug, PartialEq, Eq)]
-pub(crate) enum Rule {
+pub enum Rule {
     /// A sort.
     Sort,
     /// An input, of the sort.
@@ -47,16 +47,16 @@ pub(crate) enum Rule {
 
 /// What a line's arguments measure, in order: the width of a sort or a value, or a number; 0 for all else.
 #[derive(Clone, Copy, Debug, PartialEq, Eq)]
-pub(crate) struct Measures {
-    pub(crate) first: u32,
-    pub(crate) second: u32,
-    pub(crate) third: u32,
-    pub(crate) fourth: u32,
+pub struct Measures {
+    pub first: u32,
+    pub second: u32,
+    pub third: u32,
+    pub fourth: u32,
 }
 
 impl Rule {
     /// The rule of a keyword's form.
-    pub(crate) fn of(keyword: Keyword) -> Rule
+    pub fn of(keyword: Keyword) -> Rule
         ensures { result ≡ form.rule_of keyword }
     {
         match keyword {
@@ -125,36 +125,43 @@ impl Rule {
         }
     }
 
+    /// Whether the line is a sort.
+    pub fn is_sort(self) -> bool
+        ensures { result ≡ form.is_sort self }
+    {
+        matches!(self, Rule::Sort)
+    }
+
     /// Whether the line is an input.
-    pub(crate) fn is_input(self) -> bool
+    pub fn is_input(self) -> bool
         ensures { result ≡ form.is_input self }
     {
         matches!(self, Rule::Input)
     }
 
     /// Whether the line gives a state its first value.
-    pub(crate) fn is_init(self) -> bool
+    pub fn is_init(self) -> bool
         ensures { result ≡ form.is_init self }
     {
         matches!(self, Rule::Init)
     }
 
     /// Whether the line gives a state its next value.
-    pub(crate) fn is_next(self) -> bool
+    pub fn is_next(self) -> bool
         ensures { result ≡ form.is_next self }
     {
         matches!(self, Rule::Next)
     }
 
     /// Whether the line is an output.
-    pub(crate) fn is_output(self) -> bool
+    pub fn is_output(self) -> bool
         ensures { result ≡ form.is_output self }
     {
         matches!(self, Rule::Output)
     }
 
     /// Whether the line is a state.
-    pub(crate) fn is_state(self) -> bool
+    pub fn is_state(self) -> bool
         ensures { result ≡ form.is_state self }
     {
         matches!(self, Rule::State)

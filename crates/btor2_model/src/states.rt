@@ -8,7 +8,8 @@ ghost use Rattle.btor2_model.specs.Run as run;
 ghost use Rattle.btor2_model.specs.Scope as scope;
 ghost use Rattle.btor2_model.specs.SlowRun.{Knows, sets};
 
-use crate::known::{Known, id_at};
+use crate::arguments::id_at;
+use crate::known::Known;
 use crate::known_values::KnownValues;
 use crate::line_values::values_with;
 use crate::rule::Rule;

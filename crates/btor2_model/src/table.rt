@@ -2,9 +2,8 @@ ghost use Rattle.std.specs.Prelude.{◌≡◌, IfOk, OnOk, None, Some, nat_eq};
 ghost use Rattle.std.specs.BTreeMap as map;
 ghost use Rattle.std.specs.Map.{update};
 ghost use Rattle.std.specs.Ordering.{nat_cmp};
-ghost use Rattle.btor2_model.specs.Table.{meaning_in};
+ghost use Rattle.btor2_model.specs.Table.{value_in};
 
-use crate::meaning::Meaning;
 use kw_bits::NoMemory;
 use std::alloc::Global;
 use std::collections::BTreeMap;
@@ -12,15 +11,15 @@ use std::collections::BTreeMap;
 /// What ids stand for. Most texts number their lines from 1 on, so low ids have their places in a list; the others are in a
 /// map.
 #[derive(Drop)]
-pub(crate) struct Table {
-    low: Vec<Option<Meaning>>,
-    high: BTreeMap<u64, Meaning>,
+pub struct Table<V> {
+    low: Vec<Option<V>>,
+    high: BTreeMap<u64, V>,
 }
 
-impl Table {
+impl<V: Copy> Table<V> {
     /// No ids yet, with places for so many low ones.
-    pub(crate) fn new(alloc: Global, places: usize) -> Result<Table, NoMemory>
-        ensures { IfOk result (λ table. meaning_in table ≡ (λ _. None)) }
+    pub fn new(alloc: Global, places: usize) -> Result<Table<V>, NoMemory>
+        ensures { IfOk result (λ table. value_in table ≡ (λ _. None)) }
     {
         Ok(Table {
             low: vec![in alloc; None; places]?,
@@ -29,33 +28,33 @@ impl Table {
     }
 
     /// What an id stands for.
-    pub(crate) fn get(&self, id: u64) -> Option<Meaning>
-        ensures { result ≡ meaning_in self.now id }
+    pub fn get(&self, id: u64) -> Option<V>
+        ensures { result ≡ value_in self.now id }
     {
         match self.low.get(id as usize) {
-            Some(meaning) => *meaning,
+            Some(value) => *value,
             None => self.high.get(&id).copied(),
         }
     }
 
     /// Takes what an id stands for.
-    pub(crate) fn insert(&mut self, id: u64, meaning: Meaning) -> Result<(), NoMemory>
-        ensures { OnOk result (meaning_in self.new ≡ update nat_eq (meaning_in self.old) id (Some meaning)) }
+    pub fn insert(&mut self, id: u64, value: V) -> Result<(), NoMemory>
+        ensures { OnOk result (value_in self.new ≡ update nat_eq (value_in self.old) id (Some value)) }
     {
         let place = id as usize;
         if place < self.low.len() {
-            self.low[place] = Some(meaning);
+            self.low[place] = Some(value);
             Ok(())
         } else {
-            put(&mut self.high, id, meaning)
+            put(&mut self.high, id, value)
         }
     }
 }
 
 // Takes what an id stands for into a map.
-fn put(meanings: &mut BTreeMap<u64, Meaning>, id: u64, meaning: Meaning) -> Result<(), NoMemory>
-    ensures { OnOk result (map.get nat_cmp meanings.new ≡ update nat_eq (map.get nat_cmp meanings.old) id (Some meaning)) }
+fn put<V: Copy>(values: &mut BTreeMap<u64, V>, id: u64, value: V) -> Result<(), NoMemory>
+    ensures { OnOk result (map.get nat_cmp values.new ≡ update nat_eq (map.get nat_cmp values.old) id (Some value)) }
 {
-    meanings.insert(id, meaning)?;
+    values.insert(id, value)?;
     Ok(())
 }
