@@ -1,0 +1,10 @@
+pub mod Declared
+pub mod Distinct
+pub mod FirstSettings
+pub mod Growth
+pub mod Independent
+pub mod Made
+pub mod Operands
+pub mod Passing
+pub mod Reading
+pub mod Runs

@@ -1,0 +1,4 @@
+pub mod Nodes
+pub mod Translations
+pub mod Values
+pub mod Wires

@@ -1,0 +1,46 @@
+-- When a circuit is that of a circuit text: it has the names and widths of the text's lines, and its run is the text's. The run
+-- of a text, and that of a circuit, is after BTOR2 (Niemetz et al., CAV 2018).
+use Rattle.std.specs.Prelude.{◌≡◌, ℕ, Bool, List, ◌∷◌, map, unwrap_or, decimal}
+use Rattle.net_graph.specs.Nets.{width_at, widths_of}
+use Rattle.one_rule.specs.Stimulus.{AlwaysFits, InputVectors, inputs_of}
+use Rattle.circuit_eval.specs.Circuits as circuit
+use Rattle.circuit_eval.specs.Run as wired
+use Rattle.circuit_eval.specs.declared.circuit.InputWire.{InputWire}
+use Rattle.circuit_eval.specs.declared.circuit.OutputWire.{OutputWire}
+use Rattle.circuit_eval.specs.declared.circuit.StateWire.{StateWire}
+use Rattle.circuit_eval.specs.declared.circuit.Wires.{Wires}
+use Rattle.btor2_text.specs.declared.line.Line.{Line}
+use Rattle.btor2_model.specs.Rules.{is_input, is_output, is_state}
+use Rattle.btor2_model.specs.Run as text
+use Rattle.btor2_model.specs.Scope.{id_at}
+use Rattle.btor2_model.specs.declared.rule.Rule.{Rule}
+
+-- the name of a line: its symbol, or else `n` and its id
+abbrev pub name_of : Line → List ℕ
+name_of line = unwrap_or line.symbol (110 ∷ decimal line.id)
+
+-- the names of a text's lines of a rule
+abbrev pub names_of : (Rule → Bool) → List Line → List (List ℕ)
+names_of test lines = map name_of (text.lines_of test lines)
+
+-- the widths of a text's lines of a rule
+abbrev pub widths_in : (Rule → Bool) → List Line → List ℕ
+widths_in test lines = map (text.width_in lines) (text.ids_of test lines)
+
+-- the widths of the values that outputs name
+abbrev pub output_widths : List Line → List ℕ
+output_widths lines = map (λ (line : Line). text.width_in lines (id_at line.arguments 0)) (text.lines_of is_output lines)
+
+-- the circuit has an input, a state and an output for each of the text's, in order and of the same names and widths
+pub record HasLines (lines : List Line) (c : Wires) : Type 0 where
+  pub inputs : map (λ (wire : InputWire). wire.name) c.inputs ≡ names_of is_input lines
+  pub input_widths : circuit.input_widths c.inputs ≡ widths_in is_input lines
+  pub states : map (λ (wire : StateWire). wire.name) c.states ≡ names_of is_state lines
+  pub state_widths : circuit.state_widths c.states ≡ widths_in is_state lines
+  pub outputs : map (λ (wire : OutputWire). wire.name) c.outputs ≡ names_of is_output lines
+  pub output_widths : map (λ (wire : OutputWire). width_at (widths_of c.net) wire.id) c.outputs ≡ output_widths lines
+
+-- on every stimulus for the circuit's inputs, the circuit's rows of every number of cycles are the text's
+abbrev pub RunsAs : List Line → Wires → Type 0
+RunsAs lines c = (stimulus : InputVectors) (n : ℕ) → stimulus.widths ≡ circuit.input_widths c.inputs → AlwaysFits stimulus
+    → wired.run_of c (inputs_of stimulus) n ≡ text.run_of lines (inputs_of stimulus) n
