@@ -1,4 +1,6 @@
 pub mod Nodes
+pub mod PageFields
+pub mod Pages
 pub mod Translations
 pub mod Values
 pub mod Wires

@@ -6,10 +6,14 @@
 
 mod circuit;
 mod form;
+mod keywords;
+mod lines;
 mod name;
 mod nodes;
 mod operators;
+mod page;
 mod settings;
 mod wires;
 
 pub use circuit::to_circuit;
+pub use lines::to_lines;

@@ -1,0 +1,185 @@
+ghost use Rattle.std.specs.Prelude.{◌≡◌, ◌∷◌, ◌++◌, [], ℕ, List, IfOk, OnOk};
+ghost use Rattle.net_graph.specs.Nets.{widths_of};
+ghost use Rattle.btor2_net.specs.PageFields.{page_of};
+ghost use Rattle.btor2_net.specs.Pages as pages;
+
+use crate::keywords::{keyword_of_one, keyword_of_two};
+use crate::page::Page;
+use btor2_text::{Argument, Keyword, Lines};
+use circuit_eval::{Circuit, InputWire, OutputWire, StateWire};
+use kw_bits::{NoMemory, Sequence, Text};
+use net_graph::{Net, NetId, NetOp};
+use std::alloc::Global;
+
+/// The lines that a circuit is written as.
+pub fn to_lines(alloc: Global, circuit: &Circuit) -> Result<Lines, NoMemory>
+    ensures lines { IfOk result (λ lines. lines ≡ pages.lines_of circuit.now) }
+{
+    let mut page = Page::new(alloc)?;
+    let states = add_states(alloc, &mut page, circuit.states.as_slice())?;
+    let inputs = add_inputs(alloc, &mut page, circuit.inputs.as_slice())?;
+    let nodes = add_nodes(alloc, &mut page, &circuit.net, &inputs, &states)?;
+    add_nexts(alloc, &mut page, circuit.states.as_slice(), &states, &nodes)?;
+    add_outputs(alloc, &mut page, circuit.outputs.as_slice(), &nodes)?;
+    Ok(page.lines)
+}
+
+// Adds states, whose ids it gives.
+fn add_states(alloc: Global, page: &mut Page, wires: &[StateWire]) -> Result<Vec<u64>, NoMemory>
+    ensures { IfOk result (λ ids. record { page = page_of page.new; ids = ids.items } ≡ pages.with_states (record { page = page_of page.old; ids = [] }) wires.now) }
+{
+    let mut ids = Vec::new(alloc);
+    for wire in wires {
+        let id = add_state(alloc, page, wire)?;
+        ids.push(id)?;
+    }
+    Ok(ids)
+}
+
+// Adds a state between its first value and its `init`.
+fn add_state(alloc: Global, page: &mut Page, wire: &StateWire) -> Result<u64, NoMemory>
+    ensures { IfOk result (λ id. (ids : List ℕ) → record { page = page_of page.new; ids = ids ++ id ∷ [] } ≡ pages.with_state (record { page = page_of page.old; ids = ids }) wire.now) }
+{
+    let first = page.add_constant(alloc, wire.first)?;
+    let name = Text::from_slice(alloc, wire.name.as_slice())?;
+    let state = page.add(alloc, wire.width, Keyword::State, &[], &[], Some(name))?;
+    page.add(alloc, wire.width, Keyword::Init, &[state, first], &[], None)?;
+    Ok(state)
+}
+
+// Adds inputs, whose ids it gives.
+fn add_inputs(alloc: Global, page: &mut Page, wires: &[InputWire]) -> Result<Vec<u64>, NoMemory>
+    ensures { IfOk result (λ ids. record { page = page_of page.new; ids = ids.items } ≡ pages.with_inputs (record { page = page_of page.old; ids = [] }) wires.now) }
+{
+    let mut ids = Vec::new(alloc);
+    for wire in wires {
+        let name = Text::from_slice(alloc, wire.name.as_slice())?;
+        let id = page.add(alloc, wire.width, Keyword::Input, &[], &[], Some(name))?;
+        ids.push(id)?;
+    }
+    Ok(ids)
+}
+
+// Adds a line for each node that is a constant or an operator, and gives the ids of all nodes.
+fn add_nodes(
+    alloc: Global,
+    page: &mut Page,
+    net: &Net,
+    inputs: &[u64],
+    states: &[u64],
+) -> Result<Vec<u64>, NoMemory>
+    ensures { IfOk result (λ ids. record { page = page_of page.new; ids = ids.items } ≡ pages.with_nodes inputs.now states.now (widths_of net.now) (record { page = page_of page.old; ids = [] }) net.now) }
+{
+    let mut ids = Vec::new(alloc);
+    for (node, op) in net.ops().iter().enumerate() {
+        let width = net.width(node as NetId);
+        let id = add_node(alloc, page, width, op, inputs, states, &ids)?;
+        ids.push(id)?;
+    }
+    Ok(ids)
+}
+
+// The id of a node behind nodes of these ids. A constant or an operator is a line, which is added.
+fn add_node(
+    alloc: Global,
+    page: &mut Page,
+    width: u32,
+    op: &NetOp,
+    inputs: &[u64],
+    states: &[u64],
+    ids: &[u64],
+) -> Result<u64, NoMemory>
+    ensures { IfOk result (λ id. record { page = page_of page.new; ids = ids.now ++ id ∷ [] } ≡ pages.with_node inputs.now states.now (record { page = page_of page.old; ids = ids.now }) width op.now) }
+{
+    match *op {
+        NetOp::Const(value) => page.add_constant(alloc, value),
+        NetOp::Input(number, _) => Ok(id_in(inputs, u64::from(number))),
+        NetOp::State(number, _) => Ok(id_in(states, u64::from(number))),
+        NetOp::One(operator, a) => {
+            let keyword = keyword_of_one(operator);
+            page.add(alloc, width, keyword, &[id_in(ids, a)], &[], None)
+        }
+        NetOp::Two(operator, a, b) => {
+            let keyword = keyword_of_two(operator);
+            let operands = [id_in(ids, a), id_in(ids, b)];
+            page.add(alloc, width, keyword, &operands, &[], None)
+        }
+        NetOp::Slice(a, upper, lower) => {
+            let bounds = [upper, lower];
+            page.add(
+                alloc,
+                width,
+                Keyword::Slice,
+                &[id_in(ids, a)],
+                &bounds,
+                None,
+            )
+        }
+        NetOp::Uext(a, added) => {
+            page.add(
+                alloc,
+                width,
+                Keyword::Uext,
+                &[id_in(ids, a)],
+                &[added],
+                None,
+            )
+        }
+        NetOp::Sext(a, added) => {
+            page.add(
+                alloc,
+                width,
+                Keyword::Sext,
+                &[id_in(ids, a)],
+                &[added],
+                None,
+            )
+        }
+        NetOp::Ite(condition, a, b) => {
+            let operands = [id_in(ids, condition), id_in(ids, a), id_in(ids, b)];
+            page.add(alloc, width, Keyword::Ite, &operands, &[], None)
+        }
+    }
+}
+
+// Adds a `next` for each state.
+fn add_nexts(
+    alloc: Global,
+    page: &mut Page,
+    wires: &[StateWire],
+    states: &[u64],
+    nodes: &[u64],
+) -> Result<(), NoMemory>
+    ensures { OnOk result (page_of page.new ≡ pages.with_nexts nodes.now states.now (page_of page.old) 0 wires.now) }
+{
+    for (number, wire) in wires.iter().enumerate() {
+        let set = [id_in(states, number as u64), id_in(nodes, wire.next)];
+        page.add(alloc, wire.width, Keyword::Next, &set, &[], None)?;
+    }
+    Ok(())
+}
+
+// Adds outputs.
+fn add_outputs(
+    alloc: Global,
+    page: &mut Page,
+    wires: &[OutputWire],
+    nodes: &[u64],
+) -> Result<(), NoMemory>
+    ensures { OnOk result (page_of page.new ≡ pages.with_outputs nodes.now (page_of page.old) wires.now) }
+{
+    for wire in wires {
+        let mut given = Sequence::new(alloc);
+        given.push(Argument::Id(id_in(nodes, wire.id)))?;
+        let name = Text::from_slice(alloc, wire.name.as_slice())?;
+        page.put(Keyword::Output, given, Some(name))?;
+    }
+    Ok(())
+}
+
+// The id at a number.
+fn id_in(ids: &[u64], number: u64) -> u64
+    ensures { result ≡ pages.id_in ids.now number }
+{
+    ids.get(number as usize).copied().unwrap_or(0)
+}
