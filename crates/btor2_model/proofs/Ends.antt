@@ -28,7 +28,7 @@ use Rattle.btor2_model.proofs.KindsByRule.{kinds-by, kinds_by}
 unfoldable pub SameWidth : Scope → ℕ → ℕ → Type 0
 SameWidth scope a b = (w : ℕ) × (width_wanted kinds.Value (scope.meanings a) ≡ Some w) × (width_wanted kinds.Value (scope.meanings b) ≡ Some w)
 
-wanted-some : (o : Option Meaning) (w : ℕ) → width_wanted kinds.Value o ≡ Some w → (m : Meaning) × (o ≡ Some m)
+pub wanted-some : (o : Option Meaning) (w : ℕ) → width_wanted kinds.Value o ≡ Some w → (m : Meaning) × (o ≡ Some m)
 wanted-some (Some m) w is = (m, refl)
 wanted-some None w is = absurd (cc)
 

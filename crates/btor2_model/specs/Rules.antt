@@ -101,6 +101,10 @@ abbrev pub is_output : Rule → Bool
 is_output forms.Output = true
 is_output other = false
 
+abbrev pub is_bad : Rule → Bool
+is_bad forms.Bad = true
+is_bad other = false
+
 -- the widths and numbers of a line, in the order of its tokens, belong together as the form asks
 abbrev pub widths_agree : Rule → Measures → Bool
 widths_agree forms.Unary m = m.second == m.first

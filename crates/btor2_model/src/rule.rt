@@ -160,6 +160,13 @@ impl Rule {
         matches!(self, Rule::Output)
     }
 
+    /// Whether the line marks what must not be.
+    pub fn is_bad(self) -> bool
+        ensures { result ≡ form.is_bad self }
+    {
+        matches!(self, Rule::Bad)
+    }
+
     /// Whether the line is a state.
     pub fn is_state(self) -> bool
         ensures { result ≡ form.is_state self }

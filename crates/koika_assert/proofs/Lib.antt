@@ -1,1 +1,5 @@
 pub mod FirstsJoined
+pub mod TurnedRuns
+pub mod TurnedScopes
+pub mod TurnedTexts
+pub mod TurnedValues

@@ -1,2 +1,3 @@
+pub mod Bads
 pub mod Marks
 pub mod Violations

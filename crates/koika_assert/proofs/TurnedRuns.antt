@@ -1,0 +1,248 @@
+-- The flags of the text that shows violations are the violations.
+use Rattle.std.proofs.Common.{◌≡◌, ◌==◌, ℕ, zero, suc, ◌+◌, ◌<◌, ◌⊎◌, inl, inr, nat_eq, Bool, true, false, cond, filter, List, [], ◌∷◌, Option, None, Some, length, get_or, map, refl, sym, ap, ap₂, ◌∙◌, subst, arith, All}
+use Rattle.std.specs.Prelude.{slice_get, IfOk, Result, Ok, Err}
+use Rattle.std.specs.List.{find, zip}
+use Rattle.std.specs.Map.{lookup}
+use Rattle.std.specs.Option.{option_map, unwrap_or}
+use Rattle.std.proofs.lemmas.Bool.{eq-eqb, eqb-true}
+use Rattle.std.proofs.lemmas.Option.{get_or_from_slice_get, slice_get-map, slice_get_within}
+use Rattle.std.proofs.lemmas.Simd.{map-map}
+use Rattle.kw_bits.specs.BitVector.{BitVector, zero_at}
+use Rattle.one_rule.specs.Run.{InputsByCycle}
+use Rattle.btor2_text.specs.Forms.{kinds_of}
+use Rattle.btor2_text.specs.Printable.{ArePrintable, FitKinds}
+use Rattle.btor2_text.specs.declared.keyword.Keyword.{Keyword}
+use Rattle.btor2_text.specs.declared.keyword.Keyword.TheVariants as keywords
+use Rattle.btor2_text.specs.declared.kind.Kind.{Kind}
+use Rattle.btor2_text.specs.declared.kind.Kind.TheVariants as kinds
+use Rattle.btor2_text.specs.declared.line.Argument.{Argument}
+use Rattle.btor2_text.specs.declared.line.Line.{Line}
+use Rattle.btor2_model.specs.Acceptance.{IsAccepted, lines_fault}
+use Rattle.btor2_model.specs.Rules.{is_bad, is_init, is_input, is_next, is_output, is_state, rule_of, widths_agree}
+use Rattle.btor2_model.specs.Run.{Step, Values, first_row, first_values, flag_ids, ids_of, input_values, lines_of, next_values, no_bits, row_behind, states_at, value_set, values_at, values_in, width_in}
+use Rattle.btor2_model.specs.Scope.{Scope, behind_all, id_at, measures, no_lines, width_wanted}
+use Rattle.btor2_model.specs.SlowRun.{sets}
+use Rattle.btor2_model.specs.declared.meaning.Meaning.{Meaning}
+use Rattle.btor2_model.specs.declared.rule.Rule.{Rule}
+use Rattle.btor2_model.specs.declared.rule.Rule.TheVariants as forms
+use Rattle.btor2_model.proofs.Ends.{SameWidth, init-found, measured-widths, wanted-some, wanted-stays}
+use Rattle.btor2_model.proofs.Filled.{each-measure, value-alone}
+use Rattle.btor2_model.proofs.KindsByRule.{kinds-by, kinds_by}
+use Rattle.btor2_model.proofs.Selections.{set-by, states-next}
+use Rattle.btor2_net.proofs.Declared.{IsValue, all-passing, each-line, fine-lines, input-values, next-of, own-value, state-values, width-is}
+use Rattle.koika_assert.specs.Bads.{ShowsViolations, as_output, bads_as_outputs, is_violated, turned}
+use Rattle.koika_assert.proofs.TurnedScopes.{good-wanted, is_good}
+use Rattle.koika_assert.proofs.TurnedTexts.{TurnsOut, each-fine, goes, is-kept, shown-none, turns-out}
+use Rattle.koika_assert.proofs.TurnedValues.{SameGiven, turned-values}
+
+-- an output, a bad line, or one that stays
+line-cases : (keyword : Keyword) → (rule_of keyword ≡ forms.Output) ⊎ ((keyword ≡ keywords.Bad) ⊎ ((is_output (rule_of keyword) ≡ false) × (as_output keyword ≡ keyword) × (is_bad (rule_of keyword) ≡ false)))
+line-cases keywords.Output = inl refl
+line-cases keywords.Bad = inr (inl refl)
+line-cases other = inr (inr (refl, refl, refl))
+
+one-line : (test : Rule → Bool) (line : Line) (lines : List Line) (b : Bool) → test (rule_of line.keyword) ≡ b → lines_of test (line ∷ lines) ≡ cond b (line ∷ lines_of test lines) (lines_of test lines)
+one-line test line lines b is = ap (λ (c : Bool). cond c (line ∷ lines_of test lines) (lines_of test lines)) is
+
+stays-line : (line : Line) → as_output line.keyword ≡ line.keyword → turned line ≡ line
+stays-line line is = ap (λ (k : Keyword). let l : Line = record { id = line.id; keyword = k; arguments = line.arguments; symbol = line.symbol; number = line.number } in l) is
+
+same-line : (test : Rule → Bool) (line : Line) (lines : List Line) → test forms.Output ≡ false → test forms.Bad ≡ false → lines_of test (bads_as_outputs lines) ≡ lines_of test lines
+    → (rule_of line.keyword ≡ forms.Output) ⊎ ((line.keyword ≡ keywords.Bad) ⊎ ((is_output (rule_of line.keyword) ≡ false) × (as_output line.keyword ≡ line.keyword) × (is_bad (rule_of line.keyword) ≡ false)))
+    → lines_of test (bads_as_outputs (line ∷ lines)) ≡ lines_of test (line ∷ lines)
+same-line test line lines o b more (inl is) =
+    ap (lines_of test) (goes line lines (ap is_output is)) ∙ more ∙ sym (one-line test line lines false (ap test is ∙ o))
+same-line test line lines o b more (inr (inl is)) =
+    ap (lines_of test) (is-kept line lines (ap (λ (k : Keyword). is_output (rule_of k)) is))
+    ∙ one-line test (turned line) (bads_as_outputs lines) false (ap (λ (k : Keyword). test (rule_of (as_output k))) is ∙ o) ∙ more
+    ∙ sym (one-line test line lines false (ap (λ (k : Keyword). test (rule_of k)) is ∙ b))
+same-line test line lines o b more (inr (inr is)) =
+    ap (lines_of test) (is-kept line lines is.0) ∙ ap (λ (l : Line). lines_of test (l ∷ bads_as_outputs lines)) (stays-line line is.1)
+    ∙ ap (λ (ls : List Line). cond (test (rule_of line.keyword)) (line ∷ ls) ls) more
+
+-- the lines of other forms are the same
+lines-same : (test : Rule → Bool) (lines : List Line) → test forms.Output ≡ false → test forms.Bad ≡ false → lines_of test (bads_as_outputs lines) ≡ lines_of test lines
+lines-same test [] o b = refl
+lines-same test (line ∷ lines) o b = same-line test line lines o b (lines-same test lines o b) (line-cases line.keyword)
+
+output-line : (line : Line) (lines : List Line) → lines_of is_output (bads_as_outputs lines) ≡ map turned (lines_of is_bad lines)
+    → (rule_of line.keyword ≡ forms.Output) ⊎ ((line.keyword ≡ keywords.Bad) ⊎ ((is_output (rule_of line.keyword) ≡ false) × (as_output line.keyword ≡ line.keyword) × (is_bad (rule_of line.keyword) ≡ false)))
+    → lines_of is_output (bads_as_outputs (line ∷ lines)) ≡ map turned (lines_of is_bad (line ∷ lines))
+output-line line lines more (inl is) =
+    ap (lines_of is_output) (goes line lines (ap is_output is)) ∙ more ∙ sym (ap (map turned) (one-line is_bad line lines false (ap is_bad is)))
+output-line line lines more (inr (inl is)) =
+    ap (lines_of is_output) (is-kept line lines (ap (λ (k : Keyword). is_output (rule_of k)) is))
+    ∙ one-line is_output (turned line) (bads_as_outputs lines) true (ap (λ (k : Keyword). is_output (rule_of (as_output k))) is) ∙ ap (λ (ls : List Line). turned line ∷ ls) more
+    ∙ sym (ap (map turned) (one-line is_bad line lines true (ap (λ (k : Keyword). is_bad (rule_of k)) is)))
+output-line line lines more (inr (inr is)) =
+    ap (lines_of is_output) (is-kept line lines is.0)
+    ∙ one-line is_output (turned line) (bads_as_outputs lines) false (ap (λ (k : Keyword). is_output (rule_of k)) is.1 ∙ is.0) ∙ more
+    ∙ sym (ap (map turned) (one-line is_bad line lines false is.2))
+
+-- the outputs are the bad lines
+outputs-are : (lines : List Line) → lines_of is_output (bads_as_outputs lines) ≡ map turned (lines_of is_bad lines)
+outputs-are [] = refl
+outputs-are (line ∷ lines) = output-line line lines (outputs-are lines) (line-cases line.keyword)
+
+-- what holds of each line holds of the one at a place
+at-place : (P : ℕ → Type 0) (lines : List Line) (place id : ℕ) → All (λ (line : Line). P line.id) lines → slice_get (map (λ (line : Line). line.id) lines) place ≡ Some id → P id
+at-place P lines place id all at = by (slice_get lines place) refl
+  where
+    by : (o : Option Line) → slice_get lines place ≡ o → P id
+    by None none = let no_id : None ≡ Some id = sym (slice_get-map (λ (line : Line). line.id) lines place ∙ ap (option_map (λ (line : Line). line.id)) none) ∙ at in absurd (cc)
+    by (Some line) found =
+        let same : Some line.id ≡ Some id = sym (slice_get-map (λ (line : Line). line.id) lines place ∙ ap (option_map (λ (line : Line). line.id)) found) ∙ at in
+        let same_id : line.id ≡ id = cc in
+        subst P same_id (subst (λ (l : Line). P l.id) (get_or_from_slice_get lines place line line found) (all place line (slice_get_within lines place line found)))
+
+bad-rule : (rule : Rule) → is_bad rule ≡ true → rule ≡ forms.Bad
+bad-rule forms.Bad is = refl
+bad-rule other is = absurd (cc)
+
+-- a bad line names a value of one bit
+bad-value : (lines : List Line) → lines_fault no_lines lines ≡ None → ArePrintable lines → All (λ (line : Line). is_bad (rule_of line.keyword) ≡ true → IsValue (behind_all no_lines lines) (id_at line.arguments 0) 1) lines
+bad-value lines fine forms =
+    each-line is_bad (λ scope line. IsValue scope (id_at line.arguments 0) 1)
+    (λ scope line rest line_fine fits passes.
+    let each = each-fine scope line rest line_fine in
+    let (m, measured, widths) = measured-widths scope line each.0 in
+    let of = bad-rule (rule_of line.keyword) passes in
+    let form : kinds_of line.keyword ≡ kinds.Value ∷ [] = kinds-by line.keyword ∙ ap kinds_by of in
+    let (a, is) = value-alone line.arguments (subst (λ (ks : List Kind). FitKinds ks line.arguments) form fits) in
+    let w = (each-measure (width_wanted kinds.Value (scope.meanings a)) (Some 0) (Some 0) (Some 0) m (sym (ap (measures scope (kinds.Value ∷ [])) is) ∙ ap (λ (ks : List Kind). measures scope ks line.arguments) (sym form) ∙ measured)).0 in
+    let one = eqb-true m.first 1 (sym (ap (λ (r : Rule). widths_agree r m) of) ∙ widths) in
+    let named : id_at line.arguments 0 ≡ a = ap (λ (given : List Argument). id_at given 0) is in
+    subst (λ (id : ℕ). IsValue (behind_all scope (line ∷ rest)) id 1) (sym named) (wanted-stays (line ∷ rest) scope a 1 line_fine (w ∙ ap Some one)))
+    lines no_lines fine forms
+
+-- the flags of outputs of one bit
+flags-of : (width : ℕ → ℕ) (f : ℕ → Bool) (g : Line → Bool) (bads : List Line) → All (λ (line : Line). (width (id_at line.arguments 0) ≡ 1) × (f (id_at line.arguments 0) ≡ g line)) bads
+    → map f (filter (λ (id : ℕ). nat_eq (width id) 1) (map (λ (line : Line). id_at line.arguments 0) (map turned bads))) ≡ map g bads
+flags-of width f g [] all = refl
+flags-of width f g (line ∷ bads) all =
+    let own = all 0 line (omega arith) in
+    let rest = flags-of width f g bads (λ k d within. all (suc k) d (omega (arith, within))) in
+    let one : nat_eq (width (id_at line.arguments 0)) 1 ≡ true = ap (λ (w : ℕ). nat_eq w 1) own.0 in
+    let ids = filter (λ (id : ℕ). nat_eq (width id) 1) (map (λ (line : Line). id_at line.arguments 0) (map turned bads)) in
+    ap (λ (b : Bool). map f (cond b (id_at line.arguments 0 ∷ ids) ids)) one ∙ ap₂ (λ (x : Bool) (xs : List Bool). x ∷ xs) own.1 rest
+
+alike : {X : Type 0} (f g : Line → X) (lines : List Line) → All (λ (line : Line). f line ≡ g line) lines → map f lines ≡ map g lines
+alike {X} f g [] all = refl
+alike {X} f g (line ∷ lines) all = ap₂ (λ (x : X) (xs : List X). x ∷ xs) (all 0 line (omega arith)) (alike f g lines (λ k d within. all (suc k) d (omega (arith, within))))
+
+module _ (lines : List Line) (accepted : IsAccepted lines) where
+  abbrev shown : List Line
+  shown = bads_as_outputs lines
+
+  abbrev end : Scope
+  end = behind_all no_lines lines
+
+  abbrev fine : lines_fault no_lines lines ≡ None
+  fine = fine-lines lines accepted
+
+  turns : TurnsOut no_lines no_lines lines
+  turns = turns-out lines no_lines no_lines shown-none fine accepted.forms
+
+  -- what a value means
+  means : (id w : ℕ) → IsValue end id w → (m : Meaning) × (end.meanings id ≡ Some m) × (is_good m.role ≡ true)
+  means id w is = let m = wanted-some (end.meanings id) w is in (m.0, m.1, good-wanted kinds.Value m.0 w (sym (ap (width_wanted kinds.Value) m.1) ∙ is))
+
+  width-same : (id w : ℕ) → IsValue end id w → width_in shown id ≡ width_in lines id
+  width-same id w is =
+      let (m, at, good) = means id w is in
+      ap (λ (o : Option Meaning). unwrap_or (option_map (λ (x : Meaning). x.width) o) 0) (turns.shown.same id m at good ∙ sym at)
+
+  -- the values of values
+  values-same : (step other : Step) (id w : ℕ) → SameGiven step other lines → IsValue end id w → values_at shown other id ≡ values_at lines step id
+  values-same step other id w g is =
+      let (m, at, good) = means id w is in
+      turned-values lines no_lines no_lines step other (λ _. no_bits) (λ _. no_bits) shown-none fine accepted.forms (λ i k known good. refl) g id m at good
+
+  states-own : All (λ (line : Line). IsValue end line.id (width_in lines line.id)) (lines_of is_state lines)
+  states-own = all-passing is_state (λ (line : Line). IsValue end line.id (width_in lines line.id)) lines (own-value is_state state-values lines fine accepted.forms)
+
+  abbrev nothing : Step
+  nothing = record { inputs = λ _. no_bits; states = λ _. no_bits }
+
+  set-same : (test : Rule → Bool) (all : Values) (s : ℕ) → test forms.Output ≡ false → test forms.Bad ≡ false → value_set test shown all s ≡ value_set test lines all s
+  set-same test all s o b = ap (λ (ls : List Line). option_map (λ (line : Line). all (id_at line.arguments 2)) (find (λ (line : Line). nat_eq s (id_at line.arguments 1)) ls)) (lines-same test lines o b)
+
+  -- the first values of states
+  first-same : (s : ℕ) → IsValue end s (width_in lines s) → first_values shown s ≡ first_values lines s
+  unfolding SameWidth
+  first-same s own = by (find (sets is_init s) lines) refl
+    where
+      by : (o : Option Line) → find (sets is_init s) lines ≡ o → first_values shown s ≡ first_values lines s
+      by None at =
+          ap₂ (λ (o : Option BitVector) (w : ℕ). unwrap_or o (zero_at w)) (set-same is_init (values_at shown nothing) s refl refl ∙ set-by is_init lines (values_at shown nothing) s None at ∙ sym (set-by is_init lines (values_at lines nothing) s None at))
+          (width-same s (width_in lines s) own)
+      by (Some line) at =
+          let w = (init-found lines no_lines s line fine accepted.forms at).0 in
+          let same = values-same nothing nothing (id_at line.arguments 2) w.0 (record { inputs = refl; states = λ place id found. refl }) w.2 in
+          ap (λ (o : Option BitVector). unwrap_or o (zero_at (width_in shown s)))
+          (set-same is_init (values_at shown nothing) s refl refl ∙ set-by is_init lines (values_at shown nothing) s (Some line) at ∙ ap Some same)
+          ∙ sym (ap (λ (o : Option BitVector). unwrap_or o (zero_at (width_in lines s))) (set-by is_init lines (values_at lines nothing) s (Some line) at))
+
+  -- and those behind a step
+  next-same : (v w : Values) (s : ℕ) → ((id width : ℕ) → IsValue end id width → w id ≡ v id) → (next : Line) × (find (sets is_next s) lines ≡ Some next) × SameWidth end s (id_at next.arguments 2) → next_values shown w s ≡ next_values lines v s
+  unfolding SameWidth
+  next-same v w s same (next, at, wide) =
+      ap (λ (o : Option BitVector). unwrap_or o no_bits) (set-same is_next w s refl refl ∙ set-by is_next lines w s (Some next) at ∙ ap Some (same (id_at next.arguments 2) wide.0 wide.2) ∙ sym (set-by is_next lines v s (Some next) at))
+
+  inputs-same : (given : List BitVector) → input_values shown given ≡ input_values lines given
+  inputs-same given =
+      ap (λ (ls : List Line). λ (id : ℕ). unwrap_or (lookup (nat_eq id) (zip (map (λ (line : Line). line.id) ls) given)) no_bits) (lines-same is_input lines refl refl)
+
+  nexts-own : All (λ (line : Line). (next : Line) × (find (sets is_next line.id) lines ≡ Some next) × SameWidth end line.id (id_at next.arguments 2)) (lines_of is_state lines)
+  nexts-own = all-passing is_state (λ (line : Line). (next : Line) × (find (sets is_next line.id) lines ≡ Some next) × SameWidth end line.id (id_at next.arguments 2)) lines (next-of lines accepted)
+
+  module _ (inputs : InputsByCycle) where
+    given-at : (step : ℕ) → ((place id : ℕ) → slice_get (ids_of is_state lines) place ≡ Some id → states_at shown inputs step id ≡ states_at lines inputs step id)
+        → SameGiven (record { inputs = input_values lines (inputs (step + 1)); states = states_at lines inputs step }) (record { inputs = input_values shown (inputs (step + 1)); states = states_at shown inputs step }) lines
+    given-at step states = record { inputs = inputs-same (inputs (step + 1)); states = states }
+
+    states-same : (step place id : ℕ) → slice_get (ids_of is_state lines) place ≡ Some id → states_at shown inputs step id ≡ states_at lines inputs step id
+    states-same zero place id at = at-place (λ (s : ℕ). first_values shown s ≡ first_values lines s) (lines_of is_state lines) place id (λ k d within. first-same (get_or (lines_of is_state lines) k d).id (states-own k d within)) at
+    states-same (suc step) place id at =
+        at-place (λ (s : ℕ). next_values shown (values_in shown inputs step) s ≡ next_values lines (values_in lines inputs step) s) (lines_of is_state lines) place id
+        (λ k d within. next-same (values_in lines inputs step) (values_in shown inputs step) (get_or (lines_of is_state lines) k d).id
+        (λ i width is. values-same (record { inputs = input_values lines (inputs (step + 1)); states = states_at lines inputs step }) (record { inputs = input_values shown (inputs (step + 1)); states = states_at shown inputs step }) i width (given-at step (states-same step)) is)
+        (nexts-own k d within)) at
+
+    in-same : (step id w : ℕ) → IsValue end id w → values_in shown inputs step id ≡ values_in lines inputs step id
+    in-same step id w is =
+        values-same (record { inputs = input_values lines (inputs (step + 1)); states = states_at lines inputs step }) (record { inputs = input_values shown (inputs (step + 1)); states = states_at shown inputs step }) id w
+        (given-at step (states-same step)) is
+
+  bads-own : All (λ (line : Line). IsValue end (id_at line.arguments 0) 1) (lines_of is_bad lines)
+  bads-own = all-passing is_bad (λ (line : Line). IsValue end (id_at line.arguments 0) 1) lines (bad-value lines fine accepted.forms)
+
+  one-bit : (id : ℕ) → IsValue end id 1 → width_in shown id ≡ 1
+  one-bit id is = width-same id 1 is ∙ width-is end id 1 is
+
+  ids-are : flag_ids shown ≡ filter (λ (id : ℕ). nat_eq (width_in shown id) 1) (map (λ (line : Line). id_at line.arguments 0) (map turned (lines_of is_bad lines)))
+  ids-are = ap (λ (ls : List Line). filter (λ (id : ℕ). nat_eq (width_in shown id) 1) (map (λ (line : Line). id_at line.arguments 0) ls)) (outputs-are lines)
+
+  pub shows : ShowsViolations lines shown
+  shows = record {
+    inputs =
+        ap (λ (ls : List Line). map (width_in shown) (map (λ (line : Line). line.id) ls)) (lines-same is_input lines refl refl)
+        ∙ map-map (width_in shown) (λ (line : Line). line.id) (lines_of is_input lines)
+        ∙ alike (λ (line : Line). width_in shown line.id) (λ (line : Line). width_in lines line.id) (lines_of is_input lines)
+        (all-passing is_input (λ (line : Line). width_in shown line.id ≡ width_in lines line.id) lines
+        (λ k d within passes. let id = (get_or lines k d).id in width-same id (width_in lines id) (own-value is_input input-values lines fine accepted.forms k d within passes)))
+        ∙ sym (map-map (width_in lines) (λ (line : Line). line.id) (lines_of is_input lines));
+    names = outputs-are lines;
+    first = ap (map (λ _. false)) ids-are
+        ∙ flags-of (width_in shown) (λ _. false) (λ _. false) (lines_of is_bad lines) (λ k d within. (one-bit (id_at (get_or (lines_of is_bad lines) k d).arguments 0) (bads-own k d within), refl));
+    flags = λ inputs step.
+        ap (map (λ (id : ℕ). (values_in shown inputs step id).number == 1)) ids-are
+        ∙ flags-of (width_in shown) (λ (id : ℕ). (values_in shown inputs step id).number == 1) (is_violated lines inputs step) (lines_of is_bad lines)
+        (λ k d within. let id = id_at (get_or (lines_of is_bad lines) k d).arguments 0 in
+        (one-bit id (bads-own k d within), ap (λ (v : BitVector). v.number == 1) (in-same inputs step id 1 (bads-own k d within))));
+  }
+
+-- what follows from what holds of an answer that is there
+pub if_ok-weaker : {T E : Type 0} (r : Result T E) (P Q : T → Type 0) → ((x : T) → P x → Q x) → IfOk r P → IfOk r Q
+if_ok-weaker (Ok x) P Q more holds = more x holds
+if_ok-weaker (Err e) P Q more holds = holds

@@ -1,0 +1,98 @@
+// The `bad` lines of a circuit text.
+ghost use Rattle.std.specs.Prelude.{◌≡◌, IfOk, None, map};
+ghost use Rattle.btor2_text.specs.Printable.{ArePrintable};
+ghost use Rattle.btor2_model.specs.Acceptance.{first_fault};
+ghost use Rattle.koika_assert.specs.Bads as bads;
+
+use btor2_model::{Btor, Rule, accept};
+use btor2_text::{Argument, Keyword, Line, Lines};
+use kw_base::Refusal;
+use kw_bits::{NoMemory, Sequence, Text};
+use std::alloc::Global;
+
+/// The text without its outputs, each bad line an output. Its flags are the violations of the bad lines.
+pub fn bads_as_outputs(alloc: Global, text: &Btor) -> Result<Btor, NoMemory>
+    ensures lines { IfOk result (λ shown. shown ≡ bads.bads_as_outputs text.now) }
+    ensures violations { IfOk result (bads.ShowsViolations text.now) }
+{
+    let lines = turned_lines(alloc, text.lines().as_slice())?;
+    accepted(alloc, lines)
+}
+
+// The text of lines without a fault.
+fn accepted(alloc: Global, lines: Lines) -> Result<Btor, NoMemory>
+    requires forms { ArePrintable lines }
+    requires fine { first_fault lines ≡ None }
+    ensures { IfOk result (λ text. text ≡ lines) }
+{
+    match accept(alloc, lines) {
+        Ok(text) => Ok(text),
+        Err(Refusal::NoMemory) => Err(NoMemory),
+        Err(Refusal::Fault(_)) => unreachable!(),
+    }
+}
+
+// The lines without the outputs, each bad line an output.
+fn turned_lines(alloc: Global, lines: &[Line]) -> Result<Lines, NoMemory>
+    ensures { IfOk result (λ shown. shown ≡ bads.bads_as_outputs lines.now) }
+{
+    let mut shown = Lines::new(alloc);
+    for line in lines {
+        if !Rule::of(line.keyword).is_output() {
+            shown.push(turned(alloc, line)?)?;
+        }
+    }
+    Ok(shown)
+}
+
+// A copy of a line, an output where it is a bad line.
+fn turned(alloc: Global, line: &Line) -> Result<Line, NoMemory>
+    ensures { IfOk result (λ shown. shown ≡ bads.turned line.now) }
+{
+    Ok(Line {
+        id: line.id,
+        keyword: as_output(line.keyword),
+        arguments: copied_arguments(alloc, line.arguments.as_slice())?,
+        symbol: copied_symbol(alloc, &line.symbol)?,
+        number: line.number,
+    })
+}
+
+fn as_output(keyword: Keyword) -> Keyword
+    ensures { result ≡ bads.as_output keyword }
+{
+    match keyword {
+        Keyword::Bad => Keyword::Output,
+        other => other,
+    }
+}
+
+fn copied_arguments(alloc: Global, arguments: &[Argument]) -> Result<Sequence<Argument>, NoMemory>
+    ensures { IfOk result (λ copy. copy ≡ arguments.now) }
+{
+    let mut copy = Sequence::new(alloc);
+    for argument in arguments {
+        copy.push(copied_argument(alloc, argument)?)?;
+    }
+    Ok(copy)
+}
+
+fn copied_argument(alloc: Global, argument: &Argument) -> Result<Argument, NoMemory>
+    ensures { IfOk result (λ copy. copy ≡ argument.now) }
+{
+    Ok(match argument {
+        Argument::Bitvec => Argument::Bitvec,
+        Argument::Id(id) => Argument::Id(*id),
+        Argument::Number(number) => Argument::Number(*number),
+        Argument::Numeral(digits) => Argument::Numeral(Text::from_slice(alloc, digits.as_slice())?),
+    })
+}
+
+fn copied_symbol(alloc: Global, symbol: &Option<Text>) -> Result<Option<Text>, NoMemory>
+    ensures { IfOk result (λ copy. copy ≡ symbol.now) }
+{
+    match symbol {
+        Some(symbol) => Ok(Some(Text::from_slice(alloc, symbol.as_slice())?)),
+        None => Ok(None),
+    }
+}
