@@ -139,7 +139,7 @@ fn faults_stand_where_a_text_goes_wrong(rt: HostRuntime) {
         ("rule a { write0(r, ) }", 11, 20),
         ("rule a { abort (", 11, 16),
         ("rule a { pack() }", 11, 15),
-        ("rule a { unpack(x", 11, 17),
+        ("rule a { unpack(1", 11, 17),
         ("rule a { unpack(T )", 11, 19),
         ("rule a { zext(x )", 11, 17),
         ("rule a { zext(x, y", 11, 18),
