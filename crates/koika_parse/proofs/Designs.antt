@@ -83,16 +83,16 @@ never {source} {old} {new} {stop} at depth takes tree such design agrees =
     ended stops.TooDeep left such ends = ends (subst (λ d. AreFewOpen d (tree_leaves tree ++ [])) (sym depth) (subst (AreFewOpen 0) (sym (append-nil (tree_leaves tree))) such))
     ended stops.NoMemory left such ends = such
 
-none_goes_on : {source : Source} {old new : Cursor} {stop : Stop} → old.at ≡ 0 → old.depth ≡ 0 → Takes {X = Tree} source old new DesignWord end_follows (Err stop) →
-    (before behind : List Token) → source.tokens.now ≡ before ++ behind → drop new.at source.tokens.now ≡ behind → NoneGoesOn (Refuses stop) source.text.now before behind
-none_goes_on {source} {old} {new} at depth takes before [] split ends = λ tree such design same.
+none_goes_on : {source : Source} {old new : Cursor} → old.at ≡ 0 → old.depth ≡ 0 → Takes {X = Tree} source old new DesignWord end_follows (Err stops.Unexpected) →
+    (before behind : List Token) → source.tokens.now ≡ before ++ behind → drop new.at source.tokens.now ≡ behind → NoneGoesOn source.text.now before behind
+none_goes_on {source} {old} {new} at depth takes before [] split ends = λ tree design same.
     let whole : before ≡ source.tokens.now = sym (split ∙ append-nil before) in
-    never at depth takes tree such design (λ cursor low. agrees_whole source.text.now (tree_leaves tree) source.tokens.now cursor.at (same ∙ ap (map (terminal_of source.text.now)) whole))
-none_goes_on {source} {old} {new} at depth takes before (token ∷ behind) split ends = λ tree such begins.
+    never {stop = stops.Unexpected} at depth takes tree tt design (λ cursor low. agrees_whole source.text.now (tree_leaves tree) source.tokens.now cursor.at (same ∙ ap (map (terminal_of source.text.now)) whole))
+none_goes_on {source} {old} {new} at depth takes before (token ∷ behind) split ends = λ tree begins.
     let all = source.tokens.now in
     let front : all ≡ (before ++ token ∷ []) ++ behind = split ∙ sym (append_assoc before (token ∷ []) behind) in
     let long : length (before ++ token ∷ []) ≡ new.at + 1 = omega (arith, length-append before (token ∷ []), length-append before (token ∷ behind), ap length split, length-drop new.at all, ap length ends) in
-    never at depth takes tree such begins.design (λ cursor low.
+    never {stop = stops.Unexpected} at depth takes tree tt begins.design (λ cursor low.
     agrees_front source.text.now (tree_leaves tree) (before ++ token ∷ []) behind begins.rest cursor.at begins.terminals (omega (arith, long, low))
     ∙ ap (λ ts. option_map (terminal_of source.text.now) (slice_get ts cursor.at)) (sym front))
 
@@ -129,37 +129,36 @@ opens source new before (token ∷ behind) terminal ends depth at deep =
     let same : terminal_of source.text.now token ≡ terminal = same_of_some (sym (next_is source new (token ∷ behind) ends) ∙ at) in
     subst (λ n. 64 < open_behind n (terminal_of source.text.now token)) depth (subst (λ t. 64 < open_behind new.depth t) (sym same) deep)
 
-between : {source : Source} {old new : Cursor} (stop : Stop) (fault : Fault) → old.at ≡ 0 → old.depth ≡ 0 → Takes {X = Tree} source old new DesignWord end_follows (Err stop) → IsFaultOf source new stop fault →
-    (read : List Leaf) → (reads : Reads source old new read) → (stop ≡ stops.TooDeep → OpensTooMany source.text.now reads.tokens (drop new.at source.tokens.now)) → StandsBetween source.text.now source.tokens.now fault
-between {source} {old} {new} stop fault at depth takes is read reads deep =
-    let all = source.tokens.now in
-    let split : all ≡ reads.tokens ++ drop new.at all = ap (λ n. drop n all) (sym at) ∙ reads.split in
-    record {
-      before = reads.tokens;
-      behind = drop new.at all;
-      split = split;
-      few = few_seen source.text.now 0 read reads.tokens reads.each (subst (λ d. AreFewOpen d read) depth (reads.few (omega (arith, depth))));
-      why = why stop is deep (none_goes_on at depth takes reads.tokens (drop new.at all) split refl);
-    }
-  where
-    why : (stop : Stop) → IsFaultOf source new stop fault → (stop ≡ stops.TooDeep → OpensTooMany source.text.now reads.tokens (drop new.at source.tokens.now)) → NoneGoesOn (Refuses stop) source.text.now reads.tokens (drop new.at source.tokens.now) →
-        ((fault ≡ fault_at 11 (place_behind source.text.now (drop new.at source.tokens.now))) × NoneGoesOn (λ tree. ⊤) source.text.now reads.tokens (drop new.at source.tokens.now))
-        ⊎ ((fault ≡ fault_at 12 (place_behind source.text.now (drop new.at source.tokens.now))) × OpensTooMany source.text.now reads.tokens (drop new.at source.tokens.now) × NoneGoesOn (λ tree. AreFewOpen 0 (tree_leaves tree)) source.text.now reads.tokens (drop new.at source.tokens.now))
-    why stops.Unexpected is deep none = inl (is, none)
-    why stops.TooDeep is deep none = inr (is, deep refl, none)
-    why stops.NoMemory is deep none = absurd is
+-- the tokens that were read are those before the fault
+split_of : {source : Source} {old new : Cursor} {read : List Leaf} → old.at ≡ 0 → (reads : Reads source old new read) → source.tokens.now ≡ reads.tokens ++ drop new.at source.tokens.now
+split_of {source} at reads = ap (λ n. drop n source.tokens.now) (sym at) ∙ reads.split
 
-unlike : stops.Unexpected ≡ stops.TooDeep → ⊥
-unlike e = cc e
+few_before : {source : Source} {old new : Cursor} (read : List Leaf) → old.depth ≡ 0 → (reads : Reads source old new read) → AreFewOpen 0 (seen source.text.now reads.tokens)
+few_before {source} read depth reads = few_seen source.text.now 0 read reads.tokens reads.each (subst (λ d. AreFewOpen d read) depth (reads.few (omega (arith, depth))))
 
 -- the fault stands where reading stops
 pub stands_between : {source : Source} {old new : Cursor} (stop : Stop) (fault : Fault) → old.at ≡ 0 → old.depth ≡ 0 → Takes {X = Tree} source old new DesignWord end_follows (Err stop) → IsFaultOf source new stop fault →
     StandsBetween source.text.now source.tokens.now fault
-stands_between {source} {old} {new} stops.Unexpected fault at depth takes is = between stops.Unexpected fault at depth takes is takes.stands.0 takes.stands.1 (λ e. absurd (unlike e))
+stands_between {source} {old} {new} stops.Unexpected fault at depth takes is =
+    let reads = takes.stands.1 in
+    let split = split_of at reads in
+    record {
+      before = reads.tokens;
+      behind = drop new.at source.tokens.now;
+      split = split;
+      few = few_before takes.stands.0 depth reads;
+      why = inl (is, none_goes_on at depth takes reads.tokens (drop new.at source.tokens.now) split refl);
+    }
 stands_between {source} {old} {new} stops.TooDeep fault at depth takes is =
     let reads = takes.stands.1 in
     let depths : new.depth ≡ open_behind_all 0 (seen source.text.now reads.tokens) = reads.depth ∙ ap (λ n. open_behind_all n takes.stands.0) depth ∙ open_seen source.text.now 0 takes.stands.0 reads.tokens reads.each in
-    between stops.TooDeep fault at depth takes is takes.stands.0 reads (λ e. opens source new reads.tokens (drop new.at source.tokens.now) takes.stands.2 refl depths takes.stands.3 takes.stands.4)
+    record {
+      before = reads.tokens;
+      behind = drop new.at source.tokens.now;
+      split = split_of at reads;
+      few = few_before takes.stands.0 depth reads;
+      why = inr (is, opens source new reads.tokens (drop new.at source.tokens.now) takes.stands.2 refl depths takes.stands.3 takes.stands.4);
+    }
 stands_between {source} {old} {new} stops.NoMemory fault at depth takes is = absurd is
 
 -- where reading stops, no tree with few open brackets derives the tokens

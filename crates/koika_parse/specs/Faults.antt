@@ -1,6 +1,6 @@
--- Where the parser's faults stand: 11 at the first token that no design goes on with, or at the end of the text where
--- no design ends there, and 12 at a token that no design with few open brackets goes on with.
-use Rattle.std.specs.Prelude.{◌≡◌, ◌⊎◌, ℕ, ◌<◌, None, ⊤, List, [], ◌∷◌, ◌++◌, length, map}
+-- Where the parser's faults stand: 11 at a token that no design goes on with, or at the end of the text where no design
+-- ends there, and 12 at a 65th open bracket. That some design goes on with the tokens before it isn't said.
+use Rattle.std.specs.Prelude.{◌≡◌, ◌⊎◌, ℕ, ◌<◌, None, List, [], ◌∷◌, ◌++◌, length, map}
 use Rattle.kw_base.specs.Fault.{fault_at}
 use Rattle.kw_base.specs.Place.{place_at}
 use Rattle.kw_base.specs.declared.fault.Fault.{Fault}
@@ -21,17 +21,17 @@ pub record BeginsWith (text : List ℕ) (tokens : List Token) (tree : Tree) : Ty
   pub rest : List Terminal
   pub terminals : design_terminals tree ≡ map (terminal_of text) tokens ++ rest
 
--- no such design has the tokens up to the first one behind; where none is behind, no such design is these tokens
-abbrev pub NoneGoesOn : (Tree → Type 0) → List ℕ → (before behind : List Token) → Type 0
-NoneGoesOn Such text before [] = (tree : Tree) → Such tree → IsDesign tree → design_terminals tree ≡ map (terminal_of text) before → ⊥
-NoneGoesOn Such text before (token ∷ behind) = (tree : Tree) → Such tree → BeginsWith text (before ++ token ∷ []) tree → ⊥
+-- no design has the tokens up to the first one behind; where none is behind, no design is these tokens
+abbrev pub NoneGoesOn : List ℕ → (before behind : List Token) → Type 0
+NoneGoesOn text before [] = (tree : Tree) → IsDesign tree → design_terminals tree ≡ map (terminal_of text) before → ⊥
+NoneGoesOn text before (token ∷ behind) = (tree : Tree) → BeginsWith text (before ++ token ∷ []) tree → ⊥
 
 -- the place of the first token behind, or of the end of the text
 abbrev pub place_behind : List ℕ → List Token → Place
 place_behind text [] = place_at text (length text)
 place_behind text (token ∷ behind) = place_at text token.start
 
--- how many brackets are open behind tokens of the text, and that they are at most 64 behind each
+-- tokens of the text as leaves, which brackets are counted in
 abbrev pub seen : List ℕ → List Token → List Leaf
 seen text tokens = map (λ token. record { terminal = terminal_of text token; place = None }) tokens
 
@@ -40,12 +40,11 @@ abbrev pub OpensTooMany : List ℕ → (before behind : List Token) → Type 0
 OpensTooMany text before [] = ⊥
 OpensTooMany text before (token ∷ behind) = 64 < open_behind (open_behind_all 0 (seen text before)) (terminal_of text token)
 
--- the tokens are those before the fault and those behind it; there are few open brackets before it, and the fault says
--- why reading ends there: no design goes on so, or the next token is a 65th open bracket and no design with fewer goes on so
+-- the tokens are those before the fault and those behind it; few brackets are open before it, and the fault says why
+-- reading ends there: no design goes on so, or the next token is a 65th open bracket
 pub record StandsBetween (text : List ℕ) (tokens : List Token) (fault : Fault) : Type 0 where
   pub before : List Token
   pub behind : List Token
   pub split : tokens ≡ before ++ behind
   pub few : AreFewOpen 0 (seen text before)
-  pub why : ((fault ≡ fault_at 11 (place_behind text behind)) × NoneGoesOn (λ tree. ⊤) text before behind)
-      ⊎ ((fault ≡ fault_at 12 (place_behind text behind)) × OpensTooMany text before behind × NoneGoesOn (λ tree. AreFewOpen 0 (tree_leaves tree)) text before behind)
+  pub why : ((fault ≡ fault_at 11 (place_behind text behind)) × NoneGoesOn text before behind) ⊎ ((fault ≡ fault_at 12 (place_behind text behind)) × OpensTooMany text before behind)

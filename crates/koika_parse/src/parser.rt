@@ -20,10 +20,10 @@ use kw_base::{Fault, Refusal, place_of};
 use kw_bits::Sequence;
 use std::alloc::Global;
 
-/// The tree of a text, whose tokens these are, or a fault: 11 at the first token that no design goes on with, or
-/// behind the text where no design ends there, and 12 at a 65th open bracket that no design with at most 64 goes on
-/// with. A tree is answered exactly where one with at most 64 open brackets derives the tokens, unless memory ran
-/// out. That some design goes on with all that stands before a fault isn't proved.
+/// The tree of a text, whose tokens these are, or a fault: 11 at a token that no design goes on with, or behind the
+/// text where no design ends there, and 12 at a 65th open bracket. A tree is answered exactly where one with at most
+/// 64 open brackets derives the tokens, unless memory ran out. That some design goes on with the tokens before a
+/// fault, so that it is the first one, isn't proved.
 pub fn parse(alloc: Global, text: &[u8], tokens: &[Token]) -> Result<Tree, Refusal>
     requires stands { All (StandsIn text.now) tokens.now }
     ensures derived { IfOk result (λ tree. Derives text.now tree tokens.now) }
