@@ -1,25 +1,46 @@
 -- A checker with one more array type, and what its names say of the design.
-use Rattle.std.proofs.Common.{◌≡◌, inl, inr, ℕ, ◌*◌, ◌<◌, true, List, [], ◌∷◌, ◌++◌, length, map, get_or, Option, Some, None, Result, Ok, Err, refl, ap, sym, ◌∙◌, subst, arith, length-append}
+use Rattle.std.proofs.Common.{◌≡◌, inl, inr, ℕ, ◌*◌, ◌<◌, Bool, true, false, nat_eq, List, [], ◌∷◌, ◌++◌, length, map, get_or, Option, Some, None, Result, Ok, Err, refl, ap, ap₂, sym, ◌∙◌, subst, arith, append-nil, length-append}
+use Rattle.std.specs.List.{All, list_any}
+use Rattle.std.specs.Result.{IfOk}
+use Rattle.kw_base.specs.Names.{number_of}
 use Rattle.std.proofs.lemmas.List.{length-map}
+use Rattle.kw_bits.specs.Host.{TakesWidth}
+use Rattle.kw_base.specs.declared.fault_number.TheConstants.{UNKNOWN_NAME, WRONG_WIDTH}
+use Rattle.koika_syntax.specs.declared.tree.Name.{Name}
 use Rattle.koika_syntax.specs.declared.tree.TypeExpression.{TypeExpression}
+use Rattle.typed_core.specs.declared.design.HostSpec.{HostSpec}
 use Rattle.koika_types.specs.declared.declarations.EnumDecl.{EnumDecl}
-use Rattle.koika_check.specs.Checking.{IsChecker, IsNamed, IsWidth, arrays_of, shape_of}
-use Rattle.koika_check.specs.Outcomes.{Gives, Tells, ◌>>=◌}
+use Rattle.koika_check.specs.Checking.{AreTypes, AreWidths, Grows, IsChecker, IsDeclared, IsNamed, IsWidth, arrays_of, enum_by, shape_of, struct_by, type_by_thing}
+use Rattle.koika_check.specs.Locals.{AreLocals}
+use Rattle.koika_check.specs.Outcomes.{Fails, Gives, Tells, found, wrong, ◌>>=◌}
 use Rattle.koika_check.specs.Shapes.{AreShapes, IsShape, array_types, type_of_shape}
 use Rattle.koika_check.specs.Shapes as shapes
-use Rattle.koika_check.specs.Types.{array, array_type, base_width, bits, enum_named, is_width, of_base, struct_named, type_by, type_named, type_of, width_of}
+use Rattle.koika_check.specs.Things.{AreParts, AreThings, thing_named}
+use Rattle.koika_check.specs.Types.{array, array_type, base_width, bits, enum_named, is_width, named_type, of_base, struct_named, type_by, type_named, type_of, width_of}
 use Rattle.koika_check.specs.declared.checked.Checked.{Checked}
+use Rattle.koika_check.specs.declared.checked.Input.{Input}
+use Rattle.koika_check.specs.declared.checked.Register.{Register}
 use Rattle.koika_check.specs.declared.checked.Struct.{Struct}
 use Rattle.koika_check.specs.declared.checker.Checker.{Checker}
+use Rattle.koika_check.specs.declared.locals.Bound.{Bound}
 use Rattle.koika_check.specs.declared.shapes.ArrayShape.{ArrayShape}
+use Rattle.koika_check.specs.declared.shapes.Shape.{Shape}
 use Rattle.koika_check.specs.declared.shapes.Shapes.{Shapes}
 use Rattle.koika_check.specs.declared.stop.Stop.{Stop}
+use Rattle.koika_check.specs.declared.stop.Wrong.{Wrong}
+use Rattle.koika_check.specs.declared.things.Thing.{Thing}
+use Rattle.koika_check.specs.declared.things.Thing.TheVariants as thing
 use Rattle.koika_check.specs.declared.typed.BaseType.{BaseType}
 use Rattle.koika_check.specs.declared.typed.BaseType.TheVariants as base
 use Rattle.koika_check.specs.declared.typed.ValueType.{ValueType}
 use Rattle.koika_check.proofs.ArrayTypes.{array_types-push, get-last, get-push, le_split, length_types}
+use Rattle.koika_check.proofs.Growth.{shapes-kept}
 use Rattle.koika_check.proofs.Positions.{number_of-within}
-use Rattle.koika_check.proofs.Telling.{unless-err, unless-with}
+use Rattle.koika_check.proofs.Telling.{tells-found, unless-err, unless-with}
+
+-- nothing is declared
+abbrev pub empty : Checked
+empty = record { enums = []; structs = []; registers = []; inputs = []; tables = []; hosts = []; functions = []; rules = []; asserts = []; nodes = []; weight = 0 }
 
 -- the type of a base
 pub type_of-base : (types : List ValueType) (b : BaseType) → type_of_shape types (shape_of b) ≡ of_base b
@@ -58,6 +79,33 @@ named-base d name b e = by_kind (enum_named d name) (struct_named d name) b refl
         struct_number n m e = cc
     by_kind None None (base.Struct m) f g e = absurd cc
 
+-- the type that a name is declared as
+pub type-named : (d : Checked) (name : List ℕ) (t : Option Thing) → IsDeclared d name t → type_by_thing t ≡ type_named d name
+type-named d name t h = by_kind t ∙ ap₂ type_by h.enums h.structs
+  where
+    by_kind : (t : Option Thing) → type_by_thing t ≡ type_by (enum_by t) (struct_by t)
+    by_kind None = refl
+    by_kind (Some (thing.Enum n)) = refl
+    by_kind (Some (thing.Struct n)) = refl
+    by_kind (Some (thing.Register n)) = refl
+    by_kind (Some (thing.Input n)) = refl
+    by_kind (Some (thing.Table n)) = refl
+    by_kind (Some (thing.Host n)) = refl
+    by_kind (Some (thing.Function n)) = refl
+    by_kind (Some (thing.Rule n)) = refl
+
+-- a name that is no type, and a type that is too wide
+pub named-none : (d : Checked) (n : Name) → type_named d n.text ≡ None → named_type d n ≡ Fails (wrong UNKNOWN_NAME n.place)
+named-none d n e = rw e refl
+
+pub named-wide : (d : Checked) (n : Name) (b : BaseType) → type_named d n.text ≡ Some b → is_width (base_width d b) ≡ false → named_type d n ≡ Fails (wrong WRONG_WIDTH n.place)
+named-wide d n b e w = rw (e, w) refl
+
+-- a base whose values are too wide
+pub base-wide : (d : Checked) (b : BaseType) (arrays : List ValueType) (s : Shape) (w : ℕ) (fits : Bool) → s ≡ shape_of b → w ≡ width_of d (type_of_shape arrays s) → fits ≡ is_width w → fits ≡ false → is_width (base_width d b) ≡ false
+base-wide d b arrays s w fits se we fe wide =
+    sym (ap is_width (we ∙ ap (λ (x : Shape). width_of d (type_of_shape arrays x)) se ∙ ap (width_of d) (type_of-base arrays b) ∙ width-base d b)) ∙ sym fe ∙ wide
+
 pub is-width : (w : ℕ) → is_width w ≡ true → IsWidth w
 is-width w e = record { some = grind arith; most = grind arith }
 
@@ -66,10 +114,10 @@ pub array-width : (d : Checked) (l w : ℕ) (t : ValueType) → w ≡ width_of d
 array-width d l w t e = ap (λ n. n * l) e ∙ omega arith
 
 -- the widths of array types are those of the design
-abbrev AreWidths : Checked → List ArrayShape → Type 0
-AreWidths design arrays = (i : ℕ) (d : ArrayShape) → i < length arrays → (get_or arrays i d).width ≡ width_of design (get_or (array_types [] arrays) i (bits 0))
+abbrev HaveWidths : Checked → List ArrayShape → Type 0
+HaveWidths design arrays = (i : ℕ) (d : ArrayShape) → i < length arrays → (get_or arrays i d).width ≡ width_of design (get_or (array_types [] arrays) i (bits 0))
 
-widths-push : (design : Checked) (arrays : List ArrayShape) (a : ArrayShape) → a.width ≡ width_of design (array a.length (type_of_shape (array_types [] arrays) a.element)) → AreWidths design arrays → AreWidths design (arrays ++ a ∷ [])
+widths-push : (design : Checked) (arrays : List ArrayShape) (a : ArrayShape) → a.width ≡ width_of design (array a.length (type_of_shape (array_types [] arrays) a.element)) → HaveWidths design arrays → HaveWidths design (arrays ++ a ∷ [])
 widths-push design arrays a width h i d lt =
     let types = array_types [] arrays in
     let t = array a.length (type_of_shape types a.element) in
@@ -81,18 +129,66 @@ widths-push design arrays a width h i d lt =
           ∙ sym (grown ∙ ap (width_of design) (get-last types t (bits 0) i (omega (arith, last, length_types arrays))))
     ]
 
+fit-push : (arrays : List ArrayShape) (a : ArrayShape) → IsWidth a.width → ((i : ℕ) (d : ArrayShape) → i < length arrays → IsWidth (get_or arrays i d).width) →
+    (i : ℕ) (d : ArrayShape) → i < length (arrays ++ a ∷ []) → IsWidth (get_or (arrays ++ a ∷ []) i d).width
+fit-push arrays a fits h i d lt =
+    elim (le_split i (length arrays) (omega (arith, lt, length-append arrays (a ∷ [])))) [
+      | inl below ↦ subst (λ (x : ArrayShape). IsWidth x.width) (sym (get-push arrays a d i below)) (h i d below)
+      | inr last ↦ subst (λ (x : ArrayShape). IsWidth x.width) (sym (get-last arrays a d i last)) fits
+    ]
+
 -- one more array type of this width
-pub more-kept : (c : Checker) → IsChecker c → (s : Shapes) → AreShapes s → (a : ArrayShape) → shapes.Grows c.shapes.arrays a s.arrays → a.width ≡ width_of c.design (array a.length (type_of_shape (arrays_of c) a.element)) →
+pub more-kept : (c : Checker) → IsChecker c → (s : Shapes) → AreShapes s → (a : ArrayShape) → shapes.Grows c.shapes.arrays a s.arrays → a.width ≡ width_of c.design (array a.length (type_of_shape (arrays_of c) a.element)) → IsWidth a.width →
     IsChecker (record c { shapes = s })
-more-kept c h s kept a grows width = record {
-  things = h.things;
-  types = h.types;
-  shapes = kept;
-  arrays = elim grows [
-    | inl e ↦ subst (AreWidths c.design) (sym e) h.arrays
-    | inr e ↦ subst (AreWidths c.design) (sym e) (widths-push c.design c.shapes.arrays a width h.arrays)
-  ];
+more-kept c h s kept a grows width fits = elim grows [
+  | inl e ↦ shapes-kept c h s kept [] (e ∙ sym (append-nil c.shapes.arrays)) (subst (HaveWidths c.design) (sym e) h.arrays)
+      (subst (λ (arrays : List ArrayShape). (i : ℕ) (d : ArrayShape) → i < length arrays → IsWidth (get_or arrays i d).width) (sym e) h.array_widths)
+  | inr e ↦ shapes-kept c h s kept (a ∷ []) e (subst (HaveWidths c.design) (sym e) (widths-push c.design c.shapes.arrays a width h.arrays))
+      (subst (λ (arrays : List ArrayShape). (i : ℕ) (d : ArrayShape) → i < length arrays → IsWidth (get_or arrays i d).width) (sym e) (fit-push c.shapes.arrays a fits h.array_widths))
+]
+
+pub more-grows : (c : Checker) (s : Shapes) (a : ArrayShape) → shapes.Grows c.shapes.arrays a s.arrays → Grows c (record c { shapes = s })
+more-grows c s a grows = record {
+  design = refl;
+  things = refl;
+  parts = refl;
+  registers = refl;
+  inputs = refl;
+  fields = refl;
+  functions = refl;
+  hosts = refl;
+  asserted = refl;
+  arrays = elim grows [ inl e ↦ ([], e ∙ sym (append-nil c.shapes.arrays)) | inr e ↦ (a ∷ [], e) ];
 }
+
+-- nothing is declared
+pub empty-checker : (c : Checker) → c.design ≡ empty → c.registers ≡ [] → c.inputs ≡ [] → c.fields ≡ [] → c.functions ≡ [] → c.asserted ≡ [] → c.shapes.arrays ≡ [] → c.locals.bound ≡ [] →
+    AreThings c.things → ((name : List ℕ) → thing_named c.things name ≡ None) → AreParts c.parts → AreShapes c.shapes → AreLocals c.locals → All (λ (h : HostSpec). TakesWidth h.kind h.in_width) c.hosts → IsChecker c
+empty-checker c d registers inputs fields functions asserted arrays bound things none parts shapes locals hosts = record {
+  things = things;
+  names = λ name. subst (λ x. IsDeclared x name (thing_named c.things name)) (sym d) (subst (IsDeclared empty name) (sym (none name)) (record { enums = refl; structs = refl; registers = refl; inputs = refl; tables = refl; hosts = refl; functions = refl; rules = refl }));
+  parts = parts;
+  members = λ n lt. absurd (omega (arith, lt, ap (λ (x : Checked). length x.enums) d));
+  named_fields = λ n lt. absurd (omega (arith, lt, ap (λ (x : Checked). length x.structs) d));
+  widths = subst AreWidths (sym d) (record { enums = λ n lt. absurd (omega (arith, lt)); structs = λ n lt. absurd (omega (arith, lt)); tables = λ n t lt. absurd (omega (arith, lt)); hosts = λ n t lt. absurd (omega (arith, lt)) });
+  shapes = shapes;
+  arrays = λ i x lt. absurd (omega (arith, lt, ap length arrays));
+  array_widths = λ i x lt. absurd (omega (arith, lt, ap length arrays));
+  registers = none_of c.registers _ registers (ap (λ (x : Checked). map (λ (r : Register). r.of) x.registers) d);
+  inputs = none_of c.inputs _ inputs (ap (λ (x : Checked). map (λ (i : Input). i.of) x.inputs) d);
+  each_fields = ap length fields ∙ sym (ap (λ (x : Checked). length x.structs) d);
+  fields = λ i x lt. absurd (omega (arith, lt, ap length fields));
+  each_function = ap length functions ∙ sym (ap (λ (x : Checked). length x.functions) d);
+  functions = λ i s f lt. absurd (omega (arith, lt, ap length functions));
+  locals = locals;
+  bound = λ k x lt. absurd (omega (arith, lt, ap (λ (b : List Bound). length (map (λ (x : Bound). x.shape) b)) bound));
+  hosts = hosts;
+  each_rule = ap length asserted ∙ sym (ap (λ (x : Checked). length x.rules) d);
+  marks = λ i. ap (λ (m : List Bool). get_or m i false) asserted ∙ sym (ap (λ (x : Checked). list_any (nat_eq i) x.asserts) d);
+}
+  where
+    none_of : (shapes : List Shape) (types : List ValueType) → shapes ≡ [] → types ≡ [] → AreTypes c shapes types
+    none_of shapes types e f = record { are = f ∙ sym (ap (map (type_of_shape (arrays_of c))) e); each = λ k x lt. absurd (omega (arith, lt, ap length e)) }
 
 -- ---- the type of an array by that of its items
 
@@ -108,3 +204,9 @@ pub array-ok : {Y Z : Type 0} (is : Y → ValueType → Type 0) (is' : Z → Val
 array-ok is is' d d' whole element l place item t y z e de ie te f h =
     let at_item = subst (λ u. Tells is (array_type d l place u) (Ok y)) (sym te) (subst (λ x. Tells is (array_type x l place t) (Ok y)) de h) in
     subst (λ o. Tells is' o (Ok z)) (sym (e ∙ ap (λ o. o >>= array_type d l place) ie)) (unless-with is is' _ (array l item) y z f at_item)
+
+-- what a name has is declared
+pub named-within : {X : Type 0} (name_of : X → List ℕ) (xs : List X) (name : List ℕ) (w : Wrong) (r : Result ℕ Stop) → Tells (λ n of. n ≡ of) (found (number_of (map name_of xs) name) w) r → IfOk r (λ n. n < length xs)
+named-within name_of xs name w (Err e) h = tt
+named-within name_of xs name w (Ok n) h =
+    omega (arith, (number_of-within (map name_of xs) name n (tells-found (number_of (map name_of xs) name) w n h)).0, length-map xs name_of)

@@ -2,8 +2,15 @@ pub mod ArrayTypes
 pub mod Bindings
 pub mod Caps
 pub mod Checkers
+pub mod Compositions
+pub mod ConstantParts
 pub mod Equations
+pub mod Growth
+pub mod Knowns
+pub mod PartTypes
 pub mod Positions
 pub mod Runs
+pub mod Sequences
 pub mod Steps
 pub mod Telling
+pub mod Turns

@@ -1,8 +1,9 @@
 -- What a call answers where the calls that it makes tell what outcomes say.
-use Rattle.std.proofs.Common.{◌≡◌, refl, sym, ◌∙◌, ap, subst, Ok, Err, None, Some, [], ◌∷◌}
-use Rattle.koika_check.specs.Outcomes.{Condition, Gives, Fails, Outcome, Passes, Tells, ◌>>=◌, smaller, unless, where_all}
+use Rattle.std.proofs.Common.{◌≡◌, refl, sym, ◌∙◌, ap, subst, Ok, Err, ℕ, Option, None, Some, Bool, true, false, cond, nat_lt, [], ◌∷◌}
+use Rattle.koika_check.specs.Outcomes.{Condition, Gives, Fails, Outcome, Passes, Tells, ◌>>=◌, found, holds, smaller, unless, where_all}
 use Rattle.koika_check.specs.declared.stop.Stop.{Stop}
 use Rattle.koika_check.specs.declared.stop.Stop.TheVariants as stops
+use Rattle.koika_check.specs.declared.stop.Wrong.{Wrong}
 
 -- a result is told as a result
 pub tells-ok : {X Y : Type 0} (is : Y → X → Type 0) (o : Outcome X) (y : Y) → Tells is o (Ok y) → (x : X) × (o ≡ Gives x) × is y x
@@ -63,3 +64,38 @@ tells-with is is' (Fails w) y y' f h = absurd h
 pub unless-with : {X Y Y' : Type 0} (is : Y → X → Type 0) (is' : Y' → X → Type 0) (c : Condition) (x : X) (y : Y) (y' : Y') → (is y x → is' y' x) → Tells is (unless c x) (Ok y) → Tells is' (unless c x) (Ok y')
 unless-with is is' None x y y' f h = f h
 unless-with is is' (Some w) x y y' f h = absurd h
+
+-- the fault that a call answers
+pub tells-fault : {X Y : Type 0} (is : Y → X → Type 0) (o : Outcome X) (w : Wrong) (e : Stop) → e ≡ stops.Wrong w → o ≡ Fails w → Tells is o (Err e)
+tells-fault {X} {Y} is o w e se oe = subst (λ s. Tells is o (Err s)) (sym se) (subst (λ p. Tells is p (Err (stops.Wrong w))) (sym oe) refl)
+
+-- conditions as they were joined
+pub one-is : {Y : Type 0} (c c' : Condition) (y : Y) → c ≡ c' → where_all (c' ∷ []) y ≡ unless c y
+one-is c c' y e = ap (λ d. unless d y) (smaller-none c' ∙ sym e)
+
+pub two-is : {Y : Type 0} (a b a' b' c : Condition) (y : Y) → c ≡ smaller a b → a ≡ a' → b ≡ b' → where_all (a' ∷ b' ∷ []) y ≡ unless c y
+two-is a b a' b' c y is ea eb = ap (λ d. unless d y) (ap (smaller a') (smaller-none b') ∙ sym (is ∙ ap (λ d. smaller d b) ea ∙ ap (smaller a') eb))
+
+pub three-is : {Y : Type 0} (a b d a' b' d' r c : Condition) (y : Y) → c ≡ smaller a r → r ≡ smaller b d → a ≡ a' → b ≡ b' → d ≡ d' → where_all (a' ∷ b' ∷ d' ∷ []) y ≡ unless c y
+three-is a b d a' b' d' r c y is behind ea eb ed =
+    ap (λ e. unless e y)
+    (ap (λ e. smaller a' (smaller b' e)) (smaller-none d') ∙ sym (is ∙ ap (λ e. smaller e r) ea ∙ ap (smaller a') (behind ∙ ap (λ e. smaller e d) eb ∙ ap (smaller b') ed)))
+
+-- where none of two conditions fails
+pub smaller-both : (a b : Condition) → smaller a b ≡ None → (a ≡ None) × (b ≡ None)
+smaller-both None b e = (refl, e)
+smaller-both (Some v) None e = absurd cc
+smaller-both (Some v) (Some w) e = by_number (nat_lt w.number v.number) e
+  where
+    by_number : (t : Bool) → cond t (Some w) (Some v) ≡ None → (◌≡◌ {A = Condition} (Some v) None) × (◌≡◌ {A = Condition} (Some w) None)
+    by_number true e = absurd cc
+    by_number false e = absurd cc
+
+pub holds-true : (t : Bool) (w : Wrong) → holds t w ≡ None → t ≡ true
+holds-true true w e = refl
+holds-true false w e = absurd cc
+
+-- what was found
+pub tells-found : (o : Option ℕ) (w : Wrong) (n : ℕ) → Tells (λ m of. m ≡ of) (found o w) (Ok n) → o ≡ Some n
+tells-found None w n h = absurd h
+tells-found (Some m) w n h = ap Some (sym h)

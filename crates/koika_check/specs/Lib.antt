@@ -1,5 +1,9 @@
 pub mod Capped
 pub mod Checking
+pub mod Composites
+pub mod Constants
+pub mod Constructs
+pub mod Expressions
 pub mod Locals
 pub mod Operators
 pub mod Outcomes

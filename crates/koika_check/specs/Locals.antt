@@ -5,6 +5,7 @@ use Rattle.koika_check.specs.Scopes.{Local}
 use Rattle.koika_check.specs.Shapes.{type_of_shape}
 use Rattle.koika_check.specs.declared.locals.Bound.{Bound}
 use Rattle.koika_check.specs.declared.locals.Locals.{Locals}
+use Rattle.koika_check.specs.declared.shapes.Shape.{Shape}
 use Rattle.koika_check.specs.declared.typed.ValueType.{ValueType}
 
 -- the innermost first, in front of others
@@ -35,3 +36,7 @@ local_of arrays names b = record { name = slice_index_or names b.name []; of = t
 
 abbrev pub locals_of : List ValueType → Locals → List Local
 locals_of arrays s = map (local_of arrays s.names) (inside_of [] s.bound)
+
+-- their shapes, the outermost first
+abbrev pub shapes_of : Locals → List Shape
+shapes_of s = map (λ (b : Bound). b.shape) s.bound

@@ -61,6 +61,16 @@ abbrev pub found : {X : Type 0} → Option X → Wrong → Outcome X
 found None fault = Fails fault
 found (Some value) fault = Gives value
 
+-- all parts, from left to right
+abbrev pub in_turn : {X Y : Type 0} → (X → Outcome Y) → List X → Outcome (List Y)
+in_turn look [] = Gives []
+in_turn look (x ∷ xs) = look x >>= λ y. in_turn look xs >>= λ ys. Gives (y ∷ ys)
+
+-- parts of which each is looked at behind what those before it leave
+abbrev pub one_by_one : {X S : Type 0} → (X → S → Outcome S) → List X → S → Outcome S
+one_by_one look [] s = Gives s
+one_by_one look (x ∷ xs) s = look x s >>= λ next. one_by_one look xs next
+
 -- A call answers what an outcome says, where its values stand for those of outcomes as `is` says: a value for a result, the
 -- fault for a fault. Want of memory is free.
 abbrev pub Tells : {X Y : Type 0} → (Y → X → Type 0) → Outcome X → Result Y Stop → Type 0
@@ -75,3 +85,8 @@ abbrev pub Passes : {X : Type 0} → Condition → Result X Stop → Type 0
 Passes None (Ok x) = ⊤
 Passes (Some fault) (Err (stops.Wrong found)) = found ≡ fault
 Passes condition answer = ⊥
+
+-- an outcome is this fault; want of memory is free
+abbrev pub Ends : {X : Type 0} → Outcome X → Stop → Type 0
+Ends outcome stops.NoMemory = ⊤
+Ends outcome (stops.Wrong fault) = outcome ≡ Fails fault

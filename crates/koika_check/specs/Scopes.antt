@@ -1,6 +1,23 @@
--- The names that are bound at one place of a design. A local hides an equal earlier one. This project's own rule.
-use Rattle.std.specs.Prelude.{ℕ, map, List, Option}
+-- What a name stands for at one place of a design: what is declared before, and the names that are bound round it. A local
+-- hides an equal earlier one, and as a bare name an input. This project's own rules.
+use Rattle.std.specs.Prelude.{ℕ, ◌/◌, map, replicate, List, [], ◌∷◌, Option, Some, None, slice_get}
 use Rattle.kw_base.specs.Names.{number_of}
+use Rattle.kw_base.specs.declared.fault_number.TheConstants.{UNKNOWN_NAME}
+use Rattle.kw_bits.specs.Host as host
+use Rattle.koika_syntax.specs.declared.tree.Name.{Name}
+use Rattle.koika_check.specs.Outcomes.{Outcome, found, wrong}
+use Rattle.koika_check.specs.Types.{bits}
+use Rattle.koika_check.specs.declared.checked.Checked.{Checked}
+use Rattle.koika_check.specs.declared.checked.Function.{Function}
+use Rattle.koika_check.specs.declared.checked.Host.{Host}
+use Rattle.koika_check.specs.declared.checked.Input.{Input}
+use Rattle.koika_check.specs.declared.checked.Register.{Register}
+use Rattle.koika_check.specs.declared.checked.Rule.{Rule}
+use Rattle.koika_check.specs.declared.checked.Table.{Table}
+use Rattle.koika_check.specs.declared.typed.Operation.{Operation}
+use Rattle.koika_check.specs.declared.typed.Operation.TheVariants as operation
+use Rattle.koika_check.specs.declared.typed.Typed.{Typed}
+use Rattle.koika_check.specs.declared.typed.Typed.TheVariants as typed
 use Rattle.koika_check.specs.declared.typed.ValueType.{ValueType}
 
 -- a name that is bound, and its type
@@ -11,3 +28,113 @@ pub record Local : Type 0 where
 -- how many names were bound further inside than the innermost of this name, where the innermost is the first
 abbrev pub local_named : List Local → List ℕ → Option ℕ
 local_named locals = number_of (map (λ (l : Local). l.name) locals)
+
+-- what is declared, and what is bound, the innermost first
+pub record Scope : Type 0 where
+  pub design : Checked
+  pub locals : List Local
+
+-- one more name, inside the others
+abbrev pub bound : List ℕ → ValueType → Scope → Scope
+bound name of scope = record { design = scope.design; locals = record { name = name; of = of } ∷ scope.locals }
+
+-- ---- what is declared, by kinds
+
+abbrev pub register_named : Checked → List ℕ → Option ℕ
+register_named d = number_of (map (λ (r : Register). r.name) d.registers)
+
+abbrev pub input_named : Checked → List ℕ → Option ℕ
+input_named d = number_of (map (λ (i : Input). i.name) d.inputs)
+
+abbrev pub table_named : Checked → List ℕ → Option ℕ
+table_named d = number_of (map (λ (t : Table). t.name) d.tables)
+
+abbrev pub host_named : Checked → List ℕ → Option ℕ
+host_named d = number_of (map (λ (h : Host). h.name) d.hosts)
+
+abbrev pub function_named : Checked → List ℕ → Option ℕ
+function_named d = number_of (map (λ (f : Function). f.name) d.functions)
+
+abbrev pub rule_named : Checked → List ℕ → Option ℕ
+rule_named d = number_of (map (λ (r : Rule). r.name) d.rules)
+
+-- ---- registers
+
+abbrev pub type_of_register : Option Register → Option ValueType
+type_of_register None = None
+type_of_register (Some register) = Some register.of
+
+-- `read` and `write` want a register (20)
+abbrev pub register : Checked → Name → Outcome ℕ
+register d n = found (register_named d n.text) (wrong UNKNOWN_NAME n.place)
+
+-- the type of the register of this number
+abbrev pub register_type : Checked → ℕ → Option ValueType
+register_type d number = type_of_register (slice_get d.registers number)
+
+-- ---- bare names
+
+-- what a bare name stands for, and its type
+pub record Named : Type 0 where
+  pub typed : Typed
+  pub of : ValueType
+
+abbrev pub local_by : Option ℕ → Option Local → Option Named
+local_by (Some index) (Some local) = Some (record { typed = typed.Local index; of = local.of })
+local_by index local = None
+
+abbrev pub input_by : Option ℕ → Option Input → Option Named
+input_by (Some number) (Some input) = Some (record { typed = typed.Input number; of = input.of })
+input_by number input = None
+
+abbrev pub at : {X : Type 0} → List X → Option ℕ → Option X
+at xs None = None
+at xs (Some index) = slice_get xs index
+
+abbrev pub or_else : {X : Type 0} → Option X → Option X → Option X
+or_else (Some x) other = Some x
+or_else None other = other
+
+-- a bare name wants a local or an input (20)
+abbrev pub bare : Scope → Name → Outcome Named
+bare scope n = found
+    (or_else
+    (local_by (local_named scope.locals n.text) (at scope.locals (local_named scope.locals n.text)))
+    (input_by (input_named scope.design n.text) (at scope.design.inputs (input_named scope.design n.text))))
+    (wrong UNKNOWN_NAME n.place)
+
+-- ---- what is called
+
+-- what a call does, the types that its arguments are to have, and that of what it gives
+pub record Called : Type 0 where
+  pub operation : Operation
+  pub parameters : List ValueType
+  pub gives : Option ValueType
+
+abbrev pub called_function : Option ℕ → Option Function → Option Called
+called_function (Some number) (Some f) = Some (record { operation = operation.Call number; parameters = f.parameters; gives = f.result })
+called_function number f = None
+
+-- a table has one argument
+abbrev pub called_table : Option ℕ → Option Table → Option Called
+called_table (Some number) (Some t) =
+    Some (record { operation = operation.Table number; parameters = bits t.spec.in_width ∷ []; gives = Some (bits t.spec.out_width) })
+called_table number t = None
+
+-- a host function has as many as its kind, each with as many of the input's bits
+abbrev pub called_host : Option ℕ → Option Host → Option Called
+called_host (Some number) (Some h) =
+    Some (record {
+      operation = operation.Host number;
+      parameters = replicate (host.arity h.spec.kind) (bits (h.spec.in_width / host.arity h.spec.kind));
+      gives = Some (bits (host.out_width h.spec.kind h.spec.in_width));
+    })
+called_host number h = None
+
+-- a call wants a function, a table or a host function (20)
+abbrev pub called : Checked → Name → Outcome Called
+called d n = found
+    (or_else (called_function (function_named d n.text) (at d.functions (function_named d n.text)))
+    (or_else (called_table (table_named d n.text) (at d.tables (table_named d n.text)))
+    (called_host (host_named d n.text) (at d.hosts (host_named d n.text)))))
+    (wrong UNKNOWN_NAME n.place)

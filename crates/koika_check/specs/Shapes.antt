@@ -2,14 +2,12 @@
 -- private functions alone.
 use Rattle.std.specs.Prelude.{◌≡◌, ℕ, ◌<◌, ◌^◌, ◌⊎◌, ⊤, List, [], ◌∷◌, ◌++◌, length, map, Option, Some, IfSome, option_map, slice_index_or}
 use Rattle.std.specs.Int.{to_le_bytes, w32}
-use Rattle.koika_check.specs.Selections.{Selected}
 use Rattle.koika_check.specs.Types.{Part as TypedPart, array, bits, of_base, part}
 use Rattle.koika_check.specs.declared.agreement.Part.{Part}
 use Rattle.koika_check.specs.declared.shapes.ArrayShape.{ArrayShape}
 use Rattle.koika_check.specs.declared.shapes.Shape.{Shape}
 use Rattle.koika_check.specs.declared.shapes.Shape.TheVariants as shape
 use Rattle.koika_check.specs.declared.shapes.Shapes.{Shapes}
-use Rattle.koika_check.specs.declared.suffixes.Selected.{Selected as ShapeSelected}
 use Rattle.koika_check.specs.declared.typed.BaseType.TheVariants as base
 use Rattle.koika_check.specs.declared.typed.ValueType.{ValueType}
 
@@ -90,7 +88,3 @@ pub record AreShapes (s : Shapes) : Type 0 where
 -- nothing was added, or this array type
 abbrev pub Grows : List ArrayShape → ArrayShape → List ArrayShape → Type 0
 Grows old a new = (new ≡ old) ⊎ (new ≡ old ++ a ∷ [])
-
--- a selection whose shape stands for its type
-abbrev pub Selects : List ValueType → ShapeSelected → Selected → Type 0
-Selects arrays s one = (one.selection ≡ s.selection) × (one.of ≡ type_of_shape arrays s.of) × IsShape (length arrays) s.of

@@ -108,6 +108,15 @@ abbrev pub as_bits : Option ValueType → Option ℕ
 as_bits (Some t) = bits_by t.base t.lengths
 as_bits None = None
 
+-- the number of a struct; none for all else
+abbrev pub struct_by : BaseType → List ℕ → Option ℕ
+struct_by (base.Struct number) [] = Some number
+struct_by b lengths = None
+
+abbrev pub as_struct : Option ValueType → Option ℕ
+as_struct (Some t) = struct_by t.base t.lengths
+as_struct None = None
+
 -- 22 at a part, which isn't of the type that is wanted there
 abbrev pub wrong_type : Part → Wrong
 wrong_type part = wrong WRONG_TYPE part.place

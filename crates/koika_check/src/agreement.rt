@@ -1,8 +1,10 @@
-ghost use Rattle.std.specs.Prelude.{◌≡◌, List, map, All, Some};
+ghost use Rattle.std.specs.Prelude.{◌≡◌, List, map, All, Some, None, IfSome};
 ghost use Rattle.koika_check.specs.Outcomes.{wrong};
+ghost use Rattle.koika_check.specs.Selections as selections;
 ghost use Rattle.koika_check.specs.Shapes.{AreArrays, IsShapeIf, part_of, type_if};
 ghost use Rattle.koika_check.specs.Types as types;
 ghost use Rattle.kw_base.specs.declared.fault_number.TheConstants.{WRONG_TYPE};
+ghost use Rattle.koika_check.specs.declared.shapes.Shape.TheVariants as shape;
 ghost use Rattle.koika_check.specs.declared.typed.ValueType.{ValueType};
 
 use crate::shapes::Shape;
@@ -19,10 +21,33 @@ pub(crate) struct Part {
 impl Part {
     /// How many bits the part has, where it is bits.
     pub(crate) fn as_bits(&self) -> Option<u32>
-        ensures { (arrays : List ValueType) → AreArrays arrays → IsShapeIf arrays self.now.of → result ≡ types.as_bits (type_if arrays self.now.of) }
+        ensures width { (arrays : List ValueType) → AreArrays arrays → IsShapeIf arrays self.now.of → result ≡ types.as_bits (type_if arrays self.now.of) }
+        ensures shape { IfSome result (λ width. self.now.of ≡ Some (shape.Bits width)) }
     {
         match self.of {
             Some(Shape::Bits(width)) => Some(width),
+            _ => None,
+        }
+    }
+
+    /// The number of the part's struct, where it is one.
+    pub(crate) fn as_struct(&self) -> Option<u32>
+        ensures number { (arrays : List ValueType) → AreArrays arrays → IsShapeIf arrays self.now.of → result ≡ types.as_struct (type_if arrays self.now.of) }
+        ensures shape { IfSome result (λ number. self.now.of ≡ Some (shape.Struct number)) }
+    {
+        match self.of {
+            Some(Shape::Struct(number)) => Some(number),
+            _ => None,
+        }
+    }
+
+    /// The number of the part's array type, where it is an array.
+    pub(crate) fn as_array(&self) -> Option<u32>
+        ensures some { IfSome result (λ number. self.now.of ≡ Some (shape.Array number)) }
+        ensures none { (arrays : List ValueType) → result ≡ None → selections.as_array (type_if arrays self.now.of) ≡ None }
+    {
+        match self.of {
+            Some(Shape::Array(number)) => Some(number),
             _ => None,
         }
     }

@@ -1,30 +1,72 @@
-ghost use Rattle.std.specs.Prelude.{◌≡◌, length};
+ghost use Rattle.std.specs.Prelude.{◌≡◌, [], All, length};
+ghost use Rattle.kw_bits.specs.Host.{TakesWidth};
 ghost use Rattle.koika_check.specs.Checking.{IsChecker, IsNamed, arrays_of};
 ghost use Rattle.koika_check.specs.Shapes.{IsShape, type_of_shape};
 ghost use Rattle.koika_check.specs.Types.{width_of};
+ghost use Rattle.typed_core.specs.declared.design.HostSpec.{HostSpec as Spec};
 
+use crate::agreement::Part;
 use crate::checked::Checked;
+use crate::locals::Locals;
+use crate::parts::Parts;
 use crate::shapes::{Shape, Shapes};
 use crate::things::Things;
+use crate::typed::Typed;
+use koika_types::Value;
 use kw_bits::Sequence;
 use std::alloc::Global;
+use typed_core::HostSpec;
+
+/// An expression that is well typed.
+#[derive(Drop)]
+pub(crate) struct Typing {
+    pub part: Part,
+    pub typed: Typed,
+}
+
+/// A constant that is well typed.
+#[derive(Drop)]
+pub(crate) struct Known {
+    pub part: Part,
+    pub value: Value,
+}
+
+/// What callers of a function see of it.
+#[derive(Drop)]
+pub(crate) struct Signature {
+    pub parameters: Sequence<Shape>,
+    pub result: Option<Shape>,
+}
 
 /// A design as far as it is checked.
 #[derive(Drop)]
 pub(crate) struct Checker {
     pub alloc: Global,
+    /// The host functions that are handed in.
+    pub hosts: Sequence<HostSpec>,
     pub design: Checked,
     pub things: Things,
+    pub parts: Parts,
+    pub locals: Locals,
     pub shapes: Shapes,
+    /// The types of registers and inputs, and those of the fields of structs, by their numbers.
+    pub registers: Sequence<Shape>,
+    pub inputs: Sequence<Shape>,
+    pub fields: Sequence<Sequence<Shape>>,
+    pub functions: Sequence<Signature>,
+    /// For each rule whether it must not fire.
+    pub asserted: Sequence<bool>,
 }
 
 impl Checker {
     /// Nothing is declared. The names are those of a text.
-    pub(crate) fn new(alloc: Global, text: &[u8]) -> Checker
+    pub(crate) fn new(alloc: Global, text: &[u8], hosts: Sequence<HostSpec>) -> Checker
+        requires { All (λ (h : Spec). TakesWidth h.kind h.in_width) hosts }
         ensures { IsChecker result }
     {
         Checker {
             alloc,
+            hosts,
             design: Checked {
                 enums: Sequence::new(alloc),
                 structs: Sequence::new(alloc),
@@ -39,7 +81,14 @@ impl Checker {
                 weight: 0,
             },
             things: Things::new(alloc, text),
+            parts: Parts::new(alloc, text),
+            locals: Locals::new(alloc, text),
             shapes: Shapes::new(alloc),
+            registers: Sequence::new(alloc),
+            inputs: Sequence::new(alloc),
+            fields: Sequence::new(alloc),
+            functions: Sequence::new(alloc),
+            asserted: Sequence::new(alloc),
         }
     }
 

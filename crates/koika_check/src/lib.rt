@@ -9,8 +9,11 @@
 mod agreement;
 mod checked;
 mod checker;
+mod composites;
+mod constants;
 mod locals;
 mod measure;
+mod names;
 mod operators;
 mod parts;
 mod shapes;

@@ -1,6 +1,6 @@
-ghost use Rattle.std.specs.Prelude.{◌≡◌, ◌+◌, ◌-◌, ◌<◌, ◌≤◌, List, [], ◌∷◌, drop, length, None, Some, MatchOption, IfOk, OnOk, slice_get};
+ghost use Rattle.std.specs.Prelude.{◌≡◌, ◌+◌, ◌-◌, ◌<◌, ◌≤◌, List, [], ◌∷◌, ◌++◌, Contains, drop, take, length, None, Some, MatchOption, IfSome, IfOk, OnOk, slice_get};
 ghost use Rattle.kw_base.specs.Names.{number_of};
-ghost use Rattle.koika_check.specs.Locals.{AreLocals, locals_of};
+ghost use Rattle.koika_check.specs.Locals.{AreLocals, locals_of, shapes_of};
 ghost use Rattle.koika_check.specs.Scopes.{local_named};
 ghost use Rattle.koika_check.specs.Shapes.{type_of_shape};
 ghost use Rattle.koika_check.specs.declared.typed.ValueType.{ValueType};
@@ -51,9 +51,10 @@ impl Locals {
     /// The innermost local of this name.
     pub(crate) fn named(&self, name: &[u8]) -> Option<Local>
         requires { AreLocals self.now }
-        ensures { (arrays : List ValueType) → MatchOption result (local_named (locals_of arrays self.now) name.now ≡ None)
+        ensures local { (arrays : List ValueType) → MatchOption result (local_named (locals_of arrays self.now) name.now ≡ None)
             (λ local. (local_named (locals_of arrays self.now) name.now ≡ Some local.index)
             × (slice_get (locals_of arrays self.now) local.index ≡ Some (record { name = name.now; of = type_of_shape arrays local.shape }))) }
+        ensures shape { IfSome result (λ local. Contains (shapes_of self.now) local.shape) }
     {
         let number = self.names.find(name)?;
         let place = self.innermost[number as usize]?;
@@ -68,6 +69,7 @@ impl Locals {
         requires { AreLocals self.old }
         ensures kept { OnOk result (AreLocals self.new) }
         ensures bound { OnOk result ((arrays : List ValueType) → locals_of arrays self.new ≡ record { name = name.now; of = type_of_shape arrays shape } ∷ locals_of arrays self.old) }
+        ensures shapes { OnOk result (shapes_of self.new ≡ shapes_of self.old ++ shape ∷ []) }
     {
         let number = self.number_of(name)?;
         let place = self.bound.len();
@@ -97,6 +99,7 @@ impl Locals {
         requires bound { bound ≤ length self.old.bound }
         ensures kept { AreLocals self.new }
         ensures left { (arrays : List ValueType) → locals_of arrays self.new ≡ drop (length self.old.bound - bound) (locals_of arrays self.old) }
+        ensures shapes { shapes_of self.new ≡ take bound (shapes_of self.old) }
         ensures count { length self.new.bound ≡ bound }
     {
         while self.bound.len() > bound {
@@ -110,6 +113,7 @@ impl Locals {
         requires bound { 0 < length self.old.bound }
         ensures kept { AreLocals self.new }
         ensures left { (arrays : List ValueType) → locals_of arrays self.new ≡ drop 1 (locals_of arrays self.old) }
+        ensures shapes { shapes_of self.new ≡ take (length self.new.bound) (shapes_of self.old) }
         ensures count { length self.old.bound ≡ length self.new.bound + 1 }
     {
         if let Some(local) = self.bound.pop() {

@@ -37,6 +37,7 @@ impl Checker {
         requires { IsChecker self.old }
         ensures kept { OnOk result (IsChecker self.new) }
         ensures grows { OnOk result (Grows self.old self.new) }
+        ensures locals { OnOk result (self.new.locals ≡ self.old.locals) }
         ensures tells { Tells (λ named of. (named.of ≡ of) × Stands self.new named.shape of) (types.type_of self.old.design of.now) result }
     {
         let mut lengths = Sequence::new(self.alloc);
@@ -55,6 +56,7 @@ impl Checker {
         requires { IsChecker self.old }
         ensures kept { OnOk result (IsChecker self.new) }
         ensures grows { OnOk result (Grows self.old self.new) }
+        ensures locals { OnOk result (self.new.locals ≡ self.old.locals) }
         ensures tells { Tells (λ inner of. (inner.base ≡ of.base) × (lengths.new ≡ lengths.old ++ of.lengths) × Stands self.new inner.shape of) (types.type_of self.old.design of.now) result }
     {
         match of {
@@ -84,19 +86,29 @@ impl Checker {
         }
     }
 
+    // The enum or struct that a name is declared as.
+    fn type_of_name(&self, name: &[u8]) -> Option<BaseType>
+        requires { IsChecker self.now }
+        ensures { result ≡ types.type_named self.now.design name.now }
+    {
+        base_of(self.things.named(name))
+    }
+
     // The enum or struct of this name.
     fn declared_type(&self, name: &Name) -> Result<Inner, Stop>
         requires { IsChecker self.now }
         ensures { Tells (λ inner of. (inner.base ≡ of.base) × (of.lengths ≡ []) × Stands self.now inner.shape of) (types.named_type self.now.design name.now) result }
     {
-        let Some(base) = base_of(self.things.named(name.text.as_slice())) else {
-            return Err(Stop::at(fault_number::UNKNOWN_NAME, name.place));
-        };
-        let shape = shape_of(base);
-        if !is_width(self.width(shape)) {
-            return Err(Stop::at(fault_number::WRONG_WIDTH, name.place));
+        match self.type_of_name(name.text.as_slice()) {
+            None => Err(Stop::at(fault_number::UNKNOWN_NAME, name.place)),
+            Some(base) => {
+                let shape = shape_of(base);
+                if !is_width(self.width(shape)) {
+                    return Err(Stop::at(fault_number::WRONG_WIDTH, name.place));
+                }
+                Ok(Inner { base, shape })
+            }
         }
-        Ok(Inner { base, shape })
     }
 
     // The type of this many items of a type.
@@ -105,6 +117,7 @@ impl Checker {
         requires element { IsType self.old element }
         ensures kept { OnOk result (IsChecker self.new) }
         ensures grows { OnOk result (Grows self.old self.new) }
+        ensures locals { OnOk result (self.new.locals ≡ self.old.locals) }
         ensures tells { Tells (Stands self.new) (types.array_type self.old.design length place (type_of_shape (arrays_of self.old) element)) result }
     {
         if length < 1 || length > MAX_LENGTH {

@@ -1,0 +1,19 @@
+use Rattle.std.proofs.Common.{◌≡◌, ap, subst, ◌∙◌}
+use Rattle.kw_base.specs.declared.fault_number.TheConstants.{UNKNOWN_NAME}
+use Rattle.koika_check.specs.Checking.{enum_by}
+use Rattle.koika_check.specs.Outcomes.{Tells, found, wrong}
+use Rattle.koika_check.specs.Things.{thing_named}
+use Rattle.koika_types.specs.declared.declarations.EnumDecl.{EnumDecl}
+use Rattle.koika_check.proofs.Checkers.{named-within}
+use Rattle.koika_check.proofs.checker.Checker.enum_named.Goals as goal
+
+pub returns-clause-found : goal.returns-clause-found
+returns-clause-found c =
+    let named = c.enum_of.ensures ∙ ap enum_by (c.named.ensures ∙ ap (thing_named c.args.self.now.things) c.as_slice.ensures) ∙ (c.requires.names c.args.name.now.text).enums in
+    subst (λ o. Tells (λ n of. n ≡ of) (found o (wrong UNKNOWN_NAME c.args.name.now.place)) c.wanted.result) named c.wanted.ensures
+
+pub returns-clause-declared : goal.returns-clause-declared
+returns-clause-declared c =
+    let named = c.enum_of.ensures ∙ ap enum_by (c.named.ensures ∙ ap (thing_named c.args.self.now.things) c.as_slice.ensures) ∙ (c.requires.names c.args.name.now.text).enums in
+    named-within (λ (x : EnumDecl). x.name) c.args.self.now.design.enums c.args.name.now.text (wrong UNKNOWN_NAME c.args.name.now.place) c.wanted.result
+    (subst (λ o. Tells (λ n of. n ≡ of) (found o (wrong UNKNOWN_NAME c.args.name.now.place)) c.wanted.result) named c.wanted.ensures)

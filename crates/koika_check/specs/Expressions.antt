@@ -1,0 +1,151 @@
+-- What an expression comes to where names stand for what a scope says: its type, and the expression with its names
+-- resolved, or its first fault. One case for each construct: its parts from left to right, and its own conditions behind
+-- them. This project's own rules, after the typing of Kôika (Bourgeat et al., PLDI 2020).
+use Rattle.std.specs.Prelude.{ℕ, List, [], ◌∷◌, ◌++◌, Option, Some, None}
+use Rattle.kw_base.specs.declared.fault_number.TheConstants.{UNKNOWN_NAME}
+use Rattle.koika_syntax.specs.declared.operator.BinaryOperator.{BinaryOperator}
+use Rattle.koika_syntax.specs.declared.tree.Arm.{Arm, Arm-F, fold-Arm}
+use Rattle.koika_syntax.specs.declared.tree.Block.{Block, Block-F, fold-Block}
+use Rattle.koika_syntax.specs.declared.tree.Expression.{Expression, Expression-F, fold-Expression}
+use Rattle.koika_syntax.specs.declared.tree.Expression.TheOpen as expression
+use Rattle.koika_syntax.specs.declared.tree.FieldValue.{FieldValue, FieldValue-F, fold-FieldValue}
+use Rattle.koika_syntax.specs.declared.tree.Name.{Name}
+use Rattle.koika_syntax.specs.declared.tree.Operand.{Operand, Operand-F, fold-Operand}
+use Rattle.koika_syntax.specs.declared.tree.Statement.{Statement, Statement-F, fold-Statement}
+use Rattle.koika_check.specs.Outcomes.{Outcome, ◌>>=◌, Gives, in_turn, one_by_one, found, wrong}
+use Rattle.koika_check.specs.Types.{struct_named, type_of, wrong_type}
+use Rattle.koika_check.specs.Constructs.{ArmTyping, FieldTyping, Joined, Typing, abort_at, array_in, call, chained, comparison, conditional, extended, join, literal, member_in, named, packed, postfix, read_in, struct_in, typing, unary, unpacked, updated, written}
+use Rattle.koika_check.specs.Scopes.{Scope, bound, called, register}
+use Rattle.koika_check.specs.declared.typed.Step.{Step}
+use Rattle.koika_check.specs.declared.typed.Step.TheVariants as step
+use Rattle.koika_check.specs.declared.typed.Typed.{Typed}
+use Rattle.koika_check.specs.declared.typed.Typed.TheVariants as typed
+
+-- ---- what the parts of an expression come to
+
+-- a statement that is well typed, and what names stand for behind it
+pub record Stepping : Type 0 where
+  pub step : Step
+  pub behind : Scope
+
+-- what each of them comes to in a scope
+abbrev pub Meaning : Type 0
+Meaning = Scope → Outcome Typing
+
+abbrev pub Stepped : Type 0
+Stepped = Scope → Outcome Stepping
+
+abbrev pub Armed : Type 0
+Armed = Scope → Outcome ArmTyping
+
+abbrev pub Fielded : Type 0
+Fielded = Scope → Outcome FieldTyping
+
+-- an operator, and what its right operand comes to
+pub record Joining : Type 0 where
+  pub operator : BinaryOperator
+  pub operand : Meaning
+
+-- all parts in a scope, from left to right
+abbrev pub all_in : {X : Type 0} → Scope → List (Scope → Outcome X) → Outcome (List X)
+all_in scope = in_turn (λ look. look scope)
+
+-- what an optional part holds
+abbrev pub held : {M X : Type 0} → Option M → (M → X) → Option X
+held None inside = None
+held (Some part) inside = Some (inside part)
+
+-- a chain, operator by operator
+abbrev pub join_in : Scope → Joining → Joined → Outcome Joined
+join_in scope next before = next.operand scope >>= λ right. join next.operator right before
+
+abbrev pub chain_in : Scope → List Joining → Typing → Outcome Typing
+chain_in scope rest first = one_by_one (join_in scope) rest (record { left = first.part; operators = []; operands = first ∷ [] }) >>= λ all. Gives (chained all)
+
+-- ---- blocks and arms
+
+-- statements in order, each in the scope that those before it leave
+pub record Run : Type 0 where
+  pub steps : List Step
+  pub behind : Scope
+
+abbrev pub run : Stepped → Run → Outcome Run
+run statement before = statement before.behind >>= λ one. Gives (record { steps = before.steps ++ one.step ∷ []; behind = one.behind })
+
+-- and then the last expression, if there is one
+abbrev pub close : (place : ℕ) → Option Meaning → Run → Outcome Typing
+close place None all = Gives (typing None place (typed.Block all.steps))
+close place (Some last) all = last all.behind >>= λ value.
+    Gives (typing value.part.of place (typed.Block (all.steps ++ step.Give value.typed ∷ [])))
+
+abbrev pub block_from : (place : ℕ) → List Stepped → Option Meaning → Meaning
+block_from place statements last scope = one_by_one run statements (record { steps = []; behind = scope }) >>= close place last
+
+abbrev pub otherwise_in : Scope → Option Meaning → Outcome (List Typing)
+otherwise_in scope None = Gives []
+otherwise_in scope (Some last) = last scope >>= λ body. Gives (body ∷ [])
+
+-- ---- the constructs
+
+abbrev pub expression_step : Expression-F Meaning Stepped Armed Meaning Fielded Joining → Meaning
+expression_step (expression.Literal l) scope = Gives (literal l)
+expression_step (expression.Name n) scope = named scope n
+expression_step (expression.Member of m) scope = member_in scope.design of m
+expression_step (expression.Chain first rest) scope = first.value scope >>= chain_in scope rest.items
+expression_step (expression.Unary prefixes operand) scope = operand.value scope >>= unary prefixes
+expression_step (expression.Postfix primary suffixes) scope = primary.value scope >>= postfix scope.design suffixes
+expression_step (expression.Parentheses place inside) scope = inside.value scope >>= λ inner. Gives (typing inner.part.of place inner.typed)
+expression_step (expression.Block block) scope = block scope
+expression_step (expression.If arms otherwise) scope = all_in scope arms.items >>= λ typed_arms. otherwise_in scope otherwise >>= conditional typed_arms
+expression_step (expression.Call n arguments) scope = called scope.design n >>= λ c. all_in scope arguments.items >>= call n c
+expression_step (expression.Struct of fields close) scope = found (struct_named scope.design of.text) (wrong UNKNOWN_NAME of.place) >>= λ number.
+    all_in scope fields.items >>= struct_in scope.design number of.place close
+expression_step (expression.Array place elements) scope = all_in scope elements.items >>= array_in scope.design place
+expression_step (expression.Read place port r) scope = read_in scope.design place port r
+expression_step (expression.Write place port r value) scope = register scope.design r >>= λ number. value.value scope >>= written scope.design place port number
+expression_step (expression.Abort place) scope = Gives (abort_at place)
+expression_step (expression.Pack place value) scope = value.value scope >>= packed scope.design place
+expression_step (expression.Unpack place to value) scope = type_of scope.design to >>= λ of. value.value scope >>= unpacked scope.design place of
+expression_step (expression.Extend place extension value width) scope = value.value scope >>= extended place extension width
+expression_step (expression.Compare place o left right) scope = left.value scope >>= λ one. right.value scope >>= comparison place o one
+expression_step (expression.Update place whole part value) scope = whole.value scope >>= λ old. value.value scope >>= updated scope.design place part old
+
+-- `let`: the value isn't unit (22); it is bound in all statements behind
+abbrev pub statement_step : Statement-F Meaning Stepped Armed Meaning Fielded Joining → Stepped
+statement_step (expression.Let n value) scope = value scope >>= λ inner.
+    found inner.part.of (wrong_type inner.part) >>= λ of.
+    Gives (record { step = step.Let inner.typed; behind = bound n.text of scope })
+statement_step (expression.Do value) scope = value scope >>= λ inner. Gives (record { step = step.Do inner.typed; behind = scope })
+
+abbrev pub arm_step : Arm-F Meaning Stepped Armed Meaning Fielded Joining → Armed
+arm_step arm scope = arm.condition scope >>= λ condition. arm.body scope >>= λ body.
+    Gives (record { place = arm.place; condition = condition; body = body })
+
+abbrev pub block_step : Block-F Meaning Stepped Armed Meaning Fielded Joining → Meaning
+block_step block = block_from block.place block.statements.items (held block.value (λ last. last.value))
+
+abbrev pub field_value_step : FieldValue-F Meaning Stepped Armed Meaning Fielded Joining → Fielded
+field_value_step field scope = field.value scope >>= λ inner. Gives (record { name = field.name; typing = inner })
+
+abbrev pub operand_step : Operand-F Meaning Stepped Armed Meaning Fielded Joining → Joining
+operand_step operand = record { operator = operand.operator; operand = operand.operand }
+
+-- ---- what whole expressions come to
+
+unfoldable pub expression_in : Expression → Meaning
+expression_in = fold-Expression Meaning Stepped Armed Meaning Fielded Joining expression_step statement_step arm_step block_step field_value_step operand_step
+
+unfoldable pub statement_in : Statement → Stepped
+statement_in = fold-Statement Meaning Stepped Armed Meaning Fielded Joining expression_step statement_step arm_step block_step field_value_step operand_step
+
+unfoldable pub arm_in : Arm → Armed
+arm_in = fold-Arm Meaning Stepped Armed Meaning Fielded Joining expression_step statement_step arm_step block_step field_value_step operand_step
+
+unfoldable pub block_in : Block → Meaning
+block_in = fold-Block Meaning Stepped Armed Meaning Fielded Joining expression_step statement_step arm_step block_step field_value_step operand_step
+
+unfoldable pub field_value_in : FieldValue → Fielded
+field_value_in = fold-FieldValue Meaning Stepped Armed Meaning Fielded Joining expression_step statement_step arm_step block_step field_value_step operand_step
+
+unfoldable pub operand_in : Operand → Joining
+operand_in = fold-Operand Meaning Stepped Armed Meaning Fielded Joining expression_step statement_step arm_step block_step field_value_step operand_step
