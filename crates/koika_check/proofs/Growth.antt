@@ -1,8 +1,8 @@
 -- What stays as array types are added to a checker.
-use Rattle.std.proofs.Common.{◌≡◌, ℕ, zero, suc, ◌+◌, ◌<◌, ◌≤◌, inl, inr, List, [], ◌∷◌, ◌++◌, length, map, get_or, Option, Some, None, refl, ap, ap₂, sym, ◌∙◌, subst, arith, append_assoc, append-nil, length-append}
+use Rattle.std.proofs.Common.{◌≡◌, ℕ, zero, suc, ◌<◌, List, [], ◌∷◌, ◌++◌, length, map, get_or, Option, Some, None, refl, ap, ap₂, sym, ◌∙◌, subst, arith, append_assoc, append-nil, length-append}
 use Rattle.std.specs.List.{All}
 use Rattle.std.proofs.lemmas.List.Elements.{All-cons, All-nil, All-tail, All-weaker}
-use Rattle.koika_check.specs.Checking.{AreTypes, Grows, IsChecker, IsNamed, IsPart, IsReady, ready, IsSignature, IsType, IsTypeIf, IsTypeOrUnit, IsWidth, Stands, arrays_of, scope_of}
+use Rattle.koika_check.specs.Checking.{AreTypes, Grows, IsChecker, IsNamed, IsPart, IsReady, ready, IsSignature, IsType, IsTypeOrUnit, IsWidth, Stands, arrays_of, scope_of}
 use Rattle.koika_check.specs.Locals.{AreLocals, inside_of, local_of, locals_of, shapes_of}
 use Rattle.koika_check.specs.Scopes.{Local, Scope}
 use Rattle.koika_check.specs.Shapes.{AreShapes, IsShape, array_types, part_of, type_if, type_of_shape}

@@ -1,25 +1,22 @@
 -- Constants in order, as far as they were looked at.
-use Rattle.std.proofs.Common.{◌≡◌, ℕ, ◌+◌, ◌<◌, List, [], ◌∷◌, ◌++◌, length, map, take, drop, get_or, Result, Ok, Err, refl, ap, ap₂, sym, ◌∙◌, subst, arith}
-use Rattle.std.specs.List.{All}
+use Rattle.std.proofs.Common.{◌≡◌, ℕ, ◌+◌, ◌<◌, List, [], ◌∷◌, ◌++◌, length, map, take, drop, get_or, Result, Ok, Err, refl, ap, ap₂, sym, ◌∙◌, subst}
 use Rattle.std.proofs.lemmas.List.{map-append}
-use Rattle.std.proofs.lemmas.List.Elements.{All-nil, All-push, All-tail, All-weaker}
+use Rattle.std.proofs.lemmas.List.Elements.{All-nil, All-push, All-weaker}
 use Rattle.koika_syntax.specs.declared.tree.Constant.{Constant}
 use Rattle.koika_syntax.specs.declared.tree.ConstantField.{ConstantField, out-ConstantField}
 use Rattle.koika_syntax.specs.declared.tree.Name.{Name}
 use Rattle.koika_types.specs.declared.value.Value.{Value}
 use Rattle.koika_types.specs.declared.value.Value.TheVariants as value
-use Rattle.koika_check.specs.Checking.{Checks, IsMember, IsPartIn, StandsFor, AreGiven, AreKnown, AreKnownFields, Grows, IsChecker, IsGiven, IsKnown, IsPart, Yields, arrays_of, scope_of}
+use Rattle.koika_check.specs.Checking.{Checks, IsMember, IsPartIn, StandsFor, AreGiven, AreKnown, AreKnownFields, IsChecker, IsGiven, IsKnown, IsPart, Yields, arrays_of, scope_of}
 use Rattle.koika_check.specs.Composites.{array_of, fields_of, struct_of}
 use Rattle.koika_check.specs.Composites as composites
 use Rattle.koika_check.specs.Constants.{array_known, constant_field_of, constant_of, known_member, struct_known}
 use Rattle.koika_check.specs.Constants as constants
 use Rattle.koika_check.specs.Outcomes.{Ends, Gives, Outcome, Tells, ◌>>=◌, in_turn}
-use Rattle.koika_check.specs.Scopes.{Scope}
 use Rattle.koika_check.specs.Shapes.{part_of}
 use Rattle.koika_check.specs.Types.{Part as TypedPart}
 use Rattle.koika_check.specs.declared.agreement.Part.{Part}
 use Rattle.koika_check.specs.declared.checked.Checked.{Checked}
-use Rattle.koika_check.specs.declared.checked.Field.{Field}
 use Rattle.koika_check.specs.declared.checker.Checker.{Checker}
 use Rattle.koika_check.specs.declared.checker.Known.{Known}
 use Rattle.koika_check.specs.declared.composites.Given.{Given}

@@ -1,8 +1,8 @@
 -- What steps of a checker come to one behind another.
-use Rattle.std.proofs.Common.{◌≡◌, List, Result, Ok, Err, refl, ap, ap₂, sym, ◌∙◌, subst}
+use Rattle.std.proofs.Common.{◌≡◌, Result, Ok, Err, refl, ap, ap₂, sym, ◌∙◌}
 use Rattle.koika_check.specs.Checking.{Checks, Grows, IsChecker, IsPart, IsTyping, TypedAs, Yields, arrays_of, scope_of, typing_of}
 use Rattle.koika_check.specs.Constructs as constructs
-use Rattle.koika_check.specs.Outcomes.{Ends, Gives, Outcome, Tells, ◌>>=◌}
+use Rattle.koika_check.specs.Outcomes.{Ends, Outcome, Tells, ◌>>=◌}
 use Rattle.koika_check.specs.Scopes.{Scope}
 use Rattle.koika_check.specs.Shapes.{part_of}
 use Rattle.koika_check.specs.Types.{Part as TypedPart}
@@ -11,7 +11,7 @@ use Rattle.koika_check.specs.declared.checker.Checker.{Checker}
 use Rattle.koika_check.specs.declared.checker.Typing.{Typing}
 use Rattle.koika_check.specs.declared.stop.Stop.{Stop}
 use Rattle.koika_check.specs.declared.typed.Typed.{Typed}
-use Rattle.koika_check.proofs.Growth.{grows-refl, grows-trans, part-grows, same-part}
+use Rattle.koika_check.proofs.Growth.{grows-refl, grows-trans, same-part}
 use Rattle.koika_check.proofs.Telling.{tells-ok}
 use Rattle.koika_check.proofs.Turns.{ends-behind, ends-bind, ends-same, ends-tells}
 

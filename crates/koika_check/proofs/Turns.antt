@@ -1,11 +1,9 @@
 -- Parts that are looked at one after another, as far as they were looked at.
-use Rattle.std.proofs.Common.{◌≡◌, ℕ, ◌+◌, ◌<◌, ◌≤◌, List, [], ◌∷◌, ◌++◌, length, map, take, drop, get_or, zero, suc, Option, None, Some, Ok, Err, refl, ap, sym, ◌∙◌, subst, arith}
+use Rattle.std.proofs.Common.{◌≡◌, ℕ, ◌+◌, ◌<◌, List, [], ◌∷◌, ◌++◌, length, map, take, drop, get_or, zero, suc, None, Some, Err, refl, ap, sym, ◌∙◌, subst, arith}
 use Rattle.std.proofs.lemmas.List.{drop_more, take-append-drop, take_more}
-
 use Rattle.koika_check.specs.Outcomes.{Ends, Condition, Fails, Gives, Outcome, Passes, Tells, ◌>>=◌, in_turn, one_by_one, unless}
 use Rattle.koika_check.specs.declared.stop.Stop.{Stop}
 use Rattle.koika_check.specs.declared.stop.Stop.TheVariants as stops
-use Rattle.koika_check.specs.declared.stop.Wrong.{Wrong}
 
 -- ---- outcomes one after another
 

@@ -6,7 +6,6 @@ use Rattle.std.specs.List.{list_any}
 use Rattle.kw_base.specs.Names.{number_of}
 use Rattle.kw_bits.specs.Host.{TakesWidth}
 use Rattle.koika_types.specs.declared.declarations.Member.{Member}
-use Rattle.koika_types.specs.declared.value.Value.{Value}
 use Rattle.typed_core.specs.declared.design.HostSpec.{HostSpec}
 use Rattle.koika_check.specs.Composites.{field_named, fields_of, members_of, type_at}
 use Rattle.koika_check.specs.Composites as composites

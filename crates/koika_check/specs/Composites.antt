@@ -8,7 +8,7 @@ use Rattle.koika_syntax.specs.declared.tree.Name.{Name}
 use Rattle.koika_types.specs.declared.declarations.EnumDecl.{EnumDecl}
 use Rattle.koika_types.specs.declared.declarations.Member.{Member}
 use Rattle.koika_check.specs.Outcomes.{Outcome, ◌>>=◌, Gives, Condition, holds, first, where_all, found, wrong}
-use Rattle.koika_check.specs.Types.{Part, agrees, array, base_width, each, enum_named, is_value, is_width, of_base, part, struct_named, width_of}
+use Rattle.koika_check.specs.Types.{Part, agrees, array, base_width, each, enum_named, is_value, is_width, of_base, part, width_of}
 use Rattle.koika_check.specs.declared.checked.Checked.{Checked}
 use Rattle.koika_check.specs.declared.checked.Field.{Field}
 use Rattle.koika_check.specs.declared.checked.Struct.{Struct}

@@ -1,5 +1,5 @@
 -- What a constant comes to: its value and its type, or its first fault. The conditions are those of expressions.
-use Rattle.std.specs.Prelude.{ℕ, map, List, [], ◌∷◌, Option, Some, None}
+use Rattle.std.specs.Prelude.{ℕ, map, List, Some}
 use Rattle.kw_base.specs.declared.fault_number.TheConstants.{UNKNOWN_NAME}
 use Rattle.koika_syntax.specs.declared.tree.Name.{Name}
 use Rattle.koika_syntax.specs.declared.tree.Constant.{Constant, Constant-F, fold-Constant}

@@ -2,7 +2,7 @@
 -- conditions. One definition for each construct. This project's own rules, after the typing of Kôika (Bourgeat et al.,
 -- PLDI 2020).
 use Rattle.std.specs.Prelude.{ℕ, ◌&&◌, nat_le, nat_eq, map, List, [], ◌∷◌, ◌++◌, length, Option, Some, None}
-use Rattle.kw_base.specs.declared.fault_number.TheConstants.{UNKNOWN_NAME, WRONG_ARGUMENT_COUNT, WRONG_WIDTH}
+use Rattle.kw_base.specs.declared.fault_number.TheConstants.{WRONG_ARGUMENT_COUNT, WRONG_WIDTH}
 use Rattle.koika_syntax.specs.declared.operator.BinaryOperator.{BinaryOperator}
 use Rattle.koika_syntax.specs.declared.operator.Extension.{Extension}
 use Rattle.koika_syntax.specs.declared.operator.SignedComparison.{SignedComparison}
@@ -15,8 +15,8 @@ use Rattle.koika_syntax.specs.declared.tree.Prefix.{Prefix}
 use Rattle.koika_syntax.specs.declared.tree.Suffix.{Suffix}
 use Rattle.koika_types.specs.declared.value.Value.TheVariants as value
 use Rattle.koika_check.specs.Outcomes.{Outcome, ◌>>=◌, Gives, one_by_one, Condition, holds, first, where_all, found, wrong}
-use Rattle.koika_check.specs.Types.{Part, agrees, as_bits, bits, each, is_bits, of_base, part, width_of, wrong_type}
-use Rattle.koika_check.specs.Composites.{Given, MemberOf, array_of, member, struct_of}
+use Rattle.koika_check.specs.Types.{Part, agrees, bits, each, is_bits, of_base, part, width_of, wrong_type}
+use Rattle.koika_check.specs.Composites.{Given, array_of, member, struct_of}
 use Rattle.koika_check.specs.Scopes.{Called, Scope, bare, register, register_type}
 use Rattle.koika_check.specs.Operators.{bits_in, compared, operated}
 use Rattle.koika_check.specs.Selections.{Selected, replace_field, replace_item, select}

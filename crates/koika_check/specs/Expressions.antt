@@ -9,7 +9,6 @@ use Rattle.koika_syntax.specs.declared.tree.Block.{Block, Block-F, fold-Block}
 use Rattle.koika_syntax.specs.declared.tree.Expression.{Expression, Expression-F, fold-Expression}
 use Rattle.koika_syntax.specs.declared.tree.Expression.TheOpen as expression
 use Rattle.koika_syntax.specs.declared.tree.FieldValue.{FieldValue, FieldValue-F, fold-FieldValue}
-use Rattle.koika_syntax.specs.declared.tree.Name.{Name}
 use Rattle.koika_syntax.specs.declared.tree.Operand.{Operand, Operand-F, fold-Operand}
 use Rattle.koika_syntax.specs.declared.tree.Statement.{Statement, Statement-F, fold-Statement}
 use Rattle.koika_check.specs.Outcomes.{Outcome, ◌>>=◌, Gives, in_turn, one_by_one, found, wrong}
@@ -18,7 +17,6 @@ use Rattle.koika_check.specs.Constructs.{ArmTyping, FieldTyping, Joined, Typing,
 use Rattle.koika_check.specs.Scopes.{Scope, bound, called, register}
 use Rattle.koika_check.specs.declared.typed.Step.{Step}
 use Rattle.koika_check.specs.declared.typed.Step.TheVariants as step
-use Rattle.koika_check.specs.declared.typed.Typed.{Typed}
 use Rattle.koika_check.specs.declared.typed.Typed.TheVariants as typed
 
 -- ---- what the parts of an expression come to

@@ -90,3 +90,8 @@ Passes condition answer = ⊥
 abbrev pub Ends : {X : Type 0} → Outcome X → Stop → Type 0
 Ends outcome stops.NoMemory = ⊤
 Ends outcome (stops.Wrong fault) = outcome ≡ Fails fault
+
+-- a call answers what an outcome says, as above, told by the answer
+abbrev pub Answers : {X Y : Type 0} → (Y → X → Type 0) → Outcome X → Result Y Stop → Type 0
+Answers {X} is outcome (Ok y) = (value : X) × (outcome ≡ Gives value) × is y value
+Answers is outcome (Err stop) = Ends outcome stop

@@ -1,23 +1,29 @@
-//! Designs whose names are resolved: the typed tree that the checker makes of a design's tree, and the lower layers of the
-//! checker, which nothing calls yet.
+//! Designs whose names are resolved: the typed tree that the checker makes of a design's tree, and of the checker all but
+//! expressions, functions and rules, which nothing calls yet.
 //!
-//! `specs/Sizes.antt` says what the weight and the depth of a typed tree are; `specs/Outcomes.antt`, `Types.antt`,
-//! `Operators.antt`, `Selections.antt` and `Scopes.antt` what the checks come to. The lowering takes a `Checked` without
-//! looking a name up.
+//! `specs/Checks.antt` says what a whole tree comes to, after `Declarations.antt`, `Constants.antt`, `Expressions.antt` and
+//! `Schedule.antt`; `specs/Sizes.antt` what the weight and the depth of a typed tree are. The lowering takes a `Checked`.
 #![tactic(auto)]
 
+mod additions;
 mod agreement;
 mod checked;
 mod checker;
 mod composites;
 mod constants;
+mod declarations;
+mod enums;
+mod limits;
 mod locals;
 mod measure;
 mod names;
 mod operators;
 mod parts;
+mod path;
+mod schedule;
 mod shapes;
 mod stop;
+mod structs;
 mod suffixes;
 mod things;
 mod typed;

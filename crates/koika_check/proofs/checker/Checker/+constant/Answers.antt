@@ -1,10 +1,8 @@
-use Rattle.std.proofs.lemmas.Grind.{common_steps}
-use Rattle.std.proofs.Common.{rules, ◌≡◌, ◌+◌, ◌<◌, ◌∷◌, [], ◌++◌, ap, arith, length, length-append, map, refl, subst, sym, ◌∙◌, take}
-use Rattle.std.proofs.lemmas.List.{length-map, take_all}
+use Rattle.std.proofs.Common.{◌≡◌, ◌+◌, ◌∷◌, [], ◌++◌, ap, arith, length, length-append, map, refl, subst, sym, ◌∙◌}
 use Rattle.std.proofs.lemmas.Result.{err_from_is_err_and}
 use Rattle.kw_base.specs.declared.fault_number.TheConstants.{UNKNOWN_NAME}
 use Rattle.koika_types.specs.declared.value.Value.TheVariants as value
-use Rattle.koika_check.specs.Checking.{AreGiven, AreKnown, AreKnownFields, Checks, IsKnown, IsPartIn, Yields, arrays_of, scope_of}
+use Rattle.koika_check.specs.Checking.{AreGiven, AreKnown, Checks, IsKnown, IsPartIn, Yields, arrays_of, scope_of}
 use Rattle.koika_check.specs.Composites.{array_of, fields_of, member}
 use Rattle.koika_check.specs.Shapes.{part_of}
 use Rattle.koika_check.specs.Constants.{constant_field_of, constant_of, struct_known}

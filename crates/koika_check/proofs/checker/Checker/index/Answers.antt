@@ -1,4 +1,4 @@
-use Rattle.std.proofs.Common.{Err, Some, refl, subst, sym}
+use Rattle.std.proofs.Common.{Err, refl, subst, sym}
 use Rattle.std.proofs.lemmas.Result.{err_from_is_err_and}
 use Rattle.koika_check.specs.Checking.{Takes, arrays_of}
 use Rattle.koika_check.specs.Outcomes.{Tells}

@@ -1,0 +1,78 @@
+-- The scheduler's nodes, numbered in order of the text: a rule, and where the scheduler goes on where it fires and where it
+-- doesn't. A name that is no rule is 20, and a rule that stands twice on a path from the root is 27, each where it stands.
+-- After the scheduler of Kôika (Bourgeat et al., PLDI 2020).
+use Rattle.std.specs.Prelude.{ℕ, ◌+◌, not, nat_eq, Bool, List, [], ◌∷◌, ◌++◌, length, drop, Option, Some, None}
+use Rattle.std.specs.List.{list_any}
+use Rattle.std.specs.Option.{option_map}
+use Rattle.kw_base.specs.declared.fault_number.TheConstants.{UNKNOWN_NAME, RULE_TWICE_ON_A_PATH}
+use Rattle.koika_syntax.specs.declared.tree.Choice.{Choice, Choice-F, fold-Choice}
+use Rattle.koika_syntax.specs.declared.tree.Name.{Name}
+use Rattle.koika_syntax.specs.declared.tree.Scheduler.{Scheduler, Scheduler-F, fold-Scheduler}
+use Rattle.typed_core.specs.declared.design.Next.{Next}
+use Rattle.typed_core.specs.declared.design.Next.TheVariants as next
+use Rattle.typed_core.specs.declared.design.Node.{Node}
+use Rattle.koika_check.specs.Outcomes.{Outcome, ◌>>=◌, Gives, found, holds, one_by_one, where_all, wrong}
+use Rattle.koika_check.specs.Scopes.{rule_named}
+use Rattle.koika_check.specs.declared.checked.Checked.{Checked}
+
+-- ---- paths
+
+-- a rule stands on a path
+abbrev pub is_on : ℕ → (path : List ℕ) → Bool
+is_on rule path = list_any (nat_eq rule) path
+
+-- a name behind a path: a rule (20) that isn't on the path (27)
+abbrev pub tried : Checked → (path : List ℕ) → Name → Outcome ℕ
+tried d path n = found (rule_named d n.text) (wrong UNKNOWN_NAME n.place) >>= λ rule.
+    where_all (holds (not (is_on rule path)) (wrong RULE_TWICE_ON_A_PATH n.place) ∷ []) rule
+
+-- the path behind names that stand one after another
+abbrev pub longer : Checked → Name → (path : List ℕ) → Outcome (List ℕ)
+longer d n path = tried d path n >>= λ rule. Gives (path ++ rule ∷ [])
+
+abbrev pub path_behind : Checked → List Name → (path : List ℕ) → Outcome (List ℕ)
+path_behind d = one_by_one (longer d)
+
+-- ---- nodes
+
+-- a scheduler's nodes behind a path, where the first of them has this number
+abbrev pub Nodes : Type 0
+Nodes = Checked → (path : List ℕ) → (number : ℕ) → Outcome (List Node)
+
+-- the first of these nodes, which has this number, or the end where there is none
+abbrev pub first_of : List Node → (number : ℕ) → Next
+first_of [] number = next.End
+first_of (node ∷ nodes) number = next.Node number
+
+-- a node in front of others: whether its rule fires or not, the next is tried
+abbrev pub in_front : (number rule : ℕ) → (behind : List Node) → List Node
+in_front number rule behind = record { rule = rule; yes = first_of behind (number + 1); no = first_of behind (number + 1) } ∷ behind
+
+-- rules one after another, in front of other nodes
+abbrev pub in_a_row : (number : ℕ) → (rules : List ℕ) → (behind : List Node) → List Node
+in_a_row number [] behind = behind
+in_a_row number (rule ∷ rules) behind = in_front number rule (in_a_row (number + 1) rules behind)
+
+-- a rule with one scheduler behind it where it fires, and one where it doesn't
+abbrev pub choice_step : Choice-F Nodes Nodes → Nodes
+choice_step choice d path number = tried d path choice.rule >>= λ rule.
+    choice.then d (path ++ rule ∷ []) (number + 1) >>= λ taken.
+    choice.otherwise d (path ++ rule ∷ []) (number + 1 + length taken) >>= λ other.
+    Gives (record { rule = rule; yes = first_of taken (number + 1); no = first_of other (number + 1 + length taken) } ∷ taken ++ other)
+
+-- what stands at the end of a scheduler, if anything does
+abbrev pub at_the_end : Option Nodes → Nodes
+at_the_end None d path number = Gives []
+at_the_end (Some last) d path number = last d path number
+
+-- rules one after another, and what stands behind them
+abbrev pub scheduler_step : Scheduler-F Nodes Nodes → Nodes
+scheduler_step scheduler d path number = path_behind d scheduler.rules path >>= λ behind.
+    at_the_end (option_map (λ last. last.value) scheduler.last) d behind (number + length scheduler.rules) >>= λ nodes.
+    Gives (in_a_row number (drop (length path) behind) nodes)
+
+unfoldable pub scheduler_nodes : Scheduler → Nodes
+scheduler_nodes = fold-Scheduler Nodes Nodes choice_step scheduler_step
+
+unfoldable pub choice_nodes : Choice → Nodes
+choice_nodes = fold-Choice Nodes Nodes choice_step scheduler_step
