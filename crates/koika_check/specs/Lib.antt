@@ -7,7 +7,9 @@ pub mod Constructs
 pub mod Declarations
 pub mod Expressions
 pub mod Listed
+pub mod Composites
 pub mod Locals
+pub mod Meaning
 pub mod Operators
 pub mod Outcomes
 pub mod Paths
@@ -19,4 +21,5 @@ pub mod Settled
 pub mod Shapes
 pub mod Sizes
 pub mod Things
+pub mod TypedAlone
 pub mod Types
