@@ -23,3 +23,4 @@ pub mod Sizes
 pub mod Things
 pub mod TypedAlone
 pub mod Types
+pub mod Typing
