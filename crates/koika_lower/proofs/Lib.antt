@@ -1,0 +1,9 @@
+pub mod Bindings
+pub mod Chains
+pub mod Choices
+pub mod Comparisons
+pub mod Copies
+pub mod Orders
+pub mod Prefixes
+pub mod Replacing
+pub mod Widths

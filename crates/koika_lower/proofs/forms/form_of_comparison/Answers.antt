@@ -1,0 +1,15 @@
+use Rattle.std.proofs.Common.{ap, sym, ◌∙◌}
+use Rattle.koika_check.specs.Meaning.{comparison_value}
+use Rattle.koika_syntax.specs.declared.operator.SignedComparison.{SignedComparison}
+use Rattle.koika_lower.specs.Forms.{form_value}
+use Rattle.koika_lower.specs.declared.forms.Form.{Form}
+use Rattle.koika_lower.proofs.Comparisons.{not-slt, not-slte}
+use Rattle.koika_lower.proofs.forms.form_of_comparison.Goals as goal
+
+pub returns-in-Greater-clause-value : goal.returns-in-Greater-clause-value
+returns-in-Greater-clause-value c x y =
+    ap (λ (f : Form). form_value f x y) c.turned.ensures ∙ not-slte x y ∙ sym (ap (λ (o : SignedComparison). comparison_value o x y) c.in-Greater.is)
+
+pub returns-in-GreaterOrEqual-clause-value : goal.returns-in-GreaterOrEqual-clause-value
+returns-in-GreaterOrEqual-clause-value c x y =
+    ap (λ (f : Form). form_value f x y) c.turned-in-GreaterOrEqual.ensures ∙ not-slt x y ∙ sym (ap (λ (o : SignedComparison). comparison_value o x y) c.in-GreaterOrEqual.is)

@@ -1,0 +1,43 @@
+ghost use Rattle.std.specs.Prelude.{◌≡◌, ◌-◌, ◌≤◌, List, IfOk};
+ghost use Rattle.kw_bits.specs.BitVector.{BitVector};
+ghost use Rattle.koika_lower.specs.Actions.{ComesTo};
+ghost use Rattle.koika_lower.specs.Applied.{IsBound, StackFits, names_stacked};
+ghost use Rattle.typed_core.specs.Evaluation.{comes_to};
+
+use crate::lowered::{Lowered, bind, two};
+use kw_bits::{NoMemory, Sequence};
+use std::alloc::Global;
+use typed_core::{Action, TwoOp};
+
+/// A body in which the operands are bound, the last of them as the innermost name.
+pub(crate) fn all_bound(
+    alloc: Global,
+    operands: Sequence<Lowered>,
+    body: Action,
+) -> Result<Action, NoMemory>
+    ensures { IfOk result (IsBound operands body) }
+{
+    let mut operands = operands;
+    match operands.pop() {
+        Some(last) => {
+            let body = bind(alloc, last.action, body)?;
+            all_bound(alloc, operands, body)
+        }
+        None => Ok(body),
+    }
+}
+
+/// So many innermost names one above the other, the innermost in the most significant bits.
+pub(crate) fn stacked(alloc: Global, names: usize) -> Result<Action, NoMemory>
+    ensures means { IfOk result (λ action. 1 ≤ names → ComesTo action (λ env ports locals. comes_to (names_stacked (names - 1) locals))) }
+    ensures typed { IfOk result (λ action. 1 ≤ names → StackFits names action) }
+{
+    let mut action = Action::Local(0);
+    for name in 1..names {
+        if name > u32::MAX as usize {
+            return Err(NoMemory);
+        }
+        action = two(alloc, TwoOp::Concat, action, Action::Local(name as u32))?;
+    }
+    Ok(action)
+}

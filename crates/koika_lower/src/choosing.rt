@@ -1,0 +1,69 @@
+ghost use Rattle.std.specs.Prelude.{IfOk};
+ghost use Rattle.koika_lower.specs.Applied.{IsAfter, IsChoice, IsChosen};
+
+use crate::joining::last_of;
+use crate::lowered::{Lowered, either, sequence};
+use kw_bits::{NoMemory, Sequence};
+use std::alloc::Global;
+use typed_core::Action;
+
+/// The body of the first condition that is 1, and where there is one body more, that one where none is.
+pub(crate) fn chosen(
+    alloc: Global,
+    conditions: Sequence<Lowered>,
+    bodies: Sequence<Lowered>,
+) -> Result<Lowered, NoMemory>
+    ensures { IfOk result (IsChoice conditions bodies) }
+{
+    let mut bodies = bodies;
+    let last = if bodies.len() > conditions.len() {
+        last_of(&mut bodies)
+    } else {
+        Lowered::unit()
+    };
+    chosen_before(alloc, conditions, bodies, last)
+}
+
+// The body of the first condition that is 1, or else what comes behind them all.
+fn chosen_before(
+    alloc: Global,
+    conditions: Sequence<Lowered>,
+    bodies: Sequence<Lowered>,
+    behind: Lowered,
+) -> Result<Lowered, NoMemory>
+    ensures { IfOk result (IsChosen conditions bodies behind) }
+{
+    let mut conditions = conditions;
+    let mut bodies = bodies;
+    match conditions.pop() {
+        Some(condition) => {
+            let body = last_of(&mut bodies);
+            let width = body.width;
+            let action = either(alloc, condition.action, body.action, behind.action)?;
+            chosen_before(alloc, conditions, bodies, Lowered { action, width })
+        }
+        None => Ok(behind),
+    }
+}
+
+/// One action after another. A unit that does nothing stands neither in front of an action nor behind a unit.
+pub(crate) fn one_after_another(
+    alloc: Global,
+    first: Lowered,
+    second: Lowered,
+) -> Result<Lowered, NoMemory>
+    ensures { IfOk result (IsAfter first second) }
+{
+    if let Action::Unit = first.action {
+        return Ok(second);
+    }
+    if first.width == 0
+        && let Action::Unit = second.action
+    {
+        return Ok(first);
+    }
+    Ok(Lowered {
+        action: sequence(alloc, first.action, second.action)?,
+        width: second.width,
+    })
+}
