@@ -1,5 +1,5 @@
 -- Words and a source have an answer: what the definitions ask of each text and each form is told one way or the other.
-use Rattle.std.proofs.Common.{◌≡◌, ◌≢◌, ◌⊎◌, ◌<◌, ◌≤◌, ◌^◌, ℕ, Box, Global, Bool, true, false, List, [], ◌∷◌, length, drop, get_or, map, Option, Some, None, refl, sym, ap, subst, ◌∙◌, inl, inr, ⊎_elim, arith}
+use Rattle.std.proofs.Common.{◌≡◌, ◌≢◌, ◌⊎◌, ◌<◌, ◌≤◌, ◌^◌, ℕ, Box, Global, Bool, true, false, List, [], ◌∷◌, length, drop, get_or, map, Option, Some, None, Result, Ok, Err, refl, sym, ap, subst, ◌∙◌, inl, inr, ⊎_elim, arith}
 use Rattle.std.specs.Prelude.{slice_get, MatchOption, IfSome}
 use Rattle.std.specs.Ptr.{null_ptr}
 use Rattle.std.specs.Str.{bytes_eq}
@@ -18,16 +18,21 @@ use Rattle.koika_syntax.proofs.KeywordTable.{same_keyword}
 use Rattle.koika_syntax.proofs.Lexing.{tokens_or_first_fault}
 use Rattle.koika_syntax.proofs.SymbolTable.{same_symbol}
 use Rattle.one_rule.specs.Run.{run_of}
+use Rattle.one_rule.specs.Stimulus.{InputVectors, inputs_of}
 use Rattle.typed_core.specs.declared.action.TwoOp.TheVariants.{Add}
 use Rattle.typed_core.specs.declared.action.Action.{Action}
 use Rattle.typed_core.specs.declared.action.Action.TheVariants.{Const, Two', Read, Write'}
 use Rattle.typed_core.specs.declared.design.Next.TheVariants as next
 use Rattle.typed_core.specs.declared.design.Parts.{Parts}
-use Rattle.koika_top.specs.Answer.{AnswersSource, IsAnswer, is_too_long, longest_source}
+use Rattle.koika_top.specs.Answer.{Answers, AnswersSource, IsAnswer, Spells, SpellsDesign, is_too_long, longest_source, stimulus_in, text_of_rows}
 use Rattle.koika_top.specs.FirstForm.{fault_of_source, form_token, tokens_of, OperandHasBits, IsWellFormed, IsOperandOf, IsSumOf, IsDesignOf, IsFirstForm, IsFormFault}
-use Rattle.stim_report.specs.Report.{report}
+use Rattle.stim_report.specs.Cuts.{parts_of}
 use Rattle.stim_report.specs.Shapes.{shape_of}
-use Rattle.koika_top.specs.Words.{cycles_of}
+use Rattle.koika_top.specs.Generator.{pipeline}
+use Rattle.koika_top.specs.Words.{command_of}
+use Rattle.koika_top.specs.declared.shown.Shown.{Shown}
+use Rattle.koika_top.specs.declared.words.Command.{Command}
+use Rattle.koika_top.specs.declared.words.Command.TheVariants.{Sim, Gen}
 use Rattle.koika_top.specs.declared.answer.Answer.{Answer}
 use Rattle.koika_top.specs.declared.answer.Answer.TheVariants.{Usage, Refused, Written}
 use Rattle.koika_top.specs.declared.first_form.token.FormToken.{FormToken}
@@ -259,27 +264,51 @@ module _ (text : List ℕ) (tokens : List Token) (are : AreTokensOf tokens text)
 spelled_or_refused : (text : List ℕ) → ((design : Parts) × IsFirstForm text design) ⊎ ((fault : Fault) × IsFormFault text fault)
 spelled_or_refused text = ⊎_elim (λ cut. spelled_or_not text cut.0 cut.1) (λ first. inr (first.0, inl first.1)) (tokens_or_first_fault text)
 
--- a source has an answer
-source_answer : (cycles : ℕ) (source : List ℕ) → (answer : Answer) × AnswersSource cycles source answer
-source_answer cycles source =
-    ⊎_elim
-    (λ long. (Refused (fault_of_source 40), inl (refl, long)))
-    (λ short.
-    ⊎_elim
-    (λ spelled.
-    ⊎_elim
-    (λ long_run. (Refused (fault_of_source 45), inr (inr (refl, short, (spelled.0, spelled.1, long_run)))))
-    (λ within.
-    (Written (report (shape_of spelled.0) (run_of spelled.0 (λ _. []) cycles)), record { short = short; design = spelled.0; spelled = spelled.1; within = within; reported = refl }))
-    (yes_or_no (is_too_long cycles spelled.0)))
-    (λ refused. (Refused refused.0, inr (inl (short, refused.1))))
-    (spelled_or_refused source))
-    (cases_lt longest_source (length source))
+-- a stimulus, or the fault of it
+stimulus_told : (r : Result InputVectors Fault) → ((stimulus : InputVectors) × (r ≡ Ok stimulus)) ⊎ ((fault : Fault) × (r ≡ Err fault))
+stimulus_told (Ok stimulus) = inl (stimulus, refl)
+stimulus_told (Err fault) = inr (fault, refl)
 
-by_words : (words : Option ℕ) (source : List ℕ) → (answer : Answer) × MatchOption words (answer ≡ Usage) (λ cycles. AnswersSource cycles source answer)
+module _ (cycles : ℕ) (shown : Shown) (source : List ℕ) where
+  -- a source that spells a design and a stimulus has an answer
+  spelled_answer : (design : Parts) (stimulus : InputVectors) → Spells source design stimulus → (answer : Answer) × AnswersSource cycles shown source answer
+  spelled_answer design stimulus spelled =
+      ⊎_elim
+      (λ long. (Refused (fault_of_source 45), inr (inr (inr (refl, (design, stimulus, spelled, long))))))
+      (λ within. (
+        Written (text_of_rows shown (shape_of design) (run_of design (inputs_of stimulus) cycles)),
+        record { design = design; stimulus = stimulus; spelled = spelled; within = within; told = refl },
+      ))
+      (yes_or_no (is_too_long cycles design))
+
+  -- and so has one that spells a design
+  design_answer : (design : Parts) → SpellsDesign source design → (answer : Answer) × AnswersSource cycles shown source answer
+  design_answer design spelled =
+      ⊎_elim
+      (λ given. spelled_answer design given.0 (record { spelled = spelled; given = given.1 }))
+      (λ refused. (Refused refused.0, inr (inr (inl (design, spelled, refused.1)))))
+      (stimulus_told (stimulus_in source design))
+
+  -- a source has an answer
+  source_answer : (answer : Answer) × AnswersSource cycles shown source answer
+  source_answer =
+      ⊎_elim
+      (λ long. (Refused (fault_of_source 40), inl (refl, long)))
+      (λ short.
+      ⊎_elim
+      (λ spelled. design_answer spelled.0 (record { short = short; spelled = spelled.1 }))
+      (λ refused. (Refused refused.0, inr (inl (short, refused.1))))
+      (spelled_or_refused (parts_of source).design))
+      (cases_lt longest_source (length source))
+
+command_answer : (command : Command) (source : List ℕ) → (answer : Answer) × Answers command source answer
+command_answer (Sim cycles shown) source = source_answer cycles shown source
+command_answer (Gen stages) source = (Written (pipeline stages), refl)
+
+by_words : (command : Option Command) (source : List ℕ) → (answer : Answer) × MatchOption command (answer ≡ Usage) (λ c. Answers c source answer)
 by_words None source = (Usage, refl)
-by_words (Some cycles) source = source_answer cycles source
+by_words (Some command) source = command_answer command source
 
 -- there is an answer
 pub some_answer : (words : List (List ℕ)) (source : List ℕ) → (answer : Answer) × IsAnswer words source answer
-some_answer words source = by_words (cycles_of words) source
+some_answer words source = by_words (command_of words) source

@@ -1,5 +1,8 @@
-pub mod Simulation
 pub mod OneAnswer
+pub mod Batches
+pub mod Commands
+pub mod Options
+pub mod Reading
 pub mod Statuses
 pub mod Shapes
 pub mod Designs

@@ -4,26 +4,69 @@ use Rattle.std.specs.Prelude.{IfSome, IfErr, OnOk}
 use Rattle.kw_io.specs.declared.writing.WriteFault.{WriteFault}
 use Rattle.kw_io.specs.Portions.{TakesAll}
 use Rattle.std.specs.Io.KnownBytes.{Appends, IsAtEnd}
-use Rattle.koika_top.specs.Answer.{AppendsFront, IsAnswer, IsFailure, status_of, text_of}
-use Rattle.koika_top.proofs.OneAnswer.{one_answer}
+use Rattle.kw_base.specs.FaultLine.{line_of_fault}
+use Rattle.kw_base.specs.declared.fault.Fault.{Fault}
+use Rattle.koika_top.specs.Answer.{AppendsFront, IsFailure, IsSameAnswer, status_of, text_of}
+use Rattle.koika_top.specs.Steps.{Tells}
+use Rattle.koika_top.specs.declared.answer.Answer.TheVariants.{Usage, Refused, Written}
 use Rattle.koika_top.specs.declared.answer.Answer.{Answer}
 use Rattle.koika_top.specs.declared.status.Status.{Status}
 use Rattle.koika_top.specs.declared.status.Status.TheVariants as status
 
-failed : (result : Status) → (result ≡ status.WriteFault) ⊎ (result ≡ status.NoMemory) → IsFailure result
-failed result h = inr h
+-- answers of this kind can't be told apart
+abbrev pub AreSame : (Answer → Type 0) → Type 0
+AreSame Is = (a b : Answer) → Is a → Is b → IsSameAnswer a b
 
--- the status is that of every answer, unless something failed
-pub status_of_each : (left : Option (List ℕ)) (words : List (List ℕ)) (mine : Answer) (result : Status) → IfSome left (λ bytes. IsAnswer words bytes mine) → (result ≡ status_of mine) ⊎ ((result ≡ status.WriteFault) ⊎ (result ≡ status.NoMemory)) → IfSome left (λ bytes. (answer : Answer) → IsAnswer words bytes answer → (result ≡ status_of answer) ⊎ IsFailure result)
-status_of_each None words mine result h s = tt
-status_of_each (Some bytes) words mine result h (inl e) = λ answer k. inl (e ∙ (one_answer words bytes mine answer h k).status)
-status_of_each (Some bytes) words mine result h (inr f) = λ answer k. inr (failed result f)
+-- known bytes that stay grow by nothing
+pub appends-none : (known : Option (List ℕ)) → Appends known known []
+appends-none None = tt
+appends-none (Some bytes) = sym (append-nil bytes)
 
--- what was written is a front of the text of every answer
-pub front_of_each : (left : Option (List ℕ)) (words : List (List ℕ)) (mine : Answer) (old new : Option (List ℕ)) → IfSome left (λ bytes. IsAnswer words bytes mine) → AppendsFront old new (text_of mine) → IfSome left (λ bytes. (answer : Answer) → IsAnswer words bytes answer → AppendsFront old new (text_of answer))
-front_of_each None words mine old new h f = tt
-front_of_each (Some bytes) words mine old new h f =
-    λ answer k. subst (λ (text : List ℕ). AppendsFront old new text) (one_answer words bytes mine answer h k).text f
+module _ (Is : Answer → Type 0) (same : AreSame Is) (old new : Option (List ℕ)) (result : Status) where
+  done_by : (mine : Answer) → Is mine → (result ≡ status_of mine → Appends old new (text_of mine)) → (result ≡ status_of mine) ⊎ ((result ≡ status.WriteFault) ⊎ (result ≡ status.NoMemory)) → result ≡ status.Done
+      → (text : List ℕ) × Is (Written text) × Appends old new text
+  done_by Usage is all (inl e) d = let bad : status.Usage ≡ status.Done = sym e ∙ d in absurd cc
+  done_by (Refused fault) is all (inl e) d = let bad : status.Refused ≡ status.Done = sym e ∙ d in absurd cc
+  done_by (Written text) is all (inl e) d = (text, is, all e)
+  done_by mine is all (inr (inl e)) d = let bad : status.WriteFault ≡ status.Done = sym e ∙ d in absurd cc
+  done_by mine is all (inr (inr e)) d = let bad : status.NoMemory ≡ status.Done = sym e ∙ d in absurd cc
+
+  refused_by : (mine : Answer) → Is mine → (result ≡ status_of mine → Appends old new (text_of mine)) → (result ≡ status_of mine) ⊎ ((result ≡ status.WriteFault) ⊎ (result ≡ status.NoMemory)) → result ≡ status.Refused
+      → (fault : Fault) × Is (Refused fault) × Appends old new (line_of_fault fault)
+  refused_by Usage is all (inl e) d = let bad : status.Usage ≡ status.Refused = sym e ∙ d in absurd cc
+  refused_by (Refused fault) is all (inl e) d = (fault, is, all e)
+  refused_by (Written text) is all (inl e) d = let bad : status.Done ≡ status.Refused = sym e ∙ d in absurd cc
+  refused_by mine is all (inr (inl e)) d = let bad : status.WriteFault ≡ status.Refused = sym e ∙ d in absurd cc
+  refused_by mine is all (inr (inr e)) d = let bad : status.NoMemory ≡ status.Refused = sym e ∙ d in absurd cc
+
+  exact_by : (mine : Answer) → Is mine → (result ≡ status_of mine) ⊎ ((result ≡ status.WriteFault) ⊎ (result ≡ status.NoMemory)) → (answer : Answer) → Is answer → (result ≡ status_of answer) ⊎ IsFailure result
+  exact_by mine is (inl e) answer k = inl (e ∙ (same mine answer is k).status)
+  exact_by mine is (inr f) answer k = inr (inr f)
+
+  -- an answer that was written, or its first bytes, tells every other one
+  pub tells_answer : (mine : Answer) → Is mine → (result ≡ status_of mine) ⊎ ((result ≡ status.WriteFault) ⊎ (result ≡ status.NoMemory)) → (result ≡ status_of mine → Appends old new (text_of mine)) → AppendsFront old new (text_of mine)
+      → Tells Is old new result
+  tells_answer mine is told all front = record {
+    done = done_by mine is all told;
+    refused = refused_by mine is all told;
+    exact = exact_by mine is told;
+    front = λ answer k. subst (λ (text : List ℕ). AppendsFront old new text) (same mine answer is k).text front;
+  }
+
+-- where reading failed or memory ran out before anything was written, every answer is told by nothing
+pub tells_nothing : (Is : Answer → Type 0) (known : Option (List ℕ)) (result : Status) → (result ≡ status.ReadFault) ⊎ (result ≡ status.NoMemory) → Tells Is known known result
+tells_nothing Is known result (inl e) = record {
+  done = λ d. let bad : status.ReadFault ≡ status.Done = sym e ∙ d in absurd cc;
+  refused = λ d. let bad : status.ReadFault ≡ status.Refused = sym e ∙ d in absurd cc;
+  exact = λ answer k. inr (inl e);
+  front = λ answer k. ([], text_of answer, refl, appends-none known);
+}
+tells_nothing Is known result (inr e) = record {
+  done = λ d. let bad : status.NoMemory ≡ status.Done = sym e ∙ d in absurd cc;
+  refused = λ d. let bad : status.NoMemory ≡ status.Refused = sym e ∙ d in absurd cc;
+  exact = λ answer k. inr (inr (inr e));
+  front = λ answer k. ([], text_of answer, refl, appends-none known);
+}
 
 -- a source of which all was taken is at its end
 pub at_end : (old new : Option (List ℕ)) (bytes : List ℕ) → TakesAll old new bytes → IfSome old (λ _. IsAtEnd new)

@@ -1,8 +1,13 @@
--- The words of the command line that are understood. The program's own name isn't among them.
-use Rattle.std.specs.Prelude.{ℕ, ◌+◌, ◌-◌, ◌*◌, ◌&&◌, nat_le, Bool, List, [], ◌∷◌, length, fold, codes, Option, Some, None, if◌then◌else◌}
+-- The words of the command line that are understood, and what they ask for. The program's own name isn't among them.
+use Rattle.std.specs.Prelude.{ℕ, ◌+◌, ◌-◌, ◌*◌, ◌&&◌, nat_le, Bool, true, false, List, [], ◌∷◌, length, fold, codes, take, drop, Option, Some, None, if◌then◌else◌}
 use Rattle.std.specs.List.{list_all}
 use Rattle.std.specs.Char.{is_ascii_digit}
 use Rattle.std.specs.Str.{bytes_eq}
+use Rattle.koika_top.specs.declared.shown.Shown.{Shown}
+use Rattle.koika_top.specs.declared.shown.Shown.TheVariants.{Report, Summary}
+use Rattle.koika_top.specs.declared.words.Command.{Command}
+use Rattle.koika_top.specs.declared.words.Command.TheVariants.{Sim, Gen}
+use Rattle.koika_top.specs.declared.words.Options.{Options}
 
 -- the number that decimal digits write
 abbrev pub value_of : List ℕ → ℕ
@@ -16,8 +21,67 @@ are_few_digits word = nat_le 1 (length word) && nat_le (length word) 10 && list_
 abbrev pub number_of : List ℕ → Option ℕ
 number_of word = if are_few_digits word && nat_le (value_of word) 4294967295 then Some (value_of word) else None
 
--- the cycles that `sim --cycles N` asks for; no other words are understood
-abbrev pub cycles_of : List (List ℕ) → Option ℕ
-cycles_of (command ∷ option ∷ number ∷ []) =
-    if bytes_eq command (codes "sim") && bytes_eq option (codes "--cycles") then number_of number else None
-cycles_of words = None
+-- no option is given
+abbrev pub no_options : Options
+no_options = record { cycles = None; shown = Report }
+
+-- The options, and one more: it isn't given yet, and its value is a number.
+abbrev pub put_cycles : Option ℕ → ℕ → Options → Option Options
+put_cycles None n options = Some (record options { cycles = Some n })
+put_cycles (Some m) n options = None
+
+abbrev pub put_number : Option ℕ → Options → Option Options
+put_number None options = None
+put_number (Some n) options = put_cycles options.cycles n options
+
+abbrev pub with_cycles : List ℕ → Option Options → Option Options
+with_cycles word None = None
+with_cycles word (Some options) = put_number (number_of word) options
+
+abbrev pub put_summary : Shown → Options → Option Options
+put_summary Report options = Some (record options { shown = Summary })
+put_summary Summary options = None
+
+abbrev pub with_summary : Option Options → Option Options
+with_summary None = None
+with_summary (Some options) = put_summary options.shown options
+
+-- an option that is one word, and the other options
+abbrev pub with_word : List ℕ → Option Options → Option Options
+with_word word others =
+    if bytes_eq word (codes "--summary") then with_summary others
+    else if bytes_eq (take 9 word) (codes "--cycles=") then with_cycles (drop 9 word) others
+    else None
+
+-- what options ask for: each stands at most once, in any order, and a value stands behind its option or behind `=`
+abbrev pub options_of : List (List ℕ) → Option Options
+options_of [] = Some no_options
+options_of (word ∷ []) = with_word word (Some no_options)
+options_of (word ∷ value ∷ rest) =
+    if bytes_eq word (codes "--cycles") then with_cycles value (options_of rest) else with_word word (options_of (value ∷ rest))
+
+-- `sim` with options: the cycles have to be given
+abbrev pub sim_by : Option ℕ → Shown → Option Command
+sim_by None shown = None
+sim_by (Some cycles) shown = Some (Sim cycles shown)
+
+abbrev pub sim_of : Option Options → Option Command
+sim_of None = None
+sim_of (Some options) = sim_by options.cycles options.shown
+
+-- `gen` with a number of stages from 1 to 100
+abbrev pub gen_by : Option ℕ → Option Command
+gen_by None = None
+gen_by (Some stages) = if nat_le 1 stages && nat_le stages 100 then Some (Gen stages) else None
+
+abbrev pub gen_of : List (List ℕ) → Option Command
+gen_of (word ∷ []) = gen_by (number_of word)
+gen_of words = None
+
+-- the command that words ask for; no other words are understood
+abbrev pub command_of : List (List ℕ) → Option Command
+command_of [] = None
+command_of (word ∷ rest) =
+    if bytes_eq word (codes "sim") then sim_of (options_of rest)
+    else if bytes_eq word (codes "gen") then gen_of rest
+    else None

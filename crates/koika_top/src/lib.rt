@@ -6,13 +6,18 @@
 
 mod answer;
 mod first_form;
+mod generator;
 mod laws;
 mod program;
-mod simulate;
+mod run;
+mod shown;
 mod status;
+mod teller;
 mod words;
 
 pub use answer::Answer;
 pub use laws::{one_answer, some_answer, spells_one_design};
 pub use program::run_here;
+pub use shown::Shown;
 pub use status::Status;
+pub use words::Command;

@@ -1,17 +1,131 @@
-ghost use Rattle.std.specs.Prelude.{◌≡◌, ◌≤◌, ◌+◌, ◌*◌, ◌-◌, map, string_bytes, length, All, IsTrue};
+ghost use Rattle.std.specs.Prelude.{◌≡◌, ◌≤◌, map, string_bytes, length, All, IfSome, IsTrue};
 ghost use Rattle.std.specs.List.{list_all};
 ghost use Rattle.std.specs.Char.{IsAsciiDigit, is_ascii_digit};
-ghost use Rattle.koika_top.specs.Words.{are_few_digits, cycles_of, number_of, value_of};
+ghost use Rattle.koika_top.specs.Steps.{HasFewStages};
+ghost use Rattle.koika_top.specs.Words.{are_few_digits, command_of, gen_of, no_options, number_of, options_of, put_number, sim_of, value_of, with_cycles, with_summary, with_word};
 
-/// The cycles that the words `sim --cycles N` ask for. No other words are understood.
-pub(crate) fn cycles_of(words: &[String]) -> Option<u32>
-    ensures { result ≡ cycles_of (map string_bytes words.now) }
+use crate::shown::Shown;
+
+/// What the arguments ask for.
+#[derive(Clone, Copy, Debug, PartialEq, Eq)]
+pub enum Command {
+    /// A run of the source's design for so many cycles.
+    Sim { cycles: u32, shown: Shown },
+    /// The pipeline design of so many stages.
+    Gen { stages: u32 },
+}
+
+// The options of `sim` that are given.
+#[derive(Clone, Copy, Debug, PartialEq, Eq)]
+struct Options {
+    cycles: Option<u32>,
+    shown: Shown,
+}
+
+// Options are at most this many words, since each stands at most once.
+const MOST_WORDS: usize = 3;
+
+// A pipeline has at most this many stages.
+const MOST_STAGES: u32 = 100;
+
+/// The command that the words of the command line ask for, if they are understood.
+pub(crate) fn command_of(words: &[String]) -> Option<Command>
+    ensures command { result ≡ command_of (map string_bytes words.now) }
+    ensures few { IfSome result HasFewStages }
 {
     match words {
-        [command, option, number] if command.as_str() == "sim" && option.as_str() == "--cycles" => {
-            number_of(number.as_bytes())
+        [command, options @ ..] if command.as_str() == "sim" => sim_of(options),
+        [command, stages @ ..] if command.as_str() == "gen" => gen_of(stages),
+        _ => None,
+    }
+}
+
+fn sim_of(words: &[String]) -> Option<Command>
+    ensures command { result ≡ sim_of (options_of (map string_bytes words.now)) }
+    ensures few { IfSome result HasFewStages }
+{
+    if words.len() > MOST_WORDS {
+        return None;
+    }
+    let options = options_of(words)?;
+    Some(Command::Sim {
+        cycles: options.cycles?,
+        shown: options.shown,
+    })
+}
+
+fn gen_of(words: &[String]) -> Option<Command>
+    ensures command { result ≡ gen_of (map string_bytes words.now) }
+    ensures few { IfSome result HasFewStages }
+{
+    match words {
+        [word] => {
+            let stages = number_of(word.as_bytes())?;
+            if 1 <= stages && stages <= MOST_STAGES {
+                Some(Command::Gen { stages })
+            } else {
+                None
+            }
         }
         _ => None,
+    }
+}
+
+// The options that words give, each at most once. It calls itself for each word.
+fn options_of(words: &[String]) -> Option<Options>
+    ensures { result ≡ options_of (map string_bytes words.now) }
+{
+    match words {
+        [] => Some(Options {
+            cycles: None,
+            shown: Shown::Report,
+        }),
+        [word, value, rest @ ..] if word.as_str() == "--cycles" => {
+            with_cycles(value.as_bytes(), options_of(rest))
+        }
+        [word, rest @ ..] => with_word(word.as_bytes(), options_of(rest)),
+    }
+}
+
+// Other options, if they are understood, and one that is a word of its own.
+fn with_word(word: &[u8], others: Option<Options>) -> Option<Options>
+    ensures { result ≡ with_word word.now others }
+{
+    if word == b"--summary".as_slice() {
+        return with_summary(others);
+    }
+    match word.strip_prefix(b"--cycles=") {
+        Some(value) => with_cycles(value, others),
+        None => None,
+    }
+}
+
+// Other options and the number of cycles, which isn't given yet.
+fn with_cycles(value: &[u8], others: Option<Options>) -> Option<Options>
+    ensures { result ≡ with_cycles value.now others }
+{
+    let others = others?;
+    let cycles = number_of(value)?;
+    match others.cycles {
+        None => Some(Options {
+            cycles: Some(cycles),
+            ..others
+        }),
+        Some(_) => None,
+    }
+}
+
+// Other options and that a summary is wanted, which isn't said yet.
+fn with_summary(others: Option<Options>) -> Option<Options>
+    ensures { result ≡ with_summary others }
+{
+    let others = others?;
+    match others.shown {
+        Shown::Report => Some(Options {
+            shown: Shown::Summary,
+            ..others
+        }),
+        Shown::Summary => None,
     }
 }
 

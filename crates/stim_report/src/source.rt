@@ -23,6 +23,7 @@ pub fn source_parts(bytes: &[u8]) -> SourceParts<'_>
     ensures design { result.design.now ≡ (parts_of bytes.now).design }
     ensures stimulus { result.stimulus.now ≡ (parts_of bytes.now).stimulus }
     ensures first_line { result.first_line ≡ (parts_of bytes.now).first_line }
+    ensures within { length result.design.now ≤ length bytes.now }
 {
     let mut lines: usize = 0;
     let mut rest = Some(bytes);

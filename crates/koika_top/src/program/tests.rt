@@ -35,7 +35,7 @@ fn run_in_memory(
     let text = Vec::from_slice(alloc, text)?;
     let piece = piece.max(1);
     let mut source = MemSource::new(text, piece, Vec::from_slice(alloc, failing_reads)?);
-    let mut sink = MemSink::new(alloc, 4096, piece, Vec::from_slice(alloc, failing_writes)?)?;
+    let mut sink = MemSink::new(alloc, 8192, piece, Vec::from_slice(alloc, failing_writes)?)?;
     let status = run_here(alloc, owned.as_slice(), &[], &mut source, &mut sink);
     Ok(Ended {
         status,
@@ -92,23 +92,31 @@ fn counter_counts(rt: HostRuntime) -> Result<(), Fail> {
 }
 
 // Arguments that are invalid.
-static INVALID: [&[&str]; 16] = [
+static INVALID: [&[&str]; 24] = [
     &[],
     &["sim"],
     &["sim", "--cycles"],
-    &["sim", "--cycles=2"],
+    &["sim", "--summary"],
+    &["sim", "--summary", "--cycles"],
+    &["sim", "--cycles="],
+    &["sim", "--summary=", "--cycles", "2"],
     &["sim", "--cycles", "2", "--cycles", "2"],
+    &["sim", "--cycles=2", "--cycles", "2"],
+    &["sim", "--summary", "--cycles", "2", "--summary"],
     &["sim", "--cycles", "-1"],
     &["sim", "--cycles", "+1"],
     &["sim", "--cycles", ""],
     &["sim", "--cycles", "4294967296"],
     &["sim", "--cycles", "00000000001"],
     &["sim", "--cycles", "1 "],
-    &["sim", "--cycles", "0x1"],
-    &["sim", "--cycles", "1e1"],
+    &["sim", "--cycles", "2", "--"],
     &["check", "--cycles", "2"],
     &["Sim", "--cycles", "2"],
     &["sim", "--workers", "2"],
+    &["gen"],
+    &["gen", "0"],
+    &["gen", "101"],
+    &["gen", "1", "1"],
 ];
 
 #[test]
@@ -121,27 +129,19 @@ fn invalid_arguments(rt: HostRuntime) -> Result<(), Fail> {
 
 #[test]
 fn sources_that_are_refused(rt: HostRuntime) -> Result<(), Fail> {
+    let no_width = "reg x : bits 129 = 128'd1; rule a { write0(x, 128'd1) } schedule { a; }";
+    let too_wide = "reg x : bits 8 = 8'd256; rule a { write0(x, 8'd1) } schedule { a; }";
+    let with_stimulus =
+        "reg c : bits 8 = 8'd0; rule i { write0(c, 8'd1) } schedule { i; }\n%%\n\n a=1";
     let table = [
         ("2", "", "fault 60 at 0:0\n"),
         ("4294967295", "schedule { }", "fault 60 at 0:0\n"),
-        ("65537", "#", "fault 10 at 1:1\n"),
-        ("65537", COUNTER, "fault 45 at 0:0\n"),
+        ("16777217", "#", "fault 10 at 1:1\n"),
+        ("16777217", COUNTER, "fault 45 at 0:0\n"),
         ("4294967295", COUNTER, "fault 45 at 0:0\n"),
-        (
-            "2",
-            "reg x : bits 129 = 128'd1; rule a { write0(x, 128'd1) } schedule { a; }",
-            "fault 60 at 0:0\n",
-        ),
-        (
-            "2",
-            "reg x : bits 8 = 8'd256; rule a { write0(x, 8'd1) } schedule { a; }",
-            "fault 13 at 1:18\n",
-        ),
-        (
-            "2",
-            "reg x : bits 8 = 8'd0; rule a { write0(z, 8'd1) } schedule { a; }",
-            "fault 60 at 0:0\n",
-        ),
+        ("16777217", with_stimulus, "fault 31 at 4:2\n"),
+        ("2", no_width, "fault 60 at 0:0\n"),
+        ("2", too_wide, "fault 13 at 1:18\n"),
     ];
     for (cycles, source, line) in table {
         expect(
@@ -157,6 +157,56 @@ fn sources_that_are_refused(rt: HostRuntime) -> Result<(), Fail> {
 }
 
 #[test]
+fn summaries_over_batches(rt: HostRuntime) -> Result<(), Fail> {
+    let table = [
+        ("0", "cycles 0\nfired incr 0\ncount=00\n"),
+        ("256", "cycles 256\nfired incr 256\ncount=00\n"),
+        ("257", "cycles 257\nfired incr 257\ncount=01\n"),
+        ("70000", "cycles 70000\nfired incr 70000\ncount=70\n"),
+    ];
+    for (cycles, summary) in table {
+        expect(
+            &rt,
+            rt.alloc(),
+            &["sim", "--summary", "--cycles", cycles],
+            COUNTER,
+            Status::Done,
+            summary,
+        )?;
+    }
+    Ok(())
+}
+
+// The report of 300 cycles has a line for each, whatever the batches.
+#[test]
+fn reports_over_batches(rt: HostRuntime) -> Result<(), Fail> {
+    let ended = run_in_memory(
+        rt.alloc(),
+        &["sim", "--cycles=300"],
+        COUNTER.as_bytes(),
+        512,
+        &[],
+        &[],
+    )?;
+    let lines = ended.written.iter().filter(|byte| **byte == b'\n').count();
+    assert_eq!(rt; lines, 301);
+    assert!(rt; ended.written.ends_with(b"\n@300 incr count=2c\n"));
+    Ok(())
+}
+
+const ONE_STAGE: &str =
+    "reg v0 : bits 1 = 1'd0 ;\nreg d0 : bits 32 = 32'd0 ;\nreg v1 : bits 1 = 1'd0 ;\nreg d1 : bits 32 = 32'd0 ;\nreg total : bits 32 = 32'd0 ;\nreg feed : bits 32 = 32'd0 ;\nrule drain {\nif read0 ( v1 ) {\nwrite0 ( v1 , 1'd0 ) ;\nwrite0 ( total , read0 ( total ) + read0 ( d1 ) ) }\nelse {\nabort }\n}\nrule move0 {\nif read0 ( v0 ) & ~ read1 ( v1 ) {\nwrite0 ( v0 , 1'd0 ) ;\nwrite1 ( v1 , 1'd1 ) ;\nwrite1 ( d1 , read0 ( d0 ) + 32'd1 ) }\nelse {\nabort }\n}\nrule fill {\nif ~ read1 ( v0 ) {\nwrite1 ( v0 , 1'd1 ) ;\nwrite1 ( d0 , read0 ( feed ) ) ;\nwrite0 ( feed , read0 ( feed ) + 32'd1 ) }\nelse {\nabort }\n}\nschedule {\ndrain ;\nmove0 ;\nfill ;\n}\n";
+
+// The source isn't read.
+#[test]
+fn a_pipeline_of_one_stage(rt: HostRuntime) -> Result<(), Fail> {
+    let ended = run_in_memory(rt.alloc(), &["gen", "1"], b"", 512, &[1], &[])?;
+    assert_eq!(rt; ended.status, Status::Done);
+    assert_eq!(rt; ended.written.as_slice(), ONE_STAGE.as_bytes());
+    Ok(())
+}
+
+#[test]
 fn long_sources(rt: HostRuntime) -> Result<(), Fail> {
     let alloc = rt.alloc();
     for (blanks, status, written) in [
@@ -166,7 +216,7 @@ fn long_sources(rt: HostRuntime) -> Result<(), Fail> {
         let text = vec![in alloc; b' '; blanks]?;
         let ended = run_in_memory(
             alloc,
-            &["sim", "--cycles", "65537"],
+            &["sim", "--cycles", "16777217"],
             text.as_slice(),
             65536,
             &[],

@@ -1,9 +1,15 @@
-use Rattle.std.specs.Prelude.{map, string_bytes}
-use Rattle.koika_top.proofs.Statuses.{status_of_each, front_of_each}
+use Rattle.std.proofs.Common.{map, string_bytes}
+use Rattle.koika_top.proofs.Commands.{done-of, exact-of, front-of-each, refused-of}
 use Rattle.koika_top.proofs.program.run_here.Goals as goal
 
-pub returns-in-Ok-clause-exact : goal.returns-in-Ok-clause-exact
-returns-in-Ok-clause-exact g c = status_of_each _ (map string_bytes c.args.words.now) c.in-Ok.answer _ c.in-Ok.ensures.answer c.write_answer.ensures.status
+pub returns-clause-done : goal.returns-clause-done
+returns-clause-done g c = done-of (map string_bytes c.args.words.now) _ _ _ _ c.answer_words.ensures.tells
 
-pub returns-in-Ok-clause-front : goal.returns-in-Ok-clause-front
-returns-in-Ok-clause-front g c = front_of_each _ (map string_bytes c.args.words.now) c.in-Ok.answer _ _ c.in-Ok.ensures.answer c.write_answer.ensures.front
+pub returns-clause-refused : goal.returns-clause-refused
+returns-clause-refused g c = refused-of (map string_bytes c.args.words.now) _ _ _ _ c.answer_words.ensures.tells
+
+pub returns-clause-exact : goal.returns-clause-exact
+returns-clause-exact g c = exact-of (map string_bytes c.args.words.now) _ _ _ _ c.answer_words.ensures.tells
+
+pub returns-clause-front : goal.returns-clause-front
+returns-clause-front g c = front-of-each (map string_bytes c.args.words.now) _ _ _ _ c.answer_words.ensures.tells
