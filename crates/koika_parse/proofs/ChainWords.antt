@@ -13,7 +13,7 @@ use Rattle.koika_syntax.specs.declared.tree.Suffix.{Suffix}
 use Rattle.koika_syntax.specs.declared.tree.Suffix.TheVariants as suffixes
 use Rattle.koika_syntax.specs.declared.tree.Prefix.{Prefix}
 use Rattle.koika_parse.specs.Expected.{One, Part, Then, first, Behind, Takes}
-use Rattle.koika_parse.specs.ExpressionWords.{holds, Free, LevelWord, OperandWord, OperandsWord, OperatorWord, SomeOperandsWord, IsAtOperator, PrefixWord, PrefixesWord, SuffixesWord, IsAtPrefix, IsAtSuffix, IndexWord, no_prefix}
+use Rattle.koika_parse.specs.ExpressionWords.{holds, Free, LevelWord, OperandsWord, OperatorWord, SomeOperandsWord, IsAtOperator, PrefixWord, PrefixesWord, SuffixesWord, IsAtPrefix, IsAtSuffix, no_prefix}
 use Rattle.koika_parse.specs.Parts.{IsOperandIn}
 use Rattle.koika_parse.specs.Reading.{next}
 use Rattle.koika_parse.specs.declared.cursor.Cursor.{Cursor}
@@ -22,7 +22,7 @@ use Rattle.koika_parse.specs.declared.stop.Stop.TheVariants as stops
 use Rattle.koika_parse.proofs.Expected.{Empty, Apart, Goes, start, starts, goes_as, narrow, narrow_part, refused, same_of_some, kind_of}
 use Rattle.koika_parse.proofs.Rows.{Rows, the_first, the_second, rows_cases, rows_made, rows_none, first_one}
 use Rattle.koika_parse.proofs.Words.{sign_word}
-use Rattle.koika_parse.proofs.ExpressionWords.{PrimaryWord, primary_word, chain_split, unary_split, postfix_split, operand_word}
+use Rattle.koika_parse.proofs.ExpressionWords.{OperandWord, PrimaryWord, primary_word, chain_split, unary_split, postfix_split, operand_word}
 
 -- how tightly what begins with a token may hold together: 2 for a primary, 1 for operators in front of one
 abbrev pub begins : Terminal → ℕ
@@ -338,6 +338,9 @@ suffixes_end {source} {old} {new} other goes = the_first (goes_as goes (rows_cas
     (λ r v some behind same. other (suffixes_first r v (next source new) some same))
 
 -- a suffix by the next token
+abbrev pub IndexWord : List Leaf → Type 0
+IndexWord = Then (One (symbol symbols.LeftBracket)) (Then (Part IsNumber number_leaves) (λ u. One (symbol symbols.RightBracket) u ⊎ Then (One (symbol symbols.Colon)) (Then (Part IsNumber number_leaves) (One (symbol symbols.RightBracket))) u))
+
 pub suffix_dot : {source : Source} {cursor : Cursor} {Follow : Option Terminal → Type 0} → next source cursor ≡ Some (symbol symbols.Dot) → Goes source cursor cursor (Part IsSuffix suffix_leaves) Follow (Then (One (symbol symbols.Dot)) (Part IsName name_leaves))
 suffix_dot {source} {cursor} dot = narrow_part (Then (One (symbol symbols.Dot)) (Part IsName name_leaves)) (λ x is v at. of x is v (at ∙ dot))
   where

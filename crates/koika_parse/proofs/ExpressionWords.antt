@@ -19,7 +19,7 @@ use Rattle.koika_syntax.specs.declared.tree.Expression.TheOpen as expression
 use Rattle.koika_syntax.specs.declared.tree.Name.{Name}
 use Rattle.koika_syntax.specs.declared.tree.Number.{Number}
 use Rattle.koika_parse.specs.Expected.{One, Part, Then}
-use Rattle.koika_parse.specs.ExpressionWords.{LevelWord, OperandWord, SomeOperandsWord, PrefixesWord, SuffixesWord, ReadWord, WriteWord, PackWord, UnpackWord, ExtendWord, CompareWord, UpdateWord, NamedWord, KeywordWord, SymbolWord, LetWord, ConditionalWord, InsideWord}
+use Rattle.koika_parse.specs.ExpressionWords.{LevelWord, OperatorWord, SomeOperandsWord, PrefixesWord, SuffixesWord, ReadWord, WriteWord, PackWord, UnpackWord, ExtendWord, CompareWord, UpdateWord, NamedWord, KeywordWord, SymbolWord, LetWord, ConditionalWord, InsideWord}
 use Rattle.koika_parse.specs.Parts.{IsArm, IsFieldValue, IsOperand, IsOperandIn, IsStatement}
 use Rattle.koika_parse.proofs.Expected.{kind_of}
 use Rattle.koika_parse.proofs.ConstantWords.{Such, firsts_are}
@@ -498,6 +498,9 @@ expression_split u word = layered 0 ConditionalWord each u (word.0, (word.1, ome
     each (expression.Update place whole part value) is at = inl (omega arith)
 
 -- an operand is an operator and an expression that holds together more tightly
+abbrev pub OperandWord : ℕ → List Leaf → Type 0
+OperandWord k = Then (OperatorWord k) (LevelWord (k + 1))
+
 operand_layer_word : (k : ℕ) (y : OpenOperand) → level_of (closed_operand y).operator ≡ k → k < level (closed_operand y).operand → OperandWord k (operand_layer_leaves (closed_operand y))
 operand_layer_word k y same above = (sign (binary_symbol y.operator), expression_leaves y.operand.0, (y.operator, same, sign_word (binary_symbol y.operator)), (y.operand.0, (y.operand.1, omega (arith, above)), refl), refl)
 

@@ -61,9 +61,6 @@ LevelWord k = Part (λ e. IsExpression e × (k ≤ level e)) expression_leaves
 abbrev pub OperatorWord : ℕ → List Leaf → Type 0
 OperatorWord k u = (operator : BinaryOperator) × (level_of operator ≡ k) × One (symbol (binary_symbol operator)) u
 
-abbrev pub OperandWord : ℕ → List Leaf → Type 0
-OperandWord k = Then (OperatorWord k) (LevelWord (k + 1))
-
 abbrev pub OperandsWord : ℕ → List Leaf → Type 0
 OperandsWord k = Part (λ operands. All (IsOperandIn k) operands) (λ operands. flat_map operand_leaves operands)
 
@@ -197,12 +194,9 @@ ConditionalWord = Then (Part IsArm arm_leaves) ElseWord
 abbrev pub InsideWord : List Leaf → Type 0
 InsideWord u = (statements : List Statement) × (value : Option Expression) × All IsStatement statements × IfSome value IsExpression × (u ≡ flat_map statement_leaves statements ++ last_leaves value expression_leaves)
 
--- the next token begins a suffix, and the suffixes in brackets
+-- the next token begins a suffix
 abbrev pub IsAtSuffix : Source → Cursor → Type 0
 IsAtSuffix source cursor = (next source cursor ≡ Some (symbol symbols.Dot)) ⊎ (next source cursor ≡ Some (symbol symbols.LeftBracket))
-
-abbrev pub IndexWord : List Leaf → Type 0
-IndexWord = Then (One (symbol symbols.LeftBracket)) (Then (Part IsNumber number_leaves) (λ u. One (symbol symbols.RightBracket) u ⊎ Then (One (symbol symbols.Colon)) (Then (Part IsNumber number_leaves) (One (symbol symbols.RightBracket))) u))
 
 -- the closing bracket follows
 abbrev pub brace_follows : Option Terminal → Type 0
