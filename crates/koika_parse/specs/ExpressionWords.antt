@@ -1,6 +1,6 @@
 -- The words of expressions, as the words of `specs/Words.antt` are: a chain by its level, a primary by its first token,
 -- and what may stand behind an expression of a level. They are the grammar's, as the clauses of private functions cite them.
-use Rattle.std.specs.Prelude.{◌≡◌, ◌⊎◌, ℕ, ◌+◌, ◌<◌, ◌≤◌, Option, None, Some, IfSome, ⊤, List, [], ◌++◌, map, All}
+use Rattle.std.specs.Prelude.{◌≡◌, ◌⊎◌, ℕ, ◌<◌, ◌≤◌, Option, None, Some, IfSome, ⊤, List, [], ◌++◌, map, All}
 use Rattle.std.specs.List.{flat_map}
 use Rattle.koika_syntax.specs.Grammar.{IsName, IsNumber, IsLiteral, IsType, IsExpression, IsBlock, IsPart, IsSuffix, type_leaves, expression_leaves, statement_leaves, arm_leaves, block_leaves, operand_leaves, field_value_leaves, part_leaves, prefix_leaves, suffix_leaves, last_leaves, level, level_of}
 use Rattle.koika_syntax.specs.Tree.{Leaf, Terminal, keyword, symbol, word, name_leaves, number_leaves, literal_leaves, commas, each_after, unary_symbol, binary_symbol, comparison_word, extension_word, read_word, write_word}
