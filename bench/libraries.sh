@@ -25,6 +25,8 @@ kw_base:names, each added and found:50000:fifty_thousand_names
 kw_base:names, each added and found:100000:a_hundred_thousand_names
 circuit_eval:nodes, each tested and added:100000:costs::a_hundred_thousand_nodes
 circuit_eval:nodes, each tested and added:200000:costs::two_hundred_thousand_nodes
+net_simplify:nodes, each tested, added and simplified:100000:costs::a_hundred_thousand_nodes
+net_simplify:nodes, each tested, added and simplified:200000:costs::two_hundred_thousand_nodes
 circuit_eval:nodes of 64 bits, evaluated:1000000:costs::a_thousand_steps_at_64_bits
 circuit_eval:nodes of 128 bits, evaluated:1000000:costs::a_thousand_steps_at_128_bits
 TESTS

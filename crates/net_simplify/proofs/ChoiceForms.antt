@@ -6,7 +6,7 @@ use Rattle.kw_bits.specs.BitVector.{BitVector}
 use Rattle.kw_bits.specs.Laws.{HasWidth}
 use Rattle.kw_bits.specs.Operators as op
 use Rattle.net_graph.specs.Laws.{Feeds}
-use Rattle.net_graph.specs.Nets.{op_width, Stands, width_at, widths_of}
+use Rattle.net_graph.specs.Nets.{IsNet, op_width, Stands, width_at, widths_of}
 use Rattle.net_graph.specs.Operators.{ite_value, one_value, one_width, two_value, two_width, TakesTwo}
 use Rattle.net_graph.specs.Values.{node_value, Sources}
 use Rattle.net_graph.specs.declared.node.NetOne.TheVariants.{Not}
@@ -14,7 +14,7 @@ use Rattle.net_graph.specs.declared.node.NetTwo.TheVariants.{And, Or}
 use Rattle.net_graph.specs.declared.node.NetOp.{NetOp}
 use Rattle.net_graph.specs.declared.node.NetOp.TheVariants.{Ite, One, Two}
 use Rattle.net_graph.proofs.OneByOne.{length-one_by_one}
-use Rattle.net_simplify.specs.Forms.{IsForm, IsLean}
+use Rattle.net_simplify.specs.Forms.{IsForm, IsLean, IsNodeIf}
 use Rattle.net_simplify.specs.Identities.{choice_value, ComesTo, IsKnown}
 use Rattle.net_simplify.specs.declared.choices.Choice.{Choice}
 use Rattle.net_simplify.specs.declared.choices.Choice.TheVariants as choices
@@ -23,7 +23,7 @@ use Rattle.net_simplify.specs.declared.form.Form.TheVariants.{Node}
 use Rattle.net_simplify.specs.declared.known.Known.{Known}
 use Rattle.net_simplify.proofs.Choosing.{chosen_first, chosen_second}
 use Rattle.net_simplify.proofs.Forming.{form_through}
-use Rattle.net_simplify.proofs.Standing.{bits_node, stands_node, value_node, width_node}
+use Rattle.net_simplify.proofs.Standing.{bits_node, stands_node, value_node, width_node, within_node}
 
 module _ (net : List NetOp) (lean : IsLean net) where
   within : (id : ℕ) → id < length (widths_of net) → id < length net
@@ -156,3 +156,44 @@ module _ (net : List NetOp) (lean : IsLean net) where
           other_choice (node_value s net turned) (node_value s net condition) (node_value s net a) (node_value s net b) (bits.0, bits.1 ∙ turned_width) (value_node net lean.is_net s condition (One Not turned) at);
       reads = λ inputs states r. tt;
     }) h
+
+  -- ---- a choice of choices by the same condition
+
+  module _ (condition a b x y : ℕ) (stands : Stands (widths_of net) (Ite condition a b)) (first : IsNodeIf net (λ (c : BitVector). c.number ≡ 1) condition a x) (second : IsNodeIf net (λ (c : BitVector). c.number ≢ 1) condition b y) where
+    pub nested_stands : Stands (widths_of net) (Ite condition x y)
+    nested_stands = (
+      stands.0,
+      omega (arith, first.stands, length-one_by_one op_width [] net),
+      omega (arith, second.stands, length-one_by_one op_width [] net),
+      stands.3,
+      first.width ∙ stands.4 ∙ sym second.width,
+    )
+
+    pub nested : (form : Form) → IsForm net (Ite condition x y) form → IsForm net (Ite condition a b) form
+    nested form h = form_through net (Ite condition a b) (Ite condition x y) form (record {
+      width = first.width;
+      value = λ s feeds. by s feeds (cases_eq (node_value s net condition).number 1);
+      reads = λ inputs states r. tt;
+    }) h
+      where
+        by : (s : Sources) → Feeds s net → ((node_value s net condition).number ≡ 1) ⊎ ((node_value s net condition).number ≢ 1)
+            → ite_value (node_value s net condition) (node_value s net x) (node_value s net y) ≡ ite_value (node_value s net condition) (node_value s net a) (node_value s net b)
+        by s feeds (inl e) = chosen_first (node_value s net condition) (node_value s net x) (node_value s net y) e ∙ first.value s feeds e ∙ sym (chosen_first (node_value s net condition) (node_value s net a) (node_value s net b) e)
+        by s feeds (inr e) = chosen_second (node_value s net condition) (node_value s net x) (node_value s net y) e ∙ second.value s feeds e ∙ sym (chosen_second (node_value s net condition) (node_value s net a) (node_value s net b) e)
+
+-- ---- what is chosen by a condition
+
+module _ (net : List NetOp) (is : IsNet net) (condition id x y : ℕ) (at : slice_get net id ≡ Some (Ite condition x y)) where
+  pub chosen_if_set : IsNodeIf net (λ (c : BitVector). c.number ≡ 1) condition id x
+  chosen_if_set = record {
+    stands = within_node net is x (stands_node net is id (Ite condition x y) at).1;
+    width = sym (width_node net is id (Ite condition x y) at);
+    value = λ s feeds h. sym (value_node net is s id (Ite condition x y) at ∙ chosen_first (node_value s net condition) (node_value s net x) (node_value s net y) h);
+  }
+
+  pub chosen_if_clear : IsNodeIf net (λ (c : BitVector). c.number ≢ 1) condition id y
+  chosen_if_clear = record {
+    stands = within_node net is y (stands_node net is id (Ite condition x y) at).2;
+    width = sym (stands_node net is id (Ite condition x y) at).4 ∙ sym (width_node net is id (Ite condition x y) at);
+    value = λ s feeds h. sym (value_node net is s id (Ite condition x y) at ∙ chosen_second (node_value s net condition) (node_value s net x) (node_value s net y) h);
+  }

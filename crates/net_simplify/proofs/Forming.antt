@@ -17,7 +17,7 @@ use Rattle.net_graph.specs.declared.node.NetTwo.TheVariants.{And, Or}
 use Rattle.net_graph.specs.declared.node.NetOp.{NetOp}
 use Rattle.net_graph.specs.declared.node.NetOp.TheVariants.{One, Two}
 use Rattle.net_graph.proofs.OneByOne.{length-one_by_one}
-use Rattle.net_simplify.specs.Forms.{Equals, IsForm, IsLean, IsOpposite, Turns}
+use Rattle.net_simplify.specs.Forms.{IsOfOpposites, Equals, IsForm, IsLean, IsOpposite, Turns}
 use Rattle.net_simplify.specs.Identities.{HoldsOf, identity_value, identity_width, IsAsWide, IsDistinguishing, IsKnown, LeavesOnly, ones}
 use Rattle.net_simplify.specs.Tidy.{IsNeeded, IsOpen}
 use Rattle.net_simplify.specs.declared.form.Form.{Form}
@@ -33,7 +33,7 @@ pub all_at : (P : NetOp → Type 0) (net : List NetOp) (id : ℕ) (op : NetOp) �
 all_at P net id op all at = subst P (get_or_from_slice_get net id op op at) (all id op (slice_get_within net id op at))
 
 -- a bit vector that is turned twice
-turned_twice : (x : BitVector) → IsBits x → op.not (op.not x) ≡ x
+pub turned_twice : (x : BitVector) → IsBits x → op.not (op.not x) ≡ x
 unfolding op.not
 turned_twice x p =
     let below : x.number < 2 ^ x.width = p.in_range in
@@ -112,6 +112,19 @@ module _ (net : List NetOp) (lean : IsLean net) where
   not_turned a op turned at t =
       subst (λ (o : NetOp). IsForm net (One Not a) (Operator o)) (sym t.turned_is)
       (opposite_form a t.first t.second t.operator t.other (at ∙ ap Some t.is) t.opposite)
+
+  pub opposites_form : (operator : NetTwo) (a b : ℕ) → Stands (widths_of net) (Two operator a b) → ((s : Sources) → Feeds s net → node_value s net b ≡ op.not (node_value s net a))
+      → (width : ℕ) (value : BitVector) → width ≡ width_at (widths_of net) a → IsOfOpposites operator width value → IsForm net (Two operator a b) (Constant value)
+  opposites_form operator a b stands opposite width value w is = record {
+    stands = tt;
+    equals = record {
+      width = is.as_wide (width_at (widths_of net) b) (subst (λ k. TakesTwo operator k (width_at (widths_of net) b)) (sym w) stands.2) ∙ ap (λ k. two_width operator k (width_at (widths_of net) b)) w;
+      value = λ s feeds.
+          let bits = bits_node net lean.is_net s a feeds (within a stands.0) in
+          sym (is.value (node_value s net a) bits.0 (bits.1 ∙ sym w)) ∙ ap (two_value operator (node_value s net a)) (sym (opposite s feeds));
+      reads = λ inputs states h. tt;
+    };
+  }
 
   -- ---- an operator on two nodes
 

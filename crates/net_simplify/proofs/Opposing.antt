@@ -1,12 +1,16 @@
--- Comparisons that tell what others don't.
-use Rattle.std.proofs.Common.{◌≡◌, Bool, true, false, refl, sym, ap, ◌∙◌}
+-- Comparisons that tell what others don't, and what operators come to on a value and the same with its bits turned.
+use Rattle.std.proofs.Common.{◌≡◌, ℕ, ◌+◌, ◌-◌, ◌^◌, ◌<◌, Bool, true, false, bit_and, bit_or, bit_xor, refl, sym, ap, ◌∙◌, arith}
 use Rattle.std.specs.Prelude.{int_le, int_lt, nat_eq, nat_le, nat_lt, not}
+use Rattle.std.specs.Int.Bits.{and_self, xor_disjoint}
+use Rattle.std.proofs.lemmas.Nat.{and-not, and_comm, or_disjoint}
+use Rattle.kw_bits.specs.BitVector.{BitVector, zero_at}
 use Rattle.kw_bits.specs.Operators as op
 use Rattle.kw_bits.proofs.OperatorLaws.{flag_logic}
 use Rattle.net_graph.specs.Operators.{two_value, two_width, TakesTwo}
-use Rattle.net_graph.specs.declared.node.NetTwo.TheVariants.{EqBits, Neq, Ult, Ulte, Ugt, Ugte, Slt, Slte, Sgt, Sgte}
-use Rattle.net_simplify.specs.Forms.{IsOpposite}
+use Rattle.net_graph.specs.declared.node.NetTwo.TheVariants.{And, Or, Xor, EqBits, Neq, Ult, Ulte, Ugt, Ugte, Slt, Slte, Sgt, Sgte}
+use Rattle.net_simplify.specs.Forms.{IsOfOpposites, IsOpposite}
 use Rattle.net_simplify.proofs.Comparing.{int_le-not, nat_le-not}
+use Rattle.net_simplify.proofs.Units.{same_parts}
 
 turned-flag : (p q : Bool) → p ≡ not q → op.flag p ≡ op.not (op.flag q)
 turned-flag p q e = ap op.flag e ∙ sym (flag_logic q false).0
@@ -63,3 +67,41 @@ sgt-slte = record { takes = λ a b h. h; width = λ a b. refl; value = λ x y p 
 pub sgte-slt : IsOpposite Sgte Slt
 unfolding two_value two_width TakesTwo op.slt op.slte
 sgte-slt = record { takes = λ a b h. h; width = λ a b. refl; value = λ x y p q t. turned-flag (int_lt (op.signed x) (op.signed y)) (int_le (op.signed y) (op.signed x)) (back (int_le (op.signed y) (op.signed x)) (int_lt (op.signed x) (op.signed y)) (int_le-not (op.signed x) (op.signed y))); other_needs = tt }
+
+-- ---- a value and the turned one
+
+nothing_common : (w n : ℕ) → n < 2 ^ w → bit_and n (2 ^ w - 1 - n) ≡ 0
+nothing_common w n h =
+    let both = and-not w n n h h in
+    and_comm n (2 ^ w - 1 - n) ∙ omega (arith, both, and_self n)
+
+whole : (w n : ℕ) → n < 2 ^ w → n + (2 ^ w - 1 - n) ≡ 2 ^ w - 1 - 0
+whole w n h = omega arith
+
+module _ (width : ℕ) (result : BitVector) where
+  pub and-opposite : result ≡ zero_at width → IsOfOpposites And width result
+  unfolding two_value two_width TakesTwo op.and op.not
+  and-opposite e = record {
+    as_wide = λ b takes. ap (λ (v : BitVector). v.width) e;
+    value = λ x p w. same_parts (zero_at width) x.width (bit_and x.number (2 ^ x.width - 1 - x.number)) w (nothing_common x.width x.number p.in_range) ∙ sym e;
+  }
+
+  pub or-opposite : (zero : BitVector) → result ≡ op.not zero → zero ≡ zero_at width → IsOfOpposites Or width result
+  unfolding two_value two_width TakesTwo op.or op.not
+  or-opposite zero e z = record {
+    as_wide = λ b takes. ap (λ (v : BitVector). v.width) (e ∙ ap op.not z);
+    value = λ x p w.
+        let below : x.number < 2 ^ x.width = p.in_range in
+        same_parts (op.not (zero_at width)) x.width (bit_or x.number (2 ^ x.width - 1 - x.number)) w
+        (or_disjoint x.number (2 ^ x.width - 1 - x.number) (nothing_common x.width x.number p.in_range) ∙ whole x.width x.number below ∙ ap (λ k. 2 ^ k - 1 - 0) w) ∙ sym (e ∙ ap op.not z);
+  }
+
+  pub xor-opposite : (zero : BitVector) → result ≡ op.not zero → zero ≡ zero_at width → IsOfOpposites Xor width result
+  unfolding two_value two_width TakesTwo op.xor op.not
+  xor-opposite zero e z = record {
+    as_wide = λ b takes. ap (λ (v : BitVector). v.width) (e ∙ ap op.not z);
+    value = λ x p w.
+        let below : x.number < 2 ^ x.width = p.in_range in
+        same_parts (op.not (zero_at width)) x.width (bit_xor x.number (2 ^ x.width - 1 - x.number)) w
+        (xor_disjoint x.number (2 ^ x.width - 1 - x.number) (nothing_common x.width x.number p.in_range) ∙ whole x.width x.number below ∙ ap (λ k. 2 ^ k - 1 - 0) w) ∙ sym (e ∙ ap op.not z);
+  }

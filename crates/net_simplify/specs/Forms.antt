@@ -6,7 +6,7 @@ use Rattle.kw_bits.specs.Operators as op
 use Rattle.net_graph.specs.Laws.{Feeds}
 use Rattle.net_graph.specs.Nets.{IsNet, op_width, Stands, width_at, widths_of}
 use Rattle.net_graph.specs.Operators.{two_value, two_width, TakesTwo}
-use Rattle.net_graph.specs.Values.{op_value, Reads, Sources, value_at, values_of}
+use Rattle.net_graph.specs.Values.{node_value, op_value, Reads, Sources, value_at, values_of}
 use Rattle.net_graph.specs.declared.node.NetOp.{NetOp}
 use Rattle.net_graph.specs.declared.node.NetOp.TheVariants.{Two}
 use Rattle.net_graph.specs.declared.node.NetOne.{NetOne}
@@ -79,3 +79,14 @@ IsReduction RedAnd = Unit {0}
 IsReduction RedOr = Unit {0}
 IsReduction RedXor = Unit {0}
 IsReduction _ = ⊥
+
+-- a node has the width of another, and its value where this holds of a condition's
+pub record IsNodeIf (net : List NetOp) (holds : BitVector → Type 0) (condition id other : ℕ) : Type 0 where
+  pub stands : other < length net
+  pub width : width_at (widths_of net) other ≡ width_at (widths_of net) id
+  pub value : (s : Sources) → Feeds s net → holds (node_value s net condition) → node_value s net other ≡ node_value s net id
+
+-- what an operator comes to on a bit vector of this width and the same with its bits turned
+pub record IsOfOpposites (operator : NetTwo) (width : ℕ) (result : BitVector) : Type 0 where
+  pub as_wide : (b : ℕ) → TakesTwo operator width b → result.width ≡ two_width operator width b
+  pub value : (x : BitVector) → IsBits x → x.width ≡ width → two_value operator x (op.not x) ≡ result

@@ -5,13 +5,15 @@ ghost use Rattle.net_graph.specs.declared.node.NetOne.TheVariants.{Not};
 ghost use Rattle.net_graph.specs.declared.node.NetOp.TheVariants.{Ite, One, Two};
 ghost use Rattle.net_simplify.specs.Forms.{Equals, IsForm, IsLean, IsReduction};
 ghost use Rattle.net_simplify.specs.Tidy.{IsNeeded};
-ghost use Rattle.net_simplify.specs.declared.form.Form.TheVariants.{Node};
+ghost use Rattle.net_simplify.specs.declared.form.Form.TheVariants.{Constant, Node};
 
 use crate::choices::{Choice, choice_of};
 use crate::fold::folded;
 use crate::identities::{Identity, identity_of};
-use crate::nodes::{known_at, known_if_clear, known_if_set, not_of, op_at};
-use crate::opposites::opposite_of;
+use crate::nodes::{
+    are_opposite, known_at, known_if_clear, known_if_set, node_if_clear, node_if_set, not_of, op_at,
+};
+use crate::opposites::{of_opposites, opposite_of};
 use kw_bits::Bits;
 use net_graph::{Net, NetId, NetOne, NetOp, NetTwo};
 
@@ -77,6 +79,9 @@ fn two_form(net: &Net, operator: NetTwo, a: NetId, b: NetId) -> Form
     if let Some(value) = folded(net, &op) {
         return Form::Constant(value);
     }
+    if let Some(value) = opposites_value(net, operator, a, b) {
+        return Form::Constant(value);
+    }
     match identity_of(operator, known_at(net, a), known_at(net, b), a == b) {
         Identity::Itself => Form::Operator(op),
         Identity::First => Form::Node(a),
@@ -89,6 +94,19 @@ fn two_form(net: &Net, operator: NetTwo, a: NetId, b: NetId) -> Form
     }
 }
 
+// The value of an operator on a node and a `not` of it, if it is always the same.
+fn opposites_value(net: &Net, operator: NetTwo, a: NetId, b: NetId) -> Option<Bits>
+    requires stands { Stands (widths_of net.now) (Two operator a b) }
+    requires lean { IsLean net.now }
+    ensures { IfSome result (λ value. IsForm net.now (Two operator a b) (Constant value)) }
+{
+    if are_opposite(net, a, b) {
+        of_opposites(operator, net.width(a))
+    } else {
+        None
+    }
+}
+
 // A choice by a `not` is the other choice.
 fn ite_form(net: &Net, condition: NetId, a: NetId, b: NetId) -> Form
     requires stands { Stands (widths_of net.now) (Ite condition a b) }
@@ -96,9 +114,20 @@ fn ite_form(net: &Net, condition: NetId, a: NetId, b: NetId) -> Form
     ensures { IsForm net.now (Ite condition a b) result }
 {
     match not_of(&op_at(net, condition)) {
-        Some(turned) => choice_form(net, turned, b, a),
-        None => choice_form(net, condition, a, b),
+        Some(turned) => nested_form(net, turned, b, a),
+        None => nested_form(net, condition, a, b),
     }
+}
+
+// Of a choice by the same condition one part is left.
+fn nested_form(net: &Net, condition: NetId, a: NetId, b: NetId) -> Form
+    requires stands { Stands (widths_of net.now) (Ite condition a b) }
+    requires lean { IsLean net.now }
+    ensures { IsForm net.now (Ite condition a b) result }
+{
+    let first = node_if_set(net, condition, a);
+    let second = node_if_clear(net, condition, b);
+    choice_form(net, condition, first, second)
 }
 
 fn choice_form(net: &Net, condition: NetId, a: NetId, b: NetId) -> Form

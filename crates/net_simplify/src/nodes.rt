@@ -1,10 +1,13 @@
 // What single nodes of a net are.
-ghost use Rattle.std.specs.Prelude.{◌≡◌, ◌≢◌, ◌<◌, ℕ, length, IfNone, IfSome, Some, slice_get};
+ghost use Rattle.std.specs.Prelude.{◌≡◌, ◌≢◌, ◌<◌, ℕ, length, IfNone, IfSome, IsTrue, Some, slice_get};
+ghost use Rattle.kw_bits.specs.BitVector.{BitVector};
+ghost use Rattle.kw_bits.specs.Operators as op;
 ghost use Rattle.net_graph.specs.Laws.{Feeds};
 ghost use Rattle.net_graph.specs.Nets.{IsNet, width_at, widths_of};
 ghost use Rattle.net_graph.specs.Values.{node_value, Sources};
 ghost use Rattle.net_graph.specs.declared.node.NetOne.TheVariants.{Not};
 ghost use Rattle.net_graph.specs.declared.node.NetOp.TheVariants.{Const, One};
+ghost use Rattle.net_simplify.specs.Forms.{IsNodeIf};
 ghost use Rattle.net_simplify.specs.Identities.{IsKnown};
 ghost use Rattle.net_simplify.specs.Tidy.{IsConstant};
 
@@ -84,5 +87,53 @@ pub(crate) fn known_if_clear(net: &Net, condition: NetId, id: NetId) -> Known
         Known::Zero
     } else {
         known_at(net, id)
+    }
+}
+
+/// The node that has a node's value where a condition is 1: what it chooses there, if it is a choice by that condition.
+pub(crate) fn node_if_set(net: &Net, condition: NetId, id: NetId) -> NetId
+    requires node { id < length net.now }
+    requires net { IsNet net.now }
+    ensures { IsNodeIf net.now (λ (c : BitVector). c.number ≡ 1) condition id result }
+{
+    match op_at(net, id) {
+        NetOp::Ite(by, first, _) if by == condition => first,
+        _ => id,
+    }
+}
+
+/// The node that has a node's value where a condition isn't 1.
+pub(crate) fn node_if_clear(net: &Net, condition: NetId, id: NetId) -> NetId
+    requires node { id < length net.now }
+    requires net { IsNet net.now }
+    ensures { IsNodeIf net.now (λ (c : BitVector). c.number ≢ 1) condition id result }
+{
+    match op_at(net, id) {
+        NetOp::Ite(by, _, second) if by == condition => second,
+        _ => id,
+    }
+}
+
+/// Whether one of two nodes is a `not` of the other.
+pub(crate) fn are_opposite(net: &Net, a: NetId, b: NetId) -> bool
+    requires a { a < length net.now }
+    requires b { b < length net.now }
+    requires net { IsNet net.now }
+    ensures { IsTrue result → (s : Sources) → Feeds s net.now → node_value s net.now b ≡ op.not (node_value s net.now a) }
+{
+    if is_not_of(net, b, a) {
+        return true;
+    }
+    is_not_of(net, a, b)
+}
+
+// Whether a node is a `not` of another.
+fn is_not_of(net: &Net, id: NetId, a: NetId) -> bool
+    requires { id < length net.now }
+    ensures { IsTrue result → slice_get net.now id ≡ Some (One Not a) }
+{
+    match not_of(&op_at(net, id)) {
+        Some(turned) => turned == a,
+        None => false,
     }
 }

@@ -1,7 +1,8 @@
-// Comparisons that tell what others don't.
-ghost use Rattle.std.specs.Prelude.{IfSome};
-ghost use Rattle.net_simplify.specs.Forms.{IsOpposite, Turns};
+// Operators on opposite values, and comparisons that tell what others don't.
+ghost use Rattle.std.specs.Prelude.{◌≤◌, IfSome};
+ghost use Rattle.net_simplify.specs.Forms.{IsOfOpposites, IsOpposite, Turns};
 
+use kw_bits::Bits;
 use net_graph::{NetOp, NetTwo};
 
 /// The operator that has the turned value of another, if that is a comparison.
@@ -32,6 +33,20 @@ fn opposite(operator: NetTwo) -> Option<NetTwo>
         NetTwo::Slte => Some(NetTwo::Sgt),
         NetTwo::Sgt => Some(NetTwo::Slte),
         NetTwo::Sgte => Some(NetTwo::Slt),
+        _ => None,
+    }
+}
+
+/// What an operator comes to on a node of this width and one whose bits are the turned ones.
+pub(crate) fn of_opposites(operator: NetTwo, width: u32) -> Option<Bits>
+    requires some { 1 ≤ width }
+    requires most { width ≤ 128 }
+    ensures { IfSome result (IsOfOpposites operator width) }
+{
+    match operator {
+        NetTwo::And => Some(Bits::zero(width)),
+        NetTwo::Or => Some(Bits::zero(width).not()),
+        NetTwo::Xor => Some(Bits::zero(width).not()),
         _ => None,
     }
 }

@@ -6,6 +6,8 @@ use std::alloc::Global;
 use std::process::Abort;
 use std::test::Fail;
 
+mod costs;
+
 const X: NetOp = NetOp::Input(0, 8);
 
 const Y: NetOp = NetOp::Input(1, 8);
@@ -72,7 +74,7 @@ fn circuit_of(rt: &impl Abort, alloc: Global, ops: &[NetOp]) -> Result<Circuit, 
 // Nodes behind those of `circuit_of`, of which the last is an output, and what is left of all nodes.
 #[test]
 fn operators_are_simplified(rt: HostRuntime) -> Result<(), Fail> {
-    let cases: [(&[NetOp], &[NetOp]); 12] = [
+    let cases: [(&[NetOp], &[NetOp]); 14] = [
         (&[NetOp::Two(NetTwo::And, 5, 0)], &[X]),
         (&[NetOp::Two(NetTwo::Or, 0, 0)], &[X]),
         (
@@ -118,6 +120,16 @@ fn operators_are_simplified(rt: HostRuntime) -> Result<(), Fail> {
             ],
             &[X, Y, NetOp::Two(NetTwo::Sub, 0, 1)],
         ),
+        // Either a node or a `not` of it is 1.
+        (
+            &[
+                NetOp::One(NetOne::Not, 2),
+                NetOp::Two(NetTwo::Or, 2, 9),
+                NetOp::Ite(10, 0, 1),
+            ],
+            &[X],
+        ),
+        (&[NetOp::Ite(2, 0, 1), NetOp::Ite(2, 9, 0)], &[X]),
     ];
     for (ops, left) in cases {
         let circuit = simplify(rt.alloc(), &circuit_of(&rt, rt.alloc(), ops)?)?;

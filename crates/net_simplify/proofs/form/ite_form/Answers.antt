@@ -7,8 +7,8 @@ use Rattle.net_simplify.proofs.form.ite_form.Goals as goal
 pub op_at-requires : goal.op_at-requires
 op_at-requires c = within_node c.args.net.now c.requires.lean.is_net c.args.condition c.requires.stands.0
 
-pub choice_form-requires-clause-stands : goal.choice_form-requires-clause-stands
-choice_form-requires-clause-stands c = turned_stands c.args.net.now c.requires.lean c.args.condition c.in-Some.turned c.args.a c.args.b (c.op_at.ensures ∙ ap Some c.in-Some.ensures.some) c.requires.stands
+pub nested_form-requires-clause-stands : goal.nested_form-requires-clause-stands
+nested_form-requires-clause-stands c = turned_stands c.args.net.now c.requires.lean c.args.condition c.in-Some.turned c.args.a c.args.b (c.op_at.ensures ∙ ap Some c.in-Some.ensures.some) c.requires.stands
 
 pub returns-in-Some : goal.returns-in-Some
-returns-in-Some c = choice-turned c.args.net.now c.requires.lean c.args.condition c.in-Some.turned c.args.a c.args.b (c.op_at.ensures ∙ ap Some c.in-Some.ensures.some) c.requires.stands c.choice_form.result c.choice_form.ensures
+returns-in-Some c = choice-turned c.args.net.now c.requires.lean c.args.condition c.in-Some.turned c.args.a c.args.b (c.op_at.ensures ∙ ap Some c.in-Some.ensures.some) c.requires.stands c.nested_form.result c.nested_form.ensures
