@@ -7,7 +7,5 @@
 
 mod ports;
 mod run;
-#[cfg(test)]
-mod tests;
 
 pub use run::{LoggedRun, RuleEnd, RuleRun, run_logged, run_rule};

@@ -13,8 +13,6 @@ mod judge;
 mod laws;
 mod past;
 mod retrace;
-#[cfg(test)]
-mod tests;
 mod traced;
 
 pub use cause::{Cause, StaleRead, Verdict};

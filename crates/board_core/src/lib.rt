@@ -11,8 +11,6 @@ mod event;
 mod kept;
 mod laws;
 mod place;
-#[cfg(test)]
-mod tests;
 mod waiting;
 
 pub use board::Core;

@@ -8,8 +8,6 @@
 mod circuit;
 mod rows;
 mod sim;
-#[cfg(test)]
-mod tests;
 mod validity;
 
 pub use circuit::{Circuit, InputWire, OutputWire, StateWire, Wires};

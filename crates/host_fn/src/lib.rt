@@ -8,8 +8,6 @@ mod answer;
 mod binary;
 mod function;
 mod stored;
-#[cfg(test)]
-mod tests;
 mod unary;
 
 pub use stored::HostFn;

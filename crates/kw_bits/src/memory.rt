@@ -27,16 +27,3 @@ impl<T: Drop> From<AllocFailed<T>> for NoMemory {
         NoMemory
     }
 }
-
-#[cfg(test)]
-mod tests {
-    use super::NoMemory;
-    use std::test::Fail;
-
-    #[test]
-    fn says_what_is_wrong(rt: HostRuntime) -> Result<(), Fail> {
-        let text = format!(in rt.alloc(); "{NoMemory}")?;
-        assert_eq!(rt; text.as_str(), "out of memory");
-        Ok(())
-    }
-}

@@ -258,6 +258,3 @@ impl Bits {
         }
     }
 }
-
-#[cfg(test)]
-mod tests;

@@ -151,35 +151,3 @@ impl<'a, T> IntoIterator for &'a Reserved<T> {
         self.items.as_slice().iter()
     }
 }
-
-#[cfg(test)]
-mod tests {
-    use super::Reserved;
-    use crate::Sequence;
-    use std::test::Fail;
-
-    #[test]
-    fn holds_items_in_order(rt: HostRuntime) -> Result<(), Fail> {
-        let mut log: Reserved<u8> = Reserved::with_capacity(rt.alloc(), 2)?;
-        assert!(rt; log.is_empty());
-        log.push(7);
-        log.push(8);
-        log.set(0, 9);
-        assert_eq!(rt; log.as_slice(), [9, 8].as_slice());
-        assert_eq!(rt; log.iter().last(), Some(&8));
-        let mut list = Sequence::from_slice(rt.alloc(), log.as_slice())?;
-        list.push(1)?;
-        assert_eq!(rt; list.pop(), Some(1));
-        list.truncate(2);
-        for (one, other) in list.iter().zip(&log) {
-            assert_eq!(rt; one, other);
-        }
-        assert_eq!(rt; (list[0], log[1]), (9, 8));
-        log.clear();
-        list.clear();
-        assert_eq!(rt; (list.len(), log.len(), log.capacity()), (0, 0, 2));
-        log.extend_from_slice(&[5, 6]);
-        assert_eq!(rt; log.into_sequence().as_slice(), [5, 6].as_slice());
-        Ok(())
-    }
-}

@@ -12,8 +12,6 @@ mod laws;
 mod rows;
 mod rule;
 mod stimulus;
-#[cfg(test)]
-mod tests;
 
 pub use cycle::{Fired, State, slow_cycle};
 pub use evaluation::{Environment, Interrupt, Outside, Ports, evaluate};

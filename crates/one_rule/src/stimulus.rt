@@ -5,8 +5,6 @@ ghost use Rattle.typed_core.specs.Widths.{HaveWidths};
 ghost use Rattle.one_rule.specs.Stimulus.{AlwaysFits, AreSame, inputs_by, inputs_of, IsLine};
 
 mod line;
-#[cfg(test)]
-mod tests;
 
 use crate::rows::Inputs;
 use kw_bits::{Bits, NoMemory, Sequence};

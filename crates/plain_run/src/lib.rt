@@ -6,8 +6,6 @@
 
 mod cycles;
 mod runs;
-#[cfg(test)]
-mod tests;
 mod walk;
 
 pub use cycles::cycle;

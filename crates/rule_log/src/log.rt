@@ -288,6 +288,3 @@ fn filled<T: Copy>(alloc: Global, item: T, count: usize) -> Result<Reserved<T>, 
     }
     Ok(list)
 }
-
-#[cfg(test)]
-mod tests;

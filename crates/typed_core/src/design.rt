@@ -140,6 +140,3 @@ impl Design {
             && self.nodes.is_same(&other.nodes)
     }
 }
-
-#[cfg(test)]
-mod tests;
