@@ -1,10 +1,10 @@
 -- The flags of the text that shows violations are the violations.
-use Rattle.std.proofs.Common.{◌≡◌, ◌==◌, ℕ, zero, suc, ◌+◌, ◌<◌, ◌⊎◌, inl, inr, nat_eq, Bool, true, false, cond, filter, List, [], ◌∷◌, Option, None, Some, length, get_or, map, refl, sym, ap, ap₂, ◌∙◌, subst, arith, All}
+use Rattle.std.proofs.Common.{◌≡◌, ◌==◌, ℕ, zero, suc, ◌+◌, ◌⊎◌, inl, inr, nat_eq, Bool, true, false, cond, filter, List, [], ◌∷◌, Option, None, Some, get_or, map, refl, sym, ap, ap₂, ◌∙◌, subst, arith, All}
 use Rattle.std.specs.Prelude.{slice_get, IfOk, Result, Ok, Err}
 use Rattle.std.specs.List.{find, zip}
 use Rattle.std.specs.Map.{lookup}
 use Rattle.std.specs.Option.{option_map, unwrap_or}
-use Rattle.std.proofs.lemmas.Bool.{eq-eqb, eqb-true}
+use Rattle.std.proofs.lemmas.Bool.{eqb-true}
 use Rattle.std.proofs.lemmas.Option.{get_or_from_slice_get, slice_get-map, slice_get_within}
 use Rattle.std.proofs.lemmas.Simd.{map-map}
 use Rattle.kw_bits.specs.BitVector.{BitVector, zero_at}
@@ -19,7 +19,7 @@ use Rattle.btor2_text.specs.declared.line.Argument.{Argument}
 use Rattle.btor2_text.specs.declared.line.Line.{Line}
 use Rattle.btor2_model.specs.Acceptance.{IsAccepted, lines_fault}
 use Rattle.btor2_model.specs.Rules.{is_bad, is_init, is_input, is_next, is_output, is_state, rule_of, widths_agree}
-use Rattle.btor2_model.specs.Run.{Step, Values, first_row, first_values, flag_ids, ids_of, input_values, lines_of, next_values, no_bits, row_behind, states_at, value_set, values_at, values_in, width_in}
+use Rattle.btor2_model.specs.Run.{Step, Values, first_values, flag_ids, ids_of, input_values, lines_of, next_values, no_bits, states_at, value_set, values_at, values_in, width_in}
 use Rattle.btor2_model.specs.Scope.{Scope, behind_all, id_at, measures, no_lines, width_wanted}
 use Rattle.btor2_model.specs.SlowRun.{sets}
 use Rattle.btor2_model.specs.declared.meaning.Meaning.{Meaning}
@@ -28,7 +28,7 @@ use Rattle.btor2_model.specs.declared.rule.Rule.TheVariants as forms
 use Rattle.btor2_model.proofs.Ends.{SameWidth, init-found, measured-widths, wanted-some, wanted-stays}
 use Rattle.btor2_model.proofs.Filled.{each-measure, value-alone}
 use Rattle.btor2_model.proofs.KindsByRule.{kinds-by, kinds_by}
-use Rattle.btor2_model.proofs.Selections.{set-by, states-next}
+use Rattle.btor2_model.proofs.Selections.{set-by}
 use Rattle.btor2_net.proofs.Declared.{IsValue, all-passing, each-line, fine-lines, input-values, next-of, own-value, state-values, width-is}
 use Rattle.koika_assert.specs.Bads.{ShowsViolations, as_output, bads_as_outputs, is_violated, turned}
 use Rattle.koika_assert.proofs.TurnedScopes.{good-wanted, is_good}

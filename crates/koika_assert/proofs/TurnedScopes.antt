@@ -1,16 +1,12 @@
 -- What the lines that are kept declare is what all lines declare of sorts and values, so none of them has a fault.
-use Rattle.std.proofs.Common.{◌≡◌, ℕ, zero, suc, ◌+◌, ◌<◌, ◌≤◌, ◌⊎◌, inl, inr, ◌^◌, nat_eq, nat_lt, not, Bool, true, false, ◌&&◌, ◌||◌, cond, filter, List, [], ◌∷◌, Option, None, Some, is_some, length, map, refl, sym, ap, ap₂, ◌∙◌, subst, arith, lit≤}
+use Rattle.std.proofs.Common.{◌≡◌, ℕ, zero, suc, ◌<◌, ◌≤◌, ◌⊎◌, inl, inr, ◌^◌, nat_eq, nat_lt, not, Bool, true, false, ◌&&◌, ◌||◌, cond, List, [], ◌∷◌, Option, None, Some, is_some, refl, sym, ap, ap₂, ◌∙◌, subst, arith}
 use Rattle.std.specs.Prelude.{slice_get}
-use Rattle.std.specs.List.{find, list_all, list_any}
-use Rattle.std.specs.Map.{update}
-use Rattle.std.specs.Option.{option_map, option_or, unwrap_or}
-use Rattle.std.proofs.lemmas.Bool.{eq-eqb, eqb-true}
-use Rattle.kw_base.specs.declared.fault.Fault.{Fault}
-use Rattle.kw_bits.specs.BitVector.{BitVector}
-use Rattle.kw_bits.specs.Operators as vector
+use Rattle.std.specs.List.{list_all, list_any}
+use Rattle.std.specs.Option.{unwrap_or}
+use Rattle.std.proofs.lemmas.Bool.{eqb-true}
 use Rattle.std.specs.Str.Parse.{digits_value}
 use Rattle.btor2_text.specs.Forms.{kinds_of, radix_of}
-use Rattle.btor2_text.specs.Printable.{ArePrintable, FitKinds, FitsKind}
+use Rattle.btor2_text.specs.Printable.{FitKinds}
 use Rattle.btor2_text.specs.declared.keyword.Keyword.{Keyword}
 use Rattle.btor2_text.specs.declared.keyword.Keyword.TheVariants as keywords
 use Rattle.btor2_text.specs.declared.kind.Kind.{Kind}
@@ -18,23 +14,20 @@ use Rattle.btor2_text.specs.declared.kind.Kind.TheVariants as kinds
 use Rattle.btor2_text.specs.declared.line.Argument.{Argument}
 use Rattle.btor2_text.specs.declared.line.Argument.TheVariants as arguments
 use Rattle.btor2_text.specs.declared.line.Line.{Line}
-use Rattle.btor2_model.specs.Acceptance.{agree, digits_of, fault_in, init_is_fixed, is_fresh, is_known, line_fault, lines_fault, names_state, numeral_fits, passes, sets_first, stands_for_state}
+use Rattle.btor2_model.specs.Acceptance.{agree, digits_of, init_is_fixed, is_known, names_state, numeral_fits, passes, sets_first, stands_for_state}
 use Rattle.btor2_model.specs.Rules.{bounds_fit, is_init, is_input, is_next, is_output, is_state, role_of, rule_of, widths_agree}
-use Rattle.btor2_model.specs.Run.{Step, Values, binary, constant, extended, operator_value, unary, value_by, values_behind}
-use Rattle.btor2_model.specs.Scope.{Scope, argument_depends, behind, behind_all, id_at, id_of, meaning_depends, meaning_of, measure, measures, measures_from, measures_of, set_now, sort_width, sort_width_in, value_width, width_or_none, width_wanted}
+use Rattle.btor2_model.specs.Scope.{Scope, argument_depends, behind, id_at, id_of, meaning_depends, meaning_of, measure, measures, measures_from, measures_of, set_now, sort_width, value_width, width_or_none, width_wanted}
 use Rattle.btor2_model.specs.declared.meaning.Meaning.{Meaning}
 use Rattle.btor2_model.specs.declared.meaning.Role.{Role}
 use Rattle.btor2_model.specs.declared.meaning.Role.TheVariants as roles
 use Rattle.btor2_model.specs.declared.rule.Measures.{Measures}
 use Rattle.btor2_model.specs.declared.rule.Rule.{Rule}
 use Rattle.btor2_model.specs.declared.rule.Rule.TheVariants as forms
-use Rattle.btor2_model.proofs.Conditions.{Meets, meets, no-fault}
-use Rattle.btor2_model.proofs.Ends.{wanted-some}
-use Rattle.btor2_model.proofs.Evaluation.{option_map-none, option_or-none}
+use Rattle.btor2_model.proofs.Conditions.{Meets}
 use Rattle.btor2_model.proofs.Filled.{both, each-measure, passes-some}
 use Rattle.btor2_model.proofs.Filling.{nothing-there}
 use Rattle.btor2_model.proofs.KindsByRule.{kinds-by, kinds_by}
-use Rattle.koika_assert.specs.Bads.{as_output, bads_as_outputs, turned}
+use Rattle.koika_assert.specs.Bads.{as_output, turned}
 
 -- a sort or a value
 abbrev pub is_good : Role → Bool

@@ -1,5 +1,5 @@
 -- The text that shows violations is accepted.
-use Rattle.std.proofs.Common.{◌≡◌, ℕ, ◌≤◌, not, Bool, true, false, ◌&&◌, cond, filter, List, [], ◌∷◌, Option, None, Some, map, refl, sym, ap, ap₂, ◌∙◌, subst, ◌⊎◌, inl, inr}
+use Rattle.std.proofs.Common.{◌≡◌, ℕ, not, Bool, true, false, ◌&&◌, cond, filter, List, [], ◌∷◌, Option, None, Some, map, refl, sym, ap, ap₂, ◌∙◌, subst, ◌⊎◌, inl, inr}
 use Rattle.std.specs.List.{find}
 use Rattle.std.specs.Option.{option_map, option_or}
 use Rattle.kw_base.specs.declared.fault.Fault.{Fault}

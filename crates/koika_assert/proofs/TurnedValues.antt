@@ -1,12 +1,11 @@
 -- The values of sorts' and values' ids are the same in the text that shows violations.
-use Rattle.std.proofs.Common.{◌≡◌, ℕ, zero, suc, ◌≤◌, nat_eq, not, Bool, true, false, cond, filter, List, [], ◌∷◌, Option, None, Some, map, refl, sym, ap, ap₂, ◌∙◌, subst, ◌⊎◌, inl, inr}
+use Rattle.std.proofs.Common.{◌≡◌, ℕ, suc, nat_eq, Bool, true, false, cond, List, [], ◌∷◌, Option, None, Some, map, refl, sym, ap, ap₂, ◌∙◌, subst, ◌⊎◌, inl, inr}
 use Rattle.std.specs.Prelude.{slice_get}
 use Rattle.std.specs.Option.{unwrap_or}
 use Rattle.std.specs.Str.Parse.{digits_value}
-use Rattle.std.proofs.lemmas.Bool.{eqb-true}
 use Rattle.kw_bits.specs.BitVector.{BitVector}
 use Rattle.kw_bits.specs.Operators as vector
-use Rattle.btor2_text.specs.Forms.{kinds_of, radix_of}
+use Rattle.btor2_text.specs.Forms.{radix_of}
 use Rattle.btor2_text.specs.Printable.{ArePrintable, IsPrintable}
 use Rattle.btor2_text.specs.declared.keyword.Keyword.{Keyword}
 use Rattle.btor2_text.specs.declared.keyword.Keyword.TheVariants as keywords
@@ -15,7 +14,7 @@ use Rattle.btor2_text.specs.declared.line.Argument.{Argument}
 use Rattle.btor2_text.specs.declared.line.Argument.TheVariants as arguments
 use Rattle.btor2_text.specs.declared.line.Line.{Line}
 use Rattle.btor2_model.specs.Acceptance.{line_fault, lines_fault}
-use Rattle.btor2_model.specs.Rules.{is_bad, is_output, is_state, role_of, rule_of}
+use Rattle.btor2_model.specs.Rules.{is_output, is_state, role_of, rule_of}
 use Rattle.btor2_model.specs.Run.{Step, Values, base_of, binary, constant, extended, ids_of, lines_of, operator_value, unary, value_by, values_behind}
 use Rattle.btor2_model.specs.Scope.{Scope, behind, behind_all, meaning_of, width_wanted}
 use Rattle.btor2_model.specs.declared.meaning.Meaning.{Meaning}

@@ -5,7 +5,7 @@ use Rattle.one_rule.specs.Run.{InputsByCycle}
 use Rattle.btor2_text.specs.declared.keyword.Keyword.{Keyword}
 use Rattle.btor2_text.specs.declared.keyword.Keyword.TheVariants as keywords
 use Rattle.btor2_text.specs.declared.line.Line.{Line}
-use Rattle.btor2_model.specs.Rules.{is_bad, is_input, is_output, is_state, rule_of}
+use Rattle.btor2_model.specs.Rules.{is_bad, is_input, is_output, rule_of}
 use Rattle.btor2_model.specs.Run.{first_row, ids_of, lines_of, row_behind, values_in, width_in}
 use Rattle.btor2_model.specs.Scope.{id_at}
 

@@ -1,4 +1,4 @@
-use Rattle.std.proofs.Common.{◌≡◌, None, List, ap, sym, subst, ◌∙◌}
+use Rattle.std.proofs.Common.{◌≡◌, List, ap, sym, subst, ◌∙◌}
 use Rattle.btor2_text.specs.Printable.{ArePrintable}
 use Rattle.btor2_text.specs.declared.line.Line.{Line}
 use Rattle.btor2_model.specs.Acceptance.{first_fault}
