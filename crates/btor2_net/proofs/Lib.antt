@@ -1,5 +1,6 @@
 pub mod Declared
 pub mod Distinct
+pub mod FewLines
 pub mod FirstSettings
 pub mod Growth
 pub mod Independent

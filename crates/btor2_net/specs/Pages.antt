@@ -188,5 +188,5 @@ abbrev pub nodes_of : Wires → Draft
 nodes_of c = with_nodes (inputs_of c).ids (states_of c).ids (widths_of c.net) (record { page = (inputs_of c).page; ids = [] }) c.net
 
 -- the lines of a circuit
-abbrev pub lines_of : Wires → List Line
+unfoldable pub lines_of : Wires → List Line
 lines_of c = (with_outputs (nodes_of c).ids (with_nexts (nodes_of c).ids (states_of c).ids (nodes_of c).page 0 c.states) c.outputs).lines

@@ -12,6 +12,7 @@ use net_graph::{Net, NetId, NetOp};
 use std::alloc::Global;
 
 /// The lines that a circuit is written as.
+#[tactic(auto, unfolding(crate::specs::Pages::lines_of))]
 pub fn to_lines(alloc: Global, circuit: &Circuit) -> Result<Lines, NoMemory>
     ensures lines { IfOk result (λ lines. lines ≡ pages.lines_of circuit.now) }
 {
