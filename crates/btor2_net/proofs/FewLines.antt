@@ -1,16 +1,14 @@
 -- A text has at most one line more than bytes.
-use Rattle.std.proofs.Common.{◌≡◌, ℕ, ◌+◌, ◌<◌, ◌≤◌, ◌^◌, not, Bool, filter, List, [], ◌∷◌, ◌++◌, Option, None, Some, length, refl, sym, ap, ◌∙◌, arith, length-append}
+use Rattle.std.proofs.Common.{◌≡◌, ℕ, ◌≤◌, not, Bool, filter, List, [], ◌∷◌, Option, None, Some, length, refl, ap, ◌∙◌, arith, length-append}
 use Rattle.std.specs.Prelude.{count_by}
 use Rattle.std.specs.Option.{option_to_list}
 use Rattle.std.proofs.lemmas.List.Filters.{length-filter_both}
 use Rattle.std.proofs.lemmas.List.Splits.{length-slice_split}
 use Rattle.std.proofs.lemmas.List.Sums.{length-filter}
 use Rattle.btor2_text.specs.Cut.{ends_line, lines_of as cut_lines, number_after}
-use Rattle.btor2_text.specs.Reading.{AreLines, AreLinesOf}
+use Rattle.btor2_text.specs.Reading.{AreLines}
 use Rattle.btor2_text.specs.declared.line.Line.{Line}
 use Rattle.btor2_model.specs.Rules.{rule_of}
-use Rattle.btor2_model.specs.Run.{lines_of}
-use Rattle.btor2_model.specs.declared.rule.Rule.{Rule}
 use Rattle.btor2_net.specs.Laws.{HaveFewLines}
 
 at-most-one : (o : Option Line) → length (option_to_list o) ≤ 1
