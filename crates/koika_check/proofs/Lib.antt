@@ -3,6 +3,7 @@ pub mod AddedTypes
 pub mod Answering
 pub mod ArrayTypes
 pub mod Bindings
+pub mod CalledTypes
 pub mod Caps
 pub mod Checkers
 pub mod Compositions
@@ -10,10 +11,12 @@ pub mod ConstantParts
 pub mod Declared
 pub mod Declaring
 pub mod Equations
+pub mod ExpressionParts
 pub mod Extensions
 pub mod Fields
 pub mod Growth
 pub mod Knowns
+pub mod Leaves
 pub mod Listing
 pub mod PartTypes
 pub mod Paths

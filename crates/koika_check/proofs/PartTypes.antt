@@ -8,12 +8,14 @@ use Rattle.std.proofs.lemmas.Option.{slice_get-map, slice_get_read}
 use Rattle.koika_types.specs.declared.declarations.EnumDecl.{EnumDecl}
 use Rattle.koika_check.specs.Checking.{AreTypes, IsChecker, IsNamed, IsPart, IsType, IsTypeOrUnit, IsWidth, arrays_of, of_first}
 use Rattle.koika_check.specs.Composites.{fields_of, type_at}
+use Rattle.koika_check.specs.Scopes.{register_type, type_of_register}
 use Rattle.koika_check.specs.Selections.{as_array}
 use Rattle.koika_check.specs.Shapes.{IsShape, IsShapeIf, type_if, type_of_shape}
 use Rattle.koika_check.specs.Types.{array, base_width, width_of}
 use Rattle.koika_check.specs.declared.agreement.Part.{Part}
 use Rattle.koika_check.specs.declared.checked.Checked.{Checked}
 use Rattle.koika_check.specs.declared.checked.Field.{Field}
+use Rattle.koika_check.specs.declared.checked.Register.{Register}
 use Rattle.koika_check.specs.declared.checked.Struct.{Struct}
 use Rattle.koika_check.specs.declared.checker.Checker.{Checker}
 use Rattle.koika_check.specs.declared.shapes.ArrayShape.{ArrayShape}
@@ -145,3 +147,24 @@ field-is c shapes fields n s h lt is =
 pub first-type : (c : Checker) (ps : List Part) (s : Shape) → of_first ps ≡ Some s → All (IsPart c) ps → IsType c s × (1 ≤ length ps)
 first-type c [] s e h = absurd cc
 first-type c (p ∷ ps) s e h = (known-type c p s e (h 0 p (omega arith)), omega arith)
+
+-- ---- what is declared with a type
+
+pub declared-type : {X : Type 0} (of : X → ValueType) (c : Checker) (shapes : List Shape) (xs : List X) (n : ℕ) (s : Shape) → AreTypes c shapes (map of xs) → n < length xs → s ≡ get_or shapes n s →
+    (option_map of (slice_get xs n) ≡ Some (type_of_shape (arrays_of c) s)) × IsType c s
+declared-type of c shapes xs n s h lt is =
+    let long : n < length shapes = omega (arith, lt, sym (length-map shapes (type_of_shape (arrays_of c))) ∙ ap length (sym h.are) ∙ length-map xs of) in (
+      sym (slice_get-map of xs n) ∙ ap (λ (ts : List ValueType). slice_get ts n) h.are ∙ slice_get-map (type_of_shape (arrays_of c)) shapes n
+          ∙ ap (option_map (type_of_shape (arrays_of c))) (slice_get_read shapes (length shapes) n s refl long is),
+      subst (IsType c) (sym is) (h.each n s long),
+    )
+
+by_register : (o : Option Register) → type_of_register o ≡ option_map (λ (r : Register). r.of) o
+by_register None = refl
+by_register (Some r) = refl
+
+-- a register's type
+pub register-type : (c : Checker) → IsChecker c → (n : ℕ) (s : Shape) → n < length c.design.registers → s ≡ get_or c.registers n s → (register_type c.design n ≡ Some (type_of_shape (arrays_of c) s)) × IsType c s
+register-type c h n s lt is =
+    let t = declared-type (λ (r : Register). r.of) c c.registers c.design.registers n s h.registers lt is in
+    (by_register (slice_get c.design.registers n) ∙ t.0, t.1)

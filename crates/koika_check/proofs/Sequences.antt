@@ -15,16 +15,14 @@ use Rattle.koika_check.proofs.Growth.{grows-refl, grows-trans, same-part}
 use Rattle.koika_check.proofs.Telling.{tells-ok}
 use Rattle.koika_check.proofs.Turns.{ends-behind, ends-bind, ends-same, ends-tells}
 
-typed_as : TypedPart → Typed → constructs.Typing
+abbrev pub typed_as : TypedPart → Typed → constructs.Typing
 typed_as p t = record { part = p; typed = t }
 
 pub typing-is : (c : Checker) (y : Typing) (x : constructs.Typing) → x.part ≡ part_of (arrays_of c) y.part → x.typed ≡ y.typed → x ≡ typing_of c y
-unfolding typed_as
 typing-is c y x p t = ap₂ typed_as p t
 
 -- an earlier part stands for the same behind later ones
 pub typing-grows : (a b : Checker) → Grows a b → (y : Typing) → IsPart a y.part → typing_of b y ≡ typing_of a y
-unfolding typed_as
 typing-grows a b g y h = ap (λ p. typed_as p y.typed) (same-part a b g y.part h)
 
 -- conditions alone

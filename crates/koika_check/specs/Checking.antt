@@ -13,6 +13,7 @@ use Rattle.koika_check.specs.Constants as constants
 use Rattle.koika_check.specs.Constructs as constructs
 use Rattle.koika_check.specs.Locals.{AreLocals, locals_of, shapes_of}
 use Rattle.koika_check.specs.Outcomes.{Ends, Outcome, Gives}
+use Rattle.koika_check.specs.Scopes as scopes
 use Rattle.koika_check.specs.Scopes.{Scope, function_named, host_named, input_named, register_named, rule_named, table_named}
 use Rattle.koika_check.specs.Selections as selections
 use Rattle.koika_check.specs.Shapes.{AreShapes, IsShape, array_types, part_of, type_if, type_of_shape}
@@ -29,7 +30,9 @@ use Rattle.koika_check.specs.declared.checked.Table.{Table}
 use Rattle.koika_check.specs.declared.checker.Checker.{Checker}
 use Rattle.koika_check.specs.declared.checker.Known.{Known}
 use Rattle.koika_check.specs.declared.checker.Signature.{Signature}
+use Rattle.koika_check.specs.declared.calls.Called.{Called}
 use Rattle.koika_check.specs.declared.checker.Typing.{Typing}
+use Rattle.koika_check.specs.declared.checker.Typings.{Typings}
 use Rattle.koika_check.specs.declared.composites.Given.{Given}
 use Rattle.koika_check.specs.declared.constants.KnownFields.{KnownFields}
 use Rattle.koika_check.specs.declared.constants.Knowns.{Knowns}
@@ -307,3 +310,15 @@ typing_of c y = record { part = part_of (arrays_of c) y.part; typed = y.typed }
 
 abbrev pub TypedAs : Checker → Typing → constructs.Typing → Type 0
 TypedAs c y x = (x ≡ typing_of c y) × IsPart c y.part
+
+-- many in order
+pub record AreTyped (c : Checker) (y : Typings) (xs : List constructs.Typing) : Type 0 where
+  pub parts : constructs.parts_of xs ≡ map (part_of (arrays_of c)) y.parts
+  pub types : All (IsPart c) y.parts
+  pub typed : constructs.typed_of xs ≡ y.typed
+
+-- what is called, and what calls of it are to be
+pub record IsCalled (c : Checker) (y : Called) (x : scopes.Called) : Type 0 where
+  pub operation : x.operation ≡ y.operation
+  pub parameters : AreTypes c y.parameters x.parameters
+  pub gives : IsTypeIf c y.gives x.gives

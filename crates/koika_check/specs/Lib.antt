@@ -7,7 +7,6 @@ pub mod Constructs
 pub mod Declarations
 pub mod Expressions
 pub mod Listed
-pub mod Composites
 pub mod Locals
 pub mod Meaning
 pub mod Operators

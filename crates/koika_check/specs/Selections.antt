@@ -43,13 +43,13 @@ pub record Items : Type 0 where
   pub length : ℕ
   pub of : ValueType
 
-abbrev pub array_by : ValueType → List ℕ → Option Items
-array_by t [] = None
-array_by t (length ∷ lengths) = Some (record { length = length; of = record { base = t.base; lengths = lengths } })
+abbrev pub items_by : ValueType → List ℕ → Option Items
+items_by t [] = None
+items_by t (length ∷ lengths) = Some (record { length = length; of = record { base = t.base; lengths = lengths } })
 
 abbrev pub as_array : Option ValueType → Option Items
 as_array None = None
-as_array (Some t) = array_by t t.lengths
+as_array (Some t) = items_by t t.lengths
 
 -- an index below a length (23)
 abbrev pub in_range : Number → ℕ → Condition

@@ -24,6 +24,13 @@ pub(crate) struct Typing {
     pub typed: Typed,
 }
 
+/// Expressions that are well typed, in order.
+#[derive(Drop)]
+pub(crate) struct Typings {
+    pub parts: Sequence<Part>,
+    pub typed: Sequence<Typed>,
+}
+
 /// A constant that is well typed.
 #[derive(Drop)]
 pub(crate) struct Known {

@@ -7,10 +7,12 @@
 
 mod additions;
 mod agreement;
+mod calls;
 mod checked;
 mod checker;
 mod composites;
 mod constants;
+mod constructs;
 mod declarations;
 mod enums;
 mod limits;

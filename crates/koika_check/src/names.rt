@@ -86,6 +86,46 @@ fn struct_of(thing: Option<Thing>) -> Option<u32>
     }
 }
 
+/// The number of an input.
+pub(crate) fn input_of(thing: Option<Thing>) -> Option<u32>
+    ensures { result ≡ checking.input_by thing }
+{
+    match thing {
+        Some(Thing::Input(number)) => Some(number),
+        _ => None,
+    }
+}
+
+/// The number of a function.
+pub(crate) fn function_of(thing: Option<Thing>) -> Option<u32>
+    ensures { result ≡ checking.function_by thing }
+{
+    match thing {
+        Some(Thing::Function(number)) => Some(number),
+        _ => None,
+    }
+}
+
+/// The number of a table.
+pub(crate) fn table_of(thing: Option<Thing>) -> Option<u32>
+    ensures { result ≡ checking.table_by thing }
+{
+    match thing {
+        Some(Thing::Table(number)) => Some(number),
+        _ => None,
+    }
+}
+
+/// The number of a host function.
+pub(crate) fn host_of(thing: Option<Thing>) -> Option<u32>
+    ensures { result ≡ checking.host_by thing }
+{
+    match thing {
+        Some(Thing::Host(number)) => Some(number),
+        _ => None,
+    }
+}
+
 fn register_of(thing: Option<Thing>) -> Option<u32>
     ensures { result ≡ checking.register_by thing }
 {
