@@ -1,3 +1,4 @@
 pub mod Actions
 pub mod Applied
 pub mod Forms
+pub mod Simulation

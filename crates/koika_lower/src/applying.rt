@@ -2,6 +2,9 @@ ghost use Rattle.std.specs.Prelude.{◌≡◌, ◌∷◌, ◌*◌, ◌≤◌, �
 ghost use Rattle.kw_bits.specs.BitVector.{BitVector};
 ghost use Rattle.koika_check.specs.Meaning.{prefix_value};
 ghost use Rattle.koika_lower.specs.Applied.{IsArray, IsAskedHost, IsAskedTable, IsCalled, IsCompared, IsExtended, IsPrefixed, IsUpdated, IsWritten};
+ghost use Rattle.koika_check.specs.declared.typed.ValueType.{ValueType};
+ghost use Rattle.koika_lower.specs.Simulation.{AreBodies, IsApplied, Lowers, Sense, apply_sense, rises};
+ghost use Rattle.koika_lower.specs.declared.lowered.Bound.{Bound};
 ghost use Rattle.typed_core.specs.Evaluation.{apply_one};
 ghost use Rattle.typed_core.specs.Valid.{OneHasWidth};
 
@@ -9,13 +12,68 @@ use crate::binding::{all_bound, stacked};
 use crate::copying::copy_of;
 use crate::forms::{form_of_comparison, formed};
 use crate::joining::{chained, joined, last_of};
+use crate::leaves::read;
 use crate::lowered::{Lowered, one};
 use crate::selecting::{range_of, replaced, selected};
-use koika_check::{Checked, Selection};
+use koika_check::{Checked, Operation, Selection};
 use koika_syntax::{Extension, SignedComparison, UnaryOperator};
 use kw_bits::{Bits, NoMemory, Sequence};
 use std::alloc::Global;
 use typed_core::{Action, OneOp};
+
+/// Whether an operation binds its operands, each of which then stands one deeper than the one before.
+pub(crate) fn binds_operands(operation: &Operation) -> bool
+    ensures { result ≡ rises operation.now }
+{
+    matches!(
+        operation,
+        Operation::Update(_) | Operation::Array | Operation::Call(_)
+    )
+}
+
+/// An operation on operands. The bodies are those of the design's functions.
+pub(crate) fn applied(
+    alloc: Global,
+    design: &Checked,
+    bodies: &[Lowered],
+    operation: &Operation,
+    operands: Sequence<Lowered>,
+) -> Result<Lowered, NoMemory>
+    ensures { IfOk result (λ l. (depth : ℕ) (names : List Bound) (types ts : List ValueType) (of : Option ValueType) (senses : List Sense)
+        → AreBodies design.now bodies.now → IsApplied design.now (length bodies.now) depth names types operation.now ts of senses operands
+        → Lowers design.now (length bodies.now) depth names types of (apply_sense operation.now senses) l) }
+{
+    let mut operands = operands;
+    match operation {
+        Operation::Unary(operators) => {
+            prefixed(alloc, operators.as_slice(), last_of(&mut operands))
+        }
+        Operation::Chain(operators) => chained(alloc, operators.as_slice(), operands),
+        Operation::Select(selections) => {
+            selected(alloc, selections.as_slice(), last_of(&mut operands))
+        }
+        Operation::Update(selection) => updated(alloc, *selection, operands),
+        Operation::Struct(_) => joined(alloc, operands),
+        Operation::Array => array(alloc, operands),
+        Operation::Pack => Ok(last_of(&mut operands)),
+        Operation::Unpack(_) => Ok(last_of(&mut operands)),
+        Operation::Extend { extension, width } => {
+            extended(alloc, *extension, *width, last_of(&mut operands))
+        }
+        Operation::Compare(comparison) => compared(alloc, *comparison, operands),
+        Operation::Table(number) => asked_table(alloc, design, *number, last_of(&mut operands)),
+        Operation::Host(number) => asked_host(alloc, design, *number, joined(alloc, operands)?),
+        Operation::Call(number) => called(alloc, bodies, *number, operands),
+        Operation::Read { port, register } => Ok(read(design, *port, *register)),
+        Operation::Write { port, register } => {
+            written(alloc, *port, *register, last_of(&mut operands))
+        }
+        Operation::Abort => Ok(Lowered {
+            action: Action::Abort,
+            width: 0,
+        }),
+    }
+}
 
 // Prefix operators on an operand, the outermost first.
 fn prefixed(

@@ -13,6 +13,13 @@ pub(crate) struct Lowered {
     pub width: u32,
 }
 
+/// What a name stands for: the width of its value, and how many `Let`s stand round the one that binds it.
+#[derive(Clone, Copy)]
+pub(crate) struct Bound {
+    pub level: u32,
+    pub width: u32,
+}
+
 impl Lowered {
     /// An action that does nothing.
     pub(crate) fn unit() -> Lowered

@@ -1,0 +1,47 @@
+ghost use Rattle.std.specs.Prelude.{◌≡◌, ◌-◌, slice_get};
+ghost use Rattle.koika_check.specs.declared.checked.Input.{Input};
+ghost use Rattle.koika_check.specs.declared.checked.Register.{Register};
+ghost use Rattle.typed_core.specs.declared.action.Action.TheVariants as action;
+
+use crate::lowered::{Bound, Lowered};
+use koika_check::Checked;
+use typed_core::{Action, Scope};
+
+/// A name is its number from the inside, where so many `Let`s stand round it.
+pub(crate) fn local(names: &Scope<Bound>, depth: u32, index: u32) -> Lowered
+    ensures { (b : Bound) → slice_get names.now index ≡ Some b → result ≡ record { action = action.Local (depth - b.level - 1); width = b.width } }
+{
+    match names.get(index) {
+        Some(bound) => Lowered {
+            action: Action::Local(depth.saturating_sub(bound.level).saturating_sub(1)),
+            width: bound.width,
+        },
+        None => Lowered::unit(),
+    }
+}
+
+/// An input.
+pub(crate) fn input(design: &Checked, number: u32) -> Lowered
+    ensures { (i : Input) → slice_get design.now.inputs number ≡ Some i → result ≡ record { action = action.Input number; width = i.width } }
+{
+    match design.inputs.as_slice().get(number as usize) {
+        Some(input) => Lowered {
+            action: Action::Input(number),
+            width: input.width,
+        },
+        None => Lowered::unit(),
+    }
+}
+
+/// A read at a port of a register.
+pub(crate) fn read(design: &Checked, port: u32, register: u32) -> Lowered
+    ensures { (held : Register) → slice_get design.now.registers register ≡ Some held → result ≡ record { action = action.Read port register; width = held.width } }
+{
+    match design.registers.as_slice().get(register as usize) {
+        Some(held) => Lowered {
+            action: Action::Read(port, register),
+            width: held.width,
+        },
+        None => Lowered::unit(),
+    }
+}
