@@ -1,4 +1,4 @@
--- The words of the command line that are understood, and what they ask for. The program's own name isn't among them.
+-- Which arguments are valid, as words of the command line, and what they ask for. The program's own name isn't among them.
 use Rattle.std.specs.Prelude.{ℕ, ◌+◌, ◌-◌, ◌*◌, ◌&&◌, nat_le, Bool, true, false, List, [], ◌∷◌, length, fold, codes, take, drop, Option, Some, None, if◌then◌else◌}
 use Rattle.std.specs.List.{list_all}
 use Rattle.std.specs.Char.{is_ascii_digit}
@@ -25,28 +25,32 @@ number_of word = if are_few_digits word && nat_le (value_of word) 4294967295 the
 abbrev pub no_options : Options
 no_options = record { cycles = None; shown = Report }
 
--- The options, and one more: it isn't given yet, and its value is a number.
+-- options with a number of cycles, which isn't given yet
 abbrev pub put_cycles : Option ℕ → ℕ → Options → Option Options
 put_cycles None n options = Some (record options { cycles = Some n })
 put_cycles (Some m) n options = None
 
+-- the same, where the value is a number
 abbrev pub put_number : Option ℕ → Options → Option Options
 put_number None options = None
 put_number (Some n) options = put_cycles options.cycles n options
 
+-- options, if they are valid, with a value of `--cycles`
 abbrev pub with_cycles : List ℕ → Option Options → Option Options
 with_cycles word None = None
 with_cycles word (Some options) = put_number (number_of word) options
 
+-- options with a summary, which isn't asked for yet
 abbrev pub put_summary : Shown → Options → Option Options
 put_summary Report options = Some (record options { shown = Summary })
 put_summary Summary options = None
 
+-- the same, if they are valid
 abbrev pub with_summary : Option Options → Option Options
 with_summary None = None
 with_summary (Some options) = put_summary options.shown options
 
--- an option that is one word, and the other options
+-- the other options, if they are valid, with one that is a word of its own
 abbrev pub with_word : List ℕ → Option Options → Option Options
 with_word word others =
     if bytes_eq word (codes "--summary") then with_summary others
@@ -78,7 +82,7 @@ abbrev pub gen_of : List (List ℕ) → Option Command
 gen_of (word ∷ []) = gen_by (number_of word)
 gen_of words = None
 
--- the command that words ask for; no other words are understood
+-- the command that words ask for; no other words are valid
 abbrev pub command_of : List (List ℕ) → Option Command
 command_of [] = None
 command_of (word ∷ rest) =
