@@ -373,3 +373,10 @@ fn attempts_cross_threads(rt: HostRuntime) -> Result<(), Fail> {
     assert_eq!(rt; (made.cycle(), made.rule()), (1, 0));
     Ok(())
 }
+
+#[test]
+fn a_core_crosses_threads(rt: HostRuntime) -> Result<(), Fail> {
+    let table = sends_and_copies(&rt, rt.alloc(), 1, 1)?;
+    crosses_threads(&table.core);
+    Ok(())
+}
