@@ -28,3 +28,6 @@ pub mod Steps
 pub mod Surplus
 pub mod Telling
 pub mod Turns
+pub mod TypedGrowth
+pub mod TypedSoFar
+pub mod TypingLayers
