@@ -28,6 +28,8 @@ pub mod Steps
 pub mod Surplus
 pub mod Telling
 pub mod Turns
+pub mod TypedConstructs
 pub mod TypedGrowth
+pub mod TypedParts
 pub mod TypedSoFar
 pub mod TypingLayers
