@@ -28,7 +28,11 @@ pub mod Steps
 pub mod Surplus
 pub mod Telling
 pub mod Turns
+pub mod TreeParts
+pub mod TypedBlocks
+pub mod TypedComposites
 pub mod TypedConstructs
+pub mod TypedExpressions
 pub mod TypedGrowth
 pub mod TypedParts
 pub mod TypedSoFar
