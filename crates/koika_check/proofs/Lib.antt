@@ -29,9 +29,12 @@ pub mod Surplus
 pub mod Telling
 pub mod Turns
 pub mod TreeParts
+pub mod TypedAdditions
 pub mod TypedBlocks
 pub mod TypedComposites
+pub mod TypedConstants
 pub mod TypedConstructs
+pub mod TypedDeclarations
 pub mod TypedExpressions
 pub mod TypedGrowth
 pub mod TypedParts
