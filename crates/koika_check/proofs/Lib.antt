@@ -35,6 +35,7 @@ pub mod TypedComposites
 pub mod TypedConstants
 pub mod TypedConstructs
 pub mod TypedDeclarations
+pub mod TypedDesigns
 pub mod TypedExpressions
 pub mod TypedGrowth
 pub mod TypedParts

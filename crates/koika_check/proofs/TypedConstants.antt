@@ -67,9 +67,13 @@ array_sound d place known k h e =
     let t = array (length parts) it.0 in
     let count : length parts ≡ length vs = length-map known (λ (k : Known). k.part) ∙ sym (length-map known (λ (k : Known). k.value)) in
     let made : Known = record { part = whole.0; value = value.Items vs } in
-    subst (IsKnown d) (gives-same made k whole.2)
-    (t, it.3, close-IsOf d (value.Items vs) (Value-F.Items vs) (value.rolls-Items vs) t
-    (it.0, ap (λ n. array n it.0) count, subst (λ n. Pairwise (IsOf d) vs (replicate n it.0)) count (items_known d known (replicate (length parts) it.0) h it.1)), it.2)
+    subst (IsKnown d) (gives-same made k whole.2) (
+      t,
+      it.3,
+      close-IsOf d (value.Items vs) (Value-F.Items vs) (value.rolls-Items vs) t
+          (it.0, ap (λ n. array n it.0) count, subst (λ n. Pairwise (IsOf d) vs (replicate n it.0)) count (items_known d known (replicate (length parts) it.0) h it.1)),
+      it.2,
+    )
 
 struct_sound : (d : Checked) → IsTypedSoFar d → (number place close : ℕ) (known : List KnownField) (k : Known) → AllByRecursion (λ (f : KnownField). IsKnown d f.known) known →
     struct_known d number place close known ≡ Gives k → IsKnown d k

@@ -142,9 +142,10 @@ fields_good d (f ∷ written) start declared h e =
     let new = other-new (names_of_fields start) f.name name.0 name.1 in
     let one : Field = record { name = name.0; of = of.0 } in
     fields_good d written next.0 declared
-    (subst (AreGoodFields d) (gives-same (start ++ one ∷ []) next.0 of.2)
-    (each-push (λ (f : Field). IsType d f.of) start one h.0 (type-valid d f.of of.0 of.1),
-    distinct_push start one (ap (number_of (names_of_fields start)) (sym new.0) ∙ new.1) h.1))
+    (subst (AreGoodFields d) (gives-same (start ++ one ∷ []) next.0 of.2) (
+      each-push (λ (f : Field). IsType d f.of) start one h.0 (type-valid d f.of of.0 of.1),
+      distinct_push start one (ap (number_of (names_of_fields start)) (sym new.0) ∙ new.1) h.1,
+    ))
     next.2
 
 -- a type of values names a struct that there is
@@ -212,19 +213,20 @@ table-good d n input output entries x is e =
     let made : Table = record { name = name.0; spec = record { in_width = in_width; out_width = out_width; entries = map (λ (l : Literal). l.bits) entries } } in
     let few = nat_le 1 in_width && nat_le in_width MAX_TABLE_IN_WIDTH in
     let all = where-all
-        (holds few (wrong WRONG_WIDTH input.place) ∷ holds (is_width out_width) (wrong WRONG_WIDTH output.place) ∷ each (has_width out_width) entries
-        ∷ holds (nat_eq (length entries) (2 ^ in_width)) (wrong WRONG_ENTRY_COUNT n.place) ∷ []) made x name.2 in
+    (holds few (wrong WRONG_WIDTH input.place) ∷ holds (is_width out_width) (wrong WRONG_WIDTH output.place) ∷ each (has_width out_width) entries
+    ∷ holds (nat_eq (length entries) (2 ^ in_width)) (wrong WRONG_ENTRY_COUNT n.place) ∷ []) made x name.2 in
     let both = both-true (nat_le 1 in_width) (nat_le in_width MAX_TABLE_IN_WIDTH) (holds-true few (wrong WRONG_WIDTH input.place) all.1.0) in
     let count = eqb-true (length entries) (2 ^ in_width) (holds-true (nat_eq (length entries) (2 ^ in_width)) (wrong WRONG_ENTRY_COUNT n.place) all.1.1.1.1.0) in
     let fit = entries_fit out_width entries (recursion_from_All IsLiteral entries is) (each-none (has_width out_width) entries all.1.1.1.0) in
-    subst IsGoodTable all.0
-    (record {
-      some_input = at_least in_width both.0;
-      few_inputs = at_most in_width MAX_TABLE_IN_WIDTH both.1;
-      count = length-map entries (λ (l : Literal). l.bits) ∙ count;
-      entries = All-from_recursion (λ (b : BitVector). HasWidth b out_width) (map (λ (l : Literal). l.bits) entries) fit;
-    },
-    is-width out_width (holds-true (is_width out_width) (wrong WRONG_WIDTH output.place) all.1.1.0))
+    subst IsGoodTable all.0 (
+      record {
+        some_input = at_least in_width both.0;
+        few_inputs = at_most in_width MAX_TABLE_IN_WIDTH both.1;
+        count = length-map entries (λ (l : Literal). l.bits) ∙ count;
+        entries = All-from_recursion (λ (b : BitVector). HasWidth b out_width) (map (λ (l : Literal). l.bits) entries) fit;
+      },
+      is-width out_width (holds-true (is_width out_width) (wrong WRONG_WIDTH output.place) all.1.1.0),
+    )
 
 find_contained : {X : Type 0} (p : X → Bool) (xs : List X) (x : X) → find p xs ≡ Some x → Contains xs x
 find_contained p [] x e = absurd cc
