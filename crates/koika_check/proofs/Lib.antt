@@ -38,6 +38,9 @@ pub mod TypedDeclarations
 pub mod TypedDesigns
 pub mod TypedExpressions
 pub mod TypedGrowth
+pub mod TypedLimits
 pub mod TypedParts
+pub mod TypedSchedules
 pub mod TypedSoFar
+pub mod TypedTrees
 pub mod TypingLayers

@@ -301,7 +301,7 @@ function-good d good n parameters written body x is e =
     let all = where-all (agrees of.0 typed.0.part ∷ []) made x typed.2 in
     let types = parameters_good d parameters [] locals.0 tt locals.1 in
     let has = block-in-typed body is scope (record { design = good; locals = All-from_recursion (IsType d) (types_of locals.0) types }) typed.0 typed.1 in
-    subst (IsGoodFunction d) all.0
+    subst (IsGoodFunction d) {x = made} all.0
     (record {
       parameters = All-from_recursion (IsType d) (types_in_order locals.0) (in_order d locals.0 types);
       result = result_good d written of.0 of.1;

@@ -13,6 +13,7 @@ use Rattle.koika_syntax.specs.declared.tree.Name.{Name}
 use Rattle.koika_types.specs.declared.declarations.EnumDecl.{EnumDecl}
 use Rattle.typed_core.specs.Valid.{IsHost, IsTable, IsWidth}
 use Rattle.typed_core.specs.declared.design.HostSpec.{HostSpec}
+use Rattle.typed_core.specs.declared.design.Node.{Node}
 use Rattle.koika_check.specs.Declarations.{assert_of, assert_with, declare, enum_with, function_with, host_with, input_with, nothing, register_with, rule_with, struct_with, table_with}
 use Rattle.koika_check.specs.Outcomes.{Gives, Outcome, ◌>>=◌, found, holds, one_by_one, where_all, wrong}
 use Rattle.koika_check.specs.Scopes.{rule_named}
@@ -246,6 +247,22 @@ module _ (d : Checked) (h : IsTypedSoFar d) where
       let e = with_assert d x in
       let c = carried d e (extends-others d d.rules (d.asserts ++ x ∷ [])) h (omega arith) in
       with_one d e h c h.enums c.structs c.registers c.inputs h.tables h.hosts c.functions c.rules (All-push (λ rule. rule < length d.rules) d.asserts x h.asserts is)
+
+-- its nodes and its weight are noted
+pub noted : (d : Checked) (nodes : List Node) (weight : ℕ) → IsTypedSoFar d → IsTypedSoFar (record d { nodes = nodes; weight = weight })
+noted d nodes weight h =
+    let e : Checked = record d { nodes = nodes; weight = weight } in
+    let g : Extends d e = record {
+      enums = stays-same d.enums;
+      structs = stays-same d.structs;
+      registers = stays-same d.registers;
+      inputs = stays-same d.inputs;
+      tables = stays-same d.tables;
+      hosts = stays-same d.hosts;
+      functions = stays-same d.functions;
+    } in
+    let c = carried d e g h (omega arith) in
+    with_one d e h c h.enums c.structs c.registers c.inputs h.tables h.hosts c.functions c.rules h.asserts
 
 -- ---- declarations
 

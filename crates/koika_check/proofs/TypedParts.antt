@@ -42,7 +42,7 @@ gives-same a b e = cc
 some-same : {X : Type 0} (a b : X) → ◌≡◌ {A = Option X} (Some a) (Some b) → a ≡ b
 some-same a b e = cc
 
-unless-gives : {X : Type 0} (c : Condition) (value v : X) → unless c value ≡ Gives v → (c ≡ None) × (value ≡ v)
+pub unless-gives : {X : Type 0} (c : Condition) (value v : X) → unless c value ≡ Gives v → (c ≡ None) × (value ≡ v)
 unless-gives None value v e = (refl, gives-same value v e)
 unless-gives (Some f) value v e = absurd cc
 
