@@ -1,27 +1,18 @@
 -- A design so far stays one as one more is declared.
-use Rattle.std.proofs.Common.{◌≡◌, ℕ, zero, suc, ◌+◌, ◌<◌, ◌≤◌, ◌⊎◌, inl, inr, ◌-◌, get_or, min, List, [], ◌∷◌, ◌++◌, length, map, reverse, slice_get, Option, Some, None, IfSome, arith, refl, ap, sym, subst, ◌∙◌}
+use Rattle.std.proofs.Common.{◌≡◌, ℕ, zero, suc, ◌<◌, ◌≤◌, ◌⊎◌, inl, inr, ◌-◌, get_or, min, List, [], ◌∷◌, ◌++◌, length, reverse, slice_get, Option, Some, None, IfSome, arith, refl, ap, sym, subst, ◌∙◌}
 use Rattle.std.specs.List.{All}
-use Rattle.std.specs.Prelude.{sum_by}
 use Rattle.std.proofs.lemmas.List.{get_or-reverse, length-reverse}
-use Rattle.std.proofs.lemmas.List.Elements.{All-nil, All-push, All-weaker}
-use Rattle.std.proofs.lemmas.Option.{slice_get_within}
-use Rattle.koika_types.specs.declared.declarations.EnumDecl.{EnumDecl}
-use Rattle.koika_check.specs.Typing.{HasType, IsAmong, IsFunction, IsInput, IsRegister, IsStruct, IsType}
-use Rattle.koika_check.specs.Types.{width_of}
-use Rattle.typed_core.specs.Valid.{IsHost, IsTable, IsWidth}
+use Rattle.std.proofs.lemmas.List.Elements.{All-nil}
+use Rattle.koika_check.specs.Typing.{HasType, IsFunction, IsInput, IsRegister, IsStruct, IsType}
 use Rattle.koika_check.specs.declared.checked.Checked.{Checked}
-use Rattle.koika_check.specs.declared.checked.Field.{Field}
 use Rattle.koika_check.specs.declared.checked.Function.{Function}
-use Rattle.koika_check.specs.declared.checked.Host.{Host}
 use Rattle.koika_check.specs.declared.checked.Input.{Input}
 use Rattle.koika_check.specs.declared.checked.Register.{Register}
 use Rattle.koika_check.specs.declared.checked.Rule.{Rule}
 use Rattle.koika_check.specs.declared.checked.Struct.{Struct}
-use Rattle.koika_check.specs.declared.checked.Table.{Table}
 use Rattle.koika_check.specs.declared.typed.ValueType.{ValueType}
-use Rattle.koika_check.proofs.Positions.{slice_get-last, slice_get-push}
-use Rattle.koika_check.proofs.TypedGrowth.{Extends, extends-same, stays-push, stays-same, sum-stays, type-stays, typed-stays, types-stay, value-stays, width-stays}
-use Rattle.koika_check.proofs.TypedSoFar.{AreDistinct, IsEnumSoFar, IsTypedSoFar}
+use Rattle.koika_check.proofs.TypedGrowth.{Extends, sum-stays, type-stays, typed-stays, types-stay, value-stays, width-stays}
+use Rattle.koika_check.proofs.TypedSoFar.{IsTypedSoFar}
 
 -- what is found in a list with one more element
 pub found-in-push : {X : Type 0} (xs : List X) (y : X) (n : ℕ) (x : X) → slice_get (xs ++ y ∷ []) n ≡ Some x → (slice_get xs n ≡ Some x) ⊎ ((n ≡ length xs) × (y ≡ x))

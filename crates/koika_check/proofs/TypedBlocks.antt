@@ -1,10 +1,9 @@
 -- Blocks and chains are well typed where their parts are.
 use Rattle.std.proofs.Common.{◌≡◌, ℕ, zero, suc, ◌<◌, ◌≤◌, ◌⊎◌, inl, inr, List, [], ◌∷◌, ◌++◌, length, map, Option, Some, None, IfSome, arith, refl, ap, sym, subst, ◌∙◌, append_assoc, append-nil}
 use Rattle.std.specs.List.{All, AllByRecursion}
-use Rattle.koika_syntax.specs.declared.operator.BinaryOperator.{BinaryOperator}
 use Rattle.koika_check.specs.Constructs.{Joined, Typing, chained, join, typing}
 use Rattle.koika_check.specs.Expressions.{Joining, Meaning, Run, Stepped, Stepping, block_from, chain_in, close, join_in, run}
-use Rattle.koika_check.specs.Outcomes.{Gives, Outcome, ◌>>=◌, one_by_one}
+use Rattle.koika_check.specs.Outcomes.{Gives, one_by_one}
 use Rattle.koika_check.specs.Scopes.{Local, Scope}
 use Rattle.koika_check.specs.Typing.{Binds, Doing, HasType, IsType, Runs, StepHasType, StepsHaveType}
 use Rattle.koika_check.specs.Typing as has
@@ -12,13 +11,12 @@ use Rattle.koika_check.specs.declared.checked.Checked.{Checked}
 use Rattle.koika_check.specs.declared.typed.Step.{Step}
 use Rattle.koika_check.specs.declared.typed.Step.TheOpen as opened
 use Rattle.koika_check.specs.declared.typed.Step.TheVariants as step
-use Rattle.koika_check.specs.declared.typed.Typed.{Typed}
 use Rattle.koika_check.specs.declared.typed.Typed.TheVariants as typed
 use Rattle.koika_check.specs.declared.typed.ValueType.{ValueType}
 use Rattle.koika_check.proofs.Answering.{bind-gives}
 use Rattle.koika_check.proofs.TypedConstructs.{IsJoined, IsTyped, chained-typed, join-first, join-next}
 use Rattle.koika_check.proofs.TypedParts.{gives-same}
-use Rattle.koika_check.proofs.TypedSoFar.{IsGood, IsTypedSoFar, types_in}
+use Rattle.koika_check.proofs.TypedSoFar.{IsGood}
 use Rattle.koika_check.proofs.TypingLayers.{close-HasType, close-step}
 
 -- what an expression comes to is well typed

@@ -1,23 +1,22 @@
 -- Calls, structs, arrays and `if`s are well typed where their parts are.
-use Rattle.std.proofs.Common.{◌≡◌, ℕ, zero, suc, ◌+◌, ◌<◌, ◌≤◌, ◌⊎◌, inl, inr, nat_eq, List, [], ◌∷◌, ◌++◌, length, map, replicate, slice_get, Option, Some, None, arith, refl, ap, sym, subst, ◌∙◌}
+use Rattle.std.proofs.Common.{◌≡◌, ℕ, suc, ◌+◌, ◌≤◌, inl, inr, nat_eq, List, [], ◌∷◌, ◌++◌, length, map, replicate, Option, Some, None, arith, refl, ap, sym, subst, ◌∙◌}
 use Rattle.std.specs.List.{AllByRecursion}
 use Rattle.std.proofs.lemmas.Bool.{eqb-true}
-use Rattle.std.proofs.lemmas.List.{length-append, length-map, length-replicate}
+use Rattle.std.proofs.lemmas.List.{length-map, length-replicate}
 use Rattle.std.proofs.lemmas.Option.{slice_get_within}
 use Rattle.kw_base.specs.declared.fault_number.TheConstants.{UNKNOWN_NAME, WRONG_ARGUMENT_COUNT}
 use Rattle.koika_syntax.specs.declared.tree.Name.{Name}
 use Rattle.koika_check.specs.Composites.{Given, array_of, fields_of, struct_of}
 use Rattle.koika_check.specs.Constructs.{ArmTyping, FieldTyping, Typing, applied, arguments_agree, array_in, call, conditional, given_of, parts_of, place_of_arms, struct_in, type_of_bodies, typed_of, typing}
-use Rattle.koika_check.specs.Outcomes.{Condition, Gives, Outcome, ◌>>=◌, found, holds, in_turn, where_all, wrong}
+use Rattle.koika_check.specs.Outcomes.{Gives, Outcome, holds, in_turn, wrong}
 use Rattle.koika_check.specs.Scopes.{Called, Scope, at, called, called_function, called_host, called_table, function_named, host_named, or_else, table_named}
-use Rattle.koika_check.specs.Types.{Part, agrees, array, bits, each, of_base}
-use Rattle.koika_check.specs.Typing.{Applies, AreArms, HasType, IsType, Pairwise}
+use Rattle.koika_check.specs.Types.{Part, agrees, array, bits, each}
+use Rattle.koika_check.specs.Typing.{Applies, AreArms, HasType, IsType}
 use Rattle.koika_check.specs.declared.checked.Checked.{Checked}
 use Rattle.koika_check.specs.declared.checked.Field.{Field}
 use Rattle.koika_check.specs.declared.checked.Function.{Function}
 use Rattle.koika_check.specs.declared.checked.Host.{Host}
 use Rattle.koika_check.specs.declared.checked.Table.{Table}
-use Rattle.koika_check.specs.declared.typed.BaseType.TheVariants as base
 use Rattle.koika_check.specs.declared.typed.Operation.TheVariants as operation
 use Rattle.koika_check.specs.declared.typed.Step.TheOpen as opened
 use Rattle.koika_check.specs.declared.typed.Typed.TheVariants as typed
@@ -26,7 +25,7 @@ use Rattle.koika_check.proofs.Answering.{bind-gives, found-some}
 use Rattle.koika_check.proofs.Telling.{holds-true}
 use Rattle.koika_check.proofs.TypedConstructs.{IsTyped, applied-typed}
 use Rattle.koika_check.proofs.TypedParts.{PartsAre, agrees-is, array-known, each-none, earlier-both, gives-same, struct-known, where-all}
-use Rattle.koika_check.proofs.TypedSoFar.{IsGood, IsTypedSoFar, types_in}
+use Rattle.koika_check.proofs.TypedSoFar.{IsGood, types_in}
 use Rattle.koika_check.proofs.TypingLayers.{close-HasType}
 
 -- ---- all parts in turn

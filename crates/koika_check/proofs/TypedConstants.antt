@@ -1,5 +1,5 @@
 -- What constants of the grammar come to is of its type.
-use Rattle.std.proofs.Common.{◌≡◌, ℕ, zero, suc, List, [], ◌∷◌, length, map, replicate, Option, Some, arith, refl, ap, sym, subst, ◌∙◌}
+use Rattle.std.proofs.Common.{◌≡◌, ℕ, List, [], ◌∷◌, length, map, replicate, Option, Some, refl, ap, sym, subst, ◌∙◌}
 use Rattle.std.specs.List.{AllByRecursion}
 use Rattle.std.specs.Prelude.{⊤}
 use Rattle.std.proofs.lemmas.List.{length-map}
@@ -8,13 +8,12 @@ use Rattle.koika_syntax.specs.Grammar.{IsConstant, IsConstantFieldLayer, IsConst
 use Rattle.koika_syntax.specs.declared.tree.Constant.{Constant, Constant-F, map-Constant, roll-Constant, every_held-Constant, every_here-Constant, out-roll-Constant, fold-roll-Constant, ind-Constant}
 use Rattle.koika_syntax.specs.declared.tree.ConstantField.{ConstantField, ConstantField-F, map-ConstantField, roll-ConstantField, every-ConstantField, every_held-ConstantField, out-roll-ConstantField, fold-roll-ConstantField}
 use Rattle.koika_syntax.specs.declared.tree.Constant.TheOpen as constant
-use Rattle.koika_types.specs.declared.value.Value.{Value}
 use Rattle.koika_types.specs.declared.value.Value.TheOpen.{Value-F}
 use Rattle.koika_types.specs.declared.value.Value.TheVariants as value
 use Rattle.koika_check.specs.Composites.{Given, array_of, fields_of, member, struct_of}
 use Rattle.koika_check.specs.Constants.{FieldMeaning, Known, KnownField, Meaning, array_known, constant_field_of, constant_field_step, constant_of, constant_step, given, known_member, struct_known}
-use Rattle.koika_check.specs.Outcomes.{Gives, Outcome, ◌>>=◌, found, in_turn, wrong}
-use Rattle.koika_check.specs.Types.{Part, array, bits, of_base, part, struct_named}
+use Rattle.koika_check.specs.Outcomes.{Gives, ◌>>=◌, found, in_turn, wrong}
+use Rattle.koika_check.specs.Types.{array, bits, of_base, part, struct_named}
 use Rattle.koika_check.specs.Typing.{IsOf, IsType, Pairwise}
 use Rattle.koika_check.specs.declared.checked.Checked.{Checked}
 use Rattle.koika_check.specs.declared.checked.Field.{Field}

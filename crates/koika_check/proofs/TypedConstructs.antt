@@ -1,12 +1,10 @@
 -- What constructs come to is well typed where their parts are.
-use Rattle.std.proofs.Common.{◌≡◌, ℕ, zero, suc, ◌+◌, ◌<◌, ◌≤◌, ◌⊎◌, inl, inr, Bool, true, ◌&&◌, nat_eq, nat_le, List, [], ◌∷◌, ◌++◌, length, map, replicate, slice_get, Option, Some, None, IfSome, arith, refl, ap, sym, subst, ◌∙◌, append_assoc}
+use Rattle.std.proofs.Common.{◌≡◌, ℕ, ◌+◌, ◌<◌, ◌≤◌, true, ◌&&◌, nat_le, List, [], ◌∷◌, ◌++◌, length, map, slice_get, Option, Some, None, arith, refl, ap, sym, subst, ◌∙◌}
 use Rattle.std.specs.List.{AllByRecursion}
 use Rattle.std.specs.Option.{option_map}
-use Rattle.std.proofs.lemmas.Bool.{eqb-true}
-use Rattle.std.proofs.lemmas.List.{length-append, length-map, length-replicate}
-use Rattle.std.proofs.lemmas.Option.{slice_get-map, slice_get_within}
-use Rattle.kw_base.specs.Names.{number_of}
-use Rattle.kw_base.specs.declared.fault_number.TheConstants.{UNKNOWN_NAME, WRONG_ARGUMENT_COUNT, WRONG_WIDTH}
+use Rattle.std.proofs.lemmas.List.{length-append, length-map}
+use Rattle.std.proofs.lemmas.Option.{slice_get-map}
+use Rattle.kw_base.specs.declared.fault_number.TheConstants.{UNKNOWN_NAME, WRONG_WIDTH}
 use Rattle.koika_syntax.specs.Grammar.{IsLiteral}
 use Rattle.koika_syntax.specs.declared.operator.BinaryOperator.{BinaryOperator}
 use Rattle.koika_syntax.specs.declared.operator.BinaryOperator.TheVariants as binary
@@ -21,36 +19,30 @@ use Rattle.koika_syntax.specs.declared.tree.Prefix.{Prefix}
 use Rattle.koika_syntax.specs.declared.tree.Suffix.{Suffix}
 use Rattle.koika_types.specs.declared.value.Value.TheOpen.{Value-F}
 use Rattle.koika_types.specs.declared.value.Value.TheVariants as value
-use Rattle.koika_check.specs.Composites.{Given, MemberOf, array_of, member, struct_of}
-use Rattle.koika_check.specs.Constructs.{ArmTyping, FieldTyping, Joined, Taken, Typing, abort_at, applied, arguments_agree, array_in, call, chained, comparison, conditional, extended, given_of, join, literal, member_in, named, packed, parts_of, place_of_arms, place_of_prefixes, postfix, read_in, replaced, struct_in, take_part, type_of_bodies, typed_of, typing, unary, unpacked, updated, written}
+use Rattle.koika_check.specs.Composites.{member}
+use Rattle.koika_check.specs.Constructs.{Joined, Taken, Typing, abort_at, applied, chained, comparison, extended, join, literal, member_in, named, packed, parts_of, place_of_prefixes, postfix, read_in, replaced, take_part, typed_of, typing, unary, unpacked, updated, written}
 use Rattle.koika_check.specs.Operators.{bits_in, calculated, compared, concatenated, equated, operated, width_or_none}
-use Rattle.koika_check.specs.Outcomes.{Condition, Gives, Outcome, ◌>>=◌, earlier, first, found, holds, one_by_one, where_all, wrong}
-use Rattle.koika_check.specs.Scopes.{Called, Local, Named, Scope, at, bare, called, called_function, called_host, called_table, function_named, host_named, input_by, input_named, local_by, local_named, or_else, register, register_named, register_type, table_named, type_of_register}
+use Rattle.koika_check.specs.Outcomes.{Gives, first, found, holds, one_by_one, wrong}
+use Rattle.koika_check.specs.Scopes.{Local, Named, Scope, at, bare, input_by, input_named, local_by, local_named, or_else, register, register_named, register_type, type_of_register}
 use Rattle.koika_check.specs.Selections.{Selected, select}
-use Rattle.koika_check.specs.Types.{Part, agrees, array, as_bits, bits, each, is_bits, is_value, of_base, part, width_of, wrong_type}
-use Rattle.koika_check.specs.Typing.{Applies, AreArms, Calculates, Chains, Compares, Equates, HasType, IsType, Joins, Operates, Pairwise, PartHasType, StepHasType, Takes, TakesAll}
+use Rattle.koika_check.specs.Types.{Part, agrees, as_bits, bits, each, is_bits, is_value, of_base, part, width_of, wrong_type}
+use Rattle.koika_check.specs.Typing.{Applies, Calculates, Chains, Compares, Equates, HasType, IsType, Joins, Operates, Pairwise, Takes, TakesAll}
 use Rattle.koika_check.specs.declared.checked.Checked.{Checked}
-use Rattle.koika_check.specs.declared.checked.Field.{Field}
-use Rattle.koika_check.specs.declared.checked.Function.{Function}
-use Rattle.koika_check.specs.declared.checked.Host.{Host}
 use Rattle.koika_check.specs.declared.checked.Input.{Input}
 use Rattle.koika_check.specs.declared.checked.Register.{Register}
-use Rattle.koika_check.specs.declared.checked.Table.{Table}
 use Rattle.koika_check.specs.declared.typed.BaseType.TheVariants as base
 use Rattle.koika_check.specs.declared.typed.Operation.{Operation}
 use Rattle.koika_check.specs.declared.typed.Operation.TheVariants as operation
 use Rattle.koika_check.specs.declared.typed.Selection.{Selection}
-use Rattle.koika_check.specs.declared.typed.Step.{Step}
 use Rattle.koika_check.specs.declared.typed.Step.TheOpen as opened
-use Rattle.koika_check.specs.declared.typed.Typed.{Typed, Typed-F, roll-Typed}
 use Rattle.koika_check.specs.declared.typed.Typed.TheVariants as typed
 use Rattle.koika_check.specs.declared.typed.ValueType.{ValueType}
 use Rattle.koika_check.proofs.Answering.{bind-gives, found-some}
 use Rattle.koika_check.proofs.CalledTypes.{at-index}
 use Rattle.koika_check.proofs.Positions.{number_of-within}
 use Rattle.koika_check.proofs.Telling.{holds-true}
-use Rattle.koika_check.proofs.TypedParts.{PartsAre, ReplacesOf, TakesOf, agrees-is, array-known, as-bits, both-true, each-none, field-replaced, gives-same, is-bits, is-value, item-replaced, member-known, selected, struct-known, where-all}
-use Rattle.koika_check.proofs.TypedSoFar.{IsGood, IsTypedSoFar, base-type, bits-type, types_in}
+use Rattle.koika_check.proofs.TypedParts.{PartsAre, ReplacesOf, agrees-is, both-true, each-none, field-replaced, gives-same, is-bits, is-value, item-replaced, member-known, selected, where-all}
+use Rattle.koika_check.proofs.TypedSoFar.{IsGood, base-type, bits-type, types_in}
 use Rattle.koika_check.proofs.TypingLayers.{close-HasType, close-IsOf}
 
 -- a part that is well typed where a scope says what names stand for

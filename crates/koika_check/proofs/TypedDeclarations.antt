@@ -1,11 +1,11 @@
 -- What the parts of declarations of the grammar come to is well typed.
-use Rattle.std.proofs.Common.{◌≡◌, ℕ, zero, suc, ◌+◌, ◌<◌, ◌≤◌, ◌^◌, ◌⊎◌, inl, inr, Bool, true, false, not, cond, ◌&&◌, nat_eq, nat_le, min, List, [], ◌∷◌, ◌++◌, length, map, reverse, slice_get, Option, Some, None, IfSome, arith, refl, ap, sym, subst, ◌∙◌}
+use Rattle.std.proofs.Common.{◌≡◌, ℕ, suc, ◌≤◌, ◌^◌, ◌⊎◌, inl, inr, Bool, true, false, not, cond, ◌&&◌, nat_eq, nat_le, min, List, [], ◌∷◌, ◌++◌, length, map, reverse, slice_get, Option, Some, None, IfSome, arith, refl, ap, sym, subst, ◌∙◌}
 use Rattle.std.specs.List.{All, AllByRecursion, Contains, find}
 use Rattle.std.specs.Prelude.{is_some, sum_by}
 use Rattle.std.specs.Str.{bytes_eq}
 use Rattle.std.proofs.lemmas.Bool.{eqb-true}
 use Rattle.std.proofs.lemmas.List.{length-map, reverse-append}
-use Rattle.std.proofs.lemmas.List.Elements.{All-from_recursion, All-map, All-nil, All-push, recursion_from_All}
+use Rattle.std.proofs.lemmas.List.Elements.{All-from_recursion, All-nil, recursion_from_All}
 use Rattle.std.proofs.lemmas.Option.{slice_get_within}
 use Rattle.kw_base.specs.Names.{number_of}
 use Rattle.kw_base.specs.declared.fault_number.TheConstants.{REPEATED_NAME, UNKNOWN_HOST_FUNCTION, WRONG_ENTRY_COUNT, WRONG_WIDTH}
@@ -27,11 +27,10 @@ use Rattle.typed_core.specs.Valid.{IsHost, IsTable, IsWidth}
 use Rattle.typed_core.specs.declared.design.HostSpec.{HostSpec}
 use Rattle.typed_core.specs.declared.limits.TheConstants.{MAX_TABLE_IN_WIDTH}
 use Rattle.koika_check.specs.Composites.{field_named}
-use Rattle.koika_check.specs.Constants.{Known, constant_of}
-use Rattle.koika_check.specs.Constructs.{Typing}
+use Rattle.koika_check.specs.Constants.{constant_of}
 use Rattle.koika_check.specs.Declarations.{add_field, add_member, add_parameter, enum_of, enum_typed, enum_with, field_typed, function_body, function_of, function_result, function_typed, function_with, has_width, host_of, host_with, input_of, input_typed, input_with, is_host, names_of_fields, names_of_locals, names_of_members, new_name, other_name, register_known, register_of, register_typed, register_with, result_of, rule_of, rule_typed, rule_with, struct_of, struct_typed, struct_with, table_of, table_with, types_in_order}
 use Rattle.koika_check.specs.Expressions.{block_in}
-use Rattle.koika_check.specs.Outcomes.{Condition, Gives, Outcome, ◌>>=◌, found, holds, one_by_one, where_all, wrong}
+use Rattle.koika_check.specs.Outcomes.{Gives, found, holds, one_by_one, wrong}
 use Rattle.koika_check.specs.Scopes.{Local, Scope}
 use Rattle.koika_check.specs.Types.{agrees, base_width, each, is_width, type_of, width_of}
 use Rattle.koika_check.specs.Typing.{HasType, IsAmong, IsInput, IsOf, IsRegister, IsType}
@@ -57,7 +56,7 @@ use Rattle.koika_check.proofs.TypedConstants.{constant-typed}
 use Rattle.koika_check.proofs.TypedConstructs.{each-push}
 use Rattle.koika_check.proofs.TypedExpressions.{block-in-typed}
 use Rattle.koika_check.proofs.TypedParts.{agrees-is, both-true, each-none, gives-same, is-width, type-valid, where-all}
-use Rattle.koika_check.proofs.TypedSoFar.{AreDistinct, IsEnumSoFar, IsGood, IsTypedSoFar, looked-up, some-base}
+use Rattle.koika_check.proofs.TypedSoFar.{AreDistinct, IsEnumSoFar, IsTypedSoFar, looked-up, some-base}
 
 -- ---- names
 

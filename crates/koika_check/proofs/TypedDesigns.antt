@@ -1,5 +1,5 @@
 -- What the declarations of a tree of the grammar come to is well typed so far.
-use Rattle.std.proofs.Common.{◌≡◌, ℕ, zero, suc, ◌+◌, ◌<◌, ◌≤◌, not, nat_eq, get_or, min, List, [], ◌∷◌, ◌++◌, length, map, slice_get, Option, Some, None, arith, refl, ap, sym, subst, ◌∙◌}
+use Rattle.std.proofs.Common.{◌≡◌, ℕ, ◌<◌, ◌≤◌, not, nat_eq, get_or, min, List, [], ◌∷◌, ◌++◌, length, map, slice_get, Some, None, arith, ap, sym, subst, ◌∙◌}
 use Rattle.std.specs.List.{All, AllByRecursion, Contains, list_any}
 use Rattle.std.specs.Prelude.{sum_by}
 use Rattle.std.proofs.lemmas.List.{length-append, length-map}
@@ -15,7 +15,7 @@ use Rattle.typed_core.specs.Valid.{IsHost, IsTable, IsWidth}
 use Rattle.typed_core.specs.declared.design.HostSpec.{HostSpec}
 use Rattle.typed_core.specs.declared.design.Node.{Node}
 use Rattle.koika_check.specs.Declarations.{assert_of, assert_with, declare, enum_with, function_with, host_with, input_with, nothing, register_with, rule_with, struct_with, table_with}
-use Rattle.koika_check.specs.Outcomes.{Gives, Outcome, ◌>>=◌, found, holds, one_by_one, where_all, wrong}
+use Rattle.koika_check.specs.Outcomes.{Gives, found, holds, one_by_one, wrong}
 use Rattle.koika_check.specs.Scopes.{rule_named}
 use Rattle.koika_check.specs.Types.{width_of}
 use Rattle.koika_check.specs.Typing.{HasType, IsFunction, IsInput, IsRegister, IsStruct, IsType}
@@ -31,8 +31,8 @@ use Rattle.koika_check.specs.declared.checked.Table.{Table}
 use Rattle.koika_check.proofs.Answering.{bind-gives, found-some}
 use Rattle.koika_check.proofs.Positions.{number_of-within}
 use Rattle.koika_check.proofs.TypedAdditions.{each-at-push, function-stays, input-stays, register-stays, rule-stays, struct-stays}
-use Rattle.koika_check.proofs.TypedDeclarations.{IsGoodFunction, enum-fits, function-good, host-good, input-good, is-among, register-good, rule-good, struct-good, table-good}
-use Rattle.koika_check.proofs.TypedGrowth.{Extends, extends-same, stays-push, stays-same, sum-stays, type-stays}
+use Rattle.koika_check.proofs.TypedDeclarations.{enum-fits, function-good, host-good, input-good, is-among, register-good, rule-good, struct-good, table-good}
+use Rattle.koika_check.proofs.TypedGrowth.{Extends, stays-push, stays-same, sum-stays, type-stays}
 use Rattle.koika_check.proofs.TypedParts.{gives-same, where-all}
 use Rattle.koika_check.proofs.TypedSoFar.{AreDistinct, IsEnumSoFar, IsTypedSoFar}
 

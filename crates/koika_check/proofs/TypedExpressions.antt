@@ -1,5 +1,5 @@
 -- What expressions of the grammar come to is well typed.
-use Rattle.std.proofs.Common.{◌≡◌, ℕ, ◌≤◌, inl, inr, Option, None, Some, IfSome, List, [], ◌∷◌, length, map, Vec, Box, Global, arith, refl, ap, sym, subst, ◌∙◌}
+use Rattle.std.proofs.Common.{◌≡◌, ℕ, ◌≤◌, inl, inr, Option, None, Some, IfSome, List, [], ◌∷◌, length, map, Vec, Box, Global, arith, refl, sym, subst, ◌∙◌}
 use Rattle.std.specs.List.{AllByRecursion}
 use Rattle.std.proofs.lemmas.List.{length-map}
 use Rattle.koika_syntax.specs.Grammar.{IsArmLayer, IsBlock, IsBlockLayer, IsExpression, IsExpressionLayer, IsFieldValueLayer, IsOperandLayer, IsStatementLayer}
@@ -12,15 +12,13 @@ use Rattle.koika_syntax.specs.declared.tree.Operand.{Operand, Operand-F, map-Ope
 use Rattle.koika_syntax.specs.declared.tree.Expression.TheOpen as expression
 use Rattle.kw_base.specs.declared.fault_number.TheConstants.{UNKNOWN_NAME}
 use Rattle.koika_check.specs.Constructs.{ArmTyping, FieldTyping, Typing, call, comparison, conditional, extended, array_in, packed, postfix, struct_in, typing, unary, unpacked, updated, written}
-use Rattle.koika_check.specs.Expressions.{Armed, Fielded, Joining, Meaning, Stepped, Stepping, all_in, arm_in, arm_step, block_in, block_step, chain_in, expression_in, expression_step, field_value_in, field_value_step, held, operand_in, operand_step, otherwise_in, statement_in, statement_step}
+use Rattle.koika_check.specs.Expressions.{Armed, Fielded, Joining, Meaning, Stepped, Stepping, all_in, arm_in, arm_step, block_in, block_step, chain_in, expression_in, expression_step, field_value_in, field_value_step, operand_in, operand_step, otherwise_in, statement_in, statement_step}
 use Rattle.koika_check.specs.Outcomes.{Gives, Outcome, ◌>>=◌, found, wrong}
 use Rattle.koika_check.specs.Scopes.{Local, Scope, called, register}
 use Rattle.koika_check.specs.Types.{struct_named, type_of, wrong_type}
 use Rattle.koika_check.specs.Typing.{Binds, HasType, Runs}
-use Rattle.koika_check.specs.declared.checked.Checked.{Checked}
 use Rattle.koika_check.specs.declared.typed.Step.TheOpen as opened
 use Rattle.koika_check.specs.declared.typed.Step.TheVariants as step
-use Rattle.koika_check.specs.declared.typed.ValueType.{ValueType}
 use Rattle.koika_check.proofs.Answering.{bind-gives, found-some}
 use Rattle.koika_check.proofs.TreeParts.{EachOfArm, EachOfBlock, EachOfExpression, EachOfFieldValue, EachOfOperand, EachOfStatement, Such, each_of_arm, each_of_block, each_of_expression, each_of_field_value, each_of_operand, each_of_statement}
 use Rattle.koika_check.proofs.TypedBlocks.{Sound, SoundStep, IsStepped, block-typed, chain-typed, scope_at}

@@ -1,8 +1,8 @@
 -- What is well typed stays so as more is declared, and it has values of 1 to 128 bits.
-use Rattle.std.proofs.Common.{◌≡◌, ℕ, zero, suc, ◌+◌, ◌*◌, ◌<◌, ◌≤◌, ◌⊎◌, inl, inr, List, [], ◌∷◌, ◌++◌, length, map, drop, replicate, slice_get, slice_index, Option, Some, None, IfSome, arith, refl, ap, ap₂, sym, subst, ◌∙◌}
+use Rattle.std.proofs.Common.{◌≡◌, ℕ, zero, suc, ◌+◌, ◌*◌, ◌≤◌, inl, inr, List, [], ◌∷◌, ◌++◌, length, map, drop, replicate, slice_get, Option, Some, None, IfSome, arith, refl, ap, ap₂, sym, subst, ◌∙◌}
 use Rattle.std.specs.List.{All, AllByRecursion}
 use Rattle.std.specs.Prelude.{sum_by}
-use Rattle.std.proofs.lemmas.List.Elements.{All-drop, All-head, All-tail, All-weaker, recursion_from_All}
+use Rattle.std.proofs.lemmas.List.Elements.{All-drop, All-head, All-tail, All-weaker}
 use Rattle.std.proofs.lemmas.List.Sums.{sum_by-cons}
 use Rattle.std.proofs.lemmas.Option.{slice_get_within}
 use Rattle.kw_bits.specs.Host as host
@@ -20,10 +20,7 @@ use Rattle.koika_check.specs.Types.{all_lengths, array, base_width, bits, of_bas
 use Rattle.koika_check.specs.Typing.{Applies, AreArms, Binds, Chains, Doing, Gives, HasType, IsInput, IsOf, IsRegister, IsType, Operates, Pairwise, PartHasType, PartIsOf, Replaces, Runs, StepDoes, StepHasType, StepsHaveType, Takes, TakesAll, lowest_of}
 use Rattle.koika_check.specs.declared.checked.Checked.{Checked}
 use Rattle.koika_check.specs.declared.checked.Field.{Field}
-use Rattle.koika_check.specs.declared.checked.Function.{Function}
 use Rattle.koika_check.specs.declared.checked.Host.{Host}
-use Rattle.koika_check.specs.declared.checked.Input.{Input}
-use Rattle.koika_check.specs.declared.checked.Register.{Register}
 use Rattle.koika_check.specs.declared.checked.Struct.{Struct}
 use Rattle.koika_check.specs.declared.checked.Table.{Table}
 use Rattle.koika_check.specs.declared.typed.BaseType.{BaseType}
@@ -38,7 +35,7 @@ use Rattle.koika_check.specs.declared.typed.Typed.{Typed, Typed-F, ind-Typed, ma
 use Rattle.koika_check.specs.declared.typed.ValueType.{ValueType}
 use Rattle.koika_check.proofs.CalledTypes.{answer-width}
 use Rattle.koika_check.proofs.Positions.{slice_get-push}
-use Rattle.koika_check.proofs.TypedSoFar.{IsTypedSoFar, all-at, base-type, bits-type, bits-width, field-there, field-type, field-types, item-type, lookup, looked-up, some-base, struct-there}
+use Rattle.koika_check.proofs.TypedSoFar.{IsTypedSoFar, all-at, bits-type, bits-width, field-there, field-type, field-types, item-type, lookup, looked-up, some-base, struct-there}
 use Rattle.koika_check.proofs.TypingLayers.{close-HasType, close-IsOf, close-step, open-HasType, open-IsOf, open-step}
 
 -- ---- growth

@@ -1,5 +1,5 @@
 -- What the limits of a tree say of its design: how many parts it has of each kind, and what it weighs.
-use Rattle.std.proofs.Common.{◌≡◌, ℕ, zero, suc, ◌+◌, ◌^◌, ◌<◌, ◌≤◌, ◌⊎◌, inl, inr, nat_le, Bool, true, List, [], ◌∷◌, ◌++◌, length, map, slice_get, Option, Some, None, arith, refl, ap, ap₂, sym, subst, ◌∙◌}
+use Rattle.std.proofs.Common.{◌≡◌, ℕ, ◌+◌, ◌<◌, ◌≤◌, ◌⊎◌, inl, inr, nat_le, true, List, [], ◌∷◌, length, slice_get, Option, Some, None, arith, refl, subst}
 use Rattle.std.specs.List.{flat_map}
 use Rattle.std.proofs.lemmas.List.{length-append}
 use Rattle.std.proofs.lemmas.Option.{slice_get-get_or}
@@ -11,7 +11,7 @@ use Rattle.typed_core.specs.declared.design.HostSpec.{HostSpec}
 use Rattle.typed_core.specs.declared.limits.TheConstants.{MAX_INPUTS, MAX_NODES, MAX_REGISTERS, MAX_RULES}
 use Rattle.koika_check.specs.Checks.{at_most, counts_within, input_place, limits, register_place, rule_place, scheduler_places, size_within, surplus}
 use Rattle.koika_check.specs.Declarations.{assert_with, declare, enum_with, function_with, host_with, input_with, nothing, register_with, rule_with, struct_with, table_with}
-use Rattle.koika_check.specs.Outcomes.{Condition, Gives, Outcome, ◌>>=◌, earlier, first, holds, one_by_one, wrong}
+use Rattle.koika_check.specs.Outcomes.{Gives, first, holds, one_by_one, wrong}
 use Rattle.koika_check.specs.Sizes.{Size, design_size, size_of}
 use Rattle.koika_check.specs.declared.checked.Checked.{Checked}
 use Rattle.koika_check.specs.declared.measure.TheConstants.{MAX_DEPTH, MAX_WEIGHT}

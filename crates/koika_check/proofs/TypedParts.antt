@@ -1,5 +1,5 @@
 -- Parts of constructs that are well typed, by what their conditions say: types, members, fields and items.
-use Rattle.std.proofs.Common.{◌≡◌, ℕ, zero, suc, ◌+◌, ◌-◌, ◌<◌, ◌≤◌, Bool, true, false, cond, ◌&&◌, nat_eq, nat_le, nat_lt, List, [], ◌∷◌, ◌++◌, length, map, replicate, slice_get, Option, Some, None, arith, refl, ap, ap₂, sym, subst, ◌∙◌}
+use Rattle.std.proofs.Common.{◌≡◌, ℕ, suc, ◌<◌, ◌≤◌, Bool, true, false, cond, ◌&&◌, nat_le, nat_lt, List, [], ◌∷◌, length, map, replicate, slice_get, Option, Some, None, arith, refl, ap, ap₂, sym, subst, ◌∙◌}
 use Rattle.std.specs.List.{AllByRecursion}
 use Rattle.std.specs.Prelude.{is_some}
 use Rattle.std.specs.Str.{bytes_eq}
@@ -17,22 +17,20 @@ use Rattle.koika_types.specs.declared.declarations.EnumDecl.{EnumDecl}
 use Rattle.koika_types.specs.declared.declarations.Member.{Member}
 use Rattle.typed_core.specs.Valid.{IsWidth}
 use Rattle.koika_check.specs.Composites.{Given, MemberOf, agrees_if, array_by, array_of, bits_by_place, field_named, fields_by, fields_of, fits_field, member, member_named, members_by, members_of, names_are, struct_of, type_at, type_of_first}
-use Rattle.koika_check.specs.Outcomes.{Condition, Fails, Gives, Outcome, ◌>>=◌, earlier, first, found, holds, smaller, smallest, unless, where_all, wrong}
+use Rattle.koika_check.specs.Outcomes.{Condition, Gives, Outcome, earlier, found, holds, smallest, unless, where_all, wrong}
 use Rattle.koika_check.specs.Selections.{Items, Selected, as_array, bits_at, field_at, field_if, in_range, index_of, item_at, items_by, replace_field, replace_item, select, select_field, select_slice}
-use Rattle.koika_check.specs.Types.{Part, agrees, array, array_type, as_bits, as_struct, base_width, bits, bits_by, differs_by, each, enum_named, is_bits, is_value, is_width, named_type, of_base, part, same, same_base, same_type, struct_by, struct_named, type_named, type_of, width_of, wrong_type}
-use Rattle.koika_check.specs.Typing.{IsType, Pairwise, Replaces, Takes, TakesAll, TakesField}
+use Rattle.koika_check.specs.Types.{Part, agrees, array, array_type, as_bits, as_struct, base_width, bits, bits_by, differs_by, each, enum_named, is_bits, is_value, is_width, named_type, of_base, part, same, same_base, same_type, struct_by, type_named, type_of, width_of, wrong_type}
+use Rattle.koika_check.specs.Typing.{IsType, Pairwise, Replaces, Takes, TakesField}
 use Rattle.koika_check.specs.declared.checked.Checked.{Checked}
 use Rattle.koika_check.specs.declared.checked.Field.{Field}
 use Rattle.koika_check.specs.declared.checked.Struct.{Struct}
-use Rattle.koika_check.specs.declared.stop.Wrong.{Wrong}
 use Rattle.koika_check.specs.declared.typed.BaseType.{BaseType}
 use Rattle.koika_check.specs.declared.typed.BaseType.TheVariants as base
-use Rattle.koika_check.specs.declared.typed.Selection.{Selection}
 use Rattle.koika_check.specs.declared.typed.ValueType.{ValueType}
 use Rattle.koika_check.proofs.Answering.{bind-gives, found-some}
 use Rattle.koika_check.proofs.Positions.{same-is}
 use Rattle.koika_check.proofs.Telling.{holds-true, smaller-both}
-use Rattle.koika_check.proofs.TypedSoFar.{IsEnumSoFar, IsTypedSoFar, all-at, base-type, bits-type, bits-width, item-type, lookup}
+use Rattle.koika_check.proofs.TypedSoFar.{IsEnumSoFar, IsTypedSoFar, all-at, base-type, bits-type, lookup}
 
 -- ---- outcomes and conditions
 

@@ -1,9 +1,7 @@
 -- The nodes of a scheduler of the grammar are nodes of a design, and try no rule twice on a path.
-use Rattle.std.proofs.Common.{◌≡◌, ◌≢◌, ℕ, zero, suc, ◌+◌, ◌<◌, ◌≤◌, ◌⊎◌, inl, inr, Bool, true, false, not, nat_eq, ◌||◌, List, [], ◌∷◌, ◌++◌, length, map, drop, get_or, slice_get, Option, Some, None, IfSome, Box, Global, arith, refl, ap, sym, subst, ◌∙◌, append_assoc, append-nil}
-use Rattle.std.specs.List.{All, list_any}
+use Rattle.std.proofs.Common.{◌≡◌, ◌≢◌, ℕ, zero, suc, ◌+◌, ◌<◌, ◌≤◌, ◌⊎◌, inl, inr, Bool, true, false, not, nat_eq, ◌||◌, List, [], ◌∷◌, ◌++◌, length, map, drop, slice_get, Option, Some, None, IfSome, Box, Global, arith, refl, ap, sym, subst, ◌∙◌, append_assoc, append-nil}
+use Rattle.std.specs.List.{All}
 use Rattle.std.specs.Prelude.{AllPairs}
-use Rattle.std.specs.Option.{option_map}
-use Rattle.std.proofs.lemmas.Bool.{eqb-true}
 use Rattle.std.proofs.lemmas.List.{length-append, length-map}
 use Rattle.std.proofs.lemmas.List.Folds.{list_any-append}
 use Rattle.std.proofs.lemmas.Option.{slice_get_within}
@@ -11,12 +9,12 @@ use Rattle.kw_base.specs.declared.fault_number.TheConstants.{RULE_TWICE_ON_A_PAT
 use Rattle.koika_syntax.specs.declared.tree.Choice.{Choice, Choice-F, map-Choice, out-Choice, roll-Choice, out-roll-Choice}
 use Rattle.koika_syntax.specs.declared.tree.Name.{Name}
 use Rattle.koika_syntax.specs.declared.tree.Scheduler.{Scheduler, Scheduler-F, ind-Scheduler, map-Scheduler, out-Scheduler, roll-Scheduler, out-roll-Scheduler}
-use Rattle.typed_core.specs.Valid.{AreNodes, IsContinuation, IsNode, IsPath, LeadsTo, TriesNoneTwice, TryOthers}
+use Rattle.typed_core.specs.Valid.{AreNodes, IsContinuation, IsNode, IsPath, TriesNoneTwice, TryOthers}
 use Rattle.typed_core.specs.declared.design.Next.{Next}
 use Rattle.typed_core.specs.declared.design.Next.TheVariants as next
 use Rattle.typed_core.specs.declared.design.Node.{Node}
 use Rattle.koika_check.specs.Checks.{choice_places, places_if, places_of, scheduler_places}
-use Rattle.koika_check.specs.Outcomes.{Gives, Outcome, ◌>>=◌, found, holds, where_all, wrong}
+use Rattle.koika_check.specs.Outcomes.{Gives, found, holds, where_all, wrong}
 use Rattle.koika_check.specs.Schedule.{at_the_end, choice_nodes, first_of, in_a_row, in_front, is_on, longer, path_behind, scheduler_nodes, tried}
 use Rattle.koika_check.specs.Scopes.{rule_named}
 use Rattle.koika_check.specs.declared.checked.Checked.{Checked}

@@ -1,18 +1,17 @@
 -- What a tree of the grammar comes to is a well typed design, whose host functions are among those that are handed in.
-use Rattle.std.proofs.Common.{◌≡◌, ℕ, ◌<◌, ◌≤◌, List, [], length, None, arith, refl, ap, sym, subst, ◌∙◌}
+use Rattle.std.proofs.Common.{◌≡◌, ◌≤◌, List, [], length, None, arith, ap, sym, subst}
 use Rattle.std.specs.List.{All, Contains}
 use Rattle.std.proofs.lemmas.List.Elements.{All-weaker}
 use Rattle.kw_bits.specs.Host.{TakesWidth}
 use Rattle.koika_syntax.specs.Grammar.{IsDesign}
 use Rattle.koika_syntax.specs.declared.tree.Tree.{Tree}
-use Rattle.koika_types.specs.declared.declarations.EnumDecl.{EnumDecl}
 use Rattle.typed_core.specs.Valid.{AreNodes, TriesNoneTwice}
 use Rattle.typed_core.specs.declared.design.HostSpec.{HostSpec}
 use Rattle.typed_core.specs.declared.design.Node.{Node}
 use Rattle.typed_core.specs.declared.limits.TheConstants.{MAX_INPUTS, MAX_NODES, MAX_REGISTERS, MAX_RULES}
 use Rattle.koika_check.specs.Checks.{checked, limits, scheduled, within_limits}
 use Rattle.koika_check.specs.Declarations.{declare, nothing}
-use Rattle.koika_check.specs.Outcomes.{Gives, one_by_one, unless}
+use Rattle.koika_check.specs.Outcomes.{Gives, one_by_one}
 use Rattle.koika_check.specs.Schedule.{scheduler_nodes}
 use Rattle.koika_check.specs.Sizes.{Size, design_size}
 use Rattle.koika_check.specs.Typing.{IsEnum, IsTypedDesign}
