@@ -3,6 +3,7 @@ use Rattle.std.proofs.Common.{◌≡◌, ℕ, zero, suc, ◌<◌, ◌≤◌, ◌
 use Rattle.std.specs.List.{All}
 use Rattle.std.proofs.lemmas.List.{get_or-reverse, length-reverse}
 use Rattle.std.proofs.lemmas.List.Elements.{All-nil}
+use Rattle.std.proofs.lemmas.Option.{same_Some}
 use Rattle.koika_check.specs.Typing.{HasType, IsFunction, IsInput, IsRegister, IsStruct, IsType}
 use Rattle.koika_check.specs.declared.checked.Checked.{Checked}
 use Rattle.koika_check.specs.declared.checked.Function.{Function}
@@ -16,10 +17,7 @@ use Rattle.koika_check.proofs.TypedSoFar.{IsTypedSoFar}
 
 -- what is found in a list with one more element
 pub found-in-push : {X : Type 0} (xs : List X) (y : X) (n : ℕ) (x : X) → slice_get (xs ++ y ∷ []) n ≡ Some x → (slice_get xs n ≡ Some x) ⊎ ((n ≡ length xs) × (y ≡ x))
-found-in-push [] y zero x e = inr (refl, some_same y x e)
-  where
-    some_same : {X : Type 0} (a b : X) → ◌≡◌ {A = Option X} (Some a) (Some b) → a ≡ b
-    some_same a b e = cc
+found-in-push [] y zero x e = inr (refl, same_Some y x e)
 found-in-push [] y (suc n) x e = absurd cc
 found-in-push (z ∷ xs) y zero x e = inl e
 found-in-push (z ∷ xs) y (suc n) x e = further (found-in-push xs y n x e)

@@ -3,7 +3,7 @@ use Rattle.std.proofs.Common.{◌≡◌, ℕ, suc, ◌+◌, ◌≤◌, inl, inr,
 use Rattle.std.specs.List.{AllByRecursion}
 use Rattle.std.proofs.lemmas.Bool.{eqb-true}
 use Rattle.std.proofs.lemmas.List.{length-map, length-replicate}
-use Rattle.std.proofs.lemmas.Option.{slice_get_within}
+use Rattle.std.proofs.lemmas.Option.{slice_get_within, same_Some}
 use Rattle.kw_base.specs.declared.fault_number.TheConstants.{UNKNOWN_NAME, WRONG_ARGUMENT_COUNT}
 use Rattle.koika_syntax.specs.declared.tree.Name.{Name}
 use Rattle.koika_check.specs.Composites.{Given, array_of, fields_of, struct_of}
@@ -42,23 +42,20 @@ turn-all P look (x ∷ xs) ys h e =
 abbrev IsCalled : Checked → Called → Type 0
 IsCalled d c = Applies d (length d.functions) c.operation c.parameters c.gives
 
-called_same : (a b : Called) → ◌≡◌ {A = Option Called} (Some a) (Some b) → a ≡ b
-called_same a b e = cc
-
 host_called : (d : Checked) (o : Option ℕ) (h : Option Host) (c : Called) → at d.hosts o ≡ h → called_host o h ≡ Some c → IsCalled d c
 host_called d None h c a e = absurd cc
 host_called d (Some number) None c a e = absurd cc
-host_called d (Some number) (Some h) c a e = subst (IsCalled d) (called_same _ c e) (h, a, refl, refl)
+host_called d (Some number) (Some h) c a e = subst (IsCalled d) (same_Some _ c e) (h, a, refl, refl)
 
 table_called : (d : Checked) (o : Option ℕ) (t : Option Table) (other : Option Called) (c : Called) → at d.tables o ≡ t → (other ≡ Some c → IsCalled d c) → or_else (called_table o t) other ≡ Some c → IsCalled d c
 table_called d None t other c a hosts e = hosts e
 table_called d (Some number) None other c a hosts e = hosts e
-table_called d (Some number) (Some t) other c a hosts e = subst (IsCalled d) (called_same _ c e) (t, a, refl, refl)
+table_called d (Some number) (Some t) other c a hosts e = subst (IsCalled d) (same_Some _ c e) (t, a, refl, refl)
 
 function_called : (d : Checked) (o : Option ℕ) (f : Option Function) (other : Option Called) (c : Called) → at d.functions o ≡ f → (other ≡ Some c → IsCalled d c) → or_else (called_function o f) other ≡ Some c → IsCalled d c
 function_called d None f other c a tables e = tables e
 function_called d (Some number) None other c a tables e = tables e
-function_called d (Some number) (Some f) other c a tables e = subst (IsCalled d) (called_same _ c e) (f, slice_get_within d.functions number f a, a, refl, refl)
+function_called d (Some number) (Some f) other c a tables e = subst (IsCalled d) (same_Some _ c e) (f, slice_get_within d.functions number f a, a, refl, refl)
 
 -- what is called applies to its parameters
 pub called-applies : (d : Checked) (n : Name) (c : Called) → called d n ≡ Gives c → IsCalled d c

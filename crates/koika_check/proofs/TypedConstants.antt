@@ -1,8 +1,9 @@
 -- What constants of the grammar come to is of its type.
-use Rattle.std.proofs.Common.{◌≡◌, ℕ, List, [], ◌∷◌, length, map, replicate, Option, Some, refl, ap, sym, subst, ◌∙◌}
+use Rattle.std.proofs.Common.{◌≡◌, ℕ, List, [], ◌∷◌, length, map, replicate, Some, refl, ap, sym, subst, ◌∙◌}
 use Rattle.std.specs.List.{AllByRecursion}
 use Rattle.std.specs.Prelude.{⊤}
 use Rattle.std.proofs.lemmas.List.{length-map}
+use Rattle.std.proofs.lemmas.Option.{same_Some}
 use Rattle.kw_base.specs.declared.fault_number.TheConstants.{UNKNOWN_NAME}
 use Rattle.koika_syntax.specs.Grammar.{IsConstant, IsConstantFieldLayer, IsConstantLayer}
 use Rattle.koika_syntax.specs.declared.tree.Constant.{Constant, Constant-F, map-Constant, roll-Constant, every_held-Constant, every_here-Constant, out-roll-Constant, fold-roll-Constant, ind-Constant}
@@ -39,10 +40,7 @@ SoundField m = (d : Checked) → IsTypedSoFar d → (f : KnownField) → m d ≡
 -- ---- values of known types
 
 known_at : (d : Checked) (k : Known) (t : ValueType) → IsKnown d k → k.part.of ≡ Some t → IsOf d k.value t
-known_at d k t known is = subst (IsOf d k.value) (same known.0 t (sym known.1 ∙ is)) known.2
-  where
-    same : (a b : ValueType) → ◌≡◌ {A = Option ValueType} (Some a) (Some b) → a ≡ b
-    same a b e = cc
+known_at d k t known is = subst (IsOf d k.value) (same_Some known.0 t (sym known.1 ∙ is)) known.2
 
 items_known : (d : Checked) (known : List Known) (types : List ValueType) → AllByRecursion (IsKnown d) known → PartsAre (map (λ (k : Known). k.part) known) types → Pairwise (IsOf d) (map (λ (k : Known). k.value) known) types
 items_known d [] [] h are = tt

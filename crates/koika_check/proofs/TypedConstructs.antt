@@ -1,9 +1,10 @@
 -- What constructs come to is well typed where their parts are.
-use Rattle.std.proofs.Common.{◌≡◌, ℕ, ◌+◌, ◌<◌, ◌≤◌, true, ◌&&◌, nat_le, List, [], ◌∷◌, ◌++◌, length, map, slice_get, Option, Some, None, arith, refl, ap, sym, subst, ◌∙◌}
+use Rattle.std.proofs.Common.{◌≡◌, ℕ, ◌+◌, ◌<◌, ◌≤◌, ◌&&◌, nat_le, List, [], ◌∷◌, ◌++◌, length, map, slice_get, Option, Some, None, arith, refl, ap, sym, subst, ◌∙◌}
 use Rattle.std.specs.List.{AllByRecursion}
 use Rattle.std.specs.Option.{option_map}
 use Rattle.std.proofs.lemmas.List.{length-append, length-map}
-use Rattle.std.proofs.lemmas.Option.{slice_get-map}
+use Rattle.std.proofs.lemmas.Option.{slice_get-map, same_Some}
+use Rattle.std.proofs.lemmas.Bool.{leb-true}
 use Rattle.kw_base.specs.declared.fault_number.TheConstants.{UNKNOWN_NAME, WRONG_WIDTH}
 use Rattle.koika_syntax.specs.Grammar.{IsLiteral}
 use Rattle.koika_syntax.specs.declared.operator.BinaryOperator.{BinaryOperator}
@@ -87,15 +88,12 @@ member-typed scope good of m x e =
 abbrev IsNamed : Scope → Named → Type 0
 IsNamed scope one = HasType scope.design (length scope.design.functions) one.typed (types_in scope) (Some one.of)
 
-named_same : (a b : Named) → ◌≡◌ {A = Option Named} (Some a) (Some b) → a ≡ b
-named_same a b e = cc
-
 input_named_typed : (scope : Scope) (o : Option ℕ) (i : Option Input) (one : Named) → at scope.design.inputs o ≡ i → input_by o i ≡ Some one → IsNamed scope one
 input_named_typed scope None i one a e = absurd cc
 input_named_typed scope (Some number) None one a e = absurd cc
 input_named_typed scope (Some number) (Some i) one a e =
     let it : Named = record { typed = typed.Input number; of = i.of } in
-    subst (IsNamed scope) (named_same it one e)
+    subst (IsNamed scope) (same_Some it one e)
     (close-HasType scope.design (length scope.design.functions) (typed.Input number) (opened.Input number) (typed.rolls-Input number) (types_in scope) (Some i.of) (i, a, refl))
 
 local_named_typed : (scope : Scope) (o : Option ℕ) (l : Option Local) (other : Option Named) (one : Named) → at scope.locals o ≡ l → (other ≡ Some one → IsNamed scope one) → or_else (local_by o l) other ≡ Some one → IsNamed scope one
@@ -103,7 +101,7 @@ local_named_typed scope None l other one a inputs e = inputs e
 local_named_typed scope (Some index) None other one a inputs e = inputs e
 local_named_typed scope (Some index) (Some l) other one a inputs e =
     let it : Named = record { typed = typed.Local index; of = l.of } in
-    subst (IsNamed scope) (named_same it one e)
+    subst (IsNamed scope) (same_Some it one e)
     (close-HasType scope.design (length scope.design.functions) (typed.Local index) (opened.Local index) (typed.rolls-Local index) (types_in scope) (Some l.of)
     (l.of, slice_get-map (λ (l : Local). l.of) scope.locals index ∙ ap (option_map (λ (l : Local). l.of)) a, refl))
 
@@ -180,9 +178,6 @@ equated-typed left right of e =
 bits_of : (p : Part) (w : ℕ) → p.of ≡ Some (bits w) → bits_in p ≡ w
 bits_of p w e = ap (λ o. width_or_none (as_bits o)) e
 
-at_most : (a b : ℕ) → nat_le a b ≡ true → a ≤ b
-at_most a b e = grind arith
-
 concatenated-typed : (left right : Part) (of : Option ValueType) → concatenated left right ≡ Gives of →
     (l : ValueType) × (r : ValueType) × (next : ValueType) × (left.of ≡ Some l) × (right.of ≡ Some r) × (of ≡ Some next) × Joins l r next
 concatenated-typed left right of e =
@@ -192,7 +187,7 @@ concatenated-typed left right of e =
     let a = is-bits left both.0 in
     let b = is-bits right both.1.0 in
     let same : sum ≡ a.0 + b.0 = omega (arith, bits_of left a.0 a.1, bits_of right b.0 b.1) in
-    let few = at_most sum 128 (holds-true (nat_le sum 128) (wrong WRONG_WIDTH left.place) all.1.1.0) in
+    let few = leb-true sum 128 (holds-true (nat_le sum 128) (wrong WRONG_WIDTH left.place) all.1.1.0) in
     (bits a.0, bits b.0, bits (a.0 + b.0), a.1, b.1, sym all.0 ∙ ap (λ w. Some (bits w)) same, (a.0, b.0, refl, refl, omega (arith, same, few), refl))
 
 pub operated-typed : (o : BinaryOperator) (left right : Part) (of : Option ValueType) → operated o left right ≡ Gives of →
@@ -266,7 +261,7 @@ pub join-next : (scope : Scope) (o : BinaryOperator) (right : Typing) (before j 
 join-next scope o right before j b k e =
     let of = bind-gives (operated o before.left right.part) _ j e in
     let it = operated-typed o before.left right.part of.0 of.1 in
-    let same : it.0 ≡ b.whole = whole_same it.0 b.whole (sym it.3 ∙ b.left) in
+    let same : it.0 ≡ b.whole = same_Some it.0 b.whole (sym it.3 ∙ b.left) in
     let made : Joined = record { left = part of.0 before.left.place; operators = before.operators ++ o ∷ []; operands = before.operands ++ right ∷ [] } in
     subst (λ (j : Joined). IsJoined scope j × (1 ≤ length j.operators)) (gives-same made j of.2) (
       record {
@@ -280,9 +275,6 @@ join-next scope o right before j b k e =
       },
       omega (arith, length-append before.operators (o ∷ [])),
     )
-  where
-    whole_same : (a b : ValueType) → ◌≡◌ {A = Option ValueType} (Some a) (Some b) → a ≡ b
-    whole_same a b e = cc
 
 pub chained-typed : (scope : Scope) (j : Joined) → IsJoined scope j → 1 ≤ length j.operators → IsTyped scope (chained j)
 chained-typed scope j h some =
@@ -302,13 +294,10 @@ take_next : (d : Checked) (t : ValueType) (s : Suffix) (before after : Taken) �
 take_next d t s before after h e =
     let one = bind-gives (select d before.whole s) _ after e in
     let it = selected d before.whole s one.0 one.1 in
-    let same : it.0 ≡ h.0 = whole_same it.0 h.0 (sym it.1 ∙ h.1) in
+    let same : it.0 ≡ h.0 = same_Some it.0 h.0 (sym it.1 ∙ h.1) in
     let made : Taken = record { whole = part (Some one.0.of) before.whole.place; selections = before.selections ++ one.0.selection ∷ [] } in
     subst (IsTaken d t) (gives-same made after one.2)
     (one.0.of, refl, takes_push d before.selections t h.0 one.0.selection one.0.of h.2 (subst (λ w. Takes d one.0.selection w one.0.of) same it.2))
-  where
-    whole_same : (a b : ValueType) → ◌≡◌ {A = Option ValueType} (Some a) (Some b) → a ≡ b
-    whole_same a b e = cc
 
 take_all : (d : Checked) (t : ValueType) (suffixes : List Suffix) (before after : Taken) → IsTaken d t before → one_by_one (take_part d) suffixes before ≡ Gives after → IsTaken d t after
 take_all d t [] before after h e = subst (IsTaken d t) (gives-same before after e) h
@@ -358,9 +347,9 @@ extended-typed scope place extension width inner x h e =
     let all = where-all (is_bits inner.part ∷ holds fits (wrong WRONG_WIDTH width.place) ∷ []) (applied t place o (inner ∷ [])) x e in
     let w = is-bits inner.part all.1.0 in
     let both = both-true (nat_le (bits_in inner.part) width.value) (nat_le width.value 128) (holds-true fits (wrong WRONG_WIDTH width.place) all.1.1.0) in
-    let wide = at_most (bits_in inner.part) width.value both.0 in
+    let wide = leb-true (bits_in inner.part) width.value both.0 in
     subst (IsTyped scope) all.0
-    (applied-typed scope t place o (inner ∷ []) (bits w.0 ∷ []) (h, tt) (w.1, tt) (w.0, refl, omega (arith, wide, bits_of inner.part w.0 w.1), at_most width.value 128 both.1, refl))
+    (applied-typed scope t place o (inner ∷ []) (bits w.0 ∷ []) (h, tt) (w.1, tt) (w.0, refl, omega (arith, wide, bits_of inner.part w.0 w.1), leb-true width.value 128 both.1, refl))
 
 pub comparison-typed : (scope : Scope) (place : ℕ) (o : SignedComparison) (left right x : Typing) → IsTyped scope left → IsTyped scope right → comparison place o left right ≡ Gives x → IsTyped scope x
 comparison-typed scope place o left right x h k e =

@@ -3,10 +3,10 @@ use Rattle.std.proofs.Common.{◌≡◌, ℕ, suc, ◌≤◌, ◌^◌, ◌⊎◌
 use Rattle.std.specs.List.{All, AllByRecursion, Contains, find}
 use Rattle.std.specs.Prelude.{is_some, sum_by}
 use Rattle.std.specs.Str.{bytes_eq}
-use Rattle.std.proofs.lemmas.Bool.{eqb-true}
+use Rattle.std.proofs.lemmas.Bool.{eqb-true, leb-true, not-true}
 use Rattle.std.proofs.lemmas.List.{length-map, reverse-append}
 use Rattle.std.proofs.lemmas.List.Elements.{All-from_recursion, All-nil, recursion_from_All}
-use Rattle.std.proofs.lemmas.Option.{slice_get_within}
+use Rattle.std.proofs.lemmas.Option.{slice_get_within, same_Some}
 use Rattle.kw_base.specs.Names.{number_of}
 use Rattle.kw_base.specs.declared.fault_number.TheConstants.{REPEATED_NAME, UNKNOWN_HOST_FUNCTION, WRONG_ENTRY_COUNT, WRONG_WIDTH}
 use Rattle.kw_bits.specs.BitVector.{BitVector}
@@ -60,10 +60,6 @@ use Rattle.koika_check.proofs.TypedSoFar.{AreDistinct, IsEnumSoFar, IsTypedSoFar
 
 -- ---- names
 
-not_true : (b : Bool) → not b ≡ true → b ≡ false
-not_true true e = absurd cc
-not_true false e = refl
-
 none_of : (o : Option ℕ) → is_some o ≡ false → o ≡ None
 none_of None e = refl
 none_of (Some n) e = absurd cc
@@ -72,7 +68,7 @@ none_of (Some n) e = absurd cc
 other-new : (names : List (List ℕ)) (n : Name) (name : List ℕ) → other_name names n ≡ Gives name → (n.text ≡ name) × (number_of names n.text ≡ None)
 other-new names n name e =
     let all = where-all (holds (not (is_some (number_of names n.text))) (wrong REPEATED_NAME n.place) ∷ []) n.text name e in
-    (all.0, none_of (number_of names n.text) (not_true (is_some (number_of names n.text)) (holds-true (not (is_some (number_of names n.text))) (wrong REPEATED_NAME n.place) all.1.0)))
+    (all.0, none_of (number_of names n.text) (not-true (is_some (number_of names n.text)) (holds-true (not (is_some (number_of names n.text))) (wrong REPEATED_NAME n.place) all.1.0)))
 
 -- ---- enums
 
@@ -176,11 +172,8 @@ register-good d good n written first x is e =
     let made : Register = record { name = name.0; of = of.0; width = width_of d of.0; first = known.0.value } in
     let all = where-all (agrees (Some of.0) known.0.part ∷ []) made x known.2 in
     let it = constant-typed first is d good known.0 known.1 in
-    let same : it.0 ≡ of.0 = same_type it.0 of.0 (sym it.1 ∙ agrees-is (Some of.0) known.0.part all.1.0) in
+    let same : it.0 ≡ of.0 = same_Some it.0 of.0 (sym it.1 ∙ agrees-is (Some of.0) known.0.part all.1.0) in
     subst (IsRegister d) all.0 (record { of = type-valid d written of.0 of.1; width = refl; first = subst (IsOf d known.0.value) same it.2 })
-  where
-    same_type : (a b : ValueType) → ◌≡◌ {A = Option ValueType} (Some a) (Some b) → a ≡ b
-    same_type a b e = cc
 
 pub input-good : (d : Checked) (n : Name) (written : TypeExpression) (x : Input) → input_with d n written ≡ Gives x → IsInput d x
 input-good d n written x e =
@@ -194,12 +187,6 @@ input-good d n written x e =
 entries_fit : (w : ℕ) (entries : List Literal) → AllByRecursion IsLiteral entries → AllByRecursion (λ l. has_width w l ≡ None) entries → AllByRecursion (λ (b : BitVector). HasWidth b w) (map (λ (l : Literal). l.bits) entries)
 entries_fit w [] is fit = tt
 entries_fit w (l ∷ entries) is fit = ((is.0, has-width w l fit.0), entries_fit w entries is.1 fit.1)
-
-at_least : (w : ℕ) → nat_le 1 w ≡ true → 1 ≤ w
-at_least w e = grind arith
-
-at_most : (a b : ℕ) → nat_le a b ≡ true → a ≤ b
-at_most a b e = grind arith
 
 abbrev IsGoodTable : Table → Type 0
 IsGoodTable t = IsTable t.spec × IsWidth t.spec.out_width
@@ -219,8 +206,8 @@ table-good d n input output entries x is e =
     let fit = entries_fit out_width entries (recursion_from_All IsLiteral entries is) (each-none (has_width out_width) entries all.1.1.1.0) in
     subst IsGoodTable all.0 (
       record {
-        some_input = at_least in_width both.0;
-        few_inputs = at_most in_width MAX_TABLE_IN_WIDTH both.1;
+        some_input = leb-true 1 in_width both.0;
+        few_inputs = leb-true in_width MAX_TABLE_IN_WIDTH both.1;
         count = length-map entries (λ (l : Literal). l.bits) ∙ count;
         entries = All-from_recursion (λ (b : BitVector). HasWidth b out_width) (map (λ (l : Literal). l.bits) entries) fit;
       },
@@ -234,10 +221,7 @@ find_contained {X} p (y ∷ ys) x e = by_test (p y) refl (find_contained p ys x)
     by_test : (b : Bool) → p y ≡ b → (find p ys ≡ Some x → Contains ys x) → Contains (y ∷ ys) x
     by_test true f inner =
         let here : ◌≡◌ {A = Option X} (Some y) (Some x) = sym (ap (λ b. cond b (Some y) (find p ys)) f) ∙ e in
-        (0, omega arith, same_some y x here)
-      where
-        same_some : (a b : X) → ◌≡◌ {A = Option X} (Some a) (Some b) → a ≡ b
-        same_some a b e = cc
+        (0, omega arith, same_Some y x here)
     by_test false f inner =
         let there = inner (sym (ap (λ b. cond b (Some y) (find p ys)) f) ∙ e) in
         (suc there.0, omega (arith, there.1), there.2)

@@ -5,6 +5,7 @@ use Rattle.std.specs.Prelude.{sum_by}
 use Rattle.std.proofs.lemmas.List.Elements.{All-drop, All-head, All-tail, All-weaker}
 use Rattle.std.proofs.lemmas.List.Sums.{sum_by-cons}
 use Rattle.std.proofs.lemmas.Option.{slice_get_within}
+use Rattle.koika_check.proofs.TreeParts.{Such, firsts}
 use Rattle.kw_bits.specs.Host as host
 use Rattle.kw_bits.specs.Laws.{HasWidth}
 use Rattle.koika_syntax.specs.declared.operator.BinaryOperator.{BinaryOperator}
@@ -106,13 +107,6 @@ module _ (d e : Checked) (g : Extends d e) where
       ∙ sym (sum_by-cons (λ (f : Field). width_of d f.of) f fields)
 
 -- ---- values
-
-abbrev Such : {X : Type 0} → (X → Type 0) → Type 0
-Such {X} P = (x : X) × P x
-
-firsts : {X : Type 0} (P : X → Type 0) (xs : List (Such P)) → AllByRecursion P (map (λ e. e.0) xs)
-firsts P [] = tt
-firsts P (x ∷ xs) = (x.1, firsts P xs)
 
 pub each-replicate : {X : Type 0} (P : X → Type 0) (n : ℕ) (x : X) → P x → AllByRecursion P (replicate n x)
 each-replicate P zero x p = tt

@@ -1,8 +1,9 @@
 -- What the limits of a tree say of its design: how many parts it has of each kind, and what it weighs.
-use Rattle.std.proofs.Common.{◌≡◌, ℕ, ◌+◌, ◌<◌, ◌≤◌, ◌⊎◌, inl, inr, nat_le, true, List, [], ◌∷◌, length, slice_get, Option, Some, None, arith, refl, subst}
+use Rattle.std.proofs.Common.{◌≡◌, ℕ, ◌+◌, ◌<◌, ◌≤◌, ◌⊎◌, inl, inr, nat_le, List, [], ◌∷◌, length, slice_get, Option, Some, None, arith, refl, subst}
 use Rattle.std.specs.List.{flat_map}
 use Rattle.std.proofs.lemmas.List.{length-append}
 use Rattle.std.proofs.lemmas.Option.{slice_get-get_or}
+use Rattle.std.proofs.lemmas.Bool.{leb-true}
 use Rattle.kw_base.specs.declared.fault_number.TheConstants.{TOO_DEEP, TOO_HEAVY, TOO_MANY_INPUTS, TOO_MANY_NODES, TOO_MANY_REGISTERS, TOO_MANY_RULES}
 use Rattle.koika_syntax.specs.declared.tree.Declaration.{Declaration}
 use Rattle.koika_syntax.specs.declared.tree.Declaration.TheVariants as declarations
@@ -106,9 +107,6 @@ pub record IsWithin (tree : Tree) (size : Size) : Type 0 where
   pub light : size.weight ≤ MAX_WEIGHT
   pub shallow : size.depth ≤ MAX_DEPTH
 
-lower : (a b : ℕ) → nat_le a b ≡ true → a ≤ b
-lower a b e = grind arith
-
 pub limits-kept : (tree : Tree) (size : Size) → limits tree size ≡ None → IsWithin tree size
 limits-kept tree size e =
     let both = earlier-both (counts_within tree) (size_within tree.schedule size) e in
@@ -123,8 +121,8 @@ limits-kept tree size e =
       rules = few_places MAX_RULES TOO_MANY_RULES (flat_map rule_place tree.declarations) rules.0;
       inputs = few_places MAX_INPUTS TOO_MANY_INPUTS (flat_map input_place tree.declarations) inputs.0;
       nodes = few_places MAX_NODES TOO_MANY_NODES (scheduler_places tree.scheduler) nodes.0;
-      light = lower size.weight MAX_WEIGHT (holds-true (nat_le size.weight MAX_WEIGHT) (wrong TOO_HEAVY tree.schedule) weight.0);
-      shallow = lower size.depth MAX_DEPTH (holds-true (nat_le size.depth MAX_DEPTH) (wrong TOO_DEEP tree.schedule) depth.0);
+      light = leb-true size.weight MAX_WEIGHT (holds-true (nat_le size.weight MAX_WEIGHT) (wrong TOO_HEAVY tree.schedule) weight.0);
+      shallow = leb-true size.depth MAX_DEPTH (holds-true (nat_le size.depth MAX_DEPTH) (wrong TOO_DEEP tree.schedule) depth.0);
     }
 
 -- ---- the weight

@@ -3,7 +3,8 @@ use Rattle.std.proofs.Common.{◌≡◌, ℕ, suc, ◌<◌, ◌≤◌, Bool, tru
 use Rattle.std.specs.List.{AllByRecursion}
 use Rattle.std.specs.Prelude.{is_some}
 use Rattle.std.specs.Str.{bytes_eq}
-use Rattle.std.proofs.lemmas.Bool.{eqb-true}
+use Rattle.std.proofs.lemmas.Bool.{eqb-true, leb-true, ltb-true}
+use Rattle.std.proofs.lemmas.Option.{same_Some}
 use Rattle.kw_base.specs.Names.{number_of}
 use Rattle.kw_base.specs.declared.fault_number.TheConstants.{WRONG_FIELD, WRONG_TYPE, WRONG_WIDTH}
 use Rattle.kw_bits.specs.BitVector.{BitVector}
@@ -36,9 +37,6 @@ use Rattle.koika_check.proofs.TypedSoFar.{IsEnumSoFar, IsTypedSoFar, all-at, bas
 
 pub gives-same : {X : Type 0} (a b : X) → ◌≡◌ {A = Outcome X} (Gives a) (Gives b) → a ≡ b
 gives-same a b e = cc
-
-some-same : {X : Type 0} (a b : X) → ◌≡◌ {A = Option X} (Some a) (Some b) → a ≡ b
-some-same a b e = cc
 
 pub unless-gives : {X : Type 0} (c : Condition) (value v : X) → unless c value ≡ Gives v → (c ≡ None) × (value ≡ v)
 unless-gives None value v e = (refl, gives-same value v e)
@@ -101,7 +99,7 @@ agrees-is wanted p e = sym (same-of wanted p.of (holds-true (same wanted p.of) (
 
 bits-by : (b : BaseType) (lengths : List ℕ) (w : ℕ) → bits_by b lengths ≡ Some w → type_with b lengths ≡ bits w
 unfolding type_with
-bits-by (base.Bits v) [] w e = ap bits (some-same v w e)
+bits-by (base.Bits v) [] w e = ap bits (same_Some v w e)
 bits-by (base.Bits v) (l ∷ lengths) w e = absurd cc
 bits-by (base.Enum v) [] w e = absurd cc
 bits-by (base.Enum v) (l ∷ lengths) w e = absurd cc
@@ -119,7 +117,7 @@ struct-by (base.Bits v) [] n e = absurd cc
 struct-by (base.Bits v) (l ∷ lengths) n e = absurd cc
 struct-by (base.Enum v) [] n e = absurd cc
 struct-by (base.Enum v) (l ∷ lengths) n e = absurd cc
-struct-by (base.Struct v) [] n e = ap (λ k. of_base (base.Struct k)) (some-same v n e)
+struct-by (base.Struct v) [] n e = ap (λ k. of_base (base.Struct k)) (same_Some v n e)
 struct-by (base.Struct v) (l ∷ lengths) n e = absurd cc
 
 pub as-struct : (of : Option ValueType) (n : ℕ) → as_struct of ≡ Some n → of ≡ Some (of_base (base.Struct n))
@@ -131,7 +129,7 @@ items-by : (t : ValueType) (lengths : List ℕ) (items : Items) → t.lengths �
 unfolding type_with
 items-by t [] items same e = absurd cc
 items-by t (l ∷ lengths) items same e =
-    ap (type_with t.base) same ∙ ap (λ (i : Items). array i.length i.of) (some-same (record { length = l; of = type_with t.base lengths }) items e)
+    ap (type_with t.base) same ∙ ap (λ (i : Items). array i.length i.of) (same_Some (record { length = l; of = type_with t.base lengths }) items e)
 
 pub as-array : (of : Option ValueType) (items : Items) → as_array of ≡ Some items → of ≡ Some (array items.length items.of)
 as-array None items e = absurd cc
@@ -179,7 +177,7 @@ bits-placed members (Some k) b e = by_member (slice_get members k) refl
   where
     by_member : (o : Option Member) → slice_get members k ≡ o → (k : ℕ) × (m : Member) × (slice_get members k ≡ Some m) × (m.bits ≡ b)
     by_member None o = let none : bits_by_place members (Some k) ≡ None = rw o refl in absurd cc
-    by_member (Some m) o = let some : bits_by_place members (Some k) ≡ Some m.bits = rw o refl in (k, m, o, some-same m.bits b (sym some ∙ e))
+    by_member (Some m) o = let some : bits_by_place members (Some k) ≡ Some m.bits = rw o refl in (k, m, o, same_Some m.bits b (sym some ∙ e))
 
 -- a member's bits have its enum's width
 pub member-known : (d : Checked) → IsTypedSoFar d → (of m : Name) (x : MemberOf) → member d of m ≡ Gives x → HasWidth x.bits (base_width d (base.Enum x.number)) × IsWidth (base_width d (base.Enum x.number))
@@ -208,7 +206,7 @@ field-placed fields k t e = by_field (slice_get fields k) refl
   where
     by_field : (o : Option Field) → slice_get fields k ≡ o → (f : Field) × (slice_get fields k ≡ Some f) × (f.of ≡ t)
     by_field None o = let none : type_at fields (Some k) ≡ None = rw o refl in absurd cc
-    by_field (Some f) o = let some : type_at fields (Some k) ≡ Some f.of = rw o refl in (f, o, some-same f.of t (sym some ∙ e))
+    by_field (Some f) o = let some : type_at fields (Some k) ≡ Some f.of = rw o refl in (f, o, same_Some f.of t (sym some ∙ e))
 
 pub type-at : (fields : List Field) (k : ℕ) (f : Field) → slice_get fields k ≡ Some f → type_at fields (Some k) ≡ Some f.of
 type-at fields k f e = rw e refl
@@ -229,7 +227,7 @@ field_both d whole s (Some k) (Some t) one is at e =
     let f = field-placed (fields_of d s) k t at in
     let it : Selected = field_at d (fields_of d s) k t in
     let takes : TakesField d k _ (width_of d t) (of_base (base.Struct s)) t = (s, f.0, refl, f.1, sym f.2, refl, ap (width_of d) (sym f.2)) in
-    subst (λ (x : Selected). TakesOf d whole x × ReplacesOf d whole x) (some-same it one e) ((of_base (base.Struct s), is, takes), (of_base (base.Struct s), is, takes))
+    subst (λ (x : Selected). TakesOf d whole x × ReplacesOf d whole x) (same_Some it one e) ((of_base (base.Struct s), is, takes), (of_base (base.Struct s), is, takes))
 
 pub field-selected : (d : Checked) (whole : Part) (n : Name) (one : Selected) → select_field d whole n ≡ Gives one → TakesOf d whole one × ReplacesOf d whole one
 field-selected d whole n one e =
@@ -238,18 +236,12 @@ field-selected d whole n one e =
     field_both d whole s.0 o (type_at (fields_of d s.0) o) one (as-struct whole.of s.0 (found-some (as_struct whole.of) (wrong_type whole) s.0 s.1)) refl
     (found-some (field_if d (fields_of d s.0) o (type_at (fields_of d s.0) o)) (wrong WRONG_FIELD n.place) one s.2)
 
-below : (i n : ℕ) → nat_lt i n ≡ true → i < n
-below i n e = grind arith
-
-at_most : (i n : ℕ) → nat_le i n ≡ true → i ≤ n
-at_most i n e = grind arith
-
 -- an item
 item_both : (d : Checked) (whole : Part) (i : Number) (items : Items) → whole.of ≡ Some (array items.length items.of) → in_range i items.length ≡ None →
     TakesOf d whole (item_at d i.value items.of) × ReplacesOf d whole (item_at d i.value items.of)
 item_both d whole i items is e =
     let t = array items.length items.of in
-    let lt = below i.value items.length (holds-true (nat_lt i.value items.length) (wrong WRONG_WIDTH i.place) e) in
+    let lt = ltb-true i.value items.length (holds-true (nat_lt i.value items.length) (wrong WRONG_WIDTH i.place) e) in
     ((t, is, (items.length, refl, lt, refl)), (t, is, (items.length, refl, lt, refl)))
 
 bits_taken : (d : Checked) (whole : Part) (w high low : ℕ) → whole.of ≡ Some (bits w) → low ≤ high → high < w → TakesOf d whole (bits_at high low)
@@ -261,7 +253,7 @@ index_taken d whole i (Some items) w one ai bi e =
     subst (TakesOf d whole) all.0 (item_both d whole i items (as-array whole.of items ai) all.1.0).0
 index_taken d whole i None (Some w) one ai bi e =
     let all = where-all (in_range i w ∷ []) (bits_at i.value i.value) one e in
-    subst (TakesOf d whole) all.0 (bits_taken d whole w i.value i.value (as-bits whole.of w bi) (omega arith) (below i.value w (holds-true (nat_lt i.value w) (wrong WRONG_WIDTH i.place) all.1.0)))
+    subst (TakesOf d whole) all.0 (bits_taken d whole w i.value i.value (as-bits whole.of w bi) (omega arith) (ltb-true i.value w (holds-true (nat_lt i.value w) (wrong WRONG_WIDTH i.place) all.1.0)))
 index_taken d whole i None None one ai bi e = absurd cc
 
 slice_taken : (d : Checked) (whole : Part) (high low : Number) (one : Selected) → select_slice whole high low ≡ Gives one → TakesOf d whole one
@@ -270,7 +262,7 @@ slice_taken d whole high low one e =
     let all = where-all (holds (nat_le low.value high.value && nat_lt high.value w.0) (wrong WRONG_WIDTH high.place) ∷ []) (bits_at high.value low.value) one w.2 in
     let both = both-true (nat_le low.value high.value) (nat_lt high.value w.0) (holds-true (nat_le low.value high.value && nat_lt high.value w.0) (wrong WRONG_WIDTH high.place) all.1.0) in
     subst (TakesOf d whole) all.0
-    (bits_taken d whole w.0 high.value low.value (as-bits whole.of w.0 (found-some (as_bits whole.of) (wrong_type whole) w.0 w.1)) (at_most low.value high.value both.0) (below high.value w.0 both.1))
+    (bits_taken d whole w.0 high.value low.value (as-bits whole.of w.0 (found-some (as_bits whole.of) (wrong_type whole) w.0 w.1)) (leb-true low.value high.value both.0) (ltb-true high.value w.0 both.1))
 
 pub selected : (d : Checked) (whole : Part) (s : Suffix) (one : Selected) → select d whole s ≡ Gives one → TakesOf d whole one
 selected d whole (suffixes.Field n) one e = (field-selected d whole n one e).0

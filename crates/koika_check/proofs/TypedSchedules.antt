@@ -4,7 +4,10 @@ use Rattle.std.specs.List.{All}
 use Rattle.std.specs.Prelude.{AllPairs}
 use Rattle.std.proofs.lemmas.List.{length-append, length-map}
 use Rattle.std.proofs.lemmas.List.Folds.{list_any-append}
-use Rattle.std.proofs.lemmas.Option.{slice_get_within}
+use Rattle.std.proofs.lemmas.Option.{slice_get_within, same_Some}
+use Rattle.std.proofs.lemmas.Bool.{not-true}
+use Rattle.std.proofs.lemmas.List.Elements.{All-cons}
+use Rattle.std.proofs.lemmas.List.Kept.{AllPairs-cons}
 use Rattle.kw_base.specs.declared.fault_number.TheConstants.{RULE_TWICE_ON_A_PATH, UNKNOWN_NAME}
 use Rattle.koika_syntax.specs.declared.tree.Choice.{Choice, Choice-F, map-Choice, out-Choice, roll-Choice, out-roll-Choice}
 use Rattle.koika_syntax.specs.declared.tree.Name.{Name}
@@ -53,37 +56,24 @@ off_both rule other path e =
     is_true : (a b : ℕ) → a ≡ b → nat_eq a b ≡ true
     is_true a b e = grind arith
 
-all_cons : {X : Type 0} (P : X → Type 0) (x : X) (xs : List X) → P x → All P xs → All P (x ∷ xs)
-all_cons P x xs p h zero d lt = p
-all_cons P x xs p h (suc k) d lt = h k d (omega (arith, lt))
-
-pairs_cons : {X : Type 0} (R : X → X → Type 0) (x : X) (xs : List X) → All (R x) xs → AllPairs R xs → AllPairs R (x ∷ xs)
-pairs_cons R x xs h pairs zero zero d lt within = absurd (omega (arith, lt))
-pairs_cons R x xs h pairs zero (suc j) d lt within = h j d (omega (arith, within))
-pairs_cons R x xs h pairs (suc i) zero d lt within = absurd (omega (arith, lt))
-pairs_cons R x xs h pairs (suc i) (suc j) d lt within = pairs i j d (omega (arith, lt)) (omega (arith, within))
-
 -- a node in front of ways that try none of the path and its rule
 front : (all : List Node) (path : List ℕ) (k : ℕ) (node : Node) → slice_get all k ≡ Some node → is_on node.rule path ≡ false →
     ((to : ℕ) → (node.yes ≡ next.Node to) ⊎ (node.no ≡ next.Node to) → Ways all (path ++ node.rule ∷ []) to) → Ways all path k
 front all path k node at off behind way is = by_way way is
   where
-    node_same : (a b : Node) → ◌≡◌ {A = Option Node} (Some a) (Some b) → a ≡ b
-    node_same a b e = cc
-
     here : NotOn all path k
-    here m e = subst (λ (n : Node). is_on n.rule path ≡ false) (node_same node m (sym at ∙ e)) off
+    here m e = subst (λ (n : Node). is_on n.rule path ≡ false) (same_Some node m (sym at ∙ e)) off
 
     by_way : (way : List ℕ) → IsPath all k way → AllPairs (TryOthers all) (k ∷ way) × All (NotOn all path) (k ∷ way)
-    by_way [] is = (pairs_cons (TryOthers all) k [] (λ i d lt. absurd (omega (arith, lt))) (λ i j d lt within. absurd (omega (arith, within))), all_cons (NotOn all path) k [] here (λ i d lt. absurd (omega (arith, lt))))
+    by_way [] is = (AllPairs-cons (TryOthers all) k [] (λ i d lt. absurd (omega (arith, lt))) (λ i j d lt within. absurd (omega (arith, within))), All-cons (NotOn all path) k [] here (λ i d lt. absurd (omega (arith, lt))))
     by_way (to ∷ way) is =
         let leads = is.0 in
-        let same : leads.0 ≡ node = node_same leads.0 node (sym leads.1 ∙ at) in
+        let same : leads.0 ≡ node = same_Some leads.0 node (sym leads.1 ∙ at) in
         let rest = behind to (subst (λ (n : Node). (n.yes ≡ next.Node to) ⊎ (n.no ≡ next.Node to)) same leads.2) way is.1 in (
-          pairs_cons (TryOthers all) k (to ∷ way) (λ i d lt m n em en eq.
-              let is_node = node_same node m (sym at ∙ em) in
+          AllPairs-cons (TryOthers all) k (to ∷ way) (λ i d lt m n em en eq.
+              let is_node = same_Some node m (sym at ∙ em) in
               (off_both node.rule n.rule path (rest.1 i d lt n en)).1 (sym eq ∙ sym (ap (λ (x : Node). x.rule) is_node))) rest.0,
-          all_cons (NotOn all path) k (to ∷ way) here (λ i d lt n en. (off_both node.rule n.rule path (rest.1 i d lt n en)).0),
+          All-cons (NotOn all path) k (to ∷ way) here (λ i d lt n en. (off_both node.rule n.rule path (rest.1 i d lt n en)).0),
         )
 
 -- ---- nodes behind a path
@@ -151,15 +141,12 @@ choice_fine rules path k rule taken other lt off first second = record { each = 
     long = length-append taken other
 
     each : (i : ℕ) (n : Node) → slice_get (node_of k rule taken other ∷ taken ++ other) i ≡ Some n → IsNode rules (k + length (node_of k rule taken other ∷ taken ++ other)) (k + i) n
-    each zero n e = subst (IsNode rules (k + suc (length (taken ++ other))) (k + 0)) (some_same (node_of k rule taken other) n e)
+    each zero n e = subst (IsNode rules (k + suc (length (taken ++ other))) (k + 0)) (same_Some (node_of k rule taken other) n e)
         (record {
           rule = lt;
           yes = first_within taken (k + 1) _ _ (omega arith) (omega (arith, long));
           no = first_within other (k + 1 + length taken) _ _ (omega arith) (omega (arith, long));
         })
-      where
-        some_same : (a b : Node) → ◌≡◌ {A = Option Node} (Some a) (Some b) → a ≡ b
-        some_same a b e = cc
     each (suc i) n e = by_part (found_in_append taken other i n e)
       where
         by_part : (slice_get taken i ≡ Some n) ⊎ ((j : ℕ) × (i ≡ length taken + j) × (slice_get other j ≡ Some n)) → IsNode rules (k + suc (length (taken ++ other))) (k + suc i) n
@@ -186,11 +173,8 @@ row_node k rule behind = record { rule = rule; yes = first_of behind (k + 1); no
 front_fine : (rules : ℕ) (path : List ℕ) (k rule : ℕ) (behind : List Node) → rule < rules → is_on rule path ≡ false → AreFine rules (path ++ rule ∷ []) (k + 1) behind → AreFine rules path k (in_front k rule behind)
 front_fine rules path k rule behind lt off h = record { each = each; ways = ways }
   where
-    some_same : (a b : Node) → ◌≡◌ {A = Option Node} (Some a) (Some b) → a ≡ b
-    some_same a b e = cc
-
     each : (i : ℕ) (n : Node) → slice_get (in_front k rule behind) i ≡ Some n → IsNode rules (k + length (in_front k rule behind)) (k + i) n
-    each zero n e = subst (IsNode rules (k + suc (length behind)) (k + 0)) (some_same (row_node k rule behind) n e)
+    each zero n e = subst (IsNode rules (k + suc (length behind)) (k + 0)) (same_Some (row_node k rule behind) n e)
         (record { rule = lt; yes = first_within behind (k + 1) _ _ (omega arith) (omega arith); no = first_within behind (k + 1) _ _ (omega arith) (omega arith) })
     each (suc i) n e = wider_node rules _ _ _ _ n (omega arith) (omega arith) (h.each i n e)
 
@@ -209,10 +193,6 @@ front_fine rules path k rule behind lt off h = record { each = each; ways = ways
 
 -- ---- names
 
-not_false : (b : Bool) → not b ≡ true → b ≡ false
-not_false true e = absurd cc
-not_false false e = refl
-
 -- a rule that may be tried behind a path
 tried_is : (d : Checked) (path : List ℕ) (n : Name) (rule : ℕ) → tried d path n ≡ Gives rule → (rule < length d.rules) × (is_on rule path ≡ false)
 tried_is d path n rule e =
@@ -220,7 +200,7 @@ tried_is d path n rule e =
     let all = where-all (holds (not (is_on number.0 path)) (wrong RULE_TWICE_ON_A_PATH n.place) ∷ []) number.0 rule number.2 in
     let within = (number_of-within (map (λ (r : Rule). r.name) d.rules) n.text number.0 (found-some (rule_named d n.text) (wrong UNKNOWN_NAME n.place) number.0 number.1)).0 in
     subst (λ r. (r < length d.rules) × (is_on r path ≡ false)) all.0
-    (omega (arith, within, length-map d.rules (λ (r : Rule). r.name)), not_false (is_on number.0 path) (holds-true (not (is_on number.0 path)) (wrong RULE_TWICE_ON_A_PATH n.place) all.1.0))
+    (omega (arith, within, length-map d.rules (λ (r : Rule). r.name)), not-true (is_on number.0 path) (holds-true (not (is_on number.0 path)) (wrong RULE_TWICE_ON_A_PATH n.place) all.1.0))
 
 -- rules in a row, in front of nodes behind the longer path
 row_fine : (d : Checked) (names : List Name) (path behind : List ℕ) → path_behind d names path ≡ Gives behind →
