@@ -1,5 +1,5 @@
 -- What a tree of the grammar comes to is a well typed design, whose host functions are among those that are handed in.
-use Rattle.std.proofs.Common.{◌≡◌, ◌≤◌, List, [], length, None, arith, ap, sym, subst}
+use Rattle.std.proofs.Common.{Result, Ok, Err, IfOk, ◌≡◌, ◌≤◌, List, [], length, None, arith, ap, sym, subst}
 use Rattle.std.specs.List.{All, Contains}
 use Rattle.std.proofs.lemmas.List.Elements.{All-weaker}
 use Rattle.kw_bits.specs.Host.{TakesWidth}
@@ -11,13 +11,14 @@ use Rattle.typed_core.specs.declared.design.Node.{Node}
 use Rattle.typed_core.specs.declared.limits.TheConstants.{MAX_INPUTS, MAX_NODES, MAX_REGISTERS, MAX_RULES}
 use Rattle.koika_check.specs.Checks.{checked, limits, scheduled, within_limits}
 use Rattle.koika_check.specs.Declarations.{declare, nothing}
-use Rattle.koika_check.specs.Outcomes.{Gives, one_by_one}
+use Rattle.koika_check.specs.Outcomes.{Answers, Gives, one_by_one}
 use Rattle.koika_check.specs.Schedule.{scheduler_nodes}
 use Rattle.koika_check.specs.Sizes.{Size, design_size}
 use Rattle.koika_check.specs.Typing.{IsEnum, IsTypedDesign}
 use Rattle.koika_check.specs.declared.checked.Checked.{Checked}
 use Rattle.koika_check.specs.declared.checked.Host.{Host}
 use Rattle.koika_check.specs.declared.measure.TheConstants.{MAX_DEPTH, MAX_WEIGHT}
+use Rattle.koika_check.specs.declared.stop.Stop.{Stop}
 use Rattle.koika_check.proofs.Answering.{bind-gives}
 use Rattle.koika_check.proofs.TypedDesigns.{IsSoFar, declarations-typed, noted}
 use Rattle.koika_check.proofs.TypedLimits.{IsWithin, limits-kept, parts-counted, same-size}
@@ -91,3 +92,13 @@ module _ (hosts : List HostSpec) (tree : Tree) (d : Checked) (takes : All (λ (h
 
   pub hosts-offered : All (λ (h : Host). Contains hosts h.spec) d.hosts
   hosts-offered = let m = made hosts tree d e in subst (λ (x : Checked). All (λ (h : Host). Contains hosts h.spec) x.hosts) m.is so_far.1
+
+-- the same of a call that answers what the tree comes to
+module _ (hosts : List HostSpec) (tree : Tree) (takes : All (λ (h : HostSpec). TakesWidth h.kind h.in_width) hosts) (is : IsDesign tree) where
+  pub answer-typed : (r : Result Checked Stop) → Answers (λ (x of : Checked). x ≡ of) (checked hosts tree) r → IfOk r IsTypedDesign
+  answer-typed (Ok d) h = subst IsTypedDesign (sym h.2) (typed-design hosts tree h.0 takes is h.1)
+  answer-typed (Err stop) h = tt
+
+  pub answer-offered : (r : Result Checked Stop) → Answers (λ (x of : Checked). x ≡ of) (checked hosts tree) r → IfOk r (λ (d : Checked). All (λ (h : Host). Contains hosts h.spec) d.hosts)
+  answer-offered (Ok d) h = subst (λ (x : Checked). All (λ (h : Host). Contains hosts h.spec) x.hosts) (sym h.2) (hosts-offered hosts tree h.0 takes is h.1)
+  answer-offered (Err stop) h = tt
