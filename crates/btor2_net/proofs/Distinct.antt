@@ -21,7 +21,7 @@ use Rattle.btor2_model.proofs.Filling.{nothing-there}
 use Rattle.btor2_net.specs.Values.{AreGiven}
 
 -- no id stands at two places
-pub AreDistinct : List ℕ → Type 0
+unfoldable pub AreDistinct : List ℕ → Type 0
 AreDistinct ids = (i j id : ℕ) → slice_get ids i ≡ Some id → slice_get ids j ≡ Some id → i ≡ j
 
 none-before : (here : Bool) (new : Meaning) (old : Option Meaning) → cond here (Some new) old ≡ None → old ≡ None

@@ -38,6 +38,7 @@ use Rattle.btor2_net.proofs.Declared.{IsValue, all-passing, fine-lines, input-va
 use Rattle.btor2_net.proofs.Distinct.{states-given}
 use Rattle.btor2_net.proofs.Independent.{same-in-all-steps}
 use Rattle.btor2_net.proofs.Runs.{Matches, runs-as}
+use Rattle.btor2_net.proofs.Tokens.{has-tokens}
 
 -- functions that agree on each line give the same list
 alike : {X : Type 0} (f g : Line → X) (lines : List Line) → All (λ (line : Line). f line ≡ g line) lines → map f lines ≡ map g lines
@@ -284,4 +285,4 @@ module _ (lines : List Line) (accepted : IsAccepted lines) (n : Nodes) (nodes : 
     }
 
     pub are-wires : AreWiresOf lines wires
-    are-wires = record { circuit = is-circuit; has_lines = has-lines; run = runs-as lines wires (fine-lines lines accepted) is-circuit has-lines matches }
+    are-wires = record { circuit = is-circuit; has_lines = has-lines; run = runs-as lines wires (fine-lines lines accepted) is-circuit has-lines matches; names = has-tokens lines wires accepted.forms has-lines }

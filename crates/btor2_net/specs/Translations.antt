@@ -1,6 +1,6 @@
 -- When a circuit is that of a circuit text: it has the names and widths of the text's lines, and its run is the text's. The run
 -- of a text, and that of a circuit, is after BTOR2 (Niemetz et al., CAV 2018).
-use Rattle.std.specs.Prelude.{◌≡◌, ℕ, Bool, List, ◌∷◌, map, unwrap_or, decimal}
+use Rattle.std.specs.Prelude.{◌≡◌, ℕ, ◌+◌, Bool, List, ◌∷◌, All, map, Some, slice_get, unwrap_or, decimal}
 use Rattle.net_graph.specs.Nets.{width_at, widths_of}
 use Rattle.one_rule.specs.Stimulus.{AlwaysFits, InputVectors, inputs_of}
 use Rattle.circuit_eval.specs.Circuits as circuit
@@ -9,6 +9,7 @@ use Rattle.circuit_eval.specs.declared.circuit.InputWire.{InputWire}
 use Rattle.circuit_eval.specs.declared.circuit.OutputWire.{OutputWire}
 use Rattle.circuit_eval.specs.declared.circuit.StateWire.{StateWire}
 use Rattle.circuit_eval.specs.declared.circuit.Wires.{Wires}
+use Rattle.btor2_text.specs.Printable.{IsToken}
 use Rattle.btor2_text.specs.declared.line.Line.{Line}
 use Rattle.btor2_model.specs.Rules.{is_input, is_output, is_state}
 use Rattle.btor2_model.specs.Run as text
@@ -44,3 +45,13 @@ pub record HasLines (lines : List Line) (c : Wires) : Type 0 where
 abbrev pub RunsAs : List Line → Wires → Type 0
 RunsAs lines c = (stimulus : InputVectors) (n : ℕ) → stimulus.widths ≡ circuit.input_widths c.inputs → AlwaysFits stimulus
     → wired.run_of c (inputs_of stimulus) n ≡ text.run_of lines (inputs_of stimulus) n
+
+-- each name of the circuit can be written: a byte or more, and no blank, semicolon or end of a line
+pub record HasTokens (c : Wires) : Type 0 where
+  pub inputs : All (λ (wire : InputWire). IsToken wire.name) c.inputs
+  pub states : All (λ (wire : StateWire). IsToken wire.name) c.states
+  pub outputs : All (λ (wire : OutputWire). IsToken wire.name) c.outputs
+
+-- the ids of lines are 1, 2, 3 and so on
+abbrev pub AreCounted : List Line → Type 0
+AreCounted lines = (place : ℕ) (line : Line) → slice_get lines place ≡ Some line → line.id ≡ place + 1

@@ -1,7 +1,9 @@
-ghost use Rattle.std.specs.Prelude.{◌≡◌, ◌∷◌, ◌++◌, [], ℕ, List, IfOk, OnOk};
+ghost use Rattle.std.specs.Prelude.{◌≡◌, ◌∷◌, ◌++◌, ◌<◌, ◌^◌, [], ℕ, List, IfOk, OnOk, length};
 ghost use Rattle.net_graph.specs.Nets.{widths_of};
+ghost use Rattle.btor2_model.specs.Acceptance.{IsAccepted};
 ghost use Rattle.btor2_net.specs.PageFields.{page_of};
 ghost use Rattle.btor2_net.specs.Pages as pages;
+ghost use Rattle.btor2_net.specs.Translations.{AreCounted, HasLines, HasTokens, RunsAs};
 
 use crate::keywords::{keyword_of_one, keyword_of_two};
 use crate::page::Page;
@@ -11,18 +13,40 @@ use kw_bits::{NoMemory, Sequence, Text};
 use net_graph::{Net, NetId, NetOp};
 use std::alloc::Global;
 
-/// The lines that a circuit is written as.
-#[tactic(auto, unfolding(crate::specs::Pages::lines_of))]
+/// The lines that a circuit is written as: an accepted text that has the circuit's names, widths and run.
 pub fn to_lines(alloc: Global, circuit: &Circuit) -> Result<Lines, NoMemory>
+    requires names { HasTokens circuit.now }
     ensures lines { IfOk result (λ lines. lines ≡ pages.lines_of circuit.now) }
+    ensures accepted { IfOk result IsAccepted }
+    ensures names { IfOk result (λ lines. HasLines lines circuit.now) }
+    ensures run { IfOk result (λ lines. RunsAs lines circuit.now) }
+    ensures ids { IfOk result AreCounted }
+{
+    let states = circuit.states.as_slice();
+    let inputs = circuit.inputs.as_slice();
+    let outputs = circuit.outputs.as_slice();
+    wires_lines(alloc, &circuit.net, states, inputs, outputs)
+}
+
+// The lines of a circuit's parts.
+#[tactic(auto, unfolding(crate::specs::Pages::lines_of))]
+fn wires_lines(
+    alloc: Global,
+    net: &Net,
+    states: &[StateWire],
+    inputs: &[InputWire],
+    outputs: &[OutputWire],
+) -> Result<Lines, NoMemory>
+    ensures lines { IfOk result (λ lines. lines ≡ pages.lines_of (record { net = net.now; states = states.now; inputs = inputs.now; outputs = outputs.now })) }
+    ensures few { IfOk result (λ lines. length lines < 2 ^ 64) }
 {
     let mut page = Page::new(alloc)?;
-    let states = add_states(alloc, &mut page, circuit.states.as_slice())?;
-    let inputs = add_inputs(alloc, &mut page, circuit.inputs.as_slice())?;
-    let nodes = add_nodes(alloc, &mut page, &circuit.net, &inputs, &states)?;
-    add_nexts(alloc, &mut page, circuit.states.as_slice(), &states, &nodes)?;
-    add_outputs(alloc, &mut page, circuit.outputs.as_slice(), &nodes)?;
-    Ok(page.lines)
+    let state_ids = add_states(alloc, &mut page, states)?;
+    let input_ids = add_inputs(alloc, &mut page, inputs)?;
+    let nodes = add_nodes(alloc, &mut page, net, &input_ids, &state_ids)?;
+    add_nexts(alloc, &mut page, states, &state_ids, &nodes)?;
+    add_outputs(alloc, &mut page, outputs, &nodes)?;
+    Ok(page.into_lines())
 }
 
 // Adds states, whose ids it gives.

@@ -1,4 +1,4 @@
-ghost use Rattle.std.specs.Prelude.{◌≡◌, ◌∷◌, ◌++◌, [], IfOk, OnOk, None, map, decimal};
+ghost use Rattle.std.specs.Prelude.{◌≡◌, ◌∷◌, ◌++◌, ◌<◌, ◌^◌, [], IfOk, OnOk, None, length, map, decimal};
 ghost use Rattle.btor2_text.specs.declared.line.Argument.TheVariants as arguments;
 ghost use Rattle.btor2_net.specs.PageFields.{page_of};
 ghost use Rattle.btor2_net.specs.Pages as pages;
@@ -26,6 +26,16 @@ impl Page {
             lines: Lines::new(alloc),
             sorts: Table::new(alloc, Bits::MAX_WIDTH as usize + 1)?,
         })
+    }
+
+    /// The lines, which are fewer than a number of their type can say.
+    pub(crate) fn into_lines(self) -> Lines
+        ensures lines { result ≡ (page_of self).lines }
+        ensures few { length result < 2 ^ 64 }
+    {
+        let lines = self.lines;
+        let _count = lines.len();
+        lines
     }
 
     /// Adds a line, whose id it gives.

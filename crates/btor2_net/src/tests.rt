@@ -1,5 +1,6 @@
 ghost use Rattle.std.specs.Prelude.{◌<◌, IfOk, length};
 ghost use Rattle.btor2_text.specs.Printable.{ArePrintable};
+ghost use Rattle.btor2_net.specs.Translations.{HasTokens};
 
 use crate::{to_circuit, to_lines};
 use btor2_model::accept;
@@ -21,7 +22,9 @@ fn lines_of(alloc: Global, text: &[u8]) -> Result<Lines, Fail>
 }
 
 // The circuit of a text.
-fn circuit_of(rt: &impl Abort, alloc: Global, text: &[u8]) -> Result<Circuit, Fail> {
+fn circuit_of(rt: &impl Abort, alloc: Global, text: &[u8]) -> Result<Circuit, Fail>
+    ensures { IfOk result HasTokens }
+{
     let Ok(text) = accept(alloc, lines_of(alloc, text)?) else {
         return Err("a fault".into());
     };

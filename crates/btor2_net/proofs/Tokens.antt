@@ -1,0 +1,78 @@
+-- The names of a text's lines are tokens.
+use Rattle.std.proofs.Common.{◌≡◌, ⊎_elim, ℕ, zero, suc, ◌<◌, ◌^◌, Bool, true, false, cond, List, [], ◌∷◌, Option, None, Some, get_or, map, refl, sym, ap, ◌∙◌, subst, arith, eqb, All}
+use Rattle.std.specs.Prelude.{decimal, slice_get}
+use Rattle.std.specs.Char.{digit_value}
+use Rattle.std.specs.List.{list_all}
+use Rattle.std.specs.Option.{option_map, option_to_list}
+use Rattle.std.specs.Str.Parse.{AllDigits}
+use Rattle.std.proofs.lemmas.Bool.Decides.{eqb_tells}
+use Rattle.std.proofs.lemmas.Option.{slice_get-get_or, slice_get-map}
+use Rattle.std.proofs.lemmas.Fmt.{decimal_is_IsNumeral}
+use Rattle.btor2_text.specs.Printable.{ArePrintable, AreTokens, IsToken, is_plain}
+use Rattle.btor2_text.specs.declared.line.Line.{Line}
+use Rattle.btor2_model.specs.Rules.{is_input, is_output, is_state, rule_of}
+use Rattle.btor2_model.specs.Run.{lines_of}
+use Rattle.btor2_model.specs.declared.rule.Rule.{Rule}
+use Rattle.circuit_eval.specs.declared.circuit.InputWire.{InputWire}
+use Rattle.circuit_eval.specs.declared.circuit.OutputWire.{OutputWire}
+use Rattle.circuit_eval.specs.declared.circuit.StateWire.{StateWire}
+use Rattle.circuit_eval.specs.declared.circuit.Wires.{Wires}
+use Rattle.btor2_net.specs.Translations.{HasLines, HasTokens, name_of, names_of}
+
+-- digits end no token
+apart : (b c : ℕ) → digit_value c ≡ 36 → digit_value b < 36 → eqb b c ≡ false
+apart b c none digit = ⊎_elim (λ same. absurd (omega (arith, digit, ap digit_value same.1 ∙ none))) (λ other. other.0) (eqb_tells b c)
+
+plain-digit : (b : ℕ) → digit_value b < 36 → is_plain b ≡ true
+plain-digit b digit =
+    let space = apart b 32 refl digit in
+    let tab = apart b 9 refl digit in
+    let carriage = apart b 13 refl digit in
+    let comment = apart b 59 refl digit in
+    let line = apart b 10 refl digit in
+    rw (space, tab, carriage, comment, line) refl
+
+plain-digits : (digits : List ℕ) → AllDigits 10 digits → list_all is_plain digits ≡ true
+plain-digits [] all = refl
+plain-digits (d ∷ digits) all = rw (plain-digit d (omega (arith, all.0)), plain-digits digits all.1) refl
+
+-- `n` and an id
+own-name : (id : ℕ) → id < 2 ^ 64 → IsToken (110 ∷ decimal id)
+own-name id small = record { some_byte = omega arith; plain = plain-digits (decimal id) (decimal_is_IsNumeral id small).0.1 }
+
+name-by : (id : ℕ) (symbol : Option (List ℕ)) (line : Line) → id < 2 ^ 64 → AreTokens (option_to_list symbol) → IsToken (name_of (record line { id = id; symbol = symbol }))
+name-by id (Some name) line small are = are.0
+name-by id None line small are = own-name id small
+
+-- the names of lines
+line-name : (line : Line) → line.id < 2 ^ 64 → AreTokens (option_to_list line.symbol) → IsToken (name_of line)
+line-name line small are = name-by line.id line.symbol line small are
+
+abbrev AllTokens : List (List ℕ) → Type 0
+AllTokens names = (k : ℕ) (name : List ℕ) → slice_get names k ≡ Some name → IsToken name
+
+one-more : (name : List ℕ) (names : List (List ℕ)) → IsToken name → AllTokens names → AllTokens (name ∷ names)
+one-more name names one all zero other at = let same : name ≡ other = cc in subst IsToken same one
+one-more name names one all (suc k) other at = all k other at
+
+names-tokens : (test : Rule → Bool) (lines : List Line) → ArePrintable lines → AllTokens (names_of test lines)
+names-tokens test [] are = λ k name at. absurd (cc)
+names-tokens test (line ∷ lines) are = by (test (rule_of line.keyword)) refl (names-tokens test lines are.1)
+  where
+    by : (b : Bool) → test (rule_of line.keyword) ≡ b → AllTokens (names_of test lines) → AllTokens (names_of test (line ∷ lines))
+    by true is rest =
+        subst AllTokens (sym (ap (λ (b : Bool). map name_of (cond b (line ∷ lines_of test lines) (lines_of test lines))) is))
+        (one-more (name_of line) (names_of test lines) (line-name line are.0.id.1 are.0.symbol) rest)
+    by false is rest = subst AllTokens (sym (ap (λ (b : Bool). map name_of (cond b (line ∷ lines_of test lines) (lines_of test lines))) is)) rest
+
+all-of : {W : Type 0} (name : W → List ℕ) (wires : List W) → AllTokens (map name wires) → All (λ (wire : W). IsToken (name wire)) wires
+all-of {W} name wires all k d within =
+    all k (name (get_or wires k d)) (slice_get-map name wires k ∙ ap (option_map name) (slice_get-get_or wires k d within))
+
+-- so are those of its circuit
+pub has-tokens : (lines : List Line) (c : Wires) → ArePrintable lines → HasLines lines c → HasTokens c
+has-tokens lines c are has = record {
+  inputs = all-of (λ (wire : InputWire). wire.name) c.inputs (subst AllTokens (sym has.inputs) (names-tokens is_input lines are));
+  states = all-of (λ (wire : StateWire). wire.name) c.states (subst AllTokens (sym has.states) (names-tokens is_state lines are));
+  outputs = all-of (λ (wire : OutputWire). wire.name) c.outputs (subst AllTokens (sym has.outputs) (names-tokens is_output lines are));
+}
