@@ -40,7 +40,7 @@ turn-cons m ms values k events =
 
 module _ (d : Checked) (regs : List ℕ) where
   -- a value that isn't unit
-  some_value : {V W : Type 0} (Q : V → W → Type 0) (t : ValueType) (f : Option Value → Part V Stopped) (g : BitVector → Part W Stopped) →
+  pub some_value : {V W : Type 0} (Q : V → W → Type 0) (t : ValueType) (f : Option Value → Part V Stopped) (g : BitVector → Part W Stopped) →
       ((v : Value) (x : BitVector) → Stands d (Some t) (Some v) x → Simulates regs Q (f (Some v)) (g x)) →
       (v : Option Value) (x : BitVector) → Stands d (Some t) v x → Simulates regs Q (f v) (g x)
   some_value Q t f g next (Some v) x is = next v x is

@@ -90,7 +90,7 @@ all-get P (y ∷ xs) (suc i) x all e = all-get P xs i x (λ k z h. all (suc k) z
 
 -- ---- items
 
-total-replicate : (d : Checked) (k : ℕ) (item : ValueType) → total d (replicate k item) ≡ k * width_of d item
+pub total-replicate : (d : Checked) (k : ℕ) (item : ValueType) → total d (replicate k item) ≡ k * width_of d item
 total-replicate d zero item = omega arith
 total-replicate d (suc k) item = let rest = total-replicate d k item in omega (arith, rest)
 
@@ -215,7 +215,7 @@ module _ (d : Checked) (is : IsTypedDesign d) where
       factor_some : (n m : ℕ) → 1 ≤ n * m → 1 ≤ m
       factor_some n m h = grind (arith, h)
 
-  all-each : {X : Type 0} (P : X → Type 0) (xs : List X) → All P xs → AllByRecursion P xs
+  pub all-each : {X : Type 0} (P : X → Type 0) (xs : List X) → All P xs → AllByRecursion P xs
   all-each P [] h = tt
   all-each P (x ∷ xs) h = (h 0 x (omega arith), all-each P xs (λ i z below. h (suc i) z (omega arith)))
 
@@ -330,15 +330,15 @@ module _ (d : Checked) (is : IsTypedDesign d) where
       let all = concat-HasWidth x (stacked (y ∷ xs)) h.0.2.0 under.0 (omega (arith, under.1, h.0.2.1)) in
       (all.0, all.1 ∙ omega (arith, under.1, h.0.2.1))
 
-  types_of : (fields : List Field) → AllByRecursion (λ (f : Field). IsType d f.of) fields → AllByRecursion (IsType d) (map (λ (f : Field). f.of) fields)
+  pub types_of : (fields : List Field) → AllByRecursion (λ (f : Field). IsType d f.of) fields → AllByRecursion (IsType d) (map (λ (f : Field). f.of) fields)
   types_of [] h = tt
   types_of (f ∷ fields) h = (h.0, types_of fields h.1)
 
-  first_of : (fields : List Field) (k : ℕ) → AllByRecursion (λ (f : Field). IsType d f.of × IsAmong k f.of.base) fields → AllByRecursion (λ (f : Field). IsType d f.of) fields
+  pub first_of : (fields : List Field) (k : ℕ) → AllByRecursion (λ (f : Field). IsType d f.of × IsAmong k f.of.base) fields → AllByRecursion (λ (f : Field). IsType d f.of) fields
   first_of [] k h = tt
   first_of (f ∷ fields) k h = (h.0.0, first_of fields k h.1)
 
-  same_types : (k : ℕ) (t : ValueType) → IsType d t → AllByRecursion (IsType d) (replicate k t)
+  pub same_types : (k : ℕ) (t : ValueType) → IsType d t → AllByRecursion (IsType d) (replicate k t)
   same_types zero t h = tt
   same_types (suc k) t h = (h, same_types k t h)
 
@@ -354,7 +354,7 @@ module _ (d : Checked) (is : IsTypedDesign d) where
   wide_array (x ∷ es) [] w h e ok = absurd h
   wide_array (x ∷ es) (t ∷ ts) w h e ok = subst (λ k. HasWidth (stacked_up (map packed (map (λ e. e.0) (x ∷ es)))) k) e (up-width d t ts x.0 (map (λ e. e.0) es) (packed x.0) (map packed (map (λ e. e.0) es)) h (omega (arith, e, ok.1)))
 
-  item-type : (n m : ℕ) → (1 ≤ n * m) × (n * m ≤ 128) → (1 ≤ m) × (m ≤ 128)
+  pub item-type : (n m : ℕ) → (1 ≤ n * m) × (n * m ≤ 128) → (1 ≤ m) × (m ≤ 128)
   item-type zero m h = absurd (omega (arith, h.0))
   item-type (suc n) zero h = absurd (omega (arith, h.0))
   item-type (suc n) (suc m) h = (omega arith, omega (arith, h.1))

@@ -162,7 +162,7 @@ pub record IsChoice (conditions bodies : List Lowered) (l : Lowered) : Type 0 wh
 abbrev pub IsAfter : (first second l : Lowered) → Type 0
 IsAfter first second l =
     ((first.action ≡ action.Unit) × (l ≡ second)) ⊎
-    ((first.width ≡ 0) × (second.action ≡ action.Unit) × (l ≡ first)) ⊎
+    ((first.width ≡ 0) × (second.width ≡ 0) × (second.action ≡ action.Unit) × (l ≡ first)) ⊎
     (IsSeq first.action second.action l.action × (l.width ≡ second.width))
 
 -- a vector of so many bits, of which some are replaced by others: those above them, the others, those below them

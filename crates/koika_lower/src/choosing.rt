@@ -58,6 +58,7 @@ pub(crate) fn one_after_another(
         return Ok(second);
     }
     if first.width == 0
+        && second.width == 0
         && let Action::Unit = second.action
     {
         return Ok(first);

@@ -1,11 +1,31 @@
 ghost use Rattle.std.specs.Prelude.{◌≡◌, ◌-◌, slice_get};
+ghost use Rattle.koika_types.specs.Values.{packed};
+ghost use Rattle.koika_check.specs.Typing.{IsOf, IsType, IsTypedDesign};
+ghost use Rattle.koika_check.specs.declared.checked.Checked.{Checked};
+ghost use Rattle.koika_check.specs.declared.typed.ValueType.{ValueType};
 ghost use Rattle.koika_check.specs.declared.checked.Input.{Input};
 ghost use Rattle.koika_check.specs.declared.checked.Register.{Register};
 ghost use Rattle.typed_core.specs.declared.action.Action.TheVariants as action;
 
 use crate::lowered::{Bound, Lowered};
+use crate::packing::bits_of;
 use koika_check::Checked;
+use koika_types::Value;
 use typed_core::{Action, Scope};
+
+/// A value as its bits.
+pub(crate) fn constant(value: &Value) -> Lowered
+    ensures { (d : Checked) (t : ValueType) → IsTypedDesign d → IsType d t → IsOf d value.now t
+        → result ≡ record { action = action.Const (packed value.now); width = (packed value.now).width } }
+{
+    match bits_of(value) {
+        Some(bits) => Lowered {
+            action: Action::Const(bits),
+            width: bits.width(),
+        },
+        None => Lowered::unit(),
+    }
+}
 
 /// A name is its number from the inside, where so many `Let`s stand round it.
 pub(crate) fn local(names: &Scope<Bound>, depth: u32, index: u32) -> Lowered

@@ -1,4 +1,4 @@
-ghost use Rattle.std.specs.Prelude.{◌≡◌, IfOk};
+ghost use Rattle.std.specs.Prelude.{◌≡◌, ◌+◌, if◌then◌else◌, IfOk};
 ghost use Rattle.koika_lower.specs.Actions.{IsIf, IsLet, IsOne, IsSeq, IsSlice, IsTwo};
 ghost use Rattle.typed_core.specs.declared.action.Action.TheVariants as action;
 
@@ -30,6 +30,23 @@ impl Lowered {
             width: 0,
         }
     }
+}
+
+/// Inside one more `Let`.
+pub(crate) fn deeper(depth: u32) -> Result<u32, NoMemory>
+    ensures { IfOk result (λ deep. deep ≡ depth + 1) }
+{
+    match depth.checked_add(1) {
+        Some(deep) => Ok(deep),
+        None => Err(NoMemory),
+    }
+}
+
+/// Where the operand behind one stands.
+pub(crate) fn behind(depth: u32, rises: bool) -> Result<u32, NoMemory>
+    ensures { IfOk result (λ at. at ≡ (if rises then depth + 1 else depth)) }
+{
+    if rises { deeper(depth) } else { Ok(depth) }
 }
 
 /// An operator on one operand.

@@ -1,0 +1,137 @@
+use Rattle.std.proofs.Common.{◌≡◌, ◌+◌, List, [], ◌∷◌, ◌++◌, length, sum_by, take, false, if◌then◌else◌, arith, ap, sym, subst, ◌∙◌}
+use Rattle.std.proofs.lemmas.List.{length-append}
+use Rattle.koika_check.specs.declared.typed.Step.{Step}
+use Rattle.koika_check.specs.declared.typed.Typed.{Typed}
+use Rattle.koika_check.specs.declared.typed.Typed.TheVariants as typed
+use Rattle.koika_lower.specs.Expressions.{AreLowered, AreLoweredSteps}
+use Rattle.koika_lower.specs.declared.lowered.Bound.{Bound}
+use Rattle.koika_lower.specs.declared.lowered.Lowered.{Lowered}
+use Rattle.koika_lower.proofs.Atoms.{at_form, constant-lowers, input-lowers, local-lowers}
+use Rattle.koika_lower.proofs.Bindings.{on_ok}
+use Rattle.koika_lower.proofs.Lowerings.{IsLowered, apply-lowered, block-lowered, do-lowered, give-lowered, if-lowered, let-lowered}
+use Rattle.koika_lower.proofs.Sides.{behind-next, lowered-push}
+use Rattle.koika_lower.proofs.TreeCounts.{count, count_step, count-Apply, count-Block, count-Do, count-Give, count-If, count-Let, count-first}
+use Rattle.koika_lower.proofs.expressions.+lower.Goals as goal
+
+-- ---- expressions, by their kinds
+
+pub lower_expression-returns-in-Constant : goal.lower_expression-returns-in-Constant
+lower_expression-returns-in-Constant t c types of design bodies are h =
+    at_form c.args.design.now (length c.args.bodies.now) c.args.depth c.args.names.now types c.args.of.now (typed.Constant c.in-Constant.value) of c.constant.result c.in-Constant.is h
+    (constant-lowers c.args.design.now (length c.args.bodies.now) c.args.depth c.args.names.now types design c.in-Constant.value of c.constant.result c.constant.ensures)
+
+pub lower_expression-returns-in-Local : goal.lower_expression-returns-in-Local
+lower_expression-returns-in-Local t c types of design bodies are h =
+    at_form c.args.design.now (length c.args.bodies.now) c.args.depth c.args.names.now types c.args.of.now (typed.Local c.in-Local.index) of c.local.result c.in-Local.is h
+    (local-lowers c.args.design.now (length c.args.bodies.now) c.args.depth c.args.names.now types c.in-Local.index of c.local.result are c.local.ensures)
+
+pub lower_expression-returns-in-Input : goal.lower_expression-returns-in-Input
+lower_expression-returns-in-Input t c types of design bodies are h =
+    at_form c.args.design.now (length c.args.bodies.now) c.args.depth c.args.names.now types c.args.of.now (typed.Input c.in-Input.number) of c.input.result c.in-Input.is h
+    (input-lowers c.args.design.now (length c.args.bodies.now) c.args.depth c.args.names.now types design c.in-Input.number of c.input.result c.input.ensures)
+
+pub lower_expression-lower_all-requires : goal.lower_expression-lower_all-requires
+lower_expression-lower_all-requires t c =
+    (omega (arith, c.decreases, ap count c.in-Apply.is, count-Apply c.in-Apply.operation c.in-Apply.operands, ap (sum_by count) c.as_slice-operands.ensures), tt)
+
+pub lower_expression-returns-in_ok-lowered-in-Apply : goal.lower_expression-returns-in_ok-lowered-in-Apply
+lower_expression-returns-in_ok-lowered-in-Apply t c =
+    on_ok c.applied.result
+    (λ l made types of design bodies are h.
+    at_form c.args.design.now (length c.args.bodies.now) c.args.depth c.args.names.now types c.args.of.now (typed.Apply c.in-Apply.operation c.in-Apply.operands) of l c.in-Apply.is h
+    (apply-lowered c.args.design.now c.args.bodies.now c.args.depth c.args.names.now c.in-Apply.operation c.in-Apply.operands c.binds_operands-rises.result c.in_ok-lowered-in-Apply.lowered l
+    c.binds_operands-rises.ensures
+    (subst (λ (es : List Typed). AreLowered c.args.design.now c.args.bodies.now c.args.depth c.binds_operands-rises.result c.args.names.now es c.in_ok-lowered-in-Apply.lowered)
+    c.as_slice-operands.ensures c.in_ok-lowered-in-Apply.ensures)
+    made types of design bodies are))
+    c.applied.ensures
+
+pub lower_expression-lower_all-requires-in-If : goal.lower_expression-lower_all-requires-in-If
+lower_expression-lower_all-requires-in-If t c =
+    (omega (arith, c.decreases, ap count c.in-If.is, count-If c.in-If.conditions c.in-If.arms, ap (sum_by count) c.as_slice-conditions.ensures), tt)
+
+pub lower_expression-lower_all-requires-in-If-2 : goal.lower_expression-lower_all-requires-in-If-2
+lower_expression-lower_all-requires-in-If-2 t c =
+    (omega (arith, c.decreases, ap count c.in-If.is, count-If c.in-If.conditions c.in-If.arms, ap (sum_by count) c.as_slice-arms.ensures), tt)
+
+pub lower_expression-returns-in_ok-branches-in-If : goal.lower_expression-returns-in_ok-branches-in-If
+lower_expression-returns-in_ok-branches-in-If t c =
+    on_ok c.chosen.result
+    (λ l made types of design bodies are h.
+    at_form c.args.design.now (length c.args.bodies.now) c.args.depth c.args.names.now types c.args.of.now (typed.If c.in-If.conditions c.in-If.arms) of l c.in-If.is h
+    (if-lowered c.args.design.now c.args.bodies.now c.args.depth c.args.names.now c.in-If.conditions c.in-If.arms c.in_ok-tests-in-If.tests c.in_ok-branches-in-If.branches l
+    (subst (λ (es : List Typed). AreLowered c.args.design.now c.args.bodies.now c.args.depth false c.args.names.now es c.in_ok-tests-in-If.tests) c.as_slice-conditions.ensures c.in_ok-tests-in-If.ensures)
+    (subst (λ (es : List Typed). AreLowered c.args.design.now c.args.bodies.now c.args.depth false c.args.names.now es c.in_ok-branches-in-If.branches) c.as_slice-arms.ensures c.in_ok-branches-in-If.ensures)
+    made types of design bodies are))
+    c.chosen.ensures
+
+pub lower_expression-lower_steps-requires : goal.lower_expression-lower_steps-requires
+lower_expression-lower_steps-requires t c =
+    (omega (arith, c.decreases, ap count c.in-Block.is, count-Block c.in-Block.steps, ap (sum_by count_step) c.as_slice.ensures), tt)
+
+pub lower_expression-returns-in-Block : goal.lower_expression-returns-in-Block
+lower_expression-returns-in-Block t c =
+    on_ok c.lower_steps.result
+    (λ l made types of design bodies are h.
+    at_form c.args.design.now (length c.args.bodies.now) c.args.depth c.args.names.now types c.args.of.now (typed.Block c.in-Block.steps) of l c.in-Block.is h
+    (block-lowered c.args.design.now c.args.bodies.now c.args.depth c.args.names.now c.in-Block.steps l
+    (subst (λ (steps : List Step). AreLoweredSteps c.args.design.now c.args.bodies.now c.args.depth c.args.names.now steps l) c.as_slice.ensures made)
+    types of design bodies are))
+    c.lower_steps.ensures
+
+-- ---- expressions side by side
+
+pub lower_all-loop-one-preserved : goal.lower_all-loop-one-preserved
+lower_all-loop-one-preserved t c =
+    let before = c.loop-one.invariant in
+    let pushed : c.push.new.self ≡ c.loop-one.all ++ c.in_ok-lowered.lowered ∷ [] = c.in_ok-push.ensures.ok in
+    record {
+      place = c.in_ok-at.ensures ∙ ap (λ k. if c.args.rises then k + 1 else k) before.place ∙ sym (behind-next c.args.rises c.args.depth c.loop-one.one-index);
+      count = omega (arith, ap length pushed, length-append c.loop-one.all (c.in_ok-lowered.lowered ∷ []), before.count);
+      lowered = subst (λ (ls : List Lowered). AreLowered c.args.design.now c.args.bodies.now c.args.depth c.args.rises c.args.names.now (take (c.loop-one.one-index + 1) c.args.of.now) ls) (sym pushed)
+          (lowered-push c.args.design.now c.args.bodies.now c.args.depth c.args.rises c.args.names.now c.args.of.now c.loop-one.one-index c.loop-one.at c.one-item.result c.loop-one.all
+          c.in_ok-lowered.lowered c.loop-one-test.true before.count before.place before.lowered
+          (subst (λ (e : Typed). IsLowered c.args.design.now c.args.bodies.now c.loop-one.at c.args.names.now e c.in_ok-lowered.lowered) c.one-item.is c.in_ok-lowered.ensures));
+    }
+
+-- ---- steps
+
+pub lower_steps-lower_let-requires : goal.lower_steps-lower_let-requires
+lower_steps-lower_let-requires t c =
+    (omega (arith, c.decreases, count-first c.args.steps.now c.in-Some.rest.now c.in-Some.step.now c.in-Some.ensures.cases.0, ap count_step c.in-Let.is, count-Let c.in-Let.value), tt)
+
+pub lower_steps-lower_expression-requires : goal.lower_steps-lower_expression-requires
+lower_steps-lower_expression-requires t c =
+    (omega (arith, c.decreases, count-first c.args.steps.now c.in-Some.rest.now c.in-Some.step.now c.in-Some.ensures.cases.0, ap count_step c.in-Do.is, count-Do c.in-Do.value), tt)
+
+pub lower_steps-lower_steps-requires : goal.lower_steps-lower_steps-requires
+lower_steps-lower_steps-requires t c =
+    (omega (arith, c.decreases, count-first c.args.steps.now c.in-Some.rest.now c.in-Some.step.now c.in-Some.ensures.cases.0, ap count_step c.in-Do.is, count-Do c.in-Do.value), tt)
+
+pub lower_steps-lower_expression-requires-in-Give : goal.lower_steps-lower_expression-requires-in-Give
+lower_steps-lower_expression-requires-in-Give t c =
+    (omega (arith, c.decreases, count-first c.args.steps.now c.in-Some.rest.now c.in-Some.step.now c.in-Some.ensures.cases.0, ap count_step c.in-Give.is, count-Give c.in-Give.value), tt)
+
+pub lower_steps-returns-in_ok-second-in-Do : goal.lower_steps-returns-in_ok-second-in-Do
+lower_steps-returns-in_ok-second-in-Do t c =
+    on_ok c.one_after_another.result
+    (λ l h. subst (λ (steps : List Step). AreLoweredSteps c.args.design.now c.args.bodies.now c.args.depth c.args.names.now steps l)
+    (sym (c.in-Some.ensures.cases.0 ∙ ap (λ (s : Step). s ∷ c.in-Some.rest.now) c.in-Do.is))
+    (do-lowered c.args.design.now c.args.bodies.now c.args.depth c.args.names.now c.in-Do.value c.in-Some.rest.now c.in_ok-first-in-Do.first c.in_ok-second-in-Do.second l
+    c.in_ok-first-in-Do.ensures c.in_ok-second-in-Do.ensures h))
+    c.one_after_another.ensures
+
+pub lower_steps-returns-in-Give : goal.lower_steps-returns-in-Give
+lower_steps-returns-in-Give t c =
+    on_ok c.lower_expression-in-Give.result
+    (λ l h. subst (λ (steps : List Step). AreLoweredSteps c.args.design.now c.args.bodies.now c.args.depth c.args.names.now steps l)
+    (sym (c.in-Some.ensures.cases.0 ∙ ap (λ (s : Step). s ∷ c.in-Some.rest.now) c.in-Give.is))
+    (give-lowered c.args.design.now c.args.bodies.now c.args.depth c.args.names.now c.in-Give.value c.in-Some.rest.now l h))
+    c.lower_expression-in-Give.ensures
+
+pub lower_let-returns : goal.lower_let-returns
+lower_let-returns t c =
+    let-lowered c.args.design.now c.args.bodies.now c.args.depth c.args.names.now c.args.value.now c.args.rest.now c.in_ok-first.first c.in_ok-second.second c.in_ok-deeper.field-0 c.in_ok-bind.field-0
+    c.in_ok-first.ensures c.in_ok-deeper.ensures
+    (subst (λ (names : List Bound). AreLoweredSteps c.args.design.now c.args.bodies.now c.in_ok-deeper.field-0 names c.args.rest.now c.in_ok-second.second) c.bind-inside.ensures c.in_ok-second.ensures)
+    c.in_ok-bind.ensures
