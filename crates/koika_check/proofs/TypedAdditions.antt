@@ -34,6 +34,7 @@ each-at-push {X} P xs y old new n x e = by_place (found-in-push xs y n x e)
     by_place (inl e) = old n x e
     by_place (inr e) = subst (λ k. P k x) (sym e.0) (subst (P (length xs)) e.1 new)
 
+-- what holds of all holds of all in reverse
 pub all-reverse : {X : Type 0} (P : X → Type 0) (xs : List X) → All P xs → All P (reverse xs)
 all-reverse P xs h k d lt =
     let within : k < length xs = omega (arith, lt, length-reverse xs) in
@@ -42,6 +43,7 @@ all-reverse P xs h k d lt =
 -- ---- what is declared, in a design with more
 
 module _ (d e : Checked) (g : Extends d e) (h : IsTypedSoFar d) where
+  -- a struct, a register, an input, a function and a rule that were declared
   pub struct-stays : (number : ℕ) (s : Struct) → IsStruct d number s → IsStruct e number s
   struct-stays number s is = record {
     fields = λ k f lt. (type-stays d e g (get_or s.fields k f).of (is.fields k f lt).0, (is.fields k f lt).1);

@@ -25,6 +25,7 @@ Sound m = (scope : Scope) → IsGood scope → (x : Typing) → m scope ≡ Give
 
 -- ---- chains
 
+-- operators and operands behind the first ones
 join_all : (scope : Scope) → IsGood scope → (rest : List Joining) (before after : Joined) → AllByRecursion (λ (j : Joining). Sound j.operand) rest → IsJoined scope before → 1 ≤ length before.operators →
     one_by_one (join_in scope) rest before ≡ Gives after → IsJoined scope after × (1 ≤ length after.operators)
 join_all scope good [] before after sound h some e = subst (λ (j : Joined). IsJoined scope j × (1 ≤ length j.operators)) (gives-same before after e) (h, some)
@@ -34,6 +35,7 @@ join_all scope good (j ∷ rest) before after sound h some e =
     let it = join-next scope j.operator right.0 before next.0 h (sound.0 scope good right.0 right.1) right.2 in
     join_all scope good rest next.0 after sound.1 it.0 it.1 next.2
 
+-- a chain of at least one operator
 pub chain-typed : (scope : Scope) → IsGood scope → (rest : List Joining) (first x : Typing) → 0 < length rest → AllByRecursion (λ (j : Joining). Sound j.operand) rest → IsTyped scope first →
     chain_in scope rest first ≡ Gives x → IsTyped scope x
 chain-typed scope good [] first x some sound h e = absurd (omega (arith, some))
@@ -60,6 +62,7 @@ IsStepped d locals one =
     ((l : Local) × StepHasType d (length d.functions) one.step (types_of locals) (Binds l.of) × IsType d l.of × (one.behind ≡ scope_at d (l ∷ locals))) ⊎
     (StepHasType d (length d.functions) one.step (types_of locals) Runs × (one.behind ≡ scope_at d locals))
 
+-- what a statement comes to is so in each good scope
 abbrev pub SoundStep : Stepped → Type 0
 SoundStep m = (d : Checked) (locals : List Local) → IsGood (scope_at d locals) → (one : Stepping) → m (scope_at d locals) ≡ Gives one → IsStepped d locals one
 
@@ -132,5 +135,6 @@ module _ (d : Checked) (start : List Local) where
       let all = bind-gives (one_by_one run statements begin) (close place last) x e in
       close_typed place last all.0 x last_sound (run_all statements begin all.0 sound (record { locals = start; behind = refl; good = good; rest = λ tail of t. t }) all.1) all.2
 
+-- a block of such statements, and a last expression
 pub block-typed : (place : ℕ) (statements : List Stepped) (last : Option Meaning) → AllByRecursion SoundStep statements → IfSome last Sound → Sound (block_from place statements last)
 block-typed place statements last sound last_sound scope good x e = block_typed scope.design scope.locals place statements last x good sound last_sound e

@@ -68,6 +68,7 @@ called-applies d n c e =
     function_called d f (at d.functions f) tables c refl (table_called d t (at d.tables t) hosts c refl (host_called d h (at d.hosts h) c refl))
     (found-some (or_else (called_function f (at d.functions f)) tables) (wrong UNKNOWN_NAME n.place) c e)
 
+-- arguments that agree with parameters are of their types
 arguments_are : (parameters : List ValueType) (arguments : List Part) → length arguments ≡ length parameters → arguments_agree parameters arguments ≡ None → PartsAre arguments parameters
 arguments_are [] [] same e = tt
 arguments_are [] (p ∷ arguments) same e = absurd (omega (arith, same))
@@ -77,6 +78,7 @@ arguments_are (t ∷ parameters) (p ∷ arguments) same e =
     let rest = earlier-both (arguments_agree parameters arguments) None both.1 in
     (agrees-is (Some t) p both.0, arguments_are parameters arguments (omega (arith, same)) rest.0)
 
+-- a call
 pub call-typed : (scope : Scope) (n : Name) (c : Called) (values : List Typing) (x : Typing) → called scope.design n ≡ Gives c → AllByRecursion (IsTyped scope) values → call n c values ≡ Gives x → IsTyped scope x
 call-typed scope n c values x at h e =
     let all = where-all (holds (nat_eq (length values) (length c.parameters)) (wrong WRONG_ARGUMENT_COUNT n.place) ∷ arguments_agree c.parameters (parts_of values) ∷ []) (applied c.gives n.place c.operation values) x e in
@@ -105,6 +107,7 @@ same_parts : (fields : List FieldTyping) → map (λ (g : Given). g.part) (map g
 same_parts [] = refl
 same_parts (f ∷ fields) = ap (λ (ps : List Part). f.typing.part ∷ ps) (same_parts fields)
 
+-- a struct of given fields
 pub struct-typed : (scope : Scope) → IsGood scope → (number place close : ℕ) (fields : List FieldTyping) (x : Typing) → AllByRecursion (λ (f : FieldTyping). IsTyped scope f.typing) fields →
     struct_in scope.design number place close fields ≡ Gives x → IsTyped scope x
 struct-typed scope good number place close fields x h e =
@@ -148,6 +151,7 @@ are_arms arms (b ∷ []) few = inl (all_of arms)
     all_of (a ∷ arms) = omega (arith, all_of arms)
 are_arms arms (b ∷ c ∷ last) few = absurd (omega (arith, few))
 
+-- an `if` of arms, with the body of `else` if there is one
 pub conditional-typed : (scope : Scope) (arms : List ArmTyping) (last : List Typing) (x : Typing) → length last ≤ 1 → AllByRecursion (IsArmed scope) arms → AllByRecursion (IsTyped scope) last →
     conditional arms last ≡ Gives x → IsTyped scope x
 conditional-typed scope arms last x few h k e =

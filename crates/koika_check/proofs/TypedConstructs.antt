@@ -52,6 +52,7 @@ IsTyped scope t = HasType scope.design (length scope.design.functions) t.typed (
 
 -- ---- operations on parts
 
+-- the operands are of these types, one by one
 pub operands-typed : (scope : Scope) (operands : List Typing) (types : List ValueType) → AllByRecursion (IsTyped scope) operands → PartsAre (parts_of operands) types →
     Pairwise (λ x t. HasType scope.design (length scope.design.functions) x (types_in scope) (Some t)) (typed_of operands) types
 operands-typed scope [] [] h are = tt
@@ -60,6 +61,7 @@ operands-typed scope (x ∷ operands) [] h are = absurd are
 operands-typed scope (x ∷ operands) (t ∷ types) h are =
     (subst (HasType scope.design (length scope.design.functions) x.typed (types_in scope)) are.0 h.0, operands-typed scope operands types h.1 are.1)
 
+-- an operation on them
 pub applied-typed : (scope : Scope) (of : Option ValueType) (place : ℕ) (o : Operation) (operands : List Typing) (types : List ValueType) → AllByRecursion (IsTyped scope) operands → PartsAre (parts_of operands) types →
     Applies scope.design (length scope.design.functions) o types of → IsTyped scope (applied of place o operands)
 applied-typed scope of place o operands types h are applies =
@@ -123,6 +125,7 @@ register-there d n number e =
     let it = at-index d.registers number (omega (arith, within, length-map d.registers (λ (r : Register). r.name))) in
     (it.0, it.1)
 
+-- a read, a write and the end of a rule
 pub read-typed : (scope : Scope) (place port : ℕ) (r : Name) (x : Typing) → port < 4 → read_in scope.design place port r ≡ Gives x → IsTyped scope x
 read-typed scope place port r x lt e =
     let number = bind-gives (register scope.design r) _ x e in
@@ -190,6 +193,7 @@ concatenated-typed left right of e =
     let few = leb-true sum 128 (holds-true (nat_le sum 128) (wrong WRONG_WIDTH left.place) all.1.1.0) in
     (bits a.0, bits b.0, bits (a.0 + b.0), a.1, b.1, sym all.0 ∙ ap (λ w. Some (bits w)) same, (a.0, b.0, refl, refl, omega (arith, same, few), refl))
 
+-- each operator
 pub operated-typed : (o : BinaryOperator) (left right : Part) (of : Option ValueType) → operated o left right ≡ Gives of →
     (l : ValueType) × (r : ValueType) × (next : ValueType) × (left.of ≡ Some l) × (right.of ≡ Some r) × (of ≡ Some next) × Operates o l r next
 operated-typed binary.Or left right of e = calculated-typed left right of e
@@ -224,6 +228,7 @@ parts_push [] (u ∷ types) x t are is = absurd are
 parts_push (y ∷ operands) [] x t are is = absurd are
 parts_push (y ∷ operands) (u ∷ types) x t are is = (are.0, parts_push operands types x t are.1 is)
 
+-- one more of a list of which each is so
 pub each-push : {X : Type 0} (P : X → Type 0) (xs : List X) (x : X) → AllByRecursion P xs → P x → AllByRecursion P (xs ++ x ∷ [])
 each-push P [] x h p = (p, tt)
 each-push P (y ∷ xs) x h p = (h.0, each-push P xs x h.1 p)
@@ -238,6 +243,7 @@ pub record IsJoined (scope : Scope) (j : Joined) : Type 0 where
   pub chains : Chains j.operators t ts whole
   pub left : j.left.of ≡ Some whole
 
+-- the first operator of a chain, and one more
 pub join-first : (scope : Scope) (o : BinaryOperator) (first right : Typing) (j : Joined) → IsTyped scope first → IsTyped scope right →
     join o right (record { left = first.part; operators = []; operands = first ∷ [] }) ≡ Gives j → IsJoined scope j × (1 ≤ length j.operators)
 join-first scope o first right j h k e =
@@ -276,6 +282,7 @@ join-next scope o right before j b k e =
       omega (arith, length-append before.operators (o ∷ [])),
     )
 
+-- the whole chain
 pub chained-typed : (scope : Scope) (j : Joined) → IsJoined scope j → 1 ≤ length j.operators → IsTyped scope (chained j)
 chained-typed scope j h some =
     applied-typed scope j.left.of j.left.place (operation.Chain j.operators) j.operands (h.t ∷ h.ts) h.typed h.are (some, h.whole, h.chains, h.left)
@@ -313,6 +320,7 @@ postfix_from scope suffixes primary x t h is e =
     subst (IsTyped scope) (gives-same (applied all.0.whole.of all.0.whole.place (operation.Select all.0.selections) (primary ∷ [])) x all.2)
     (applied-typed scope all.0.whole.of all.0.whole.place (operation.Select all.0.selections) (primary ∷ []) (t ∷ []) (h, tt) (is, tt) (it.0, it.2, it.1))
 
+-- a value behind which suffixes stand
 pub postfix-typed : (scope : Scope) (suffixes : List Suffix) (primary x : Typing) → 0 < length suffixes → IsTyped scope primary → postfix scope.design suffixes primary ≡ Gives x → IsTyped scope x
 postfix-typed scope [] primary x some h e = absurd (omega (arith, some))
 postfix-typed scope (s ∷ suffixes) primary x some h e =

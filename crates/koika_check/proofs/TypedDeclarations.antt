@@ -92,6 +92,7 @@ widths_fit : (w : ℕ) (members : List WrittenMember) → AllByRecursion IsMembe
 widths_fit w [] is fit = tt
 widths_fit w (m ∷ members) is fit = ((is.0.1, has-width w m.value fit.0), widths_fit w members is.1 fit.1)
 
+-- an enum
 pub enum-fits : (d : Checked) (n : Name) (width : Width) (members : List WrittenMember) (x : EnumDecl) → All IsMember members → enum_with d n width members ≡ Gives x → IsEnumSoFar x
 enum-fits d n width members x is e =
     let w = width.number.value in
@@ -152,6 +153,7 @@ is-among d t h = by_base t.base (some-base d t h)
     by_base (base.Enum n) some = tt
     by_base (base.Struct n) some = let s = looked-up (λ (s : Struct). s.width) d.structs n some in slice_get_within d.structs n s.0 s.1
 
+-- a struct
 pub struct-good : (d : Checked) (n : Name) (written : List WrittenField) (x : Struct) → struct_with d n written ≡ Gives x →
     All (λ (f : Field). IsType d f.of) x.fields × AreDistinct x.fields × (x.width ≡ min (sum_by (λ (f : Field). width_of d f.of) x.fields) 129)
 struct-good d n written x e =
@@ -164,6 +166,7 @@ struct-good d n written x e =
 
 -- ---- registers and inputs
 
+-- a register with its first value
 pub register-good : (d : Checked) → IsTypedSoFar d → (n : Name) (written : TypeExpression) (first : Constant) (x : Register) → IsConstant first → register_with d n written first ≡ Gives x → IsRegister d x
 register-good d good n written first x is e =
     let name = bind-gives (new_name d n) (register_of d written first) x e in
@@ -175,6 +178,7 @@ register-good d good n written first x is e =
     let same : it.0 ≡ of.0 = same_Some it.0 of.0 (sym it.1 ∙ agrees-is (Some of.0) known.0.part all.1.0) in
     subst (IsRegister d) all.0 (record { of = type-valid d written of.0 of.1; width = refl; first = subst (IsOf d known.0.value) same it.2 })
 
+-- an input
 pub input-good : (d : Checked) (n : Name) (written : TypeExpression) (x : Input) → input_with d n written ≡ Gives x → IsInput d x
 input-good d n written x e =
     let name = bind-gives (new_name d n) (input_of d written) x e in
@@ -191,6 +195,7 @@ entries_fit w (l ∷ entries) is fit = ((is.0, has-width w l fit.0), entries_fit
 abbrev IsGoodTable : Table → Type 0
 IsGoodTable t = IsTable t.spec × IsWidth t.spec.out_width
 
+-- a table
 pub table-good : (d : Checked) (n : Name) (input output : Width) (entries : List Literal) (x : Table) → All IsLiteral entries → table_with d n input output entries ≡ Gives x → IsGoodTable x
 table-good d n input output entries x is e =
     let name = bind-gives (new_name d n) (table_of n input output entries) x e in
@@ -272,6 +277,7 @@ pub record IsGoodFunction (d : Checked) (f : Function) : Type 0 where
   pub result : IfSome f.result (IsType d)
   pub body : HasType d (length d.functions) f.body (reverse f.parameters) f.result
 
+-- a function
 pub function-good : (d : Checked) → IsTypedSoFar d → (n : Name) (parameters : List WrittenField) (written : Option TypeExpression) (body : Block) (x : Function) → IsBlock body →
     function_with d n parameters written body ≡ Gives x → IsGoodFunction d x
 function-good d good n parameters written body x is e =
@@ -292,6 +298,7 @@ function-good d good n parameters written body x is e =
           (subst (HasType d (length d.functions) typed.0.typed (types_of locals.0)) (agrees-is of.0 typed.0.part all.1.0) has);
     })
 
+-- a rule
 pub rule-good : (d : Checked) → IsTypedSoFar d → (n : Name) (body : Block) (x : Rule) → IsBlock body → rule_with d n body ≡ Gives x → HasType d (length d.functions) x.body [] None
 rule-good d good n body x is e =
     let name = bind-gives (new_name d n) (rule_of d body) x e in

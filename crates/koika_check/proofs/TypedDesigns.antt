@@ -278,6 +278,7 @@ struct_is d h x good =
       good.1,
     )
 
+-- an `assert` marks a rule that there is
 asserted : (d : Checked) (n : Name) (rule : ℕ) → assert_with d n ≡ Gives rule → rule < length d.rules
 asserted d n rule e =
     let number = bind-gives (found (rule_named d n.text) (wrong UNKNOWN_NAME n.place)) (assert_of d n) rule e in
@@ -291,6 +292,7 @@ abbrev pub IsSoFar : List HostSpec → Checked → Type 0
 IsSoFar hosts d = IsTypedSoFar d × All (λ (h : Host). Contains hosts h.spec) d.hosts
 
 module _ (hosts : List HostSpec) (takes : All (λ (h : HostSpec). TakesWidth h.kind h.in_width) hosts) where
+  -- one more declaration of the grammar
   pub declared-typed : (x : Declaration) (d e : Checked) → IsDeclaration x → IsSoFar hosts d → declare hosts x d ≡ Gives e → IsSoFar hosts e
   declared-typed (declarations.Enum n width members) d e is h gives =
       let one = bind-gives (enum_with d n width members) _ e gives in

@@ -75,6 +75,7 @@ extends-same d = record {
 -- ---- types
 
 module _ (d e : Checked) (g : Extends d e) where
+  -- a type of values has the same width, and is one
   pub base-stays : (b : BaseType) → 1 ≤ base_width d b → base_width e b ≡ base_width d b
   base-stays (base.Bits w) h = refl
   base-stays (base.Enum n) h =
@@ -95,6 +96,7 @@ module _ (d e : Checked) (g : Extends d e) where
   pub types-stay : (ts : List ValueType) → All (IsType d) ts → All (IsType e) ts
   types-stay ts h = All-weaker (IsType d) (IsType e) type-stays ts h
 
+  -- a struct has the same fields, of the same width together
   pub fields-stay : (number : ℕ) (s : Struct) → slice_get d.structs number ≡ Some s → fields_of e number ≡ fields_of d number
   fields-stay number s h = ap fields_by (g.structs number s h ∙ sym h)
 
@@ -112,6 +114,7 @@ pub each-replicate : {X : Type 0} (P : X → Type 0) (n : ℕ) (x : X) → P x �
 each-replicate P zero x p = tt
 each-replicate P (suc n) x p = (p, each-replicate P n x p)
 
+-- the types of fields
 pub each-field : (d : Checked) (fields : List Field) → All (λ (f : Field). IsType d f.of) fields → AllByRecursion (IsType d) (map (λ (f : Field). f.of) fields)
 each-field d [] h = tt
 each-field d (f ∷ fields) h = let P : Field → Type 0 = λ f. IsType d f.of in (All-head P f fields h, each-field d fields (All-tail P f fields h))
@@ -155,11 +158,13 @@ module _ (d e : Checked) (g : Extends d e) (h : IsTypedSoFar d) where
   value_layer x y same t valid is =
       close-IsOf e (roll-Value x) x refl t (part_stays x (subst EachValue same (each_value y)) t valid (open-IsOf d (roll-Value x) x refl t is))
 
+  -- a value is of the type that it was of
   pub value-stays : (v : Value) (t : ValueType) → IsType d t → IsOf d v t → IsOf e v t
   value-stays = ind-Value ValueStays value_layer
 
 -- ---- operations
 
+-- what operators make of values has 1 to 128 bits
 pub operates-valid : (d : Checked) (o : BinaryOperator) (left right of : ValueType) → IsType d left → IsType d right → Operates o left right of → IsType d of
 operates-valid d o left right of l r h = by_operator o h
   where
@@ -196,6 +201,7 @@ chains-valid d (o ∷ operators) t [] of l r h = absurd h
 chains-valid d (o ∷ operators) t (u ∷ ts) of l r h = chains-valid d operators h.0 ts of (operates-valid d o t u h.0 l r.0 h.1) r.1 h.2
 
 module _ (d e : Checked) (g : Extends d e) (h : IsTypedSoFar d) where
+  -- a part of a value is a value, and is taken in the same way
   pub take-stays : (s : Selection) (whole of : ValueType) → IsType d whole → Takes d s whole of → IsType d of × Takes e s whole of
   take-stays (selection.Field number lowest width) whole of valid t =
       let s = field-there d t.0 number t.1 t.3 in
@@ -234,6 +240,7 @@ module _ (d e : Checked) (g : Extends d e) (h : IsTypedSoFar d) where
   none : (of : Option ValueType) → of ≡ None → IsValid of
   none of e = subst IsValid (sym e) tt
 
+  -- an operation applies to the same types, and what it gives is valid
   applies-stays : (n m : ℕ) → n ≤ m → (o : Operation) (types : List ValueType) (of : Option ValueType) → AllByRecursion (IsType d) types → Applies d n o types of → IsValid of × Applies e m o types of
   applies-stays n m le (operation.Unary operators) [] of valid a = absurd a
   applies-stays n m le (operation.Unary operators) (t ∷ []) of valid a = (given of t a.2 valid.0, a)
@@ -407,6 +414,7 @@ module _ (d e : Checked) (g : Extends d e) (h : IsTypedSoFar d) (n m : ℕ) (le 
       let it = step_does x (subst EachStep same (each_step y)) locals doing types opens in
       (it.0, close-step e m (roll-Step x) x refl locals doing it.1)
 
+  -- an expression has the type that it had, and the type is valid
   pub typed-stays : (x : Typed) (locals : List ValueType) (of : Option ValueType) → All (IsType d) locals → HasType d n x locals of → IfSome of (IsType d) × HasType e m x locals of
   typed-stays = ind-Typed StepStays TypedStays step_layer typed_layer
 

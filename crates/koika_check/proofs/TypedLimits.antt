@@ -34,6 +34,7 @@ Counted d x e = Counts d e (length (register_place x)) (length (rule_place x)) (
 none_more : (d : Checked) → Counts d d 0 0 0
 none_more d = (omega arith, omega arith, omega arith)
 
+-- what a declaration adds, by its kind
 counted : (hosts : List HostSpec) (x : Declaration) (d e : Checked) → declare hosts x d ≡ Gives e → Counted d x e
 counted hosts (declarations.Enum n width members) d e gives =
     let one = bind-gives (enum_with d n width members) _ e gives in
@@ -84,6 +85,7 @@ parts-counted hosts xs e gives = let all = all_counted hosts xs nothing e gives 
 
 -- ---- limits
 
+-- there are at most as many places as the limit
 few_places : (limit number : ℕ) (places : List ℕ) → at_most limit number places ≡ None → length places ≤ limit
 few_places limit number places e = by_order (order (length places) limit)
   where
@@ -107,6 +109,7 @@ pub record IsWithin (tree : Tree) (size : Size) : Type 0 where
   pub light : size.weight ≤ MAX_WEIGHT
   pub shallow : size.depth ≤ MAX_DEPTH
 
+-- where no limit has a fault
 pub limits-kept : (tree : Tree) (size : Size) → limits tree size ≡ None → IsWithin tree size
 limits-kept tree size e =
     let both = earlier-both (counts_within tree) (size_within tree.schedule size) e in

@@ -54,6 +54,7 @@ pub earlier-both : (a b : Condition) → earlier a b ≡ None → (a ≡ None) �
 earlier-both None b e = (refl, e)
 earlier-both (Some f) b e = absurd cc
 
+-- each of the conditions holds
 pub each-none : {X : Type 0} (look : X → Condition) (xs : List X) → each look xs ≡ None → AllByRecursion (λ x. look x ≡ None) xs
 each-none look [] e = tt
 each-none look (x ∷ xs) e = let both = earlier-both (look x) (each look xs) e in (both.0, each-none look xs both.1)
@@ -87,6 +88,7 @@ same-type a b e =
     let both = both-true (same_base a.base b.base) (bytes_eq a.lengths b.lengths) e in
     ap₂ type_with (same-base a.base b.base both.0) (same-is a.lengths b.lengths both.1)
 
+-- types that the checker finds the same are equal
 pub same-of : (a b : Option ValueType) → same a b ≡ true → a ≡ b
 same-of None None e = refl
 same-of None (Some b) e = absurd cc
@@ -106,6 +108,7 @@ bits-by (base.Enum v) (l ∷ lengths) w e = absurd cc
 bits-by (base.Struct v) [] w e = absurd cc
 bits-by (base.Struct v) (l ∷ lengths) w e = absurd cc
 
+-- a type that is bits, a struct or an array
 pub as-bits : (of : Option ValueType) (w : ℕ) → as_bits of ≡ Some w → of ≡ Some (bits w)
 unfolding type_with
 as-bits None w e = absurd cc
@@ -158,6 +161,7 @@ named-type d n t e =
     let all = where-all (holds (is_width (base_width d b.0)) (wrong WRONG_WIDTH n.place) ∷ []) (of_base b.0) t b.2 in
     subst (IsType d) all.0 (base-type d b.0 (is-width (base_width d b.0) (holds-true (is_width (base_width d b.0)) (wrong WRONG_WIDTH n.place) all.1.0)))
 
+-- what a written type comes to is a type of values
 pub type-valid : (d : Checked) (written : TypeExpression) (t : ValueType) → type_of d written ≡ Gives t → IsType d t
 type-valid d (Bits width) t e =
     let all = where-all (holds (is_width width.number.value) (wrong WRONG_WIDTH width.place) ∷ []) (bits width.number.value) t e in
@@ -229,6 +233,7 @@ field_both d whole s (Some k) (Some t) one is at e =
     let takes : TakesField d k _ (width_of d t) (of_base (base.Struct s)) t = (s, f.0, refl, f.1, sym f.2, refl, ap (width_of d) (sym f.2)) in
     subst (λ (x : Selected). TakesOf d whole x × ReplacesOf d whole x) (same_Some it one e) ((of_base (base.Struct s), is, takes), (of_base (base.Struct s), is, takes))
 
+-- a field that is selected can be taken and replaced
 pub field-selected : (d : Checked) (whole : Part) (n : Name) (one : Selected) → select_field d whole n ≡ Gives one → TakesOf d whole one × ReplacesOf d whole one
 field-selected d whole n one e =
     let s = bind-gives (found (as_struct whole.of) (wrong_type whole)) _ one e in
@@ -264,6 +269,7 @@ slice_taken d whole high low one e =
     subst (TakesOf d whole) all.0
     (bits_taken d whole w.0 high.value low.value (as-bits whole.of w.0 (found-some (as_bits whole.of) (wrong_type whole) w.0 w.1)) (leb-true low.value high.value both.0) (ltb-true high.value w.0 both.1))
 
+-- what a suffix selects can be taken
 pub selected : (d : Checked) (whole : Part) (s : Suffix) (one : Selected) → select d whole s ≡ Gives one → TakesOf d whole one
 selected d whole (suffixes.Field n) one e = (field-selected d whole n one e).0
 selected d whole (suffixes.Index i) one e = index_taken d whole i (as_array whole.of) (as_bits whole.of) one refl refl e

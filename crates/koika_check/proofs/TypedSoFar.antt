@@ -63,6 +63,7 @@ looked-up f [] n h = absurd (omega (arith, h))
 looked-up f (x ∷ xs) zero h = (x, refl)
 looked-up f (x ∷ xs) (suc n) h = looked-up f xs n h
 
+-- and what is there is looked up
 pub lookup : {X : Type 0} (f : X → ℕ) (xs : List X) (n : ℕ) (x : X) → slice_get xs n ≡ Some x → slice_index (map f xs) n ≡ f x
 lookup f xs n x e = get_or_from_slice_get (map f xs) n (f x) 0 (slice_get-map f xs n ∙ ap (option_map f) e)
 
@@ -75,6 +76,7 @@ factor_some (suc w) l h = omega arith
 factor_most : (w l : ℕ) → 1 ≤ w * l → w * l ≤ 128 → w ≤ 128
 factor_most w l some most = grind arith
 
+-- bits, and bases, of 1 to 128 bits
 pub bits-type : (d : Checked) (w : ℕ) → IsWidth w → IsType d (bits w)
 bits-type d w h = (omega (arith, h.0), omega (arith, h.1))
 
@@ -100,6 +102,7 @@ item-type d n t h =
 
 -- ---- fields
 
+-- a struct of values, and a field, are declared
 pub struct-there : (d : Checked) (number : ℕ) → IsType d (of_base (base.Struct number)) → (s : Struct) × (slice_get d.structs number ≡ Some s)
 struct-there d number h = looked-up (λ (s : Struct). s.width) d.structs number (some-base d (of_base (base.Struct number)) h)
 
@@ -110,6 +113,7 @@ field-there d number i f e = by_struct (slice_get d.structs number) refl e
     by_struct None o e = absurd cc
     by_struct (Some s) o e = (s, o, e)
 
+-- the fields of structs are values
 pub field-type : (d : Checked) → IsTypedSoFar d → (number i : ℕ) (f : Field) → slice_get (fields_of d number) i ≡ Some f → IsType d f.of
 field-type d h number i f e =
     let s = field-there d number i f e in

@@ -80,6 +80,7 @@ module _ (hosts : List HostSpec) (tree : Tree) (d : Checked) (takes : All (λ (h
   so_far : IsSoFar hosts (made hosts tree d e).declared
   so_far = let m = made hosts tree d e in declarations-typed hosts takes tree.declarations m.declared is.declarations m.declares
 
+  -- the design is well typed
   pub typed-design : IsTypedDesign d
   typed-design =
       let m = made hosts tree d e in
@@ -90,6 +91,7 @@ module _ (hosts : List HostSpec) (tree : Tree) (d : Checked) (takes : All (λ (h
       (finished tree m.declared m.nodes so_far.0 within (omega (arith, counts.0, within.registers)) (omega (arith, counts.1, within.rules)) (omega (arith, counts.2, within.inputs))
       (omega (arith, fine.2, within.nodes)) fine.0 fine.1)
 
+  -- and its host functions are offered
   pub hosts-offered : All (λ (h : Host). Contains hosts h.spec) d.hosts
   hosts-offered = let m = made hosts tree d e in subst (λ (x : Checked). All (λ (h : Host). Contains hosts h.spec) x.hosts) m.is so_far.1
 
