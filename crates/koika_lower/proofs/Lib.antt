@@ -2,6 +2,7 @@ pub mod Accesses
 pub mod Arms
 pub mod Atoms
 pub mod Bindings
+pub mod Bodies
 pub mod Calls
 pub mod ChainValues
 pub mod Chains
@@ -10,8 +11,10 @@ pub mod Comparisons
 pub mod Compounds
 pub mod Constructs
 pub mod Copies
+pub mod Designs
 pub mod Groups
 pub mod Hosts
+pub mod Lists
 pub mod Lowerings
 pub mod MeaningLayers
 pub mod Names
@@ -27,6 +30,7 @@ pub mod Simulations
 pub mod Slices
 pub mod Steps
 pub mod TreeCounts
+pub mod TypeWidths
 pub mod TypingLayers
 pub mod ValueLayers
 pub mod Values

@@ -2,5 +2,7 @@ pub mod Actions
 pub mod Applied
 pub mod Expressions
 pub mod Forms
+pub mod Lowering
 pub mod Packing
+pub mod Rules
 pub mod Simulation

@@ -1,0 +1,139 @@
+-- The design of the core that is made of a typed design's registers, inputs, tables, hosts and rules is valid, and each of its
+-- rules does alone what the typed tree's rule does.
+use Rattle.std.proofs.Common.{◌≡◌, ℕ, ◌≤◌, List, [], ◌∷◌, length, map, take, Option, Some, None, slice_get, refl, ap, ap₂, sym, subst, ◌∙◌}
+use Rattle.std.proofs.Math.Seq.{take-length}
+use Rattle.std.proofs.lemmas.List.{length-map}
+use Rattle.std.proofs.lemmas.List.Elements.{All-map}
+use Rattle.std.proofs.lemmas.Simd.{map-map}
+use Rattle.std.specs.Prelude.{All}
+use Rattle.kw_bits.specs.BitVector.{BitVector}
+use Rattle.kw_bits.specs.Laws.{HasWidth}
+use Rattle.koika_types.specs.Values.{packed}
+use Rattle.koika_types.specs.declared.value.Value.{Value}
+use Rattle.typed_core.specs.Alone.{alone, alone_ports, outcome_of}
+use Rattle.typed_core.specs.Evaluation.{Ending, Value as Reached, Stop, Progress, Ports, evaluate}
+use Rattle.typed_core.specs.Valid.{ActionHasWidth, AreNodes, Declarations, IsHost, IsRegister as IsCoreRegister, IsTable, IsValid, IsWidth, TriesNoneTwice, declarations, externs_of}
+use Rattle.typed_core.specs.Widths.{HaveWidths}
+use Rattle.typed_core.specs.declared.design.HostSpec.{HostSpec}
+use Rattle.typed_core.specs.declared.design.InputDecl.{InputDecl}
+use Rattle.typed_core.specs.declared.design.Node.{Node}
+use Rattle.typed_core.specs.declared.design.Parts.{Parts}
+use Rattle.typed_core.specs.declared.design.RegDecl.{RegDecl}
+use Rattle.typed_core.specs.declared.design.Rule.{Rule as CoreRule}
+use Rattle.typed_core.specs.declared.design.TableSpec.{TableSpec}
+use Rattle.typed_core.specs.declared.outcome.Alone.{Alone}
+use Rattle.typed_core.specs.declared.outcome.Outcome.{Outcome}
+use Rattle.typed_core.specs.declared.outcome.Outcome.TheVariants as ends
+use Rattle.typed_core.specs.declared.outcome.Stopped.{Stopped}
+use Rattle.typed_core.specs.declared.outcome.Stopped.TheVariants as stopped
+use Rattle.typed_core.proofs.Typed.{PortsFit-alone}
+use Rattle.koika_check.specs.Meaning.{Setting, bodies_behind, meaning, setting}
+use Rattle.koika_check.specs.TypedAlone.{outcome_of as typed_outcome, typed_alone}
+use Rattle.koika_check.specs.Typing.{HasType, IsInput, IsRegister, IsTypedDesign}
+use Rattle.koika_check.specs.declared.checked.Checked.{Checked}
+use Rattle.koika_check.specs.declared.checked.Function.{Function}
+use Rattle.koika_check.specs.declared.checked.Host.{Host}
+use Rattle.koika_check.specs.declared.checked.Input.{Input}
+use Rattle.koika_check.specs.declared.checked.Register.{Register}
+use Rattle.koika_check.specs.declared.checked.Rule.{Rule}
+use Rattle.koika_check.specs.declared.checked.Table.{Table}
+use Rattle.koika_check.specs.declared.typed.ValueType.{ValueType}
+use Rattle.koika_lower.specs.Lowering.{DoesTheSame, IsLowered, input_of, register_of}
+use Rattle.koika_lower.specs.Rules.{ArePartsOf, IsRule}
+use Rattle.koika_lower.specs.Simulation.{Alike, AreBodies, AreNames, EndAlike, Lowers, Stands, declared_by, environment, world, widths_of_registers}
+use Rattle.koika_lower.specs.declared.lowered.Bound.{Bound}
+use Rattle.koika_lower.specs.declared.lowered.Lowered.{Lowered}
+use Rattle.koika_lower.proofs.Lists.{pairs-at, pairs-length, pairs-map, pairs-second}
+use Rattle.koika_lower.proofs.Values.{constant-stands}
+
+-- ---- one rule alone
+
+-- endings alike are one outcome
+same_outcome : (d : Checked) (of : Option ValueType) (x : Ending (Option Value) Stopped) (y : Ending BitVector Stopped) → EndAlike (Stands d of) x y → outcome_of y ≡ typed_outcome x
+same_outcome d of (Reached v) (Reached w) h = refl
+same_outcome d of (Reached v) (Stop c) h = absurd h
+same_outcome d of (Stop c) (Reached w) h = absurd h
+same_outcome d of (Stop stopped.Abort) (Stop c) h = subst (λ (z : Stopped). outcome_of (Stop z) ≡ ends.Abort) h refl
+same_outcome d of (Stop (stopped.Refused access)) (Stop c) h = subst (λ (z : Stopped). outcome_of (Stop z) ≡ ends.OwnClash access) h refl
+
+same_alone : (d : Checked) (of : Option ValueType) (p : Progress (Option Value) Stopped) (q : Progress BitVector Stopped) → Alike (widths_of_registers d) (Stands d of) p q →
+    (let a : Alone = record { events = q.events; outcome = outcome_of q.ending } in a) ≡ record { events = p.events; outcome = typed_outcome p.ending }
+same_alone d of p q h = ap₂ (λ es (o : Outcome). let a : Alone = record { events = es; outcome = o } in a) h.0 (same_outcome d of p.ending q.ending h.2)
+
+-- all functions may be called in a rule
+world-setting : (d : Checked) (inputs : List BitVector) (ports : Ports Stopped) → world d (length d.functions) inputs ports ≡ setting d inputs ports
+world-setting d inputs ports =
+    ap (λ (fs : List Function). bodies_behind (let s : Setting Stopped = record { design = d; inputs = inputs; ports = ports; bodies = [] } in s) fs) (take-length d.functions)
+
+rule-alone : (d : Checked) (r : Rule) (c : CoreRule) (inputs regs : List BitVector) → IsRule d r c → HaveWidths (map (λ (i : Input). i.width) d.inputs) inputs → HaveWidths (widths_of_registers d) regs →
+    alone (environment d inputs) regs c.body ≡ typed_alone d inputs regs r.body
+rule-alone d r c inputs regs is w held =
+    same_alone d None (meaning (setting d inputs (alone_ports regs)) r.body [] []) (evaluate (environment d inputs) (alone_ports regs) c.body [] [])
+    (subst (λ (s : Setting Stopped). Alike (widths_of_registers d) (Stands d None) (meaning s r.body [] []) (evaluate (environment d inputs) (alone_ports regs) c.body [] [])) (world-setting d inputs (alone_ports regs))
+    (is.body.means inputs (alone_ports regs) [] [] w (PortsFit-alone (widths_of_registers d) regs held) tt [] tt))
+
+-- a rule whose body is lowered where no name is bound
+pub rule-is : (d : Checked) (bodies : List Lowered) (names : List Bound) (r : Rule) (name : List ℕ) (l : Lowered) → IsTypedDesign d → AreBodies d bodies → length bodies ≡ length d.functions → names ≡ [] →
+    HasType d (length d.functions) r.body [] None → name ≡ r.name →
+    ((types : List ValueType) (t : Option ValueType) → IsTypedDesign d → AreBodies d bodies → AreNames d 0 names types → HasType d (length bodies) r.body types t →
+    Lowers d (length bodies) 0 names types t (λ s. meaning s r.body) l) →
+    IsRule d r (record { name = name; body = l.action })
+rule-is d bodies names r name l is are all none typed same lowers =
+    let one : Lowers d (length d.functions) 0 [] [] None (λ s. meaning s r.body) l =
+    subst (λ n. Lowers d n 0 [] [] None (λ s. meaning s r.body) l) all
+    (subst (λ (bs : List Bound). Lowers d (length bodies) 0 bs [] None (λ s. meaning s r.body) l) none
+    (lowers [] None is are (subst (λ (bs : List Bound). AreNames d 0 bs []) (sym none) tt) (subst (λ n. HasType d n r.body [] None) (sym all) typed))) in
+    record {
+      name = same;
+      body = subst (λ w. Lowers d (length d.functions) 0 [] [] None (λ s. meaning s r.body) (record { action = l.action; width = w })) one.width one;
+    }
+
+-- ---- the whole design
+
+module _ (d : Checked) (is : IsTypedDesign d) (p : Parts) (parts : ArePartsOf d p) where
+  open parts use {registers as regs, inputs, tables, hosts, rules, nodes}
+
+  same_declarations : declared_by d ≡ declarations p
+  same_declarations =
+      let widths : map (λ (r : Register). r.width) d.registers ≡ map (λ (r : RegDecl). r.width) p.regs = sym (ap (map (λ (r : RegDecl). r.width)) regs ∙ map-map (λ (r : RegDecl). r.width) register_of d.registers) in
+      let ins : map (λ (i : Input). i.width) d.inputs ≡ map (λ (i : InputDecl). i.width) p.inputs = sym (ap (map (λ (i : InputDecl). i.width)) inputs ∙ map-map (λ (i : InputDecl). i.width) input_of d.inputs) in
+      ap (λ rs. let a : Declarations = record { regs = rs; inputs = map (λ (i : Input). i.width) d.inputs; externs = record { tables = map (λ (t : Table). t.spec) d.tables; hosts = map (λ (h : Host). h.spec) d.hosts } } in a) widths ∙
+      ap (λ is. let a : Declarations = record { regs = map (λ (r : RegDecl). r.width) p.regs; inputs = is; externs = record { tables = map (λ (t : Table). t.spec) d.tables; hosts = map (λ (h : Host). h.spec) d.hosts } } in a) ins ∙
+      ap (λ ts. let a : Declarations = record { regs = map (λ (r : RegDecl). r.width) p.regs; inputs = map (λ (i : InputDecl). i.width) p.inputs; externs = record { tables = ts; hosts = map (λ (h : Host). h.spec) d.hosts } } in a) (sym tables) ∙
+      ap (λ hs. let a : Declarations = record { regs = map (λ (r : RegDecl). r.width) p.regs; inputs = map (λ (i : InputDecl). i.width) p.inputs; externs = record { tables = p.tables; hosts = hs } } in a) (sym hosts)
+
+  first_fits : (r : Register) → IsRegister d r → HasWidth (packed r.first) r.width
+  first_fits r h = subst (HasWidth (packed r.first)) (sym h.width) (constant-stands d is r.of r.first h.of h.first).2
+
+  pub parts-valid : IsValid p
+  parts-valid = record {
+    few_registers = subst (λ k. k ≤ 256) (sym (ap length regs ∙ length-map d.registers register_of)) is.few_registers;
+    registers = subst (λ (l : List RegDecl). All IsCoreRegister l) (sym regs) (All-map IsCoreRegister register_of d.registers (λ i r h. first_fits _ (is.registers i r h)));
+    few_inputs = subst (λ k. k ≤ 256) (sym (ap length inputs ∙ length-map d.inputs input_of)) is.few_inputs;
+    inputs = subst (λ (l : List InputDecl). All (λ (input : InputDecl). IsWidth input.width) l) (sym inputs)
+        (All-map (λ (input : InputDecl). IsWidth input.width) input_of d.inputs (λ i x h. let one = is.inputs i x h in subst IsWidth (sym one.width) one.of));
+    tables = subst (λ (l : List TableSpec). All IsTable l) (sym tables) (All-map IsTable (λ (t : Table). t.spec) d.tables (λ i t h. (is.tables i t h).0));
+    hosts = subst (λ (l : List HostSpec). All IsHost l) (sym hosts) (All-map IsHost (λ (h : Host). h.spec) d.hosts is.hosts);
+    few_rules = subst (λ k. k ≤ 256) (sym (pairs-length (IsRule d) d.rules p.rules rules)) is.few_rules;
+    rules = subst (λ (ds : Declarations). All (λ (c : CoreRule). ActionHasWidth ds c.body [] 0) p.rules) same_declarations
+        (pairs-second (IsRule d) (λ (c : CoreRule). ActionHasWidth (declared_by d) c.body [] 0) (λ r c h. h.body.typed [] tt) d.rules p.rules rules);
+    few_nodes = subst (λ (l : List Node). length l ≤ 1024) (sym nodes) is.few_nodes;
+    nodes = subst (λ k. AreNodes k p.nodes) (sym (pairs-length (IsRule d) d.rules p.rules rules)) (subst (AreNodes (length d.rules)) (sym nodes) is.nodes);
+    once = subst TriesNoneTwice (sym nodes) is.once;
+  }
+
+  same_environment : (ins : List BitVector) → (let e : _ = environment d ins in e) ≡ record { externs = externs_of p; inputs = ins }
+  same_environment ins = ap₂ (λ ts hs. record { externs = record { tables = ts; hosts = hs }; inputs = ins }) (sym tables) (sym hosts)
+
+  pub parts-lowered : IsLowered d p
+  parts-lowered = record {
+    registers = regs;
+    inputs = inputs;
+    tables = tables;
+    hosts = hosts;
+    names = pairs-map (IsRule d) (λ (r : Rule). r.name) (λ (c : CoreRule). c.name) (λ r c h. h.name) d.rules p.rules rules;
+    nodes = nodes;
+    alone = λ number r c at at' ins held w h.
+        subst (λ env. alone env held c.body ≡ typed_alone d ins held r.body) (same_environment ins)
+        (rule-alone d r c ins held (pairs-at (IsRule d) d.rules p.rules number r c rules at at') w h);
+  }

@@ -1,0 +1,47 @@
+-- What a design of the core is that a well typed design is lowered to: the same registers, inputs, rules and scheduler by name
+-- and packed value, and each rule does the same alone. After the compilation of Kôika (Bourgeat et al., PLDI 2020).
+use Rattle.std.specs.Prelude.{◌≡◌, ℕ, List, Some, map, slice_get}
+use Rattle.kw_bits.specs.BitVector.{BitVector}
+use Rattle.koika_types.specs.Values.{packed}
+use Rattle.typed_core.specs.Alone.{alone}
+use Rattle.typed_core.specs.Valid.{externs_of}
+use Rattle.typed_core.specs.Widths.{HaveWidths}
+use Rattle.typed_core.specs.declared.design.InputDecl.{InputDecl}
+use Rattle.typed_core.specs.declared.design.Parts.{Parts}
+use Rattle.typed_core.specs.declared.design.RegDecl.{RegDecl}
+use Rattle.typed_core.specs.declared.design.Rule.{Rule as CoreRule}
+use Rattle.koika_check.specs.TypedAlone.{typed_alone}
+use Rattle.koika_check.specs.declared.checked.Checked.{Checked}
+use Rattle.koika_check.specs.declared.checked.Host.{Host}
+use Rattle.koika_check.specs.declared.checked.Input.{Input}
+use Rattle.koika_check.specs.declared.checked.Register.{Register}
+use Rattle.koika_check.specs.declared.checked.Rule.{Rule}
+use Rattle.koika_check.specs.declared.checked.Table.{Table}
+
+-- a register of the core: its first value is packed
+abbrev pub register_of : Register → RegDecl
+register_of r = record { name = r.name; width = r.width; first = packed r.first }
+
+abbrev pub input_of : Input → InputDecl
+input_of i = record { name = i.name; width = i.width }
+
+abbrev pub register_widths : Checked → List ℕ
+register_widths d = map (λ (r : Register). r.width) d.registers
+
+abbrev pub input_widths : Checked → List ℕ
+input_widths d = map (λ (i : Input). i.width) d.inputs
+
+-- the rule of the core does alone what the typed tree's rule does, on all inputs and registers
+abbrev pub DoesTheSame : Checked → Parts → Rule → CoreRule → Type 0
+DoesTheSame d design r c = (inputs regs : List BitVector) → HaveWidths (input_widths d) inputs → HaveWidths (register_widths d) regs →
+    alone (record { externs = externs_of design; inputs = inputs }) regs c.body ≡ typed_alone d inputs regs r.body
+
+-- the design of the core is what the typed design is lowered to
+pub record IsLowered (d : Checked) (design : Parts) : Type 0 where
+  pub registers : design.regs ≡ map register_of d.registers
+  pub inputs : design.inputs ≡ map input_of d.inputs
+  pub tables : design.tables ≡ map (λ (t : Table). t.spec) d.tables
+  pub hosts : design.hosts ≡ map (λ (h : Host). h.spec) d.hosts
+  pub names : map (λ (c : CoreRule). c.name) design.rules ≡ map (λ (r : Rule). r.name) d.rules
+  pub nodes : design.nodes ≡ d.nodes
+  pub alone : (number : ℕ) (r : Rule) (c : CoreRule) → slice_get d.rules number ≡ Some r → slice_get design.rules number ≡ Some c → DoesTheSame d design r c
