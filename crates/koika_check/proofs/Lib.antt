@@ -3,9 +3,14 @@ pub mod AddedTypes
 pub mod Answering
 pub mod ArrayTypes
 pub mod Bindings
+pub mod BlockParts
+pub mod Blocks
 pub mod CalledTypes
 pub mod Caps
+pub mod Chains
 pub mod Checkers
+pub mod Choices
+pub mod Composed
 pub mod Compositions
 pub mod ConstantParts
 pub mod Declared
@@ -18,7 +23,9 @@ pub mod Growth
 pub mod Knowns
 pub mod Leaves
 pub mod Listing
+pub mod OperatorTypes
 pub mod PartTypes
+pub mod PartsInOrder
 pub mod Paths
 pub mod Positions
 pub mod Runs
