@@ -29,12 +29,14 @@ pub function-at : (fs items : List Function) (i : ℕ) (f : Function) → items 
 function-at fs items i f same within is = ap (λ (l : List Function). slice_get l i) (sym same) ∙ slice_get-get_or items i f within ∙ ap Some (sym is)
 
 -- one more body
-pub bodies-more : (d : Checked) (bodies : List Lowered) (f : Function) (l : Lowered) → AreBodies d bodies → slice_get d.functions (length bodies) ≡ Some f → IsBody d (length bodies) f l →
-    AreBodies d (bodies ++ l ∷ [])
-bodies-more d bodies f l are at is number x e =
-    let P : ℕ → Lowered → Type 0 = λ n z. (g : Function) × (slice_get d.functions n ≡ Some g) × IsBody d n g z in
-    subst (λ k. P k x) (omega arith)
-    (at-end P 0 bodies l (λ i z h. subst (λ k. P k z) (omega arith) (are i z h)) (subst (λ k. P k l) (omega arith) (f, at, is)) number x e)
+pub bodies-more : (d : Checked) (bodies : List (Option Lowered)) (f : Function) (body : Option Lowered) → AreBodies d bodies → slice_get d.functions (length bodies) ≡ Some f →
+    ((l : Lowered) → body ≡ Some l → IsBody d (length bodies) f l) → AreBodies d (bodies ++ body ∷ [])
+bodies-more d bodies f body are at is number x e =
+    let P : ℕ → Option Lowered → Type 0 = λ n o. (l : Lowered) → o ≡ Some l → (g : Function) × (slice_get d.functions n ≡ Some g) × IsBody d n g l in
+    let all : P (0 + number) (Some x) =
+    at-end P 0 bodies body (λ i o h. subst (λ k. P k o) (omega arith) (λ (l : Lowered) (same : o ≡ Some l). are i l (h ∙ ap Some same)))
+    (subst (λ k. P k body) (omega arith) (λ (l : Lowered) (same : body ≡ Some l). (f, at, is l same))) number (Some x) e in
+    subst (λ k. P k (Some x)) (omega arith) all x refl
 
 -- no parameter is bound behind the last
 all-bound : (d : Checked) (index : ℕ) (ts : List ValueType) (names all : List Bound) → length ts ≤ index → parameter_names d index (drop index ts) names ≡ all → names ≡ all

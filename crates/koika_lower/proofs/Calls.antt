@@ -116,8 +116,8 @@ lets-typed d n depth names types (t ∷ ts) (m ∷ ms) (l ∷ ls) body widths wi
 )
 
 module _ (d : Checked) (n depth : ℕ) (names : List Bound) (types : List ValueType) where
-  pub call-lowers : (bodies : List Lowered) (number : ℕ) (ts : List ValueType) (of : Option ValueType) (senses : List Sense) (operands : List Lowered) (body : Lowered) (copy a : Action) →
-      AreBodies d bodies → slice_get bodies number ≡ Some body → IsCopy body.action copy → IsBound operands copy a → IsApplied d n depth names types (operation.Call number) ts of senses operands →
+  pub call-lowers : (bodies : List (Option Lowered)) (number : ℕ) (ts : List ValueType) (of : Option ValueType) (senses : List Sense) (operands : List Lowered) (body : Lowered) (copy a : Action) →
+      AreBodies d bodies → slice_get bodies number ≡ Some (Some body) → IsCopy body.action copy → IsBound operands copy a → IsApplied d n depth names types (operation.Call number) ts of senses operands →
       Lowers d n depth names types of (apply_sense (operation.Call number) senses) (record { action = a; width = body.width })
   call-lowers bodies number ts of senses operands body copy a are_bodies at copied bound given =
       let it = given.applies in
@@ -153,17 +153,11 @@ module _ (d : Checked) (n depth : ℕ) (names : List Bound) (types : List ValueT
             (params-stand d 0 f.parameters [] [] [] vs locals xs tt tt valid each))))))));
       })
 
-  get-some : {X : Type 0} (xs : List X) (i : ℕ) → i < length xs → (x : X) × (slice_get xs i ≡ Some x)
-  get-some [] i h = absurd (omega arith)
-  get-some (x ∷ xs) zero h = (x, refl)
-  get-some (x ∷ xs) (suc i) h = get-some xs i (omega arith)
-
   -- what the code makes of a call
-  pub called-lowers : (bodies : List Lowered) (number : ℕ) (ts : List ValueType) (of : Option ValueType) (senses : List Sense) (operands : List Lowered) (l : Lowered) → n ≡ length bodies → AreBodies d bodies →
-      ((body : Lowered) → slice_get bodies number ≡ Some body → IsCalled body operands l) → IsApplied d n depth names types (operation.Call number) ts of senses operands →
+  pub called-lowers : (bodies : List (Option Lowered)) (number : ℕ) (ts : List ValueType) (of : Option ValueType) (senses : List Sense) (operands : List Lowered) (l : Lowered) → AreBodies d bodies →
+      (body : Lowered) × (slice_get bodies number ≡ Some (Some body)) × IsCalled body operands l → IsApplied d n depth names types (operation.Call number) ts of senses operands →
       Lowers d n depth names types of (apply_sense (operation.Call number) senses) l
-  called-lowers bodies number ts of senses operands l e are_bodies h given =
-      let body = get-some bodies number (subst (λ k. number < k) e given.applies.1) in
-      let called = h body.0 body.1 in
-      subst (λ w. Lowers d n depth names types of (apply_sense (operation.Call number) senses) (record { action = l.action; width = w })) (sym called.width)
-      (call-lowers bodies number ts of senses operands body.0 called.copy l.action are_bodies body.1 called.copied called.bound given)
+  called-lowers bodies number ts of senses operands l are_bodies called given =
+      let is = called.2 in
+      subst (λ w. Lowers d n depth names types of (apply_sense (operation.Call number) senses) (record { action = l.action; width = w })) (sym is.width)
+      (call-lowers bodies number ts of senses operands called.0 is.copy l.action are_bodies called.1 is.copied is.bound given)

@@ -73,7 +73,7 @@ rule-alone d r c inputs regs is w held =
     (is.body.means inputs (alone_ports regs) [] [] w (PortsFit-alone (widths_of_registers d) regs held) tt [] tt))
 
 -- a rule whose body is lowered where no name is bound
-pub rule-is : (d : Checked) (bodies : List Lowered) (names : List Bound) (r : Rule) (name : List ℕ) (l : Lowered) → IsTypedDesign d → AreBodies d bodies → length bodies ≡ length d.functions → names ≡ [] →
+pub rule-is : (d : Checked) (bodies : List (Option Lowered)) (names : List Bound) (r : Rule) (name : List ℕ) (l : Lowered) → IsTypedDesign d → AreBodies d bodies → length bodies ≡ length d.functions → names ≡ [] →
     HasType d (length d.functions) r.body [] None → name ≡ r.name →
     ((types : List ValueType) (t : Option ValueType) → IsTypedDesign d → AreBodies d bodies → AreNames d 0 names types → HasType d (length bodies) r.body types t →
     Lowers d (length bodies) 0 names types t (λ s. meaning s r.body) l) →

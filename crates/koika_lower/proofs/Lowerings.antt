@@ -51,7 +51,7 @@ lowers-count d n depth rising names types (of ∷ ofs) [] ls h = absurd h
 lowers-count d n depth rising names types (of ∷ ofs) (m ∷ senses) [] h = absurd h
 lowers-count d n depth rising names types (of ∷ ofs) (m ∷ senses) (l ∷ ls) h = ap suc (lowers-count d n (if rising then depth + 1 else depth) rising names types ofs senses ls h.1)
 
-module _ (d : Checked) (bodies : List Lowered) (depth : ℕ) (names : List Bound) where
+module _ (d : Checked) (bodies : List (Option Lowered)) (depth : ℕ) (names : List Bound) where
   -- the lowered is that of the expression, wherever this is well typed
   abbrev pub IsLowered : Typed → Lowered → Type 0
   IsLowered e l = (types : List ValueType) (of : Option ValueType) → IsTypedDesign d → AreBodies d bodies → AreNames d depth names types → HasType d (length bodies) e types of →

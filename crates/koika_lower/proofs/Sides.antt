@@ -66,12 +66,12 @@ module _ (d : Checked) (n : ℕ) (names : List Bound) (types : List ValueType) (
   )
 
 -- none so far
-pub lowered-none : (d : Checked) (bodies : List Lowered) (depth : ℕ) (rising : Bool) (names : List Bound) → AreLowered d bodies depth rising names [] []
+pub lowered-none : (d : Checked) (bodies : List (Option Lowered)) (depth : ℕ) (rising : Bool) (names : List Bound) → AreLowered d bodies depth rising names [] []
 lowered-none d bodies depth rising names types [] design are_bodies are h = tt
 lowered-none d bodies depth rising names types (of ∷ ofs) design are_bodies are h = absurd h
 
 -- and one more
-pub lowered-push : (d : Checked) (bodies : List Lowered) (depth : ℕ) (rising : Bool) (names : List Bound) (es : List Typed) (i at : ℕ) (e : Typed) (ls : List Lowered) (l : Lowered) →
+pub lowered-push : (d : Checked) (bodies : List (Option Lowered)) (depth : ℕ) (rising : Bool) (names : List Bound) (es : List Typed) (i at : ℕ) (e : Typed) (ls : List Lowered) (l : Lowered) →
     i < length es → length ls ≡ i → at ≡ depth_behind rising depth i → AreLowered d bodies depth rising names (take i es) ls →
     ((types : List ValueType) (of : Option ValueType) → IsTypedDesign d → AreBodies d bodies → AreNames d at names types → HasType d (length bodies) (get_or es i e) types of →
     Lowers d (length bodies) at names types of (sense_of (get_or es i e)) l) →

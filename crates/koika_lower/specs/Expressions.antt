@@ -22,13 +22,13 @@ abbrev pub block_sense : List Step → Sense
 block_sense steps s = steps_in_turn (map (step_meaning s) steps)
 
 -- the lowered are those of the expressions, one by one, wherever these are well typed
-abbrev pub AreLowered : Checked → (bodies : List Lowered) → (depth : ℕ) → (rises : Bool) → List Bound → List Typed → List Lowered → Type 0
+abbrev pub AreLowered : Checked → (bodies : List (Option Lowered)) → (depth : ℕ) → (rises : Bool) → List Bound → List Typed → List Lowered → Type 0
 AreLowered d bodies depth rises names es ls = (types : List ValueType) (ofs : List (Option ValueType)) →
     IsTypedDesign d → AreBodies d bodies → AreNames d depth names types → Pairwise (λ e of. HasType d (length bodies) e types of) es ofs →
     LowersAll d (length bodies) depth rises names types ofs (map sense_of es) ls
 
 -- the lowered is that of the steps of a block, wherever these are well typed
-abbrev pub AreLoweredSteps : Checked → (bodies : List Lowered) → (depth : ℕ) → List Bound → List Step → Lowered → Type 0
+abbrev pub AreLoweredSteps : Checked → (bodies : List (Option Lowered)) → (depth : ℕ) → List Bound → List Step → Lowered → Type 0
 AreLoweredSteps d bodies depth names steps l = (types : List ValueType) (of : Option ValueType) →
     IsTypedDesign d → AreBodies d bodies → AreNames d depth names types → StepsHaveType (StepHasType d (length bodies)) steps types of →
     Lowers d (length bodies) depth names types of (block_sense steps) l

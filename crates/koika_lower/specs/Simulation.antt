@@ -163,6 +163,6 @@ abbrev pub IsBody : Checked → (number : ℕ) → Function → Lowered → Type
 IsBody d number f l =
     Lowers d number (length f.parameters) (parameter_names d 0 f.parameters []) (reverse f.parameters) f.result (λ s. meaning s f.body) l
 
--- the bodies of the first functions
-abbrev pub AreBodies : Checked → List Lowered → Type 0
-AreBodies d bodies = (number : ℕ) (l : Lowered) → slice_get bodies number ≡ Some l → (f : Function) × (slice_get d.functions number ≡ Some f) × IsBody d number f l
+-- the bodies of the first functions, of those that are lowered
+abbrev pub AreBodies : Checked → List (Option Lowered) → Type 0
+AreBodies d bodies = (number : ℕ) (l : Lowered) → slice_get bodies number ≡ Some (Some l) → (f : Function) × (slice_get d.functions number ≡ Some f) × IsBody d number f l

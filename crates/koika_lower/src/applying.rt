@@ -31,11 +31,11 @@ pub(crate) fn binds_operands(operation: &Operation) -> bool
     )
 }
 
-/// An operation on operands. The bodies are those of the design's functions.
+/// An operation on operands. The bodies are those of the design's functions, where they are lowered.
 pub(crate) fn applied(
     alloc: Global,
     design: &Checked,
-    bodies: &[Lowered],
+    bodies: &[Option<Lowered>],
     operation: &Operation,
     operands: Sequence<Lowered>,
 ) -> Result<Lowered, NoMemory>
@@ -231,21 +231,22 @@ fn asked_host(
 // The body of the function of this number, with its arguments bound.
 fn called(
     alloc: Global,
-    bodies: &[Lowered],
+    bodies: &[Option<Lowered>],
     number: u32,
     arguments: Sequence<Lowered>,
 ) -> Result<Lowered, NoMemory>
-    ensures { IfOk result (λ l. (body : Lowered) → slice_get bodies.now number ≡ Some body → IsCalled body arguments l) }
+    ensures { IfOk result (λ l. (body : Lowered) × (slice_get bodies.now number ≡ Some (Some body)) × IsCalled body arguments l) }
 {
     match bodies.get(number as usize) {
-        Some(body) => {
+        Some(Some(body)) => {
             let copy = copy_of(alloc, &body.action)?;
             Ok(Lowered {
                 action: all_bound(alloc, arguments, copy)?,
                 width: body.width,
             })
         }
-        None => Ok(Lowered::unit()),
+        // Only functions that no rule calls aren't lowered.
+        _ => Err(NoMemory),
     }
 }
 

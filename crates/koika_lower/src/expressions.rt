@@ -21,7 +21,7 @@ use typed_core::Scope;
 pub(crate) fn lower_expression(
     alloc: Global,
     design: &Checked,
-    bodies: &[Lowered],
+    bodies: &[Option<Lowered>],
     names: &Scope<Bound>,
     depth: u32,
     of: &Typed,
@@ -60,7 +60,7 @@ pub(crate) fn lower_expression(
 fn lower_all(
     alloc: Global,
     design: &Checked,
-    bodies: &[Lowered],
+    bodies: &[Option<Lowered>],
     names: &Scope<Bound>,
     depth: u32,
     rises: bool,
@@ -83,7 +83,7 @@ fn lower_all(
 fn lower_steps(
     alloc: Global,
     design: &Checked,
-    bodies: &[Lowered],
+    bodies: &[Option<Lowered>],
     names: &Scope<Bound>,
     depth: u32,
     steps: &[Step],
@@ -109,7 +109,7 @@ fn lower_steps(
 fn lower_let(
     alloc: Global,
     design: &Checked,
-    bodies: &[Lowered],
+    bodies: &[Option<Lowered>],
     names: &Scope<Bound>,
     depth: u32,
     value: &Typed,

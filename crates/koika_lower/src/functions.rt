@@ -1,8 +1,9 @@
-ghost use Rattle.std.specs.Prelude.{◌≡◌, ◌≤◌, [], length, drop, IfOk, slice_index, map};
+ghost use Rattle.std.specs.Prelude.{◌≡◌, ◌≤◌, [], length, drop, IfOk, IfSome, slice_index, map};
 ghost use Rattle.koika_check.specs.Types as types;
 ghost use Rattle.koika_check.specs.Typing.{IsFunction, IsType, IsTypedDesign};
 ghost use Rattle.koika_lower.specs.Simulation.{AreBodies, IsBody, parameter_names};
 
+use crate::called::called_functions;
 use crate::expressions::lower_expression;
 use crate::lowered::{Bound, Lowered, deeper};
 use koika_check::{BaseType, Checked, Function, ValueType};
@@ -10,35 +11,50 @@ use kw_bits::{NoMemory, Sequence};
 use std::alloc::Global;
 use typed_core::Scope;
 
-/// The bodies of the functions, each of which may call those before it.
+/// The bodies of the functions that rules call, each of which may call those before it.
 pub(crate) fn lower_functions(
     alloc: Global,
     checked: &Checked,
-) -> Result<Sequence<Lowered>, NoMemory>
+) -> Result<Sequence<Option<Lowered>>, NoMemory>
     requires { IsTypedDesign checked.now }
     ensures { IfOk result (λ bodies. AreBodies checked.now bodies × (length bodies ≡ length checked.now.functions)) }
 {
+    let called = called_functions(alloc, checked)?;
     let mut bodies = Sequence::new(alloc);
     let functions = checked.functions.as_slice();
     for function in functions {
-        let body = lower_function(
-            alloc,
-            checked,
-            bodies.as_slice(),
-            function,
-            &Scope::empty(),
-            0,
-        )?;
+        let is_called = called[bodies.len()];
+        let body = lower_if(alloc, checked, bodies.as_slice(), function, is_called)?;
         bodies.push(body)?;
     }
     Ok(bodies)
+}
+
+// The body of a function, if it is called.
+fn lower_if(
+    alloc: Global,
+    checked: &Checked,
+    bodies: &[Option<Lowered>],
+    function: &Function,
+    is_called: bool,
+) -> Result<Option<Lowered>, NoMemory>
+    requires design { IsTypedDesign checked.now }
+    requires bodies { AreBodies checked.now bodies.now }
+    requires function { IsFunction checked.now (length bodies.now) function.now }
+    ensures { IfOk result (λ body. IfSome body (IsBody checked.now (length bodies.now) function.now)) }
+{
+    if !is_called {
+        return Ok(None);
+    }
+    let body = lower_function(alloc, checked, bodies, function, &Scope::empty(), 0)?;
+    Ok(Some(body))
 }
 
 // The body of a function whose parameters before this one are bound.
 fn lower_function(
     alloc: Global,
     checked: &Checked,
-    bodies: &[Lowered],
+    bodies: &[Option<Lowered>],
     function: &Function,
     names: &Scope<Bound>,
     index: u32,

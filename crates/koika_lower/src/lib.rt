@@ -8,6 +8,7 @@
 
 mod applying;
 mod binding;
+mod called;
 mod choosing;
 mod copying;
 mod declarations;

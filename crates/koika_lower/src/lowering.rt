@@ -52,7 +52,7 @@ fn lower_parts(alloc: Global, checked: &Checked) -> Result<Parts, NoMemory>
 fn lower_rules(
     alloc: Global,
     checked: &Checked,
-    bodies: &[Lowered],
+    bodies: &[Option<Lowered>],
 ) -> Result<Sequence<Rule>, NoMemory>
     requires design { IsTypedDesign checked.now }
     requires bodies { AreBodies checked.now bodies.now }

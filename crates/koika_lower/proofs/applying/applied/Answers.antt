@@ -109,7 +109,7 @@ returns-in-Call c =
     on_ok c.called.result
     (λ l h depth names types ts of senses bodies given.
     at_operation c.args.design.now (length c.args.bodies.now) depth names types of senses l c.args.operation.now (operation.Call c.in-Call.number) c.in-Call.is ts c.args.operands given
-    (λ it. called-lowers c.args.design.now (length c.args.bodies.now) depth names types c.args.bodies.now c.in-Call.number ts of senses c.args.operands l refl bodies h it))
+    (λ it. called-lowers c.args.design.now (length c.args.bodies.now) depth names types c.args.bodies.now c.in-Call.number ts of senses c.args.operands l bodies h it))
     c.called.ensures
 
 pub returns-in-Write : goal.returns-in-Write
