@@ -20,6 +20,7 @@ use Rattle.koika_parse.specs.Reading.{Reads, next}
 use Rattle.koika_parse.specs.Stops.{IsFaultOf}
 use Rattle.koika_parse.specs.Words.{DesignWord, end_follows}
 use Rattle.koika_parse.proofs.Expected.{never_none, same_of_some}
+use Rattle.koika_parse.proofs.Seen.{few_seen, open_seen, same_head, same_tail, zip_terminals}
 use Rattle.koika_parse.specs.declared.cursor.Cursor.{Cursor}
 use Rattle.koika_parse.specs.declared.source.Source.{Source}
 use Rattle.koika_parse.specs.declared.stop.Stop.{Stop}
@@ -30,18 +31,6 @@ pub fault_as : {X : Type 0} {P Q : Fault → Type 0} (result : Result X Refusal)
 fault_as (Ok x) is as_this = tt
 fault_as (Err (refusals.Fault fault)) is as_this = as_this fault is
 fault_as (Err refusals.NoMemory) is as_this = tt
-
--- equal lists have equal first items and equal rests
-head_or : {A : Type 0} → A → List A → A
-head_or d [] = d
-head_or d (x ∷ xs) = x
-
-same_head : {A : Type 0} {x y : A} {xs ys : List A} → x ∷ xs ≡ y ∷ ys → x ≡ y
-unfolding head_or
-same_head {A} {x} same = ap (head_or x) same
-
-same_tail : {A : Type 0} {x y : A} {xs ys : List A} → x ∷ xs ≡ y ∷ ys → xs ≡ ys
-same_tail same = ap (drop 1) same
 
 -- a design whose terminals are the tokens', up to some token
 agrees_front : (text : List ℕ) (w : List Leaf) (before behind : List Token) (rest : List Terminal) (i : ℕ) → map (λ leaf. leaf.terminal) w ≡ map (terminal_of text) before ++ rest → i < length before →
@@ -58,12 +47,6 @@ agrees_whole text [] (token ∷ tokens) i same = absurd (omega (arith, ap length
 agrees_whole text (leaf ∷ w) [] i same = absurd (omega (arith, ap length same))
 agrees_whole text (leaf ∷ w) (token ∷ tokens) zero same = ap Some (same_head same)
 agrees_whole text (leaf ∷ w) (token ∷ tokens) (suc i) same = agrees_whole text w tokens i (same_tail same)
-
-zip_terminals : (text : List ℕ) (leaves : List Leaf) (tokens : List Token) → AllZip (IsLeafAt text) leaves tokens → map (λ leaf. leaf.terminal) leaves ≡ map (terminal_of text) tokens
-zip_terminals text [] [] zip = refl
-zip_terminals text [] (token ∷ tokens) zip = absurd zip
-zip_terminals text (leaf ∷ leaves) [] zip = absurd zip
-zip_terminals text (leaf ∷ leaves) (token ∷ tokens) zip = ap (λ t. t ∷ map (λ l. l.terminal) leaves) zip.0.0 ∙ ap (λ ts. terminal_of text token ∷ ts) (zip_terminals text leaves tokens zip.1)
 
 -- which designs reading refuses
 abbrev Refuses : Stop → Tree → Type 0
@@ -95,22 +78,6 @@ none_goes_on {source} {old} {new} at depth takes before (token ∷ behind) split
     never {stop = stops.Unexpected} at depth takes tree tt begins.design (λ cursor low.
     agrees_front source.text.now (tree_leaves tree) (before ++ token ∷ []) behind begins.rest cursor.at begins.terminals (omega (arith, long, low))
     ∙ ap (λ ts. option_map (terminal_of source.text.now) (slice_get ts cursor.at)) (sym front))
-
--- brackets count alike where the terminals are the same
-few_seen : (text : List ℕ) (depth : ℕ) (leaves : List Leaf) (tokens : List Token) → AllZip (IsLeafAt text) leaves tokens → AreFewOpen depth leaves → AreFewOpen depth (seen text tokens)
-few_seen text depth [] [] zip few = tt
-few_seen text depth [] (token ∷ tokens) zip few = absurd zip
-few_seen text depth (leaf ∷ leaves) [] zip few = absurd zip
-few_seen text depth (leaf ∷ leaves) (token ∷ tokens) zip few =
-    let same : open_behind depth leaf.terminal ≡ open_behind depth (terminal_of text token) = ap (open_behind depth) zip.0.0 in
-    (subst (λ n. n ≤ 64) same few.0, few_seen text (open_behind depth (terminal_of text token)) leaves tokens zip.1 (subst (λ n. AreFewOpen n leaves) same few.1))
-
-open_seen : (text : List ℕ) (depth : ℕ) (leaves : List Leaf) (tokens : List Token) → AllZip (IsLeafAt text) leaves tokens → open_behind_all depth leaves ≡ open_behind_all depth (seen text tokens)
-open_seen text depth [] [] zip = refl
-open_seen text depth [] (token ∷ tokens) zip = absurd zip
-open_seen text depth (leaf ∷ leaves) [] zip = absurd zip
-open_seen text depth (leaf ∷ leaves) (token ∷ tokens) zip =
-    ap (λ n. open_behind_all n leaves) (ap (open_behind depth) zip.0.0) ∙ open_seen text (open_behind depth (terminal_of text token)) leaves tokens zip.1
 
 -- the next token is the first one behind
 next_is : (source : Source) (cursor : Cursor) (behind : List Token) → drop cursor.at source.tokens.now ≡ behind → next source cursor ≡ option_map (terminal_of source.text.now) (slice_get behind 0)

@@ -24,3 +24,5 @@ pub mod PrimaryWords
 pub mod BlockWords
 pub mod DeclarationWords
 pub mod Designs
+pub mod Seen
+pub mod OneFault
