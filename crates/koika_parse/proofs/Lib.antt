@@ -1,5 +1,6 @@
 pub mod Reading
 pub mod Expected
+pub mod Witnesses
 pub mod Words
 pub mod SchedulerWords
 pub mod ConstantWords
@@ -19,6 +20,7 @@ pub mod UnambiguousExpressions
 pub mod UnambiguousDesigns
 pub mod Unambiguous
 pub mod ExpressionWords
+pub mod MadeExpressions
 pub mod ChainWords
 pub mod PrimaryWords
 pub mod BlockWords

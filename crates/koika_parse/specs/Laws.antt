@@ -1,5 +1,7 @@
 -- The laws of the grammar: tokens are derived by one tree at most, or they have one fault at most, and not both.
-use Rattle.std.specs.Prelude.{◌≡◌, ℕ, List, map}
+use Rattle.std.specs.Prelude.{◌≡◌, ℕ, Result, List, map}
+use Rattle.kw_base.specs.Fault.{IsOkUnlessNoMemory}
+use Rattle.kw_base.specs.declared.fault.Refusal.{Refusal}
 use Rattle.kw_base.specs.declared.fault.Fault.{Fault}
 use Rattle.koika_syntax.specs.Grammar.{Derives, IsDesign, tree_leaves}
 use Rattle.koika_syntax.specs.Tree.{Terminal, terminal_of}
@@ -35,3 +37,8 @@ OneFault = (text : List ℕ) (tokens : List Token) (f g : Fault) → StandsBetwe
 -- where a tree derives the tokens with few open brackets, no fault stands between them
 abbrev pub NoFault : Type 0
 NoFault = (text : List ℕ) (tokens : List Token) (tree : Tree) (fault : Fault) → Derives text tree tokens → AreFewOpen 0 (tree_leaves tree) → StandsBetween text tokens fault → ⊥
+
+-- where the tokens of a text are those of a tree with few open brackets, as in a printed text, that tree is answered up to places,
+-- unless memory ran out
+abbrev pub ReadsBack : List ℕ → List Token → Result Tree Refusal → Type 0
+ReadsBack text tokens result = (tree : Tree) → IsDesign tree → terminals_in text tokens ≡ terminals tree → AreFewOpen 0 (tree_leaves tree) → IsOkUnlessNoMemory result (λ found. SameUpToPlaces tree found)
