@@ -1,5 +1,10 @@
 -- What is left of a chain, of operators in front of an operand and of suffixes behind it, by the next token.
-use Rattle.std.proofs.Common.{◌≡◌, ℕ, zero, suc, ◌+◌, ◌-◌, ◌<◌, ◌≤◌, Option, None, Some, IfSome, Err, List, [], ◌∷◌, ◌++◌, append_assoc, append-nil, inl, inr, refl, ap, sym, subst, ◌∙◌, arith}
+use Rattle.std.specs.List.{All, flat_map}
+use Rattle.koika_parse.proofs.MadeExpressions.{chain_within, operand_within, postfix_within, unary_within}
+use Rattle.koika_parse.proofs.Witnesses.{some_level, some_name, some_number, some_suffix}
+use Rattle.std.proofs.lemmas.List.Elements.{All-cons, All-head, All-nil, All-tail}
+use Rattle.koika_syntax.specs.declared.tree.Operand.{Operand}
+use Rattle.std.proofs.Common.{◌≡◌, ℕ, zero, suc, ◌+◌, ◌-◌, ◌<◌, ◌≤◌, Option, None, Some, IfSome, Err, List, [], ◌∷◌, ◌++◌, append_assoc, append-nil, inl, inr, refl, ap, sym, subst, ◌∙◌, arith, Ok, length, lit<, ◌^◌}
 use Rattle.std.specs.Prelude.{◌⊎◌, ⊤}
 use Rattle.koika_syntax.specs.Grammar.{IsSuffix, IsName, IsNumber, level_of, prefix_leaves, suffix_leaves, expression_leaves, operand_leaves}
 use Rattle.koika_syntax.specs.Tree.{Leaf, Terminal, name, number, literal, keyword, symbol, name_leaves, sign, number_leaves, unary_symbol, binary_symbol}
@@ -12,15 +17,15 @@ use Rattle.koika_syntax.specs.declared.operator.UnaryOperator.TheVariants as una
 use Rattle.koika_syntax.specs.declared.tree.Suffix.{Suffix}
 use Rattle.koika_syntax.specs.declared.tree.Suffix.TheVariants as suffixes
 use Rattle.koika_syntax.specs.declared.tree.Prefix.{Prefix}
-use Rattle.koika_parse.specs.Expected.{One, Part, Then, first, Behind, Takes}
+use Rattle.koika_parse.specs.Expected.{One, Part, Then, first, Behind, Takes, InVector, Same}
 use Rattle.koika_parse.specs.ExpressionWords.{holds, Free, LevelWord, OperandsWord, OperatorWord, SomeOperandsWord, IsAtOperator, PrefixWord, PrefixesWord, SuffixesWord, IsAtPrefix, IsAtSuffix, no_prefix}
 use Rattle.koika_parse.specs.Parts.{IsOperandIn}
-use Rattle.koika_parse.specs.Reading.{next}
+use Rattle.koika_parse.specs.Reading.{next, tokens_left}
 use Rattle.koika_parse.specs.declared.cursor.Cursor.{Cursor}
 use Rattle.koika_parse.specs.declared.source.Source.{Source}
 use Rattle.koika_parse.specs.declared.stop.Stop.TheVariants as stops
-use Rattle.koika_parse.proofs.Expected.{Empty, Apart, Goes, start, starts, goes_as, narrow, narrow_part, refused, same_of_some, kind_of}
-use Rattle.koika_parse.proofs.Rows.{Rows, the_first, the_second, rows_cases, rows_made, rows_none, first_one}
+use Rattle.koika_parse.proofs.Expected.{Empty, Apart, Goes, start, starts, goes_as, narrow, narrow_part, refused, same_of_some, kind_of, Has, Within, begin, like_one, like_part, like_then, made, room_at, same_of, some_one, some_then, step}
+use Rattle.koika_parse.proofs.Rows.{Rows, the_first, the_second, rows_cases, rows_made, rows_none, first_one, rows_split}
 use Rattle.koika_parse.proofs.Words.{sign_word}
 use Rattle.koika_parse.proofs.ExpressionWords.{OperandWord, PrimaryWord, primary_word, chain_split, unary_split, postfix_split, operand_word}
 
@@ -175,72 +180,155 @@ operand_first k r v part =
     let word = operand_word k part.0 part.1 in
     (word.2.0, word.2.1, ap (λ l. first (l ++ v)) (part.2 ∙ word.4 ∙ ap (λ l. l ++ word.1) word.2.2.2) ∙ ap Some word.2.2.1)
 
-operands_first : (k : ℕ) (r v : List Leaf) → SomeOperandsWord k r → (operator : BinaryOperator) × (level_of operator ≡ k) × (first (r ++ v) ≡ Some (symbol (binary_symbol operator)))
-operands_first k r v both =
+operands_first : (n k : ℕ) (r v : List Leaf) → Then (Part (IsOperandIn k) operand_leaves) (OperandsWord (n + 1) k) r → (operator : BinaryOperator) × (level_of operator ≡ k) × (first (r ++ v) ≡ Some (symbol (binary_symbol operator)))
+operands_first n k r v both =
     let head = operand_first k both.0 (both.1 ++ v) both.2 in
     (head.0, head.1, ap (λ l. first (l ++ v)) both.4 ∙ ap first (append_assoc both.0 both.1 v) ∙ head.2)
 
--- an operand of a chain may have more operands behind it
-pub operands_apart : (k : ℕ) → Apart (OperandsWord k) (Free k) (Free (k + 1))
-operands_apart k q v word behind = of (rows_cases (IsOperandIn k) operand_leaves q word)
+-- operands where there is room for so many more, and what is left of them
+operands_cases : (n k : ℕ) (r : List Leaf) → OperandsWord n k r → Empty r ⊎ Then (Part (IsOperandIn k) operand_leaves) (OperandsWord (n + 1) k) r
+operands_cases n k r word = subst (λ r. Empty r ⊎ Then (Part (IsOperandIn k) operand_leaves) (OperandsWord (n + 1) k) r) (sym word.2) (of word.0 word.1)
   where
-    of : Empty q ⊎ SomeOperandsWord k q → Behind (Free (k + 1)) (q ++ v)
+    of : (xs : List Operand) → All (IsOperandIn k) xs × InVector (length xs + n) →
+        Empty (flat_map operand_leaves xs) ⊎ Then (Part (IsOperandIn k) operand_leaves) (OperandsWord (n + 1) k) (flat_map operand_leaves xs)
+    of [] all = inl refl
+    of (x ∷ xs) all =
+        inr (operand_leaves x, flat_map operand_leaves xs, (x, All-head (IsOperandIn k) x xs all.0, refl), (xs, (All-tail (IsOperandIn k) x xs all.0, omega (arith, all.1)), refl), refl)
+
+operands_within : (n k : ℕ) → InVector n → Within (λ r. Empty r ⊎ Then (Part (IsOperandIn k) operand_leaves) (OperandsWord (n + 1) k) r) (OperandsWord n k)
+operands_within n k fits q (inl empty) = ([], ([], (All-nil (IsOperandIn k), omega (arith, fits)), refl), same_of (sym empty))
+operands_within n k fits q (inr both) =
+    (q, (both.2.0 ∷ both.3.0, (All-cons (IsOperandIn k) both.2.0 both.3.0 both.2.1 both.3.1.0, omega (arith, both.3.1.1)), both.4 ∙ ap (λ l. l ++ both.1) both.2.2 ∙ ap (λ l. operand_leaves both.2.0 ++ l) both.3.2), refl)
+
+abbrev no_operands : (n k : ℕ) → InVector n → Has (OperandsWord n k)
+no_operands n k fits = ([], ([], (All-nil (IsOperandIn k), omega (arith, fits)), refl))
+
+-- so many operands have been read, no more than tokens
+pub record OperandsGo (source : Source) (old new : Cursor) (k : ℕ) (Word : List Leaf → Type 0) : Type 0 where
+  pub count : ℕ
+  pub low : count ≤ new.at + 1
+  pub fits : count < 2 ^ 63
+  pub goes : Goes source old new Word (Free k) (OperandsWord count k)
+
+-- an operand of a chain may have more operands behind it
+pub operands_apart : (n k : ℕ) → Apart (OperandsWord n k) (Free k) (Free (k + 1))
+operands_apart n k q v word behind = of (operands_cases n k q word)
+  where
+    of : Empty q ⊎ Then (Part (IsOperandIn k) operand_leaves) (OperandsWord (n + 1) k) q → Behind (Free (k + 1)) (q ++ v)
     of (inl empty) = subst (λ l. Behind (Free (k + 1)) (l ++ v)) (sym empty) (free_more k (k + 1) (omega arith) (first v) behind)
     of (inr some) =
-        let head = operands_first k q v some in
+        let head = operands_first n k q v some in
         subst (Free (k + 1)) (sym head.2) (free_operator (k + 1) head.0 (omega (arith, head.1)))
 
--- at an operator of the level, one operand more; elsewhere none
-pub operands_at : {source : Source} {old new : Cursor} {Word : List Leaf → Type 0} (k : ℕ) → IsAtOperator source new k → Goes source old new Word (Free k) (OperandsWord k) → Goes source old new Word (Free k) (SomeOperandsWord k)
-operands_at k at goes = the_second (goes_as goes (rows_cases (IsOperandIn k) operand_leaves))
-    (λ r v empty behind same. omega (arith, at.1, taken_operator k at.0 (subst (Free k) (ap (λ l. first (l ++ v)) (sym empty) ∙ same ∙ at.2) behind)))
+-- an operator of each level
+some_operator : (k : ℕ) → 0 < k → k ≤ 9 → Has (OperatorWord k)
+some_operator k low high = found (of k low high)
+  where
+    of : (k : ℕ) → 0 < k → k ≤ 9 → (operator : BinaryOperator) × (level_of operator ≡ k)
+    of zero low high = absurd (omega (arith, low))
+    of (suc zero) low high = (binary.Or, refl)
+    of (suc (suc zero)) low high = (binary.Xor, refl)
+    of (suc (suc (suc zero))) low high = (binary.And, refl)
+    of (suc (suc (suc (suc zero)))) low high = (binary.Equal, refl)
+    of (suc (suc (suc (suc (suc zero))))) low high = (binary.Less, refl)
+    of (suc (suc (suc (suc (suc (suc zero)))))) low high = (binary.Concat, refl)
+    of (suc (suc (suc (suc (suc (suc (suc zero))))))) low high = (binary.ShiftLeft, refl)
+    of (suc (suc (suc (suc (suc (suc (suc (suc zero)))))))) low high = (binary.Add, refl)
+    of (suc (suc (suc (suc (suc (suc (suc (suc (suc zero))))))))) low high = (binary.Multiply, refl)
+    of (suc (suc (suc (suc (suc (suc (suc (suc (suc (suc k)))))))))) low high = absurd (omega (arith, high))
 
-pub operands_end : {source : Source} {old new : Cursor} {Word : List Leaf → Type 0} {Follow : Option Terminal → Type 0} (k : ℕ) → (IsAtOperator source new k → ⊥) → Goes source old new Word Follow (OperandsWord k) → Goes source old new Word Follow Empty
-operands_end k other goes = the_first (goes_as goes (rows_cases (IsOperandIn k) operand_leaves))
-    (λ r v some behind same. let head = operands_first k r v some in other (head.0, head.1, sym same ∙ head.2))
+    found : (operator : BinaryOperator) × (level_of operator ≡ k) → Has (OperatorWord k)
+    found o = let one = some_one (symbol (binary_symbol o.0)) in (one.0, (o.0, o.1, one.1))
+
+some_operand_word : (k : ℕ) → 0 < k → k ≤ 9 → Has (OperandWord k)
+some_operand_word k low high = some_then (some_operator k low high) (some_level (k + 1) (omega (arith, high)))
+
+some_operand : (k : ℕ) → 0 < k → k ≤ 9 → Has (Part (IsOperandIn k) operand_leaves)
+some_operand k low high =
+    let word = some_operand_word k low high in
+    let found = operand_within k word.0 word.1 in
+    (found.0, found.1)
+
+-- at an operator of the level, one operand more; elsewhere none
+pub operands_at : {source : Source} {old new : Cursor} {Word : List Leaf → Type 0} (k : ℕ) → 0 < k → k ≤ 9 → IsAtOperator source new k → (go : OperandsGo source old new k Word) →
+    Goes source old new Word (Free k) (Then (Part (IsOperandIn k) operand_leaves) (OperandsWord (go.count + 1) k))
+operands_at {source} {old} {new} k low high at go = the_second (goes_as go.goes (operands_cases go.count k) ([], inl refl) (operands_within go.count k go.fits))
+    (λ r v empty behind same. omega (arith, at.1, taken_operator k at.0 (subst (Free k) (ap (λ l. first (l ++ v)) (sym empty) ∙ same ∙ at.2) behind)))
+    (some_then (some_operand k low high) (no_operands (go.count + 1) k (room_at source new go.count at.2 go.low)))
+
+pub operands_next : {X : Type 0} {source : Source} {old mid new : Cursor} {Word : List Leaf → Type 0} {x : X} (k : ℕ) → 0 < k → k ≤ 9 → IsAtOperator source mid k → OperandsGo source old mid k Word →
+    Takes source mid new (Part (IsOperandIn k) operand_leaves) (Free (k + 1)) (Ok x) → tokens_left source new < tokens_left source mid → OperandsGo source old new k Word
+operands_next {source = source} {mid = mid} k low high at go takes fewer = record {
+  count = go.count + 1;
+  low = omega (arith, go.low, fewer);
+  fits = room_at source mid go.count at.2 go.low;
+  goes = step (operands_at k low high at go) takes (operands_apart (go.count + 1) k);
+}
+
+pub operands_end : {source : Source} {old new : Cursor} {Word : List Leaf → Type 0} (k : ℕ) → (IsAtOperator source new k → ⊥) → OperandsGo source old new k Word → Goes source old new Word (Free k) Empty
+operands_end k other go = the_first (goes_as go.goes (operands_cases go.count k) ([], inl refl) (operands_within go.count k go.fits))
+    (λ r v some behind same. let head = operands_first go.count k r v some in other (head.0, head.1, sym same ∙ head.2)) ([], refl)
 
 -- a chain is an operand and those behind it
-pub chain_start : {source : Source} {cursor : Cursor} {Follow : Option Terminal → Type 0} (k : ℕ) → 0 < k → k ≤ 9 → Goes source cursor cursor (LevelWord k) Follow (Then (LevelWord (k + 1)) (OperandsWord k))
-chain_start k low high = start (λ u word. of u (chain_split k low high u word))
+pub chain_start : {source : Source} {cursor : Cursor} {Follow : Option Terminal → Type 0} (k : ℕ) → 0 < k → k ≤ 9 → Goes source cursor cursor (LevelWord k) Follow (Then (LevelWord (k + 1)) (OperandsWord 0 k))
+chain_start k low high = start (λ u word. of u (chain_split k low high u word)) (some_then (some_level (k + 1) (omega (arith, high))) (no_operands 0 k (lit< tt))) (chain_within k)
   where
-    of : (u : List Leaf) → LevelWord (k + 1) u ⊎ Then (LevelWord (k + 1)) (SomeOperandsWord k) u → Then (LevelWord (k + 1)) (OperandsWord k) u
-    of u (inl tighter) = (u, [], tighter, rows_none (IsOperandIn k) operand_leaves, sym (append-nil u))
-    of u (inr both) = (both.0, both.1, both.2, rows_made (IsOperandIn k) operand_leaves both.1 both.3, both.4)
+    of : (u : List Leaf) → LevelWord (k + 1) u ⊎ Then (LevelWord (k + 1)) (SomeOperandsWord k) u → Then (LevelWord (k + 1)) (OperandsWord 0 k) u
+    of u (inl tighter) = (u, [], tighter, (no_operands 0 k (lit< tt)).1, sym (append-nil u))
+    of u (inr both) = (both.0, both.1, both.2, again both.1 both.3, both.4)
+      where
+        again : (r : List Leaf) → SomeOperandsWord k r → OperandsWord 0 k r
+        again r some = (some.2.0 ∷ some.3.0, (All-cons (IsOperandIn k) some.2.0 some.3.0 some.2.1 some.3.1.0, omega (arith, some.3.1.1)), some.4 ∙ ap (λ l. l ++ some.1) some.2.2 ∙ ap (λ l. operand_leaves some.2.0 ++ l) some.3.2)
 
-pub operands_start : {source : Source} {cursor : Cursor} {Follow : Option Terminal → Type 0} (k : ℕ) → Goes source cursor cursor (SomeOperandsWord k) Follow (SomeOperandsWord k)
-operands_start k = start (λ u word. word)
+-- behind the first operand of a chain
+abbrev pub chain_go : {X : Type 0} {source : Source} {old new : Cursor} {x : X} (k : ℕ) → 0 < k → k ≤ 9 → Takes source old new (LevelWord (k + 1)) (Free (k + 1)) (Ok x) → OperandsGo source old new k (LevelWord k)
+chain_go k low high takes = record { count = 0; low = omega arith; fits = lit< tt; goes = step (chain_start k low high) takes (operands_apart 0 k) }
 
-pub operand_start : {source : Source} {cursor : Cursor} {Follow : Option Terminal → Type 0} (k : ℕ) → Goes source cursor cursor (Part (IsOperandIn k) operand_leaves) Follow (OperandWord k)
-operand_start k = starts (OperandWord k) (operand_word k)
+pub operands_start : {source : Source} {cursor : Cursor} {Follow : Option Terminal → Type 0} (k : ℕ) → 0 < k → k ≤ 9 → Goes source cursor cursor (SomeOperandsWord k) Follow (SomeOperandsWord k)
+operands_start k low high = begin (SomeOperandsWord k) (some_then (some_operand k low high) (no_operands 1 k (lit< tt)))
 
-pub operator_start : {source : Source} {cursor : Cursor} {Follow : Option Terminal → Type 0} (k : ℕ) → Goes source cursor cursor (OperatorWord k) Follow (OperatorWord k)
-operator_start k = start (λ u word. word)
+pub operands_first_go : {X : Type 0} {source : Source} {old new : Cursor} {x : X} (k : ℕ) → 0 < k → k ≤ 9 → Takes source old new (Part (IsOperandIn k) operand_leaves) (Free (k + 1)) (Ok x) → OperandsGo source old new k (SomeOperandsWord k)
+operands_first_go k low high takes = record { count = 1; low = omega arith; fits = lit< tt; goes = step (operands_start k low high) takes (operands_apart 1 k) }
+
+pub operand_start : {source : Source} {cursor : Cursor} {Follow : Option Terminal → Type 0} (k : ℕ) → 0 < k → k ≤ 9 → Goes source cursor cursor (Part (IsOperandIn k) operand_leaves) Follow (OperandWord k)
+operand_start k low high = starts (OperandWord k) (operand_word k) (some_operand_word k low high) (operand_within k)
+
+pub operator_start : {source : Source} {cursor : Cursor} {Follow : Option Terminal → Type 0} (k : ℕ) → 0 < k → k ≤ 9 → Goes source cursor cursor (OperatorWord k) Follow (OperatorWord k)
+operator_start k low high = begin (OperatorWord k) (some_operator k low high)
 
 -- an operator by the next token
-pub operator_at : {source : Source} {cursor : Cursor} {Follow : Option Terminal → Type 0} (k : ℕ) (operator : BinaryOperator) → next source cursor ≡ Some (symbol (binary_symbol operator)) → Goes source cursor cursor (OperatorWord k) Follow (One (symbol (binary_symbol operator)))
-operator_at k operator at = narrow (operator_start k) (λ r v word behind same. (word.2.0, same_of_some (sym (ap (λ l. first (l ++ v)) word.2.2) ∙ same ∙ at), word.2.2))
+pub operator_at : {source : Source} {cursor : Cursor} {Follow : Option Terminal → Type 0} (k : ℕ) → 0 < k → k ≤ 9 → (operator : BinaryOperator) → level_of operator ≡ k → next source cursor ≡ Some (symbol (binary_symbol operator)) →
+    Goes source cursor cursor (OperatorWord k) Follow (One (symbol (binary_symbol operator)))
+operator_at k low high operator level at =
+    narrow (operator_start k low high) (λ r v word behind same. (word.2.0, same_of_some (sym (ap (λ l. first (l ++ v)) word.2.2) ∙ same ∙ at), word.2.2)) (some_one (symbol (binary_symbol operator))) (λ q one. (q, (operator, level, one), refl))
 
-pub operator_refused : {Y : Type 0} {source : Source} {cursor : Cursor} {Follow : Option Terminal → Type 0} (k : ℕ) → (IsAtOperator source cursor k → ⊥) → Takes {X = Y} source cursor cursor (OperatorWord k) Follow (Err stops.Unexpected)
-operator_refused k other = refused (operator_start k) (λ r v word behind same. other (word.0, word.1, sym same ∙ ap (λ l. first (l ++ v)) word.2.2 ∙ ap Some word.2.1))
+pub operator_refused : {Y : Type 0} {source : Source} {cursor : Cursor} {Follow : Option Terminal → Type 0} (k : ℕ) → 0 < k → k ≤ 9 → (IsAtOperator source cursor k → ⊥) → Takes {X = Y} source cursor cursor (OperatorWord k) Follow (Err stops.Unexpected)
+operator_refused k low high other = refused (operator_start k low high) (λ r v word behind same. other (word.0, word.1, sym same ∙ ap (λ l. first (l ++ v)) word.2.2 ∙ ap Some word.2.1))
 
 prefix_low : (operator : UnaryOperator) → begins (symbol (unary_symbol operator)) < 2
 prefix_low unary.Not = omega arith
 prefix_low unary.Negate = omega arith
 
 -- operators in front of an operand
+some_prefix : Has PrefixWord
+some_prefix = (prefix_leaves (record { operator = unary.Not; place = 0 }), (record { operator = unary.Not; place = 0 }, tt, refl))
+
+some_prefixes : Has PrefixesWord
+some_prefixes = some_then some_prefix ([], rows_none (λ prefix. ⊤) prefix_leaves)
+
 pub unary_start : {source : Source} {cursor : Cursor} {Follow : Option Terminal → Type 0} → Goes source cursor cursor (LevelWord 10) Follow (λ u. LevelWord 11 u ⊎ Then PrefixesWord (LevelWord 11) u)
-unary_start = start unary_split
+unary_start = start unary_split (let e = some_level 11 (omega arith) in (e.0, inl e.1)) unary_within
 
 prefixes_first : (r v : List Leaf) → PrefixesWord r → (operator : UnaryOperator) × (first (r ++ v) ≡ Some (symbol (unary_symbol operator)))
 prefixes_first r v word = (word.2.0.operator, ap (λ l. first (l ++ v)) (word.4 ∙ ap (λ l. l ++ word.1) word.2.2))
 
 pub unary_at : {source : Source} {cursor : Cursor} {Follow : Option Terminal → Type 0} → IsAtPrefix source cursor → Goes source cursor cursor (LevelWord 10) Follow (Then PrefixesWord (LevelWord 11))
-unary_at at = the_second unary_start (λ r v postfix behind same. other_token v (symbol (unary_symbol at.0)) (postfix_begins r postfix) (same ∙ at.1) (prefix_low at.0))
+unary_at at = the_second unary_start (λ r v postfix behind same. other_token v (symbol (unary_symbol at.0)) (postfix_begins r postfix) (same ∙ at.1) (prefix_low at.0)) (some_then some_prefixes (some_level 11 (omega arith)))
 
 pub unary_end : {source : Source} {cursor : Cursor} {Follow : Option Terminal → Type 0} → (IsAtPrefix source cursor → ⊥) → Goes source cursor cursor (LevelWord 10) Follow (LevelWord 11)
 unary_end other = the_first unary_start (λ r v both behind same.
     let head = prefixes_first both.0 (both.1 ++ v) both.2 in
-    other (head.0, sym same ∙ ap (λ l. first (l ++ v)) both.4 ∙ ap first (append_assoc both.0 both.1 v) ∙ head.1))
+    other (head.0, sym same ∙ ap (λ l. first (l ++ v)) both.4 ∙ ap first (append_assoc both.0 both.1 v) ∙ head.1)) (some_level 11 (omega arith))
 
 no_prefix_of : (t : Terminal) → 2 ≤ begins t → no_prefix (Some t)
 no_prefix_of (symbol symbols.Tilde) high = omega (arith, high)
@@ -261,25 +349,26 @@ abbrev pub MorePrefixes : List Leaf → Type 0
 MorePrefixes = Rows (λ (prefix : Prefix). ⊤) prefix_leaves
 
 pub prefixes_start : {source : Source} {cursor : Cursor} {Follow : Option Terminal → Type 0} → Goes source cursor cursor PrefixesWord Follow PrefixesWord
-prefixes_start = start (λ u word. word)
+prefixes_start = begin PrefixesWord some_prefixes
 
 no_prefix_next : (operator : UnaryOperator) → no_prefix (Some (symbol (unary_symbol operator))) → ⊥
 no_prefix_next unary.Not free = free
 no_prefix_next unary.Negate free = free
 
 pub prefixes_at : {source : Source} {old new : Cursor} {Word : List Leaf → Type 0} → IsAtPrefix source new → Goes source old new Word no_prefix MorePrefixes → Goes source old new Word no_prefix PrefixesWord
-prefixes_at at goes = the_second (goes_as goes (rows_cases (λ prefix. ⊤) prefix_leaves))
-    (λ r v empty behind same. no_prefix_next at.0 (subst no_prefix (ap (λ l. first (l ++ v)) (sym empty) ∙ same ∙ at.1) behind))
+prefixes_at at goes = the_second (rows_split (λ prefix. ⊤) prefix_leaves goes)
+    (λ r v empty behind same. no_prefix_next at.0 (subst no_prefix (ap (λ l. first (l ++ v)) (sym empty) ∙ same ∙ at.1) behind)) some_prefixes
 
 pub prefixes_end : {source : Source} {old new : Cursor} {Word : List Leaf → Type 0} {Follow : Option Terminal → Type 0} → (IsAtPrefix source new → ⊥) → Goes source old new Word Follow MorePrefixes → Goes source old new Word Follow Empty
-prefixes_end other goes = the_first (goes_as goes (rows_cases (λ prefix. ⊤) prefix_leaves))
-    (λ r v some behind same. let head = prefixes_first r v some in other (head.0, sym same ∙ head.1))
+prefixes_end other goes = the_first (rows_split (λ prefix. ⊤) prefix_leaves goes)
+    (λ r v some behind same. let head = prefixes_first r v some in other (head.0, sym same ∙ head.1)) ([], refl)
 
 pub prefix_start : {source : Source} {cursor : Cursor} {Follow : Option Terminal → Type 0} → Goes source cursor cursor PrefixWord Follow PrefixWord
-prefix_start = start (λ u word. word)
+prefix_start = begin PrefixWord some_prefix
 
 pub prefix_at_sign : {source : Source} {cursor : Cursor} {Follow : Option Terminal → Type 0} (operator : UnaryOperator) → next source cursor ≡ Some (symbol (unary_symbol operator)) → Goes source cursor cursor PrefixWord Follow (One (symbol (unary_symbol operator)))
 prefix_at_sign operator at = narrow prefix_start (λ r v word behind same. (record { terminal = symbol (unary_symbol word.0.operator); place = Some word.0.place }, same_of_some (sym (ap (λ l. first (l ++ v)) word.2) ∙ same ∙ at), word.2))
+    (some_one (symbol (unary_symbol operator))) (λ q one. made q (like_one (Some 0) one) (record { operator = operator; place = 0 }) tt refl)
 
 pub prefix_refused : {Y : Type 0} {source : Source} {cursor : Cursor} {Follow : Option Terminal → Type 0} → (IsAtPrefix source cursor → ⊥) → Takes {X = Y} source cursor cursor PrefixWord Follow (Err stops.Unexpected)
 prefix_refused other = refused prefix_start (λ r v word behind same. other (word.0.operator, sym same ∙ ap (λ l. first (l ++ v)) word.2))
@@ -294,15 +383,18 @@ bracket_or_colon : Some (symbol symbols.RightBracket) ≡ Some (symbol symbols.C
 bracket_or_colon e = cc e
 
 -- suffixes behind a primary
+some_suffixes : Has SuffixesWord
+some_suffixes = some_then some_suffix ([], rows_none IsSuffix suffix_leaves)
+
 pub postfix_start : {source : Source} {cursor : Cursor} {Follow : Option Terminal → Type 0} → Goes source cursor cursor (LevelWord 11) Follow (Then (LevelWord 12) MoreSuffixes)
-postfix_start = start (λ u word. of u (postfix_split u word))
+postfix_start = start (λ u word. of u (postfix_split u word)) (some_then (some_level 12 (omega arith)) ([], rows_none IsSuffix suffix_leaves)) postfix_within
   where
     of : (u : List Leaf) → LevelWord 12 u ⊎ Then (LevelWord 12) SuffixesWord u → Then (LevelWord 12) MoreSuffixes u
     of u (inl primary) = (u, [], primary, rows_none IsSuffix suffix_leaves, sym (append-nil u))
     of u (inr both) = (both.0, both.1, both.2, rows_made IsSuffix suffix_leaves both.1 both.3, both.4)
 
 pub suffixes_start : {source : Source} {cursor : Cursor} {Follow : Option Terminal → Type 0} → Goes source cursor cursor SuffixesWord Follow SuffixesWord
-suffixes_start = start (λ u word. word)
+suffixes_start = begin SuffixesWord some_suffixes
 
 -- a suffix begins with a dot or a bracket
 suffix_first : (suffix : Suffix) (v : List Leaf) (next : Option Terminal) → first (suffix_leaves suffix ++ v) ≡ next → (next ≡ Some (symbol symbols.Dot)) ⊎ (next ≡ Some (symbol symbols.LeftBracket))
@@ -330,19 +422,35 @@ suffixes_apart q v word behind = of (rows_cases IsSuffix suffix_leaves q word)
     of (inr some) = begun (first (q ++ v)) (suffixes_first q v (first (q ++ v)) some refl)
 
 pub suffixes_at : {source : Source} {old new : Cursor} {Word : List Leaf → Type 0} → IsAtSuffix source new → Goes source old new Word (Free 11) MoreSuffixes → Goes source old new Word (Free 11) SuffixesWord
-suffixes_at {source} {old} {new} at goes = the_second (goes_as goes (rows_cases IsSuffix suffix_leaves))
-    (λ r v empty behind same. free_suffix 11 (omega arith) (next source new) (subst (Free 11) (ap (λ l. first (l ++ v)) (sym empty) ∙ same) behind) at)
+suffixes_at {source} {old} {new} at goes = the_second (rows_split IsSuffix suffix_leaves goes)
+    (λ r v empty behind same. free_suffix 11 (omega arith) (next source new) (subst (Free 11) (ap (λ l. first (l ++ v)) (sym empty) ∙ same) behind) at) some_suffixes
 
 pub suffixes_end : {source : Source} {old new : Cursor} {Word : List Leaf → Type 0} {Follow : Option Terminal → Type 0} → (IsAtSuffix source new → ⊥) → Goes source old new Word Follow MoreSuffixes → Goes source old new Word Follow Empty
-suffixes_end {source} {old} {new} other goes = the_first (goes_as goes (rows_cases IsSuffix suffix_leaves))
-    (λ r v some behind same. other (suffixes_first r v (next source new) some same))
+suffixes_end {source} {old} {new} other goes = the_first (rows_split IsSuffix suffix_leaves goes)
+    (λ r v some behind same. other (suffixes_first r v (next source new) some same)) ([], refl)
 
 -- a suffix by the next token
+abbrev pub AfterNumber : List Leaf → Type 0
+AfterNumber u = One (symbol symbols.RightBracket) u ⊎ Then (One (symbol symbols.Colon)) (Then (Part IsNumber number_leaves) (One (symbol symbols.RightBracket))) u
+
 abbrev pub IndexWord : List Leaf → Type 0
 IndexWord = Then (One (symbol symbols.LeftBracket)) (Then (Part IsNumber number_leaves) (λ u. One (symbol symbols.RightBracket) u ⊎ Then (One (symbol symbols.Colon)) (Then (Part IsNumber number_leaves) (One (symbol symbols.RightBracket))) u))
 
+index_within : Within IndexWord (Part IsSuffix suffix_leaves)
+index_within q both = of both.3.3
+  where
+    of : AfterNumber both.3.1 → (r : List Leaf) × Part IsSuffix suffix_leaves r × Same r q
+    of (inl close) = made q (like_then both (like_one None both.2) (like_then both.3 (like_part both.3.2) (like_one None close))) (suffixes.Index both.3.2.0) both.3.2.1 refl
+    of (inr slice) =
+        made q (like_then both (like_one None both.2) (like_then both.3 (like_part both.3.2) (like_then slice (like_one None slice.2) (like_then slice.3 (like_part slice.3.2) (like_one None slice.3.3)))))
+        (suffixes.Slice both.3.2.0 slice.3.2.0) (both.3.2.1, slice.3.2.1) refl
+
+some_index : Has IndexWord
+some_index = let close = some_one (symbol symbols.RightBracket) in some_then (some_one (symbol symbols.LeftBracket)) (some_then some_number (close.0, inl close.1))
+
 pub suffix_dot : {source : Source} {cursor : Cursor} {Follow : Option Terminal → Type 0} → next source cursor ≡ Some (symbol symbols.Dot) → Goes source cursor cursor (Part IsSuffix suffix_leaves) Follow (Then (One (symbol symbols.Dot)) (Part IsName name_leaves))
-suffix_dot {source} {cursor} dot = narrow_part (Then (One (symbol symbols.Dot)) (Part IsName name_leaves)) (λ x is v at. of x is v (at ∙ dot))
+suffix_dot {source} {cursor} dot = narrow_part (Then (One (symbol symbols.Dot)) (Part IsName name_leaves)) (λ x is v at. of x is v (at ∙ dot)) (some_then (some_one (symbol symbols.Dot)) some_name)
+    (λ q both. made q (like_then both (like_one None both.2) (like_part both.3)) (suffixes.Field both.3.0) both.3.1 refl)
   where
     of : (x : Suffix) → IsSuffix x → (v : List Leaf) → first (suffix_leaves x ++ v) ≡ Some (symbol symbols.Dot) → Then (One (symbol symbols.Dot)) (Part IsName name_leaves) (suffix_leaves x)
     of (suffixes.Field n) is v at = (sign symbols.Dot, name_leaves n, sign_word symbols.Dot, (n, is, refl), refl)
@@ -350,18 +458,15 @@ suffix_dot {source} {cursor} dot = narrow_part (Then (One (symbol symbols.Dot)) 
     of (suffixes.Slice high low) is v at = absurd (bracket_or_dot at)
 
 pub suffix_bracket : {source : Source} {cursor : Cursor} {Follow : Option Terminal → Type 0} → (next source cursor ≡ Some (symbol symbols.Dot) → ⊥) → Goes source cursor cursor (Part IsSuffix suffix_leaves) Follow IndexWord
-suffix_bracket {source} {cursor} other = narrow_part IndexWord (λ x is v at. of x is v at)
+suffix_bracket {source} {cursor} other = narrow_part IndexWord (λ x is v at. of x is v at) some_index index_within
   where
     of : (x : Suffix) → IsSuffix x → (v : List Leaf) → first (suffix_leaves x ++ v) ≡ next source cursor → IndexWord (suffix_leaves x)
     of (suffixes.Field n) is v at = absurd (other (sym at))
     of (suffixes.Index index) is v at = (sign symbols.LeftBracket, number_leaves index ++ sign symbols.RightBracket, sign_word symbols.LeftBracket, (number_leaves index, sign symbols.RightBracket, (index, is, refl), inl (sign_word symbols.RightBracket), refl), refl)
     of (suffixes.Slice high low) is v at = (sign symbols.LeftBracket, number_leaves high ++ sign symbols.Colon ++ number_leaves low ++ sign symbols.RightBracket, sign_word symbols.LeftBracket, (number_leaves high, sign symbols.Colon ++ number_leaves low ++ sign symbols.RightBracket, (high, is.0, refl), inr (sign symbols.Colon, number_leaves low ++ sign symbols.RightBracket, sign_word symbols.Colon, (number_leaves low, sign symbols.RightBracket, (low, is.1, refl), sign_word symbols.RightBracket, refl), refl), refl), refl)
 
-abbrev pub AfterNumber : List Leaf → Type 0
-AfterNumber u = One (symbol symbols.RightBracket) u ⊎ Then (One (symbol symbols.Colon)) (Then (Part IsNumber number_leaves) (One (symbol symbols.RightBracket))) u
-
 pub slice_at : {source : Source} {old new : Cursor} {Word : List Leaf → Type 0} {Follow : Option Terminal → Type 0} → next source new ≡ Some (symbol symbols.Colon) → Goes source old new Word Follow AfterNumber → Goes source old new Word Follow (Then (One (symbol symbols.Colon)) (Then (Part IsNumber number_leaves) (One (symbol symbols.RightBracket))))
-slice_at colon goes = the_second goes (λ r v one behind at. bracket_or_colon (sym (ap (λ l. first (l ++ v)) one.2 ∙ ap Some one.1) ∙ at ∙ colon))
+slice_at colon goes = the_second goes (λ r v one behind at. bracket_or_colon (sym (ap (λ l. first (l ++ v)) one.2 ∙ ap Some one.1) ∙ at ∙ colon)) (some_then (some_one (symbol symbols.Colon)) (some_then some_number (some_one (symbol symbols.RightBracket))))
 
 pub index_at : {source : Source} {old new : Cursor} {Word : List Leaf → Type 0} {Follow : Option Terminal → Type 0} → (next source new ≡ Some (symbol symbols.Colon) → ⊥) → Goes source old new Word Follow AfterNumber → Goes source old new Word Follow (One (symbol symbols.RightBracket))
-index_at other goes = the_first goes (λ r v both behind at. other (sym at ∙ first_one (symbol symbols.Colon) _ r v both))
+index_at other goes = the_first goes (λ r v both behind at. other (sym at ∙ first_one (symbol symbols.Colon) _ r v both)) (some_one (symbol symbols.RightBracket))

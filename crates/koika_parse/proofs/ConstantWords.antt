@@ -1,19 +1,28 @@
 -- The words of constants.
-use Rattle.std.proofs.Common.{◌≡◌, Option, Some, List, [], ◌∷◌, ◌++◌, map, inl, inr, refl, ap, sym, subst, ◌∙◌}
+use Rattle.std.proofs.Common.{◌≡◌, Option, None, Some, List, [], ◌∷◌, ◌++◌, length, map, inl, inr, refl, ap, sym, subst, ◌∙◌, Vec, Global, arith}
 use Rattle.std.specs.List.{All}
+use lib.ListN.{length-map}
 use Rattle.koika_syntax.specs.Grammar.{IsName, IsLiteral, constant_leaves, IsConstant, IsConstantLayer, IsConstantFieldLayer, constant_step, constant_field_step, constant_field_leaves}
 use Rattle.koika_syntax.specs.Tree.{Leaf, Terminal, symbol, name_leaves, literal_leaves, sign, placed, commas}
 use Rattle.koika_syntax.specs.declared.symbol.Symbol.TheVariants as symbols
-use Rattle.koika_parse.specs.Expected.{One, Part, Then, first}
-use Rattle.koika_parse.specs.Words.{ConstantArrayWord, NamedConstantWord}
+use Rattle.koika_parse.specs.Expected.{Commas, InVector, One, Part, Same, Then, first}
+use Rattle.koika_parse.specs.Words.{ConstantArrayWord, ConstantColonsWord, NamedConstantWord}
+use Rattle.koika_parse.specs.Reading.{kind_at, next}
+use Rattle.koika_parse.specs.declared.cursor.Cursor.{Cursor}
+use Rattle.koika_parse.specs.declared.source.Source.{Source}
+use Rattle.koika_parse.proofs.Commas.{Listed, in_vector, some_commas}
+use Rattle.koika_parse.proofs.Witnesses.{some_constant, some_literal, some_name, vector}
+use Rattle.koika_parse.proofs.Parts.{is_constant_array, is_constant_field, is_constant_literal, is_constant_member, is_constant_struct}
+use Rattle.koika_parse.proofs.Calls.{leaves_constant_field, leaves_constant_literal, leaves_constant_member}
 use Rattle.std.specs.Option.{option_map}
 use Rattle.koika_syntax.specs.declared.token.TokenKind.TheVariants as kinds
-use Rattle.koika_parse.proofs.Expected.{kind_of, sign_or_name, literal_or_sign, name_or_sign, literal_or_name}
+use Rattle.koika_parse.proofs.Expected.{Goes, Has, Within, begin, starts, narrow_part, like_one, like_part, like_then, made, some_one, some_then, kind_of_next, kind_of, sign_or_name, literal_or_sign, name_or_sign, literal_or_name}
 use Rattle.std.proofs.lemmas.List.Elements.{All-cons, All-nil}
 use Rattle.koika_syntax.specs.declared.tree.Constant.{Constant, Constant-F, map-Constant, out-Constant, every_held-Constant, every_here-Constant, fold_out-Constant}
 use Rattle.koika_syntax.specs.declared.tree.Constant.TheOpen as constant
-use Rattle.koika_syntax.specs.declared.tree.ConstantField.{ConstantField, ConstantField-F, map-ConstantField, out-ConstantField, every_held-ConstantField, every_here-ConstantField}
-use Rattle.koika_syntax.proofs.Leaves.{constant_field}
+use Rattle.koika_syntax.specs.declared.tree.ConstantField.{ConstantField, ConstantField-F, roll-ConstantField, map-ConstantField, out-ConstantField, every_held-ConstantField, every_here-ConstantField}
+use Rattle.koika_syntax.proofs.Leaves.{array_constant, constant_field, struct_constant}
+use Rattle.koika_syntax.specs.declared.tree.Constant.TheViews as constant_views
 use Rattle.koika_parse.specs.Parts.{IsConstantField}
 use Rattle.koika_parse.proofs.Words.{sign_word, placed_word}
 
@@ -26,6 +35,10 @@ Such {X} P = (x : X) × P x
 pub firsts_are : {X : Type 0} (P : X → Type 0) (xs : List (Such P)) → All P (map (λ e. e.0) xs)
 firsts_are P [] = All-nil P
 firsts_are P (x ∷ xs) = All-cons P x.0 (map (λ e. e.0) xs) x.1 (firsts_are P xs)
+
+-- a vector holds what it holds
+pub held_fit : {X : Type 0} (P : X → Type 0) (v : Vec (Such P) Global) → InVector (length (map (λ e. e.0) v.items))
+held_fit P v = omega (arith, length-map v.items (λ (e : Such P). e.0), v.ok.0, v.ok.1, v.small)
 
 abbrev OpenConstant : Type 0
 OpenConstant = Constant-F (Such IsConstant) (Such IsConstantField)
@@ -60,7 +73,7 @@ constant_named t is v next at named = constant_case (λ u. first (u ++ v) ≡ ne
     each : (y : OpenConstant) → IsConstantLayer (closed_constant y) → first (constant_layer_leaves (closed_constant y) ++ v) ≡ next → NamedConstantWord (constant_layer_leaves (closed_constant y))
     each (constant.Literal l) is at = absurd (literal_or_name (ap (option_map kind_of) at ∙ named))
     each (constant.Member of member) is at = (name_leaves of, sign symbols.ColonColon ++ name_leaves member, (of, is.0, refl), (sign symbols.ColonColon, name_leaves member, sign_word symbols.ColonColon, inl (member, is.1, refl), refl), refl)
-    each (constant.Struct of fields close) is at = (name_leaves of, sign symbols.ColonColon ++ sign symbols.LeftBrace ++ commas (map constant_field_leaves (map (λ e. e.0) fields.items)) ++ placed (symbol symbols.RightBrace) close, (of, is.0, refl), (sign symbols.ColonColon, sign symbols.LeftBrace ++ commas (map constant_field_leaves (map (λ e. e.0) fields.items)) ++ placed (symbol symbols.RightBrace) close, sign_word symbols.ColonColon, inr (sign symbols.LeftBrace, commas (map constant_field_leaves (map (λ e. e.0) fields.items)) ++ placed (symbol symbols.RightBrace) close, sign_word symbols.LeftBrace, (commas (map constant_field_leaves (map (λ e. e.0) fields.items)), placed (symbol symbols.RightBrace) close, (map (λ e. e.0) fields.items, (is.1, firsts_are IsConstantField fields.items), refl), placed_word (symbol symbols.RightBrace) close, refl), refl), refl), refl)
+    each (constant.Struct of fields close) is at = (name_leaves of, sign symbols.ColonColon ++ sign symbols.LeftBrace ++ commas (map constant_field_leaves (map (λ e. e.0) fields.items)) ++ placed (symbol symbols.RightBrace) close, (of, is.0, refl), (sign symbols.ColonColon, sign symbols.LeftBrace ++ commas (map constant_field_leaves (map (λ e. e.0) fields.items)) ++ placed (symbol symbols.RightBrace) close, sign_word symbols.ColonColon, inr (sign symbols.LeftBrace, commas (map constant_field_leaves (map (λ e. e.0) fields.items)) ++ placed (symbol symbols.RightBrace) close, sign_word symbols.LeftBrace, (commas (map constant_field_leaves (map (λ e. e.0) fields.items)), placed (symbol symbols.RightBrace) close, (map (λ e. e.0) fields.items, (is.1, firsts_are IsConstantField fields.items, held_fit IsConstantField fields), refl), placed_word (symbol symbols.RightBrace) close, refl), refl), refl), refl)
     each (constant.Array place elements) is at = absurd (sign_or_name (ap (option_map kind_of) at ∙ named))
 
 pub constant_bracket : (t : Constant) → IsConstant t → (v : List Leaf) (next : Option Terminal) → first (constant_leaves t ++ v) ≡ next → next ≡ Some (symbol symbols.LeftBracket) → ConstantArrayWord (constant_leaves t)
@@ -70,7 +83,7 @@ constant_bracket t is v next at here = constant_case (λ u. first (u ++ v) ≡ n
     each (constant.Literal l) is at = absurd (literal_or_sign (at ∙ here))
     each (constant.Member of member) is at = absurd (name_or_sign (at ∙ here))
     each (constant.Struct of fields close) is at = absurd (name_or_sign (at ∙ here))
-    each (constant.Array place elements) is at = (placed (symbol symbols.LeftBracket) place, commas (map constant_leaves (map (λ e. e.0) elements.items)) ++ sign symbols.RightBracket, placed_word (symbol symbols.LeftBracket) place, (commas (map constant_leaves (map (λ e. e.0) elements.items)), sign symbols.RightBracket, (map (λ e. e.0) elements.items, (is, firsts_are IsConstant elements.items), refl), sign_word symbols.RightBracket, refl), refl)
+    each (constant.Array place elements) is at = (placed (symbol symbols.LeftBracket) place, commas (map constant_leaves (map (λ e. e.0) elements.items)) ++ sign symbols.RightBracket, placed_word (symbol symbols.LeftBracket) place, (commas (map constant_leaves (map (λ e. e.0) elements.items)), sign symbols.RightBracket, (map (λ e. e.0) elements.items, (is, firsts_are IsConstant elements.items, held_fit IsConstant elements), refl), sign_word symbols.RightBracket, refl), refl)
 
 pub constant_literal : (t : Constant) → IsConstant t → (v : List Leaf) (next : Option Terminal) → first (constant_leaves t ++ v) ≡ next → (option_map kind_of next ≡ Some kinds.Name → ⊥) → (next ≡ Some (symbol symbols.LeftBracket) → ⊥) → Part IsLiteral literal_leaves (constant_leaves t)
 constant_literal t is v next at named here = constant_case (λ u. first (u ++ v) ≡ next → Part IsLiteral literal_leaves u) each t is at
@@ -96,3 +109,73 @@ pub constant_field_word : (t : ConstantField) → IsConstantField t → Constant
 constant_field_word t is =
     let held = constant_field_held t is in
     subst ConstantFieldWord (sym (constant_field t ∙ ap (λ d. name_leaves d.name ++ sign symbols.Colon ++ constant_leaves d.value) (sym held.1))) (constant_field_layer_word held.0 (subst IsConstantFieldLayer (sym held.1) (constant_field_here t is)))
+
+constant_field_within : Within ConstantFieldWord (Part IsConstantField constant_field_leaves)
+constant_field_within q both =
+    made q (like_then both (like_part both.2) (like_then both.3 (like_one None both.3.2) (like_part both.3.3))) (roll-ConstantField (record { name = both.2.0; value = both.3.3.0 }))
+    (is_constant_field both.2.0 both.3.3.0 both.2.1 both.3.3.1) (leaves_constant_field both.2.0 both.3.3.0)
+
+some_constant_field_word : Has ConstantFieldWord
+some_constant_field_word = some_then some_name (some_then (some_one (symbol symbols.Colon)) some_constant)
+
+pub constant_field_start : {source : Source} {cursor : Cursor} {Follow : Option Terminal → Type 0} → Goes source cursor cursor (Part IsConstantField constant_field_leaves) Follow ConstantFieldWord
+constant_field_start = starts ConstantFieldWord constant_field_word some_constant_field_word constant_field_within
+
+pub constants_listed : Listed InVector IsConstant constant_leaves
+constants_listed = in_vector some_constant
+
+pub constant_fields_listed : Listed InVector IsConstantField constant_field_leaves
+constant_fields_listed = let found = constant_field_within some_constant_field_word.0 some_constant_field_word.1 in in_vector (found.0, found.1)
+
+-- what stands behind `::` of a constant, and what is a constant
+abbrev pub FieldsTail : List Leaf → Type 0
+FieldsTail = Then (Commas InVector IsConstantField constant_field_leaves) (One (symbol symbols.RightBrace))
+
+pub some_fields_tail : Has FieldsTail
+some_fields_tail = some_then (some_commas constant_fields_listed) (some_one (symbol symbols.RightBrace))
+
+some_named_constant : Has NamedConstantWord
+some_named_constant = some_then some_name (some_then (some_one (symbol symbols.ColonColon)) (some_name.0, inl some_name.1))
+
+pub named_constant_start : {source : Source} {cursor : Cursor} {Follow : Option Terminal → Type 0} → Goes source cursor cursor NamedConstantWord Follow NamedConstantWord
+named_constant_start = begin NamedConstantWord some_named_constant
+
+named_constant_within : Within NamedConstantWord (Part IsConstant constant_leaves)
+named_constant_within q both = of both.3.3
+  where
+    of : ConstantColonsWord both.3.1 → (r : List Leaf) × Part IsConstant constant_leaves r × Same r q
+    of (inl member) =
+        made q (like_then both (like_part both.2) (like_then both.3 (like_one None both.3.2) (like_part member))) (constant_views.made-Member both.2.0 member.0)
+        (is_constant_member both.2.0 member.0 (both.2.1, member.1)) (leaves_constant_member both.2.0 member.0)
+    of (inr tail) =
+        let fields = vector tail.3.2.0 tail.3.2.1.2 in
+        made q (like_then both (like_part both.2) (like_then both.3 (like_one None both.3.2) (like_then tail (like_one None tail.2) (like_then tail.3 (like_part tail.3.2) (like_one (Some 0) tail.3.3)))))
+        (constant_views.Struct both.2.0 fields 0) (is_constant_struct both.2.0 fields 0 tail.3.2.1.1 (both.2.1, tail.3.2.1.0)) (struct_constant both.2.0 fields 0)
+
+some_constant_array : Has ConstantArrayWord
+some_constant_array = some_then (some_one (symbol symbols.LeftBracket)) (some_then (some_commas constants_listed) (some_one (symbol symbols.RightBracket)))
+
+pub constant_array_start : {source : Source} {cursor : Cursor} {Follow : Option Terminal → Type 0} → Goes source cursor cursor ConstantArrayWord Follow ConstantArrayWord
+constant_array_start = begin ConstantArrayWord some_constant_array
+
+constant_array_within : Within ConstantArrayWord (Part IsConstant constant_leaves)
+constant_array_within q both =
+    let elements = vector both.3.2.0 both.3.2.1.2 in
+    made q (like_then both (like_one (Some 0) both.2) (like_then both.3 (like_part both.3.2) (like_one None both.3.3))) (constant_views.Array 0 elements)
+    (is_constant_array 0 elements both.3.2.1.1 both.3.2.1.0) (array_constant 0 elements)
+
+literal_constant_within : Within (Part IsLiteral literal_leaves) (Part IsConstant constant_leaves)
+literal_constant_within q part = made q (like_part part) (constant_views.made-Literal part.0) (is_constant_literal part.0 part.1) (leaves_constant_literal part.0)
+
+-- a constant by the next token
+pub constant_at_name : {source : Source} {cursor : Cursor} {Follow : Option Terminal → Type 0} → kind_at source cursor ≡ Some kinds.Name → Goes source cursor cursor (Part IsConstant constant_leaves) Follow NamedConstantWord
+constant_at_name {source} {cursor} named =
+    narrow_part NamedConstantWord (λ x is v at. constant_named x is v (next source cursor) at (kind_of_next source cursor ∙ named)) some_named_constant named_constant_within
+
+pub constant_at_bracket : {source : Source} {cursor : Cursor} {Follow : Option Terminal → Type 0} → next source cursor ≡ Some (symbol symbols.LeftBracket) → Goes source cursor cursor (Part IsConstant constant_leaves) Follow ConstantArrayWord
+constant_at_bracket {source} {cursor} here = narrow_part ConstantArrayWord (λ x is v at. constant_bracket x is v (next source cursor) at here) some_constant_array constant_array_within
+
+pub constant_elsewhere : {source : Source} {cursor : Cursor} {Follow : Option Terminal → Type 0} → (kind_at source cursor ≡ Some kinds.Name → ⊥) → (next source cursor ≡ Some (symbol symbols.LeftBracket) → ⊥) →
+    Goes source cursor cursor (Part IsConstant constant_leaves) Follow (Part IsLiteral literal_leaves)
+constant_elsewhere {source} {cursor} named here =
+    narrow_part (Part IsLiteral literal_leaves) (λ x is v at. constant_literal x is v (next source cursor) at (λ e. named (sym (kind_of_next source cursor) ∙ e)) here) some_literal literal_constant_within

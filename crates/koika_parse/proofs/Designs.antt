@@ -1,25 +1,27 @@
 -- What the readers say of whole designs.
 use Rattle.std.proofs.Common.{◌≡◌, ℕ, zero, suc, ◌+◌, ◌<◌, ◌≤◌, Some, Result, Ok, Err, List, [], ◌∷◌, ◌++◌, map, drop, length, get_or, length-append, append-nil, append_assoc, drop-cons, inl, inr, refl, sym, ap, ◌∙◌, subst, arith}
 use Rattle.std.specs.Prelude.{slice_get, ⊤}
-use Rattle.std.specs.List.{AllZip}
 use Rattle.std.specs.Option.{option_map}
-use Rattle.std.proofs.lemmas.List.{drop_all, length-drop}
+use Rattle.std.proofs.lemmas.List.{drop_all, length-drop, map-append}
 use Rattle.kw_base.specs.Fault.{IfFault}
 use Rattle.kw_base.specs.Place.{place_at}
 use Rattle.kw_base.specs.declared.fault.Fault.{Fault}
 use Rattle.kw_base.specs.declared.fault.Refusal.{Refusal}
 use Rattle.kw_base.specs.declared.fault.Refusal.TheVariants as refusals
 use Rattle.koika_syntax.specs.Grammar.{Derives, IsDesign, tree_leaves}
-use Rattle.koika_syntax.specs.Tree.{Leaf, Terminal, IsLeafAt, terminal_of}
+use Rattle.koika_syntax.specs.Tree.{Leaf, Terminal, terminal_of}
 use Rattle.koika_syntax.specs.declared.token.Token.{Token}
 use Rattle.koika_syntax.specs.declared.tree.Tree.{Tree}
 use Rattle.koika_parse.specs.Brackets.{AreFewOpen, open_behind, open_behind_all}
-use Rattle.koika_parse.specs.Expected.{AgreesUpTo, first, Ends, Takes}
-use Rattle.koika_parse.specs.Faults.{NoneGoesOn, OpensTooMany, place_behind, seen, StandsBetween}
+use Rattle.koika_parse.specs.Expected.{AgreesUpTo, first, Ends, Front, Takes}
+use Rattle.koika_parse.specs.Faults.{BeginsWith, GoesOn, NoneGoesOn, OpensTooMany, place_behind, seen, StandsBetween}
+use Rattle.koika_parse.specs.Laws.{ReadsBack}
+use Rattle.koika_parse.proofs.Unambiguous.{read_again}
 use Rattle.koika_parse.specs.Reading.{Reads, next}
 use Rattle.koika_parse.specs.Stops.{IsFaultOf}
 use Rattle.koika_parse.specs.Words.{DesignWord, end_follows}
 use Rattle.koika_parse.proofs.Expected.{never_none, same_of_some}
+use Rattle.koika_parse.proofs.Seen.{few_seen, open_seen, same_head, same_tail, zip_terminals}
 use Rattle.koika_parse.specs.declared.cursor.Cursor.{Cursor}
 use Rattle.koika_parse.specs.declared.source.Source.{Source}
 use Rattle.koika_parse.specs.declared.stop.Stop.{Stop}
@@ -30,18 +32,6 @@ pub fault_as : {X : Type 0} {P Q : Fault → Type 0} (result : Result X Refusal)
 fault_as (Ok x) is as_this = tt
 fault_as (Err (refusals.Fault fault)) is as_this = as_this fault is
 fault_as (Err refusals.NoMemory) is as_this = tt
-
--- equal lists have equal first items and equal rests
-head_or : {A : Type 0} → A → List A → A
-head_or d [] = d
-head_or d (x ∷ xs) = x
-
-same_head : {A : Type 0} {x y : A} {xs ys : List A} → x ∷ xs ≡ y ∷ ys → x ≡ y
-unfolding head_or
-same_head {A} {x} same = ap (head_or x) same
-
-same_tail : {A : Type 0} {x y : A} {xs ys : List A} → x ∷ xs ≡ y ∷ ys → xs ≡ ys
-same_tail same = ap (drop 1) same
 
 -- a design whose terminals are the tokens', up to some token
 agrees_front : (text : List ℕ) (w : List Leaf) (before behind : List Token) (rest : List Terminal) (i : ℕ) → map (λ leaf. leaf.terminal) w ≡ map (terminal_of text) before ++ rest → i < length before →
@@ -58,12 +48,6 @@ agrees_whole text [] (token ∷ tokens) i same = absurd (omega (arith, ap length
 agrees_whole text (leaf ∷ w) [] i same = absurd (omega (arith, ap length same))
 agrees_whole text (leaf ∷ w) (token ∷ tokens) zero same = ap Some (same_head same)
 agrees_whole text (leaf ∷ w) (token ∷ tokens) (suc i) same = agrees_whole text w tokens i (same_tail same)
-
-zip_terminals : (text : List ℕ) (leaves : List Leaf) (tokens : List Token) → AllZip (IsLeafAt text) leaves tokens → map (λ leaf. leaf.terminal) leaves ≡ map (terminal_of text) tokens
-zip_terminals text [] [] zip = refl
-zip_terminals text [] (token ∷ tokens) zip = absurd zip
-zip_terminals text (leaf ∷ leaves) [] zip = absurd zip
-zip_terminals text (leaf ∷ leaves) (token ∷ tokens) zip = ap (λ t. t ∷ map (λ l. l.terminal) leaves) zip.0.0 ∙ ap (λ ts. terminal_of text token ∷ ts) (zip_terminals text leaves tokens zip.1)
 
 -- which designs reading refuses
 abbrev Refuses : Stop → Tree → Type 0
@@ -96,22 +80,6 @@ none_goes_on {source} {old} {new} at depth takes before (token ∷ behind) split
     agrees_front source.text.now (tree_leaves tree) (before ++ token ∷ []) behind begins.rest cursor.at begins.terminals (omega (arith, long, low))
     ∙ ap (λ ts. option_map (terminal_of source.text.now) (slice_get ts cursor.at)) (sym front))
 
--- brackets count alike where the terminals are the same
-few_seen : (text : List ℕ) (depth : ℕ) (leaves : List Leaf) (tokens : List Token) → AllZip (IsLeafAt text) leaves tokens → AreFewOpen depth leaves → AreFewOpen depth (seen text tokens)
-few_seen text depth [] [] zip few = tt
-few_seen text depth [] (token ∷ tokens) zip few = absurd zip
-few_seen text depth (leaf ∷ leaves) [] zip few = absurd zip
-few_seen text depth (leaf ∷ leaves) (token ∷ tokens) zip few =
-    let same : open_behind depth leaf.terminal ≡ open_behind depth (terminal_of text token) = ap (open_behind depth) zip.0.0 in
-    (subst (λ n. n ≤ 64) same few.0, few_seen text (open_behind depth (terminal_of text token)) leaves tokens zip.1 (subst (λ n. AreFewOpen n leaves) same few.1))
-
-open_seen : (text : List ℕ) (depth : ℕ) (leaves : List Leaf) (tokens : List Token) → AllZip (IsLeafAt text) leaves tokens → open_behind_all depth leaves ≡ open_behind_all depth (seen text tokens)
-open_seen text depth [] [] zip = refl
-open_seen text depth [] (token ∷ tokens) zip = absurd zip
-open_seen text depth (leaf ∷ leaves) [] zip = absurd zip
-open_seen text depth (leaf ∷ leaves) (token ∷ tokens) zip =
-    ap (λ n. open_behind_all n leaves) (ap (open_behind depth) zip.0.0) ∙ open_seen text (open_behind depth (terminal_of text token)) leaves tokens zip.1
-
 -- the next token is the first one behind
 next_is : (source : Source) (cursor : Cursor) (behind : List Token) → drop cursor.at source.tokens.now ≡ behind → next source cursor ≡ option_map (terminal_of source.text.now) (slice_get behind 0)
 next_is source cursor behind ends = ap (option_map (terminal_of source.text.now)) (at_drop source.tokens.now cursor.at ∙ ap (λ ts. slice_get ts 0) ends)
@@ -136,41 +104,90 @@ split_of {source} at reads = ap (λ n. drop n source.tokens.now) (sym at) ∙ re
 few_before : {source : Source} {old new : Cursor} (read : List Leaf) → old.depth ≡ 0 → (reads : Reads source old new read) → AreFewOpen 0 (seen source.text.now reads.tokens)
 few_before {source} read depth reads = few_seen source.text.now 0 read reads.tokens reads.each (subst (λ d. AreFewOpen d read) depth (reads.few (omega (arith, depth))))
 
+-- some design begins with the tokens that were read
+abbrev begun : {source : Source} {old new : Cursor} (rest : List Leaf) (front : Front source old new DesignWord rest) → BeginsWith source.text.now front.reads.tokens front.word.0
+begun {source} rest front = record {
+  design = front.word.1;
+  rest = map (λ leaf. leaf.terminal) rest;
+  terminals = ap (map (λ leaf. leaf.terminal)) (sym front.word.2) ∙ front.same ∙ map-append (λ leaf. leaf.terminal) front.read rest
+      ∙ ap (λ ts. ts ++ map (λ leaf. leaf.terminal) rest) (zip_terminals source.text.now front.read front.reads.tokens front.reads.each);
+}
+
+-- and some design goes on with the token that opens a bracket too many
+goes_on : {source : Source} {old new : Cursor} (leaf : Leaf) (rest : List Leaf) (front : Front source old new DesignWord (leaf ∷ rest)) → next source new ≡ Some leaf.terminal → (behind : List Token) → drop new.at source.tokens.now ≡ behind →
+    GoesOn source.text.now front.reads.tokens behind
+goes_on {source} {old} {new} leaf rest front at [] ends = never_none (sym (next_is source new [] ends) ∙ at)
+goes_on {source} {old} {new} leaf rest front at (token ∷ behind) ends =
+    let text = source.text.now in
+    let before = front.reads.tokens in
+    let more = map (λ (l : Leaf). l.terminal) rest in
+    let same : leaf.terminal ≡ terminal_of text token = same_of_some (sym at ∙ next_is source new (token ∷ behind) ends) in
+    let begins = begun (leaf ∷ rest) front in (
+      front.word.0,
+      record {
+        design = begins.design;
+        rest = more;
+        terminals = begins.terminals ∙ ap (λ t. map (terminal_of text) before ++ (t ∷ more)) same ∙ sym (append_assoc (map (terminal_of text) before) (terminal_of text token ∷ []) more)
+            ∙ ap (λ ts. ts ++ more) (sym (map-append (terminal_of text) before (token ∷ [])));
+      },
+    )
+
 -- the fault stands where reading stops
 pub stands_between : {source : Source} {old new : Cursor} (stop : Stop) (fault : Fault) → old.at ≡ 0 → old.depth ≡ 0 → Takes {X = Tree} source old new DesignWord end_follows (Err stop) → IsFaultOf source new stop fault →
     StandsBetween source.text.now source.tokens.now fault
 stands_between {source} {old} {new} stops.Unexpected fault at depth takes is =
-    let reads = takes.stands.1 in
-    let split = split_of at reads in
+    let front = takes.leads.1 in
+    let split = split_of at front.reads in
     record {
-      before = reads.tokens;
+      before = front.reads.tokens;
       behind = drop new.at source.tokens.now;
       split = split;
-      few = few_before takes.stands.0 depth reads;
-      why = inl (is, none_goes_on at depth takes reads.tokens (drop new.at source.tokens.now) split refl);
+      few = few_before front.read depth front.reads;
+      begun = (front.word.0, begun takes.leads.0 front);
+      why = inl (is, none_goes_on at depth takes front.reads.tokens (drop new.at source.tokens.now) split refl);
     }
 stands_between {source} {old} {new} stops.TooDeep fault at depth takes is =
-    let reads = takes.stands.1 in
-    let depths : new.depth ≡ open_behind_all 0 (seen source.text.now reads.tokens) = reads.depth ∙ ap (λ n. open_behind_all n takes.stands.0) depth ∙ open_seen source.text.now 0 takes.stands.0 reads.tokens reads.each in
+    let leaf = takes.leads.0 in
+    let rest = takes.leads.1 in
+    let front = takes.leads.2 in
+    let tokens = front.reads.tokens in
+    let behind = drop new.at source.tokens.now in
+    let depths : new.depth ≡ open_behind_all 0 (seen source.text.now tokens) = front.reads.depth ∙ ap (λ n. open_behind_all n front.read) depth ∙ open_seen source.text.now 0 front.read tokens front.reads.each in
     record {
-      before = reads.tokens;
-      behind = drop new.at source.tokens.now;
-      split = split_of at reads;
-      few = few_before takes.stands.0 depth reads;
-      why = inr (is, opens source new reads.tokens (drop new.at source.tokens.now) takes.stands.2 refl depths takes.stands.3 takes.stands.4);
+      before = tokens;
+      behind = behind;
+      split = split_of at front.reads;
+      few = few_before front.read depth front.reads;
+      begun = (front.word.0, begun (leaf ∷ rest) front);
+      why = inr (is, opens source new tokens behind leaf.terminal refl depths takes.leads.3 takes.leads.4, goes_on leaf rest front takes.leads.3 behind refl);
     }
 stands_between {source} {old} {new} stops.NoMemory fault at depth takes is = absurd is
 
--- where reading stops, no tree with few open brackets derives the tokens
-pub none_derives : {source : Source} {old new : Cursor} {stop : Stop} (fault : Fault) → old.at ≡ 0 → old.depth ≡ 0 → Takes {X = Tree} source old new DesignWord end_follows (Err stop) → IsFaultOf source new stop fault →
-    (tree : Tree) → Derives source.text.now tree source.tokens.now → AreFewOpen 0 (tree_leaves tree) → ⊥
-none_derives {source} {old} {new} {stop} fault at depth takes is tree derives few =
-    never at depth takes tree (such stop is) derives.design (λ cursor low. agrees_whole source.text.now (tree_leaves tree) source.tokens.now cursor.at (zip_terminals source.text.now (tree_leaves tree) source.tokens.now derives.leaves))
+-- where reading stops, no tree with few open brackets has these tokens
+none_has : {source : Source} {old new : Cursor} {stop : Stop} → old.at ≡ 0 → old.depth ≡ 0 → Takes {X = Tree} source old new DesignWord end_follows (Err stop) → (fault : Fault) → IsFaultOf source new stop fault →
+    (tree : Tree) → IsDesign tree → AreFewOpen 0 (tree_leaves tree) → map (λ leaf. leaf.terminal) (tree_leaves tree) ≡ map (terminal_of source.text.now) source.tokens.now → ⊥
+none_has {source} {old} {new} {stop} at depth takes fault is tree design few same =
+    never at depth takes tree (such stop is) design (λ cursor low. agrees_whole source.text.now (tree_leaves tree) source.tokens.now cursor.at same)
   where
     such : (stop : Stop) → IsFaultOf source new stop fault → Refuses stop tree
     such stops.Unexpected is = tt
     such stops.TooDeep is = few
     such stops.NoMemory is = absurd is
+
+-- where reading stops, no tree with few open brackets derives the tokens
+pub none_derives : {source : Source} {old new : Cursor} {stop : Stop} (fault : Fault) → old.at ≡ 0 → old.depth ≡ 0 → Takes {X = Tree} source old new DesignWord end_follows (Err stop) → IsFaultOf source new stop fault →
+    (tree : Tree) → Derives source.text.now tree source.tokens.now → AreFewOpen 0 (tree_leaves tree) → ⊥
+none_derives {source} {old} {new} {stop} fault at depth takes is tree derives few =
+    none_has at depth takes fault is tree derives.design few (zip_terminals source.text.now (tree_leaves tree) source.tokens.now derives.leaves)
+
+-- tokens that are a tree's are read as that tree
+pub reads_back_found : (text : List ℕ) (tokens : List Token) (found : Tree) → Derives text found tokens → ReadsBack text tokens (Ok found)
+reads_back_found text tokens found derives tree is same few = read_again text tokens tree found is same derives
+
+pub reads_back_refused : {source : Source} {old new : Cursor} {stop : Stop} (refusal : Refusal) → old.at ≡ 0 → old.depth ≡ 0 → Takes {X = Tree} source old new DesignWord end_follows (Err stop) → IfFault {X = Tree} (Err refusal) (IsFaultOf source new stop) →
+    ReadsBack source.text.now source.tokens.now (Err refusal)
+reads_back_refused (refusals.Fault fault) at depth takes is tree design same few = none_has at depth takes fault is tree design few (sym same)
+reads_back_refused refusals.NoMemory at depth takes is tree design same few = tt
 
 -- the places of the next token and of the end
 pub place_token : (text : List ℕ) (tokens : List Token) (i : ℕ) (d : Token) → i < length tokens → place_at text (get_or tokens i d).start ≡ place_behind text (drop i tokens)

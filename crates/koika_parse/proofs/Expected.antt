@@ -1,10 +1,10 @@
 -- From step to step, what is left of a word of a part.
-use Rattle.std.proofs.Common.{◌≡◌, ℕ, ◌+◌, ◌<◌, ◌≤◌, Option, None, Some, Result, Ok, Err, IsErr, IsErrAnd, List, [], ◌∷◌, ◌++◌, drop, length, get_or, append_assoc, refl, sym, ap, ◌∙◌, subst, arith}
-use Rattle.std.proofs.lemmas.List.{drop-drop}
+use Rattle.std.proofs.Common.{◌≡◌, ℕ, zero, suc, ◌+◌, ◌<◌, ◌≤◌, Option, None, Some, Result, Ok, Err, IsErr, IsErrAnd, List, [], ◌∷◌, ◌++◌, drop, length, map, get_or, append_assoc, refl, sym, ap, ◌∙◌, subst, arith}
+use Rattle.std.proofs.lemmas.List.{drop-drop, map-append}
 use Rattle.std.proofs.lemmas.Option.{slice_get-get_or, slice_get_past}
 use Rattle.kw_bits.specs.BitVector.{BitVector}
 use Rattle.std.specs.Bool.{⊤}
-use Rattle.std.specs.Prelude.{Bool, false, IsTrue, ◌↔◌}
+use Rattle.std.specs.Prelude.{slice_get, slice_range, Bool, false, IsTrue, ◌↔◌}
 use Rattle.std.specs.Option.{option_map}
 use Rattle.koika_syntax.specs.Tree.{Leaf, Terminal, name, number, literal, keyword, symbol, placed, terminal_of}
 use Rattle.koika_syntax.specs.declared.keyword.Keyword.{Keyword}
@@ -13,7 +13,7 @@ use Rattle.koika_syntax.specs.declared.token.Token.{Token}
 use Rattle.koika_syntax.specs.declared.token.TokenKind.{TokenKind}
 use Rattle.koika_syntax.specs.declared.token.TokenKind.TheVariants as kinds
 use Rattle.koika_parse.specs.Brackets.{AreFewOpen, open_behind}
-use Rattle.koika_parse.specs.Expected.{Part, One, Then, first, Any, Behind, AgreesUpTo, Leaves, Ends, Stands, Takes}
+use Rattle.koika_parse.specs.Expected.{InVector, Part, One, Then, first, Any, Behind, AgreesUpTo, Leaves, Ends, Same, Front, Leads, Takes}
 use Rattle.koika_parse.proofs.Reading.{in_turn, nothing}
 use Rattle.koika_parse.specs.Reading.{Reads, next, kind_at, token_at}
 use Rattle.koika_parse.specs.declared.cursor.Cursor.{Cursor}
@@ -25,16 +25,71 @@ use Rattle.koika_parse.specs.declared.stop.Stop.TheVariants as stops
 abbrev pub Empty : List Leaf → Type 0
 Empty u = u ≡ []
 
--- of a word of the language such a word is left
+-- a language has a word
+abbrev pub Has : (List Leaf → Type 0) → Type 0
+Has P = (q : List Leaf) × P q
+
+-- each word of the one language is a word of the other, with the same tokens
+abbrev pub Within : (P Q : List Leaf → Type 0) → Type 0
+Within P Q = (q : List Leaf) → P q → (r : List Leaf) × Q r × Same r q
+
+-- of a word of the language such a word is left, and what has been read and any such word are a word of the language
 pub record Goes (source : Source) (old new : Cursor) (Word : List Leaf → Type 0) (Follow : Option Terminal → Type 0) (Rest : List Leaf → Type 0) : Type 0 where
   pub forward : old.at ≤ new.at
   pub left : (w u v : List Leaf) → AgreesUpTo source new w → Word u → Behind Follow v → drop old.at w ≡ u ++ v → (rest : List Leaf) × Rest rest × Leaves old new w (u ++ v) (rest ++ v)
-  pub read : (read : List Leaf) × Reads source old new read
+  pub read : List Leaf
+  pub reads : Reads source old new read
+  pub some : Has Rest
+  pub back : (q : List Leaf) → Rest q → (u : List Leaf) × Word u × Same u (read ++ q)
 
-stands_on : (X Y : Type 0) (source : Source) (old mid new : Cursor) (stop : Stop) → (read : List Leaf) × Reads source old mid read → Stands {X = X} source mid new (Err stop) → Stands {X = Y} source old new (Err stop)
-stands_on X Y source old mid new stops.Unexpected front stands = (front.0 ++ stands.0, in_turn front.1 stands.1)
-stands_on X Y source old mid new stops.TooDeep front stands = (front.0 ++ stands.0, in_turn front.1 stands.1, stands.2, stands.3, stands.4)
-stands_on X Y source old mid new stops.NoMemory front stands = tt
+-- the same tokens, part by part
+pub same_of : {a b : List Leaf} → a ≡ b → Same a b
+same_of same = ap (λ l. map (λ leaf. leaf.terminal) l) same
+
+pub same_append : (a a' b b' : List Leaf) → Same a a' → Same b b' → Same (a ++ b) (a' ++ b')
+same_append a a' b b' p q =
+    map-append (λ leaf. leaf.terminal) a b ∙ ap (λ t. t ++ map (λ leaf. leaf.terminal) b) p ∙ ap (λ t. map (λ leaf. leaf.terminal) a' ++ t) q
+    ∙ sym (map-append (λ leaf. leaf.terminal) a' b')
+
+-- a part of a word that is read to its end, or not
+between : (a r rest b w u : List Leaf) → Same w (r ++ rest) → Same u (a ++ (w ++ b)) → Same u ((a ++ r) ++ (rest ++ b))
+between a r rest b w u p q =
+    q ∙ same_append a a (w ++ b) ((r ++ rest) ++ b) refl (same_append w (r ++ rest) b b p refl)
+    ∙ same_of (ap (λ t. a ++ t) (append_assoc r rest b) ∙ sym (append_assoc a r (rest ++ b)))
+
+abbrev front_then : {source : Source} {old mid new : Cursor} {Word : List Leaf → Type 0} {Follow : Option Terminal → Type 0} {P Q : List Leaf → Type 0} →
+    Goes source old mid Word Follow (Then P Q) → (rest : List Leaf) → Front source mid new P rest → (b : List Leaf) → Q b → Front source old new Word (rest ++ b)
+front_then {source} {old} {mid} {new} {Word} {Follow} {P} {Q} goes rest front b q =
+    let found = goes.back (front.whole ++ b) (front.whole, b, front.word, q, refl) in
+    record { read = goes.read ++ front.read; reads = in_turn goes.reads front.reads; whole = found.0; word = found.1; same = between goes.read front.read rest b front.whole found.0 front.same found.2 }
+
+abbrev front_last : {source : Source} {old mid new : Cursor} {Word : List Leaf → Type 0} {Follow : Option Terminal → Type 0} {P : List Leaf → Type 0} →
+    Goes source old mid Word Follow P → (rest : List Leaf) → Front source mid new P rest → Front source old new Word rest
+front_last {source} {old} {mid} {new} {Word} {Follow} {P} goes rest front =
+    let found = goes.back front.whole front.word in
+    record {
+      read = goes.read ++ front.read;
+      reads = in_turn goes.reads front.reads;
+      whole = found.0;
+      word = found.1;
+      same = found.2 ∙ same_append goes.read goes.read front.whole (front.read ++ rest) refl front.same ∙ same_of (sym (append_assoc goes.read front.read rest));
+    }
+
+abbrev front_here : {source : Source} {old new : Cursor} {Word : List Leaf → Type 0} {Follow : Option Terminal → Type 0} {P : List Leaf → Type 0} →
+    Goes source old new Word Follow P → (rest : List Leaf) → P rest → Front source old new Word rest
+front_here goes rest word = let found = goes.back rest word in record { read = goes.read; reads = goes.reads; whole = found.0; word = found.1; same = found.2 }
+
+leads_then : (X Y : Type 0) {source : Source} {old mid : Cursor} (new : Cursor) {Word : List Leaf → Type 0} {Follow : Option Terminal → Type 0} {P Q : List Leaf → Type 0} (stop : Stop) →
+    Goes source old mid Word Follow (Then P Q) → Leads {X = X} source mid new P (Err stop) → Leads {X = Y} source old new Word (Err stop)
+leads_then X Y new stops.Unexpected goes leads = (leads.0 ++ goes.some.1.1, front_then goes leads.0 leads.1 goes.some.1.1 goes.some.1.3)
+leads_then X Y new stops.TooDeep goes leads = (leads.0, leads.1 ++ goes.some.1.1, front_then goes (leads.0 ∷ leads.1) leads.2 goes.some.1.1 goes.some.1.3, leads.3, leads.4)
+leads_then X Y new stops.NoMemory goes leads = tt
+
+leads_last : (X Y : Type 0) {source : Source} {old mid : Cursor} (new : Cursor) {Word : List Leaf → Type 0} {Follow : Option Terminal → Type 0} {P : List Leaf → Type 0} (stop : Stop) →
+    Goes source old mid Word Follow P → Leads {X = X} source mid new P (Err stop) → Leads {X = Y} source old new Word (Err stop)
+leads_last X Y new stops.Unexpected goes leads = (leads.0, front_last goes leads.0 leads.1)
+leads_last X Y new stops.TooDeep goes leads = (leads.0, leads.1, front_last goes (leads.0 ∷ leads.1) leads.2, leads.3, leads.4)
+leads_last X Y new stops.NoMemory goes leads = tt
 
 before : (source : Source) (mid new : Cursor) (w : List Leaf) → mid.at ≤ new.at → AgreesUpTo source new w → AgreesUpTo source mid w
 before source mid new w low agrees = λ cursor at. agrees cursor (omega (arith, low, at))
@@ -47,11 +102,12 @@ pub free : (Q : List Leaf → Type 0) (Follow : Option Terminal → Type 0) → 
 free Q Follow q v is behind = tt
 
 -- before anything is read
-pub start : {source : Source} {cursor : Cursor} {Word : List Leaf → Type 0} {Follow : Option Terminal → Type 0} {Rest : List Leaf → Type 0} → ((u : List Leaf) → Word u → Rest u) → Goes source cursor cursor Word Follow Rest
-start {source} {cursor} into = record { forward = omega arith; left = λ w u v agrees word behind here. (u, into u word, record { rest = here; few = λ few. few }); read = ([], nothing source cursor cursor refl) }
+pub start : {source : Source} {cursor : Cursor} {Word : List Leaf → Type 0} {Follow : Option Terminal → Type 0} {Rest : List Leaf → Type 0} → ((u : List Leaf) → Word u → Rest u) → Has Rest → Within Rest Word →
+    Goes source cursor cursor Word Follow Rest
+start {source} {cursor} into some back = record { forward = omega arith; left = λ w u v agrees word behind here. (u, into u word, record { rest = here; few = λ few. few }); read = []; reads = nothing source cursor cursor refl; some = some; back = back }
 
-pub begin : {source : Source} {cursor : Cursor} {Follow : Option Terminal → Type 0} (Word : List Leaf → Type 0) → Goes source cursor cursor Word Follow Word
-begin Word = start (λ u word. word)
+pub begin : {source : Source} {cursor : Cursor} {Follow : Option Terminal → Type 0} (Word : List Leaf → Type 0) → Has Word → Goes source cursor cursor Word Follow Word
+begin Word some = start (λ u word. word) some (λ q word. (q, word, refl))
 
 -- a part more
 pub step : {X : Type 0} {source : Source} {old mid new : Cursor} {Word : List Leaf → Type 0} {Follow Mid : Option Terminal → Type 0} {P Q : List Leaf → Type 0} {x : X} →
@@ -65,7 +121,10 @@ step {X} {source} {old} {mid} {new} {Word} {Follow} {Mid} {P} {Q} {x} goes takes
       let same : found.0 ++ v ≡ a ++ (q ++ v) = ap (λ r. r ++ v) found.1.4 ∙ append_assoc a q v in
       let end : Leaves mid new w (a ++ (q ++ v)) (q ++ v) = takes.takes w a (q ++ v) agrees found.1.2 (apart q v found.1.3 behind) (found.2.rest ∙ same) in
       (q, found.1.3, record { rest = end.rest; few = λ few. end.few (subst (AreFewOpen mid.depth) same (found.2.few few)) });
-  read = (goes.read.0 ++ takes.stands.0, in_turn goes.read.1 takes.stands.1);
+  read = goes.read ++ takes.leads.read;
+  reads = in_turn goes.reads takes.leads.reads;
+  some = (goes.some.1.1, goes.some.1.3);
+  back = λ q word. let front = front_then goes [] takes.leads q word in (front.whole, front.word, front.same);
 }
 
 ends_as : (X Y : Type 0) (stop : Stop) (few few' left left' : Type 0) → (few' → few) → Ends {X = X} (Err stop) few left → Ends {X = Y} (Err stop) few' left'
@@ -84,7 +143,7 @@ stopped {X} {Y} {source} {old} {mid} {new} {Word} {Follow} {Mid} {P} {Q} {stop} 
       let q = found.1.1 in
       let same : found.0 ++ v ≡ a ++ (q ++ v) = ap (λ r. r ++ v) found.1.4 ∙ append_assoc a q v in
       ends_as X Y stop _ _ _ _ (λ few. subst (AreFewOpen mid.depth) same (found.2.few few)) (takes.takes w a (q ++ v) agrees found.1.2 (apart q v found.1.3 behind) (found.2.rest ∙ same));
-  stands = stands_on X Y source old mid new stop goes.read takes.stands;
+  leads = leads_then X Y new stop goes takes.leads;
 }
 
 -- all of it has been read
@@ -94,18 +153,24 @@ finish {X} {source} {old} {new} x goes = record {
   takes = λ w u v agrees word behind here.
       let found = goes.left w u v agrees word behind here in
       subst (λ r. Leaves old new w (u ++ v) (r ++ v)) found.1 found.2;
-  stands = goes.read;
+  leads = front_here goes [] refl;
 }
 
 -- the next token tells what is left
 pub narrow : {source : Source} {old new : Cursor} {Word : List Leaf → Type 0} {Follow : Option Terminal → Type 0} {Rest Narrower : List Leaf → Type 0} →
-    Goes source old new Word Follow Rest → ((r v : List Leaf) → Rest r → Behind Follow v → first (r ++ v) ≡ next source new → Narrower r) → Goes source old new Word Follow Narrower
-narrow {source} {old} {new} goes tells = record {
+    Goes source old new Word Follow Rest → ((r v : List Leaf) → Rest r → Behind Follow v → first (r ++ v) ≡ next source new → Narrower r) → Has Narrower → Within Narrower Rest → Goes source old new Word Follow Narrower
+narrow {source} {old} {new} goes tells some within = record {
   forward = goes.forward;
   left = λ w u v agrees word behind here.
       let found = goes.left w u v agrees word behind here in
       (found.0, tells found.0 v found.1 behind (sym (ap first found.2.rest) ∙ agrees new (omega arith)), found.2);
   read = goes.read;
+  reads = goes.reads;
+  some = some;
+  back = λ q word.
+      let rest = within q word in
+      let found = goes.back rest.0 rest.1 in
+      (found.0, found.1, found.2 ∙ same_append goes.read goes.read rest.0 q refl rest.2);
 }
 
 -- the next token cannot be
@@ -116,7 +181,7 @@ refused {Y} {source} {old} {new} goes tells = record {
   takes = λ w u v agrees word behind here.
       let found = goes.left w u v agrees word behind here in
       tells found.0 v found.1 behind (sym (ap first found.2.rest) ∙ agrees new (omega arith));
-  stands = goes.read;
+  leads = (goes.some.0, front_here goes goes.some.0 goes.some.1);
 }
 
 -- the last part, and what is made of it
@@ -128,7 +193,7 @@ last {X} {Y} {source} {old} {mid} {new} {Word} {Follow} {Mid} {P} {x} y goes tak
       let found = goes.left w u v (before source mid new w takes.forward agrees) word behind here in
       let end : Leaves mid new w (found.0 ++ v) v = takes.takes w found.0 v agrees found.1 (apart v behind) found.2.rest in
       record { rest = end.rest; few = λ few. end.few (found.2.few few) };
-  stands = (goes.read.0 ++ takes.stands.0, in_turn goes.read.1 takes.stands.1);
+  leads = front_last goes [] takes.leads;
 }
 
 pub last_stopped : {X Y : Type 0} {source : Source} {old mid new : Cursor} {Word : List Leaf → Type 0} {Follow Mid : Option Terminal → Type 0} {P : List Leaf → Type 0} {stop : Stop} →
@@ -138,7 +203,7 @@ last_stopped {X} {Y} {source} {old} {mid} {new} {Word} {Follow} {Mid} {P} {stop}
   takes = λ w u v agrees word behind here.
       let found = goes.left w u v (before source mid new w takes.forward agrees) word behind here in
       ends_as X Y stop _ _ _ _ (λ few. found.2.few few) (takes.takes w found.0 v agrees found.1 (apart v behind) found.2.rest);
-  stands = stands_on X Y source old mid new stop goes.read takes.stands;
+  leads = leads_last X Y new stop goes takes.leads;
 }
 
 -- what any token may follow
@@ -169,9 +234,10 @@ never_none e = subst IsOne (sym e) tt
 
 -- words of one token each, where the next token is known
 pub single : {X : Type 0} {source : Source} {cursor : Cursor} {Is : X → Type 0} {leaves : X → List Leaf} {terminal : Terminal} (leaf : X → Leaf) →
-    ((x : X) → leaves x ≡ leaf x ∷ []) → next source cursor ≡ Some terminal → Goes source cursor cursor (Part Is leaves) Any (One terminal)
-single {X} {source} {cursor} {Is} {leaves} {terminal} leaf each at =
-    narrow (start {source = source} {cursor = cursor} {Word = Part Is leaves} {Follow = Any} {Rest = Part Is leaves} (λ u word. word)) (λ r v word behind next_is. (leaf word.0, same_of_some (sym (ap (λ l. first (l ++ v)) (word.2 ∙ each word.0)) ∙ next_is ∙ at), word.2 ∙ each word.0))
+    ((x : X) → leaves x ≡ leaf x ∷ []) → (x : X) → Is x → (leaf x).terminal ≡ terminal → next source cursor ≡ Some terminal → Goes source cursor cursor (Part Is leaves) Any (One terminal)
+single {X} {source} {cursor} {Is} {leaves} {terminal} leaf each x is one at =
+    narrow (begin {source = source} {cursor = cursor} {Follow = Any} (Part Is leaves) (leaves x, (x, is, refl))) (λ r v word behind next_is. (leaf word.0, same_of_some (sym (ap (λ l. first (l ++ v)) (word.2 ∙ each word.0)) ∙ next_is ∙ at), word.2 ∙ each word.0))
+    (leaf x ∷ [], (leaf x, one, refl)) (λ q word. (leaves x, (x, is, refl), same_of (each x) ∙ ap (λ t. t ∷ []) (one ∙ sym word.1) ∙ same_of (sym word.2)))
 
 -- a token has a kind
 abbrev pub kind_of : Terminal → TokenKind
@@ -203,6 +269,19 @@ some_next source cursor {kind} at = of_next (next source cursor) (kind_of_next s
     of_next None e = absurd (never_none e)
     of_next (Some terminal) e = (terminal, refl)
 
+-- where there is a token, it is one of the text's, and a vector has room for one item more than tokens in front of it
+pub within : (source : Source) (cursor : Cursor) {terminal : Terminal} → next source cursor ≡ Some terminal → cursor.at < length source.tokens.now
+within source cursor {terminal} at = of source.tokens.now cursor.at at
+  where
+    of : (tokens : List Token) (i : ℕ) → option_map (terminal_of source.text.now) (slice_get tokens i) ≡ Some terminal → i < length tokens
+    of [] zero e = absurd (never_none e)
+    of [] (suc i) e = absurd (never_none e)
+    of (token ∷ tokens) zero e = omega arith
+    of (token ∷ tokens) (suc i) e = omega (arith, of tokens i e)
+
+pub room_at : (source : Source) (cursor : Cursor) (n : ℕ) {terminal : Terminal} → next source cursor ≡ Some terminal → n ≤ cursor.at + 1 → InVector (n + 1)
+room_at source cursor n at low = omega (arith, within source cursor at, low, source.short)
+
 -- the kind of the next token
 pub kind_is : (source : Source) (cursor : Cursor) {terminal : Terminal} → Some terminal ≡ next source cursor → kind_at source cursor ≡ Some (kind_of terminal)
 kind_is source cursor at = sym (kind_of_next source cursor) ∙ ap (option_map kind_of) (sym at)
@@ -221,7 +300,7 @@ one_takes {X} {source} {old} {new} {terminal} {place} x forward reads = record {
         rest = ap (λ n. drop n w) forward ∙ sym (drop-drop 1 old.at w) ∙ ap (drop 1) front;
         few = λ few. subst (λ d. AreFewOpen d v) depth (subst (AreFewOpen old.depth) (ap (λ l. l ++ v) one.2) few).1;
       };
-  stands = (placed terminal place, reads);
+  leads = record { read = placed terminal place; reads = reads; whole = placed terminal place; word = (_, refl, refl); same = refl };
 }
 
 -- the same, where any token may follow the part
@@ -248,8 +327,8 @@ fails_last {Follow = Follow} result is goes takes = handed result is (last_stopp
 
 -- the words of a part, as their own parts
 pub starts : {X : Type 0} {source : Source} {cursor : Cursor} {Is : X → Type 0} {leaves : X → List Leaf} {Follow : Option Terminal → Type 0} (Rest : List Leaf → Type 0) →
-    ((x : X) → Is x → Rest (leaves x)) → Goes source cursor cursor (Part Is leaves) Follow Rest
-starts Rest parts = start (λ u word. subst Rest (sym word.2) (parts word.0 word.1))
+    ((x : X) → Is x → Rest (leaves x)) → Has Rest → Within Rest (Part Is leaves) → Goes source cursor cursor (Part Is leaves) Follow Rest
+starts Rest parts some made = start (λ u word. subst Rest (sym word.2) (parts word.0 word.1)) some made
 
 -- what is left is read by another reader
 pub tail : {X : Type 0} {source : Source} {old mid new : Cursor} {Word : List Leaf → Type 0} {Follow Mid : Option Terminal → Type 0} {P : List Leaf → Type 0} (result : Result X Stop) →
@@ -285,8 +364,8 @@ fails_last_as result is goes takes apart = handed result is (last_stopped goes t
 
 -- what is left, said otherwise
 pub goes_as : {source : Source} {old new : Cursor} {Word : List Leaf → Type 0} {Follow : Option Terminal → Type 0} {Rest Other : List Leaf → Type 0} →
-    Goes source old new Word Follow Rest → ((r : List Leaf) → Rest r → Other r) → Goes source old new Word Follow Other
-goes_as goes other = narrow goes (λ r v word behind next_is. other r word)
+    Goes source old new Word Follow Rest → ((r : List Leaf) → Rest r → Other r) → Has Other → Within Other Rest → Goes source old new Word Follow Other
+goes_as goes other some within = narrow goes (λ r v word behind next_is. other r word) some within
 
 pub name_of : (t : Terminal) → kind_of t ≡ kinds.Name → (bytes : List ℕ) × (t ≡ name bytes)
 name_of (name bytes) e = (bytes, refl)
@@ -294,6 +373,16 @@ name_of (number n) e = cc e
 name_of (literal bits) e = cc e
 name_of (keyword k) e = cc e
 name_of (symbol s) e = cc e
+
+pub named_terminal : (text : List ℕ) (token : Token) → token.kind ≡ kinds.Name → name (slice_range text token.start token.end) ≡ terminal_of text token
+named_terminal text token named = sym (ap (λ kind. terminal_of text (record { kind = kind; start = token.start; end = token.end })) named)
+
+pub number_of_kind : (terminal : Terminal) {n : ℕ} → kind_of terminal ≡ kinds.Number n → number n ≡ terminal
+number_of_kind (name bytes) e = cc e
+number_of_kind (number m) e = cc e
+number_of_kind (literal found) e = cc e
+number_of_kind (keyword k) e = cc e
+number_of_kind (symbol s) e = cc e
 
 pub literal_kind : (source : Source) (cursor : Cursor) (d : Token) {kind : TokenKind} → cursor.at < length source.tokens.now → kind_at source cursor ≡ Some kind → (get_or source.tokens.now cursor.at d).kind ≡ kind
 literal_kind source cursor d within at = same_of_some (sym (ap (option_map (λ t. t.kind)) (slice_get-get_or source.tokens.now cursor.at d within)) ∙ at)
@@ -303,8 +392,10 @@ no_kind source cursor past at = never_none (sym (ap (option_map (λ t. t.kind)) 
 
 -- a part by the next token
 pub narrow_part : {X : Type 0} {source : Source} {cursor : Cursor} {Is : X → Type 0} {leaves : X → List Leaf} {Follow : Option Terminal → Type 0} (P : List Leaf → Type 0) →
-    ((x : X) → Is x → (v : List Leaf) → first (leaves x ++ v) ≡ next source cursor → P (leaves x)) → Goes source cursor cursor (Part Is leaves) Follow P
-narrow_part P tells = narrow (start (λ u word. word)) (λ r v word behind next_is. subst P (sym word.2) (tells word.0 word.1 v (ap (λ l. first (l ++ v)) (sym word.2) ∙ next_is)))
+    ((x : X) → Is x → (v : List Leaf) → first (leaves x ++ v) ≡ next source cursor → P (leaves x)) → Has P → Within P (Part Is leaves) → Goes source cursor cursor (Part Is leaves) Follow P
+narrow_part {X} {source} {cursor} {Is} {leaves} {Follow} P tells some within =
+    let one = within some.0 some.1 in
+    narrow (begin {source = source} {cursor = cursor} {Follow = Follow} (Part Is leaves) (one.0, one.1)) (λ r v word behind next_is. subst P (sym word.2) (tells word.0 word.1 v (ap (λ l. first (l ++ v)) (sym word.2) ∙ next_is))) some within
 
 -- tokens of two kinds differ
 terminal_tag : Terminal → ℕ
@@ -360,18 +451,55 @@ takes_sign {X} {source} {old} {new} {Follow} {result} same takes = subst (λ s. 
 pub not_so : {b : Bool} {P : Type 0} → (IsTrue b ↔ P) → b ≡ false → P → ⊥
 not_so iff fails p = cc (fails, iff.1 p)
 
+-- a token has a word
+pub some_one : (terminal : Terminal) → Has (One terminal)
+some_one terminal = (record { terminal = terminal; place = None } ∷ [], (record { terminal = terminal; place = None }, refl, refl))
+
 -- a token that cannot be
 pub refused_one : {Y : Type 0} {source : Source} {cursor : Cursor} (terminal : Terminal) → (next source cursor ≡ Some terminal → ⊥) → Takes {X = Y} source cursor cursor (One terminal) Any (Err stops.Unexpected)
-refused_one terminal other = refused (begin (One terminal)) (λ r v one behind next_is. other (sym next_is ∙ ap (λ l. first (l ++ v)) one.2 ∙ ap Some one.1))
-
--- no word at all
-pub refused_all : {Y : Type 0} {source : Source} {cursor : Cursor} {Word : List Leaf → Type 0} {Follow : Option Terminal → Type 0} → ((u : List Leaf) → Word u → ⊥) → Takes {X = Y} source cursor cursor Word Follow (Err stops.Unexpected)
-refused_all {Word = Word} none = refused (begin Word) (λ r v word behind next_is. none r word)
+refused_one terminal other = refused (begin (One terminal) (some_one terminal)) (λ r v one behind next_is. other (sym next_is ∙ ap (λ l. first (l ++ v)) one.2 ∙ ap Some one.1))
 
 -- a bracket too many
 pub too_deep : {Y : Type 0} {source : Source} {cursor : Cursor} (terminal : Terminal) → next source cursor ≡ Some terminal → 64 < open_behind cursor.depth terminal → Takes {X = Y} source cursor cursor (One terminal) Any (Err stops.TooDeep)
 too_deep {Y} {source} {cursor} terminal at deep = record {
   forward = omega arith;
   takes = λ w u v agrees one behind here few. omega (arith, deep, ap (open_behind cursor.depth) one.1, (subst (λ l. AreFewOpen cursor.depth (l ++ v)) one.2 few).0);
-  stands = ([], nothing source cursor cursor refl, terminal, at, deep);
+  leads = (
+    record { terminal = terminal; place = None },
+    [],
+    record { read = []; reads = nothing source cursor cursor refl; whole = record { terminal = terminal; place = None } ∷ []; word = (_, refl, refl); same = refl },
+    at,
+    deep,
+  );
 }
+
+-- the parts of a word, as those of another one
+pub same_then : {P Q : List Leaf → Type 0} {q : List Leaf} (l m : List Leaf) (both : Then P Q q) → Same l both.0 → Same m both.1 → Same (l ++ m) q
+same_then l m both left right = same_append l both.0 m both.1 left right ∙ same_of (sym both.4)
+
+pub same_one : {terminal : Terminal} {u : List Leaf} (place : Option ℕ) (one : One terminal u) → Same (record { terminal = terminal; place = place } ∷ []) u
+same_one place one = ap (λ t. t ∷ []) (sym one.1) ∙ same_of (sym one.2)
+
+pub same_part : {X : Type 0} {Is : X → Type 0} {leaves : X → List Leaf} {u : List Leaf} (part : Part Is leaves u) → Same (leaves part.0) u
+same_part part = same_of (sym part.2)
+
+-- leaves that are like a word: those of its parts
+abbrev pub Like : List Leaf → Type 0
+Like q = (l : List Leaf) × Same l q
+
+abbrev pub like_then : {P Q : List Leaf → Type 0} {q : List Leaf} (both : Then P Q q) → Like both.0 → Like both.1 → Like q
+like_then both left right = (left.0 ++ right.0, same_then left.0 right.0 both left.1 right.1)
+
+abbrev pub like_one : {terminal : Terminal} {u : List Leaf} (place : Option ℕ) (one : One terminal u) → Like u
+like_one {terminal = terminal} place one = (record { terminal = terminal; place = place } ∷ [], same_one place one)
+
+abbrev pub like_part : {X : Type 0} {Is : X → Type 0} {leaves : X → List Leaf} {u : List Leaf} (part : Part Is leaves u) → Like u
+like_part {leaves = leaves} part = (leaves part.0, same_part part)
+
+-- what is made of the parts of a word
+pub made : {X : Type 0} {Is : X → Type 0} {leaves : X → List Leaf} (q : List Leaf) (like : Like q) (x : X) → Is x → leaves x ≡ like.0 → (r : List Leaf) × Part Is leaves r × Same r q
+made {leaves = leaves} q like x is same = (leaves x, (x, is, refl), same_of same ∙ like.1)
+
+-- two words one after the other
+pub some_then : {P Q : List Leaf → Type 0} → Has P → Has Q → Has (Then P Q)
+some_then a b = (a.0 ++ b.0, (a.0, b.0, a.1, b.1, refl))

@@ -1,5 +1,5 @@
 -- The words of expressions: what each part of an expression is, as the words of its own parts.
-use Rattle.std.proofs.Common.{◌≡◌, ℕ, zero, suc, ◌+◌, ◌<◌, ◌≤◌, Option, None, Some, IfSome, List, [], ◌∷◌, ◌++◌, map, append_assoc, append-nil, inl, inr, refl, ap, sym, subst, ◌∙◌, arith, Vec, Box, Global, eq-or-lt_of_le}
+use Rattle.std.proofs.Common.{◌≡◌, ℕ, zero, suc, ◌+◌, ◌<◌, ◌≤◌, Option, None, Some, IfSome, List, [], ◌∷◌, ◌++◌, length, map, append_assoc, append-nil, inl, inr, refl, ap, sym, subst, ◌∙◌, arith, Vec, Box, Global, eq-or-lt_of_le}
 use Rattle.std.specs.Prelude.{◌⊎◌}
 use Rattle.std.specs.List.{All, flat_map}
 use Rattle.std.proofs.lemmas.List.Elements.{All-cons, All-nil, All-head, All-tail}
@@ -18,11 +18,11 @@ use Rattle.koika_syntax.specs.declared.operator.SignedComparison.TheVariants as 
 use Rattle.koika_syntax.specs.declared.tree.Expression.TheOpen as expression
 use Rattle.koika_syntax.specs.declared.tree.Name.{Name}
 use Rattle.koika_syntax.specs.declared.tree.Number.{Number}
-use Rattle.koika_parse.specs.Expected.{One, Part, Then}
+use Rattle.koika_parse.specs.Expected.{InVector, One, Part, Then}
 use Rattle.koika_parse.specs.ExpressionWords.{LevelWord, OperatorWord, SomeOperandsWord, PrefixesWord, SuffixesWord, ReadWord, WriteWord, PackWord, UnpackWord, ExtendWord, CompareWord, UpdateWord, NamedWord, KeywordWord, SymbolWord, LetWord, ConditionalWord, InsideWord}
 use Rattle.koika_parse.specs.Parts.{IsArm, IsFieldValue, IsOperand, IsOperandIn, IsStatement}
 use Rattle.koika_parse.proofs.Expected.{kind_of}
-use Rattle.koika_parse.proofs.ConstantWords.{Such, firsts_are}
+use Rattle.koika_parse.proofs.ConstantWords.{Such, firsts_are, held_fit}
 use Rattle.koika_parse.proofs.Calls.{all_of_map}
 use Rattle.koika_parse.proofs.Words.{sign_word, word_word, placed_word, assoc3, assoc5}
 use Rattle.koika_syntax.specs.declared.tree.Expression.{Expression, Expression-F, map-Expression, out-Expression, every_held-Expression, every_here-Expression, fold_out-Expression}
@@ -236,7 +236,7 @@ abbrev pub DoWord : List Leaf → Type 0
 DoWord = Then (Part IsExpression expression_leaves) (One (symbol symbols.Semicolon))
 
 abbrev pub BlockWord : List Leaf → Type 0
-BlockWord = Then (One (symbol symbols.LeftBrace)) (Then InsideWord (One (symbol symbols.RightBrace)))
+BlockWord = Then (One (symbol symbols.LeftBrace)) (Then (InsideWord 0) (One (symbol symbols.RightBrace)))
 
 arm_layer_word : (y : OpenArm) → IsArmLayer (closed_arm y) → ArmWord (arm_layer_leaves (closed_arm y))
 arm_layer_word y is = (placed (keyword keywords.If) y.place, expression_leaves y.condition.0 ++ block_leaves y.body.0, placed_word (keyword keywords.If) y.place, (expression_leaves y.condition.0, block_leaves y.body.0, (y.condition.0, (y.condition.1, omega (arith, is)), refl), (y.body.0, y.body.1, refl), refl), refl)
@@ -271,8 +271,8 @@ block_layer_word : (y : OpenBlock) → BlockWord (block_layer_leaves (closed_blo
 block_layer_word y = of_value y.place y.statements y.value
   where
     of_value : (place : ℕ) (statements : Vec (Such IsStatement) Global) (value : Option (Box (Such IsExpression) Global)) → BlockWord (block_layer_leaves (closed_block (record { place = place; statements = statements; value = value })))
-    of_value place statements None = (placed (symbol symbols.LeftBrace) place, all_of (map statement_leaves (map (λ e. e.0) statements.items)) ++ [] ++ sign symbols.RightBrace, placed_word (symbol symbols.LeftBrace) place, (all_of (map statement_leaves (map (λ e. e.0) statements.items)) ++ [], sign symbols.RightBrace, (map (λ e. e.0) statements.items, None, firsts_are IsStatement statements.items, tt, ap (λ t. t ++ []) (sym (all_of_map statement_leaves (map (λ e. e.0) statements.items)))), sign_word symbols.RightBrace, refl), refl)
-    of_value place statements (Some b) = (placed (symbol symbols.LeftBrace) place, all_of (map statement_leaves (map (λ e. e.0) statements.items)) ++ expression_leaves b.value.0 ++ sign symbols.RightBrace, placed_word (symbol symbols.LeftBrace) place, (all_of (map statement_leaves (map (λ e. e.0) statements.items)) ++ expression_leaves b.value.0, sign symbols.RightBrace, (map (λ e. e.0) statements.items, Some b.value.0, firsts_are IsStatement statements.items, b.value.1, ap (λ t. t ++ expression_leaves b.value.0) (sym (all_of_map statement_leaves (map (λ e. e.0) statements.items)))), sign_word symbols.RightBrace, refl), refl)
+    of_value place statements None = (placed (symbol symbols.LeftBrace) place, all_of (map statement_leaves (map (λ e. e.0) statements.items)) ++ [] ++ sign symbols.RightBrace, placed_word (symbol symbols.LeftBrace) place, (all_of (map statement_leaves (map (λ e. e.0) statements.items)) ++ [], sign symbols.RightBrace, (map (λ e. e.0) statements.items, None, (firsts_are IsStatement statements.items, omega (arith, held_fit IsStatement statements)), tt, ap (λ t. t ++ []) (sym (all_of_map statement_leaves (map (λ e. e.0) statements.items)))), sign_word symbols.RightBrace, refl), refl)
+    of_value place statements (Some b) = (placed (symbol symbols.LeftBrace) place, all_of (map statement_leaves (map (λ e. e.0) statements.items)) ++ expression_leaves b.value.0 ++ sign symbols.RightBrace, placed_word (symbol symbols.LeftBrace) place, (all_of (map statement_leaves (map (λ e. e.0) statements.items)) ++ expression_leaves b.value.0, sign symbols.RightBrace, (map (λ e. e.0) statements.items, Some b.value.0, (firsts_are IsStatement statements.items, omega (arith, held_fit IsStatement statements)), b.value.1, ap (λ t. t ++ expression_leaves b.value.0) (sym (all_of_map statement_leaves (map (λ e. e.0) statements.items)))), sign_word symbols.RightBrace, refl), refl)
 
 pub block_word : (t : Block) → IsBlock t → BlockWord (block_leaves t)
 block_word t is =
@@ -315,10 +315,10 @@ primary_layer_word (expression.Unary prefixes operand) is high = absurd (omega (
 primary_layer_word (expression.Postfix primary suffixes) is high = absurd (omega (arith, high))
 primary_layer_word (expression.Literal l) is high = (_, [], refl, (l, is, refl))
 primary_layer_word (expression.Name n) is high = (_, [], refl, (name_leaves n, [], (n, is, refl), inl refl, refl))
-primary_layer_word (expression.Call called arguments) is high = (_, sign symbols.LeftParenthesis ++ commas (map expression_leaves (map (λ e. e.0) arguments.items)) ++ sign symbols.RightParenthesis, refl, (name_leaves called, sign symbols.LeftParenthesis ++ commas (map expression_leaves (map (λ e. e.0) arguments.items)) ++ sign symbols.RightParenthesis, (called, is, refl), inr (inl (sign symbols.LeftParenthesis, commas (map expression_leaves (map (λ e. e.0) arguments.items)) ++ sign symbols.RightParenthesis, sign_word symbols.LeftParenthesis, (commas (map expression_leaves (map (λ e. e.0) arguments.items)), sign symbols.RightParenthesis, (map (λ e. e.0) arguments.items, firsts_are IsExpression arguments.items, refl), sign_word symbols.RightParenthesis, refl), refl)), refl))
+primary_layer_word (expression.Call called arguments) is high = (_, sign symbols.LeftParenthesis ++ commas (map expression_leaves (map (λ e. e.0) arguments.items)) ++ sign symbols.RightParenthesis, refl, (name_leaves called, sign symbols.LeftParenthesis ++ commas (map expression_leaves (map (λ e. e.0) arguments.items)) ++ sign symbols.RightParenthesis, (called, is, refl), inr (inl (sign symbols.LeftParenthesis, commas (map expression_leaves (map (λ e. e.0) arguments.items)) ++ sign symbols.RightParenthesis, sign_word symbols.LeftParenthesis, (commas (map expression_leaves (map (λ e. e.0) arguments.items)), sign symbols.RightParenthesis, (map (λ e. e.0) arguments.items, (firsts_are IsExpression arguments.items, held_fit IsExpression arguments), refl), sign_word symbols.RightParenthesis, refl), refl)), refl))
 primary_layer_word (expression.Member of member) is high = (_, sign symbols.ColonColon ++ name_leaves member, refl, (name_leaves of, sign symbols.ColonColon ++ name_leaves member, (of, is.0, refl), inr (inr (sign symbols.ColonColon, name_leaves member, sign_word symbols.ColonColon, inl (member, is.1, refl), refl)), refl))
-primary_layer_word (expression.Struct of fields close) is high = (_, sign symbols.ColonColon ++ (sign symbols.LeftBrace ++ commas (map field_value_leaves (map (λ e. e.0) fields.items)) ++ placed (symbol symbols.RightBrace) close), refl, (name_leaves of, sign symbols.ColonColon ++ (sign symbols.LeftBrace ++ commas (map field_value_leaves (map (λ e. e.0) fields.items)) ++ placed (symbol symbols.RightBrace) close), (of, is.0, refl), inr (inr (sign symbols.ColonColon, sign symbols.LeftBrace ++ commas (map field_value_leaves (map (λ e. e.0) fields.items)) ++ placed (symbol symbols.RightBrace) close, sign_word symbols.ColonColon, inr (sign symbols.LeftBrace, commas (map field_value_leaves (map (λ e. e.0) fields.items)) ++ placed (symbol symbols.RightBrace) close, sign_word symbols.LeftBrace, (commas (map field_value_leaves (map (λ e. e.0) fields.items)), placed (symbol symbols.RightBrace) close, (map (λ e. e.0) fields.items, (is.1, firsts_are IsFieldValue fields.items), refl), placed_word (symbol symbols.RightBrace) close, refl), refl), refl)), refl))
-primary_layer_word (expression.Array place elements) is high = (_, commas (map expression_leaves (map (λ e. e.0) elements.items)) ++ sign symbols.RightBracket, refl, (placed (symbol symbols.LeftBracket) place, commas (map expression_leaves (map (λ e. e.0) elements.items)) ++ sign symbols.RightBracket, placed_word (symbol symbols.LeftBracket) place, (commas (map expression_leaves (map (λ e. e.0) elements.items)), sign symbols.RightBracket, (map (λ e. e.0) elements.items, (is, firsts_are IsExpression elements.items), refl), sign_word symbols.RightBracket, refl), refl))
+primary_layer_word (expression.Struct of fields close) is high = (_, sign symbols.ColonColon ++ (sign symbols.LeftBrace ++ commas (map field_value_leaves (map (λ e. e.0) fields.items)) ++ placed (symbol symbols.RightBrace) close), refl, (name_leaves of, sign symbols.ColonColon ++ (sign symbols.LeftBrace ++ commas (map field_value_leaves (map (λ e. e.0) fields.items)) ++ placed (symbol symbols.RightBrace) close), (of, is.0, refl), inr (inr (sign symbols.ColonColon, sign symbols.LeftBrace ++ commas (map field_value_leaves (map (λ e. e.0) fields.items)) ++ placed (symbol symbols.RightBrace) close, sign_word symbols.ColonColon, inr (sign symbols.LeftBrace, commas (map field_value_leaves (map (λ e. e.0) fields.items)) ++ placed (symbol symbols.RightBrace) close, sign_word symbols.LeftBrace, (commas (map field_value_leaves (map (λ e. e.0) fields.items)), placed (symbol symbols.RightBrace) close, (map (λ e. e.0) fields.items, (is.1, firsts_are IsFieldValue fields.items, held_fit IsFieldValue fields), refl), placed_word (symbol symbols.RightBrace) close, refl), refl), refl)), refl))
+primary_layer_word (expression.Array place elements) is high = (_, commas (map expression_leaves (map (λ e. e.0) elements.items)) ++ sign symbols.RightBracket, refl, (placed (symbol symbols.LeftBracket) place, commas (map expression_leaves (map (λ e. e.0) elements.items)) ++ sign symbols.RightBracket, placed_word (symbol symbols.LeftBracket) place, (commas (map expression_leaves (map (λ e. e.0) elements.items)), sign symbols.RightBracket, (map (λ e. e.0) elements.items, (is, firsts_are IsExpression elements.items, held_fit IsExpression elements), refl), sign_word symbols.RightBracket, refl), refl))
 primary_layer_word (expression.Parentheses place inside) is high = (_, expression_leaves inside.value.0 ++ sign symbols.RightParenthesis, refl, (placed (symbol symbols.LeftParenthesis) place, expression_leaves inside.value.0 ++ sign symbols.RightParenthesis, placed_word (symbol symbols.LeftParenthesis) place, (expression_leaves inside.value.0, sign symbols.RightParenthesis, (inside.value.0, inside.value.1, refl), sign_word symbols.RightParenthesis, refl), refl))
 primary_layer_word (expression.Block block) is high = block_headed block.0 block.1
 primary_layer_word (expression.Read place port register) is high = read_headed place port register is
@@ -347,12 +347,12 @@ layered k P each u word =
     of (inl high) up down = inl (word.0, (word.1.0, up high), word.2)
     of (inr low) up down = inr (down low)
 
-operands_of : (k : ℕ) (rest : List (Such IsOperand)) → IsNonempty (map (λ e. e.0) rest) → k ≡ chain_level (map (λ e. e.0) rest) → All (IsOperandAt (chain_level (map (λ e. e.0) rest))) (map (λ e. e.0) rest) → SomeOperandsWord k (all_of (map operand_leaves (map (λ e. e.0) rest)))
-operands_of k [] some same all = absurd (omega (arith, some))
-operands_of k (o ∷ os) some same all =
+operands_of : (k : ℕ) (rest : List (Such IsOperand)) → InVector (length (map (λ e. e.0) rest)) → IsNonempty (map (λ e. e.0) rest) → k ≡ chain_level (map (λ e. e.0) rest) → All (IsOperandAt (chain_level (map (λ e. e.0) rest))) (map (λ e. e.0) rest) → SomeOperandsWord k (all_of (map operand_leaves (map (λ e. e.0) rest)))
+operands_of k [] low some same all = absurd (omega (arith, some))
+operands_of k (o ∷ os) low some same all =
     let xs = map (λ e. e.0) os in
     let fit : All (IsOperandIn k) (o.0 ∷ xs) = both (o.0 ∷ xs) (firsts_are IsOperand (o ∷ os)) (subst (λ l. All (IsOperandAt l) (o.0 ∷ xs)) (sym same) all) in
-    (operand_leaves o.0, all_of (map operand_leaves xs), (o.0, All-head (IsOperandIn k) o.0 xs fit, refl), (xs, All-tail (IsOperandIn k) o.0 xs fit, sym (all_of_map operand_leaves xs)), refl)
+    (operand_leaves o.0, all_of (map operand_leaves xs), (o.0, All-head (IsOperandIn k) o.0 xs fit, refl), (xs, (All-tail (IsOperandIn k) o.0 xs fit, omega (arith, low)), sym (all_of_map operand_leaves xs)), refl)
   where
     both : (xs : List Operand) → All IsOperand xs → All (IsOperandAt k) xs → All (IsOperandIn k) xs
     both [] a b = All-nil (IsOperandIn k)
@@ -362,14 +362,14 @@ operands_of k (o ∷ os) some same all =
 pub chain_split : (k : ℕ) → 0 < k → k ≤ 9 → (u : List Leaf) → LevelWord k u → LevelWord (k + 1) u ⊎ Then (LevelWord (k + 1)) (SomeOperandsWord k) u
 chain_split k low high u word = layered k (Then (LevelWord (k + 1)) (SomeOperandsWord k)) each u word
   where
-    chained : (first : Box (Such IsExpression) Global) (rest : List (Such IsOperand)) → IsNonempty (map (λ e. e.0) rest) → chain_level (map (λ e. e.0) rest) < level first.value.0 → All (IsOperandAt (chain_level (map (λ e. e.0) rest))) (map (λ e. e.0) rest) →
+    chained : (first : Box (Such IsExpression) Global) (rest : List (Such IsOperand)) → InVector (length (map (λ e. e.0) rest)) → IsNonempty (map (λ e. e.0) rest) → chain_level (map (λ e. e.0) rest) < level first.value.0 → All (IsOperandAt (chain_level (map (λ e. e.0) rest))) (map (λ e. e.0) rest) →
         (k ≡ chain_level (map (λ e. e.0) rest)) ⊎ (k < chain_level (map (λ e. e.0) rest)) → (k + 1 ≤ chain_level (map (λ e. e.0) rest)) ⊎ Then (LevelWord (k + 1)) (SomeOperandsWord k) (expression_leaves first.value.0 ++ all_of (map operand_leaves (map (λ e. e.0) rest)))
-    chained first rest some loose all (inl same) = inr (expression_leaves first.value.0, all_of (map operand_leaves (map (λ e. e.0) rest)), (first.value.0, (first.value.1, omega (arith, loose, same)), refl), operands_of k rest some same all, refl)
-    chained first rest some loose all (inr more) = inl (omega (arith, more))
+    chained first rest fits some loose all (inl same) = inr (expression_leaves first.value.0, all_of (map operand_leaves (map (λ e. e.0) rest)), (first.value.0, (first.value.1, omega (arith, loose, same)), refl), operands_of k rest fits some same all, refl)
+    chained first rest fits some loose all (inr more) = inl (omega (arith, more))
 
     each : (y : OpenExpression) → IsExpressionLayer (closed_expression y) → k ≤ layer_level (closed_expression y) → (k + 1 ≤ layer_level (closed_expression y)) ⊎ Then (LevelWord (k + 1)) (SomeOperandsWord k) (expression_layer_leaves (closed_expression y))
     each (expression.If arms otherwise) is at = absurd (omega (arith, low, at))
-    each (expression.Chain first rest) is at = chained first rest.items is.0 is.1 is.2 (eq-or-lt_of_le at)
+    each (expression.Chain first rest) is at = chained first rest.items (held_fit IsOperand rest) is.0 is.1 is.2 (eq-or-lt_of_le at)
     each (expression.Unary prefixes operand) is at = inl (omega (arith, high))
     each (expression.Postfix primary suffixes) is at = inl (omega (arith, high))
     each (expression.Literal l) is at = inl (omega (arith, high))
@@ -443,10 +443,10 @@ postfix_split u word = layered 11 (Then (LevelWord 12) SuffixesWord) each u word
     each (expression.Compare place comparison left right) is at = inl (omega arith)
     each (expression.Update place whole part value) is at = inl (omega arith)
 
-conditional : (arms : List (Such IsArm)) (otherwise : Option Block) → IfSome otherwise IsBlock → IsNonempty (map (λ e. e.0) arms) → ConditionalWord (joined (word keywords.Else) (map arm_leaves (map (λ e. e.0) arms)) ++ last_leaves otherwise (λ block. word keywords.Else ++ block_leaves block))
+conditional : (arms : List (Such IsArm)) → InVector (length (map (λ e. e.0) arms)) → (otherwise : Option Block) → IfSome otherwise IsBlock → IsNonempty (map (λ e. e.0) arms) → ConditionalWord (joined (word keywords.Else) (map arm_leaves (map (λ e. e.0) arms)) ++ last_leaves otherwise (λ block. word keywords.Else ++ block_leaves block))
 unfolding joined
-conditional [] otherwise last some = absurd (omega (arith, some))
-conditional (arm ∷ arms) otherwise last some = (arm_leaves arm.0, each_after (word keywords.Else) (map arm_leaves (map (λ e. e.0) arms)) ++ last_leaves otherwise (λ block. word keywords.Else ++ block_leaves block), (arm.0, arm.1, refl), (map (λ e. e.0) arms, otherwise, firsts_are IsArm arms, last, refl), append_assoc (arm_leaves arm.0) (each_after (word keywords.Else) (map arm_leaves (map (λ e. e.0) arms))) (last_leaves otherwise (λ block. word keywords.Else ++ block_leaves block)))
+conditional [] low otherwise last some = absurd (omega (arith, some))
+conditional (arm ∷ arms) low otherwise last some = (arm_leaves arm.0, each_after (word keywords.Else) (map arm_leaves (map (λ e. e.0) arms)) ++ last_leaves otherwise (λ block. word keywords.Else ++ block_leaves block), (arm.0, arm.1, refl), (map (λ e. e.0) arms, otherwise, (firsts_are IsArm arms, omega (arith, low)), last, refl), append_assoc (arm_leaves arm.0) (each_after (word keywords.Else) (map arm_leaves (map (λ e. e.0) arms))) (last_leaves otherwise (λ block. word keywords.Else ++ block_leaves block)))
 
 -- an expression is a chain or an `if`
 pub expression_split : (u : List Leaf) → Part IsExpression expression_leaves u → LevelWord 1 u ⊎ ConditionalWord u
@@ -475,8 +475,8 @@ expression_split u word = layered 0 ConditionalWord each u (word.0, (word.1, ome
         of_operator binary.Multiply = omega arith
 
     each : (y : OpenExpression) → IsExpressionLayer (closed_expression y) → 0 ≤ layer_level (closed_expression y) → (1 ≤ layer_level (closed_expression y)) ⊎ ConditionalWord (expression_layer_leaves (closed_expression y))
-    each (expression.If arms None) is at = inr (conditional arms.items None tt is)
-    each (expression.If arms (Some block)) is at = inr (conditional arms.items (Some block.0) block.1 is)
+    each (expression.If arms None) is at = inr (conditional arms.items (held_fit IsArm arms) None tt is)
+    each (expression.If arms (Some block)) is at = inr (conditional arms.items (held_fit IsArm arms) (Some block.0) block.1 is)
     each (expression.Chain first rest) is at = inl (chained (map (λ e. e.0) rest.items) is.0)
     each (expression.Unary prefixes operand) is at = inl (omega arith)
     each (expression.Postfix primary suffixes) is at = inl (omega arith)

@@ -1,5 +1,6 @@
 pub mod Reading
 pub mod Expected
+pub mod Witnesses
 pub mod Words
 pub mod SchedulerWords
 pub mod ConstantWords
@@ -19,8 +20,11 @@ pub mod UnambiguousExpressions
 pub mod UnambiguousDesigns
 pub mod Unambiguous
 pub mod ExpressionWords
+pub mod MadeExpressions
 pub mod ChainWords
 pub mod PrimaryWords
 pub mod BlockWords
 pub mod DeclarationWords
 pub mod Designs
+pub mod Seen
+pub mod OneFault

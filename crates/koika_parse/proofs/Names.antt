@@ -35,3 +35,7 @@ names_stand text tokens stand k d within named = name_stands text _ (stand k d w
 
 pub starts_stand : (text : List ℕ) (tokens : List Token) → All (StandsIn text) tokens → All (λ token. token.start ≤ length text) tokens
 starts_stand text tokens stand k d within = let s = stand k d within in omega (arith, s.some_byte, s.within)
+
+-- a name of the text is a name
+pub name_is : {text : List ℕ} {token : Token} → IsNameIn text token → IsToken kinds.Name (slice_range text token.start token.end)
+name_is {text} {token} is = (is_a_word (slice_range text token.start token.end) is.word, is.short, is.free)

@@ -11,7 +11,8 @@ use Rattle.koika_parse.specs.Expected.{One, Part, Then, first, Behind}
 use Rattle.koika_parse.specs.Reading.{kind_at, next}
 use Rattle.koika_parse.specs.declared.cursor.Cursor.{Cursor}
 use Rattle.koika_parse.specs.declared.source.Source.{Source}
-use Rattle.koika_parse.proofs.Expected.{Empty, Goes, narrow, kind_is, sign_or_name}
+use Rattle.koika_parse.proofs.Expected.{Empty, Goes, Has, Within, narrow, goes_as, kind_is, sign_or_name, some_one, some_then}
+use Rattle.koika_parse.proofs.Witnesses.{some_name}
 
 abbrev pub Rows : {X : Type 0} → (X → Type 0) → (X → List Leaf) → List Leaf → Type 0
 Rows {X} Is leaves = Part (λ xs. All Is xs) (λ xs. flat_map leaves xs)
@@ -30,18 +31,31 @@ rows_made Is leaves r both = (both.2.0 ∷ both.3.0, All-cons Is both.2.0 both.3
 pub rows_none : {X : Type 0} (Is : X → Type 0) (leaves : X → List Leaf) → Rows Is leaves []
 rows_none Is leaves = ([], All-nil Is, refl)
 
+pub rows_again : {X : Type 0} (Is : X → Type 0) (leaves : X → List Leaf) (r : List Leaf) → Empty r ⊎ Then (Part Is leaves) (Rows Is leaves) r → Rows Is leaves r
+rows_again Is leaves r (inl empty) = subst (Rows Is leaves) (sym empty) (rows_none Is leaves)
+rows_again Is leaves r (inr both) = rows_made Is leaves r both
+
+-- the words of the one language are words of the other
+pub as_they_are : (P Q : List Leaf → Type 0) → ((r : List Leaf) → P r → Q r) → Within P Q
+as_they_are P Q each r word = (r, each r word, refl)
+
+-- rows are none, or the first and the others
+pub rows_split : {X : Type 0} {source : Source} {old new : Cursor} {Word : List Leaf → Type 0} {Follow : Option Terminal → Type 0} (Is : X → Type 0) (leaves : X → List Leaf) →
+    Goes source old new Word Follow (Rows Is leaves) → Goes source old new Word Follow (λ r. Empty r ⊎ Then (Part Is leaves) (Rows Is leaves) r)
+rows_split Is leaves goes = goes_as goes (rows_cases Is leaves) ([], inl refl) (as_they_are _ _ (rows_again Is leaves))
+
 -- one of two, by the next token
 pub the_first : {source : Source} {old new : Cursor} {Word : List Leaf → Type 0} {Follow : Option Terminal → Type 0} {A B : List Leaf → Type 0} →
-    Goes source old new Word Follow (λ u. A u ⊎ B u) → ((r v : List Leaf) → B r → Behind Follow v → first (r ++ v) ≡ next source new → ⊥) → Goes source old new Word Follow A
-the_first {source} {old} {new} {Word} {Follow} {A} {B} goes never = narrow goes (λ r v word behind at. of r v word behind at)
+    Goes source old new Word Follow (λ u. A u ⊎ B u) → ((r v : List Leaf) → B r → Behind Follow v → first (r ++ v) ≡ next source new → ⊥) → Has A → Goes source old new Word Follow A
+the_first {source} {old} {new} {Word} {Follow} {A} {B} goes never some = narrow goes (λ r v word behind at. of r v word behind at) some (λ q word. (q, inl word, refl))
   where
     of : (r v : List Leaf) → A r ⊎ B r → Behind Follow v → first (r ++ v) ≡ next source new → A r
     of r v (inl a) behind at = a
     of r v (inr b) behind at = absurd (never r v b behind at)
 
 pub the_second : {source : Source} {old new : Cursor} {Word : List Leaf → Type 0} {Follow : Option Terminal → Type 0} {A B : List Leaf → Type 0} →
-    Goes source old new Word Follow (λ u. A u ⊎ B u) → ((r v : List Leaf) → A r → Behind Follow v → first (r ++ v) ≡ next source new → ⊥) → Goes source old new Word Follow B
-the_second {source} {old} {new} {Word} {Follow} {A} {B} goes never = narrow goes (λ r v word behind at. of r v word behind at)
+    Goes source old new Word Follow (λ u. A u ⊎ B u) → ((r v : List Leaf) → A r → Behind Follow v → first (r ++ v) ≡ next source new → ⊥) → Has B → Goes source old new Word Follow B
+the_second {source} {old} {new} {Word} {Follow} {A} {B} goes never some = narrow goes (λ r v word behind at. of r v word behind at) some (λ q word. (q, inr word, refl))
   where
     of : (r v : List Leaf) → A r ⊎ B r → Behind Follow v → first (r ++ v) ≡ next source new → B r
     of r v (inl a) behind at = absurd (never r v a behind at)
@@ -54,8 +68,9 @@ first_one terminal Q u v both = ap (λ l. first (l ++ v)) (both.4 ∙ ap (λ l. 
 -- a name or what begins with a brace, by the next token
 pub name_not_brace : {source : Source} {old new : Cursor} {Word : List Leaf → Type 0} {Follow : Option Terminal → Type 0} (Q : List Leaf → Type 0) → kind_at source new ≡ Some kinds.Name →
     Goes source old new Word Follow (λ u. Part IsName name_leaves u ⊎ Then (One (symbol symbols.LeftBrace)) Q u) → Goes source old new Word Follow (Part IsName name_leaves)
-name_not_brace {source} {old} {new} Q named goes = the_first goes (λ r v brace behind at. sign_or_name (sym (kind_is source new (sym (first_one (symbol symbols.LeftBrace) Q r v brace) ∙ at)) ∙ named))
+name_not_brace {source} {old} {new} Q named goes = the_first goes (λ r v brace behind at. sign_or_name (sym (kind_is source new (sym (first_one (symbol symbols.LeftBrace) Q r v brace) ∙ at)) ∙ named)) some_name
 
-pub brace_not_name : {source : Source} {old new : Cursor} {Word : List Leaf → Type 0} {Follow : Option Terminal → Type 0} (Q : List Leaf → Type 0) → (kind_at source new ≡ Some kinds.Name → ⊥) →
+pub brace_not_name : {source : Source} {old new : Cursor} {Word : List Leaf → Type 0} {Follow : Option Terminal → Type 0} (Q : List Leaf → Type 0) → (kind_at source new ≡ Some kinds.Name → ⊥) → Has Q →
     Goes source old new Word Follow (λ u. Part IsName name_leaves u ⊎ Then (One (symbol symbols.LeftBrace)) Q u) → Goes source old new Word Follow (Then (One (symbol symbols.LeftBrace)) Q)
-brace_not_name {source} {old} {new} Q other goes = the_second goes (λ r v named behind at. other (kind_is source new (sym (ap (λ l. first (l ++ v)) named.2) ∙ at)))
+brace_not_name {source} {old} {new} Q other some goes =
+    the_second goes (λ r v named behind at. other (kind_is source new (sym (ap (λ l. first (l ++ v)) named.2) ∙ at))) (some_then (some_one (symbol symbols.LeftBrace)) some)

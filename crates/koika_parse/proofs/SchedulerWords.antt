@@ -1,4 +1,7 @@
 -- The words of schedulers.
+use Rattle.koika_parse.proofs.Witnesses.{a_name, a_name_is, boxed, some_name, some_scheduler}
+use Rattle.koika_parse.proofs.Parts.{is_choice, is_scheduler}
+use Rattle.koika_parse.proofs.Calls.{leaves_choice, leaves_scheduler}
 use Rattle.std.proofs.Common.{◌≡◌, Option, None, Some, IfSome, List, [], ◌++◌, append_assoc, inl, inr, refl, ap, sym, subst, ◌∙◌, Box, Global}
 use Rattle.std.specs.Prelude.{◌⊎◌}
 use Rattle.std.specs.List.{All, flat_map}
@@ -7,20 +10,20 @@ use Rattle.koika_syntax.specs.Tree.{Leaf, Terminal, keyword, symbol, name_leaves
 use Rattle.koika_syntax.specs.declared.keyword.Keyword.{Keyword}
 use Rattle.koika_syntax.specs.declared.keyword.Keyword.TheVariants as keywords
 use Rattle.koika_syntax.specs.declared.symbol.Symbol.TheVariants as symbols
-use Rattle.koika_parse.specs.Expected.{One, Part, Then, first, Behind}
+use Rattle.koika_parse.specs.Expected.{One, Part, Then, first, Behind, Same}
 use Rattle.koika_parse.specs.Words.{LastChoiceWord, RulesWord, no_name, no_try}
 use Rattle.std.specs.Option.{option_map}
 use Rattle.koika_syntax.specs.declared.token.TokenKind.TheVariants as kinds
-use Rattle.koika_parse.proofs.Expected.{Empty, kind_of, Goes, start, goes_as, kind_of_next, kind_is, name_of, same_of_some, never_none}
+use Rattle.koika_parse.proofs.Expected.{Empty, kind_of, Goes, start, goes_as, kind_of_next, kind_is, name_of, same_of_some, never_none, Has, Within, begin, like_one, like_part, like_then, made, same_of, same_one, same_part, same_then, some_one, some_then, starts}
 use Rattle.koika_syntax.specs.declared.tree.Name.{Name}
-use Rattle.koika_syntax.specs.declared.tree.Choice.{Choice, Choice-F, map-Choice, out-Choice, every_held-Choice, every_here-Choice, fold_out-Choice}
-use Rattle.koika_syntax.specs.declared.tree.Scheduler.{Scheduler, Scheduler-F, map-Scheduler, out-Scheduler, every_held-Scheduler, every_here-Scheduler, fold_out-Scheduler}
+use Rattle.koika_syntax.specs.declared.tree.Choice.{Choice, Choice-F, map-Choice, out-Choice, every_held-Choice, every_here-Choice, fold_out-Choice, roll-Choice}
+use Rattle.koika_syntax.specs.declared.tree.Scheduler.{Scheduler, Scheduler-F, map-Scheduler, out-Scheduler, every_held-Scheduler, every_here-Scheduler, fold_out-Scheduler, roll-Scheduler}
 use Rattle.koika_parse.specs.Parts.{IsChoice}
 use Rattle.koika_parse.proofs.Words.{sign_word, word_word, assoc2}
 use Rattle.koika_parse.specs.Reading.{kind_at, next}
 use Rattle.koika_parse.specs.declared.cursor.Cursor.{Cursor}
 use Rattle.koika_parse.specs.declared.source.Source.{Source}
-use Rattle.koika_parse.proofs.Rows.{the_first, the_second, rows_cases}
+use Rattle.koika_parse.proofs.Rows.{the_first, the_second, rows_none, rows_split}
 use Rattle.koika_parse.proofs.ConstantWords.{Such}
 
 abbrev pub SchedulerWord : List Leaf → Type 0
@@ -92,16 +95,70 @@ not_named : (o : Option Terminal) → no_name o → option_map kind_of o ≡ Som
 not_named None free e = never_none e
 not_named (Some t) free e = let b = name_of t (same_of_some e) in subst (λ t. no_name (Some t)) b.1 free
 
+-- what is made of the words
+scheduler_within : Within SchedulerWord (Part IsScheduler (λ s. in_braces (scheduler_leaves s)))
+scheduler_within q both = of both.3.3.2.0 both.3.3.2.1 (same_part both.3.3.2)
+  where
+    of : (last : Option Choice) → IfSome last IsChoice → Same (last_leaves last choice_leaves) both.3.3.0 → (r : List Leaf) × Part IsScheduler (λ s. in_braces (scheduler_leaves s)) r × Same r q
+    of None is like =
+        made q (like_then both (like_one None both.2) (like_then both.3 (like_part both.3.2) (like_then both.3.3 ([], like) (like_one None both.3.3.3)))) (roll-Scheduler (record { rules = both.3.2.0; last = None }))
+        (is_scheduler both.3.2.0 None both.3.2.1 tt)
+        (ap in_braces (leaves_scheduler both.3.2.0 None) ∙ ap (λ t. sign symbols.LeftBrace ++ t) (append_assoc (flat_map rule_leaves both.3.2.0) [] (sign symbols.RightBrace)))
+    of (Some c) is like =
+        made q (like_then both (like_one None both.2) (like_then both.3 (like_part both.3.2) (like_then both.3.3 (choice_leaves c, like) (like_one None both.3.3.3)))) (roll-Scheduler (record { rules = both.3.2.0; last = Some (boxed c) }))
+        (is_scheduler both.3.2.0 (Some (boxed c)) both.3.2.1 is)
+        (ap in_braces (leaves_scheduler both.3.2.0 (Some (boxed c))) ∙ ap (λ t. sign symbols.LeftBrace ++ t) (append_assoc (flat_map rule_leaves both.3.2.0) (choice_leaves c) (sign symbols.RightBrace)))
+
+no_rules : Has RulesWord
+no_rules = ([], rows_none IsName rule_leaves)
+
+no_choice : Has LastChoiceWord
+no_choice = ([], (None, tt, refl))
+
+pub scheduler_start : {source : Source} {cursor : Cursor} {Follow : Option Terminal → Type 0} → Goes source cursor cursor (Part IsScheduler (λ s. in_braces (scheduler_leaves s))) Follow SchedulerWord
+scheduler_start = starts SchedulerWord scheduler_word (some_then (some_one (symbol symbols.LeftBrace)) (some_then no_rules (some_then no_choice (some_one (symbol symbols.RightBrace))))) scheduler_within
+
+choice_within : Within ChoiceWord (Part IsChoice choice_leaves)
+choice_within q both =
+    let rule = both.3.2 in
+    let taken = both.3.3.3.2 in
+    let other = both.3.3.3.3.3 in
+    made q
+    (like_then both (like_one None both.2) (like_then both.3 (like_part rule) (like_then both.3.3 (like_one None both.3.3.2) (like_then both.3.3.3 (like_part taken) (like_then both.3.3.3.3 (like_one None both.3.3.3.3.2) (like_part other))))))
+    (roll-Choice (record { rule = rule.0; then = taken.0; otherwise = other.0 })) (is_choice rule.0 taken.0 other.0 rule.1 taken.1 other.1)
+    (leaves_choice rule.0 taken.0 other.0
+    ∙ ap (λ t. word keywords.Try ++ (name_leaves rule.0 ++ (word keywords.Then ++ t))) (assoc2 (in_braces (scheduler_leaves taken.0)) (word keywords.Else) (in_braces (scheduler_leaves other.0))))
+
+some_choice_word : Has ChoiceWord
+some_choice_word = some_then (some_one (keyword keywords.Try)) (some_then some_name (some_then (some_one (keyword keywords.Then)) (some_then some_scheduler (some_then (some_one (keyword keywords.Else)) some_scheduler))))
+
+some_choice : Has (Part IsChoice choice_leaves)
+some_choice = let found = choice_within some_choice_word.0 some_choice_word.1 in (found.0, found.1)
+
+pub choice_start : {source : Source} {cursor : Cursor} {Follow : Option Terminal → Type 0} → Goes source cursor cursor (Part IsChoice choice_leaves) Follow ChoiceWord
+choice_start = starts ChoiceWord choice_word some_choice_word choice_within
+
+pub rules_start : {source : Source} {cursor : Cursor} {Follow : Option Terminal → Type 0} → Goes source cursor cursor RulesWord Follow RulesWord
+rules_start = begin RulesWord no_rules
+
 -- at a name, one rule more; elsewhere none
-pub rules_at : {source : Source} {old new : Cursor} {Word : List Leaf → Type 0} → kind_at source new ≡ Some kinds.Name → Goes source old new Word no_name RulesWord →
-    Goes source old new Word no_name (Then (Part IsName name_leaves) (Then (One (symbol symbols.Semicolon)) RulesWord))
+abbrev RuleWord : List Leaf → Type 0
+RuleWord = Then (Part IsName name_leaves) (Then (One (symbol symbols.Semicolon)) RulesWord)
+
+rule_within : Within RuleWord (Then (Part IsName rule_leaves) RulesWord)
+rule_within q both =
+    (rule_leaves both.2.0 ++ both.3.1, (rule_leaves both.2.0, both.3.1, (both.2.0, both.2.1, refl), both.3.3, refl), same_then (name_leaves both.2.0) (sign symbols.Semicolon ++ both.3.1) both (same_part both.2) (same_then (sign symbols.Semicolon) both.3.1 both.3 (same_one None both.3.2) refl))
+
+pub rules_at : {source : Source} {old new : Cursor} {Word : List Leaf → Type 0} → kind_at source new ≡ Some kinds.Name → Goes source old new Word no_name RulesWord → Goes source old new Word no_name (Then (Part IsName name_leaves) (Then (One (symbol symbols.Semicolon)) RulesWord))
 rules_at {source} {old} {new} named goes = goes_as
-    (the_second (goes_as goes (rows_cases IsName rule_leaves)) (λ r v empty behind at. not_named (first v) behind (ap (option_map kind_of) (ap (λ l. first (l ++ v)) (sym empty) ∙ at) ∙ kind_of_next source new ∙ named)))
+    (the_second (rows_split IsName rule_leaves goes) (λ r v empty behind at. not_named (first v) behind (ap (option_map kind_of) (ap (λ l. first (l ++ v)) (sym empty) ∙ at) ∙ kind_of_next source new ∙ named))
+    (some_then (rule_leaves a_name, (a_name, a_name_is, refl)) no_rules))
     (λ r both. (name_leaves both.2.0, sign symbols.Semicolon ++ both.1, (both.2.0, both.2.1, refl), (sign symbols.Semicolon, both.1, sign_word symbols.Semicolon, both.3, refl), both.4 ∙ ap (λ l. l ++ both.1) both.2.2))
+    (some_then some_name (some_then (some_one (symbol symbols.Semicolon)) no_rules)) rule_within
 
 pub rules_end : {source : Source} {old new : Cursor} {Word : List Leaf → Type 0} → (kind_at source new ≡ Some kinds.Name → ⊥) → Goes source old new Word no_name RulesWord → Goes source old new Word no_name Empty
-rules_end {source} {old} {new} other goes = the_first (goes_as goes (rows_cases IsName rule_leaves))
-    (λ r v both behind at. other (kind_is source new (sym (ap (λ l. first (l ++ v)) (both.4 ∙ ap (λ l. l ++ both.1) both.2.2)) ∙ at)))
+rules_end {source} {old} {new} other goes = the_first (rows_split IsName rule_leaves goes)
+    (λ r v both behind at. other (kind_is source new (sym (ap (λ l. first (l ++ v)) (both.4 ∙ ap (λ l. l ++ both.1) both.2.2)) ∙ at))) ([], refl)
 
 -- no last choice, or one
 last_cases : (u : List Leaf) → LastChoiceWord u → Empty u ⊎ Part IsChoice choice_leaves u
@@ -111,11 +168,18 @@ last_cases u word = subst (λ u. Empty u ⊎ Part IsChoice choice_leaves u) (sym
     of None is = inl refl
     of (Some c) is = inr (c, is, refl)
 
+last_within : Within (λ u. Empty u ⊎ Part IsChoice choice_leaves u) LastChoiceWord
+last_within q (inl empty) = ([], (None, tt, refl), same_of (sym empty))
+last_within q (inr part) = (q, (Some part.0, part.1, part.2), refl)
+
+last_start : {source : Source} {cursor : Cursor} {Follow : Option Terminal → Type 0} → Goes source cursor cursor LastChoiceWord Follow (λ u. Empty u ⊎ Part IsChoice choice_leaves u)
+last_start = start last_cases ([], inl refl) last_within
+
 first_choice : (r v : List Leaf) → Part IsChoice choice_leaves r → first (r ++ v) ≡ Some (keyword keywords.Try)
 first_choice r v part = first_of keywords.Try _ r v (subst ChoiceWord (sym part.2) (choice_word part.0 part.1))
 
 pub last_at : {source : Source} {cursor : Cursor} → next source cursor ≡ Some (keyword keywords.Try) → Goes source cursor cursor LastChoiceWord no_try (Part IsChoice choice_leaves)
-last_at at_try = the_second (start last_cases) (λ r v empty behind at. subst no_try (ap (λ l. first (l ++ v)) (sym empty) ∙ at ∙ at_try) behind)
+last_at at_try = the_second last_start (λ r v empty behind at. subst no_try (ap (λ l. first (l ++ v)) (sym empty) ∙ at ∙ at_try) behind) some_choice
 
 pub last_none : {source : Source} {cursor : Cursor} → (next source cursor ≡ Some (keyword keywords.Try) → ⊥) → Goes source cursor cursor LastChoiceWord no_try Empty
-last_none other = the_first (start last_cases) (λ r v part behind at. other (sym at ∙ first_choice r v part))
+last_none other = the_first last_start (λ r v part behind at. other (sym at ∙ first_choice r v part)) ([], refl)

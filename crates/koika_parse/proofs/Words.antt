@@ -1,5 +1,5 @@
 -- The words of each part, as the words of its own parts in turn.
-use Rattle.std.proofs.Common.{◌≡◌, ℕ, Option, Some, List, ◌++◌, append_assoc, refl, ap, sym, ◌∙◌}
+use Rattle.std.proofs.Common.{◌≡◌, ℕ, Option, None, Some, List, ◌++◌, append_assoc, refl, ap, sym, ◌∙◌}
 use Rattle.koika_syntax.specs.Grammar.{IsName, IsNumber, IsLiteral, IsWidth, IsType, IsMember, IsField, type_leaves, member_leaves, field_leaves}
 use Rattle.koika_syntax.specs.Tree.{Leaf, Terminal, keyword, symbol, name_leaves, number_leaves, literal_leaves, width_leaves, word, sign, placed}
 use Rattle.koika_syntax.specs.declared.keyword.Keyword.{Keyword}
@@ -14,7 +14,10 @@ use Rattle.koika_parse.specs.Expected.{One, Part, Then, first}
 use Rattle.koika_parse.specs.Words.{ArrayTypeWord}
 use Rattle.std.specs.Option.{option_map}
 use Rattle.koika_syntax.specs.declared.token.TokenKind.TheVariants as kinds
-use Rattle.koika_parse.proofs.Expected.{kind_of, name_or_word, sign_or_word, word_or_name, sign_or_name}
+use Rattle.koika_parse.specs.declared.cursor.Cursor.{Cursor}
+use Rattle.koika_parse.specs.declared.source.Source.{Source}
+use Rattle.koika_parse.proofs.Expected.{Goes, Has, Within, begin, starts, like_one, like_part, like_then, made, some_one, some_then, kind_of, name_or_word, sign_or_word, word_or_name, sign_or_name}
+use Rattle.koika_parse.proofs.Witnesses.{a_literal, a_literal_is, a_name, a_name_is, boxed, some_literal, some_name, some_number, some_type}
 
 pub sign_word : (s : Symbol) → One (symbol s) (sign s)
 sign_word s = (_, refl, refl)
@@ -44,6 +47,12 @@ WidthWord = Then (One (keyword keywords.Bits)) (Part IsNumber number_leaves)
 pub width_word : (width : Width) → IsWidth width → WidthWord (width_leaves width)
 width_word width is = (placed (keyword keywords.Bits) width.place, number_leaves width.number, placed_word (keyword keywords.Bits) width.place, (width.number, is, refl), refl)
 
+width_within : Within WidthWord (Part IsWidth width_leaves)
+width_within q both = made q (like_then both (like_one (Some 0) both.2) (like_part both.3)) (record { place = 0; number = both.3.0 }) both.3.1 refl
+
+pub width_start : {source : Source} {cursor : Cursor} {Follow : Option Terminal → Type 0} → Goes source cursor cursor (Part IsWidth width_leaves) Follow WidthWord
+width_start = starts WidthWord width_word (some_then (some_one (keyword keywords.Bits)) some_number) width_within
+
 -- a member, and a field
 abbrev pub MemberWord : List Leaf → Type 0
 MemberWord = Then (Part IsName name_leaves) (Then (One (symbol symbols.Equals)) (Part IsLiteral literal_leaves))
@@ -51,11 +60,55 @@ MemberWord = Then (Part IsName name_leaves) (Then (One (symbol symbols.Equals)) 
 pub member_word : (member : Member) → IsMember member → MemberWord (member_leaves member)
 member_word member is = (name_leaves member.name, sign symbols.Equals ++ literal_leaves member.value, (member.name, is.0, refl), (sign symbols.Equals, literal_leaves member.value, sign_word symbols.Equals, (member.value, is.1, refl), refl), refl)
 
+member_within : Within MemberWord (Part IsMember member_leaves)
+member_within q both =
+    made q (like_then both (like_part both.2) (like_then both.3 (like_one None both.3.2) (like_part both.3.3))) (record { name = both.2.0; value = both.3.3.0 }) (both.2.1, both.3.3.1) refl
+
+pub member_start : {source : Source} {cursor : Cursor} {Follow : Option Terminal → Type 0} → Goes source cursor cursor (Part IsMember member_leaves) Follow MemberWord
+member_start = starts MemberWord member_word (some_then some_name (some_then (some_one (symbol symbols.Equals)) some_literal)) member_within
+
 abbrev pub FieldWord : List Leaf → Type 0
 FieldWord = Then (Part IsName name_leaves) (Then (One (symbol symbols.Colon)) (Part IsType type_leaves))
 
 pub field_word : (field : Field) → IsField field → FieldWord (field_leaves field)
 field_word field is = (name_leaves field.name, sign symbols.Colon ++ type_leaves field.of, (field.name, is.0, refl), (sign symbols.Colon, type_leaves field.of, sign_word symbols.Colon, (field.of, is.1, refl), refl), refl)
+
+field_within : Within FieldWord (Part IsField field_leaves)
+field_within q both =
+    made q (like_then both (like_part both.2) (like_then both.3 (like_one None both.3.2) (like_part both.3.3))) (record { name = both.2.0; of = both.3.3.0 }) (both.2.1, both.3.3.1) refl
+
+pub field_start : {source : Source} {cursor : Cursor} {Follow : Option Terminal → Type 0} → Goes source cursor cursor (Part IsField field_leaves) Follow FieldWord
+field_start = starts FieldWord field_word (some_then some_name (some_then (some_one (symbol symbols.Colon)) some_type)) field_within
+
+pub some_member : Has (Part IsMember member_leaves)
+some_member = let m : Member = record { name = a_name; value = a_literal } in (member_leaves m, (m, (a_name_is, a_literal_is), refl))
+
+pub some_field : Has (Part IsField field_leaves)
+some_field = let f : Field = record { name = a_name; of = Named a_name } in (field_leaves f, (f, (a_name_is, a_name_is), refl))
+
+-- the word of a declaration and the name behind it
+pub declared_start : {source : Source} {cursor : Cursor} {Follow : Option Terminal → Type 0} (k : Keyword) → Goes source cursor cursor (Then (One (keyword k)) (Part IsName name_leaves)) Follow (Then (One (keyword k)) (Part IsName name_leaves))
+declared_start k = begin (Then (One (keyword k)) (Part IsName name_leaves)) (some_then (some_one (keyword k)) some_name)
+
+-- what is a type
+pub width_is_type : Within (Part IsWidth width_leaves) (Part IsType type_leaves)
+width_is_type q part = made q (like_part part) (Bits part.0) part.1 refl
+
+pub name_is_type : Within (Part IsName name_leaves) (Part IsType type_leaves)
+name_is_type q part = made q (like_part part) (Named part.0) part.1 refl
+
+pub array_is_type : Within ArrayTypeWord (Part IsType type_leaves)
+array_is_type q both =
+    let element = both.3.2.0 in
+    let size = both.3.3.3.2.0 in
+    let b = boxed tt in
+    made q
+    (like_then both (like_one (Some 0) both.2) (like_then both.3 (like_part both.3.2) (like_then both.3.3 (like_one None both.3.3.2) (like_then both.3.3.3 (like_part both.3.3.3.2) (like_one None both.3.3.3.3)))))
+    (Array' 0 b element size) (both.3.2.1, both.3.3.3.2.1)
+    (ap (λ t. placed (symbol symbols.LeftBracket) 0 ++ t) (assoc3 (type_leaves element) (sign symbols.Semicolon) (number_leaves size) (sign symbols.RightBracket)))
+
+pub some_array_type : Has ArrayTypeWord
+some_array_type = some_then (some_one (symbol symbols.LeftBracket)) (some_then some_type (some_then (some_one (symbol symbols.Semicolon)) (some_then some_number (some_one (symbol symbols.RightBracket)))))
 
 -- a type by its next token
 pub type_bits : (of : TypeExpression) → IsType of → (v : List Leaf) (next : Option Terminal) → first (type_leaves of ++ v) ≡ next → next ≡ Some (keyword keywords.Bits) → Part IsWidth width_leaves (type_leaves of)

@@ -1,7 +1,8 @@
 -- What readers of parts leave of a word of the grammar: a reader that stands at the front of a word of its language
--- takes that word and leaves what is behind it, and reading ends unexpectedly nowhere where some word goes on.
+-- takes that word and leaves what is behind it, and reading ends unexpectedly nowhere where some word goes on. Where it
+-- ends, some word goes on with what has been read.
 -- This serves private functions alone.
-use Rattle.std.specs.Prelude.{◌≡◌, ◌<◌, ◌≤◌, Option, None, Some, Result, Ok, Err, Bool, true, false, ⊤, List, [], ◌∷◌, ◌++◌, map, All, drop}
+use Rattle.std.specs.Prelude.{◌≡◌, ℕ, ◌<◌, ◌≤◌, ◌^◌, Option, None, Some, Result, Ok, Err, Bool, true, false, ⊤, List, [], ◌∷◌, ◌++◌, length, map, All, drop}
 use Rattle.koika_syntax.specs.Grammar.{IsNonempty}
 use Rattle.koika_syntax.specs.Tree.{Leaf, Terminal, symbol, commas}
 use Rattle.koika_syntax.specs.declared.symbol.Symbol.TheVariants as symbols
@@ -53,22 +54,41 @@ Ends (Err stops.Unexpected) few left = ⊥
 Ends (Err stops.TooDeep) few left = few → ⊥
 Ends (Err stops.NoMemory) few left = ⊤
 
--- what was read where reading ended; where brackets are too many, the next token opens one more than 64
-abbrev pub Stands : {X : Type 0} → Source → (old new : Cursor) → Result X Stop → Type 0
-Stands source old new (Ok x) = (read : List Leaf) × Reads source old new read
-Stands source old new (Err stops.Unexpected) = (read : List Leaf) × Reads source old new read
-Stands source old new (Err stops.TooDeep) = (read : List Leaf) × Reads source old new read × (terminal : Terminal) × (next source new ≡ Some terminal) × (64 < open_behind new.depth terminal)
-Stands source old new (Err stops.NoMemory) = ⊤
+-- the same tokens, wherever a tree says that they stand
+abbrev pub Same : List Leaf → List Leaf → Type 0
+Same a b = map (λ leaf. leaf.terminal) a ≡ map (λ leaf. leaf.terminal) b
+
+-- what has been read is the front of a word of the language, and this is the rest of that word
+pub record Front (source : Source) (old new : Cursor) (Word : List Leaf → Type 0) (rest : List Leaf) : Type 0 where
+  pub read : List Leaf
+  pub reads : Reads source old new read
+  pub whole : List Leaf
+  pub word : Word whole
+  pub same : Same whole (read ++ rest)
+
+-- how far reading comes: over a word; over the front of one; over the front of one that goes on with a bracket too many
+abbrev pub Leads : {X : Type 0} → Source → (old new : Cursor) → (List Leaf → Type 0) → Result X Stop → Type 0
+Leads source old new Word (Ok x) = Front source old new Word []
+Leads source old new Word (Err stops.Unexpected) = (rest : List Leaf) × Front source old new Word rest
+Leads source old new Word (Err stops.TooDeep) = (leaf : Leaf) × (rest : List Leaf) × Front source old new Word (leaf ∷ rest) × (next source new ≡ Some leaf.terminal) × (64 < open_behind new.depth leaf.terminal)
+Leads source old new Word (Err stops.NoMemory) = ⊤
 
 -- a reader takes words of this language, wherever such a token follows
 pub record Takes {X : Type 0} (source : Source) (old new : Cursor) (Word : List Leaf → Type 0) (Follow : Option Terminal → Type 0) (result : Result X Stop) : Type 0 where
   pub forward : old.at ≤ new.at
   pub takes : (w u v : List Leaf) → AgreesUpTo source new w → Word u → Behind Follow v → drop old.at w ≡ u ++ v → Ends result (AreFewOpen old.depth (u ++ v)) (Leaves old new w (u ++ v) v)
-  pub stands : Stands source old new result
+  pub leads : Leads source old new Word result
+
+-- how many parts a list has room for: for any number, or for those that a vector holds
+abbrev pub AnyMany : ℕ → Type 0
+AnyMany n = ⊤
+
+abbrev pub InVector : ℕ → Type 0
+InVector n = n < 2 ^ 63
 
 -- parts with commas between them, at least one
-abbrev pub Commas : {X : Type 0} → (X → Type 0) → (X → List Leaf) → List Leaf → Type 0
-Commas Is leaves = Part (λ xs. IsNonempty xs × All Is xs) (λ xs. commas (map leaves xs))
+abbrev pub Commas : {X : Type 0} → (ℕ → Type 0) → (X → Type 0) → (X → List Leaf) → List Leaf → Type 0
+Commas Room Is leaves = Part (λ xs. IsNonempty xs × All Is xs × Room (length xs)) (λ xs. commas (map leaves xs))
 
 -- no comma, and what may follow a part
 abbrev pub is_comma : Option Terminal → Bool

@@ -1,5 +1,5 @@
--- Where the parser's faults stand: 11 at a token that no design goes on with, or at the end of the text where no design
--- ends there, and 12 at a 65th open bracket. That some design goes on with the tokens before it isn't said.
+-- Where the parser's faults stand: 11 at the first token that no design goes on with, or at the end of the text where no
+-- design ends there, and 12 at a 65th open bracket that some design goes on with. Some design begins with the tokens before it.
 use Rattle.std.specs.Prelude.{◌≡◌, ◌⊎◌, ℕ, ◌<◌, None, List, [], ◌∷◌, ◌++◌, length, map}
 use Rattle.kw_base.specs.Fault.{fault_at}
 use Rattle.kw_base.specs.Place.{place_at}
@@ -21,6 +21,15 @@ pub record BeginsWith (text : List ℕ) (tokens : List Token) (tree : Tree) : Ty
   pub rest : List Terminal
   pub terminals : design_terminals tree ≡ map (terminal_of text) tokens ++ rest
 
+-- some design begins with these tokens of the text
+abbrev pub Begins : List ℕ → List Token → Type 0
+Begins text tokens = (tree : Tree) × BeginsWith text tokens tree
+
+-- some design goes on with the first token behind
+abbrev pub GoesOn : List ℕ → (before behind : List Token) → Type 0
+GoesOn text before [] = ⊥
+GoesOn text before (token ∷ behind) = Begins text (before ++ token ∷ [])
+
 -- no design has the tokens up to the first one behind; where none is behind, no design is these tokens
 abbrev pub NoneGoesOn : List ℕ → (before behind : List Token) → Type 0
 NoneGoesOn text before [] = (tree : Tree) → IsDesign tree → design_terminals tree ≡ map (terminal_of text) before → ⊥
@@ -40,11 +49,12 @@ abbrev pub OpensTooMany : List ℕ → (before behind : List Token) → Type 0
 OpensTooMany text before [] = ⊥
 OpensTooMany text before (token ∷ behind) = 64 < open_behind (open_behind_all 0 (seen text before)) (terminal_of text token)
 
--- the tokens are those before the fault and those behind it; few brackets are open before it, and the fault says why
--- reading ends there: no design goes on so, or the next token is a 65th open bracket
+-- the tokens are those before the fault and those behind it; some design begins with those before it, few brackets are
+-- open there, and the fault says why reading ends: no design goes on so, or some does, with a 65th open bracket
 pub record StandsBetween (text : List ℕ) (tokens : List Token) (fault : Fault) : Type 0 where
   pub before : List Token
   pub behind : List Token
   pub split : tokens ≡ before ++ behind
   pub few : AreFewOpen 0 (seen text before)
-  pub why : ((fault ≡ fault_at 11 (place_behind text behind)) × NoneGoesOn text before behind) ⊎ ((fault ≡ fault_at 12 (place_behind text behind)) × OpensTooMany text before behind)
+  pub begun : Begins text before
+  pub why : ((fault ≡ fault_at 11 (place_behind text behind)) × NoneGoesOn text before behind) ⊎ ((fault ≡ fault_at 12 (place_behind text behind)) × OpensTooMany text before behind × GoesOn text before behind)

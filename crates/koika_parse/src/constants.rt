@@ -2,7 +2,7 @@ ghost use Rattle.std.specs.Prelude.{◌++◌, All, IfOk, map};
 ghost use Rattle.koika_syntax.specs.Grammar.{IsConstant, IsLiteral, IsName, IsNonempty, constant_field_leaves, constant_leaves, struct_leaves};
 ghost use Rattle.koika_syntax.specs.Tree.{commas, literal_leaves, name_leaves, sign};
 ghost use Rattle.koika_syntax.specs.declared.symbol.Symbol.TheVariants as symbols;
-ghost use Rattle.koika_parse.specs.Expected.{Any, Commas, NoComma, Part, Takes};
+ghost use Rattle.koika_parse.specs.Expected.{Any, Commas, InVector, NoComma, Part, Takes};
 ghost use Rattle.koika_parse.specs.Reading.{Reads};
 ghost use Rattle.koika_parse.specs.Parts.{IsConstantField};
 ghost use Rattle.koika_parse.specs.Words.{ConstantArrayWord, NamedConstantWord};
@@ -63,7 +63,7 @@ impl<'a> Source<'a> {
         ensures read { IfOk result (λ found. Reads self.now cursor.old cursor.new (commas (map constant_field_leaves found.items))) }
         ensures is { IfOk result (λ found. All IsConstantField found.items) }
         ensures some { IfOk result (λ found. IsNonempty found.items) }
-        ensures takes { Takes self.now cursor.old cursor.new (Commas IsConstantField constant_field_leaves) (NoComma Any) result }
+        ensures takes { Takes self.now cursor.old cursor.new (Commas InVector IsConstantField constant_field_leaves) (NoComma Any) result }
     {
         let mut all = Vec::new(self.alloc);
         let first = self.constant_field(cursor)?;
@@ -106,7 +106,7 @@ impl<'a> Source<'a> {
         ensures read { IfOk result (λ found. Reads self.now cursor.old cursor.new (commas (map constant_leaves found.items))) }
         ensures is { IfOk result (λ found. All IsConstant found.items) }
         ensures some { IfOk result (λ found. IsNonempty found.items) }
-        ensures takes { Takes self.now cursor.old cursor.new (Commas IsConstant constant_leaves) (NoComma Any) result }
+        ensures takes { Takes self.now cursor.old cursor.new (Commas InVector IsConstant constant_leaves) (NoComma Any) result }
     {
         let mut all = Vec::new(self.alloc);
         let first = self.constant(cursor)?;

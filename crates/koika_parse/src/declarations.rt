@@ -1,10 +1,10 @@
-ghost use Rattle.std.specs.Prelude.{◌<◌, ◌++◌, All, IfOk, OnOk, IfSome, map};
+ghost use Rattle.std.specs.Prelude.{◌≡◌, ◌<◌, ◌++◌, All, IfOk, OnOk, IfSome, Some, map};
 ghost use Rattle.koika_syntax.specs.Grammar.{IsDeclaration, IsField, IsLiteral, IsMember, IsName, IsNonempty, IsType, declaration_leaves, field_leaves, member_leaves, result_leaves};
 ghost use Rattle.koika_syntax.specs.Tree.{commas, keyword, literal_leaves, name_leaves, word};
-ghost use Rattle.koika_parse.specs.Expected.{Any, Commas, NoComma, One, Part, Takes, Then};
+ghost use Rattle.koika_parse.specs.Expected.{Any, AnyMany, Commas, NoComma, One, Part, Takes, Then};
 ghost use Rattle.koika_parse.specs.ExpressionWords.{parenthesis_follows};
-ghost use Rattle.koika_parse.specs.Reading.{Reads, tokens_left};
-ghost use Rattle.koika_parse.specs.Words.{AssertWord, DeclarationWord, EnumWord, FunctionWord, HostWord, InputWord, ParametersWord, RegisterWord, ResultWord, RuleWord, StructWord, TableWord};
+ghost use Rattle.koika_parse.specs.Reading.{Reads, next, tokens_left};
+ghost use Rattle.koika_parse.specs.Words.{AssertWord, EnumWord, FunctionWord, HostWord, InputWord, ParametersWord, RegisterWord, ResultWord, RuleWord, StructWord, TableWord};
 
 use crate::cursor::Cursor;
 use crate::source::Source;
@@ -30,10 +30,11 @@ impl<'a> Source<'a> {
 
     // Reads a declaration that begins with this keyword.
     fn begun_declaration(&self, cursor: &mut Cursor, begin: Keyword) -> Result<Declaration, Stop>
+        requires { next self.now cursor.old ≡ Some (keyword begin) }
         ensures read { IfOk result (λ found. Reads self.now cursor.old cursor.new (declaration_leaves found)) }
         ensures is { IfOk result IsDeclaration }
         ensures some { OnOk result (tokens_left self.now cursor.new < tokens_left self.now cursor.old) }
-        ensures takes { Takes self.now cursor.old cursor.new (DeclarationWord begin) Any result }
+        ensures takes { Takes self.now cursor.old cursor.new (Part IsDeclaration declaration_leaves) Any result }
     {
         match begin {
             Keyword::Enum => self.enum_declaration(cursor),
@@ -83,7 +84,7 @@ impl<'a> Source<'a> {
         ensures read { IfOk result (λ found. Reads self.now cursor.old cursor.new (commas (map member_leaves found))) }
         ensures is { IfOk result (λ found. All IsMember found) }
         ensures some { IfOk result (λ found. IsNonempty found) }
-        ensures takes { Takes self.now cursor.old cursor.new (Commas IsMember member_leaves) (NoComma Any) result }
+        ensures takes { Takes self.now cursor.old cursor.new (Commas AnyMany IsMember member_leaves) (NoComma Any) result }
     {
         let mut all = Sequence::new(self.alloc);
         let first = self.member(cursor)?;
@@ -124,7 +125,7 @@ impl<'a> Source<'a> {
         ensures read { IfOk result (λ found. Reads self.now cursor.old cursor.new (commas (map field_leaves found))) }
         ensures is { IfOk result (λ found. All IsField found) }
         ensures some { IfOk result (λ found. IsNonempty found) }
-        ensures takes { Takes self.now cursor.old cursor.new (Commas IsField field_leaves) (NoComma Any) result }
+        ensures takes { Takes self.now cursor.old cursor.new (Commas AnyMany IsField field_leaves) (NoComma Any) result }
     {
         let mut all = Sequence::new(self.alloc);
         let first = self.field(cursor)?;
@@ -202,7 +203,7 @@ impl<'a> Source<'a> {
         ensures read { IfOk result (λ found. Reads self.now cursor.old cursor.new (commas (map literal_leaves found))) }
         ensures is { IfOk result (λ found. All IsLiteral found) }
         ensures some { IfOk result (λ found. IsNonempty found) }
-        ensures takes { Takes self.now cursor.old cursor.new (Commas IsLiteral literal_leaves) (NoComma Any) result }
+        ensures takes { Takes self.now cursor.old cursor.new (Commas AnyMany IsLiteral literal_leaves) (NoComma Any) result }
     {
         let mut all = Sequence::new(self.alloc);
         let first = self.literal(cursor)?;

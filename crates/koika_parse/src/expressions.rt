@@ -117,7 +117,7 @@ impl<'a> Source<'a> {
             (all_of (map statement_leaves found.statements.items) ++ last_leaves found.value (λ value. expression_leaves value.value))) }
         ensures statements { IfOk result (λ found. All IsStatement found.statements.items) }
         ensures value { IfOk result (λ found. IfSome found.value (λ value. IsExpression value.value)) }
-        ensures takes { Takes self.now cursor.old cursor.new InsideWord brace_follows result }
+        ensures takes { Takes self.now cursor.old cursor.new (InsideWord 0) brace_follows result }
     {
         let mut statements = Vec::new(self.alloc);
         'more: while !self.is_at_sign(cursor, Symbol::RightBrace) {
@@ -217,6 +217,8 @@ impl<'a> Source<'a> {
 
     // Reads an operator of this level.
     fn operator(&self, cursor: &mut Cursor, wanted: u32) -> Result<BinaryOperator, Stop>
+        requires low { 0 < wanted }
+        requires high { wanted ≤ 9 }
         ensures read { IfOk result (λ found. Reads self.now cursor.old cursor.new (sign (binary_symbol found))) }
         ensures level { IfOk result (λ found. level_of found ≡ wanted) }
         ensures takes { Takes self.now cursor.old cursor.new (OperatorWord wanted) Any result }

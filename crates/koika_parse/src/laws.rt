@@ -19,3 +19,13 @@ pub fn trees_of_the_same_tokens_differ_in_places_alone()
 pub fn what_is_printed_is_read_again()
     ensures { law.ReadAgain }
 {}
+
+/// Two faults that stand between the tokens of one text are the same.
+pub fn a_text_has_one_fault()
+    ensures { law.OneFault }
+{}
+
+/// Where a tree derives the tokens with few open brackets, no fault stands between them.
+pub fn a_design_has_no_fault()
+    ensures { law.NoFault }
+{}

@@ -21,7 +21,7 @@ mod tokens;
 mod types;
 
 pub use laws::{
-    tokens_are_derived_by_one_tree, trees_of_the_same_tokens_differ_in_places_alone,
-    what_is_printed_is_read_again,
+    a_design_has_no_fault, a_text_has_one_fault, tokens_are_derived_by_one_tree,
+    trees_of_the_same_tokens_differ_in_places_alone, what_is_printed_is_read_again,
 };
 pub use parser::parse;

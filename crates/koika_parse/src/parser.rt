@@ -8,6 +8,7 @@ ghost use Rattle.koika_syntax.specs.declared.tree.Tree.{Tree};
 ghost use Rattle.koika_parse.specs.Brackets.{AreFewOpen};
 ghost use Rattle.koika_parse.specs.Faults.{StandsBetween, place_behind};
 ghost use Rattle.koika_parse.specs.Expected.{Takes};
+ghost use Rattle.koika_parse.specs.Laws.{ReadsBack};
 ghost use Rattle.koika_parse.specs.Reading.{Reads};
 ghost use Rattle.koika_parse.specs.Stops.{IsFaultOf};
 ghost use Rattle.koika_parse.specs.Words.{DeclarationsWord, DesignWord, end_follows, schedule_follows};
@@ -20,15 +21,16 @@ use kw_base::{Fault, Refusal, place_of};
 use kw_bits::Sequence;
 use std::alloc::Global;
 
-/// The tree of a text, whose tokens these are, or a fault: 11 at a token that no design goes on with, or behind the
-/// text where no design ends there, and 12 at a 65th open bracket. A tree is answered exactly where one with at most
-/// 64 open brackets derives the tokens, unless memory ran out. That some design goes on with the tokens before a
-/// fault, so that it is the first one, isn't proved.
+/// The tree of a text, whose tokens these are, or the first fault: 11 at a token that no design goes on with, or behind
+/// the text where no design ends there, and 12 at a 65th open bracket. A tree is answered exactly where one with at most
+/// 64 open brackets derives the tokens, unless memory ran out. Where the tokens are a tree's, as in a printed text, that
+/// tree is answered up to places.
 pub fn parse(alloc: Global, text: &[u8], tokens: &[Token]) -> Result<Tree, Refusal>
     requires stands { All (StandsIn text.now) tokens.now }
     ensures derived { IfOk result (λ tree. Derives text.now tree tokens.now) }
     ensures few { IfOk result (λ tree. AreFewOpen 0 (tree_leaves tree)) }
     ensures fault { IfFault result (StandsBetween text.now tokens.now) }
+    ensures again { ReadsBack text.now tokens.now result }
     ensures complete { IfFault result (λ fault. (tree : Tree) → Derives text.now tree tokens.now → AreFewOpen 0 (tree_leaves tree) → ⊥) }
 {
     let source = Source {

@@ -3,9 +3,10 @@ ghost use Rattle.std.specs.List.{flat_map};
 ghost use Rattle.koika_syntax.specs.Grammar.{IsExpression, IsNonempty, IsPart, IsSuffix, expression_leaves, field_value_leaves, level, part_leaves, prefix_leaves, suffix_leaves};
 ghost use Rattle.koika_syntax.specs.Tree.{commas, keyword, read_word, symbol, unary_symbol, write_word};
 ghost use Rattle.koika_syntax.specs.declared.keyword.Keyword.TheVariants as keywords;
+ghost use Rattle.koika_syntax.specs.declared.token.TokenKind.TheVariants as kinds;
 ghost use Rattle.koika_syntax.specs.declared.operator.UnaryOperator.{UnaryOperator};
-ghost use Rattle.koika_parse.specs.Expected.{Any, Commas, NoComma, One, Takes};
-ghost use Rattle.koika_parse.specs.ExpressionWords.{ArgumentsWord, ArrayWord, CompareWord, ExtendWord, Free, IsAtPrefix, IsAtSuffix, KeywordWord, LevelWord, NamedWord, OneBlock, OneFieldValue, OneLiteral, OnePart, OneSuffix, PackWord, ParenthesesWord, PrefixWord, PrefixesWord, ReadWord, SuffixesWord, SymbolWord, UnpackWord, UpdateWord, WriteWord, no_prefix, parenthesis_follows};
+ghost use Rattle.koika_parse.specs.Expected.{Any, Commas, InVector, NoComma, One, Takes};
+ghost use Rattle.koika_parse.specs.ExpressionWords.{ArgumentsWord, ArrayWord, CompareWord, ExtendWord, Free, IsAtPrefix, IsAtSuffix, LevelWord, NamedWord, OneBlock, OneFieldValue, OneLiteral, OnePart, OneSuffix, PackWord, ParenthesesWord, PrefixWord, PrefixesWord, ReadWord, SuffixesWord, UnpackWord, UpdateWord, WriteWord, no_prefix, parenthesis_follows};
 ghost use Rattle.koika_parse.specs.Reading.{Reads, kind_at, next, tokens_left};
 ghost use Rattle.koika_parse.specs.Parts.{IsFieldValue};
 
@@ -178,10 +179,11 @@ impl<'a> Source<'a> {
     // Reads what begins with this symbol.
     #[cycle(expression)]
     fn bracketed(&self, cursor: &mut Cursor, begin: Symbol) -> Result<Expression, Stop>
+        requires { kind_at self.now cursor.old ≡ Some (kinds.Symbol begin) }
         ensures read { IfOk result (λ found. Reads self.now cursor.old cursor.new (expression_leaves found)) }
         ensures is { IfOk result IsExpression }
         ensures level { IfOk result (λ found. level found ≡ 12) }
-        ensures takes { Takes self.now cursor.old cursor.new (SymbolWord begin) Any result }
+        ensures takes { Takes self.now cursor.old cursor.new (LevelWord 12) (Free 12) result }
     {
         match begin {
             Symbol::LeftBracket => self.array(cursor),
@@ -215,10 +217,11 @@ impl<'a> Source<'a> {
     // Reads what begins with this keyword.
     #[cycle(expression)]
     fn keyword_primary(&self, cursor: &mut Cursor, keyword: Keyword) -> Result<Expression, Stop>
+        requires { kind_at self.now cursor.old ≡ Some (kinds.Keyword keyword) }
         ensures read { IfOk result (λ found. Reads self.now cursor.old cursor.new (expression_leaves found)) }
         ensures is { IfOk result IsExpression }
         ensures level { IfOk result (λ found. level found ≡ 12) }
-        ensures takes { Takes self.now cursor.old cursor.new (KeywordWord keyword) Any result }
+        ensures takes { Takes self.now cursor.old cursor.new (LevelWord 12) (Free 12) result }
     {
         match keyword {
             Keyword::Read0 => self.read(cursor, 0),
@@ -469,7 +472,7 @@ impl<'a> Source<'a> {
         ensures read { IfOk result (λ found. Reads self.now cursor.old cursor.new (commas (map expression_leaves found.items))) }
         ensures is { IfOk result (λ found. All IsExpression found.items) }
         ensures some { IfOk result (λ found. IsNonempty found.items) }
-        ensures takes { Takes self.now cursor.old cursor.new (Commas IsExpression expression_leaves) (NoComma (Free 0)) result }
+        ensures takes { Takes self.now cursor.old cursor.new (Commas InVector IsExpression expression_leaves) (NoComma (Free 0)) result }
     {
         let mut all = Vec::new(self.alloc);
         let first = self.expression(cursor)?;
@@ -487,7 +490,7 @@ impl<'a> Source<'a> {
         ensures read { IfOk result (λ found. Reads self.now cursor.old cursor.new (commas (map field_value_leaves found.items))) }
         ensures is { IfOk result (λ found. All IsFieldValue found.items) }
         ensures some { IfOk result (λ found. IsNonempty found.items) }
-        ensures takes { Takes self.now cursor.old cursor.new (Commas IsFieldValue field_value_leaves) (NoComma (Free 0)) result }
+        ensures takes { Takes self.now cursor.old cursor.new (Commas InVector IsFieldValue field_value_leaves) (NoComma (Free 0)) result }
     {
         let mut all = Vec::new(self.alloc);
         let first = self.field_value(cursor)?;

@@ -1,4 +1,4 @@
-ghost use Rattle.std.specs.Prelude.{◌≤◌, All, length};
+ghost use Rattle.std.specs.Prelude.{◌<◌, ◌≤◌, ◌^◌, All, length};
 ghost use Rattle.std.proofs.Props.{props};
 ghost use Rattle.koika_parse.specs.Names.{AreNamesIn};
 
@@ -12,5 +12,6 @@ pub(crate) struct Source<'a> {
     pub text: &'a [u8],
     pub tokens: &'a [Token],
     ghost starts: { All (λ token. token.start ≤ length text.now) tokens.now },
+    ghost short: { length tokens.now < 2 ^ 62 },
     ghost names: { AreNamesIn text.now tokens.now } by { Prim.hlevel props },
 }

@@ -1,6 +1,7 @@
-ghost use Rattle.std.specs.Prelude.{◌≡◌, ◌≢◌, ◌<◌, ◌≤◌, Some, None, IfOk, IfNone, IfErr, IfSome, OnOk, IsTrue, ◌↔◌, length};
+ghost use Rattle.std.specs.Prelude.{ℕ, ◌≡◌, ◌≢◌, ◌<◌, ◌≤◌, ◌^◌, Some, None, IfOk, IfNone, IfErr, IfSome, OnOk, IsTrue, ◌↔◌, length};
 ghost use Rattle.koika_syntax.specs.Grammar.{IsLiteral, IsName, IsNumber, IsWidth};
-ghost use Rattle.koika_syntax.specs.Tree.{Terminal, keyword, literal_leaves, name_leaves, number_leaves, placed, sign, symbol, width_leaves, word};
+ghost use Rattle.kw_bits.specs.BitVector.{BitVector, IsBits};
+ghost use Rattle.koika_syntax.specs.Tree.{Terminal, keyword, literal, literal_leaves, name_leaves, number, number_leaves, placed, sign, symbol, width_leaves, word};
 ghost use Rattle.koika_syntax.specs.declared.keyword.Keyword.{Keyword};
 ghost use Rattle.koika_syntax.specs.declared.symbol.Symbol.{Symbol};
 ghost use Rattle.koika_syntax.specs.declared.token.TokenKind.TheVariants as kinds;
@@ -69,6 +70,30 @@ impl<'a> Source<'a> {
     {
         match self.peek(cursor) {
             Some(kind) => keyword_of(kind),
+            None => None,
+        }
+    }
+
+    // The next token, if it is a number.
+    fn number_at(&self, cursor: &Cursor) -> Option<u32>
+        ensures at { IfSome result (λ found. next self.now cursor.now ≡ Some (number found)) }
+        ensures small { IfSome result (λ found. found < 2 ^ 32) }
+        ensures none { IfNone result ((found : ℕ) → next self.now cursor.now ≢ Some (number found)) }
+    {
+        match self.peek(cursor) {
+            Some(kind) => number_of(kind),
+            None => None,
+        }
+    }
+
+    // The bits of the next token, if it is a literal.
+    fn bits_at(&self, cursor: &Cursor) -> Option<Bits>
+        ensures at { IfSome result (λ found. next self.now cursor.now ≡ Some (literal found)) }
+        ensures is { IfSome result IsBits }
+        ensures none { IfNone result ((found : BitVector) → next self.now cursor.now ≢ Some (literal found)) }
+    {
+        match self.peek(cursor) {
+            Some(kind) => bits_of(kind),
             None => None,
         }
     }
@@ -178,12 +203,12 @@ impl<'a> Source<'a> {
         ensures is { IfOk result IsNumber }
         ensures takes { Takes self.now cursor.old cursor.new (Part IsNumber number_leaves) Any result }
     {
-        match self.peek(cursor) {
-            Some(TokenKind::Number(value)) => {
+        match self.number_at(cursor) {
+            None => Err(Stop::Unexpected),
+            Some(value) => {
                 let place = self.step(cursor)?;
                 Ok(Number { value, place })
             }
-            _ => Err(Stop::Unexpected),
         }
     }
 
@@ -193,13 +218,13 @@ impl<'a> Source<'a> {
         ensures is { IfOk result IsLiteral }
         ensures takes { Takes self.now cursor.old cursor.new (Part IsLiteral literal_leaves) Any result }
     {
-        if cursor.at < self.tokens.len() {
-            if let TokenKind::Literal(bits) = self.tokens[cursor.at].kind {
+        match self.bits_at(cursor) {
+            None => Err(Stop::Unexpected),
+            Some(bits) => {
                 let place = self.step(cursor)?;
-                return Ok(literal_at(bits, place));
+                Ok(literal_at(bits, place))
             }
         }
-        Err(Stop::Unexpected)
     }
 
     /// Reads `bits` and a number.
@@ -232,6 +257,30 @@ fn keyword_of(kind: TokenKind) -> Option<Keyword>
 {
     match kind {
         TokenKind::Keyword(found) => Some(found),
+        _ => None,
+    }
+}
+
+// The number, if it is one.
+fn number_of(kind: TokenKind) -> Option<u32>
+    ensures some { IfSome result (λ found. kind ≡ kinds.Number found) }
+    ensures small { IfSome result (λ found. found < 2 ^ 32) }
+    ensures none { IfNone result ((found : ℕ) → kind ≢ kinds.Number found) }
+{
+    match kind {
+        TokenKind::Number(found) => Some(found),
+        _ => None,
+    }
+}
+
+// The bits of a literal, if it is one.
+fn bits_of(kind: TokenKind) -> Option<Bits>
+    ensures some { IfSome result (λ found. kind ≡ kinds.Literal found) }
+    ensures is { IfSome result IsBits }
+    ensures none { IfNone result ((found : BitVector) → kind ≢ kinds.Literal found) }
+{
+    match kind {
+        TokenKind::Literal(found) => Some(found),
         _ => None,
     }
 }

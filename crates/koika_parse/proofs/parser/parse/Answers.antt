@@ -1,12 +1,12 @@
-use Rattle.std.proofs.Common.{refl, arith, Err}
+use Rattle.std.proofs.Common.{refl, arith, rules, Err}
 use Rattle.koika_parse.proofs.Names.{names_stand, starts_stand}
 use Rattle.koika_parse.proofs.Reading.{whole}
 use Rattle.koika_syntax.specs.declared.tree.Tree.{Tree}
-use Rattle.koika_parse.proofs.Designs.{fault_as, none_derives, stands_between}
+use Rattle.koika_parse.proofs.Designs.{fault_as, none_derives, reads_back_found, reads_back_refused, stands_between}
 use Rattle.koika_parse.proofs.parser.parse.Goals as goal
 
 pub invariant_of-source : goal.invariant_of-source
-invariant_of-source c = record { starts = starts_stand c.args.text.now c.args.tokens.now c.requires.stands; names = names_stand c.args.text.now c.args.tokens.now c.requires.stands }
+invariant_of-source c = record { short = search rules; starts = starts_stand c.args.text.now c.args.tokens.now c.requires.stands; names = names_stand c.args.text.now c.args.tokens.now c.requires.stands }
 
 pub returns-in-Ok-clause-derived : goal.returns-in-Ok-clause-derived
 returns-in-Ok-clause-derived c = record { design = c.in-Ok.ensures.is; leaves = whole c.in-Ok.ensures.read refl c.in-Ok.ensures.all }
@@ -19,3 +19,9 @@ returns-in-Err-clause-complete c = fault_as {X = Tree} (Err c.refusal.result) c.
 
 pub returns-in-Err-clause-fault : goal.returns-in-Err-clause-fault
 returns-in-Err-clause-fault c = fault_as {X = Tree} (Err c.refusal.result) c.refusal.ensures (λ fault is. stands_between c.in-Err.stop fault refl refl c.in-Err.ensures.takes is)
+
+pub returns-in-Ok-clause-again : goal.returns-in-Ok-clause-again
+returns-in-Ok-clause-again c = reads_back_found c.args.text.now c.args.tokens.now c.in-Ok.tree (returns-in-Ok-clause-derived c)
+
+pub returns-in-Err-clause-again : goal.returns-in-Err-clause-again
+returns-in-Err-clause-again c = reads_back_refused c.refusal.result refl refl c.in-Err.ensures.takes c.refusal.ensures

@@ -1,5 +1,5 @@
-use Rattle.koika_syntax.specs.Grammar.{IsConstant, constant_field_leaves, constant_leaves, IsLiteral}
-use Rattle.koika_syntax.specs.Tree.{sign, literal_leaves, symbol}
+use Rattle.koika_syntax.specs.Grammar.{IsConstant, constant_field_leaves, constant_leaves}
+use Rattle.koika_syntax.specs.Tree.{sign, symbol}
 use Rattle.koika_syntax.specs.declared.symbol.Symbol.TheVariants as symbols
 use Rattle.koika_syntax.proofs.Leaves.{struct_constant, array_constant}
 use Rattle.koika_parse.specs.Parts.{IsConstantField}
@@ -7,27 +7,26 @@ use Rattle.koika_parse.proofs.Reading.{in_turn, as_leaves}
 use Rattle.koika_parse.proofs.Lists.{joined_start, joined_again}
 use Rattle.koika_parse.proofs.Parts.{is_constant_array, is_constant_field, is_constant_member, is_constant_struct}
 use Rattle.koika_parse.proofs.Calls.{leaves_constant_field, leaves_constant_member}
-use Rattle.std.proofs.Common.{refl, sym, ◌∙◌}
-use Rattle.koika_parse.proofs.Expected.{start, starts, step, finish, next_part, last_part, fails, fails_before, fails_last, tail, before_one, narrow_part, kind_of_next, free_last}
-use Rattle.koika_parse.specs.Expected.{Part, Any, NoComma, One, Then, Commas}
-use Rattle.koika_parse.proofs.Commas.{commas_start, commas_apart, commas_at, commas_end}
+use Rattle.std.proofs.Common.{refl}
+use Rattle.koika_parse.proofs.Expected.{step, finish, next_part, last_part, fails, fails_before, fails_last, tail, before_one, free_last}
+use Rattle.koika_parse.specs.Expected.{Any, NoComma}
+use Rattle.koika_parse.proofs.Commas.{commas_start, commas_apart, commas_at, commas_end, commas_first, commas_next}
 use Rattle.koika_parse.specs.Reading.{next}
-use Rattle.koika_parse.specs.Words.{NamedConstantWord, ConstantArrayWord}
-use Rattle.koika_parse.proofs.ConstantWords.{ConstantFieldWord, constant_named, constant_bracket, constant_literal, constant_field_word}
+use Rattle.koika_parse.proofs.ConstantWords.{FieldsTail, constant_array_start, constant_at_bracket, constant_at_name, constant_elsewhere, constant_field_start, constant_fields_listed, constants_listed, named_constant_start, some_fields_tail}
 use Rattle.koika_parse.proofs.Rows.{name_not_brace, brace_not_name}
 use Rattle.koika_parse.proofs.source.Source.+constant.Goals as goal
 
 pub constants-more-init : goal.constants-more-init
-constants-more-init t c = (joined_start _ _ _ (sign symbols.Comma) constant_leaves IsConstant c.in_ok-first.first _ c.push.new.self.items c.in_ok-first.ensures.read c.in_ok-first.ensures.is c.new-all.ensures.items c.in_ok-push.ensures.items, step (commas_start IsConstant constant_leaves) c.in_ok-first.ensures.takes (commas_apart IsConstant constant_leaves Any tt))
+constants-more-init t c = (joined_start _ _ _ (sign symbols.Comma) constant_leaves IsConstant c.in_ok-first.first _ c.push.new.self.items c.in_ok-first.ensures.read c.in_ok-first.ensures.is c.new-all.ensures.items c.in_ok-push.ensures.items, commas_first constants_listed c.in_ok-first.ensures.takes tt)
 
 pub constants-more-preserved : goal.constants-more-preserved
-constants-more-preserved t c = (joined_again c.in_ok-next.next c.push-in-more.new.self.items c.more.invariant.0 c.in_ok-sign.ensures.read c.in_ok-next.ensures.read c.in_ok-next.ensures.is c.in_ok-push-2.ensures.items, step (next_part (commas_at IsConstant constant_leaves (c.is_at_sign.ensures.0 c.more-test.true) c.more.invariant.1) c.in_ok-sign.ensures.takes) c.in_ok-next.ensures.takes (commas_apart IsConstant constant_leaves Any tt))
+constants-more-preserved t c = (joined_again c.in_ok-next.next c.push-in-more.new.self.items c.more.invariant.0 c.in_ok-sign.ensures.read c.in_ok-next.ensures.read c.in_ok-next.ensures.is c.in_ok-push-2.ensures.items, commas_next constants_listed (c.is_at_sign.ensures.0 c.more-test.true) c.more.invariant.1 c.in_ok-sign.ensures.read c.in_ok-sign.ensures.takes c.in_ok-next.ensures.takes tt)
 
 pub constant_fields-more-init : goal.constant_fields-more-init
-constant_fields-more-init t c = (joined_start _ _ _ (sign symbols.Comma) constant_field_leaves IsConstantField c.in_ok-first.first _ c.push.new.self.items c.in_ok-first.ensures.read c.in_ok-first.ensures.is c.new-all.ensures.items c.in_ok-push.ensures.items, step (commas_start IsConstantField constant_field_leaves) c.in_ok-first.ensures.takes (commas_apart IsConstantField constant_field_leaves Any tt))
+constant_fields-more-init t c = (joined_start _ _ _ (sign symbols.Comma) constant_field_leaves IsConstantField c.in_ok-first.first _ c.push.new.self.items c.in_ok-first.ensures.read c.in_ok-first.ensures.is c.new-all.ensures.items c.in_ok-push.ensures.items, commas_first constant_fields_listed c.in_ok-first.ensures.takes tt)
 
 pub constant_fields-more-preserved : goal.constant_fields-more-preserved
-constant_fields-more-preserved t c = (joined_again c.in_ok-next.next c.push-in-more.new.self.items c.more.invariant.0 c.in_ok-sign.ensures.read c.in_ok-next.ensures.read c.in_ok-next.ensures.is c.in_ok-push-2.ensures.items, step (next_part (commas_at IsConstantField constant_field_leaves (c.is_at_sign.ensures.0 c.more-test.true) c.more.invariant.1) c.in_ok-sign.ensures.takes) c.in_ok-next.ensures.takes (commas_apart IsConstantField constant_field_leaves Any tt))
+constant_fields-more-preserved t c = (joined_again c.in_ok-next.next c.push-in-more.new.self.items c.more.invariant.0 c.in_ok-sign.ensures.read c.in_ok-next.ensures.read c.in_ok-next.ensures.is c.in_ok-push-2.ensures.items, commas_next constant_fields_listed (c.is_at_sign.ensures.0 c.more-test.true) c.more.invariant.1 c.in_ok-sign.ensures.read c.in_ok-sign.ensures.takes c.in_ok-next.ensures.takes tt)
 
 pub constant_array-returns-clause-read : goal.constant_array-returns-clause-read
 constant_array-returns-clause-read t c = as_leaves _ (array_constant c.in_ok-place.place c.in_ok-elements.elements) (in_turn (in_turn c.in_ok-place.ensures.read c.in_ok-elements.ensures.read) c.in_ok-sign.ensures.read)
@@ -54,82 +53,82 @@ pub named_constant-returns-clause-is : goal.named_constant-returns-clause-is
 named_constant-returns-clause-is t c = is_constant_struct c.in_ok-of.of c.in_ok-fields.fields c.in_ok-close.close c.in_ok-fields.ensures.is (c.in_ok-of.ensures.is, c.in_ok-fields.ensures.some)
 
 pub constant-returns-then-is_at_name-clause-takes : goal.constant-returns-then-is_at_name-clause-takes
-constant-returns-then-is_at_name-clause-takes t c = tail c.named_constant.result (narrow_part NamedConstantWord (λ x is v at. constant_named x is v (next c.args.self.now c.args.cursor.now) at (kind_of_next c.args.self.now c.args.cursor.now ∙ c.is_at_name.ensures.0 c.if-is_at_name.true))) c.named_constant.ensures.takes (free_last Any)
+constant-returns-then-is_at_name-clause-takes t c = tail c.named_constant.result (constant_at_name (c.is_at_name.ensures.0 c.if-is_at_name.true)) c.named_constant.ensures.takes (free_last Any)
 
 pub constant-returns-then-is_at_sign-clause-takes : goal.constant-returns-then-is_at_sign-clause-takes
-constant-returns-then-is_at_sign-clause-takes t c = tail c.constant_array.result (narrow_part ConstantArrayWord (λ x is v at. constant_bracket x is v (next c.args.self.now c.args.cursor.now) at (c.is_at_sign.ensures.0 c.if-is_at_sign.true))) c.constant_array.ensures.takes (free_last Any)
+constant-returns-then-is_at_sign-clause-takes t c = tail c.constant_array.result (constant_at_bracket (c.is_at_sign.ensures.0 c.if-is_at_sign.true)) c.constant_array.ensures.takes (free_last Any)
 
 pub constant-returns-clause-takes : goal.constant-returns-clause-takes
-constant-returns-clause-takes t c = tail c.literal_constant.result (narrow_part (Part IsLiteral literal_leaves) (λ x is v at. constant_literal x is v (next c.args.self.now c.args.cursor.now) at (λ e. cc (c.if-is_at_name.false, c.is_at_name.ensures.1 (sym (kind_of_next c.args.self.now c.args.cursor.now) ∙ e))) (λ e. cc (c.if-is_at_sign.false, c.is_at_sign.ensures.1 e)))) c.literal_constant.ensures.takes (free_last Any)
+constant-returns-clause-takes t c = tail c.literal_constant.result (constant_elsewhere (λ e. cc (c.if-is_at_name.false, c.is_at_name.ensures.1 e)) (λ e. cc (c.if-is_at_sign.false, c.is_at_sign.ensures.1 e))) c.literal_constant.ensures.takes (free_last Any)
 
 pub constant_field-returns-in_err-name-clause-takes : goal.constant_field-returns-in_err-name-clause-takes
-constant_field-returns-in_err-name-clause-takes t c = fails c.from_residual.result c.from_residual.ensures (starts ConstantFieldWord constant_field_word) c.in_err-name.ensures.takes
+constant_field-returns-in_err-name-clause-takes t c = fails c.from_residual.result c.from_residual.ensures constant_field_start c.in_err-name.ensures.takes
 
 pub constant_field-returns-in_err-sign-clause-takes : goal.constant_field-returns-in_err-sign-clause-takes
-constant_field-returns-in_err-sign-clause-takes t c = fails c.from_residual-in_err-sign.result c.from_residual-in_err-sign.ensures (next_part (starts ConstantFieldWord constant_field_word) c.in_ok-name.ensures.takes) c.in_err-sign.ensures.takes
+constant_field-returns-in_err-sign-clause-takes t c = fails c.from_residual-in_err-sign.result c.from_residual-in_err-sign.ensures (next_part constant_field_start c.in_ok-name.ensures.takes) c.in_err-sign.ensures.takes
 
 pub constant_field-returns-in_err-value-clause-takes : goal.constant_field-returns-in_err-value-clause-takes
-constant_field-returns-in_err-value-clause-takes t c = fails_last c.from_residual-in_err-value.result c.from_residual-in_err-value.ensures (next_part (next_part (starts ConstantFieldWord constant_field_word) c.in_ok-name.ensures.takes) c.in_ok-sign.ensures.takes) c.in_err-value.ensures.takes
+constant_field-returns-in_err-value-clause-takes t c = fails_last c.from_residual-in_err-value.result c.from_residual-in_err-value.ensures (next_part (next_part constant_field_start c.in_ok-name.ensures.takes) c.in_ok-sign.ensures.takes) c.in_err-value.ensures.takes
 
 pub constant_field-returns-clause-takes : goal.constant_field-returns-clause-takes
-constant_field-returns-clause-takes t c = last_part _ (next_part (next_part (starts ConstantFieldWord constant_field_word) c.in_ok-name.ensures.takes) c.in_ok-sign.ensures.takes) c.in_ok-value.ensures.takes
+constant_field-returns-clause-takes t c = last_part _ (next_part (next_part constant_field_start c.in_ok-name.ensures.takes) c.in_ok-sign.ensures.takes) c.in_ok-value.ensures.takes
 
 pub constant_array-returns-in_err-place-clause-takes : goal.constant_array-returns-in_err-place-clause-takes
-constant_array-returns-in_err-place-clause-takes t c = fails c.from_residual.result c.from_residual.ensures (start (λ u word. word)) c.in_err-place.ensures.takes
+constant_array-returns-in_err-place-clause-takes t c = fails c.from_residual.result c.from_residual.ensures constant_array_start c.in_err-place.ensures.takes
 
 pub constant_array-returns-in_err-elements-clause-takes : goal.constant_array-returns-in_err-elements-clause-takes
-constant_array-returns-in_err-elements-clause-takes t c = fails_before c.from_residual-in_err-elements.result c.from_residual-in_err-elements.ensures (next_part (start (λ u word. word)) c.in_ok-place.ensures.takes) c.in_err-elements.ensures.takes (before_one Any (NoComma Any) (symbol symbols.RightBracket) (tt, refl))
+constant_array-returns-in_err-elements-clause-takes t c = fails_before c.from_residual-in_err-elements.result c.from_residual-in_err-elements.ensures (next_part constant_array_start c.in_ok-place.ensures.takes) c.in_err-elements.ensures.takes (before_one Any (NoComma Any) (symbol symbols.RightBracket) (tt, refl))
 
 pub constant_array-returns-in_err-sign-clause-takes : goal.constant_array-returns-in_err-sign-clause-takes
-constant_array-returns-in_err-sign-clause-takes t c = fails_last c.from_residual-in_err-sign.result c.from_residual-in_err-sign.ensures (step (next_part (start (λ u word. word)) c.in_ok-place.ensures.takes) c.in_ok-elements.ensures.takes (before_one Any (NoComma Any) (symbol symbols.RightBracket) (tt, refl))) c.in_err-sign.ensures.takes
+constant_array-returns-in_err-sign-clause-takes t c = fails_last c.from_residual-in_err-sign.result c.from_residual-in_err-sign.ensures (step (next_part constant_array_start c.in_ok-place.ensures.takes) c.in_ok-elements.ensures.takes (before_one Any (NoComma Any) (symbol symbols.RightBracket) (tt, refl))) c.in_err-sign.ensures.takes
 
 pub constant_array-returns-clause-takes : goal.constant_array-returns-clause-takes
-constant_array-returns-clause-takes t c = last_part _ (step (next_part (start (λ u word. word)) c.in_ok-place.ensures.takes) c.in_ok-elements.ensures.takes (before_one Any (NoComma Any) (symbol symbols.RightBracket) (tt, refl))) c.in_ok-sign.ensures.takes
+constant_array-returns-clause-takes t c = last_part _ (step (next_part constant_array_start c.in_ok-place.ensures.takes) c.in_ok-elements.ensures.takes (before_one Any (NoComma Any) (symbol symbols.RightBracket) (tt, refl))) c.in_ok-sign.ensures.takes
 
 pub constant_fields-returns-in_err-first-clause-takes : goal.constant_fields-returns-in_err-first-clause-takes
-constant_fields-returns-in_err-first-clause-takes t c = fails_before c.from_residual.result c.from_residual.ensures (commas_start IsConstantField constant_field_leaves) c.in_err-first.ensures.takes (commas_apart IsConstantField constant_field_leaves Any tt)
+constant_fields-returns-in_err-first-clause-takes t c = fails_before c.from_residual.result c.from_residual.ensures (commas_start constant_fields_listed) c.in_err-first.ensures.takes (commas_apart _ constant_fields_listed Any tt)
 
 pub constant_fields-returns-in_err-sign-clause-takes : goal.constant_fields-returns-in_err-sign-clause-takes
-constant_fields-returns-in_err-sign-clause-takes t c = fails c.from_residual-in_err-sign.result c.from_residual-in_err-sign.ensures (commas_at IsConstantField constant_field_leaves (c.is_at_sign.ensures.0 c.more-test.true) c.more.invariant.1) c.in_err-sign.ensures.takes
+constant_fields-returns-in_err-sign-clause-takes t c = fails c.from_residual-in_err-sign.result c.from_residual-in_err-sign.ensures (commas_at constant_fields_listed (c.is_at_sign.ensures.0 c.more-test.true) c.more.invariant.1) c.in_err-sign.ensures.takes
 
 pub constant_fields-returns-in_err-next-clause-takes : goal.constant_fields-returns-in_err-next-clause-takes
-constant_fields-returns-in_err-next-clause-takes t c = fails_before c.from_residual-in_err-next.result c.from_residual-in_err-next.ensures (next_part (commas_at IsConstantField constant_field_leaves (c.is_at_sign.ensures.0 c.more-test.true) c.more.invariant.1) c.in_ok-sign.ensures.takes) c.in_err-next.ensures.takes (commas_apart IsConstantField constant_field_leaves Any tt)
+constant_fields-returns-in_err-next-clause-takes t c = fails_before c.from_residual-in_err-next.result c.from_residual-in_err-next.ensures (next_part (commas_at constant_fields_listed (c.is_at_sign.ensures.0 c.more-test.true) c.more.invariant.1) c.in_ok-sign.ensures.takes) c.in_err-next.ensures.takes (commas_apart _ constant_fields_listed Any tt)
 
 pub constant_fields-returns-clause-takes : goal.constant_fields-returns-clause-takes
-constant_fields-returns-clause-takes t c = finish _ (commas_end IsConstantField constant_field_leaves (λ e. cc (c.more-test.false, c.is_at_sign.ensures.1 e)) c.more.invariant.1)
+constant_fields-returns-clause-takes t c = finish _ (commas_end constant_fields_listed (λ e. cc (c.more-test.false, c.is_at_sign.ensures.1 e)) c.more.invariant.1)
 
 pub constants-returns-in_err-first-clause-takes : goal.constants-returns-in_err-first-clause-takes
-constants-returns-in_err-first-clause-takes t c = fails_before c.from_residual.result c.from_residual.ensures (commas_start IsConstant constant_leaves) c.in_err-first.ensures.takes (commas_apart IsConstant constant_leaves Any tt)
+constants-returns-in_err-first-clause-takes t c = fails_before c.from_residual.result c.from_residual.ensures (commas_start constants_listed) c.in_err-first.ensures.takes (commas_apart _ constants_listed Any tt)
 
 pub constants-returns-in_err-sign-clause-takes : goal.constants-returns-in_err-sign-clause-takes
-constants-returns-in_err-sign-clause-takes t c = fails c.from_residual-in_err-sign.result c.from_residual-in_err-sign.ensures (commas_at IsConstant constant_leaves (c.is_at_sign.ensures.0 c.more-test.true) c.more.invariant.1) c.in_err-sign.ensures.takes
+constants-returns-in_err-sign-clause-takes t c = fails c.from_residual-in_err-sign.result c.from_residual-in_err-sign.ensures (commas_at constants_listed (c.is_at_sign.ensures.0 c.more-test.true) c.more.invariant.1) c.in_err-sign.ensures.takes
 
 pub constants-returns-in_err-next-clause-takes : goal.constants-returns-in_err-next-clause-takes
-constants-returns-in_err-next-clause-takes t c = fails_before c.from_residual-in_err-next.result c.from_residual-in_err-next.ensures (next_part (commas_at IsConstant constant_leaves (c.is_at_sign.ensures.0 c.more-test.true) c.more.invariant.1) c.in_ok-sign.ensures.takes) c.in_err-next.ensures.takes (commas_apart IsConstant constant_leaves Any tt)
+constants-returns-in_err-next-clause-takes t c = fails_before c.from_residual-in_err-next.result c.from_residual-in_err-next.ensures (next_part (commas_at constants_listed (c.is_at_sign.ensures.0 c.more-test.true) c.more.invariant.1) c.in_ok-sign.ensures.takes) c.in_err-next.ensures.takes (commas_apart _ constants_listed Any tt)
 
 pub constants-returns-clause-takes : goal.constants-returns-clause-takes
-constants-returns-clause-takes t c = finish _ (commas_end IsConstant constant_leaves (λ e. cc (c.more-test.false, c.is_at_sign.ensures.1 e)) c.more.invariant.1)
+constants-returns-clause-takes t c = finish _ (commas_end constants_listed (λ e. cc (c.more-test.false, c.is_at_sign.ensures.1 e)) c.more.invariant.1)
 
 pub named_constant-returns-in_err-of-clause-takes : goal.named_constant-returns-in_err-of-clause-takes
-named_constant-returns-in_err-of-clause-takes t c = fails c.from_residual.result c.from_residual.ensures (start (λ u word. word)) c.in_err-of.ensures.takes
+named_constant-returns-in_err-of-clause-takes t c = fails c.from_residual.result c.from_residual.ensures named_constant_start c.in_err-of.ensures.takes
 
 pub named_constant-returns-in_err-sign-clause-takes : goal.named_constant-returns-in_err-sign-clause-takes
-named_constant-returns-in_err-sign-clause-takes t c = fails c.from_residual-in_err-sign.result c.from_residual-in_err-sign.ensures (next_part (start (λ u word. word)) c.in_ok-of.ensures.takes) c.in_err-sign.ensures.takes
+named_constant-returns-in_err-sign-clause-takes t c = fails c.from_residual-in_err-sign.result c.from_residual-in_err-sign.ensures (next_part named_constant_start c.in_ok-of.ensures.takes) c.in_err-sign.ensures.takes
 
 pub named_constant-returns-in_err-member-clause-takes : goal.named_constant-returns-in_err-member-clause-takes
-named_constant-returns-in_err-member-clause-takes t c = fails_last c.from_residual-in_err-member.result c.from_residual-in_err-member.ensures (name_not_brace (Then (Commas IsConstantField constant_field_leaves) (One (symbol symbols.RightBrace))) (c.is_at_name.ensures.0 c.if-is_at_name.true) (next_part (next_part (start (λ u word. word)) c.in_ok-of.ensures.takes) c.in_ok-sign.ensures.takes)) c.in_err-member.ensures.takes
+named_constant-returns-in_err-member-clause-takes t c = fails_last c.from_residual-in_err-member.result c.from_residual-in_err-member.ensures (name_not_brace FieldsTail (c.is_at_name.ensures.0 c.if-is_at_name.true) (next_part (next_part named_constant_start c.in_ok-of.ensures.takes) c.in_ok-sign.ensures.takes)) c.in_err-member.ensures.takes
 
 pub named_constant-returns-then-is_at_name-clause-takes : goal.named_constant-returns-then-is_at_name-clause-takes
-named_constant-returns-then-is_at_name-clause-takes t c = last_part _ (name_not_brace (Then (Commas IsConstantField constant_field_leaves) (One (symbol symbols.RightBrace))) (c.is_at_name.ensures.0 c.if-is_at_name.true) (next_part (next_part (start (λ u word. word)) c.in_ok-of.ensures.takes) c.in_ok-sign.ensures.takes)) c.in_ok-member.ensures.takes
+named_constant-returns-then-is_at_name-clause-takes t c = last_part _ (name_not_brace FieldsTail (c.is_at_name.ensures.0 c.if-is_at_name.true) (next_part (next_part named_constant_start c.in_ok-of.ensures.takes) c.in_ok-sign.ensures.takes)) c.in_ok-member.ensures.takes
 
 pub named_constant-returns-in_err-sign-2-clause-takes : goal.named_constant-returns-in_err-sign-2-clause-takes
-named_constant-returns-in_err-sign-2-clause-takes t c = fails c.from_residual-in_err-sign-2.result c.from_residual-in_err-sign-2.ensures (brace_not_name (Then (Commas IsConstantField constant_field_leaves) (One (symbol symbols.RightBrace))) (λ e. cc (c.if-is_at_name.false, c.is_at_name.ensures.1 e)) (next_part (next_part (start (λ u word. word)) c.in_ok-of.ensures.takes) c.in_ok-sign.ensures.takes)) c.in_err-sign-2.ensures.takes
+named_constant-returns-in_err-sign-2-clause-takes t c = fails c.from_residual-in_err-sign-2.result c.from_residual-in_err-sign-2.ensures (brace_not_name FieldsTail (λ e. cc (c.if-is_at_name.false, c.is_at_name.ensures.1 e)) some_fields_tail (next_part (next_part named_constant_start c.in_ok-of.ensures.takes) c.in_ok-sign.ensures.takes)) c.in_err-sign-2.ensures.takes
 
 pub named_constant-returns-in_err-fields-clause-takes : goal.named_constant-returns-in_err-fields-clause-takes
-named_constant-returns-in_err-fields-clause-takes t c = fails_before c.from_residual-in_err-fields.result c.from_residual-in_err-fields.ensures (next_part (brace_not_name (Then (Commas IsConstantField constant_field_leaves) (One (symbol symbols.RightBrace))) (λ e. cc (c.if-is_at_name.false, c.is_at_name.ensures.1 e)) (next_part (next_part (start (λ u word. word)) c.in_ok-of.ensures.takes) c.in_ok-sign.ensures.takes)) c.in_ok-sign-2.ensures.takes) c.in_err-fields.ensures.takes (before_one Any (NoComma Any) (symbol symbols.RightBrace) (tt, refl))
+named_constant-returns-in_err-fields-clause-takes t c = fails_before c.from_residual-in_err-fields.result c.from_residual-in_err-fields.ensures (next_part (brace_not_name FieldsTail (λ e. cc (c.if-is_at_name.false, c.is_at_name.ensures.1 e)) some_fields_tail (next_part (next_part named_constant_start c.in_ok-of.ensures.takes) c.in_ok-sign.ensures.takes)) c.in_ok-sign-2.ensures.takes) c.in_err-fields.ensures.takes (before_one Any (NoComma Any) (symbol symbols.RightBrace) (tt, refl))
 
 pub named_constant-returns-in_err-close-clause-takes : goal.named_constant-returns-in_err-close-clause-takes
-named_constant-returns-in_err-close-clause-takes t c = fails_last c.from_residual-in_err-close.result c.from_residual-in_err-close.ensures (step (next_part (brace_not_name (Then (Commas IsConstantField constant_field_leaves) (One (symbol symbols.RightBrace))) (λ e. cc (c.if-is_at_name.false, c.is_at_name.ensures.1 e)) (next_part (next_part (start (λ u word. word)) c.in_ok-of.ensures.takes) c.in_ok-sign.ensures.takes)) c.in_ok-sign-2.ensures.takes) c.in_ok-fields.ensures.takes (before_one Any (NoComma Any) (symbol symbols.RightBrace) (tt, refl))) c.in_err-close.ensures.takes
+named_constant-returns-in_err-close-clause-takes t c = fails_last c.from_residual-in_err-close.result c.from_residual-in_err-close.ensures (step (next_part (brace_not_name FieldsTail (λ e. cc (c.if-is_at_name.false, c.is_at_name.ensures.1 e)) some_fields_tail (next_part (next_part named_constant_start c.in_ok-of.ensures.takes) c.in_ok-sign.ensures.takes)) c.in_ok-sign-2.ensures.takes) c.in_ok-fields.ensures.takes (before_one Any (NoComma Any) (symbol symbols.RightBrace) (tt, refl))) c.in_err-close.ensures.takes
 
 pub named_constant-returns-clause-takes : goal.named_constant-returns-clause-takes
-named_constant-returns-clause-takes t c = last_part _ (step (next_part (brace_not_name (Then (Commas IsConstantField constant_field_leaves) (One (symbol symbols.RightBrace))) (λ e. cc (c.if-is_at_name.false, c.is_at_name.ensures.1 e)) (next_part (next_part (start (λ u word. word)) c.in_ok-of.ensures.takes) c.in_ok-sign.ensures.takes)) c.in_ok-sign-2.ensures.takes) c.in_ok-fields.ensures.takes (before_one Any (NoComma Any) (symbol symbols.RightBrace) (tt, refl))) c.in_ok-close.ensures.takes
+named_constant-returns-clause-takes t c = last_part _ (step (next_part (brace_not_name FieldsTail (λ e. cc (c.if-is_at_name.false, c.is_at_name.ensures.1 e)) some_fields_tail (next_part (next_part named_constant_start c.in_ok-of.ensures.takes) c.in_ok-sign.ensures.takes)) c.in_ok-sign-2.ensures.takes) c.in_ok-fields.ensures.takes (before_one Any (NoComma Any) (symbol symbols.RightBrace) (tt, refl))) c.in_ok-close.ensures.takes

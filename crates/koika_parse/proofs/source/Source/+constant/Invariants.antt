@@ -5,9 +5,8 @@ use Rattle.koika_syntax.specs.declared.symbol.Symbol.TheVariants as symbols
 use Rattle.koika_parse.specs.Reading.{tokens_left}
 use Rattle.koika_parse.specs.Parts.{IsConstantField}
 use Rattle.koika_parse.proofs.Lists.{Joined}
-use Rattle.koika_parse.specs.Expected.{Any, Commas, NoComma}
-use Rattle.koika_parse.proofs.Commas.{More}
-use Rattle.koika_parse.proofs.Expected.{Goes}
+use Rattle.koika_parse.specs.Expected.{Any, InVector}
+use Rattle.koika_parse.proofs.Commas.{CommasGo}
 use Rattle.koika_parse.proofs.source.Source.+constant.Given as goal
 
 abbrev pub decreases-constant : goal.decreases-constant
@@ -29,13 +28,13 @@ abbrev pub decreases-named_constant : goal.decreases-named_constant
 decreases-named_constant l = tokens_left l.self.now l.cursor.now * 4
 
 abbrev pub invariant-constant_fields-more : goal.invariant-constant_fields-more
-invariant-constant_fields-more l = Joined l.self l.fn.cursor l.cursor (sign symbols.Comma) constant_field_leaves IsConstantField l.all.items × Goes l.self l.fn.cursor l.cursor (Commas IsConstantField constant_field_leaves) (NoComma Any) (More IsConstantField constant_field_leaves)
+invariant-constant_fields-more l = Joined l.self l.fn.cursor l.cursor (sign symbols.Comma) constant_field_leaves IsConstantField l.all.items × CommasGo l.self l.fn.cursor l.cursor Any InVector IsConstantField constant_field_leaves
 
 abbrev pub decreases-constant_fields-more : goal.decreases-constant_fields-more
 decreases-constant_fields-more l = tokens_left l.self l.cursor
 
 abbrev pub invariant-constants-more : goal.invariant-constants-more
-invariant-constants-more l = Joined l.self l.fn.cursor l.cursor (sign symbols.Comma) constant_leaves IsConstant l.all.items × Goes l.self l.fn.cursor l.cursor (Commas IsConstant constant_leaves) (NoComma Any) (More IsConstant constant_leaves)
+invariant-constants-more l = Joined l.self l.fn.cursor l.cursor (sign symbols.Comma) constant_leaves IsConstant l.all.items × CommasGo l.self l.fn.cursor l.cursor Any InVector IsConstant constant_leaves
 
 abbrev pub decreases-constants-more : goal.decreases-constants-more
 decreases-constants-more l = tokens_left l.self l.cursor

@@ -4,10 +4,10 @@ use Rattle.koika_parse.specs.Parts.{IsChoice}
 use Rattle.koika_parse.proofs.Reading.{in_turn, in_place_of, as_leaves}
 use Rattle.koika_parse.proofs.Parts.{is_scheduler, is_choice}
 use Rattle.koika_parse.proofs.Calls.{leaves_scheduler, leaves_choice}
-use Rattle.koika_parse.proofs.Expected.{starts, step, next_part, last_part, fails, fails_before, fails_last, before_one, finish}
+use Rattle.koika_parse.proofs.Expected.{step, next_part, last_part, fails, fails_before, fails_last, before_one, finish}
 use Rattle.koika_syntax.specs.Tree.{symbol}
 use Rattle.koika_parse.specs.Words.{no_try}
-use Rattle.koika_parse.proofs.SchedulerWords.{SchedulerWord, ChoiceWord, scheduler_word, choice_word, rules_apart, last_at, last_none}
+use Rattle.koika_parse.proofs.SchedulerWords.{rules_apart, last_at, last_none, choice_start, scheduler_start}
 use Rattle.koika_syntax.specs.declared.symbol.Symbol.TheVariants as symbols
 use Rattle.koika_parse.specs.Expected.{Any}
 use Rattle.koika_parse.proofs.source.Source.+scheduler.Goals as goal
@@ -31,40 +31,40 @@ pub choice-returns-clause-is : goal.choice-returns-clause-is
 choice-returns-clause-is t c = is_choice c.in_ok-rule.rule c.in_ok-then.then c.in_ok-otherwise.otherwise c.in_ok-rule.ensures.is c.in_ok-then.ensures.is c.in_ok-otherwise.ensures.is
 
 pub scheduler-returns-in_err-sign-clause-takes : goal.scheduler-returns-in_err-sign-clause-takes
-scheduler-returns-in_err-sign-clause-takes t c = fails c.from_residual.result c.from_residual.ensures (starts SchedulerWord scheduler_word) c.in_err-sign.ensures.takes
+scheduler-returns-in_err-sign-clause-takes t c = fails c.from_residual.result c.from_residual.ensures scheduler_start c.in_err-sign.ensures.takes
 
 pub scheduler-returns-in_err-rules-clause-takes : goal.scheduler-returns-in_err-rules-clause-takes
-scheduler-returns-in_err-rules-clause-takes t c = fails_before c.from_residual-in_err-rules.result c.from_residual-in_err-rules.ensures (next_part (starts SchedulerWord scheduler_word) c.in_ok-sign.ensures.takes) c.in_err-rules.ensures.takes (rules_apart Any)
+scheduler-returns-in_err-rules-clause-takes t c = fails_before c.from_residual-in_err-rules.result c.from_residual-in_err-rules.ensures (next_part scheduler_start c.in_ok-sign.ensures.takes) c.in_err-rules.ensures.takes (rules_apart Any)
 
 pub scheduler-returns-in_err-last-clause-takes : goal.scheduler-returns-in_err-last-clause-takes
-scheduler-returns-in_err-last-clause-takes t c = fails_before c.from_residual-in_err-last.result c.from_residual-in_err-last.ensures (step (next_part (starts SchedulerWord scheduler_word) c.in_ok-sign.ensures.takes) c.in_ok-rules.ensures.takes (rules_apart Any)) c.in_err-last.ensures.takes (before_one Any no_try (symbol symbols.RightBrace) tt)
+scheduler-returns-in_err-last-clause-takes t c = fails_before c.from_residual-in_err-last.result c.from_residual-in_err-last.ensures (step (next_part scheduler_start c.in_ok-sign.ensures.takes) c.in_ok-rules.ensures.takes (rules_apart Any)) c.in_err-last.ensures.takes (before_one Any no_try (symbol symbols.RightBrace) tt)
 
 pub scheduler-returns-in_err-sign-2-clause-takes : goal.scheduler-returns-in_err-sign-2-clause-takes
-scheduler-returns-in_err-sign-2-clause-takes t c = fails_last c.from_residual-in_err-sign-2.result c.from_residual-in_err-sign-2.ensures (step (step (next_part (starts SchedulerWord scheduler_word) c.in_ok-sign.ensures.takes) c.in_ok-rules.ensures.takes (rules_apart Any)) c.in_ok-last.ensures.takes (before_one Any no_try (symbol symbols.RightBrace) tt)) c.in_err-sign-2.ensures.takes
+scheduler-returns-in_err-sign-2-clause-takes t c = fails_last c.from_residual-in_err-sign-2.result c.from_residual-in_err-sign-2.ensures (step (step (next_part scheduler_start c.in_ok-sign.ensures.takes) c.in_ok-rules.ensures.takes (rules_apart Any)) c.in_ok-last.ensures.takes (before_one Any no_try (symbol symbols.RightBrace) tt)) c.in_err-sign-2.ensures.takes
 
 pub scheduler-returns-clause-takes : goal.scheduler-returns-clause-takes
-scheduler-returns-clause-takes t c = last_part _ (step (step (next_part (starts SchedulerWord scheduler_word) c.in_ok-sign.ensures.takes) c.in_ok-rules.ensures.takes (rules_apart Any)) c.in_ok-last.ensures.takes (before_one Any no_try (symbol symbols.RightBrace) tt)) c.in_ok-sign-2.ensures.takes
+scheduler-returns-clause-takes t c = last_part _ (step (step (next_part scheduler_start c.in_ok-sign.ensures.takes) c.in_ok-rules.ensures.takes (rules_apart Any)) c.in_ok-last.ensures.takes (before_one Any no_try (symbol symbols.RightBrace) tt)) c.in_ok-sign-2.ensures.takes
 
 pub choice-returns-in_err-word-clause-takes : goal.choice-returns-in_err-word-clause-takes
-choice-returns-in_err-word-clause-takes t c = fails c.from_residual.result c.from_residual.ensures (starts ChoiceWord choice_word) c.in_err-word.ensures.takes
+choice-returns-in_err-word-clause-takes t c = fails c.from_residual.result c.from_residual.ensures choice_start c.in_err-word.ensures.takes
 
 pub choice-returns-in_err-rule-clause-takes : goal.choice-returns-in_err-rule-clause-takes
-choice-returns-in_err-rule-clause-takes t c = fails c.from_residual-in_err-rule.result c.from_residual-in_err-rule.ensures (next_part (starts ChoiceWord choice_word) c.in_ok-word.ensures.takes) c.in_err-rule.ensures.takes
+choice-returns-in_err-rule-clause-takes t c = fails c.from_residual-in_err-rule.result c.from_residual-in_err-rule.ensures (next_part choice_start c.in_ok-word.ensures.takes) c.in_err-rule.ensures.takes
 
 pub choice-returns-in_err-word-2-clause-takes : goal.choice-returns-in_err-word-2-clause-takes
-choice-returns-in_err-word-2-clause-takes t c = fails c.from_residual-in_err-word-2.result c.from_residual-in_err-word-2.ensures (next_part (next_part (starts ChoiceWord choice_word) c.in_ok-word.ensures.takes) c.in_ok-rule.ensures.takes) c.in_err-word-2.ensures.takes
+choice-returns-in_err-word-2-clause-takes t c = fails c.from_residual-in_err-word-2.result c.from_residual-in_err-word-2.ensures (next_part (next_part choice_start c.in_ok-word.ensures.takes) c.in_ok-rule.ensures.takes) c.in_err-word-2.ensures.takes
 
 pub choice-returns-in_err-then-clause-takes : goal.choice-returns-in_err-then-clause-takes
-choice-returns-in_err-then-clause-takes t c = fails c.from_residual-in_err-then.result c.from_residual-in_err-then.ensures (next_part (next_part (next_part (starts ChoiceWord choice_word) c.in_ok-word.ensures.takes) c.in_ok-rule.ensures.takes) c.in_ok-word-2.ensures.takes) c.in_err-then.ensures.takes
+choice-returns-in_err-then-clause-takes t c = fails c.from_residual-in_err-then.result c.from_residual-in_err-then.ensures (next_part (next_part (next_part choice_start c.in_ok-word.ensures.takes) c.in_ok-rule.ensures.takes) c.in_ok-word-2.ensures.takes) c.in_err-then.ensures.takes
 
 pub choice-returns-in_err-word-3-clause-takes : goal.choice-returns-in_err-word-3-clause-takes
-choice-returns-in_err-word-3-clause-takes t c = fails c.from_residual-in_err-word-3.result c.from_residual-in_err-word-3.ensures (next_part (next_part (next_part (next_part (starts ChoiceWord choice_word) c.in_ok-word.ensures.takes) c.in_ok-rule.ensures.takes) c.in_ok-word-2.ensures.takes) c.in_ok-then.ensures.takes) c.in_err-word-3.ensures.takes
+choice-returns-in_err-word-3-clause-takes t c = fails c.from_residual-in_err-word-3.result c.from_residual-in_err-word-3.ensures (next_part (next_part (next_part (next_part choice_start c.in_ok-word.ensures.takes) c.in_ok-rule.ensures.takes) c.in_ok-word-2.ensures.takes) c.in_ok-then.ensures.takes) c.in_err-word-3.ensures.takes
 
 pub choice-returns-in_err-otherwise-clause-takes : goal.choice-returns-in_err-otherwise-clause-takes
-choice-returns-in_err-otherwise-clause-takes t c = fails_last c.from_residual-in_err-otherwise.result c.from_residual-in_err-otherwise.ensures (next_part (next_part (next_part (next_part (next_part (starts ChoiceWord choice_word) c.in_ok-word.ensures.takes) c.in_ok-rule.ensures.takes) c.in_ok-word-2.ensures.takes) c.in_ok-then.ensures.takes) c.in_ok-word-3.ensures.takes) c.in_err-otherwise.ensures.takes
+choice-returns-in_err-otherwise-clause-takes t c = fails_last c.from_residual-in_err-otherwise.result c.from_residual-in_err-otherwise.ensures (next_part (next_part (next_part (next_part (next_part choice_start c.in_ok-word.ensures.takes) c.in_ok-rule.ensures.takes) c.in_ok-word-2.ensures.takes) c.in_ok-then.ensures.takes) c.in_ok-word-3.ensures.takes) c.in_err-otherwise.ensures.takes
 
 pub choice-returns-clause-takes : goal.choice-returns-clause-takes
-choice-returns-clause-takes t c = last_part _ (next_part (next_part (next_part (next_part (next_part (starts ChoiceWord choice_word) c.in_ok-word.ensures.takes) c.in_ok-rule.ensures.takes) c.in_ok-word-2.ensures.takes) c.in_ok-then.ensures.takes) c.in_ok-word-3.ensures.takes) c.in_ok-otherwise.ensures.takes
+choice-returns-clause-takes t c = last_part _ (next_part (next_part (next_part (next_part (next_part choice_start c.in_ok-word.ensures.takes) c.in_ok-rule.ensures.takes) c.in_ok-word-2.ensures.takes) c.in_ok-then.ensures.takes) c.in_ok-word-3.ensures.takes) c.in_ok-otherwise.ensures.takes
 
 pub last_choice-returns-in_err-choice-clause-takes : goal.last_choice-returns-in_err-choice-clause-takes
 last_choice-returns-in_err-choice-clause-takes t c = fails_last c.from_residual.result c.from_residual.ensures (last_at (c.is_at_word.ensures.0 c.if-not-is_at_word.false)) c.in_err-choice.ensures.takes

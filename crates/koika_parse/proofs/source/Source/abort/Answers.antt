@@ -1,10 +1,8 @@
+use Rattle.koika_parse.proofs.PrimaryWords.{abort_start}
 use Rattle.koika_parse.proofs.Reading.{as_leaves}
 use Rattle.koika_parse.proofs.Parts.{is_abort, level_abort}
 use Rattle.koika_parse.proofs.Calls.{leaves_abort}
-use Rattle.koika_parse.specs.Expected.{One}
-use Rattle.koika_parse.proofs.Expected.{begin, fails_last, last_part}
-use Rattle.koika_syntax.specs.Tree.{keyword}
-use Rattle.koika_syntax.specs.declared.keyword.Keyword.TheVariants as keywords
+use Rattle.koika_parse.proofs.Expected.{fails_last, last_part}
 use Rattle.koika_parse.proofs.source.Source.abort.Goals as goal
 
 pub returns-clause-read : goal.returns-clause-read
@@ -17,7 +15,7 @@ pub returns-clause-level : goal.returns-clause-level
 returns-clause-level c = level_abort c.in_ok-place.place
 
 pub returns-in_err-place-clause-takes : goal.returns-in_err-place-clause-takes
-returns-in_err-place-clause-takes c = fails_last c.from_residual.result c.from_residual.ensures (begin (One (keyword keywords.Abort))) c.in_err-place.ensures.takes
+returns-in_err-place-clause-takes c = fails_last c.from_residual.result c.from_residual.ensures abort_start c.in_err-place.ensures.takes
 
 pub returns-clause-takes : goal.returns-clause-takes
-returns-clause-takes c = last_part _ (begin (One (keyword keywords.Abort))) c.in_ok-place.ensures.takes
+returns-clause-takes c = last_part _ abort_start c.in_ok-place.ensures.takes

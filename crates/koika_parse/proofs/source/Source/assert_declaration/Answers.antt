@@ -1,5 +1,7 @@
+use Rattle.koika_parse.proofs.DeclarationWords.{some_assert}
+use Rattle.koika_parse.specs.Words.{AssertWord}
 use Rattle.koika_parse.proofs.Reading.{in_turn, shorter}
-use Rattle.koika_parse.proofs.Expected.{start, next_part, last_part, fails, fails_last}
+use Rattle.koika_parse.proofs.Expected.{next_part, last_part, fails, fails_last, begin}
 use Rattle.koika_parse.proofs.source.Source.assert_declaration.Goals as goal
 
 pub returns-clause-read : goal.returns-clause-read
@@ -9,10 +11,10 @@ pub returns-clause-some : goal.returns-clause-some
 returns-clause-some c = shorter (in_turn c.in_ok-name.ensures.read c.in_ok-sign.ensures.read)
 
 pub returns-in_err-name-clause-takes : goal.returns-in_err-name-clause-takes
-returns-in_err-name-clause-takes c = fails c.from_residual.result c.from_residual.ensures (start (λ u word. word)) c.in_err-name.ensures.takes
+returns-in_err-name-clause-takes c = fails c.from_residual.result c.from_residual.ensures (begin AssertWord some_assert) c.in_err-name.ensures.takes
 
 pub returns-in_err-sign-clause-takes : goal.returns-in_err-sign-clause-takes
-returns-in_err-sign-clause-takes c = fails_last c.from_residual-in_err-sign.result c.from_residual-in_err-sign.ensures (next_part (start (λ u word. word)) c.in_ok-name.ensures.takes) c.in_err-sign.ensures.takes
+returns-in_err-sign-clause-takes c = fails_last c.from_residual-in_err-sign.result c.from_residual-in_err-sign.ensures (next_part (begin AssertWord some_assert) c.in_ok-name.ensures.takes) c.in_err-sign.ensures.takes
 
 pub returns-clause-takes : goal.returns-clause-takes
-returns-clause-takes c = last_part _ (next_part (start (λ u word. word)) c.in_ok-name.ensures.takes) c.in_ok-sign.ensures.takes
+returns-clause-takes c = last_part _ (next_part (begin AssertWord some_assert) c.in_ok-name.ensures.takes) c.in_ok-sign.ensures.takes

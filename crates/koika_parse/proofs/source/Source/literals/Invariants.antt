@@ -3,13 +3,12 @@ use Rattle.koika_syntax.specs.Tree.{literal_leaves, sign}
 use Rattle.koika_syntax.specs.declared.symbol.Symbol.TheVariants as symbols
 use Rattle.koika_parse.specs.Reading.{tokens_left}
 use Rattle.koika_parse.proofs.Lists.{Joined}
-use Rattle.koika_parse.specs.Expected.{Any, Commas, NoComma}
-use Rattle.koika_parse.proofs.Commas.{More}
-use Rattle.koika_parse.proofs.Expected.{Goes}
+use Rattle.koika_parse.specs.Expected.{Any, AnyMany}
+use Rattle.koika_parse.proofs.Commas.{CommasGo}
 use Rattle.koika_parse.proofs.source.Source.literals.Given as goal
 
 abbrev pub invariant-more : goal.invariant-more
-invariant-more l = Joined l.self l.fn.cursor l.cursor (sign symbols.Comma) literal_leaves IsLiteral l.all × Goes l.self l.fn.cursor l.cursor (Commas IsLiteral literal_leaves) (NoComma Any) (More IsLiteral literal_leaves)
+invariant-more l = Joined l.self l.fn.cursor l.cursor (sign symbols.Comma) literal_leaves IsLiteral l.all × CommasGo l.self l.fn.cursor l.cursor Any AnyMany IsLiteral literal_leaves
 
 abbrev pub decreases-more : goal.decreases-more
 decreases-more l = tokens_left l.self l.cursor

@@ -1,14 +1,21 @@
-use Rattle.std.proofs.Common.{Some, refl, sym, ◌∙◌}
-use Rattle.koika_syntax.specs.Tree.{number}
-use Rattle.koika_parse.proofs.Expected.{single, some_next, last_part, fails_last}
+use Rattle.std.proofs.Common.{Some, refl, sym, ap, ◌∙◌, ◌++◌}
+use Rattle.koika_syntax.specs.Grammar.{IsNumber}
+use Rattle.koika_syntax.specs.Tree.{number, number_leaves}
+use Rattle.koika_parse.specs.Expected.{Part, first}
+use Rattle.koika_parse.proofs.Expected.{begin, fails_last, last_part, refused, single, within}
+use Rattle.koika_parse.proofs.Witnesses.{some_number}
 use Rattle.koika_parse.proofs.source.Source.number.Goals as goal
 
-pub returns-in_err-place-in-Some-Number-clause-takes : goal.returns-in_err-place-in-Some-Number-clause-takes
-returns-in_err-place-in-Some-Number-clause-takes c =
-    let at = some_next c.args.self.now c.args.cursor.now (sym c.peek.ensures ∙ c.in-Some-Number.is) in
-    fails_last c.from_residual.result c.from_residual.ensures (single (λ n. record { terminal = number n.value; place = Some n.place }) (λ n. refl) at.1) (c.in_err-place-in-Some-Number.ensures.takes at.0 at.1)
+pub step-requires : goal.step-requires
+step-requires c = within c.args.self.now c.args.cursor.now c.in-Some.ensures.at
 
-pub returns-in_ok-place-in-Some-Number-clause-takes : goal.returns-in_ok-place-in-Some-Number-clause-takes
-returns-in_ok-place-in-Some-Number-clause-takes c =
-    let at = some_next c.args.self.now c.args.cursor.now (sym c.peek.ensures ∙ c.in-Some-Number.is) in
-    last_part _ (single (λ n. record { terminal = number n.value; place = Some n.place }) (λ n. refl) at.1) (c.in_ok-place-in-Some-Number.ensures.takes at.0 at.1)
+pub returns-in-None-clause-takes : goal.returns-in-None-clause-takes
+returns-in-None-clause-takes c = refused (begin (Part IsNumber number_leaves) some_number) (λ r v word behind same. c.in-None.ensures.none word.0.value (sym same ∙ ap (λ l. first (l ++ v)) word.2))
+
+pub returns-in_err-place-in-Some-clause-takes : goal.returns-in_err-place-in-Some-clause-takes
+returns-in_err-place-in-Some-clause-takes c =
+    fails_last c.from_residual.result c.from_residual.ensures (single (λ n. record { terminal = number n.value; place = Some n.place }) (λ n. refl) (record { value = c.in-Some.value; place = 0 }) c.in-Some.ensures.small refl c.in-Some.ensures.at) (c.in_err-place-in-Some.ensures.takes _ c.in-Some.ensures.at)
+
+pub returns-in_ok-place-in-Some-clause-takes : goal.returns-in_ok-place-in-Some-clause-takes
+returns-in_ok-place-in-Some-clause-takes c =
+    last_part _ (single (λ n. record { terminal = number n.value; place = Some n.place }) (λ n. refl) (record { value = c.in-Some.value; place = 0 }) c.in-Some.ensures.small refl c.in-Some.ensures.at) (c.in_ok-place-in-Some.ensures.takes _ c.in-Some.ensures.at)

@@ -2,12 +2,12 @@ use Rattle.std.proofs.Common.{refl}
 use Rattle.koika_syntax.specs.Grammar.{IsName, rule_leaves}
 use Rattle.koika_parse.proofs.Reading.{in_turn}
 use Rattle.koika_parse.proofs.Lists.{row_start, row_again}
-use Rattle.koika_parse.proofs.Expected.{start, finish, next_part, fails}
-use Rattle.koika_parse.proofs.SchedulerWords.{rules_at, rules_end}
+use Rattle.koika_parse.proofs.Expected.{finish, next_part, fails}
+use Rattle.koika_parse.proofs.SchedulerWords.{rules_at, rules_end, rules_start}
 use Rattle.koika_parse.proofs.source.Source.rules.Goals as goal
 
 pub more-init : goal.more-init
-more-init c = (row_start _ _ _ rule_leaves IsName _ refl c.new-all.ensures, start (λ u word. word))
+more-init c = (row_start _ _ _ rule_leaves IsName _ refl c.new-all.ensures, rules_start)
 
 pub more-preserved : goal.more-preserved
 more-preserved c = (row_again c.in_ok-rule.rule c.push.new.self c.more.invariant.0 (in_turn c.in_ok-rule.ensures.read c.in_ok-sign.ensures.read) c.in_ok-rule.ensures.is c.in_ok-push.ensures.ok, next_part (next_part (rules_at (c.is_at_name.ensures.0 c.more-test.true) c.more.invariant.1) c.in_ok-rule.ensures.takes) c.in_ok-sign.ensures.takes)
