@@ -18,6 +18,7 @@ pub mod Growth
 pub mod Knowns
 pub mod Leaves
 pub mod Listing
+pub mod Parameters
 pub mod PartTypes
 pub mod Paths
 pub mod Positions

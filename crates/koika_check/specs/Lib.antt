@@ -11,6 +11,7 @@ pub mod Locals
 pub mod Meaning
 pub mod Operators
 pub mod Outcomes
+pub mod Parameters
 pub mod Paths
 pub mod Places
 pub mod Schedule

@@ -15,6 +15,7 @@ mod constants;
 mod constructs;
 mod declarations;
 mod enums;
+mod functions;
 mod limits;
 mod locals;
 mod measure;
