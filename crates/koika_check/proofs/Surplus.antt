@@ -15,10 +15,10 @@ unfolding scheduler_places choice_places
 scheduler_at rules None = fold-roll-Scheduler (List ℕ) (List ℕ) choice_step scheduler_step (record { rules = rules; last = None })
 scheduler_at rules (Some choice) = fold-roll-Scheduler (List ℕ) (List ℕ) choice_step scheduler_step (record { rules = rules; last = Some choice })
 
-places-scheduler : (s : Scheduler) → scheduler_places s ≡ places_of (out-Scheduler s).rules ++ places_if (last_places (out-Scheduler s).last)
+pub places-scheduler : (s : Scheduler) → scheduler_places s ≡ places_of (out-Scheduler s).rules ++ places_if (last_places (out-Scheduler s).last)
 places-scheduler s = ap scheduler_places (sym (roll-out-Scheduler s)) ∙ scheduler_at (out-Scheduler s).rules (out-Scheduler s).last
 
-places-choice : (c : Choice) → choice_places c ≡ (out-Choice c).rule.place ∷ scheduler_places (out-Choice c).then ++ scheduler_places (out-Choice c).otherwise
+pub places-choice : (c : Choice) → choice_places c ≡ (out-Choice c).rule.place ∷ scheduler_places (out-Choice c).then ++ scheduler_places (out-Choice c).otherwise
 unfolding scheduler_places choice_places
 places-choice c = fold_out-Choice (List ℕ) (List ℕ) choice_step scheduler_step c
 
