@@ -3,9 +3,14 @@ pub mod AddedTypes
 pub mod Answering
 pub mod ArrayTypes
 pub mod Bindings
+pub mod BlockParts
+pub mod Blocks
 pub mod CalledTypes
 pub mod Caps
+pub mod Chains
 pub mod Checkers
+pub mod Choices
+pub mod Composed
 pub mod Compositions
 pub mod ConstantParts
 pub mod Declared
@@ -18,8 +23,10 @@ pub mod Growth
 pub mod Knowns
 pub mod Leaves
 pub mod Listing
+pub mod OperatorTypes
 pub mod Parameters
 pub mod PartTypes
+pub mod PartsInOrder
 pub mod Paths
 pub mod Positions
 pub mod Runs
@@ -28,8 +35,8 @@ pub mod Sequences
 pub mod Steps
 pub mod Surplus
 pub mod Telling
-pub mod Turns
 pub mod TreeParts
+pub mod Turns
 pub mod TypedAdditions
 pub mod TypedBlocks
 pub mod TypedComposites

@@ -22,5 +22,6 @@ pub mod Shapes
 pub mod Sizes
 pub mod Things
 pub mod TypedAlone
+pub mod TypedParts
 pub mod Types
 pub mod Typing

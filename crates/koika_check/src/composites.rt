@@ -144,8 +144,8 @@ impl Checker {
     }
 }
 
-// The type of the first part.
-fn type_of_first(parts: &[Part]) -> Option<Shape>
+/// The type of the first part.
+pub(crate) fn type_of_first(parts: &[Part]) -> Option<Shape>
     ensures of { (arrays : List ValueType) → type_if arrays result ≡ types.type_of_first (map (part_of arrays) parts.now) }
     ensures first { result ≡ of_first parts.now }
 {

@@ -1,5 +1,5 @@
 //! Designs whose names are resolved: the typed tree that the checker makes of a design's tree, and of the checker all but
-//! expressions, functions and rules, which nothing calls yet.
+//! functions and rules, which nothing calls yet.
 //!
 //! `specs/Checks.antt` says what a whole tree comes to, after `Declarations.antt`, `Constants.antt`, `Expressions.antt` and
 //! `Schedule.antt`; `specs/Sizes.antt` what the weight and the depth of a typed tree are. The lowering takes a `Checked`.
@@ -15,6 +15,7 @@ mod constants;
 mod constructs;
 mod declarations;
 mod enums;
+mod expressions;
 mod functions;
 mod limits;
 mod locals;
