@@ -52,3 +52,4 @@ pub mod TypedSchedules
 pub mod TypedSoFar
 pub mod TypedTrees
 pub mod TypingLayers
+pub mod Wholes

@@ -5,10 +5,12 @@ use Rattle.std.specs.List.{All}
 use Rattle.std.proofs.lemmas.List.Elements.{All-nil, All-push}
 use Rattle.kw_base.specs.Names.{number_of}
 use Rattle.kw_base.specs.declared.fault_number.TheConstants.{REPEATED_NAME}
+use Rattle.kw_bits.specs.Host.{TakesWidth}
 use Rattle.koika_syntax.specs.declared.tree.Block.{Block}
 use Rattle.koika_syntax.specs.declared.tree.Field.{Field}
 use Rattle.koika_syntax.specs.declared.tree.Name.{Name}
 use Rattle.koika_syntax.specs.declared.tree.TypeExpression.{TypeExpression}
+use Rattle.typed_core.specs.declared.design.HostSpec.{HostSpec}
 use Rattle.koika_check.specs.Checking.{AreTypes, Grows, IsChecker, IsPart, IsSignature, IsType, IsTypeIf, Stands, arrays_of, scope_of}
 use Rattle.koika_check.specs.Constructs.{Typing}
 use Rattle.koika_check.specs.Declarations.{add_parameter, function_body, function_of, function_result, function_typed, function_with, names_of_locals, new_name, other_name, result_of, rule_of, rule_typed, rule_with, types_in_order}
@@ -18,7 +20,8 @@ use Rattle.koika_check.specs.Outcomes.{Condition, Gives, Outcome, ◌>>=◌, hol
 use Rattle.koika_check.specs.Parameters.{AreParameters}
 use Rattle.koika_check.specs.Scopes.{Local, Scope}
 use Rattle.koika_check.specs.Settled.{IsSettled}
-use Rattle.koika_check.specs.Shapes.{AreArrays, IsShapeIf, part_of, type_if, type_of_shape}
+use Rattle.koika_check.specs.Shapes.{AreArrays, AreShapes, IsShapeIf, part_of, type_if, type_of_shape}
+use Rattle.koika_check.specs.Things.{AreParts, AreThings, position_of, thing_named}
 use Rattle.koika_check.specs.Types.{Part as TypedPart, agrees, type_of}
 use Rattle.koika_check.specs.declared.agreement.Part.{Part}
 use Rattle.koika_check.specs.declared.checked.Checked.{Checked}
@@ -27,9 +30,12 @@ use Rattle.koika_check.specs.declared.functions.Parameters.{Parameters}
 use Rattle.koika_check.specs.declared.locals.Bound.{Bound}
 use Rattle.koika_check.specs.declared.locals.Locals.{Locals}
 use Rattle.koika_check.specs.declared.shapes.Shape.{Shape}
+use Rattle.koika_check.specs.declared.things.Thing.{Thing}
+use Rattle.koika_check.specs.declared.things.Thing.TheVariants as thing
 use Rattle.koika_check.specs.declared.typed.Typed.{Typed}
 use Rattle.koika_check.specs.declared.typed.ValueType.{ValueType}
 use Rattle.koika_check.proofs.Added.{types-push}
+use Rattle.koika_check.proofs.Checkers.{empty, empty-checker}
 use Rattle.koika_check.proofs.Declaring.{named-gives, settled-scope}
 use Rattle.koika_check.proofs.Growth.{grows-trans, locals-kept, same-locals, same-type-if, type-if-grows, types-grow, unbound}
 use Rattle.koika_check.proofs.PartTypes.{part-shape}
@@ -105,6 +111,17 @@ none-bound arrays l e = ap (λ (bs : List Bound). map (local_of arrays l.names) 
     no_item : (bs : List Bound) → length bs ≡ 0 → bs ≡ []
     no_item [] e = refl
     no_item (b ∷ bs) e = absurd (omega (arith, e))
+
+-- where nothing is declared yet
+pub empty-settled : (c : Checker) → c.design ≡ empty → c.registers ≡ [] → c.inputs ≡ [] → c.fields ≡ [] → c.functions ≡ [] → c.asserted ≡ [] → c.shapes.arrays ≡ [] → c.locals.bound ≡ [] →
+    AreThings c.things → ((name : List ℕ) → thing_named c.things name ≡ None) → AreParts c.parts → ((of : Thing) (name : List ℕ) → position_of c.parts of name ≡ None) → AreShapes c.shapes → AreLocals c.locals →
+    All (λ (h : HostSpec). TakesWidth h.kind h.in_width) c.hosts → IsSettled c
+empty-settled c d registers inputs fields functions asserted arrays bound things none are parts shapes locals hosts = record {
+  checker = empty-checker c d registers inputs fields functions asserted arrays bound things none are shapes locals hosts;
+  unbound = none-bound (arrays_of c) c.locals (ap (λ (bs : List Bound). length bs) bound);
+  no_members = λ number name small le. parts (thing.Enum number) name;
+  no_fields = λ number name small le. parts (thing.Struct number) name;
+}
 
 pub left-settled : (a b : Checker) → IsSettled a → IsChecker b → Grows a b → (l : Locals) → AreLocals l → shapes_of l ≡ take 0 (shapes_of b.locals) → length l.bound ≡ 0 → IsSettled (record b { locals = l })
 left-settled a b h kept g l are shapes none =

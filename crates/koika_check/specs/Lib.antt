@@ -4,8 +4,10 @@ pub mod Checks
 pub mod Composites
 pub mod Constants
 pub mod Constructs
+pub mod Counts
 pub mod Declarations
 pub mod Expressions
+pub mod Hosts
 pub mod Listed
 pub mod Locals
 pub mod Meaning
