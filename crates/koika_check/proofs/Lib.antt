@@ -24,6 +24,7 @@ pub mod Knowns
 pub mod Leaves
 pub mod Listing
 pub mod OperatorTypes
+pub mod Parameters
 pub mod PartTypes
 pub mod PartsInOrder
 pub mod Paths
@@ -34,8 +35,8 @@ pub mod Sequences
 pub mod Steps
 pub mod Surplus
 pub mod Telling
-pub mod Turns
 pub mod TreeParts
+pub mod Turns
 pub mod TypedAdditions
 pub mod TypedBlocks
 pub mod TypedComposites
@@ -51,3 +52,4 @@ pub mod TypedSchedules
 pub mod TypedSoFar
 pub mod TypedTrees
 pub mod TypingLayers
+pub mod Wholes

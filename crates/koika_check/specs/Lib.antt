@@ -4,13 +4,16 @@ pub mod Checks
 pub mod Composites
 pub mod Constants
 pub mod Constructs
+pub mod Counts
 pub mod Declarations
 pub mod Expressions
+pub mod Hosts
 pub mod Listed
 pub mod Locals
 pub mod Meaning
 pub mod Operators
 pub mod Outcomes
+pub mod Parameters
 pub mod Paths
 pub mod Places
 pub mod Schedule

@@ -1,6 +1,8 @@
 ghost use Rattle.std.specs.Prelude.{◌≡◌, [], All, length};
 ghost use Rattle.kw_bits.specs.Host.{TakesWidth};
 ghost use Rattle.koika_check.specs.Checking.{IsChecker, IsNamed, arrays_of};
+ghost use Rattle.koika_check.specs.Declarations.{nothing};
+ghost use Rattle.koika_check.specs.Settled.{IsSettled};
 ghost use Rattle.koika_check.specs.Shapes.{IsShape, type_of_shape};
 ghost use Rattle.koika_check.specs.Types.{width_of};
 ghost use Rattle.typed_core.specs.declared.design.HostSpec.{HostSpec as Spec};
@@ -69,7 +71,9 @@ impl Checker {
     /// Nothing is declared. The names are those of a text.
     pub(crate) fn new(alloc: Global, text: &[u8], hosts: Sequence<HostSpec>) -> Checker
         requires { All (λ (h : Spec). TakesWidth h.kind h.in_width) hosts }
-        ensures { IsChecker result }
+        ensures settled { IsSettled result }
+        ensures design { result.design ≡ nothing }
+        ensures hosts { result.hosts ≡ hosts }
     {
         Checker {
             alloc,

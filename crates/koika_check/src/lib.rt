@@ -1,5 +1,5 @@
-//! Designs whose names are resolved: the typed tree that the checker makes of a design's tree, and of the checker all but
-//! functions and rules, which nothing calls yet.
+//! Designs whose names are resolved: `check` makes the typed tree of a design's tree, or answers its first fault of names,
+//! types and limits.
 //!
 //! `specs/Checks.antt` says what a whole tree comes to, after `Declarations.antt`, `Constants.antt`, `Expressions.antt` and
 //! `Schedule.antt`; `specs/Sizes.antt` what the weight and the depth of a typed tree are. The lowering takes a `Checked`.
@@ -7,15 +7,18 @@
 
 mod additions;
 mod agreement;
+mod answer;
 mod calls;
 mod checked;
 mod checker;
 mod composites;
 mod constants;
 mod constructs;
+mod counts;
 mod declarations;
 mod enums;
 mod expressions;
+mod functions;
 mod limits;
 mod locals;
 mod measure;
@@ -32,7 +35,9 @@ mod things;
 mod typed;
 mod types;
 
+pub use answer::check;
 pub use checked::{Checked, Field, Function, Host, Input, Register, Rule, Struct, Table};
+pub use counts::Counts;
 pub use measure::{MAX_DEPTH, MAX_WEIGHT, Measure, measure_of};
 pub use typed::{BaseType, Operation, Selection, Step, Typed, ValueType};
 

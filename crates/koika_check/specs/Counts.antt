@@ -1,0 +1,7 @@
+-- What `check` tells of a design: how many registers, rules and scheduler nodes it has, and its weight.
+use Rattle.std.specs.Prelude.{length}
+use Rattle.koika_check.specs.declared.checked.Checked.{Checked}
+use Rattle.koika_check.specs.declared.counts.Counts.{Counts}
+
+abbrev pub counts_of : Checked → Counts
+counts_of d = record { registers = length d.registers; rules = length d.rules; nodes = length d.nodes; weight = d.weight }
