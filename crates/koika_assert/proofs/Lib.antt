@@ -1,4 +1,9 @@
+pub mod AddedBads
 pub mod FirstsJoined
+pub mod MarkedRuns
+pub mod MoreBads
+pub mod NarrowOutputs
+pub mod SameRuns
 pub mod TurnedRuns
 pub mod TurnedScopes
 pub mod TurnedTexts

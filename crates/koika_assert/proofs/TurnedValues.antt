@@ -57,10 +57,10 @@ ids-kept : (line : Line) (lines : List Line) (b : Bool) → is_state (rule_of li
 ids-kept line lines true is = ap (λ (b : Bool). map (λ (l : Line). l.id) (cond b (line ∷ lines_of is_state lines) (lines_of is_state lines))) is
 ids-kept line lines false is = ap (λ (b : Bool). map (λ (l : Line). l.id) (cond b (line ∷ lines_of is_state lines) (lines_of is_state lines))) is
 
-given-head : (step other : Step) (line : Line) (lines : List Line) → SameGiven step other (line ∷ lines) → is_state (rule_of line.keyword) ≡ true → other.states line.id ≡ step.states line.id
+pub given-head : (step other : Step) (line : Line) (lines : List Line) → SameGiven step other (line ∷ lines) → is_state (rule_of line.keyword) ≡ true → other.states line.id ≡ step.states line.id
 given-head step other line lines g is = g.states 0 line.id (ap (λ (ids : List ℕ). slice_get ids 0) (ids-kept line lines true is))
 
-given-tail : (step other : Step) (line : Line) (lines : List Line) → SameGiven step other (line ∷ lines) → SameGiven step other lines
+pub given-tail : (step other : Step) (line : Line) (lines : List Line) → SameGiven step other (line ∷ lines) → SameGiven step other lines
 given-tail step other line lines g = record { inputs = g.inputs; states = by (is_state (rule_of line.keyword)) refl }
   where
     by : (b : Bool) → is_state (rule_of line.keyword) ≡ b → (place id : ℕ) → slice_get (ids_of is_state lines) place ≡ Some id → other.states id ≡ step.states id

@@ -1,3 +1,4 @@
 pub mod Bads
 pub mod Marks
 pub mod Violations
+pub mod Widths

@@ -1,13 +1,14 @@
 // The `bad` lines of a circuit text.
-ghost use Rattle.std.specs.Prelude.{◌≡◌, IfOk, None, map};
+ghost use Rattle.std.specs.Prelude.{◌≡◌, IfOk, None};
 ghost use Rattle.btor2_text.specs.Printable.{ArePrintable};
 ghost use Rattle.btor2_model.specs.Acceptance.{first_fault};
 ghost use Rattle.koika_assert.specs.Bads as bads;
 
+use crate::copies::{copied_arguments, copied_symbol};
 use btor2_model::{Btor, Rule, accept};
-use btor2_text::{Argument, Keyword, Line, Lines};
+use btor2_text::{Keyword, Line, Lines};
 use kw_base::Refusal;
-use kw_bits::{NoMemory, Sequence, Text};
+use kw_bits::NoMemory;
 use std::alloc::Global;
 
 /// The text without its outputs, each bad line an output. Its flags are the violations of the bad lines.
@@ -64,35 +65,5 @@ fn as_output(keyword: Keyword) -> Keyword
     match keyword {
         Keyword::Bad => Keyword::Output,
         other => other,
-    }
-}
-
-fn copied_arguments(alloc: Global, arguments: &[Argument]) -> Result<Sequence<Argument>, NoMemory>
-    ensures { IfOk result (λ copy. copy ≡ arguments.now) }
-{
-    let mut copy = Sequence::new(alloc);
-    for argument in arguments {
-        copy.push(copied_argument(alloc, argument)?)?;
-    }
-    Ok(copy)
-}
-
-fn copied_argument(alloc: Global, argument: &Argument) -> Result<Argument, NoMemory>
-    ensures { IfOk result (λ copy. copy ≡ argument.now) }
-{
-    Ok(match argument {
-        Argument::Bitvec => Argument::Bitvec,
-        Argument::Id(id) => Argument::Id(*id),
-        Argument::Number(number) => Argument::Number(*number),
-        Argument::Numeral(digits) => Argument::Numeral(Text::from_slice(alloc, digits.as_slice())?),
-    })
-}
-
-fn copied_symbol(alloc: Global, symbol: &Option<Text>) -> Result<Option<Text>, NoMemory>
-    ensures { IfOk result (λ copy. copy ≡ symbol.now) }
-{
-    match symbol {
-        Some(symbol) => Ok(Some(Text::from_slice(alloc, symbol.as_slice())?)),
-        None => Ok(None),
     }
 }

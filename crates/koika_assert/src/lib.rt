@@ -2,13 +2,16 @@
 //!
 //! `specs/Violations.antt` says in which cycle a marked rule is violated first, and which bytes tell it. Whoever runs a system
 //! with marks hands its rows to a `Watch`, batch by batch, and writes its text behind the report or the summary. `specs/Bads.antt`
-//! says which text shows the violations of a circuit text's `bad` lines as flags.
+//! says which text shows the violations of a circuit text's `bad` lines as flags, and which `bad` lines show marked flags.
 #![tactic(auto)]
 
 mod bads;
+mod copies;
+mod marks;
 #[cfg(test)]
 mod tests;
 mod watch;
 
 pub use bads::bads_as_outputs;
+pub use marks::add_bads;
 pub use watch::Watch;
