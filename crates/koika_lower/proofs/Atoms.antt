@@ -24,7 +24,7 @@ use Rattle.koika_lower.proofs.Constructs.{world-design}
 use Rattle.koika_lower.proofs.MeaningLayers.{meaning-Constant, meaning-Input, meaning-Local}
 use Rattle.koika_lower.proofs.Names.{name-at}
 use Rattle.koika_lower.proofs.Simulations.{sim-value}
-use Rattle.koika_lower.proofs.TypingLayers.{open-HasType}
+use Rattle.koika_check.proofs.TypingLayers.{open-HasType}
 use Rattle.koika_lower.proofs.Values.{all-get, constant-stands, unpacked-stands}
 
 -- ---- the world

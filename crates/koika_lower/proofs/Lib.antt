@@ -31,7 +31,6 @@ pub mod Slices
 pub mod Steps
 pub mod TreeCounts
 pub mod TypeWidths
-pub mod TypingLayers
 pub mod ValueLayers
 pub mod Values
 pub mod Widths

@@ -28,7 +28,7 @@ use Rattle.koika_lower.proofs.MeaningLayers.{meaning-Apply, meaning-Block, meani
 use Rattle.koika_lower.proofs.Names.{names-bind}
 use Rattle.koika_lower.proofs.Sides.{each-pairwise}
 use Rattle.koika_lower.proofs.Steps.{do-lowers, do-typed, end-lowers, give-lowers, give-typed, let-lowers, let-typed}
-use Rattle.koika_lower.proofs.TypingLayers.{open-HasType}
+use Rattle.koika_check.proofs.TypingLayers.{open-HasType}
 
 -- what the expressions come to in a setting
 senses-in : (s : Setting Stopped) (es : List Typed) → map (λ (m : Sense). m s) (map sense_of es) ≡ map (meaning s) es

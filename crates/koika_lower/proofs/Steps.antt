@@ -26,7 +26,7 @@ use Rattle.koika_lower.proofs.MeaningLayers.{meaning-Do, meaning-Give, meaning-L
 use Rattle.koika_lower.proofs.Names.{fit-bind, stand-bind}
 use Rattle.koika_lower.proofs.Operands.{some_value}
 use Rattle.koika_lower.proofs.Simulations.{sim-bind, sim-then, sim-value}
-use Rattle.koika_lower.proofs.TypingLayers.{open-step}
+use Rattle.koika_check.proofs.TypingLayers.{open-step}
 
 -- ---- what steps do, by their kinds
 
