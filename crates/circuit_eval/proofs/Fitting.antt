@@ -1,19 +1,17 @@
 -- The states of a circuit have their widths in each step.
 use Rattle.std.proofs.Common.{◌≡◌, ℕ, suc, ◌<◌, List, [], ◌∷◌, zero, get_or, length, map, refl, sym, ap, ap₂, subst, ◌∙◌, arith}
 use Rattle.std.specs.List.{All}
-use Rattle.std.proofs.lemmas.List.{length-map}
 use Rattle.kw_bits.specs.BitVector.{BitVector, IsBits}
 use Rattle.kw_bits.specs.Laws.{HasWidth}
 use Rattle.net_graph.specs.Laws.{Feeds}
 use Rattle.net_graph.specs.Nets.{widths_of}
 use Rattle.net_graph.specs.Values.{AllRead, no_bits, op_value, Sources, value_at, values_of, widths}
-use Rattle.net_graph.specs.declared.node.NetOp.{NetOp}
 use Rattle.net_graph.proofs.OneByOne.{length-one_by_one}
 use Rattle.net_graph.proofs.OperatorWidths.{width-value_at}
 use Rattle.net_graph.proofs.Values.{values-widths}
 use Rattle.circuit_eval.specs.declared.circuit.StateWire.{StateWire}
 use Rattle.circuit_eval.specs.declared.circuit.Wires.{Wires}
-use Rattle.circuit_eval.specs.Circuits.{AreBits, input_widths, IsCircuit, IsState, state_widths}
+use Rattle.circuit_eval.specs.Circuits.{AreBits, input_widths, IsCircuit, state_widths}
 use Rattle.circuit_eval.specs.Run.{first_states, next_states, values_in}
 
 all_bits : (b : BitVector) (bs : List BitVector) → IsBits b → All IsBits bs → All IsBits (b ∷ bs)

@@ -1,8 +1,8 @@
 -- The inputs that a stimulus gives are bit vectors of its widths.
-use Rattle.std.proofs.Common.{◌≡◌, ℕ, ◌<◌, List, length, map, get_or, sym, ap, subst, ◌∙◌, arith}
+use Rattle.std.proofs.Common.{ℕ, ◌<◌, List, length, map, get_or, subst, ◌∙◌, arith}
 use Rattle.std.proofs.lemmas.List.{get_or-map, get_or_default, length-map, same_lists}
 use Rattle.std.proofs.lemmas.Option.{slice_get-get_or}
-use Rattle.kw_bits.specs.BitVector.{BitVector, IsBits}
+use Rattle.kw_bits.specs.BitVector.{BitVector}
 use Rattle.kw_bits.specs.Laws.{HasWidth}
 use Rattle.net_graph.specs.Values.{no_bits}
 use Rattle.typed_core.specs.Widths.{HaveWidths}

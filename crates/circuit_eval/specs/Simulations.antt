@@ -1,9 +1,11 @@
--- A circuit at a moment between two steps.
-use Rattle.std.specs.Prelude.{List}
+-- A circuit at a moment between two steps, and its rows from there on.
+use Rattle.std.specs.Prelude.{ℕ, zero, suc, ◌+◌, ◌-◌, List, ◌∷◌}
 use Rattle.kw_bits.specs.BitVector.{BitVector}
 use Rattle.net_graph.specs.Nets.{widths_of}
 use Rattle.circuit_eval.specs.declared.circuit.Wires.{Wires}
-use Rattle.circuit_eval.specs.Run.{first_states, next_states, outputs_in, values_in, zero_outputs}
+use Rattle.circuit_eval.specs.Run.{first_states, flags, next_states, outputs_in, rows_after, values_in, zero_outputs}
+use Rattle.one_rule.specs.Run.{InputsByCycle}
+use Rattle.one_rule.specs.declared.rows.Row.{Row}
 
 -- the circuit, its states now and its outputs in the last step
 pub record Simulation : Type 0 where
@@ -20,3 +22,15 @@ abbrev pub after_step : Simulation → List BitVector → Simulation
 after_step s inputs =
     let values : List BitVector = values_in s.circuit inputs s.states in
     record { circuit = s.circuit; states = next_states s.circuit.states values; outputs = outputs_in s.circuit.outputs values }
+
+-- after so many steps more, behind the last cycle so far
+unfoldable pub after_steps : InputsByCycle → (count last : ℕ) → Simulation → Simulation
+after_steps inputs zero last s = s
+after_steps inputs (suc count) last s = after_steps inputs count (last + 1) (after_step s (inputs (last + 1)))
+
+-- the row of a moment, and those of the cycles from one to another behind it
+abbrev pub row_at : Simulation → Row
+row_at s = record { regs = s.states; fired = flags s.outputs }
+
+abbrev pub rows_from : Simulation → InputsByCycle → (from to : ℕ) → List Row
+rows_from s inputs from to = row_at s ∷ rows_after s.circuit inputs (to - from) from s.states

@@ -11,5 +11,5 @@ mod sim;
 mod validity;
 
 pub use circuit::{Circuit, InputWire, OutputWire, StateWire, Wires};
-pub use rows::run_circuit;
+pub use rows::{run_circuit, run_on};
 pub use sim::Sim;

@@ -1,7 +1,8 @@
-ghost use Rattle.std.specs.Prelude.{◌≡◌, IfOk};
+ghost use Rattle.std.specs.Prelude.{◌≡◌, ◌≤◌, ◌-◌, IfOk, OnOk};
 ghost use Rattle.one_rule.specs.Stimulus.{inputs_of};
 ghost use Rattle.circuit_eval.specs.Circuits.{input_widths};
 ghost use Rattle.circuit_eval.specs.Run.{flags, run_of};
+ghost use Rattle.circuit_eval.specs.Simulations.{after_steps, row_at, rows_from};
 
 use crate::circuit::Circuit;
 use crate::sim::Sim;
@@ -20,18 +21,35 @@ pub fn run_circuit(
     ensures { IfOk result (λ rows. rows ≡ run_of circuit.now (inputs_of stimulus.now) n) }
 {
     let mut sim = Sim::begin(alloc, circuit)?;
+    run_on(alloc, &mut sim, stimulus, 0, n)
+}
+
+/// The row of a moment behind cycle `from` of a run, and those of the cycles from there to `to`. The simulator then stands
+/// behind the last of them, so a run can be made in parts. The stimulus is for the circuit's inputs.
+pub fn run_on(
+    alloc: Global,
+    sim: &mut Sim,
+    stimulus: &Stimulus,
+    from: u32,
+    to: u32,
+) -> Result<Rows, NoMemory>
+    requires order { from ≤ to }
+    requires widths { stimulus.now.widths ≡ input_widths sim.old.circuit.inputs }
+    ensures rows { IfOk result (λ rows. rows ≡ rows_from sim.old (inputs_of stimulus.now) from to) }
+    ensures sim { OnOk result (sim.new ≡ after_steps (inputs_of stimulus.now) (to - from) from sim.old) }
+{
     let mut rows = Rows::new(alloc);
-    rows.push(row_of(alloc, &sim)?)?;
-    for last in 0..n {
+    rows.push(row_of(alloc, sim)?)?;
+    for last in from..to {
         sim.step(&stimulus.inputs(last + 1)?);
-        rows.push(row_of(alloc, &sim)?)?;
+        rows.push(row_of(alloc, sim)?)?;
     }
     Ok(rows)
 }
 
 // The row of a moment: the states now and the flags of the last step.
 fn row_of(alloc: Global, sim: &Sim) -> Result<Row, NoMemory>
-    ensures { IfOk result (λ row. row ≡ record { regs = sim.now.states; fired = flags sim.now.outputs }) }
+    ensures { IfOk result (λ row. row ≡ row_at sim.now) }
 {
     Ok(Row {
         regs: Regs::from_slice(alloc, sim.states().as_slice())?,

@@ -4,7 +4,6 @@ use Rattle.kw_bits.specs.BitVector.{BitVector}
 use Rattle.circuit_eval.specs.Circuits.{AreBits, IsCircuit, state_widths}
 use Rattle.circuit_eval.specs.Run.{first_states}
 use Rattle.circuit_eval.specs.declared.circuit.OutputWire.{OutputWire}
-use Rattle.circuit_eval.specs.declared.circuit.StateWire.{StateWire}
 use Rattle.circuit_eval.specs.declared.circuit.Wires.{Wires}
 use Rattle.circuit_eval.proofs.Fitting.{first_states-AreBits}
 use Rattle.circuit_eval.proofs.sim.Sim.begin.Goals as goal
