@@ -2,3 +2,4 @@ pub mod Printing
 pub mod Lexed
 pub mod Levels
 pub mod Writable
+pub mod RoundTrip

@@ -10,9 +10,11 @@ mod expressions;
 mod leaves;
 mod primaries;
 mod printer;
+mod round_trip;
 mod scheduler;
 #[cfg(test)]
 mod tests;
 mod types;
 
 pub use printer::print;
+pub use round_trip::print_and_read;
