@@ -1,5 +1,5 @@
 -- What is bound while the parameters of a function are read, and what the function and a rule come to.
-use Rattle.std.proofs.Common.{◌≡◌, ℕ, ◌<◌, List, [], ◌∷◌, ◌++◌, length, map, not, take, Option, Some, None, refl, ap, ap₂, sym, ◌∙◌, subst, arith}
+use Rattle.std.proofs.Common.{◌≡◌, ℕ, List, [], ◌∷◌, ◌++◌, length, map, not, take, Option, None, refl, ap, ap₂, sym, ◌∙◌, subst, arith}
 use Rattle.std.specs.Prelude.{is_some}
 use Rattle.std.specs.List.{All}
 use Rattle.std.proofs.lemmas.List.Elements.{All-nil, All-push}
@@ -16,7 +16,7 @@ use Rattle.koika_check.specs.Constructs.{Typing}
 use Rattle.koika_check.specs.Declarations.{add_parameter, function_body, function_of, function_result, function_typed, function_with, names_of_locals, new_name, other_name, result_of, rule_of, rule_typed, rule_with, types_in_order}
 use Rattle.koika_check.specs.Expressions.{block_in}
 use Rattle.koika_check.specs.Locals.{AreLocals, inside_of, local_of, locals_of, shapes_of}
-use Rattle.koika_check.specs.Outcomes.{Condition, Gives, Outcome, ◌>>=◌, holds, one_by_one, where_all, wrong}
+use Rattle.koika_check.specs.Outcomes.{Condition, Gives, ◌>>=◌, holds, one_by_one, where_all, wrong}
 use Rattle.koika_check.specs.Parameters.{AreParameters}
 use Rattle.koika_check.specs.Scopes.{Local, Scope}
 use Rattle.koika_check.specs.Settled.{IsSettled}

@@ -2,7 +2,7 @@
 use Rattle.std.proofs.Common.{◌≡◌, ℕ, ◌+◌, min, nat_le, Bool, true, false, List, [], length, take, Some, None, Result, Ok, Err, refl, ap, ap₂, sym, ◌∙◌, arith}
 use Rattle.std.proofs.lemmas.List.{take_min}
 use Rattle.kw_base.specs.Place.{column_after, line_after, place_at}
-use Rattle.kw_base.specs.declared.fault_number.TheConstants.{TOO_DEEP, TOO_HEAVY}
+use Rattle.kw_base.specs.declared.fault_number.TheConstants.{TOO_HEAVY}
 use Rattle.kw_base.specs.declared.place.Place.{Place}
 use Rattle.koika_syntax.specs.declared.tree.Declaration.{Declaration}
 use Rattle.koika_syntax.specs.declared.tree.Tree.{Tree}
@@ -14,7 +14,7 @@ use Rattle.koika_check.specs.Outcomes.{Answers, Condition, Ends, Fails, Gives, O
 use Rattle.koika_check.specs.Schedule.{scheduler_nodes}
 use Rattle.koika_check.specs.Sizes.{Size}
 use Rattle.koika_check.specs.declared.checked.Checked.{Checked}
-use Rattle.koika_check.specs.declared.measure.TheConstants.{MAX_DEPTH, MAX_WEIGHT}
+use Rattle.koika_check.specs.declared.measure.TheConstants.{MAX_WEIGHT}
 use Rattle.koika_check.specs.declared.stop.Stop.{Stop}
 use Rattle.koika_check.specs.declared.stop.Stop.TheVariants as stops
 use Rattle.koika_check.proofs.Answering.{ends}
