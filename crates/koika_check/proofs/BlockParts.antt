@@ -11,7 +11,7 @@ use Rattle.koika_syntax.specs.declared.tree.Name.{Name}
 use Rattle.koika_syntax.specs.declared.tree.Operand.{Operand, out-Operand, fold_out-Operand}
 use Rattle.koika_syntax.specs.declared.tree.Statement.{Statement, fold-roll-Statement}
 use Rattle.koika_syntax.specs.declared.tree.Statement.TheVariants as statements
-use Rattle.koika_check.specs.Constructs.{ArmTyping, FieldTyping, Joined, Typing, conditional}
+use Rattle.koika_check.specs.Constructs.{ArmTyping, Joined, conditional}
 use Rattle.koika_check.specs.Expressions.{Armed, Fielded, Joining, Meaning, Run, Stepped, arm_in, arm_step, block_in, block_step, close, expression_in, expression_step, field_value_in, field_value_step, join_in, operand_in, operand_step, otherwise_in, run, statement_in, statement_step}
 use Rattle.koika_check.specs.Outcomes.{Fails, Gives, Outcome, ◌>>=◌, in_turn, one_by_one}
 use Rattle.koika_check.specs.Scopes.{Scope}

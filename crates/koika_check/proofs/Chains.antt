@@ -1,9 +1,9 @@
 -- The operands of a chain, as far as they were looked at.
-use Rattle.std.proofs.Common.{◌≡◌, ℕ, ◌+◌, ◌<◌, List, [], ◌∷◌, ◌++◌, length, map, take, get_or, Option, Some, None, Result, Ok, Err, refl, ap, ap₂, sym, ◌∙◌, subst}
+use Rattle.std.proofs.Common.{◌≡◌, ℕ, ◌+◌, ◌<◌, List, [], ◌∷◌, ◌++◌, length, map, take, get_or, Option, Some, Ok, Err, refl, ap, ap₂, sym, ◌∙◌, subst}
 use Rattle.std.proofs.lemmas.List.{map-append}
 use Rattle.koika_syntax.specs.declared.operator.BinaryOperator.{BinaryOperator}
 use Rattle.koika_syntax.specs.declared.tree.Operand.{Operand, out-Operand}
-use Rattle.koika_check.specs.Checking.{Grows, IsChecker, IsPart, IsType, IsTyping, Yields, arrays_of, scope_of, typing_of}
+use Rattle.koika_check.specs.Checking.{IsChecker, IsPart, IsTyping, Yields, arrays_of, scope_of, typing_of}
 use Rattle.koika_check.specs.Constructs.{Joined, chained, join, typed_of}
 use Rattle.koika_check.specs.Constructs as constructs
 use Rattle.koika_check.specs.Expressions.{chain_in, expression_in, join_in, operand_in}
@@ -13,7 +13,6 @@ use Rattle.koika_check.specs.Scopes.{Scope}
 use Rattle.koika_check.specs.Shapes.{Denotes, part_of, type_if}
 use Rattle.koika_check.specs.TypedParts.{Chained, In, IsChained}
 use Rattle.koika_check.specs.Types.{Part as TypedPart, part}
-use Rattle.koika_check.specs.declared.agreement.Part.{Part}
 use Rattle.koika_check.specs.declared.checker.Checker.{Checker}
 use Rattle.koika_check.specs.declared.checker.Typing.{Typing}
 use Rattle.koika_check.specs.declared.shapes.Shape.{Shape}

@@ -1,18 +1,17 @@
 -- What operators make of operands has the width of a value.
-use Rattle.std.proofs.Common.{◌≡◌, ℕ, ◌+◌, ◌*◌, ◌≤◌, nat_le, List, [], ◌∷◌, Option, Some, None, Ok, is_some, true, refl, ap, sym, ◌∙◌, subst, arith}
+use Rattle.std.proofs.Common.{◌≡◌, ℕ, ◌+◌, ◌*◌, ◌≤◌, nat_le, List, [], ◌∷◌, Option, Some, None, Ok, is_some, true, refl, ap, ◌∙◌, subst, arith}
 use Rattle.std.specs.Option.{IfSome}
 use Rattle.koika_syntax.specs.declared.operator.BinaryOperator.{BinaryOperator}
 use Rattle.koika_syntax.specs.declared.operator.BinaryOperator.TheVariants as binary
 use Rattle.koika_check.specs.Checking.{IsPart, IsType, IsTypeOrUnit, IsWidth, arrays_of}
-use Rattle.koika_check.specs.Operators.{bits_in, calculated, compared, concatenated, equated, operated, width_or_none}
-use Rattle.koika_check.specs.Outcomes.{Condition, Gives, Outcome, Tells, earlier, holds, smaller, unless}
+use Rattle.koika_check.specs.Operators.{bits_in, calculated, concatenated, operated, width_or_none}
+use Rattle.koika_check.specs.Outcomes.{Condition, Gives, Tells, earlier, unless}
 use Rattle.koika_check.specs.Shapes.{Denotes, part_of, type_if}
 use Rattle.koika_check.specs.Types.{Part as TypedPart, all_lengths, as_bits, base_width, bits, bits_by, is_bits, width_of, wrong_type}
 use Rattle.koika_check.specs.declared.agreement.Part.{Part}
 use Rattle.koika_check.specs.declared.checked.Checked.{Checked}
 use Rattle.koika_check.specs.declared.checker.Checker.{Checker}
 use Rattle.koika_check.specs.declared.shapes.Shape.{Shape}
-use Rattle.koika_check.specs.declared.stop.Wrong.{Wrong}
 use Rattle.koika_check.specs.declared.typed.BaseType.{BaseType}
 use Rattle.koika_check.specs.declared.typed.BaseType.TheVariants as base
 use Rattle.koika_check.specs.declared.typed.ValueType.{ValueType}
