@@ -1,63 +1,39 @@
 -- Words and a source have one answer, by its status and its text.
-use Rattle.std.proofs.Common.{◌≡◌, ℕ, suc, ◌*◌, ◌<◌, ◌≤◌, min, inl, inr, true, false, ◌||◌, nat_lt, List, [], ◌∷◌, length, Option, Some, None, Result, Ok, Err, refl, sym, ap, ◌∙◌, arith}
+use Rattle.std.proofs.Common.{◌≡◌, ℕ, ◌<◌, ◌≤◌, inl, inr, true, false, List, length, map, Option, Some, None, Result, Ok, Err, refl, sym, ap, subst, ◌∙◌, arith}
 use Rattle.std.specs.Prelude.{MatchOption}
-use Rattle.typed_core.specs.declared.design.RegDecl.{RegDecl}
-use Rattle.typed_core.specs.declared.design.Rule.{Rule}
-use Rattle.typed_core.specs.declared.design.Parts.{Parts}
-use Rattle.one_rule.specs.Stimulus.{InputVectors, inputs_of}
-use Rattle.stim_report.specs.Cuts.{parts_of}
-use Rattle.stim_report.specs.Stimuli.{stimulus_of}
-use Rattle.stim_report.specs.Shapes.{shape_of}
-use Rattle.stim_report.specs.declared.shape.Shape.{Shape}
-use Rattle.one_rule.specs.Run.{run_of}
-use Rattle.koika_top.specs.Answer.{Answers, AnswersSource, HasNoDesign, HasNoStimulus, IsAnswer, IsRefusal, IsSameAnswer, IsTooLong, RunsTooLong, ShowsRun, Spells, SpellsDesign, is_too_long, longest_source, status_of, stimulus_in, text_of, text_of_rows}
-use Rattle.typed_core.specs.Same.{SameDesign, SameRules}
+use Rattle.kw_base.specs.Fault.{fault_at}
+use Rattle.kw_base.specs.Place.{place_at}
 use Rattle.kw_base.specs.declared.fault.Fault.{Fault}
-use Rattle.koika_syntax.proofs.Cuts.{one_fault, tokens_or_fault}
-use Rattle.koika_top.specs.FirstForm.{IsFirstForm, IsFormFault}
+use Rattle.koika_syntax.specs.Grammar.{Derives, tree_leaves}
+use Rattle.koika_syntax.specs.Tokens.{AreTokensOf}
+use Rattle.koika_syntax.specs.declared.token.Token.{Token}
+use Rattle.koika_syntax.specs.declared.tree.Tree.{Tree}
+use Rattle.koika_syntax.proofs.Cuts.{one_fault, one_list, tokens_or_fault}
+use Rattle.koika_parse.specs.Faults.{StandsBetween}
+use Rattle.koika_parse.specs.Outline.{SameTree}
+use Rattle.koika_parse.proofs.OneFault as grammar
+use Rattle.koika_parse.proofs.Unambiguous.{one_tree}
+use Rattle.koika_check.specs.Checks.{checked}
+use Rattle.koika_check.specs.Counts.{counts_of}
+use Rattle.koika_check.specs.Outcomes.{Outcome, Fails, Gives}
+use Rattle.koika_check.specs.declared.checked.Checked.{Checked}
+use Rattle.koika_check.specs.declared.stop.Wrong.{Wrong}
+use Rattle.one_rule.specs.Stimulus.{InputVectors, inputs_of}
+use Rattle.typed_core.specs.declared.design.HostSpec.{HostSpec}
+use Rattle.koika_top.specs.Answer.{Answers, IsAnswer, IsSameAnswer, status_of, text_of}
 use Rattle.koika_top.specs.Generator.{pipeline}
+use Rattle.koika_top.specs.Reads.{AnswersCheck, AnswersPrint, ShowsTree, TellsCounts, counts_line}
+use Rattle.koika_top.specs.Sim.{AnswersSim, HasNoRun, RunsTooLong, ShowsRun, is_too_long, marks_of, text_of_rows}
+use Rattle.koika_top.specs.Sources.{HasNoDesign, HasNoStimulus, HasNoTokens, HasNoTree, IsIllTyped, IsTooLong, IsUnread, IsUnspelled, Spells, SpellsDesign, SpellsTree, design_part, longest_source, shape_of, stimulus_in}
+use Rattle.koika_top.specs.Systems.{run_of}
 use Rattle.koika_top.specs.Words.{command_of}
-use Rattle.koika_top.specs.declared.shown.Shown.{Shown}
-use Rattle.koika_top.specs.declared.words.Command.{Command}
-use Rattle.koika_top.specs.declared.words.Command.TheVariants.{Sim, Gen}
-use Rattle.koika_top.proofs.SameReports.{same_shape, same_text}
-use Rattle.koika_top.proofs.Unique.{same_spelled}
 use Rattle.koika_top.specs.declared.answer.Answer.{Answer}
 use Rattle.koika_top.specs.declared.answer.Answer.TheVariants.{Usage, Refused, Written}
-
-count-same : (rules others : List Rule) → SameRules rules others → length rules ≡ length others
-count-same [] [] h = refl
-count-same [] (other ∷ others) h = absurd h
-count-same (rule ∷ rules) [] h = absurd h
-count-same (rule ∷ rules) (other ∷ others) h = ap suc (count-same rules others h.1)
-
-too_long-same : (d e : Parts) → SameDesign d e → (cycles : ℕ) → is_too_long cycles d ≡ is_too_long cycles e
-too_long-same d e h cycles =
-    ap (λ (decls : List RegDecl). nat_lt 16777216 cycles || nat_lt 4194304 (min cycles 256 * length decls) || nat_lt 4194304 (min cycles 256 * length d.rules)) h.regs
-    ∙ ap (λ n. nat_lt 16777216 cycles || nat_lt 4194304 (min cycles 256 * length e.regs) || nat_lt 4194304 (min cycles 256 * n)) (count-same d.rules e.rules h.rules)
-
-not_both_lengths : (n : ℕ) → longest_source < n → n ≤ longest_source → ⊥
-not_both_lengths n a b = omega arith
-
-form_fault-same : (text : List ℕ) (f g : Fault) → IsFormFault text f → IsFormFault text g → f ≡ g
-form_fault-same text f g (inl a) (inl b) = one_fault text f g a b
-form_fault-same text f g (inl a) (inr b) = absurd (tokens_or_fault text b.1.0 f b.1.1 a)
-form_fault-same text f g (inr a) (inl b) = absurd (tokens_or_fault text a.1.0 g a.1.1 b)
-form_fault-same text f g (inr a) (inr b) = a.0 ∙ sym b.0
-
--- a text of the form has no fault of the form
-not_spelled : (text : List ℕ) (fault : Fault) (design : Parts) → IsFormFault text fault → IsFirstForm text design → ⊥
-not_spelled text fault design (inl a) is = tokens_or_fault text is.1.tokens fault is.1.are a
-not_spelled text fault design (inr a) is = a.2 design is
-
--- a source spells one design
-same_design : (source : List ℕ) (d e : Parts) → SpellsDesign source d → SpellsDesign source e → SameDesign d e
-same_design source d e h k = same_spelled _ d e h.spelled k.spelled
-
--- and one stimulus, or has one fault of it
-stimulus-same : (source : List ℕ) (d e : Parts) → SpellsDesign source d → SpellsDesign source e → stimulus_in source d ≡ stimulus_in source e
-stimulus-same source d e h k =
-    ap (λ (shape : Shape). stimulus_of shape (parts_of source).first_line (parts_of source).stimulus) (same_shape d e (same_design source d e h k))
+use Rattle.koika_top.specs.declared.shown.Shown.{Shown}
+use Rattle.koika_top.specs.declared.words.Command.{Command}
+use Rattle.koika_top.specs.declared.words.Command.TheVariants.{Check, Print, Sim, Gen}
+use Rattle.koika_top.proofs.SameChecked.{same_checked}
+use Rattle.koika_top.proofs.SamePrinted.{same_printed}
 
 ok-same : {X E : Type 0} (x y : X) → (r : Result X E) → r ≡ Ok x → r ≡ Ok y → x ≡ y
 ok-same x y r h k = let e : Ok x ≡ Ok y = sym h ∙ k in cc
@@ -68,75 +44,199 @@ err-same x y r h k = let e : Err x ≡ Err y = sym h ∙ k in cc
 ok_or_err : {X E : Type 0} (x : X) (y : E) (r : Result X E) → r ≡ Ok x → r ≡ Err y → ⊥
 ok_or_err x y r h k = let e : Ok x ≡ Err y = sym h ∙ k in absurd cc
 
--- no source has faults of two kinds
-module _ (cycles : ℕ) (source : List ℕ) where
-  short_or_long : (f : Fault) → IsTooLong source f → length source ≤ longest_source → ⊥
-  short_or_long f a short = not_both_lengths (length source) a.1 short
+gives-same : {X : Type 0} (x y : X) (o : Outcome X) → o ≡ Gives x → o ≡ Gives y → x ≡ y
+gives-same x y o h k = let e : Gives x ≡ Gives y = sym h ∙ k in cc
 
-  design_or_not : (f : Fault) (d : Parts) → HasNoDesign source f → SpellsDesign source d → ⊥
-  design_or_not f d a is = not_spelled _ f d a.1 is.spelled
+fails-same : {X : Type 0} (w v : Wrong) (o : Outcome X) → o ≡ Fails w → o ≡ Fails v → w ≡ v
+fails-same {X} w v o h k = let e : ◌≡◌ {A = Outcome X} (Fails w) (Fails v) = sym h ∙ k in cc
 
-  stimulus_or_not : (f : Fault) (d : Parts) (stimulus : InputVectors) → HasNoStimulus source f → Spells source d stimulus → ⊥
-  stimulus_or_not f d stimulus a is = ok_or_err stimulus f _ (stimulus-same source a.0 d a.1 is.spelled ∙ is.given) a.2
+gives_or_fails : {X : Type 0} (x : X) (w : Wrong) (o : Outcome X) → o ≡ Gives x → o ≡ Fails w → ⊥
+gives_or_fails x w o h k = let e : Gives x ≡ Fails w = sym h ∙ k in absurd cc
 
-  refusal-same : (f g : Fault) → IsRefusal cycles source f → IsRefusal cycles source g → f ≡ g
-  refusal-same f g (inl a) (inl b) = a.0 ∙ sym b.0
-  refusal-same f g (inl a) (inr (inl b)) = absurd (short_or_long f a b.0)
-  refusal-same f g (inl a) (inr (inr (inl b))) = absurd (short_or_long f a b.1.short)
-  refusal-same f g (inl a) (inr (inr (inr b))) = absurd (short_or_long f a b.1.2.spelled.short)
-  refusal-same f g (inr (inl a)) (inl b) = absurd (short_or_long g b a.0)
-  refusal-same f g (inr (inl a)) (inr (inl b)) = form_fault-same _ f g a.1 b.1
-  refusal-same f g (inr (inl a)) (inr (inr (inl b))) = absurd (design_or_not f b.0 a b.1)
-  refusal-same f g (inr (inl a)) (inr (inr (inr b))) = absurd (design_or_not f b.1.0 a b.1.2.spelled)
-  refusal-same f g (inr (inr (inl a))) (inl b) = absurd (short_or_long g b a.1.short)
-  refusal-same f g (inr (inr (inl a))) (inr (inl b)) = absurd (design_or_not g a.0 b a.1)
-  refusal-same f g (inr (inr (inl a))) (inr (inr (inl b))) = err-same f g (stimulus_in source b.0) (sym (stimulus-same source a.0 b.0 a.1 b.1) ∙ a.2) b.2
-  refusal-same f g (inr (inr (inl a))) (inr (inr (inr b))) = absurd (stimulus_or_not f b.1.0 b.1.1 a b.1.2)
-  refusal-same f g (inr (inr (inr a))) (inl b) = absurd (short_or_long g b a.1.2.spelled.short)
-  refusal-same f g (inr (inr (inr a))) (inr (inl b)) = absurd (design_or_not g a.1.0 b a.1.2.spelled)
-  refusal-same f g (inr (inr (inr a))) (inr (inr (inl b))) = absurd (stimulus_or_not g a.1.0 a.1.1 b a.1.2)
-  refusal-same f g (inr (inr (inr a))) (inr (inr (inr b))) = a.0 ∙ sym b.0
+-- ---- tokens and trees
 
-  refused_or_shown : (f : Fault) (shown : Shown) (text : List ℕ) → IsRefusal cycles source f → ShowsRun cycles shown source text → ⊥
-  refused_or_shown f shown text (inl a) r = short_or_long f a r.spelled.spelled.short
-  refused_or_shown f shown text (inr (inl a)) r = design_or_not f r.design a r.spelled.spelled
-  refused_or_shown f shown text (inr (inr (inl a))) r = stimulus_or_not f r.design r.stimulus a r.spelled
-  refused_or_shown f shown text (inr (inr (inr a))) r =
-      let h = same_design source a.1.0 r.design a.1.2.spelled r.spelled.spelled in
-      let both : true ≡ false = sym a.1.3 ∙ too_long-same a.1.0 r.design h cycles ∙ r.within in
-      cc
+not_both_lengths : (n : ℕ) → longest_source < n → n ≤ longest_source → ⊥
+not_both_lengths n a b = omega arith
 
-  shown-same : (shown : Shown) (a b : List ℕ) → ShowsRun cycles shown source a → ShowsRun cycles shown source b → a ≡ b
-  shown-same shown a b r q =
-      let same = same_design source r.design q.design r.spelled.spelled q.spelled.spelled in
-      let stimulus = ok-same r.stimulus q.stimulus (stimulus_in source q.design) (sym (stimulus-same source r.design q.design r.spelled.spelled q.spelled.spelled) ∙ r.spelled.given) q.spelled.given in
-      r.told
-      ∙ same_text shown r.design q.design same (inputs_of r.stimulus) cycles
-      ∙ ap (λ (s : InputVectors). text_of_rows shown (shape_of q.design) (run_of q.design (inputs_of s) cycles)) stimulus
-      ∙ sym q.told
+module _ (source : List ℕ) where
+  -- what is derived by one list of tokens is derived by the other
+  derived-by : (t u : Tree) (h : SpellsTree source t) (k : SpellsTree source u) → Derives (design_part source) u h.tokens
+  derived-by t u h k =
+      subst (Derives (design_part source) u) (one_list (design_part source) k.tokens h.tokens k.are h.are) k.derived
 
-  source_answer-same : (shown : Shown) (a b : Answer) → AnswersSource cycles shown source a → AnswersSource cycles shown source b → IsSameAnswer a b
-  source_answer-same shown Usage b h k = absurd h
-  source_answer-same shown (Refused f) Usage h k = absurd k
-  source_answer-same shown (Refused f) (Refused g) h k =
-      record { status = refl; text = ap (λ fault. text_of (Refused fault)) (refusal-same f g h k) }
-  source_answer-same shown (Refused f) (Written text) h k = absurd (refused_or_shown f shown text h k)
-  source_answer-same shown (Written text) Usage h k = absurd k
-  source_answer-same shown (Written text) (Refused g) h k = absurd (refused_or_shown g shown text k h)
-  source_answer-same shown (Written text) (Written other) h k = record { status = refl; text = shown-same shown text other h k }
+  same_tree : (t u : Tree) → SpellsTree source t → SpellsTree source u → SameTree t u
+  same_tree t u h k = one_tree (design_part source) h.tokens t u h.derived (derived-by t u h k)
+
+  unread-short : (f : Fault) → IsUnread source f → length source ≤ longest_source
+  unread-short f (inl a) = a.0
+  unread-short f (inr a) = a.0
+
+  stands-same : (f : Fault) (tokens : List Token) → AreTokensOf tokens (design_part source) → (a : HasNoTree source f) → StandsBetween (design_part source) tokens f
+  stands-same f tokens are a =
+      subst (λ ts. StandsBetween (design_part source) ts f) (one_list (design_part source) a.1.0 tokens a.1.1 are) a.1.2
+
+  unread-same : (f g : Fault) → IsUnread source f → IsUnread source g → f ≡ g
+  unread-same f g (inl a) (inl b) = one_fault (design_part source) f g a.1 b.1
+  unread-same f g (inl a) (inr b) = absurd (tokens_or_fault (design_part source) b.1.0 f b.1.1 a.1)
+  unread-same f g (inr a) (inl b) = absurd (tokens_or_fault (design_part source) a.1.0 g a.1.1 b.1)
+  unread-same f g (inr a) (inr b) = grammar.one_fault (design_part source) b.1.0 f g (stands-same f b.1.0 b.1.1 a) b.1.2
+
+  -- a source that spells a tree has no fault of its tokens or of the grammar
+  read_or_not : (f : Fault) (t : Tree) → IsUnread source f → SpellsTree source t → ⊥
+  read_or_not f t (inl a) h = tokens_or_fault (design_part source) h.tokens f h.are a.1
+  read_or_not f t (inr a) h = grammar.no_fault (design_part source) h.tokens t f h.derived h.few (stands-same f h.tokens h.are a)
+
+  printed-same : (a b : List ℕ) → ShowsTree source a → ShowsTree source b → a ≡ b
+  printed-same a b h k = h.told ∙ same_printed (design_part source) h.spelled.tokens h.tree k.tree h.spelled.derived (derived-by h.tree k.tree h.spelled k.spelled) ∙ sym k.told
+
+  long_or_unread : (f g : Fault) → IsTooLong source f → IsUnread source g → ⊥
+  long_or_unread f g a b = not_both_lengths (length source) a.1 (unread-short g b)
+
+  print-same : (a b : Answer) → AnswersPrint source a → AnswersPrint source b → IsSameAnswer a b
+  print-same Usage b h k = absurd h
+  print-same (Refused f) Usage h k = absurd k
+  print-same (Refused f) (Refused g) (inl h) (inl k) = record { status = refl; text = ap (λ fault. text_of (Refused fault)) (h.0 ∙ sym k.0) }
+  print-same (Refused f) (Refused g) (inl h) (inr k) = absurd (long_or_unread f g h k)
+  print-same (Refused f) (Refused g) (inr h) (inl k) = absurd (long_or_unread g f k h)
+  print-same (Refused f) (Refused g) (inr h) (inr k) = record { status = refl; text = ap (λ fault. text_of (Refused fault)) (unread-same f g h k) }
+  print-same (Refused f) (Written text) (inl h) k = absurd (not_both_lengths (length source) h.1 k.spelled.short)
+  print-same (Refused f) (Written text) (inr h) k = absurd (read_or_not f k.tree h k.spelled)
+  print-same (Written text) Usage h k = absurd k
+  print-same (Written text) (Refused g) h (inl k) = absurd (not_both_lengths (length source) k.1 h.spelled.short)
+  print-same (Written text) (Refused g) h (inr k) = absurd (read_or_not g h.tree k h.spelled)
+  print-same (Written text) (Written other) h k = record { status = refl; text = printed-same text other h k }
+
+-- ---- typed designs
+
+module _ (hosts : List HostSpec) (source : List ℕ) where
+  same_outcome : (t u : Tree) → SpellsTree source t → SpellsTree source u → checked hosts t ≡ checked hosts u
+  same_outcome t u h k = same_checked hosts t u h.derived.design k.derived.design (same_tree source t u h k)
+
+  same_design : (d e : Checked) → SpellsDesign hosts source d → SpellsDesign hosts source e → d ≡ e
+  same_design d e h k = gives-same d e (checked hosts k.tree) (sym (same_outcome h.tree k.tree h.spelled k.spelled) ∙ h.typed) k.typed
+
+  ill-short : (f : Fault) → IsIllTyped hosts source f → length source ≤ longest_source
+  ill-short f (inl a) = unread-short source f a
+  ill-short f (inr a) = a.2.short
+
+  ill-same : (f g : Fault) → IsIllTyped hosts source f → IsIllTyped hosts source g → f ≡ g
+  ill-same f g (inl a) (inl b) = unread-same source f g a b
+  ill-same f g (inl a) (inr b) = absurd (read_or_not source f b.0 a b.2)
+  ill-same f g (inr a) (inl b) = absurd (read_or_not source g a.0 b a.2)
+  ill-same f g (inr a) (inr b) =
+      let same = fails-same a.1 b.1 (checked hosts b.0) (sym (same_outcome a.0 b.0 a.2 b.2) ∙ a.3) b.3 in
+      a.4 ∙ ap (λ (w : Wrong). fault_at w.number (place_at (design_part source) w.place)) same ∙ sym b.4
+
+  typed_or_not : (f : Fault) (d : Checked) → IsIllTyped hosts source f → SpellsDesign hosts source d → ⊥
+  typed_or_not f d (inl a) h = read_or_not source f h.tree a h.spelled
+  typed_or_not f d (inr a) h = gives_or_fails d a.1 (checked hosts h.tree) h.typed (sym (same_outcome a.0 h.tree a.2 h.spelled) ∙ a.3)
+
+  -- ---- stimuli
+
+  stimulus-same : (d e : Checked) → SpellsDesign hosts source d → SpellsDesign hosts source e → stimulus_in source d ≡ stimulus_in source e
+  stimulus-same d e h k = ap (stimulus_in source) (same_design d e h k)
+
+  unspelled-short : (f : Fault) → IsUnspelled hosts source f → length source ≤ longest_source
+  unspelled-short f (inl a) = ill-short f a
+  unspelled-short f (inr a) = a.1.spelled.short
+
+  unspelled-same : (f g : Fault) → IsUnspelled hosts source f → IsUnspelled hosts source g → f ≡ g
+  unspelled-same f g (inl a) (inl b) = ill-same f g a b
+  unspelled-same f g (inl a) (inr b) = absurd (typed_or_not f b.0 a b.1)
+  unspelled-same f g (inr a) (inl b) = absurd (typed_or_not g a.0 b a.1)
+  unspelled-same f g (inr a) (inr b) = err-same f g (stimulus_in source b.0) (sym (stimulus-same a.0 b.0 a.1 b.1) ∙ a.2) b.2
+
+  spelled_or_not : (f : Fault) (d : Checked) (s : InputVectors) → IsUnspelled hosts source f → Spells hosts source d s → ⊥
+  spelled_or_not f d s (inl a) h = typed_or_not f d a h.spelled
+  spelled_or_not f d s (inr a) h = ok_or_err s f (stimulus_in source d) h.given (sym (stimulus-same a.0 d a.1 h.spelled) ∙ a.2)
+
+  same_stimulus : (d e : Checked) (s r : InputVectors) → Spells hosts source d s → Spells hosts source e r → s ≡ r
+  same_stimulus d e s r h k = ok-same s r (stimulus_in source e) (sym (stimulus-same d e h.spelled k.spelled) ∙ h.given) k.given
+
+  -- ---- check
+
+  long_or_unspelled : (f g : Fault) → IsTooLong source f → IsUnspelled hosts source g → ⊥
+  long_or_unspelled f g a b = not_both_lengths (length source) a.1 (unspelled-short g b)
+
+  long_or_spelled : (f : Fault) (d : Checked) → IsTooLong source f → SpellsDesign hosts source d → ⊥
+  long_or_spelled f d a h = not_both_lengths (length source) a.1 h.spelled.short
+
+  check-same : (a b : Answer) → AnswersCheck hosts source a → AnswersCheck hosts source b → IsSameAnswer a b
+  check-same Usage b h k = absurd h
+  check-same (Refused f) Usage h k = absurd k
+  check-same (Refused f) (Refused g) (inl h) (inl k) = record { status = refl; text = ap (λ fault. text_of (Refused fault)) (h.0 ∙ sym k.0) }
+  check-same (Refused f) (Refused g) (inl h) (inr k) = absurd (long_or_unspelled f g h k)
+  check-same (Refused f) (Refused g) (inr h) (inl k) = absurd (long_or_unspelled g f k h)
+  check-same (Refused f) (Refused g) (inr h) (inr k) = record { status = refl; text = ap (λ fault. text_of (Refused fault)) (unspelled-same f g h k) }
+  check-same (Refused f) (Written text) (inl h) k = absurd (long_or_spelled f k.design h k.spelled.spelled)
+  check-same (Refused f) (Written text) (inr h) k = absurd (spelled_or_not f k.design k.stimulus h k.spelled)
+  check-same (Written text) Usage h k = absurd k
+  check-same (Written text) (Refused g) h (inl k) = absurd (long_or_spelled g h.design k h.spelled.spelled)
+  check-same (Written text) (Refused g) h (inr k) = absurd (spelled_or_not g h.design h.stimulus k h.spelled)
+  check-same (Written text) (Written other) h k =
+      record { status = refl; text = h.told ∙ ap (λ d. counts_line (counts_of d)) (same_design h.design k.design h.spelled.spelled k.spelled.spelled) ∙ sym k.told }
+
+  -- ---- sim
+
+  module _ (cycles : ℕ) where
+    no_run-short : (f : Fault) → HasNoRun hosts cycles source f → length source ≤ longest_source
+    no_run-short f (inl a) = unspelled-short f a
+    no_run-short f (inr a) = a.1.2.spelled.spelled.short
+
+    no_run-same : (f g : Fault) → HasNoRun hosts cycles source f → HasNoRun hosts cycles source g → f ≡ g
+    no_run-same f g (inl a) (inl b) = unspelled-same f g a b
+    no_run-same f g (inl a) (inr b) = absurd (spelled_or_not f b.1.0 b.1.1 a b.1.2)
+    no_run-same f g (inr a) (inl b) = absurd (spelled_or_not g a.1.0 a.1.1 b a.1.2)
+    no_run-same f g (inr a) (inr b) = a.0 ∙ sym b.0
+
+    run_or_not : (f : Fault) (shown : Shown) (text : List ℕ) → HasNoRun hosts cycles source f → ShowsRun hosts cycles shown source text → ⊥
+    run_or_not f shown text (inl a) r = spelled_or_not f r.design r.stimulus a r.spelled
+    run_or_not f shown text (inr a) r =
+        let both : true ≡ false = sym a.1.3 ∙ ap (is_too_long cycles) (same_design a.1.0 r.design a.1.2.spelled r.spelled.spelled) ∙ r.within in
+        absurd cc
+
+    shown-same : (shown : Shown) (a b : List ℕ) → ShowsRun hosts cycles shown source a → ShowsRun hosts cycles shown source b → a ≡ b
+    shown-same shown a b r q =
+        let design = same_design r.design q.design r.spelled.spelled q.spelled.spelled in
+        let stimulus = same_stimulus r.design q.design r.stimulus q.stimulus r.spelled q.spelled in
+        r.told
+        ∙ ap (λ (d : Checked). text_of_rows shown (shape_of d) (marks_of d) (run_of d (inputs_of r.stimulus) cycles)) design
+        ∙ ap (λ (s : InputVectors). text_of_rows shown (shape_of q.design) (marks_of q.design) (run_of q.design (inputs_of s) cycles)) stimulus
+        ∙ sym q.told
+
+    long_or_no_run : (f g : Fault) → IsTooLong source f → HasNoRun hosts cycles source g → ⊥
+    long_or_no_run f g a b = not_both_lengths (length source) a.1 (no_run-short g b)
+
+    sim-same : (shown : Shown) (a b : Answer) → AnswersSim hosts cycles shown source a → AnswersSim hosts cycles shown source b → IsSameAnswer a b
+    sim-same shown Usage b h k = absurd h
+    sim-same shown (Refused f) Usage h k = absurd k
+    sim-same shown (Refused f) (Refused g) (inl h) (inl k) = record { status = refl; text = ap (λ fault. text_of (Refused fault)) (h.0 ∙ sym k.0) }
+    sim-same shown (Refused f) (Refused g) (inl h) (inr k) = absurd (long_or_no_run f g h k)
+    sim-same shown (Refused f) (Refused g) (inr h) (inl k) = absurd (long_or_no_run g f k h)
+    sim-same shown (Refused f) (Refused g) (inr h) (inr k) = record { status = refl; text = ap (λ fault. text_of (Refused fault)) (no_run-same f g h k) }
+    sim-same shown (Refused f) (Written text) (inl h) k = absurd (long_or_spelled f k.design h k.spelled.spelled)
+    sim-same shown (Refused f) (Written text) (inr h) k = absurd (run_or_not f shown text h k)
+    sim-same shown (Written text) Usage h k = absurd k
+    sim-same shown (Written text) (Refused g) h (inl k) = absurd (long_or_spelled g h.design k h.spelled.spelled)
+    sim-same shown (Written text) (Refused g) h (inr k) = absurd (run_or_not g shown text k h)
+    sim-same shown (Written text) (Written other) h k = record { status = refl; text = shown-same shown text other h k }
+
+-- ---- commands and words
 
 -- answers that are equal can't be told apart
-equal-same : (a b : Answer) → a ≡ b → IsSameAnswer a b
+pub equal-same : (a b : Answer) → a ≡ b → IsSameAnswer a b
 equal-same a b e = record { status = ap status_of e; text = ap text_of e }
 
 -- a command and a source have one answer
-pub command_answer-same : (command : Command) (source : List ℕ) (a b : Answer) → Answers command source a → Answers command source b → IsSameAnswer a b
-command_answer-same (Sim cycles shown) source a b h k = source_answer-same cycles source shown a b h k
-command_answer-same (Gen stages) source a b h k = equal-same a b (h ∙ sym k)
+pub command_answer-same : (hosts : List HostSpec) (command : Command) (source : List ℕ) (a b : Answer) → Answers hosts command source a → Answers hosts command source b → IsSameAnswer a b
+command_answer-same hosts Check source a b h k = check-same hosts source a b h k
+command_answer-same hosts Print source a b h k = print-same source a b h k
+command_answer-same hosts (Sim cycles shown) source a b h k = sim-same hosts source cycles shown a b h k
+command_answer-same hosts (Gen stages) source a b h k = equal-same a b (h ∙ sym k)
 
-by_words : (command : Option Command) (source : List ℕ) (a b : Answer) → MatchOption command (a ≡ Usage) (λ c. Answers c source a) → MatchOption command (b ≡ Usage) (λ c. Answers c source b) → IsSameAnswer a b
-by_words None source a b h k = equal-same a b (h ∙ sym k)
-by_words (Some command) source a b h k = command_answer-same command source a b h k
+by_words : (hosts : List HostSpec) (command : Option Command) (source : List ℕ) (a b : Answer) → MatchOption command (a ≡ Usage) (λ c. Answers hosts c source a) → MatchOption command (b ≡ Usage) (λ c. Answers hosts c source b) → IsSameAnswer a b
+by_words hosts None source a b h k = equal-same a b (h ∙ sym k)
+by_words hosts (Some command) source a b h k = command_answer-same hosts command source a b h k
 
-pub one_answer : (words : List (List ℕ)) (source : List ℕ) (a b : Answer) → IsAnswer words source a → IsAnswer words source b → IsSameAnswer a b
-one_answer words source a b h k = by_words (command_of words) source a b h k
+pub one_answer : (hosts : List HostSpec) (words : List (List ℕ)) (source : List ℕ) (a b : Answer) → IsAnswer hosts words source a → IsAnswer hosts words source b → IsSameAnswer a b
+one_answer hosts words source a b h k = by_words hosts (command_of words) source a b h k

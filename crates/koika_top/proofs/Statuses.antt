@@ -6,8 +6,10 @@ use Rattle.kw_io.specs.Portions.{TakesAll}
 use Rattle.std.specs.Io.KnownBytes.{Appends, IsAtEnd}
 use Rattle.kw_base.specs.FaultLine.{line_of_fault}
 use Rattle.kw_base.specs.declared.fault.Fault.{Fault}
+use Rattle.kw_base.specs.declared.fault.Refusal.{Refusal}
+use Rattle.kw_base.specs.declared.fault.Refusal.TheVariants as refusals
 use Rattle.koika_top.specs.Answer.{AppendsFront, IsFailure, IsSameAnswer, status_of, text_of}
-use Rattle.koika_top.specs.Steps.{Tells}
+use Rattle.koika_top.specs.Steps.{Makes, Tells, TellsMade, TellsOne}
 use Rattle.koika_top.specs.declared.answer.Answer.TheVariants.{Usage, Refused, Written}
 use Rattle.koika_top.specs.declared.answer.Answer.{Answer}
 use Rattle.koika_top.specs.declared.status.Status.{Status}
@@ -44,13 +46,12 @@ module _ (Is : Answer → Type 0) (same : AreSame Is) (old new : Option (List �
   exact_by mine is (inr f) answer k = inr (inr f)
 
   -- an answer that was written, or its first bytes, tells every other one
-  pub tells_answer : (mine : Answer) → Is mine → (result ≡ status_of mine) ⊎ ((result ≡ status.WriteFault) ⊎ (result ≡ status.NoMemory)) → (result ≡ status_of mine → Appends old new (text_of mine)) → AppendsFront old new (text_of mine)
-      → Tells Is old new result
-  tells_answer mine is told all front = record {
-    done = done_by mine is all told;
-    refused = refused_by mine is all told;
-    exact = exact_by mine is told;
-    front = λ answer k. subst (λ (text : List ℕ). AppendsFront old new text) (same mine answer is k).text front;
+  pub tells_answer : (mine : Answer) → Is mine → TellsOne mine old new result → Tells Is old new result
+  tells_answer mine is told = record {
+    done = done_by mine is told.all told.status;
+    refused = refused_by mine is told.all told.status;
+    exact = exact_by mine is told.status;
+    front = λ answer k. subst (λ (text : List ℕ). AppendsFront old new text) (same mine answer is k).text told.front;
   }
 
 -- where reading failed or memory ran out before anything was written, every answer is told by nothing
@@ -67,6 +68,13 @@ tells_nothing Is known result (inr e) = record {
   exact = λ answer k. inr (inr (inr e));
   front = λ answer k. ([], text_of answer, refl, appends-none known);
 }
+
+-- a text, or why there is none, that was told tells every answer
+pub tells_made : (Is : Answer → Type 0) → AreSame Is → (made : Result (List ℕ) Refusal) → Makes Is made → (old new : Option (List ℕ)) (result : Status) → TellsMade made old new result → Tells Is old new result
+tells_made Is same (Ok text) is old new result told = tells_answer Is same old new result (Written text) is told
+tells_made Is same (Err (refusals.Fault fault)) is old new result told = tells_answer Is same old new result (Refused fault) is told
+tells_made Is same (Err refusals.NoMemory) is old new result told =
+    subst (λ (now : Option (List ℕ)). Tells Is old now result) (sym told.1) (tells_nothing Is old result (inr told.0))
 
 -- a source of which all was taken is at its end
 pub at_end : (old new : Option (List ℕ)) (bytes : List ℕ) → TakesAll old new bytes → IfSome old (λ _. IsAtEnd new)

@@ -1,6 +1,9 @@
-pub mod FirstForm
+pub mod Sources
+pub mod Systems
 pub mod Words
 pub mod Generator
+pub mod Reads
+pub mod Sim
 pub mod Answer
 pub mod Steps
 pub mod Telling

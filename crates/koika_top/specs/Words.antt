@@ -6,7 +6,7 @@ use Rattle.std.specs.Str.{bytes_eq}
 use Rattle.koika_top.specs.declared.shown.Shown.{Shown}
 use Rattle.koika_top.specs.declared.shown.Shown.TheVariants.{Report, Summary}
 use Rattle.koika_top.specs.declared.words.Command.{Command}
-use Rattle.koika_top.specs.declared.words.Command.TheVariants.{Sim, Gen}
+use Rattle.koika_top.specs.declared.words.Command.TheVariants.{Check, Print, Sim, Gen}
 use Rattle.koika_top.specs.declared.words.Options.{Options}
 
 -- the number that decimal digits write
@@ -82,10 +82,17 @@ abbrev pub gen_of : List (List ℕ) → Option Command
 gen_of (word ∷ []) = gen_by (number_of word)
 gen_of words = None
 
+-- a command that takes no words
+abbrev pub alone_of : Command → List (List ℕ) → Option Command
+alone_of command [] = Some command
+alone_of command words = None
+
 -- the command that words ask for; no other words are valid
 abbrev pub command_of : List (List ℕ) → Option Command
 command_of [] = None
 command_of (word ∷ rest) =
-    if bytes_eq word (codes "sim") then sim_of (options_of rest)
+    if bytes_eq word (codes "check") then alone_of Check rest
+    else if bytes_eq word (codes "print") then alone_of Print rest
+    else if bytes_eq word (codes "sim") then sim_of (options_of rest)
     else if bytes_eq word (codes "gen") then gen_of rest
     else None

@@ -1,11 +1,13 @@
 ghost use Rattle.std.specs.Prelude.{◌≡◌, ◌≢◌, ◌⊎◌, ◌≤◌, OnOk, OnErr};
 ghost use Rattle.std.specs.Io.KnownBytes.{Appends};
 ghost use Rattle.kw_io.specs.Faults.{Rose};
-ghost use Rattle.koika_top.specs.FirstForm.{fault_of_source};
+ghost use Rattle.kw_base.specs.FaultLine.{line_of_fault};
+ghost use Rattle.kw_base.specs.declared.fault.Fault.{Fault as FaultRecord};
 ghost use Rattle.koika_top.specs.Answer.{AppendsFront, status_of, text_of};
+ghost use Rattle.koika_top.specs.Steps.{TellsMade, TellsOne};
 
 use crate::status::Status;
-use kw_base::{Fault, fault_line};
+use kw_base::{Fault, Refusal, fault_line};
 use kw_bits::{NoMemory, Text};
 use kw_io::{Sink, WriteFault, write_all};
 use std::alloc::Global;
@@ -37,19 +39,36 @@ impl Answer {
     }
 }
 
-/// The fault of this number that speaks of the whole source.
-pub(crate) fn fault_of_source(number: u32) -> Fault
-    ensures { result ≡ fault_of_source number }
+/// Writes a text, or the line of the fault that it has in its place.
+pub(crate) fn write_made<K: Sink>(
+    alloc: Global,
+    made: Result<Text, Refusal>,
+    sink: &mut K,
+) -> Status
+    ensures tells { TellsMade made (K.written sink.old) (K.written sink.new) result }
+    ensures refused_line { result ≡ Status.Refused → (fault : FaultRecord)
+        × Appends (K.written sink.old) (K.written sink.new) (line_of_fault fault) }
+    ensures kinds { (result ≢ Status.Usage) × (result ≢ Status.ReadFault) }
+    ensures cause { result ≡ Status.WriteFault → Rose (K.faults sink.old) (K.faults sink.new) }
 {
-    Fault {
-        number,
-        line: 0,
-        column: 0,
+    match made {
+        Ok(text) => write_answer(alloc, &Answer::Written(text), sink),
+        Err(Refusal::Fault(fault)) => write_answer(alloc, &Answer::Refused(fault), sink),
+        Err(Refusal::NoMemory) => Status::NoMemory,
     }
 }
 
 /// Writes the text that tells an answer.
 pub(crate) fn write_answer<K: Sink>(alloc: Global, answer: &Answer, sink: &mut K) -> Status
+    ensures cause { result ≡ Status.WriteFault → Rose (K.faults sink.old) (K.faults sink.new) }
+    ensures reads_nothing { result ≢ Status.ReadFault }
+    ensures tells { TellsOne answer.now (K.written sink.old) (K.written sink.new) result }
+{
+    write_text_of(alloc, answer, sink)
+}
+
+// The same, clause by clause.
+fn write_text_of<K: Sink>(alloc: Global, answer: &Answer, sink: &mut K) -> Status
     ensures cause { result ≡ Status.WriteFault → Rose (K.faults sink.old) (K.faults sink.new) }
     ensures reads_nothing { result ≢ Status.ReadFault }
     ensures status { (result ≡ status_of answer.now) ⊎ ((result ≡ Status.WriteFault) ⊎ (result ≡ Status.NoMemory)) }

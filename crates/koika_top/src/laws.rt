@@ -1,24 +1,19 @@
 //! The laws of what the program answers. Each is proved, and computes nothing.
 
 ghost use Rattle.std.specs.Prelude.{ℕ, List};
-ghost use Rattle.typed_core.specs.declared.design.Parts.{Parts};
-ghost use Rattle.typed_core.specs.Same.{SameDesign};
+ghost use Rattle.typed_core.specs.declared.design.HostSpec.{HostSpec};
 ghost use Rattle.koika_top.specs.declared.answer.Answer.{Answer};
 ghost use Rattle.koika_top.specs.Answer.{IsAnswer, IsSameAnswer};
-ghost use Rattle.koika_top.specs.FirstForm.{IsFirstForm};
+ghost use Rattle.koika_top.specs.Sources.{IsParsed, design_part};
 
-/// Arguments and a source have one answer at most.
+/// Arguments and a source have one answer at most, where the same host functions are handed in.
 pub fn one_answer()
-    ensures { (words : List (List ℕ)) (source : List ℕ) (a b : Answer) →
-        IsAnswer words source a → IsAnswer words source b → IsSameAnswer a b }
+    ensures { (hosts : List HostSpec) (words : List (List ℕ)) (source : List ℕ) (a b : Answer) →
+        IsAnswer hosts words source a → IsAnswer hosts words source b → IsSameAnswer a b }
 {}
 
-/// Arguments and a source have an answer.
+/// Arguments and a source have an answer, where the tokens of the source's design are a tree's or have a fault of the grammar.
 pub fn some_answer()
-    ensures { (words : List (List ℕ)) (source : List ℕ) → (answer : Answer) × IsAnswer words source answer }
-{}
-
-/// A text spells one design at most, up to where the parts of its rule lie in memory.
-pub fn spells_one_design()
-    ensures { (text : List ℕ) (d e : Parts) → IsFirstForm text d → IsFirstForm text e → SameDesign d e }
+    ensures { (hosts : List HostSpec) (words : List (List ℕ)) (source : List ℕ) → IsParsed (design_part source) →
+        (answer : Answer) × IsAnswer hosts words source answer }
 {}

@@ -5,18 +5,20 @@
 #![tactic(auto)]
 
 mod answer;
-mod first_form;
 mod generator;
 mod laws;
 mod program;
+mod reads;
 mod run;
+mod shape;
 mod shown;
+mod source;
 mod status;
 mod teller;
 mod words;
 
 pub use answer::Answer;
-pub use laws::{one_answer, some_answer, spells_one_design};
+pub use laws::{one_answer, some_answer};
 pub use program::run_here;
 pub use shown::Shown;
 pub use status::Status;

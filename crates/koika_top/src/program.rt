@@ -1,10 +1,13 @@
-ghost use Rattle.std.specs.Prelude.{◌≡◌, ◌≢◌, ◌⊎◌, ◌≤◌, List, ℕ, None, Some, false, IfSome, map, string_bytes, length};
+ghost use Rattle.std.specs.Prelude.{◌≡◌, ◌≢◌, ◌⊎◌, ◌≤◌, List, ℕ, None, Some, false, true, IfSome, map, string_bytes, length};
 ghost use Rattle.std.specs.Io.KnownBytes.{Appends, IsAtEnd, Keeps};
 ghost use Rattle.kw_io.specs.Faults.{Rose};
 ghost use Rattle.koika_top.specs.Words.{command_of};
-ghost use Rattle.koika_top.specs.Answer.{AnswersSource, AppendsFront, IsAnswer, IsFailure, known_source, longest_source, reads_source, status_of, text_of, usage_line};
+ghost use Rattle.one_rule.specs.Externs.{host_specs};
+ghost use Rattle.koika_top.specs.Answer.{Answers, AppendsFront, IsAnswer, IsFailure, is_of_source, known_source, reads_source, status_of, text_of, usage_line};
 ghost use Rattle.koika_top.specs.Generator.{pipeline};
-ghost use Rattle.koika_top.specs.Steps.{Tells, status_by};
+ghost use Rattle.koika_top.specs.Sim.{AnswersSim};
+ghost use Rattle.koika_top.specs.Sources.{longest_source};
+ghost use Rattle.koika_top.specs.Steps.{HasFewStages, Makes, Tells, status_by};
 ghost use Rattle.kw_base.specs.declared.fault.Fault.{Fault as FaultRecord};
 ghost use Rattle.kw_base.specs.FaultLine.{line_of_fault};
 ghost use Rattle.koika_top.specs.declared.answer.Answer.{Answer as AnyAnswer};
@@ -12,15 +15,17 @@ ghost use Rattle.koika_top.specs.declared.answer.Answer.{Answer as AnyAnswer};
 #[cfg(test)]
 mod tests;
 
-use crate::answer::{Answer, fault_of_source, write_answer};
+use crate::answer::{Answer, write_answer, write_made};
 use crate::generator::pipeline;
+use crate::reads::{check_source, print_source};
 use crate::run::{Run, Untold};
 use crate::shown::Shown;
+use crate::source::fault_of_source;
 use crate::status::Status;
 use crate::words::{Command, command_of};
 use host_fn::HostFn;
 use kw_base::{Refusal, fault_number};
-use kw_bits::NoMemory;
+use kw_bits::{NoMemory, Text};
 use kw_io::{ReadAll, Sink, Source, read_all};
 use std::alloc::Global;
 
@@ -29,7 +34,7 @@ const LONGEST_SOURCE: usize = 1_048_576;
 
 /// Runs the program on its arguments, without the program's own name: reads the source if the arguments ask for
 /// it, and writes the answer to the sink. The clauses on content hold where the source tells
-/// which bytes it has left, or isn't read, and the sink which were written. Rules may ask the host functions.
+/// which bytes it has left, or isn't read, and the sink which were written. Designs may declare the host functions.
 pub fn run_here<S: Source, K: Sink>(
     alloc: Global,
     words: &[String],
@@ -37,9 +42,9 @@ pub fn run_here<S: Source, K: Sink>(
     source: &mut S,
     sink: &mut K,
 ) -> Status
-    // The text that is asked for was written, and nothing else; for a report or a summary the source was read to its end.
+    // The text that is asked for was written, and nothing else; the source was read to its end unless a pipeline was asked for.
     ensures done { result ≡ Status.Done → IfSome (known_source (command_of (map string_bytes words.now)) (S.left source.old)) (λ bytes. (text : List ℕ)
-        × IsAnswer (map string_bytes words.now) bytes (Answer.Written text)
+        × IsAnswer (host_specs hosts.now) (map string_bytes words.now) bytes (Answer.Written text)
         × Appends (K.written sink.old) (K.written sink.new) text) }
     ensures whole { result ≡ Status.Done → (reads_source (command_of (map string_bytes words.now)) ≡ false)
         ⊎ IfSome (S.left source.old) (λ _. IsAtEnd (S.left source.new)) }
@@ -57,7 +62,7 @@ pub fn run_here<S: Source, K: Sink>(
 
     // The line of a fault, where the source is refused, whether the source tells its bytes or not.
     ensures refused { result ≡ Status.Refused → IfSome (known_source (command_of (map string_bytes words.now)) (S.left source.old)) (λ bytes. (fault : FaultRecord)
-        × IsAnswer (map string_bytes words.now) bytes (Answer.Refused fault)
+        × IsAnswer (host_specs hosts.now) (map string_bytes words.now) bytes (Answer.Refused fault)
         × Appends (K.written sink.old) (K.written sink.new) (line_of_fault fault)) }
     ensures refused_line { result ≡ Status.Refused → (fault : FaultRecord)
         × Appends (K.written sink.old) (K.written sink.new) (line_of_fault fault) }
@@ -65,9 +70,9 @@ pub fn run_here<S: Source, K: Sink>(
     // What the answer is decides the status, unless reading or writing fails or memory runs out; and what was
     // written is the answer's text or its first bytes.
     ensures exact { IfSome (known_source (command_of (map string_bytes words.now)) (S.left source.old)) (λ bytes. (answer : AnyAnswer) →
-        IsAnswer (map string_bytes words.now) bytes answer → (result ≡ status_of answer) ⊎ IsFailure result) }
+        IsAnswer (host_specs hosts.now) (map string_bytes words.now) bytes answer → (result ≡ status_of answer) ⊎ IsFailure result) }
     ensures front { IfSome (known_source (command_of (map string_bytes words.now)) (S.left source.old)) (λ bytes. (answer : AnyAnswer) →
-        IsAnswer (map string_bytes words.now) bytes answer →
+        IsAnswer (host_specs hosts.now) (map string_bytes words.now) bytes answer →
         AppendsFront (K.written sink.old) (K.written sink.new) (text_of answer)) }
 
     // Reading or writing failed only where the count of faults rose.
@@ -87,7 +92,7 @@ fn answer_words<S: Source, K: Sink>(
     sink: &mut K,
 ) -> Status
     ensures tells { IfSome (known_source (command_of (map string_bytes words.now)) (S.left source.old)) (λ bytes.
-        Tells (IsAnswer (map string_bytes words.now) bytes) (K.written sink.old) (K.written sink.new) result) }
+        Tells (IsAnswer (host_specs hosts.now) (map string_bytes words.now) bytes) (K.written sink.old) (K.written sink.new) result) }
     ensures whole { result ≡ Status.Done → (reads_source (command_of (map string_bytes words.now)) ≡ false)
         ⊎ IfSome (S.left source.old) (λ _. IsAtEnd (S.left source.new)) }
     ensures usage { result ≡ Status.Usage → (command_of (map string_bytes words.now) ≡ None)
@@ -103,36 +108,24 @@ fn answer_words<S: Source, K: Sink>(
 {
     match command_of(words) {
         None => write_answer(alloc, &Answer::Usage, sink),
-        Some(Command::Gen { stages }) => generate(alloc, stages, sink),
-        Some(Command::Sim { cycles, shown }) => {
-            simulate(alloc, cycles, shown, hosts, source, sink)
+        Some(command) if command.reads_source() => {
+            answer_source(alloc, command, hosts, source, sink)
         }
+        Some(command) => answer_bytes(alloc, command, hosts, &[], sink),
     }
 }
 
-// Writes the pipeline design of so many stages.
-fn generate<K: Sink>(alloc: Global, stages: u32, sink: &mut K) -> Status
-    requires { stages ≤ 100 }
-    ensures tells { Tells (λ answer. answer ≡ Answer.Written (pipeline stages)) (K.written sink.old) (K.written sink.new) result }
-    ensures kinds { (result ≢ Status.Usage) × (result ≢ Status.Refused) × (result ≢ Status.ReadFault) }
-    ensures write_fault { result ≡ Status.WriteFault → Rose (K.faults sink.old) (K.faults sink.new) }
-{
-    match pipeline(alloc, stages) {
-        Ok(text) => write_answer(alloc, &Answer::Written(text), sink),
-        Err(NoMemory) => Status::NoMemory,
-    }
-}
-
-// Reads the source, runs its design and writes what is shown of the run, or the line of the source's fault.
-fn simulate<S: Source, K: Sink>(
+// Reads the source and does what the command asks for, or writes that the source is too long.
+fn answer_source<S: Source, K: Sink>(
     alloc: Global,
-    cycles: u32,
-    shown: Shown,
+    command: Command,
     hosts: &[HostFn],
     source: &mut S,
     sink: &mut K,
 ) -> Status
-    ensures tells { IfSome (S.left source.old) (λ bytes. Tells (AnswersSource cycles shown bytes) (K.written sink.old) (K.written sink.new) result) }
+    requires few { HasFewStages command }
+    requires reads { is_of_source command ≡ true }
+    ensures tells { IfSome (S.left source.old) (λ bytes. Tells (Answers (host_specs hosts.now) command bytes) (K.written sink.old) (K.written sink.new) result) }
     ensures whole { result ≡ Status.Done → IfSome (S.left source.old) (λ _. IsAtEnd (S.left source.new)) }
     ensures refused_line { result ≡ Status.Refused → (fault : FaultRecord)
         × Appends (K.written sink.old) (K.written sink.new) (line_of_fault fault) }
@@ -142,7 +135,7 @@ fn simulate<S: Source, K: Sink>(
     ensures write_fault { result ≡ Status.WriteFault → Rose (K.faults sink.old) (K.faults sink.new) }
 {
     match read_all(alloc, source, LONGEST_SOURCE) {
-        Ok(bytes) => simulate_source(alloc, cycles, shown, hosts, &bytes, sink),
+        Ok(bytes) => answer_bytes(alloc, command, hosts, &bytes, sink),
         Err(ReadAll::TooLong) => {
             let fault = fault_of_source(fault_number::SOURCE_TOO_LONG);
             write_answer(alloc, &Answer::Refused(fault), sink)
@@ -152,8 +145,40 @@ fn simulate<S: Source, K: Sink>(
     }
 }
 
-// The same for the bytes of a source.
-fn simulate_source<K: Sink>(
+// Does what the command asks for, given the bytes of the source, if it stands on one.
+fn answer_bytes<K: Sink>(
+    alloc: Global,
+    command: Command,
+    hosts: &[HostFn],
+    source: &[u8],
+    sink: &mut K,
+) -> Status
+    requires short { length source.now ≤ longest_source }
+    requires few { HasFewStages command }
+    ensures tells { Tells (Answers (host_specs hosts.now) command source.now) (K.written sink.old) (K.written sink.new) result }
+    ensures refused_line { result ≡ Status.Refused → (fault : FaultRecord)
+        × Appends (K.written sink.old) (K.written sink.new) (line_of_fault fault) }
+    ensures kinds { (result ≢ Status.Usage) × (result ≢ Status.ReadFault) }
+    ensures write_fault { result ≡ Status.WriteFault → Rose (K.faults sink.old) (K.faults sink.new) }
+{
+    match command {
+        Command::Check => write_made(alloc, check_source(alloc, hosts, source), sink),
+        Command::Print => write_made(alloc, print_source(alloc, source), sink),
+        Command::Sim { cycles, shown } => simulate(alloc, cycles, shown, hosts, source, sink),
+        Command::Gen { stages } => write_made(alloc, generate(alloc, stages), sink),
+    }
+}
+
+// The pipeline design of so many stages.
+fn generate(alloc: Global, stages: u32) -> Result<Text, Refusal>
+    requires { stages ≤ 100 }
+    ensures { Makes (λ answer. answer ≡ Answer.Written (pipeline stages)) result }
+{
+    Ok(pipeline(alloc, stages)?)
+}
+
+// Runs the design of a source and writes what is shown of the run, or the line of the source's fault.
+fn simulate<K: Sink>(
     alloc: Global,
     cycles: u32,
     shown: Shown,
@@ -162,7 +187,7 @@ fn simulate_source<K: Sink>(
     sink: &mut K,
 ) -> Status
     requires { length source.now ≤ longest_source }
-    ensures tells { Tells (AnswersSource cycles shown source.now) (K.written sink.old) (K.written sink.new) result }
+    ensures tells { Tells (AnswersSim (host_specs hosts.now) cycles shown source.now) (K.written sink.old) (K.written sink.new) result }
     ensures refused_line { result ≡ Status.Refused → (fault : FaultRecord)
         × Appends (K.written sink.old) (K.written sink.new) (line_of_fault fault) }
     ensures kinds { (result ≢ Status.Usage) × (result ≢ Status.ReadFault) }

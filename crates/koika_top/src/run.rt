@@ -1,28 +1,35 @@
-ghost use Rattle.std.specs.Prelude.{◌≡◌, ◌≤◌, IfOk, IsErrOf, OnOk, length, false};
+ghost use Rattle.std.specs.Prelude.{◌≡◌, ◌≤◌, [], IfOk, IsErrOf, OnOk, length, false};
 ghost use Rattle.std.specs.Io.KnownBytes.{Appends};
 ghost use Rattle.kw_base.specs.Fault.{IfFault};
 ghost use Rattle.kw_io.specs.Faults.{Rose};
+ghost use Rattle.koika_check.specs.Typing.{IsTypedDesign};
+ghost use Rattle.koika_lower.specs.Lowering.{IsLowered};
 ghost use Rattle.one_rule.specs.Cycle.{system_of};
-ghost use Rattle.one_rule.specs.Externs.{kept};
+ghost use Rattle.one_rule.specs.Externs.{host_specs, kept};
 ghost use Rattle.one_rule.specs.Run.{last_registers, run, run_of};
-ghost use Rattle.one_rule.specs.Stimulus.{StimulusFits, inputs_of};
-ghost use Rattle.typed_core.specs.Valid.{externs_of};
+ghost use Rattle.one_rule.specs.Stimulus.{AlwaysFits, StimulusFits, inputs_of};
+ghost use Rattle.typed_core.specs.Valid.{IsValid, externs_of};
 ghost use Rattle.typed_core.specs.Widths.{HaveWidths, register_widths};
-ghost use Rattle.stim_report.specs.Shapes.{shape_of};
-ghost use Rattle.koika_top.specs.Answer.{AppendsFront, IsRefusal, Spells, is_too_long, longest_source, text_of_rows};
-ghost use Rattle.koika_top.specs.Telling.{GoesOnFrom, TakesRows, part_of_batch, shown_by};
+ghost use Rattle.koika_top.specs.Answer.{AppendsFront};
+ghost use Rattle.koika_top.specs.Sim.{HasNoRun, Marks, is_too_long, marks_of, text_of_rows};
+ghost use Rattle.koika_top.specs.Sources.{Spells, longest_source, shape_of};
+ghost use Rattle.koika_top.specs.Systems as typed;
+ghost use Rattle.koika_top.specs.Telling.{GoesOnFrom, HasRows, TakesRows, part_of_batch, shown_by};
 
-use crate::answer::{fault_of_source, write_text};
-use crate::first_form::read_design;
+use crate::answer::write_text;
+use crate::shape::watch_of;
 use crate::shown::Shown;
+use crate::source::{fault_of_source, read_source};
 use crate::teller::Teller;
 use host_fn::HostFn;
+use koika_check::Checked;
+use koika_lower::lower;
 use kw_base::{Refusal, fault_number};
 use kw_bits::NoMemory;
 use kw_io::{Sink, WriteFault};
-use one_rule::{Externs, Regs, Stimulus, first_values};
+use one_rule::{Externs, Inputs, Regs, Stimulus, first_values};
 use std::alloc::Global;
-use stim_report::{Shape, read_stimulus, shape_of, source_parts};
+use stim_report::Shape;
 use typed_core::Design;
 
 // A run may have this many cycles, and this many register values and rule flags in the cycles of a batch.
@@ -33,16 +40,17 @@ const MOST_VALUES: usize = 4_194_304;
 // The rows of so many cycles are told together, and then given up.
 const BATCH: u32 = 256;
 
-/// A design that is ready to run, on a stimulus.
+/// A typed design and what it is lowered to, ready to run on a stimulus.
 #[derive(Drop)]
 pub(crate) struct Run {
+    checked: Checked,
     design: Design,
     externs: Externs,
     stimulus: Stimulus,
     shape: Shape,
     ghost externs_fit: { kept externs ≡ externs_of design },
     ghost stimulus_fits: { StimulusFits design stimulus },
-    ghost shape_fits: { shape ≡ shape_of design },
+    ghost shape_fits: { shape ≡ shape_of checked },
 }
 
 /// Why a run wasn't told to its end.
@@ -83,24 +91,24 @@ impl Run {
         source: &[u8],
     ) -> Result<Run, Refusal>
         requires { length source.now ≤ longest_source }
-        ensures run { IfOk result (λ run. Spells source.now run.design run.stimulus) }
-        ensures shape { IfOk result (λ run. run.shape ≡ shape_of run.design) }
-        ensures within { IfOk result (λ run. is_too_long cycles run.design ≡ false) }
-        ensures refused { IfFault result (IsRefusal cycles source.now) }
+        ensures run { IfOk result (λ run. Spells (host_specs hosts.now) source.now run.checked run.stimulus) }
+        ensures typed { IfOk result (λ run. IsTypedDesign run.checked) }
+        ensures lowered { IfOk result (λ run. IsLowered run.checked run.design) }
+        ensures within { IfOk result (λ run. is_too_long cycles run.checked ≡ false) }
+        ensures refused { IfFault result (HasNoRun (host_specs hosts.now) cycles source.now) }
     {
-        let parts = source_parts(source);
-        let design = read_design(alloc, parts.design)?;
-        let shape = shape_of(alloc, &design)?;
-        let stimulus = read_stimulus(alloc, parts.stimulus, parts.first_line, &shape)?;
-        if is_too_long(cycles, &design) {
+        let spelled = read_source(alloc, hosts, source)?;
+        if is_too_long(cycles, &spelled.design) {
             return Err(Refusal::Fault(fault_of_source(fault_number::RUN_TOO_LONG)));
         }
+        let design = lower(alloc, &spelled.design)?;
         let externs = Externs::new(alloc, &design, hosts)?;
         Ok(Run {
+            checked: spelled.design,
             design,
             externs,
-            stimulus,
-            shape,
+            stimulus: spelled.stimulus,
+            shape: spelled.shape,
         })
     }
 
@@ -112,15 +120,43 @@ impl Run {
         shown: Shown,
         sink: &mut K,
     ) -> Result<(), Untold>
-        requires { cycles ≤ 16777216 }
+        requires few { cycles ≤ 16777216 }
+        requires typed { IsTypedDesign self.now.checked }
+        requires lowered { IsLowered self.now.checked self.now.design }
         ensures all { OnOk result (Appends (K.written sink.old) (K.written sink.new)
-            (text_of_rows shown self.now.shape (run_of self.now.design (inputs_of self.now.stimulus) cycles))) }
+            (text_of_rows shown (shape_of self.now.checked) (marks_of self.now.checked) (typed.run_of self.now.checked (inputs_of self.now.stimulus) cycles))) }
         ensures front { AppendsFront (K.written sink.old) (K.written sink.new)
-            (text_of_rows shown self.now.shape (run_of self.now.design (inputs_of self.now.stimulus) cycles)) }
+            (text_of_rows shown (shape_of self.now.checked) (marks_of self.now.checked) (typed.run_of self.now.checked (inputs_of self.now.stimulus) cycles)) }
         ensures cause { IsErrOf result Untold.WriteFault → Rose (K.faults sink.old) (K.faults sink.new) }
         ensures never_falls { K.faults sink.old ≤ K.faults sink.new }
     {
-        let mut teller = Teller::new(alloc, &self.shape, shown)?;
+        is_valid(&self.design);
+        always_fits(alloc, &self.stimulus);
+        let watch = watch_of(alloc, &self.checked)?;
+        let teller = Teller::new(alloc, &self.shape, shown, watch)?;
+        self.write_rows(alloc, cycles, shown, teller, sink)
+    }
+
+    // The same with a teller that has no rows yet.
+    fn write_rows<K: Sink>(
+        &self,
+        alloc: Global,
+        cycles: u32,
+        shown: Shown,
+        mut teller: Teller,
+        sink: &mut K,
+    ) -> Result<(), Untold>
+        requires few { cycles ≤ 16777216 }
+        requires lowered { IsLowered self.now.checked self.now.design }
+        requires shown { shown_by teller ≡ shown }
+        requires none { HasRows teller self.now.shape (marks_of self.now.checked) [] }
+        ensures all { OnOk result (Appends (K.written sink.old) (K.written sink.new)
+            (text_of_rows shown self.now.shape (marks_of self.now.checked) (run_of self.now.design (inputs_of self.now.stimulus) cycles))) }
+        ensures front { AppendsFront (K.written sink.old) (K.written sink.new)
+            (text_of_rows shown self.now.shape (marks_of self.now.checked) (run_of self.now.design (inputs_of self.now.stimulus) cycles)) }
+        ensures cause { IsErrOf result Untold.WriteFault → Rose (K.faults sink.old) (K.faults sink.new) }
+        ensures never_falls { K.faults sink.old ≤ K.faults sink.new }
+    {
         let mut regs = first_values(alloc, &self.design)?;
         let mut from = cycles.min(BATCH);
         regs = self.write_batch(alloc, &regs, 0, from, &mut teller, sink)?;
@@ -143,12 +179,13 @@ impl Run {
         teller: &mut Teller,
         sink: &mut K,
     ) -> Result<Regs, Untold>
+        requires lowered { IsLowered self.now.checked self.now.design }
         requires order { from ≤ to }
         requires regs { HaveWidths (register_widths self.now.design) regs.now }
         requires goes_on { GoesOnFrom teller.old self.now.shape from }
         ensures regs { IfOk result (λ regs'. regs' ≡ last_registers regs.now (run (system_of self.now.design) (inputs_of self.now.stimulus) regs.now from to)) }
         ensures fit { IfOk result (λ regs'. HaveWidths (register_widths self.now.design) regs') }
-        ensures rows { OnOk result (TakesRows self.now.shape teller.old teller.new
+        ensures rows { OnOk result (TakesRows self.now.shape (marks_of self.now.checked) teller.old teller.new
             (run (system_of self.now.design) (inputs_of self.now.stimulus) regs.now from to)) }
         ensures all { OnOk result (Appends (K.written sink.old) (K.written sink.new)
             (part_of_batch (shown_by teller.old) self.now.shape (run (system_of self.now.design) (inputs_of self.now.stimulus) regs.now from to) from)) }
@@ -176,11 +213,26 @@ impl Run {
 }
 
 // Whether a run of the design for these cycles is longer than runs may be.
-fn is_too_long(cycles: u32, design: &Design) -> bool
+fn is_too_long(cycles: u32, design: &Checked) -> bool
+    requires { IsTypedDesign design.now }
     ensures { result ≡ is_too_long cycles design.now }
 {
     let kept = cycles.min(BATCH) as usize;
     cycles > MOST_CYCLES
-        || kept * design.regs.len() > MOST_VALUES
+        || kept * design.registers.len() > MOST_VALUES
         || kept * design.rules.len() > MOST_VALUES
+}
+
+// A stimulus has values of its widths in every cycle.
+fn always_fits(alloc: Global, stimulus: &Stimulus)
+    ensures { AlwaysFits stimulus.now }
+{
+    let _agrees = stimulus.agrees(0, &Inputs::new(alloc));
+}
+
+// A design is valid.
+fn is_valid(design: &Design)
+    ensures { IsValid design.now }
+{
+    let _registers = design.regs.len();
 }

@@ -1,30 +1,46 @@
 ghost use Rattle.std.specs.Prelude.{◌≡◌, ◌<◌, [], IfOk, OnOk, length};
+ghost use Rattle.koika_assert.specs.Violations.{watched};
+ghost use Rattle.koika_top.specs.Sim.{Marks};
+ghost use Rattle.koika_top.specs.Telling.{FormGoesOn, FormTakesRows, GoesOnFrom, HasRows, TakesRows, ending_of, ending_of_form, part_of_batch, shown_by, shown_by_form};
 ghost use Rattle.stim_report.specs.Shapes.{RowsFit};
-ghost use Rattle.koika_top.specs.Telling.{GoesOnFrom, HasRows, TakesRows, ending_of, part_of_batch, shown_by};
 
 use crate::shown::Shown;
+use koika_assert::Watch;
 use kw_bits::{NoMemory, Text};
 use one_rule::Rows;
 use std::alloc::Global;
 use stim_report::{Shape, Tally, report_part};
 
-/// What is told of a run that is made in batches: a report batch by batch, or a summary behind the last one.
+/// A report batch by batch, or a summary behind the last one.
 #[derive(Debug, Drop)]
-pub(crate) enum Teller {
+pub(crate) enum Form {
     OfReport,
     OfSummary(Tally),
 }
 
+/// What is told of a run that is made in batches, and behind the last one which marked rules fired.
+#[derive(Debug, Drop)]
+pub(crate) struct Teller {
+    form: Form,
+    watch: Watch,
+}
+
 impl Teller {
-    /// No rows yet.
-    pub(crate) fn new(alloc: Global, shape: &Shape, shown: Shown) -> Result<Teller, NoMemory>
-        ensures rows { IfOk result (λ teller. HasRows teller shape.now []) }
+    /// No rows yet, and none in the watch.
+    pub(crate) fn new(
+        alloc: Global,
+        shape: &Shape,
+        shown: Shown,
+        watch: Watch,
+    ) -> Result<Teller, NoMemory>
+        ensures rows { IfOk result (λ teller. (marks : Marks) → watch ≡ watched marks.names marks.rules [] → HasRows teller shape.now marks []) }
         ensures shown { IfOk result (λ teller. shown_by teller ≡ shown) }
     {
-        match shown {
-            Shown::Report => Ok(Teller::OfReport),
-            Shown::Summary => Ok(Teller::OfSummary(Tally::new(alloc, shape)?)),
-        }
+        let form = match shown {
+            Shown::Report => Form::OfReport,
+            Shown::Summary => Form::OfSummary(Tally::new(alloc, shape)?),
+        };
+        Ok(Teller { form, watch })
     }
 
     /// Takes the rows of a batch, which goes on from a cycle, and gives the text that tells them now.
@@ -39,24 +55,53 @@ impl Teller {
         requires some { 0 < length rows.now }
         requires fit { RowsFit shape.now rows.now }
         ensures text { IfOk result (λ text. text ≡ part_of_batch (shown_by self.old) shape.now rows.now from) }
-        ensures rows { OnOk result (TakesRows shape.now self.old self.new rows.now) }
+        ensures rows { OnOk result ((marks : Marks) → TakesRows shape.now marks self.old self.new rows.now) }
     {
-        match self {
-            Teller::OfReport => report_part(alloc, shape, rows, from),
-            Teller::OfSummary(tally) => {
-                tally.add(rows, from);
-                Ok(Text::new(alloc))
-            }
-        }
+        self.watch.add(rows, from);
+        self.form.take(alloc, shape, rows, from)
     }
 
     /// The text that tells what is left to tell behind the last batch.
     pub(crate) fn ending(&self, alloc: Global) -> Result<Text, NoMemory>
         ensures { IfOk result (λ text. text ≡ ending_of self.now) }
     {
+        let mut text = self.form.ending(alloc)?;
+        text.extend_from_slice(self.watch.text()?.as_slice())?;
+        Ok(text)
+    }
+}
+
+impl Form {
+    // Takes the rows of a batch, and gives the text that tells them now.
+    fn take(
+        &mut self,
+        alloc: Global,
+        shape: &Shape,
+        rows: &Rows,
+        from: u32,
+    ) -> Result<Text, NoMemory>
+        requires goes_on { FormGoesOn self.old shape.now from }
+        requires some { 0 < length rows.now }
+        requires fit { RowsFit shape.now rows.now }
+        ensures text { IfOk result (λ text. text ≡ part_of_batch (shown_by_form self.old) shape.now rows.now from) }
+        ensures rows { OnOk result (FormTakesRows shape.now self.old self.new rows.now) }
+    {
         match self {
-            Teller::OfReport => Ok(Text::new(alloc)),
-            Teller::OfSummary(tally) => tally.text(),
+            Form::OfReport => report_part(alloc, shape, rows, from),
+            Form::OfSummary(tally) => {
+                tally.add(rows, from);
+                Ok(Text::new(alloc))
+            }
+        }
+    }
+
+    // The text that tells what is left to tell of the form.
+    fn ending(&self, alloc: Global) -> Result<Text, NoMemory>
+        ensures { IfOk result (λ text. text ≡ ending_of_form self.now) }
+    {
+        match self {
+            Form::OfReport => Ok(Text::new(alloc)),
+            Form::OfSummary(tally) => tally.text(),
         }
     }
 }

@@ -2,17 +2,31 @@ ghost use Rattle.std.specs.Prelude.{◌≡◌, ◌≤◌, map, string_bytes, len
 ghost use Rattle.std.specs.List.{list_all};
 ghost use Rattle.std.specs.Char.{IsAsciiDigit, is_ascii_digit};
 ghost use Rattle.koika_top.specs.Steps.{HasFewStages};
-ghost use Rattle.koika_top.specs.Words.{are_few_digits, command_of, gen_of, no_options, number_of, options_of, put_number, sim_of, value_of, with_cycles, with_summary, with_word};
+ghost use Rattle.koika_top.specs.Answer.{is_of_source};
+ghost use Rattle.koika_top.specs.Words.{alone_of, are_few_digits, command_of, gen_of, no_options, number_of, options_of, put_number, sim_of, value_of, with_cycles, with_summary, with_word};
 
 use crate::shown::Shown;
 
 /// What the arguments ask for.
 #[derive(Clone, Copy, Debug, PartialEq, Eq)]
 pub enum Command {
+    /// How large the source's design is.
+    Check,
+    /// The source's design, printed.
+    Print,
     /// A run of the source's design for so many cycles.
     Sim { cycles: u32, shown: Shown },
     /// The pipeline design of so many stages.
     Gen { stages: u32 },
+}
+
+impl Command {
+    /// Whether the command's answer stands on the source.
+    pub(crate) fn reads_source(self) -> bool
+        ensures { result ≡ is_of_source self }
+    {
+        !matches!(self, Command::Gen { .. })
+    }
 }
 
 // The options of `sim` that are given.
@@ -34,9 +48,22 @@ pub(crate) fn command_of(words: &[String]) -> Option<Command>
     ensures few { IfSome result HasFewStages }
 {
     match words {
+        [command, rest @ ..] if command.as_str() == "check" => alone_of(Command::Check, rest),
+        [command, rest @ ..] if command.as_str() == "print" => alone_of(Command::Print, rest),
         [command, options @ ..] if command.as_str() == "sim" => sim_of(options),
         [command, stages @ ..] if command.as_str() == "gen" => gen_of(stages),
         _ => None,
+    }
+}
+
+// A command that takes no words.
+fn alone_of(command: Command, words: &[String]) -> Option<Command>
+    ensures { result ≡ alone_of command (map string_bytes words.now) }
+{
+    if words.is_empty() {
+        Some(command)
+    } else {
+        None
     }
 }
 

@@ -1,18 +1,12 @@
-use Rattle.std.proofs.Common.{Some, map, string_bytes, sym, ap, ◌∙◌}
-use Rattle.koika_top.specs.declared.words.Command.{Command}
-use Rattle.koika_top.specs.declared.words.Command.TheVariants.{Gen, Sim}
-use Rattle.koika_top.proofs.Commands.{tells-words}
+use Rattle.std.proofs.Common.{map, string_bytes, sym, ◌∙◌}
+use Rattle.one_rule.specs.Externs.{host_specs}
+use Rattle.koika_top.specs.Answer.{Answers}
+use Rattle.koika_top.specs.Steps.{Tells}
+use Rattle.koika_top.proofs.Commands.{read-known, tells-words}
 use Rattle.koika_top.proofs.program.answer_words.Goals as goal
 
-pub generate-requires : goal.generate-requires
-generate-requires g c = rw c.in-Some-Gen.field-0-is at c.in-Some-Gen.ensures.few
-
-pub returns-in-Some-Gen-clause-tells : goal.returns-in-Some-Gen-clause-tells
-returns-in-Some-Gen-clause-tells g c =
-    tells-words (map string_bytes c.args.words.now) (Gen c.in-Some-Gen.stages)
-    (sym (ap (λ (command : Command). Some command) c.in-Some-Gen.field-0-is) ∙ sym c.in-Some-Gen.is ∙ c.command_of.ensures.command) _ _ _ _ c.generate.ensures.tells
-
-pub returns-in-Some-Sim-clause-tells : goal.returns-in-Some-Sim-clause-tells
-returns-in-Some-Sim-clause-tells g c =
-    tells-words (map string_bytes c.args.words.now) (Sim c.in-Some-Sim.cycles c.in-Some-Sim.shown)
-    (sym (ap (λ (command : Command). Some command) c.in-Some-Sim.field-0-is) ∙ sym c.in-Some-Sim.is ∙ c.command_of.ensures.command) _ _ _ _ c.simulate.ensures.tells
+pub returns-in-Some-clause-tells : goal.returns-in-Some-clause-tells
+returns-in-Some-clause-tells g c =
+    let reads = sym c.reads_source.ensures ∙ c.if-reads_source.true in
+    tells-words (host_specs c.args.hosts.now) (map string_bytes c.args.words.now) c.in-Some.command (sym c.in-Some.is ∙ c.command_of.ensures.command) _ _ _ _
+    (read-known c.in-Some.command _ (λ bytes. Tells (Answers (host_specs c.args.hosts.now) c.in-Some.command bytes) _ _ _) reads c.answer_source.ensures.tells)

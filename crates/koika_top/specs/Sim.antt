@@ -1,0 +1,65 @@
+-- What `sim` answers to a source.
+use Rattle.std.specs.Prelude.{◌≡◌, ℕ, ◌*◌, ◌⊎◌, ◌||◌, nat_lt, min, Bool, true, false, List, [], ◌++◌, length, map, slice_index_or}
+use Rattle.kw_base.specs.declared.fault.Fault.{Fault}
+use Rattle.koika_assert.specs.Violations.{violations}
+use Rattle.koika_check.specs.declared.checked.Checked.{Checked}
+use Rattle.one_rule.specs.Stimulus.{InputVectors, inputs_of}
+use Rattle.one_rule.specs.declared.rows.Row.{Row}
+use Rattle.stim_report.specs.Report.{report}
+use Rattle.stim_report.specs.Summary.{summary}
+use Rattle.stim_report.specs.declared.shape.Shape.{Shape}
+use Rattle.typed_core.specs.declared.design.HostSpec.{HostSpec}
+use Rattle.koika_top.specs.Sources.{IsTooLong, IsUnspelled, Spells, fault_of_source, name_of, shape_of}
+use Rattle.koika_top.specs.Systems.{run_of}
+use Rattle.koika_top.specs.declared.answer.Answer.{Answer}
+use Rattle.koika_top.specs.declared.answer.Answer.TheVariants.{Usage, Refused, Written}
+use Rattle.koika_top.specs.declared.shown.Shown.{Shown}
+use Rattle.koika_top.specs.declared.shown.Shown.TheVariants.{Report, Summary}
+
+-- A run of more than 16,777,216 cycles is too long, and so is one with more than 4,194,304 register values or rule flags in
+-- 256 cycles, or in all of its cycles if they are fewer.
+abbrev pub is_too_long : ℕ → Checked → Bool
+is_too_long cycles d =
+    nat_lt 16777216 cycles || nat_lt 4194304 (min cycles 256 * length d.registers) || nat_lt 4194304 (min cycles 256 * length d.rules)
+
+-- the rules that are marked as assertions: their names and numbers, in order of the marks
+pub record Marks : Type 0 where
+  pub names : List (List ℕ)
+  pub rules : List ℕ
+
+abbrev pub marked_name : Checked → ℕ → List ℕ
+marked_name d rule = slice_index_or (map name_of d.rules) rule []
+
+abbrev pub marks_of : Checked → Marks
+marks_of d = record { names = map (marked_name d) d.asserts; rules = d.asserts }
+
+-- what is shown of rows: a report or a summary, and behind it which marked rules fired
+abbrev pub rows_text : Shown → Shape → List Row → List ℕ
+rows_text Report shape rows = report shape rows
+rows_text Summary shape rows = summary shape rows
+
+abbrev pub text_of_rows : Shown → Shape → Marks → List Row → List ℕ
+text_of_rows shown shape marks rows = rows_text shown shape rows ++ violations marks.names marks.rules rows
+
+-- 45 where the run is too long
+abbrev pub RunsTooLong : List HostSpec → ℕ → List ℕ → Fault → Type 0
+RunsTooLong hosts cycles source fault =
+    (fault ≡ fault_of_source 45) × ((design : Checked) × (stimulus : InputVectors) × Spells hosts source design stimulus × (is_too_long cycles design ≡ true))
+
+-- the source has no run of so many cycles, and this is why
+abbrev pub HasNoRun : List HostSpec → ℕ → List ℕ → Fault → Type 0
+HasNoRun hosts cycles source fault = IsUnspelled hosts source fault ⊎ RunsTooLong hosts cycles source fault
+
+-- the text shows the run of the source's design on the source's stimulus, from its first values for these cycles
+pub record ShowsRun (hosts : List HostSpec) (cycles : ℕ) (shown : Shown) (source text : List ℕ) : Type 0 where
+  pub design : Checked
+  pub stimulus : InputVectors
+  pub spelled : Spells hosts source design stimulus
+  pub within : is_too_long cycles design ≡ false
+  pub told : text ≡ text_of_rows shown (shape_of design) (marks_of design) (run_of design (inputs_of stimulus) cycles)
+
+-- the answer of `sim`
+abbrev pub AnswersSim : List HostSpec → ℕ → Shown → List ℕ → Answer → Type 0
+AnswersSim hosts cycles shown source Usage = ⊥
+AnswersSim hosts cycles shown source (Refused fault) = IsTooLong source fault ⊎ HasNoRun hosts cycles source fault
+AnswersSim hosts cycles shown source (Written text) = ShowsRun hosts cycles shown source text
