@@ -1,4 +1,4 @@
-use crate::print;
+use crate::{print, print_and_read};
 use koika_syntax::{
     BinaryOperator, Block, Constant, Declaration, Expression, Literal, Name, Number, Operand,
     Scheduler, Tree, TypeExpression, Width,
@@ -84,5 +84,12 @@ fn prints_the_counter(rt: HostRuntime) -> Result<(), Fail> {
     let want =
         b"reg count : bits 8 = 8'd0 ;\nrule incr {\nwrite0 ( count , read0 ( count ) + 8'd1 ) }\nschedule {\nincr ;\n}\n";
     assert_eq!(rt; text.as_slice(), want.as_slice());
-    Ok(())
+    match print_and_read(alloc, &tree) {
+        Ok(again) => {
+            let text = print(alloc, &again)?;
+            assert_eq!(rt; text.as_slice(), want.as_slice());
+            Ok(())
+        }
+        Err(_) => Err(Fail::from("the printed counter isn't read")),
+    }
 }
