@@ -17,9 +17,9 @@ done <<'TESTS'
 koika_syntax:bytes of a text, cut into tokens:262144:tests:a_quarter_of_a_megabyte
 koika_syntax:bytes of a text, cut into tokens:524288:tests:half_a_megabyte
 koika_syntax:bytes of a text, cut into tokens:1048576:tests:a_megabyte
-koika_parse:bytes of a chain of 250,000 operands, cut and parsed:1000021:tests:a_chain_of_250_000_operands
-koika_parse:bytes of 60,000 statements, cut and parsed:1020024:tests:sixty_thousand_statements
-koika_parse:bytes of 100,000 declarations, cut and parsed:1000012:tests:a_hundred_thousand_declarations
+syntax_tests:bytes of a chain of 250,000 operands, cut and parsed:1000021:parsing:a_chain_of_250_000_operands
+syntax_tests:bytes of 60,000 statements, cut and parsed:1020024:parsing:sixty_thousand_statements
+syntax_tests:bytes of 100,000 declarations, cut and parsed:1000012:parsing:a_hundred_thousand_declarations
 kw_base:names, each added and found:25000:tests:twenty_five_thousand_names
 kw_base:names, each added and found:50000:tests:fifty_thousand_names
 kw_base:names, each added and found:100000:tests:a_hundred_thousand_names

@@ -1,19 +1,19 @@
 #!/usr/bin/env bash
-# Measures what it costs to print a tree, for each byte of its text, by tests of koika_print that print the same tree once and
+# Measures what it costs to print a tree, for each byte of its text, by tests of syntax_tests that print the same tree once and
 # eleven times. It proves and builds the tests if need be, and is run by hand.
 set -eu
 cd "$(dirname "$0")/.."
 . bench/cost.sh
 
-program=crates/koika_print/out/koika_print_tests
+program=crates/syntax_tests/out/syntax_tests_tests
 # The kit builds tests by running them.
-[ "$program" -nt crates/koika_print/src/tests/costs.rt ] || (cd crates/koika_print && rt test >/dev/null)
+[ "$program" -nt crates/syntax_tests/src/printing/costs.rt ] || (cd crates/syntax_tests && rt test >/dev/null)
 
 echo "| what | bytes, ten texts | $of_run | $of_part for each byte, the making of the tree aside |"
 echo "|---|---|---|---|"
 while IFS=: read -r what bytes parts; do
-    start=$(cost /dev/null /dev/null "$program" "tests::costs::${parts}_are_printed_once")
-    taken=$(cost /dev/null /dev/null "$program" "tests::costs::${parts}_are_printed_eleven_times")
+    start=$(cost /dev/null /dev/null "$program" "printing::costs::${parts}_are_printed_once")
+    taken=$(cost /dev/null /dev/null "$program" "printing::costs::${parts}_are_printed_eleven_times")
     echo "| $what | $bytes | $(columns "$taken" "$start" "$bytes") |"
 done <<'PARTS'
 a sum of 250,001 operands:10000260:operands

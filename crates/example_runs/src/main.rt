@@ -6,8 +6,7 @@
 
 use koika_top::run_here;
 use kw_io::{MemSource, StdSink};
-use std::io;
-use std::fs;
+use std::{fs, io};
 
 fn main(rt: HostRuntime) -> io::Result<()> {
     for line in rt.lines(rt.alloc()) {

@@ -40,6 +40,3 @@ pub use checked::{Checked, Field, Function, Host, Input, Register, Rule, Struct,
 pub use counts::Counts;
 pub use measure::{MAX_DEPTH, MAX_WEIGHT, Measure, measure_of};
 pub use typed::{BaseType, Operation, Selection, Step, Typed, ValueType};
-
-#[cfg(test)]
-mod tests;

@@ -15,8 +15,6 @@ mod primaries;
 mod scheduler;
 mod source;
 mod stop;
-#[cfg(test)]
-mod tests;
 mod tokens;
 mod types;
 

@@ -12,8 +12,6 @@ mod primaries;
 mod printer;
 mod round_trip;
 mod scheduler;
-#[cfg(test)]
-mod tests;
 mod types;
 
 pub use printer::print;

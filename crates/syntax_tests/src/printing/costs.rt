@@ -1,7 +1,7 @@
 // What printing costs: texts of about a megabyte, each printed once and eleven times.
 
 use super::{literal, name, unscheduled};
-use crate::print;
+use koika_print::print;
 use koika_syntax::{BinaryOperator, Block, Declaration, Expression, Operand, Statement, Tree};
 use kw_bits::Sequence;
 use std::alloc::Global;

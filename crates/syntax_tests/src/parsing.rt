@@ -1,4 +1,4 @@
-use crate::parse;
+use koika_parse::parse;
 use koika_syntax::{Declaration, Expression, Tree, lex};
 use kw_base::{Fault, Refusal};
 use kw_bits::Text;

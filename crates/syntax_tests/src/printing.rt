@@ -1,4 +1,4 @@
-use crate::{print, print_and_read};
+use koika_print::{print, print_and_read};
 use koika_syntax::{
     BinaryOperator, Block, Constant, Declaration, Expression, Literal, Name, Number, Operand,
     Scheduler, Tree, TypeExpression, Width,
