@@ -16,7 +16,7 @@ use Rattle.koika_check.specs.declared.stop.Wrong.{Wrong}
 use Rattle.koika_print.specs.Printed.{printed}
 use Rattle.one_rule.specs.Stimulus.{InputVectors, inputs_of}
 use Rattle.typed_core.specs.declared.design.HostSpec.{HostSpec}
-use Rattle.koika_top.specs.Answer.{Answers, IsAnswer}
+use Rattle.koika_top.specs.Answer.{Answers, CanBeRead, IsAnswer}
 use Rattle.koika_top.specs.Generator.{pipeline}
 use Rattle.koika_top.specs.Reads.{AnswersCheck, AnswersPrint, counts_line}
 use Rattle.koika_top.specs.Sim.{AnswersSim, is_too_long, marks_of, text_of_rows}
@@ -27,7 +27,8 @@ use Rattle.koika_top.specs.declared.answer.Answer.{Answer}
 use Rattle.koika_top.specs.declared.answer.Answer.TheVariants.{Usage, Refused, Written}
 use Rattle.koika_top.specs.declared.shown.Shown.{Shown}
 use Rattle.koika_top.specs.declared.words.Command.{Command}
-use Rattle.koika_top.specs.declared.words.Command.TheVariants.{Check, Print, Sim, Gen}
+use Rattle.koika_top.specs.declared.words.Command.TheVariants.{Check, Print, Sim, Btorsim, Gen}
+use Rattle.koika_top.proofs.CircuitAnswered.{btorsim_answer}
 
 yes_or_no : (b : Bool) → (b ≡ true) ⊎ (b ≡ false)
 yes_or_no true = inl refl
@@ -123,16 +124,17 @@ module _ (hosts : List HostSpec) (source : List ℕ) (parsed : IsParsed (design_
         (spelled_or_fault short))
         (cases_lt longest_source (length source))
 
-command_answer : (hosts : List HostSpec) (command : Command) (source : List ℕ) → IsParsed (design_part source) → (answer : Answer) × Answers hosts command source answer
+command_answer : (hosts : List HostSpec) (command : Command) (source : List ℕ) → CanBeRead (Some command) source → (answer : Answer) × Answers hosts command source answer
 command_answer hosts Check source parsed = check_answer hosts source parsed
 command_answer hosts Print source parsed = print_answer hosts source parsed
 command_answer hosts (Sim cycles shown) source parsed = sim_answer hosts source parsed cycles shown
+command_answer hosts (Btorsim cycles shown) source read = btorsim_answer source cycles shown read
 command_answer hosts (Gen stages) source parsed = (Written (pipeline stages), refl)
 
-by_words : (hosts : List HostSpec) (command : Option Command) (source : List ℕ) → IsParsed (design_part source) → (answer : Answer) × MatchOption command (answer ≡ Usage) (λ c. Answers hosts c source answer)
+by_words : (hosts : List HostSpec) (command : Option Command) (source : List ℕ) → CanBeRead command source → (answer : Answer) × MatchOption command (answer ≡ Usage) (λ c. Answers hosts c source answer)
 by_words hosts None source parsed = (Usage, refl)
 by_words hosts (Some command) source parsed = command_answer hosts command source parsed
 
 -- there is an answer
-pub some_answer : (hosts : List HostSpec) (words : List (List ℕ)) (source : List ℕ) → IsParsed (design_part source) → (answer : Answer) × IsAnswer hosts words source answer
-some_answer hosts words source parsed = by_words hosts (command_of words) source parsed
+pub some_answer : (hosts : List HostSpec) (words : List (List ℕ)) (source : List ℕ) → CanBeRead (command_of words) source → (answer : Answer) × IsAnswer hosts words source answer
+some_answer hosts words source read = by_words hosts (command_of words) source read

@@ -9,9 +9,12 @@ use Rattle.kw_io.specs.Portions.{TakesAll}
 use Rattle.one_rule.specs.Stimulus.{InputVectors, inputs_of}
 use Rattle.typed_core.specs.declared.design.HostSpec.{HostSpec}
 use Rattle.koika_check.specs.declared.checked.Checked.{Checked}
-use Rattle.koika_top.specs.Answer.{Answers, AppendsFront, IsAnswer, IsFailure, TellsSome, is_of_source, known_source, status_of, text_of}
+use Rattle.koika_top.specs.Answer.{Answers, AppendsFront, IsAnswer, IsFailure, TellsSome, is_of_source, known_source, longest_of, status_of, text_of}
+use Rattle.btor2_text.specs.declared.line.Line.{Line}
+use Rattle.koika_top.specs.Btorsim as circuit
+use Rattle.koika_top.specs.Btorsim.{AnswersBtorsim, HoldsRun, shown_run}
 use Rattle.koika_top.specs.Sim.{AnswersSim, is_too_long, marks_of, text_of_rows}
-use Rattle.koika_top.specs.Sources.{IsTooLong, Spells, fault_of_source, longest_source, shape_of}
+use Rattle.koika_top.specs.Sources.{Spells, fault_of_source, shape_of}
 use Rattle.koika_top.specs.Systems.{run_of}
 use Rattle.koika_top.specs.Steps.{Tells, TellsOne, status_by}
 use Rattle.koika_top.specs.Words.{command_of}
@@ -23,8 +26,9 @@ use Rattle.koika_top.specs.declared.shown.Shown.{Shown}
 use Rattle.koika_top.specs.declared.status.Status.{Status}
 use Rattle.koika_top.specs.declared.status.Status.TheVariants as status
 use Rattle.koika_top.specs.declared.words.Command.{Command}
-use Rattle.koika_top.specs.declared.words.Command.TheVariants.{Check, Print, Sim, Gen}
+use Rattle.koika_top.specs.declared.words.Command.TheVariants.{Check, Print, Sim, Btorsim, Gen}
 use Rattle.koika_top.proofs.OneAnswer.{command_answer-same, equal-same}
+use Rattle.koika_top.proofs.OneCircuitAnswer.{btorsim-same}
 use Rattle.koika_top.proofs.Statuses.{tells_answer}
 
 -- ---- a source whose bytes may be known
@@ -74,6 +78,17 @@ tells-run hosts cycles shown source design stimulus spelled within old new r all
     (record { design = design; stimulus = stimulus; spelled = spelled; within = within; told = refl })
     (record { status = told-so mine r; all = told-all old new mine r all; front = front })
 
+-- and so of a circuit text
+pub tells-circuit-run : (cycles : ℕ) (shown : Shown) (source : List ℕ) (lines : List Line) (stimulus : InputVectors)
+    → HoldsRun source lines stimulus → circuit.is_too_long cycles lines ≡ false → (old new : Option (List ℕ)) (r : Result (Unit {0}) Untold)
+    → OnOk r (Appends old new (shown_run shown lines (inputs_of stimulus) cycles)) → AppendsFront old new (shown_run shown lines (inputs_of stimulus) cycles)
+    → Tells (AnswersBtorsim cycles shown source) old new (status_by r)
+tells-circuit-run cycles shown source lines stimulus holds within old new r all front =
+    let mine = shown_run shown lines (inputs_of stimulus) cycles in
+    tells_answer (AnswersBtorsim cycles shown source) (btorsim-same source cycles shown) old new (status_by r) (Written mine)
+    (record { lines = lines; stimulus = stimulus; holds = holds; within = within; told = refl })
+    (record { status = told-so mine r; all = told-all old new mine r all; front = front })
+
 -- ---- commands and words
 
 -- what tells the answer to a command tells the answer to the words that ask for it
@@ -98,17 +113,19 @@ pub unread-known : (command : Command) (left : Option (List ℕ)) (P : List ℕ 
 unread-known command left P reads h = subst (λ (b : Bool). IfSome (cond b left (Some [])) P) (sym reads) h
 
 -- each command that reads its source refuses one that is too long
-pub refuses-long : (hosts : List HostSpec) (command : Command) (source : List ℕ) (fault : Fault) → is_of_source command ≡ true → IsTooLong source fault → Answers hosts command source (Refused fault)
-refuses-long hosts Check source fault reads long = inl long
-refuses-long hosts Print source fault reads long = inl long
-refuses-long hosts (Sim cycles shown) source fault reads long = inl long
-refuses-long hosts (Gen stages) source fault reads long = absurd (false≢true reads)
+pub refuses-long : (hosts : List HostSpec) (command : Command) (source : List ℕ) (fault : Fault) → is_of_source command ≡ true → fault ≡ fault_of_source 40 → longest_of command < length source
+    → Answers hosts command source (Refused fault)
+refuses-long hosts Check source fault reads is long = inl (is, long)
+refuses-long hosts Print source fault reads is long = inl (is, long)
+refuses-long hosts (Sim cycles shown) source fault reads is long = inl (is, long)
+refuses-long hosts (Btorsim cycles shown) source fault reads is long = inl (is, long)
+refuses-long hosts (Gen stages) source fault reads is long = absurd (false≢true reads)
 
 pub tells-long : (hosts : List HostSpec) (command : Command) (fault : Fault) → is_of_source command ≡ true → fault ≡ fault_of_source 40 → (left old new : Option (List ℕ)) (result : Status)
-    → IfSome left (λ bytes. longest_source < length bytes) → TellsOne (Refused fault) old new result → IfSome left (λ bytes. Tells (Answers hosts command bytes) old new result)
+    → IfSome left (λ bytes. longest_of command < length bytes) → TellsOne (Refused fault) old new result → IfSome left (λ bytes. Tells (Answers hosts command bytes) old new result)
 tells-long hosts command fault reads is left old new result long told =
-    of-known (λ bytes. longest_source < length bytes) (λ bytes. Tells (Answers hosts command bytes) old new result) left
-    (λ bytes h. tells_answer (Answers hosts command bytes) (command_answer-same hosts command bytes) old new result (Refused fault) (refuses-long hosts command bytes fault reads (is, h)) told)
+    of-known (λ bytes. longest_of command < length bytes) (λ bytes. Tells (Answers hosts command bytes) old new result) left
+    (λ bytes h. tells_answer (Answers hosts command bytes) (command_answer-same hosts command bytes) old new result (Refused fault) (refuses-long hosts command bytes fault reads is h) told)
     long
 
 module _ (hosts : List HostSpec) (words : List (List ℕ)) (left old new : Option (List ℕ)) (result : Status) (tells : IfSome (known_source (command_of words) left) (λ bytes. Tells (IsAnswer hosts words bytes) old new result)) where

@@ -12,3 +12,15 @@ pub mod Lowered
 pub mod Options
 pub mod Reading
 pub mod Statuses
+pub mod Results
+pub mod Shapes
+pub mod CircuitRows
+pub mod CircuitFits
+pub mod CircuitTexts
+pub mod CircuitViolations
+pub mod Engines
+pub mod BatchesOfEngines
+pub mod OneCircuitAnswer
+pub mod CircuitAnswered
+pub mod CircuitShown
+pub mod CircuitWords

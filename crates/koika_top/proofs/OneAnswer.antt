@@ -31,18 +31,11 @@ use Rattle.koika_top.specs.declared.answer.Answer.{Answer}
 use Rattle.koika_top.specs.declared.answer.Answer.TheVariants.{Usage, Refused, Written}
 use Rattle.koika_top.specs.declared.shown.Shown.{Shown}
 use Rattle.koika_top.specs.declared.words.Command.{Command}
-use Rattle.koika_top.specs.declared.words.Command.TheVariants.{Check, Print, Sim, Gen}
+use Rattle.koika_top.specs.declared.words.Command.TheVariants.{Check, Print, Sim, Btorsim, Gen}
+use Rattle.koika_top.proofs.OneCircuitAnswer.{btorsim-same}
+use Rattle.koika_top.proofs.Results.{err-same, ok-same, ok_or_err}
 use Rattle.koika_top.proofs.SameChecked.{same_checked}
 use Rattle.koika_top.proofs.SamePrinted.{same_printed}
-
-ok-same : {X E : Type 0} (x y : X) → (r : Result X E) → r ≡ Ok x → r ≡ Ok y → x ≡ y
-ok-same x y r h k = let e : Ok x ≡ Ok y = sym h ∙ k in cc
-
-err-same : {X E : Type 0} (x y : E) (r : Result X E) → r ≡ Err x → r ≡ Err y → x ≡ y
-err-same x y r h k = let e : Err x ≡ Err y = sym h ∙ k in cc
-
-ok_or_err : {X E : Type 0} (x : X) (y : E) (r : Result X E) → r ≡ Ok x → r ≡ Err y → ⊥
-ok_or_err x y r h k = let e : Ok x ≡ Err y = sym h ∙ k in absurd cc
 
 gives-same : {X : Type 0} (x y : X) (o : Outcome X) → o ≡ Gives x → o ≡ Gives y → x ≡ y
 gives-same x y o h k = let e : Gives x ≡ Gives y = sym h ∙ k in cc
@@ -232,6 +225,7 @@ pub command_answer-same : (hosts : List HostSpec) (command : Command) (source : 
 command_answer-same hosts Check source a b h k = check-same hosts source a b h k
 command_answer-same hosts Print source a b h k = print-same source a b h k
 command_answer-same hosts (Sim cycles shown) source a b h k = sim-same hosts source cycles shown a b h k
+command_answer-same hosts (Btorsim cycles shown) source a b h k = btorsim-same source cycles shown a b h k
 command_answer-same hosts (Gen stages) source a b h k = equal-same a b (h ∙ sym k)
 
 by_words : (hosts : List HostSpec) (command : Option Command) (source : List ℕ) (a b : Answer) → MatchOption command (a ≡ Usage) (λ c. Answers hosts c source a) → MatchOption command (b ≡ Usage) (λ c. Answers hosts c source b) → IsSameAnswer a b

@@ -4,22 +4,25 @@ use Rattle.std.specs.Prelude.{◌≡◌, ℕ, ◌⊎◌, Bool, false, true, List
 use Rattle.std.specs.Io.KnownBytes.{Appends, Keeps}
 use Rattle.kw_base.specs.FaultLine.{line_of_fault}
 use Rattle.typed_core.specs.declared.design.HostSpec.{HostSpec}
+use Rattle.koika_top.specs.Btorsim.{AnswersBtorsim, IsRead, longest_circuit}
 use Rattle.koika_top.specs.Generator.{pipeline}
 use Rattle.koika_top.specs.Reads.{AnswersCheck, AnswersPrint}
 use Rattle.koika_top.specs.Sim.{AnswersSim}
+use Rattle.koika_top.specs.Sources.{IsParsed, design_part, longest_source}
 use Rattle.koika_top.specs.Words.{command_of}
 use Rattle.koika_top.specs.declared.answer.Answer.{Answer}
 use Rattle.koika_top.specs.declared.answer.Answer.TheVariants.{Usage, Refused, Written}
 use Rattle.koika_top.specs.declared.status.Status.{Status}
 use Rattle.koika_top.specs.declared.status.Status.TheVariants as status
 use Rattle.koika_top.specs.declared.words.Command.{Command}
-use Rattle.koika_top.specs.declared.words.Command.TheVariants.{Check, Print, Sim, Gen}
+use Rattle.koika_top.specs.declared.words.Command.TheVariants.{Check, Print, Sim, Btorsim, Gen}
 
 -- the answer to a command, where these host functions are handed in
 abbrev pub Answers : List HostSpec → Command → List ℕ → Answer → Type 0
 Answers hosts Check source answer = AnswersCheck hosts source answer
 Answers hosts Print source answer = AnswersPrint source answer
 Answers hosts (Sim cycles shown) source answer = AnswersSim hosts cycles shown source answer
+Answers hosts (Btorsim cycles shown) source answer = AnswersBtorsim cycles shown source answer
 Answers hosts (Gen stages) source answer = answer ≡ Written (pipeline stages)
 
 -- the answer to words and a source; where the words aren't understood it is how to use the program
@@ -34,6 +37,16 @@ is_of_source other = true
 abbrev pub reads_source : Option Command → Bool
 reads_source None = false
 reads_source (Some command) = is_of_source command
+
+-- how many bytes the source of a command may have
+abbrev pub longest_of : Command → ℕ
+longest_of (Btorsim cycles shown) = longest_circuit
+longest_of other = longest_source
+
+-- the text in front of the mark can be read as the command reads it
+abbrev pub CanBeRead : Option Command → List ℕ → Type 0
+CanBeRead (Some (Btorsim cycles shown)) source = IsRead (design_part source)
+CanBeRead other source = IsParsed (design_part source)
 
 -- what is known of the bytes that an answer stands on, where these are known of the source
 abbrev pub known_source : Option Command → Option (List ℕ) → Option (List ℕ)

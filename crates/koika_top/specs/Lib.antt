@@ -5,6 +5,11 @@ pub mod Given
 pub mod Generator
 pub mod Reads
 pub mod Sim
+pub mod Lengths
+pub mod CircuitShapes
+pub mod Btorsim
+pub mod CircuitRuns
+pub mod Engines
 pub mod Answer
 pub mod Steps
 pub mod Telling

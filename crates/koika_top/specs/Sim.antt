@@ -1,5 +1,5 @@
 -- What `sim` answers to a source.
-use Rattle.std.specs.Prelude.{◌≡◌, ℕ, ◌*◌, ◌⊎◌, ◌||◌, nat_lt, min, Bool, true, false, List, [], ◌++◌, length, map, slice_index_or}
+use Rattle.std.specs.Prelude.{◌≡◌, ℕ, ◌⊎◌, Bool, true, false, List, [], ◌++◌, length, map, slice_index_or}
 use Rattle.kw_base.specs.declared.fault.Fault.{Fault}
 use Rattle.koika_assert.specs.Violations.{violations}
 use Rattle.koika_check.specs.declared.checked.Checked.{Checked}
@@ -9,6 +9,7 @@ use Rattle.stim_report.specs.Report.{report}
 use Rattle.stim_report.specs.Summary.{summary}
 use Rattle.stim_report.specs.declared.shape.Shape.{Shape}
 use Rattle.typed_core.specs.declared.design.HostSpec.{HostSpec}
+use Rattle.koika_top.specs.Lengths as lengths
 use Rattle.koika_top.specs.Sources.{IsTooLong, IsUnspelled, Spells, fault_of_source, name_of, shape_of}
 use Rattle.koika_top.specs.Systems.{run_of}
 use Rattle.koika_top.specs.declared.answer.Answer.{Answer}
@@ -16,11 +17,9 @@ use Rattle.koika_top.specs.declared.answer.Answer.TheVariants.{Usage, Refused, W
 use Rattle.koika_top.specs.declared.shown.Shown.{Shown}
 use Rattle.koika_top.specs.declared.shown.Shown.TheVariants.{Report, Summary}
 
--- A run of more than 16,777,216 cycles is too long, and so is one with more than 4,194,304 register values or rule flags in
--- 256 cycles, or in all of its cycles if they are fewer.
+-- whether a run of the design for these cycles is longer than runs may be
 abbrev pub is_too_long : ℕ → Checked → Bool
-is_too_long cycles d =
-    nat_lt 16777216 cycles || nat_lt 4194304 (min cycles 256 * length d.registers) || nat_lt 4194304 (min cycles 256 * length d.rules)
+is_too_long cycles d = lengths.is_too_long cycles (length d.registers) (length d.rules)
 
 -- the rules that are marked as assertions: their names and numbers, in order of the marks
 pub record Marks : Type 0 where

@@ -22,6 +22,10 @@ FormGoesOn (OfSummary tally) shape from = (tally.registers ≡ shape.registers) 
 abbrev pub GoesOnFrom : Teller → Shape → ℕ → Type 0
 GoesOnFrom teller shape from = FormGoesOn teller.form shape from × (teller.watch.cycles ≡ from)
 
+-- the marks that a teller watches
+abbrev pub marks_in : Teller → Marks
+marks_in teller = record { names = teller.watch.names; rules = teller.watch.marks }
+
 -- these are the rows so far
 abbrev pub FormHasRows : Form → Shape → List Row → Type 0
 FormHasRows OfReport shape rows = ⊤

@@ -6,7 +6,7 @@ use Rattle.std.specs.Str.{bytes_eq}
 use Rattle.koika_top.specs.declared.shown.Shown.{Shown}
 use Rattle.koika_top.specs.declared.shown.Shown.TheVariants.{Report, Summary}
 use Rattle.koika_top.specs.declared.words.Command.{Command}
-use Rattle.koika_top.specs.declared.words.Command.TheVariants.{Check, Print, Sim, Gen}
+use Rattle.koika_top.specs.declared.words.Command.TheVariants.{Check, Print, Sim, Btorsim, Gen}
 use Rattle.koika_top.specs.declared.words.Options.{Options}
 
 -- the number that decimal digits write
@@ -73,6 +73,15 @@ abbrev pub sim_of : Option Options → Option Command
 sim_of None = None
 sim_of (Some options) = sim_by options.cycles options.shown
 
+-- `btorsim` with options: the cycles have to be given
+abbrev pub btorsim_by : Option ℕ → Shown → Option Command
+btorsim_by None shown = None
+btorsim_by (Some cycles) shown = Some (Btorsim cycles shown)
+
+abbrev pub btorsim_of : Option Options → Option Command
+btorsim_of None = None
+btorsim_of (Some options) = btorsim_by options.cycles options.shown
+
 -- `gen` with a number of stages from 1 to 100
 abbrev pub gen_by : Option ℕ → Option Command
 gen_by None = None
@@ -94,5 +103,6 @@ command_of (word ∷ rest) =
     if bytes_eq word (codes "check") then alone_of Check rest
     else if bytes_eq word (codes "print") then alone_of Print rest
     else if bytes_eq word (codes "sim") then sim_of (options_of rest)
+    else if bytes_eq word (codes "btorsim") then btorsim_of (options_of rest)
     else if bytes_eq word (codes "gen") then gen_of rest
     else None

@@ -3,8 +3,8 @@
 ghost use Rattle.std.specs.Prelude.{ℕ, List};
 ghost use Rattle.typed_core.specs.declared.design.HostSpec.{HostSpec};
 ghost use Rattle.koika_top.specs.declared.answer.Answer.{Answer};
-ghost use Rattle.koika_top.specs.Answer.{IsAnswer, IsSameAnswer};
-ghost use Rattle.koika_top.specs.Sources.{IsParsed, design_part};
+ghost use Rattle.koika_top.specs.Answer.{CanBeRead, IsAnswer, IsSameAnswer};
+ghost use Rattle.koika_top.specs.Words.{command_of};
 
 /// Arguments and a source have one answer at most, where the same host functions are handed in.
 pub fn one_answer()
@@ -12,8 +12,9 @@ pub fn one_answer()
         IsAnswer hosts words source a → IsAnswer hosts words source b → IsSameAnswer a b }
 {}
 
-/// Arguments and a source have an answer, where the tokens of the source's design are a tree's or have a fault of the grammar.
+/// Arguments and a source have an answer, where the tokens of the source's design are a tree's or have a fault of the grammar,
+/// and the lines of its circuit text are lines or have a fault.
 pub fn some_answer()
-    ensures { (hosts : List HostSpec) (words : List (List ℕ)) (source : List ℕ) → IsParsed (design_part source) →
+    ensures { (hosts : List HostSpec) (words : List (List ℕ)) (source : List ℕ) → CanBeRead (command_of words) source →
         (answer : Answer) × IsAnswer hosts words source answer }
 {}

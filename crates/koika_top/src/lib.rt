@@ -5,9 +5,13 @@
 #![tactic(auto)]
 
 mod answer;
+mod circuit_run;
+mod circuit_shapes;
+mod engine;
 mod generator;
 mod given;
 mod laws;
+mod lengths;
 mod program;
 mod reads;
 mod run;
@@ -15,6 +19,7 @@ mod shape;
 mod shown;
 mod source;
 mod status;
+mod tell;
 mod teller;
 mod words;
 

@@ -3,7 +3,8 @@ ghost use Rattle.std.specs.Io.KnownBytes.{Appends, IsAtEnd, Keeps};
 ghost use Rattle.kw_io.specs.Faults.{Rose};
 ghost use Rattle.koika_top.specs.Words.{command_of};
 ghost use Rattle.one_rule.specs.Externs.{host_specs};
-ghost use Rattle.koika_top.specs.Answer.{Answers, AppendsFront, IsAnswer, IsFailure, TellsSome, is_of_source, known_source, reads_source, status_of, text_of, usage_line};
+ghost use Rattle.koika_top.specs.Answer.{Answers, AppendsFront, IsAnswer, IsFailure, TellsSome, is_of_source, known_source, longest_of, reads_source, status_of, text_of, usage_line};
+ghost use Rattle.koika_top.specs.Btorsim.{AnswersBtorsim, longest_circuit};
 ghost use Rattle.koika_top.specs.Generator.{pipeline};
 ghost use Rattle.koika_top.specs.Sim.{AnswersSim};
 ghost use Rattle.koika_top.specs.Sources.{longest_source};
@@ -16,6 +17,7 @@ ghost use Rattle.koika_top.specs.declared.answer.Answer.{Answer as AnyAnswer};
 mod tests;
 
 use crate::answer::{Answer, write_answer, write_made};
+use crate::circuit_run::CircuitRun;
 use crate::generator::pipeline;
 use crate::reads::{check_source, print_source};
 use crate::run::{Run, Untold};
@@ -28,9 +30,6 @@ use kw_base::{Refusal, fault_number};
 use kw_bits::{NoMemory, Text};
 use kw_io::{ReadAll, Sink, Source, read_all};
 use std::alloc::Global;
-
-// A source may have this many bytes.
-const LONGEST_SOURCE: usize = 1_048_576;
 
 /// Runs the program on its arguments, without the program's own name: reads the source if the arguments ask for
 /// it, and writes the answer to the sink. The clauses on content hold where the source tells
@@ -140,7 +139,7 @@ fn answer_source<S: Source, K: Sink>(
     ensures nothing_written { result ≡ Status.ReadFault → Keeps (K.written sink.old) (K.written sink.new) }
     ensures write_fault { result ≡ Status.WriteFault → Rose (K.faults sink.old) (K.faults sink.new) }
 {
-    match read_all(alloc, source, LONGEST_SOURCE) {
+    match read_all(alloc, source, command.longest_source()) {
         Ok(bytes) => answer_bytes(alloc, command, hosts, &bytes, sink),
         Err(ReadAll::TooLong) => {
             let fault = fault_of_source(fault_number::SOURCE_TOO_LONG);
@@ -159,7 +158,7 @@ fn answer_bytes<K: Sink>(
     source: &[u8],
     sink: &mut K,
 ) -> Status
-    requires short { length source.now ≤ longest_source }
+    requires short { length source.now ≤ longest_of command }
     requires few { HasFewStages command }
     ensures tells { Tells (Answers (host_specs hosts.now) command source.now) (K.written sink.old) (K.written sink.new) result }
     ensures refused_line { result ≡ Status.Refused → (fault : FaultRecord)
@@ -171,6 +170,7 @@ fn answer_bytes<K: Sink>(
         Command::Check => write_made(alloc, check_source(alloc, hosts, source), sink),
         Command::Print => write_made(alloc, print_source(alloc, source), sink),
         Command::Sim { cycles, shown } => simulate(alloc, cycles, shown, hosts, source, sink),
+        Command::Btorsim { cycles, shown } => simulate_circuit(alloc, cycles, shown, source, sink),
         Command::Gen { stages } => write_made(alloc, generate(alloc, stages), sink),
     }
 }
@@ -200,6 +200,28 @@ fn simulate<K: Sink>(
     ensures write_fault { result ≡ Status.WriteFault → Rose (K.faults sink.old) (K.faults sink.new) }
 {
     match Run::read(alloc, cycles, hosts, source) {
+        Ok(run) => status_of(run.write(alloc, cycles, shown, sink)),
+        Err(Refusal::Fault(fault)) => write_answer(alloc, &Answer::Refused(fault), sink),
+        Err(Refusal::NoMemory) => Status::NoMemory,
+    }
+}
+
+// Runs the circuit text of a source and writes what is shown of the run, or the line of the source's fault.
+fn simulate_circuit<K: Sink>(
+    alloc: Global,
+    cycles: u32,
+    shown: Shown,
+    source: &[u8],
+    sink: &mut K,
+) -> Status
+    requires { length source.now ≤ longest_circuit }
+    ensures tells { Tells (AnswersBtorsim cycles shown source.now) (K.written sink.old) (K.written sink.new) result }
+    ensures refused_line { result ≡ Status.Refused → (fault : FaultRecord)
+        × Appends (K.written sink.old) (K.written sink.new) (line_of_fault fault) }
+    ensures kinds { (result ≢ Status.Usage) × (result ≢ Status.ReadFault) }
+    ensures write_fault { result ≡ Status.WriteFault → Rose (K.faults sink.old) (K.faults sink.new) }
+{
+    match CircuitRun::read(alloc, cycles, source) {
         Ok(run) => status_of(run.write(alloc, cycles, shown, sink)),
         Err(Refusal::Fault(fault)) => write_answer(alloc, &Answer::Refused(fault), sink),
         Err(Refusal::NoMemory) => Status::NoMemory,

@@ -17,6 +17,8 @@ ghost use Rattle.koika_top.specs.Systems as typed;
 ghost use Rattle.koika_top.specs.Telling.{GoesOnFrom, HasRows, TakesRows, part_of_batch, shown_by};
 
 use crate::answer::write_text;
+use crate::lengths;
+use crate::lengths::BATCH;
 use crate::shape::watch_of;
 use crate::shown::Shown;
 use crate::source::{fault_of_source, read_source};
@@ -31,14 +33,6 @@ use one_rule::{Externs, Inputs, Regs, Stimulus, first_values};
 use std::alloc::Global;
 use stim_report::Shape;
 use typed_core::Design;
-
-// A run may have this many cycles, and this many register values and rule flags in the cycles of a batch.
-const MOST_CYCLES: u32 = 16_777_216;
-
-const MOST_VALUES: usize = 4_194_304;
-
-// The rows of so many cycles are told together, and then given up.
-const BATCH: u32 = 256;
 
 /// A typed design and what it is lowered to, ready to run on a stimulus.
 #[derive(Drop)]
@@ -217,10 +211,7 @@ fn is_too_long(cycles: u32, design: &Checked) -> bool
     requires { IsTypedDesign design.now }
     ensures { result ≡ is_too_long cycles design.now }
 {
-    let kept = cycles.min(BATCH) as usize;
-    cycles > MOST_CYCLES
-        || kept * design.registers.len() > MOST_VALUES
-        || kept * design.rules.len() > MOST_VALUES
+    lengths::is_too_long(cycles, design.registers.len(), design.rules.len())
 }
 
 // A stimulus has values of its widths in every cycle.

@@ -2,8 +2,8 @@ ghost use Rattle.std.specs.Prelude.{◌≡◌, ◌≤◌, map, string_bytes, len
 ghost use Rattle.std.specs.List.{list_all};
 ghost use Rattle.std.specs.Char.{IsAsciiDigit, is_ascii_digit};
 ghost use Rattle.koika_top.specs.Steps.{HasFewStages};
-ghost use Rattle.koika_top.specs.Answer.{is_of_source};
-ghost use Rattle.koika_top.specs.Words.{alone_of, are_few_digits, command_of, gen_by, gen_of, no_options, number_of, options_of, put_number, sim_of, value_of, with_cycles, with_summary, with_word};
+ghost use Rattle.koika_top.specs.Answer.{is_of_source, longest_of};
+ghost use Rattle.koika_top.specs.Words.{alone_of, are_few_digits, btorsim_of, command_of, gen_by, gen_of, no_options, number_of, options_of, put_number, sim_of, value_of, with_cycles, with_summary, with_word};
 
 use crate::given::{read_options, read_stages};
 use crate::shown::Shown;
@@ -19,6 +19,8 @@ pub enum Command {
     Print,
     /// A run of the source's design for so many cycles.
     Sim { cycles: u32, shown: Shown },
+    /// A run of the source's circuit text for so many cycles.
+    Btorsim { cycles: u32, shown: Shown },
     /// The pipeline design of so many stages.
     Gen { stages: u32 },
 }
@@ -30,7 +32,22 @@ impl Command {
     {
         !matches!(self, Command::Gen { .. })
     }
+
+    /// How many bytes the source of the command may have.
+    pub(crate) fn longest_source(self) -> usize
+        ensures { result ≡ longest_of self }
+    {
+        match self {
+            Command::Btorsim { .. } => LONGEST_CIRCUIT,
+            _ => LONGEST_SOURCE,
+        }
+    }
 }
+
+// A source with a design may have this many bytes, and one with a circuit text this many.
+const LONGEST_SOURCE: usize = 1_048_576;
+
+const LONGEST_CIRCUIT: usize = 268_435_456;
 
 /// The options of a run that are given.
 #[derive(Clone, Copy, Debug, PartialEq, Eq)]
@@ -54,6 +71,7 @@ pub(crate) fn command_of(alloc: Global, words: &[String]) -> Result<Option<Comma
         [command, rest @ ..] if command.as_str() == "check" => Ok(alone_of(Command::Check, rest)),
         [command, rest @ ..] if command.as_str() == "print" => Ok(alone_of(Command::Print, rest)),
         [command, options @ ..] if command.as_str() == "sim" => sim_of(alloc, options),
+        [command, options @ ..] if command.as_str() == "btorsim" => btorsim_of(alloc, options),
         [command, stages @ ..] if command.as_str() == "gen" => gen_of(alloc, stages),
         _ => Ok(None),
     }
@@ -80,6 +98,23 @@ fn sim_of(alloc: Global, words: &[String]) -> Result<Option<Command>, NoMemory>
     let options = read_options(alloc, "sim", words)?;
     match options.cycles {
         Some(cycles) => Ok(Some(Command::Sim {
+            cycles,
+            shown: options.shown,
+        })),
+        None => Ok(None),
+    }
+}
+
+fn btorsim_of(alloc: Global, words: &[String]) -> Result<Option<Command>, NoMemory>
+    ensures command { IfOk result (λ command. command ≡ btorsim_of (options_of (map string_bytes words.now))) }
+    ensures few { IfOk result (λ command. IfSome command HasFewStages) }
+{
+    if !are_options(words) {
+        return Ok(None);
+    }
+    let options = read_options(alloc, "btorsim", words)?;
+    match options.cycles {
+        Some(cycles) => Ok(Some(Command::Btorsim {
             cycles,
             shown: options.shown,
         })),

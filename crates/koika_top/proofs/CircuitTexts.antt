@@ -1,0 +1,145 @@
+-- What the readers of a source found of its circuit text.
+use Rattle.std.proofs.Common.{◌≡◌, ℕ, ◌+◌, ◌≤◌, ◌<◌, ◌^◌, not, Bool, true, false, filter, List, [], ◌∷◌, map, length, All, Option, None, Some, Result, Ok, Err, inl, inr, ⊎_elim, refl, sym, ap, subst, ◌∙◌, arith}
+use Rattle.std.specs.Prelude.{IfOk, OnOk, ◌⊎◌, ◌||◌, nat_lt}
+use Rattle.std.proofs.lemmas.Bool.{ltb-false}
+use Rattle.std.proofs.lemmas.List.{length-map}
+use Rattle.std.proofs.lemmas.List.Sums.{length-filter}
+use Rattle.kw_base.specs.Fault.{IfFault}
+use Rattle.kw_base.specs.declared.fault.Fault.{Fault}
+use Rattle.kw_base.specs.declared.fault.Refusal.{Refusal}
+use Rattle.kw_base.specs.declared.fault.Refusal.TheVariants as refusals
+use Rattle.kw_bits.specs.BitVector.{BitVector}
+use Rattle.one_rule.specs.Stimulus.{InputVectors}
+use Rattle.btor2_text.specs.Reading.{AreLinesOf, IsFirstFaultOf}
+use Rattle.btor2_text.specs.declared.line.Line.{Line}
+use Rattle.btor2_model.specs.Acceptance.{first_fault}
+use Rattle.btor2_model.specs.Rules.{is_bad, is_input, is_output, is_state, rule_of}
+use Rattle.btor2_model.specs.Run.{ids_of, lines_of, width_in}
+use Rattle.btor2_model.specs.declared.rule.Rule.{Rule}
+use Rattle.btor2_net.specs.Translations.{HasLines, name_of}
+use Rattle.btor2_net.proofs.FewLines.{few-lines, filter-fewer}
+use Rattle.circuit_eval.specs.Circuits.{input_widths}
+use Rattle.circuit_eval.specs.declared.circuit.OutputWire.{OutputWire}
+use Rattle.circuit_eval.specs.declared.circuit.Wires.{Wires}
+use Rattle.koika_assert.specs.Bads.{ShowsViolations, bads_as_outputs, turned}
+use Rattle.stim_report.specs.Cuts as cuts
+use Rattle.stim_report.specs.Shapes.{widths_of}
+use Rattle.stim_report.specs.Stimuli.{after, cycles_from, stimulus_of}
+use Rattle.stim_report.specs.declared.shape.NameWidth.{NameWidth}
+use Rattle.stim_report.specs.declared.shape.Shape.{Shape}
+use Rattle.koika_top.specs.Btorsim as text
+use Rattle.koika_top.specs.Btorsim.{HasNoLines, HasNoStimulus, HasNoText, HoldsLines, HoldsText, IsRefusal, RunsTooLong, is_flag, is_too_long, longest_circuit}
+use Rattle.koika_top.specs.CircuitRuns.{HasFewLines, ShowsBads}
+use Rattle.koika_top.specs.CircuitShapes as circuit
+use Rattle.koika_top.proofs.Shapes.{inputs-count, shape-of-text, widths-told}
+
+-- a fault of a part is one of the whole
+pub fault-of-part : (P Q : Fault → Type 0) (e : Refusal) → ((fault : Fault) → P fault → Q fault) → IfFault {X = Unit {0}} (Err e) P → IfFault {X = Unit {0}} (Err e) Q
+fault-of-part P Q (refusals.Fault fault) f h = f fault h
+fault-of-part P Q refusals.NoMemory f h = tt
+
+-- ---- lines
+
+held : (source read : List ℕ) (lines : List Line) → length source ≤ longest_circuit → read ≡ (cuts.parts_of source).design → AreLinesOf read lines → HoldsLines source lines
+held source read lines short is are = record { short = short; are = subst (λ (x : List ℕ). AreLinesOf x lines) is are }
+
+-- accepted lines are the text of the source
+pub text-found : (source read : List ℕ) (lines : List Line) → length source ≤ longest_circuit → read ≡ (cuts.parts_of source).design → AreLinesOf read lines
+    → (r : Result (List Line) Refusal) → IfOk r (λ t. t ≡ lines) → OnOk r (first_fault lines ≡ None) → IfOk r (HoldsText source)
+text-found source read lines short is are (Ok t) same none = subst (HoldsText source) (sym same) (record { holds = held source read lines short is are; no_fault = none })
+text-found source read lines short is are (Err e) same none = tt
+
+-- and they are few
+pub few-found : (source read : List ℕ) (lines : List Line) → length source ≤ longest_circuit → length read ≤ length source → AreLinesOf read lines
+    → (r : Result (List Line) Refusal) → IfOk r (λ t. t ≡ lines) → IfOk r HasFewLines
+few-found source read lines short within are (Ok t) same =
+    subst HasFewLines (sym same) (λ (test : Rule → Bool). few-lines test read lines are (omega (arith, short, within)))
+few-found source read lines short within are (Err e) same = tt
+
+-- and a fault is that of the text
+pub no-text : (source read : List ℕ) (lines : List Line) → length source ≤ longest_circuit → read ≡ (cuts.parts_of source).design → AreLinesOf read lines
+    → (r : Result (List Line) Refusal) → IfFault r (λ fault. first_fault lines ≡ Some fault) → IfFault r (λ fault. HasNoLines source fault ⊎ HasNoText source fault)
+no-text source read lines short is are (Ok t) h = tt
+no-text source read lines short is are (Err (refusals.Fault fault)) h = inr (lines, held source read lines short is are, h)
+no-text source read lines short is are (Err refusals.NoMemory) h = tt
+
+-- ---- bad lines
+
+-- the text that shows violations has as few lines
+pub few-shown : (lines shown : List Line) → HasFewLines lines → shown ≡ bads_as_outputs lines → HasFewLines shown
+few-shown lines shown few is test =
+    let kept : List Line = lines_of (λ (r : Rule). not (is_output r)) lines in
+    let less = filter-fewer (λ (line : Line). test (rule_of line.keyword)) (map turned kept) in
+    let count = length-map kept turned in
+    let bound : length (lines_of test (map turned kept)) < 2 ^ 32 = omega (arith, less, count, few (λ (r : Rule). not (is_output r))) in
+    subst (λ (ls : List Line). length (lines_of test ls) < 2 ^ 32) (sym is) bound
+
+-- the circuit that shows violations has inputs of the same widths
+pub bad-widths : (lines : List Line) (c bads : Wires) → HasLines lines c → ShowsBads lines bads → input_widths c.inputs ≡ input_widths bads.inputs
+bad-widths lines c bads has shows = has.input_widths ∙ sym shows.shows.inputs ∙ sym shows.has.input_widths
+
+name-turned : (line : Line) → name_of (turned line) ≡ name_of line
+name-turned line = refl
+
+names-turned : (lines : List Line) → map name_of (map turned lines) ≡ map name_of lines
+names-turned [] = refl
+names-turned (line ∷ lines) = ap (λ (names : List (List ℕ)). name_of line ∷ names) (names-turned lines)
+
+-- and its outputs have their names
+pub bad-names : (lines : List Line) (bads : Wires) → ShowsBads lines bads → map (λ (wire : OutputWire). wire.name) bads.outputs ≡ map name_of (lines_of is_bad lines)
+bad-names lines bads shows = shows.has.outputs ∙ ap (map name_of) shows.shows.names ∙ names-turned (lines_of is_bad lines)
+
+-- ---- shapes and stimuli
+
+pub few-inputs : (lines : List Line) (c : Wires) (shape : Shape) → HasFewLines lines → HasLines lines c → shape ≡ circuit.shape_of c → length shape.inputs < 2 ^ 32
+few-inputs lines c shape few has is =
+    let count = ap (λ (s : Shape). length s.inputs) is ∙ inputs-count lines c has in
+    omega (arith, count, few is_input)
+
+pub few-registers : (lines : List Line) (shape : Shape) → HasFewLines lines → shape ≡ text.shape_of lines → length shape.registers < 2 ^ 32
+few-registers lines shape few is =
+    let named : Line → NameWidth = λ line. record { name = name_of line; width = width_in lines line.id } in
+    let count = ap (λ (s : Shape). length s.registers) is ∙ length-map (lines_of is_state lines) named in
+    omega (arith, count, few is_state)
+
+pub few-rules : (lines : List Line) (shape : Shape) → HasFewLines lines → shape ≡ text.shape_of lines → length shape.rules < 2 ^ 32
+few-rules lines shape few is =
+    let count = ap (λ (s : Shape). length s.rules) is ∙ length-map (text.flag_lines lines) name_of in
+    omega (arith, count, filter-fewer (is_flag lines) (lines_of is_output lines), few is_output)
+
+widths-after : (shape : Shape) (cycles : Result (List (List BitVector)) Fault) (stimulus : InputVectors)
+    → after cycles (λ (cycles : List (List BitVector)). Ok (record { widths = widths_of shape.inputs; cycles = cycles })) ≡ Ok stimulus → stimulus.widths ≡ widths_of shape.inputs
+widths-after shape (Ok cycles) stimulus e = sym cc
+widths-after shape (Err fault) stimulus e = absurd cc
+
+-- a stimulus has the widths of the shape's inputs
+stimulus-widths : (shape : Shape) (line : ℕ) (bytes : List ℕ) (stimulus : InputVectors) → stimulus_of shape line bytes ≡ Ok stimulus → stimulus.widths ≡ widths_of shape.inputs
+unfolding stimulus_of
+stimulus-widths shape line bytes stimulus e = widths-after shape (cycles_from shape.inputs line (cuts.lines_of bytes)) stimulus e
+
+-- and so those of the circuit's
+pub stimulus-fits : (c : Wires) (shape : Shape) (line : ℕ) (bytes : List ℕ) (stimulus : InputVectors) → shape ≡ circuit.shape_of c → stimulus_of shape line bytes ≡ Ok stimulus → stimulus.widths ≡ input_widths c.inputs
+stimulus-fits c shape line bytes stimulus is e =
+    stimulus-widths shape line bytes stimulus e ∙ ap (λ (s : Shape). widths_of s.inputs) is ∙ widths-told c.inputs
+
+-- what a source gives what has this shape is what it gives the text
+pub given-to : (source : List ℕ) (lines : List Line) (shape : Shape) (r : Result InputVectors Fault) → shape ≡ text.shape_of lines
+    → stimulus_of shape (cuts.parts_of source).first_line (cuts.parts_of source).stimulus ≡ r → text.stimulus_in source lines ≡ r
+given-to source lines shape r is given =
+    sym (ap (λ (s : Shape). stimulus_of s (cuts.parts_of source).first_line (cuts.parts_of source).stimulus) is) ∙ given
+
+-- a fault behind the text is one of the whole
+pub refused-later : {X : Type 0} (cycles : ℕ) (source : List ℕ) (r : Result X Refusal) → IfFault r (λ fault. HasNoStimulus source fault ⊎ RunsTooLong cycles source fault) → IfFault r (IsRefusal cycles source)
+refused-later cycles source (Ok x) h = tt
+refused-later cycles source (Err (refusals.Fault fault)) h = ⊎_elim (λ a. inr (inr (inr (inl a)))) (λ b. inr (inr (inr (inr b)))) h
+refused-later cycles source (Err refusals.NoMemory) h = tt
+
+-- ---- lengths
+
+or-left : (b c : Bool) → (b || c) ≡ false → b ≡ false
+or-left true c e = e
+or-left false c e = refl
+
+-- a run that isn't too long has few cycles
+pub within-few : (cycles : ℕ) (lines : List Line) → is_too_long cycles lines ≡ false → cycles ≤ 16777216
+within-few cycles lines e = ltb-false 16777216 cycles (or-left (nat_lt 16777216 cycles) _ e)

@@ -1,0 +1,85 @@
+use Rattle.std.proofs.Common.{All, inl, inr, sym, subst, ◌∙◌}
+use Rattle.std.proofs.lemmas.Result.{err_from_is_err_and}
+use Rattle.btor2_model.specs.Rules.{is_input, is_state}
+use Rattle.stim_report.specs.Shapes.{widths_of}
+use Rattle.stim_report.specs.declared.shape.Shape.{Shape}
+use Rattle.typed_core.specs.Valid.{IsWidth}
+use Rattle.koika_top.proofs.CircuitTexts.{bad-names, bad-widths, fault-of-part, few-inputs, few-registers, few-rules, given-to, stimulus-fits}
+use Rattle.koika_top.proofs.Shapes.{shape-of-text, widths-valid}
+use Rattle.koika_top.proofs.circuit_run.run_of.Goals as goal
+
+pub to_circuit-requires-clause-inputs : goal.to_circuit-requires-clause-inputs
+to_circuit-requires-clause-inputs c = c.requires.few is_input
+
+pub to_circuit-requires-clause-states : goal.to_circuit-requires-clause-states
+to_circuit-requires-clause-states c = c.requires.few is_state
+
+pub stimulus_of-requires-clause-short : goal.stimulus_of-requires-clause-short
+stimulus_of-requires-clause-short c = c.requires.text.holds.short
+
+pub stimulus_of-requires-clause-few : goal.stimulus_of-requires-clause-few
+stimulus_of-requires-clause-few c =
+    few-inputs c.args.text.now c.in_ok-circuit.circuit c.in_ok-shape.shape c.requires.few c.in_ok-circuit.ensures.lines c.in_ok-shape.ensures
+
+pub stimulus_of-requires-clause-widths : goal.stimulus_of-requires-clause-widths
+stimulus_of-requires-clause-widths c =
+    subst (λ (s : Shape). All IsWidth (widths_of s.inputs)) (sym c.in_ok-shape.ensures) (widths-valid c.in_ok-circuit.circuit.inputs c.is_valid.ensures.inputs)
+
+pub fits-requires-clause-registers : goal.fits-requires-clause-registers
+fits-requires-clause-registers c =
+    few-registers c.args.text.now c.in_ok-shape.shape c.requires.few (c.in_ok-shape.ensures ∙ shape-of-text c.args.text.now c.in_ok-circuit.circuit c.in_ok-circuit.ensures.lines)
+
+pub fits-requires-clause-rules : goal.fits-requires-clause-rules
+fits-requires-clause-rules c =
+    few-rules c.args.text.now c.in_ok-shape.shape c.requires.few (c.in_ok-shape.ensures ∙ shape-of-text c.args.text.now c.in_ok-circuit.circuit c.in_ok-circuit.ensures.lines)
+
+pub violations_of-requires : goal.violations_of-requires
+violations_of-requires c = c.requires.few
+
+pub returns-in_err-stimulus-clause-refused : goal.returns-in_err-stimulus-clause-refused
+returns-in_err-stimulus-clause-refused c =
+    let p = err_from_is_err_and c.from_residual-in_err-stimulus.result c.from_residual-in_err-stimulus.ensures.1 in
+    let shape = c.in_ok-shape.ensures ∙ shape-of-text c.args.text.now c.in_ok-circuit.circuit c.in_ok-circuit.ensures.lines in
+    rw (p.1, p.2)
+    (fault-of-part _ _ c.in_err-stimulus.field-0.0
+    (λ fault h. inl (c.args.text.now, c.requires.text, given-to c.args.source.now c.args.text.now c.in_ok-shape.shape _ shape h))
+    c.in_err-stimulus.ensures.refused)
+
+pub returns-in_err-fits-clause-refused : goal.returns-in_err-fits-clause-refused
+returns-in_err-fits-clause-refused c =
+    let p = err_from_is_err_and c.from_residual-in_err-fits.result c.from_residual-in_err-fits.ensures.1 in
+    let shape = c.in_ok-shape.ensures ∙ shape-of-text c.args.text.now c.in_ok-circuit.circuit c.in_ok-circuit.ensures.lines in
+    let given = given-to c.args.source.now c.args.text.now c.in_ok-shape.shape _ shape c.in_ok-stimulus.ensures.given in
+    rw (p.1, p.2)
+    (fault-of-part _ _ c.in_err-fits.field-0.0
+    (λ fault h. inr (h.0, (c.args.text.now, c.in_ok-stimulus.stimulus, record { text = c.requires.text; given = given }, h.1 c.args.text.now shape)))
+    c.in_err-fits.ensures.refused)
+
+pub returns-clause-run : goal.returns-clause-run
+returns-clause-run c =
+    let shape = c.in_ok-shape.ensures ∙ shape-of-text c.args.text.now c.in_ok-circuit.circuit c.in_ok-circuit.ensures.lines in
+    record { text = c.requires.text; given = given-to c.args.source.now c.args.text.now c.in_ok-shape.shape _ shape c.in_ok-stimulus.ensures.given }
+
+pub returns-clause-circuits : goal.returns-clause-circuits
+returns-clause-circuits c =
+    record {
+      has = c.in_ok-circuit.ensures.lines;
+      runs = c.in_ok-circuit.ensures.run;
+      shows = c.in_ok-bads.ensures;
+      named = c.in_ok-bad_names.ensures ∙ bad-names c.args.text.now c.in_ok-bads.bads c.in_ok-bads.ensures;
+    }
+
+pub returns-clause-within : goal.returns-clause-within
+returns-clause-within c =
+    c.in_ok-fits.ensures.within c.args.text.now (c.in_ok-shape.ensures ∙ shape-of-text c.args.text.now c.in_ok-circuit.circuit c.in_ok-circuit.ensures.lines)
+
+pub invariant_of-result-clause-shape_fits : goal.invariant_of-result-clause-shape_fits
+invariant_of-result-clause-shape_fits c = c.in_ok-shape.ensures
+
+pub invariant_of-result-clause-stimulus_fits : goal.invariant_of-result-clause-stimulus_fits
+invariant_of-result-clause-stimulus_fits c = stimulus-fits c.in_ok-circuit.circuit c.in_ok-shape.shape _ _ c.in_ok-stimulus.stimulus c.in_ok-shape.ensures c.in_ok-stimulus.ensures.given
+
+pub invariant_of-result-clause-bads_fit : goal.invariant_of-result-clause-bads_fit
+invariant_of-result-clause-bads_fit c =
+    stimulus-fits c.in_ok-circuit.circuit c.in_ok-shape.shape _ _ c.in_ok-stimulus.stimulus c.in_ok-shape.ensures c.in_ok-stimulus.ensures.given
+    ∙ bad-widths c.args.text.now c.in_ok-circuit.circuit c.in_ok-bads.bads c.in_ok-circuit.ensures.lines c.in_ok-bads.ensures

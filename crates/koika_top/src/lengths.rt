@@ -1,0 +1,20 @@
+ghost use Rattle.std.specs.Prelude.{◌≡◌, ◌<◌, ◌^◌};
+ghost use Rattle.koika_top.specs.Lengths.{is_too_long};
+
+// A run may have this many cycles, and this many register values and rule flags in the cycles of a batch.
+const MOST_CYCLES: u32 = 16_777_216;
+
+const MOST_VALUES: usize = 4_194_304;
+
+/// The rows of so many cycles are told together, and then given up.
+pub(crate) const BATCH: u32 = 256;
+
+/// Whether a run for these cycles, of a system with so many registers and rules, is longer than runs may be.
+pub(crate) fn is_too_long(cycles: u32, registers: usize, rules: usize) -> bool
+    requires registers { registers < 2 ^ 32 }
+    requires rules { rules < 2 ^ 32 }
+    ensures { result ≡ is_too_long cycles registers rules }
+{
+    let kept = cycles.min(BATCH) as usize;
+    cycles > MOST_CYCLES || kept * registers > MOST_VALUES || kept * rules > MOST_VALUES
+}
