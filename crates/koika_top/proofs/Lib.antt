@@ -24,3 +24,4 @@ pub mod OneCircuitAnswer
 pub mod CircuitAnswered
 pub mod CircuitShown
 pub mod CircuitWords
+pub mod CircuitTold
