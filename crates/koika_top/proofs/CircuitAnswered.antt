@@ -5,7 +5,7 @@ use Rattle.kw_base.specs.declared.fault.Fault.{Fault}
 use Rattle.one_rule.specs.Stimulus.{InputVectors, inputs_of}
 use Rattle.btor2_model.specs.Acceptance.{first_fault}
 use Rattle.btor2_text.specs.declared.line.Line.{Line}
-use Rattle.koika_top.specs.Btorsim.{AnswersBtorsim, HoldsLines, HoldsText, IsRead, is_too_long, longest_circuit, shown_run, stimulus_in}
+use Rattle.koika_top.specs.Btorsim.{AnswersBtorsim, HoldsLines, HoldsRun, HoldsText, IsRead, is_too_long, longest_circuit, shown_run, stimulus_in}
 use Rattle.koika_top.specs.Sources.{design_part, fault_of_source}
 use Rattle.koika_top.specs.declared.answer.Answer.{Answer}
 use Rattle.koika_top.specs.declared.answer.Answer.TheVariants.{Refused, Written}
@@ -29,7 +29,7 @@ module _ (source : List ℕ) (cycles : ℕ) (shown : Shown) where
 
   run_of : (lines : List Line) (s : InputVectors) → HoldsText source lines → stimulus_in source lines ≡ Ok s → Found
   run_of lines s text given =
-      let holds = record { text = text; given = given } in
+      let holds : HoldsRun source lines s = record { text = text; given = given } in
       ⊎_elim
       (λ long. (Refused (fault_of_source 45), inr (inr (inr (inr (refl, (lines, s, holds, long)))))))
       (λ within. (Written (shown_run shown lines (inputs_of s) cycles), record { lines = lines; stimulus = s; holds = holds; within = within; told = refl }))
