@@ -127,6 +127,22 @@ module _ (rows : ℕ → List Row) (run : AreRows rows) (shown : Shown) (shape :
   pub takes-next : (old new : Teller) (from to : ℕ) → from ≤ to → TakesRows shape marks old new (drop from (rows to)) → RowsFit shape (rows from) → HasRows old shape marks (rows from) → HasRows new shape marks (rows to)
   takes-next old new from to up takes fit has = subst (HasRows new shape marks) (rows-joined rows run from to up) (takes.rows (rows from) fit has).1
 
+  -- the same of an engine whose rows are these
+  module _ (own : ℕ → List Row) (same : own ≡ rows) where
+    pub front-next-of : (a b c : Option (List ℕ)) (from to n : ℕ) → 1 ≤ from → from ≤ to → to ≤ n → (s : Shown) → s ≡ shown → Appends a b (told_of shown shape (rows from))
+        → AppendsFront b c (part_of_batch s shape (drop from (own to)) from) → AppendsFront a c (text_of_rows shown shape marks (rows n))
+    front-next-of a b c from to n low up h s is told next =
+        front-next a b c from to n low up h s is told (subst (λ (all : ℕ → List Row). AppendsFront b c (part_of_batch s shape (drop from (all to)) from)) same next)
+
+    pub appends-next-of : (a b c : Option (List ℕ)) (from to : ℕ) → 1 ≤ from → from ≤ to → (s : Shown) → s ≡ shown → Appends a b (told_of shown shape (rows from))
+        → Appends b c (part_of_batch s shape (drop from (own to)) from) → Appends a c (told_of shown shape (rows to))
+    appends-next-of a b c from to low up s is told next =
+        appends-next a b c from to low up s is told (subst (λ (all : ℕ → List Row). Appends b c (part_of_batch s shape (drop from (all to)) from)) same next)
+
+    pub takes-next-of : (old new : Teller) (from to : ℕ) → from ≤ to → TakesRows shape marks old new (drop from (own to)) → RowsFit shape (rows from) → HasRows old shape marks (rows from) → HasRows new shape marks (rows to)
+    takes-next-of old new from to up takes fit has =
+        takes-next old new from to up (subst (λ (all : ℕ → List Row). TakesRows shape marks old new (drop from (all to))) same takes) fit has
+
   -- the ending behind all that was told
   whole : (teller : Teller) (n : ℕ) (text : List ℕ) → shown_by teller ≡ shown → HasRows teller shape marks (rows n) → text ≡ ending_of teller → told_of shown shape (rows n) ++ text ≡ text_of_rows shown shape marks (rows n)
   whole teller n text kind has is =

@@ -43,7 +43,7 @@ module _
       ap (λ (l : List ℕ). l ++ violated) rows-told
       ∙ ap (λ (l : List ℕ). rows_text shown (text.shape_of lines) (run_of lines (inputs_of stimulus) n) ++ l) (violations-told lines bads names stimulus n are.shows are.named bads_fit always)
 
-  module _ (old mid new : Option (List ℕ)) where
+  module _ (old mid : Option (List ℕ)) where
     -- the front of the rows
     pub front-of-rows : AppendsFront old mid rows → AppendsFront old mid (shown_run shown lines (inputs_of stimulus) n)
     front-of-rows front = front-of old mid _ _ whole (front-of-first old mid rows violated front)
@@ -53,10 +53,10 @@ module _
     front-rows-alone all = front-of old mid _ _ whole (front-so-far old mid rows violated all)
 
     -- all rows and the front of what stands behind them
-    pub front-of-both : (written : List ℕ) → written ≡ violated → Appends old mid rows → AppendsFront mid new written → AppendsFront old new (shown_run shown lines (inputs_of stimulus) n)
-    front-of-both written same all front =
+    pub front-of-both : (new : Option (List ℕ)) (written : List ℕ) → written ≡ violated → Appends old mid rows → AppendsFront mid new written → AppendsFront old new (shown_run shown lines (inputs_of stimulus) n)
+    front-of-both new written same all front =
         front-of old new _ _ (ap (λ (l : List ℕ). rows ++ l) (append-nil written ∙ same) ∙ whole) (front-behind old mid new rows written [] all front)
 
     -- all of it
-    pub appends-both : (written : List ℕ) → written ≡ violated → Appends old mid rows → Appends mid new written → Appends old new (shown_run shown lines (inputs_of stimulus) n)
-    appends-both written same all more = subst (Appends old new) (ap (λ (l : List ℕ). rows ++ l) same ∙ whole) (appends-twice old mid new rows written all more)
+    pub appends-both : (new : Option (List ℕ)) (written : List ℕ) → written ≡ violated → Appends old mid rows → Appends mid new written → Appends old new (shown_run shown lines (inputs_of stimulus) n)
+    appends-both new written same all more = subst (Appends old new) (ap (λ (l : List ℕ). rows ++ l) same ∙ whole) (appends-twice old mid new rows written all more)

@@ -1,6 +1,6 @@
 -- What the readers of a source found of its circuit text.
-use Rattle.std.proofs.Common.{◌≡◌, ℕ, ◌+◌, ◌≤◌, ◌<◌, ◌^◌, not, Bool, true, false, filter, List, [], ◌∷◌, map, length, All, Option, None, Some, Result, Ok, Err, inl, inr, ⊎_elim, refl, sym, ap, subst, ◌∙◌, arith}
-use Rattle.std.specs.Prelude.{IfOk, OnOk, ◌⊎◌, ◌||◌, nat_lt}
+use Rattle.std.proofs.Common.{◌≡◌, ℕ, ◌+◌, ◌≤◌, ◌<◌, ◌^◌, not, Bool, true, false, filter, List, [], ◌∷◌, map, length, All, Option, None, Some, Result, Ok, Err, inl, inr, ⊎_elim, refl, sym, ap, ap₂, subst, ◌∙◌, arith}
+use Rattle.std.specs.Prelude.{IfOk, OnOk, ◌⊎◌, ◌||◌, ◌*◌, min, nat_lt}
 use Rattle.std.proofs.lemmas.Bool.{ltb-false}
 use Rattle.std.proofs.lemmas.List.{length-map}
 use Rattle.std.proofs.lemmas.List.Sums.{length-filter}
@@ -31,6 +31,7 @@ use Rattle.koika_top.specs.Btorsim as text
 use Rattle.koika_top.specs.Btorsim.{HasNoLines, HasNoStimulus, HasNoText, HoldsLines, HoldsText, IsRefusal, RunsTooLong, is_flag, is_too_long, longest_circuit}
 use Rattle.koika_top.specs.CircuitRuns.{HasFewLines, ShowsBads}
 use Rattle.koika_top.specs.CircuitShapes as circuit
+use Rattle.koika_top.specs.Lengths as lengths
 use Rattle.koika_top.proofs.Shapes.{inputs-count, shape-of-text, widths-told}
 
 -- a fault of a part is one of the whole
@@ -142,4 +143,19 @@ or-left false c e = refl
 
 -- a run that isn't too long has few cycles
 pub within-few : (cycles : ℕ) (lines : List Line) → is_too_long cycles lines ≡ false → cycles ≤ 16777216
-within-few cycles lines e = ltb-false 16777216 cycles (or-left (nat_lt 16777216 cycles) _ e)
+within-few cycles lines e =
+    let states = nat_lt 4194304 (min cycles 256 * length (lines_of is_state lines)) in
+    let flags = nat_lt 4194304 (min cycles 256 * length (text.flag_lines lines)) in
+    ltb-false 16777216 cycles (or-left (nat_lt 16777216 cycles) states (or-left (nat_lt 16777216 cycles || states) flags e))
+
+-- a run of the shape is too long, or isn't, where one of the text is
+pub long-as : (cycles : ℕ) (lines : List Line) (shape : Shape) (long : Bool) → shape ≡ text.shape_of lines → lengths.is_too_long cycles (length shape.registers) (length shape.rules) ≡ long → is_too_long cycles lines ≡ long
+long-as cycles lines shape long is h =
+    let named : Line → NameWidth = λ line. record { name = name_of line; width = width_in lines line.id } in
+    let states = ap (λ (s : Shape). length s.registers) is ∙ length-map (lines_of is_state lines) named in
+    let flags = ap (λ (s : Shape). length s.rules) is ∙ length-map (text.flag_lines lines) name_of in
+    sym (ap₂ (lengths.is_too_long cycles) states flags) ∙ h
+
+-- the names of bad lines are few
+pub few-names : (lines : List Line) (names : List (List ℕ)) → HasFewLines lines → names ≡ map name_of (lines_of is_bad lines) → length names < 2 ^ 32
+few-names lines names few named = omega (arith, ap length named ∙ length-map (lines_of is_bad lines) name_of, few is_bad)

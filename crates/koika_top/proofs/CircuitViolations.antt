@@ -31,9 +31,10 @@ position_from-map f p q same from (x ∷ xs) = ap₂ (λ (b : Bool) (rest : Opti
 rows-one-by-one : (shown : List Line) (inputs : InputsByCycle) (n : ℕ) → rows_behind shown inputs n ≡ map (row_behind shown inputs) (range_with_len 0 n)
 rows-one-by-one shown inputs zero = refl
 rows-one-by-one shown inputs (suc n) =
+    let on : n + 1 ≡ suc n = omega arith in
     ap (λ (rows : List Row). rows ++ row_behind shown inputs n ∷ []) (rows-one-by-one shown inputs n)
-    ∙ sym (map-range_with_len_more (row_behind shown inputs) 0 n n refl)
-    ∙ ap (λ (k : ℕ). map (row_behind shown inputs) (range_with_len 0 k)) (omega arith)
+    ∙ sym (map-range_with_len_more (row_behind shown inputs) 0 n n (omega arith))
+    ∙ ap (λ (k : ℕ). map (row_behind shown inputs) (range_with_len 0 k)) on
 
 at-seam : (v : Line → Bool) (front back : List Line) (bad : Line) → slice_index_or (map v (front ++ bad ∷ back)) (length front) false ≡ v bad
 at-seam v [] back bad = refl

@@ -28,3 +28,4 @@ pub mod OneCircuitAnswer
 pub mod CircuitAnswered
 pub mod CircuitShown
 pub mod CircuitWords
+pub mod CircuitTold

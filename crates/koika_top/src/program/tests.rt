@@ -1,3 +1,5 @@
+mod circuits;
+
 use crate::{Status, run_here};
 use kw_bits::NoMemory;
 use kw_io::{MemSink, MemSource};

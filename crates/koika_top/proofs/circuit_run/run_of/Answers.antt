@@ -1,10 +1,12 @@
-use Rattle.std.proofs.Common.{All, inl, inr, sym, subst, ◌∙◌}
+use Rattle.std.proofs.Common.{All, inl, inr, map, sym, ap, subst, ◌∙◌}
 use Rattle.std.proofs.lemmas.Result.{err_from_is_err_and}
 use Rattle.btor2_model.specs.Rules.{is_input, is_state}
+use Rattle.circuit_eval.specs.declared.circuit.OutputWire.{OutputWire}
+use Rattle.circuit_eval.specs.declared.circuit.Wires.{Wires}
 use Rattle.stim_report.specs.Shapes.{widths_of}
 use Rattle.stim_report.specs.declared.shape.Shape.{Shape}
 use Rattle.typed_core.specs.Valid.{IsWidth}
-use Rattle.koika_top.proofs.CircuitTexts.{bad-names, bad-widths, fault-of-part, few-inputs, few-registers, few-rules, given-to, stimulus-fits}
+use Rattle.koika_top.proofs.CircuitTexts.{bad-names, bad-widths, fault-of-part, few-inputs, few-names, few-registers, few-rules, given-to, long-as, stimulus-fits}
 use Rattle.koika_top.proofs.Shapes.{shape-of-text, widths-valid}
 use Rattle.koika_top.proofs.circuit_run.run_of.Goals as goal
 
@@ -52,7 +54,7 @@ returns-in_err-fits-clause-refused c =
     let given = given-to c.args.source.now c.args.text.now c.in_ok-shape.shape _ shape c.in_ok-stimulus.ensures.given in
     rw (p.1, p.2)
     (fault-of-part _ _ c.in_err-fits.field-0.0
-    (λ fault h. inr (h.0, (c.args.text.now, c.in_ok-stimulus.stimulus, record { text = c.requires.text; given = given }, h.1 c.args.text.now shape)))
+    (λ fault h. inr (h.0, (c.args.text.now, c.in_ok-stimulus.stimulus, record { text = c.requires.text; given = given }, long-as c.args.cycles c.args.text.now c.in_ok-shape.shape _ shape h.1)))
     c.in_err-fits.ensures.refused)
 
 pub returns-clause-run : goal.returns-clause-run
@@ -66,12 +68,13 @@ returns-clause-circuits c =
       has = c.in_ok-circuit.ensures.lines;
       runs = c.in_ok-circuit.ensures.run;
       shows = c.in_ok-bads.ensures;
-      named = c.in_ok-bad_names.ensures ∙ bad-names c.args.text.now c.in_ok-bads.bads c.in_ok-bads.ensures;
+      named = c.in_ok-bad_names.ensures ∙ ap (map (λ (wire : OutputWire). wire.name)) (c.as_slice.ensures ∙ ap (λ (wires : Wires). wires.outputs) c.bads.view_is) ∙ bad-names c.args.text.now c.in_ok-bads.bads c.in_ok-bads.ensures;
     }
 
 pub returns-clause-within : goal.returns-clause-within
 returns-clause-within c =
-    c.in_ok-fits.ensures.within c.args.text.now (c.in_ok-shape.ensures ∙ shape-of-text c.args.text.now c.in_ok-circuit.circuit c.in_ok-circuit.ensures.lines)
+    long-as c.args.cycles c.args.text.now c.in_ok-shape.shape _ (c.in_ok-shape.ensures ∙ shape-of-text c.args.text.now c.in_ok-circuit.circuit c.in_ok-circuit.ensures.lines)
+    c.in_ok-fits.ensures.within
 
 pub invariant_of-result-clause-shape_fits : goal.invariant_of-result-clause-shape_fits
 invariant_of-result-clause-shape_fits c = c.in_ok-shape.ensures
@@ -83,3 +86,8 @@ pub invariant_of-result-clause-bads_fit : goal.invariant_of-result-clause-bads_f
 invariant_of-result-clause-bads_fit c =
     stimulus-fits c.in_ok-circuit.circuit c.in_ok-shape.shape _ _ c.in_ok-stimulus.stimulus c.in_ok-shape.ensures c.in_ok-stimulus.ensures.given
     ∙ bad-widths c.args.text.now c.in_ok-circuit.circuit c.in_ok-bads.bads c.in_ok-circuit.ensures.lines c.in_ok-bads.ensures
+
+pub invariant_of-result-clause-few_bads : goal.invariant_of-result-clause-few_bads
+invariant_of-result-clause-few_bads c =
+    few-names c.args.text.now _ c.requires.few
+    (c.in_ok-bad_names.ensures ∙ ap (map (λ (wire : OutputWire). wire.name)) (c.as_slice.ensures ∙ ap (λ (wires : Wires). wires.outputs) c.bads.view_is) ∙ bad-names c.args.text.now c.in_ok-bads.bads c.in_ok-bads.ensures)

@@ -1,12 +1,10 @@
-use Rattle.std.proofs.Common.{◌≡◌, ◌≤◌, ℕ, List, [], drop, refl, sym, ap, subst, ◌∙◌, arith}
-use Rattle.std.specs.Io.KnownBytes.{Appends}
+use Rattle.std.proofs.Common.{◌≤◌, ℕ, List, [], refl, sym, subst, ◌∙◌, arith}
 use Rattle.one_rule.specs.declared.rows.Row.{Row}
 use Rattle.stim_report.specs.Shapes.{RowsFit}
-use Rattle.koika_top.specs.Answer.{AppendsFront}
 use Rattle.koika_top.specs.Engines.{AreRows}
-use Rattle.koika_top.specs.Telling.{TakesRows, marks_in, part_of_batch, shown_by}
+use Rattle.koika_top.specs.Telling.{marks_in, shown_by}
 use Rattle.koika_top.proofs.Batches.{begun, goes-on}
-use Rattle.koika_top.proofs.BatchesOfEngines.{appends-ending, appends-first, appends-next, front-ending, front-first, front-next, front-told, last_cycle-rows, takes-first, takes-next}
+use Rattle.koika_top.proofs.BatchesOfEngines.{appends-ending, appends-first, appends-next-of, front-ending, front-first, front-next-of, front-told, last_cycle-rows, takes-first, takes-next-of}
 use Rattle.koika_top.proofs.tell.tell.Goals as goal
 
 pub tell_batch-requires-clause-goes_on : goal.tell_batch-requires-clause-goes_on
@@ -31,16 +29,15 @@ tell_batch-requires-in-loop-from-clause-goes_on g c =
 pub returns-in_err-tell_batch-2-clause-front : goal.returns-in_err-tell_batch-2-clause-front
 returns-in_err-tell_batch-2-clause-front g c =
     let invariant = c.loop-from.invariant in
-    let front = subst (λ (rows : ℕ → List Row). AppendsFront _ _ (part_of_batch (shown_by c.loop-from.teller) c.args.shape.now (drop c.loop-from.from (rows c.min-to.result)) c.loop-from.from)) invariant.run c.tell_batch-in-loop-from.ensures.front in
-    front-next (g.E.Engine.rows_to c.args.engine.now) c.requires.run (shown_by c.args.teller) c.args.shape.now (marks_in c.args.teller) _ _ _ c.loop-from.from c.min-to.result c.args.cycles
+    front-next-of (g.E.Engine.rows_to c.args.engine.now) c.requires.run (shown_by c.args.teller) c.args.shape.now (marks_in c.args.teller) _ invariant.run _ _ _ c.loop-from.from c.min-to.result c.args.cycles
     (begun _ _ invariant.none c.loop-from-test.true) (omega (arith, c.min-to.ensures, c.loop-from-test.true)) (omega (arith, c.min-to.ensures))
-    _ invariant.kind invariant.sink front
+    _ invariant.kind invariant.sink c.tell_batch-in-loop-from.ensures.front
 
-pub loop-from-initial : goal.loop-from-initial
-loop-from-initial g c =
+pub loop-from-init : goal.loop-from-init
+loop-from-init g c =
     let rows = g.E.Engine.rows_to c.args.engine.now in
     record {
-      kind = c.in_ok-tell_batch.ensures.rows (marks_in c.args.teller) .same;
+      kind = (c.in_ok-tell_batch.ensures.rows (marks_in c.args.teller)).same;
       has = takes-first rows c.requires.run (shown_by c.args.teller) c.args.shape.now (marks_in c.args.teller) _ _ c.min-from.result (c.in_ok-tell_batch.ensures.rows (marks_in c.args.teller)) c.requires.none;
       run = c.in_ok-tell_batch.ensures.same;
       at = c.in_ok-tell_batch.ensures.at;
@@ -59,15 +56,13 @@ loop-from-preserved g c =
     let marks = marks_in c.args.teller in
     let low : 1 ≤ c.loop-from.from = begun _ _ invariant.none c.loop-from-test.true in
     let up : c.loop-from.from ≤ c.min-to.result = omega (arith, c.min-to.ensures, c.loop-from-test.true) in
-    let takes = subst (λ (rs : ℕ → List Row). TakesRows c.args.shape.now marks c.loop-from.teller _ (drop c.loop-from.from (rs c.min-to.result))) invariant.run (c.in_ok-tell_batch-2.ensures.rows marks) in
-    let all = subst (λ (rs : ℕ → List Row). Appends _ _ (part_of_batch (shown_by c.loop-from.teller) c.args.shape.now (drop c.loop-from.from (rs c.min-to.result)) c.loop-from.from)) invariant.run c.in_ok-tell_batch-2.ensures.all in
     record {
-      kind = takes.same ∙ invariant.kind;
-      has = takes-next rows c.requires.run shown c.args.shape.now marks _ _ c.loop-from.from c.min-to.result up takes (c.requires.fit c.loop-from.from) invariant.has;
+      kind = (c.in_ok-tell_batch-2.ensures.rows marks).same ∙ invariant.kind;
+      has = takes-next-of rows c.requires.run shown c.args.shape.now marks _ invariant.run _ _ c.loop-from.from c.min-to.result up (c.in_ok-tell_batch-2.ensures.rows marks) (c.requires.fit c.loop-from.from) invariant.has;
       run = c.in_ok-tell_batch-2.ensures.same ∙ invariant.run;
       at = c.in_ok-tell_batch-2.ensures.at;
       stands = c.in_ok-tell_batch-2.ensures.stands;
-      sink = appends-next rows c.requires.run shown c.args.shape.now marks _ _ _ c.loop-from.from c.min-to.result low up _ invariant.kind invariant.sink all;
+      sink = appends-next-of rows c.requires.run shown c.args.shape.now marks _ invariant.run _ _ _ c.loop-from.from c.min-to.result low up _ invariant.kind invariant.sink c.in_ok-tell_batch-2.ensures.all;
       none = λ e. absurd (omega (arith, e, low, up));
       order = omega (arith, c.min-to.ensures);
       never_falls = omega (arith, invariant.never_falls, c.tell_batch-in-loop-from.ensures.never_falls);
