@@ -1,7 +1,7 @@
 -- Words and a source have an answer, where the source's tokens are a tree's or have a fault of the grammar.
 use Rattle.std.proofs.Common.{◌≡◌, ◌⊎◌, ◌≤◌, ℕ, Bool, true, false, List, length, Option, Some, None, Result, Ok, Err, refl, inl, inr, ⊎_elim}
 use Rattle.std.specs.Prelude.{MatchOption}
-use Rattle.std.proofs.lemmas.Bool.{cases_lt}
+use Rattle.std.proofs.lemmas.Bool.{cases_lt, false≢true}
 use Rattle.kw_base.specs.Fault.{fault_at}
 use Rattle.kw_base.specs.Place.{place_at}
 use Rattle.kw_base.specs.declared.fault.Fault.{Fault}
@@ -16,7 +16,8 @@ use Rattle.koika_check.specs.declared.stop.Wrong.{Wrong}
 use Rattle.koika_print.specs.Printed.{printed}
 use Rattle.one_rule.specs.Stimulus.{InputVectors, inputs_of}
 use Rattle.typed_core.specs.declared.design.HostSpec.{HostSpec}
-use Rattle.koika_top.specs.Answer.{Answers, CanBeRead, IsAnswer}
+use Rattle.koika_top.specs.Answer.{Answers, CanBeRead, IsAnswer, has_one_text}
+use Rattle.koika_top.specs.Compile.{AnswersCompile}
 use Rattle.koika_top.specs.Generator.{pipeline}
 use Rattle.koika_top.specs.Reads.{AnswersCheck, AnswersPrint, counts_line}
 use Rattle.koika_top.specs.Sim.{AnswersSim, is_too_long, marks_of, text_of_rows}
@@ -27,7 +28,7 @@ use Rattle.koika_top.specs.declared.answer.Answer.{Answer}
 use Rattle.koika_top.specs.declared.answer.Answer.TheVariants.{Usage, Refused, Written}
 use Rattle.koika_top.specs.declared.shown.Shown.{Shown}
 use Rattle.koika_top.specs.declared.words.Command.{Command}
-use Rattle.koika_top.specs.declared.words.Command.TheVariants.{Check, Print, Sim, Btorsim, Gen}
+use Rattle.koika_top.specs.declared.words.Command.TheVariants.{Check, Print, Sim, Compile, Btorsim, Gen}
 use Rattle.koika_top.proofs.CircuitAnswered.{btorsim_answer}
 
 yes_or_no : (b : Bool) → (b ≡ true) ⊎ (b ≡ false)
@@ -124,17 +125,27 @@ module _ (hosts : List HostSpec) (source : List ℕ) (parsed : IsParsed (design_
         (spelled_or_fault short))
         (cases_lt longest_source (length source))
 
-command_answer : (hosts : List HostSpec) (command : Command) (source : List ℕ) → CanBeRead (Some command) source → (answer : Answer) × Answers hosts command source answer
-command_answer hosts Check source parsed = check_answer hosts source parsed
-command_answer hosts Print source parsed = print_answer hosts source parsed
-command_answer hosts (Sim cycles shown) source parsed = sim_answer hosts source parsed cycles shown
-command_answer hosts (Btorsim cycles shown) source read = btorsim_answer source cycles shown read
-command_answer hosts (Gen stages) source parsed = (Written (pipeline stages), refl)
+command_answer : (hosts : List HostSpec) (command : Command) (source : List ℕ) → has_one_text (Some command) ≡ true → CanBeRead (Some command) source → (answer : Answer) × Answers hosts command source answer
+command_answer hosts Check source one parsed = check_answer hosts source parsed
+command_answer hosts Print source one parsed = print_answer hosts source parsed
+command_answer hosts (Sim cycles shown) source one parsed = sim_answer hosts source parsed cycles shown
+command_answer hosts (Btorsim cycles shown) source one read = btorsim_answer source cycles shown read
+command_answer hosts Compile source one parsed = absurd (false≢true one)
+command_answer hosts (Gen stages) source one parsed = (Written (pipeline stages), refl)
 
-by_words : (hosts : List HostSpec) (command : Option Command) (source : List ℕ) → CanBeRead command source → (answer : Answer) × MatchOption command (answer ≡ Usage) (λ c. Answers hosts c source answer)
-by_words hosts None source parsed = (Usage, refl)
-by_words hosts (Some command) source parsed = command_answer hosts command source parsed
+by_words : (hosts : List HostSpec) (command : Option Command) (source : List ℕ) → has_one_text command ≡ true → CanBeRead command source → (answer : Answer) × MatchOption command (answer ≡ Usage) (λ c. Answers hosts c source answer)
+by_words hosts None source one parsed = (Usage, refl)
+by_words hosts (Some command) source one parsed = command_answer hosts command source one parsed
 
 -- there is an answer
-pub some_answer : (hosts : List HostSpec) (words : List (List ℕ)) (source : List ℕ) → CanBeRead (command_of words) source → (answer : Answer) × IsAnswer hosts words source answer
-some_answer hosts words source read = by_words hosts (command_of words) source read
+pub some_answer : (hosts : List HostSpec) (words : List (List ℕ)) (source : List ℕ) → has_one_text (command_of words) ≡ true → CanBeRead (command_of words) source → (answer : Answer) × IsAnswer hosts words source answer
+some_answer hosts words source one read = by_words hosts (command_of words) source one read
+
+-- a source is refused by `compile`, or spells what a circuit can be written of
+pub some_circuit : (hosts : List HostSpec) (source : List ℕ) → IsParsed (design_part source)
+    → ((fault : Fault) × AnswersCompile hosts source (Refused fault)) ⊎ ((design : Checked) × (stimulus : InputVectors) × Spells hosts source design stimulus)
+some_circuit hosts source parsed =
+    ⊎_elim
+    (λ long. inl (fault_of_source 40, inl (refl, long)))
+    (λ short. ⊎_elim (λ found. inr found) (λ wrong. inl (wrong.0, inr wrong.1)) (spelled_or_fault hosts source parsed short))
+    (cases_lt longest_source (length source))

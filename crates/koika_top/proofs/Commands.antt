@@ -9,7 +9,7 @@ use Rattle.kw_io.specs.Portions.{TakesAll}
 use Rattle.one_rule.specs.Stimulus.{InputVectors, inputs_of}
 use Rattle.typed_core.specs.declared.design.HostSpec.{HostSpec}
 use Rattle.koika_check.specs.declared.checked.Checked.{Checked}
-use Rattle.koika_top.specs.Answer.{Answers, AppendsFront, IsAnswer, IsFailure, TellsSome, is_of_source, known_source, longest_of, status_of, text_of}
+use Rattle.koika_top.specs.Answer.{Answers, AppendsFront, IsAnswer, IsFailure, TellsSome, has_one_text, is_of_source, known_source, longest_of, status_of, text_of}
 use Rattle.btor2_text.specs.declared.line.Line.{Line}
 use Rattle.koika_top.specs.Btorsim as circuit
 use Rattle.koika_top.specs.Btorsim.{AnswersBtorsim, HoldsRun, shown_run}
@@ -26,10 +26,10 @@ use Rattle.koika_top.specs.declared.shown.Shown.{Shown}
 use Rattle.koika_top.specs.declared.status.Status.{Status}
 use Rattle.koika_top.specs.declared.status.Status.TheVariants as status
 use Rattle.koika_top.specs.declared.words.Command.{Command}
-use Rattle.koika_top.specs.declared.words.Command.TheVariants.{Check, Print, Sim, Btorsim, Gen}
-use Rattle.koika_top.proofs.OneAnswer.{command_answer-same, equal-same}
+use Rattle.koika_top.specs.declared.words.Command.TheVariants.{Check, Print, Sim, Compile, Btorsim, Gen}
+use Rattle.koika_top.proofs.OneAnswer.{command_answer-same, equal-same, one_answer, same-like}
 use Rattle.koika_top.proofs.OneCircuitAnswer.{btorsim-same}
-use Rattle.koika_top.proofs.Statuses.{tells_answer}
+use Rattle.koika_top.proofs.Statuses.{front-of-some, tells_answer}
 
 -- ---- a source whose bytes may be known
 
@@ -85,7 +85,7 @@ pub tells-circuit-run : (cycles : ℕ) (shown : Shown) (source : List ℕ) (line
     → Tells (AnswersBtorsim cycles shown source) old new (status_by r)
 tells-circuit-run cycles shown source lines stimulus holds within old new r all front =
     let mine = shown_run shown lines (inputs_of stimulus) cycles in
-    tells_answer (AnswersBtorsim cycles shown source) (btorsim-same source cycles shown) old new (status_by r) (Written mine)
+    tells_answer (AnswersBtorsim cycles shown source) (λ a b h k. same-like a b (btorsim-same source cycles shown a b h k)) old new (status_by r) (Written mine)
     (record { lines = lines; stimulus = stimulus; holds = holds; within = within; told = refl })
     (record { status = told-so mine r; all = told-all old new mine r all; front = front })
 
@@ -103,7 +103,7 @@ pub tells-usage : (hosts : List HostSpec) (words : List (List ℕ)) → command_
     → IfSome (known_source (command_of words) left) (λ bytes. Tells (IsAnswer hosts words bytes) old new result)
 tells-usage hosts words e left old new result told =
     subst (λ (asked : Option Command). IfSome (known_source asked left) (λ bytes. Tells (λ answer. MatchOption asked (answer ≡ Usage) (λ c. Answers hosts c bytes answer)) old new result)) (sym e)
-    (tells_answer (λ answer. answer ≡ Usage) (λ a b h k. equal-same a b (h ∙ sym k)) old new result Usage refl told)
+    (tells_answer (λ answer. answer ≡ Usage) (λ a b h k. same-like a b (equal-same a b (h ∙ sym k))) old new result Usage refl told)
 
 -- what is known of the source of a command that reads it, and of one that doesn't
 pub read-known : (command : Command) (left : Option (List ℕ)) (P : List ℕ → Type 0) → is_of_source command ≡ true → IfSome left P → IfSome (known_source (Some command) left) P
@@ -119,6 +119,7 @@ refuses-long hosts Check source fault reads is long = inl (is, long)
 refuses-long hosts Print source fault reads is long = inl (is, long)
 refuses-long hosts (Sim cycles shown) source fault reads is long = inl (is, long)
 refuses-long hosts (Btorsim cycles shown) source fault reads is long = inl (is, long)
+refuses-long hosts Compile source fault reads is long = inl (is, long)
 refuses-long hosts (Gen stages) source fault reads is long = absurd (false≢true reads)
 
 pub tells-long : (hosts : List HostSpec) (command : Command) (fault : Fault) → is_of_source command ≡ true → fault ≡ fault_of_source 40 → (left old new : Option (List ℕ)) (result : Status)
@@ -138,8 +139,10 @@ module _ (hosts : List HostSpec) (words : List (List ℕ)) (left old new : Optio
   pub exact-of : IfSome (known_source (command_of words) left) (λ bytes. (answer : Answer) → IsAnswer hosts words bytes answer → (result ≡ status_of answer) ⊎ IsFailure result)
   exact-of = of-known (λ bytes. Tells (IsAnswer hosts words bytes) old new result) _ (known_source (command_of words) left) (λ bytes t. t.exact) tells
 
-  pub front-of-each : IfSome (known_source (command_of words) left) (λ bytes. (answer : Answer) → IsAnswer hosts words bytes answer → AppendsFront old new (text_of answer))
-  front-of-each = of-known (λ bytes. Tells (IsAnswer hosts words bytes) old new result) _ (known_source (command_of words) left) (λ bytes t. t.front) tells
+  pub front-of-each : has_one_text (command_of words) ≡ true → IfSome (known_source (command_of words) left) (λ bytes. (answer : Answer) → IsAnswer hosts words bytes answer → AppendsFront old new (text_of answer))
+  front-of-each one =
+      of-known (λ bytes. Tells (IsAnswer hosts words bytes) old new result) _ (known_source (command_of words) left)
+      (λ bytes t. front-of-some (IsAnswer hosts words bytes) (λ a b h k. one_answer hosts words bytes a b one h k) old new result t.some) tells
 
   pub some-of : IfSome (known_source (command_of words) left) (λ bytes. TellsSome (IsAnswer hosts words bytes) old new result)
   some-of = of-known (λ bytes. Tells (IsAnswer hosts words bytes) old new result) _ (known_source (command_of words) left) (λ bytes t. t.some) tells

@@ -4,11 +4,15 @@ pub mod SensesOfExpressions
 pub mod SameChecked
 pub mod SamePrinted
 pub mod OneAnswer
+pub mod PlainNames
+pub mod CircuitLines
+pub mod BadLines
 pub mod Answered
 pub mod Batches
 pub mod Commands
 pub mod ReadWords
 pub mod Lowered
+pub mod Wiring
 pub mod Options
 pub mod Reading
 pub mod Statuses

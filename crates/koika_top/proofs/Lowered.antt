@@ -39,7 +39,7 @@ use Rattle.koika_top.specs.declared.shown.Shown.{Shown}
 use Rattle.koika_top.specs.Systems.{first_values, run_of, system_of, typed_alone_if}
 
 -- a list that is mapped twice
-twice : {X Y Z : Type 0} (f : X → Y) (g : Y → Z) (xs : List X) → map g (map f xs) ≡ map (λ x. g (f x)) xs
+pub twice : {X Y Z : Type 0} (f : X → Y) (g : Y → Z) (xs : List X) → map g (map f xs) ≡ map (λ x. g (f x)) xs
 twice f g [] = refl
 twice f g (x ∷ xs) = ap (λ zs. g (f x) ∷ zs) (twice f g xs)
 
@@ -68,7 +68,7 @@ module _ (d : Checked) (design : Parts) (lowered : IsLowered d design) where
   pub rules-named : map name_of d.rules ≡ map core_shapes.name_of design.rules
   rules-named = sym lowered.names
 
-  registers-wide : core.register_widths design ≡ register_widths d
+  pub registers-wide : core.register_widths design ≡ register_widths d
   registers-wide = ap (map (λ (decl : RegDecl). decl.width)) lowered.registers ∙ twice register_of (λ (decl : RegDecl). decl.width) d.registers
 
   pub inputs-wide : core.input_widths design ≡ input_widths d
@@ -107,7 +107,7 @@ module _ (d : Checked) (design : Parts) (lowered : IsLowered d design) where
   }
 
   -- the run of what the design is lowered to is the run of the typed design
-  run-same : IsValid design → (inputs : InputsByCycle) → ((k : ℕ) → HaveWidths (input_widths d) (inputs k)) → (cycles : ℕ) → core_run.run_of design inputs cycles ≡ run_of d inputs cycles
+  pub run-same : IsValid design → (inputs : InputsByCycle) → ((k : ℕ) → HaveWidths (input_widths d) (inputs k)) → (cycles : ℕ) → core_run.run_of design inputs cycles ≡ run_of d inputs cycles
   run-same valid inputs fit cycles =
       same_runs (input_widths d) (register_widths d) (core_cycle.system_of design) (system_of d) inputs (core_run.first_values design) 0 cycles (same-alone valid) fit
       (subst (λ ws. HaveWidths ws (core_run.first_values design)) registers-wide (first_values_fit design valid))

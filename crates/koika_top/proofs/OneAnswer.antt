@@ -1,6 +1,7 @@
 -- Words and a source have one answer, by its status and its text.
 use Rattle.std.proofs.Common.{◌≡◌, ℕ, ◌<◌, ◌≤◌, inl, inr, true, false, List, length, map, Option, Some, None, Result, Ok, Err, refl, sym, ap, subst, ◌∙◌, arith}
 use Rattle.std.specs.Prelude.{MatchOption}
+use Rattle.std.proofs.lemmas.Bool.{false≢true}
 use Rattle.kw_base.specs.Fault.{fault_at}
 use Rattle.kw_base.specs.Place.{place_at}
 use Rattle.kw_base.specs.declared.fault.Fault.{Fault}
@@ -20,7 +21,8 @@ use Rattle.koika_check.specs.declared.checked.Checked.{Checked}
 use Rattle.koika_check.specs.declared.stop.Wrong.{Wrong}
 use Rattle.one_rule.specs.Stimulus.{InputVectors, inputs_of}
 use Rattle.typed_core.specs.declared.design.HostSpec.{HostSpec}
-use Rattle.koika_top.specs.Answer.{Answers, IsAnswer, IsSameAnswer, status_of, text_of}
+use Rattle.koika_top.specs.Answer.{Answers, IsAnswer, IsLikeAnswer, IsSameAnswer, has_one_text, status_of, text_of}
+use Rattle.koika_top.specs.Compile.{AnswersCompile, ShowsCircuit}
 use Rattle.koika_top.specs.Generator.{pipeline}
 use Rattle.koika_top.specs.Reads.{AnswersCheck, AnswersPrint, ShowsTree, TellsCounts, counts_line}
 use Rattle.koika_top.specs.Sim.{AnswersSim, HasNoRun, RunsTooLong, ShowsRun, is_too_long, marks_of, text_of_rows}
@@ -30,8 +32,9 @@ use Rattle.koika_top.specs.Words.{command_of}
 use Rattle.koika_top.specs.declared.answer.Answer.{Answer}
 use Rattle.koika_top.specs.declared.answer.Answer.TheVariants.{Usage, Refused, Written}
 use Rattle.koika_top.specs.declared.shown.Shown.{Shown}
+use Rattle.koika_top.specs.declared.status.Status.TheVariants as status
 use Rattle.koika_top.specs.declared.words.Command.{Command}
-use Rattle.koika_top.specs.declared.words.Command.TheVariants.{Check, Print, Sim, Btorsim, Gen}
+use Rattle.koika_top.specs.declared.words.Command.TheVariants.{Check, Print, Sim, Compile, Btorsim, Gen}
 use Rattle.koika_top.proofs.OneCircuitAnswer.{btorsim-same}
 use Rattle.koika_top.proofs.Results.{err-same, ok-same, ok_or_err}
 use Rattle.koika_top.proofs.SameChecked.{same_checked}
@@ -45,6 +48,13 @@ fails-same {X} w v o h k = let e : ◌≡◌ {A = Outcome X} (Fails w) (Fails v)
 
 gives_or_fails : {X : Type 0} (x : X) (w : Wrong) (o : Outcome X) → o ≡ Gives x → o ≡ Fails w → ⊥
 gives_or_fails x w o h k = let e : Gives x ≡ Fails w = sym h ∙ k in absurd cc
+
+-- answers that can't be told apart have one status
+pub same-like : (a b : Answer) → IsSameAnswer a b → IsLikeAnswer a b
+same-like a b same = record { status = same.status; refusal = λ _. same.text }
+
+refused_or_written : (f : Fault) (text : List ℕ) → IsSameAnswer (Refused f) (Written text) → ⊥
+refused_or_written f text same = let bad : status.Refused ≡ status.Done = same.status in absurd cc
 
 -- ---- tokens and trees
 
@@ -169,6 +179,21 @@ module _ (hosts : List HostSpec) (source : List ℕ) where
   check-same (Written text) (Written other) h k =
       record { status = refl; text = h.told ∙ ap (λ d. counts_line (counts_of d)) (same_design h.design k.design h.spelled.spelled k.spelled.spelled) ∙ sym k.told }
 
+  -- ---- compile
+
+  -- a source that has a circuit has counts
+  counted : (text : List ℕ) (h : ShowsCircuit hosts source text) → TellsCounts hosts source (counts_line (counts_of h.design))
+  counted text h = record { design = h.design; stimulus = h.stimulus; spelled = h.spelled; told = refl }
+
+  compile-like : (a b : Answer) → AnswersCompile hosts source a → AnswersCompile hosts source b → IsLikeAnswer a b
+  compile-like Usage b h k = absurd h
+  compile-like (Refused f) Usage h k = absurd k
+  compile-like (Refused f) (Refused g) h k = same-like (Refused f) (Refused g) (check-same (Refused f) (Refused g) h k)
+  compile-like (Refused f) (Written text) h k = absurd (refused_or_written f (counts_line (counts_of k.design)) (check-same (Refused f) (Written (counts_line (counts_of k.design))) h (counted text k)))
+  compile-like (Written text) Usage h k = absurd k
+  compile-like (Written text) (Refused g) h k = absurd (refused_or_written g (counts_line (counts_of h.design)) (check-same (Refused g) (Written (counts_line (counts_of h.design))) k (counted text h)))
+  compile-like (Written text) (Written other) h k = record { status = refl; refusal = λ e. let bad : status.Done ≡ status.Refused = e in absurd cc }
+
   -- ---- sim
 
   module _ (cycles : ℕ) where
@@ -220,17 +245,31 @@ module _ (hosts : List HostSpec) (source : List ℕ) where
 pub equal-same : (a b : Answer) → a ≡ b → IsSameAnswer a b
 equal-same a b e = record { status = ap status_of e; text = ap text_of e }
 
--- a command and a source have one answer
-pub command_answer-same : (hosts : List HostSpec) (command : Command) (source : List ℕ) (a b : Answer) → Answers hosts command source a → Answers hosts command source b → IsSameAnswer a b
-command_answer-same hosts Check source a b h k = check-same hosts source a b h k
-command_answer-same hosts Print source a b h k = print-same source a b h k
-command_answer-same hosts (Sim cycles shown) source a b h k = sim-same hosts source cycles shown a b h k
-command_answer-same hosts (Btorsim cycles shown) source a b h k = btorsim-same source cycles shown a b h k
-command_answer-same hosts (Gen stages) source a b h k = equal-same a b (h ∙ sym k)
+-- the answers of a command to a source have one status
+pub command_answer-same : (hosts : List HostSpec) (command : Command) (source : List ℕ) (a b : Answer) → Answers hosts command source a → Answers hosts command source b → IsLikeAnswer a b
+command_answer-same hosts Check source a b h k = same-like a b (check-same hosts source a b h k)
+command_answer-same hosts Print source a b h k = same-like a b (print-same source a b h k)
+command_answer-same hosts (Sim cycles shown) source a b h k = same-like a b (sim-same hosts source cycles shown a b h k)
+command_answer-same hosts Compile source a b h k = compile-like hosts source a b h k
+command_answer-same hosts (Btorsim cycles shown) source a b h k = same-like a b (btorsim-same source cycles shown a b h k)
+command_answer-same hosts (Gen stages) source a b h k = same-like a b (equal-same a b (h ∙ sym k))
 
-by_words : (hosts : List HostSpec) (command : Option Command) (source : List ℕ) (a b : Answer) → MatchOption command (a ≡ Usage) (λ c. Answers hosts c source a) → MatchOption command (b ≡ Usage) (λ c. Answers hosts c source b) → IsSameAnswer a b
-by_words hosts None source a b h k = equal-same a b (h ∙ sym k)
-by_words hosts (Some command) source a b h k = command_answer-same hosts command source a b h k
+like-by_words : (hosts : List HostSpec) (command : Option Command) (source : List ℕ) (a b : Answer) → MatchOption command (a ≡ Usage) (λ c. Answers hosts c source a) → MatchOption command (b ≡ Usage) (λ c. Answers hosts c source b) → IsLikeAnswer a b
+like-by_words hosts None source a b h k = same-like a b (equal-same a b (h ∙ sym k))
+like-by_words hosts (Some command) source a b h k = command_answer-same hosts command source a b h k
 
-pub one_answer : (hosts : List HostSpec) (words : List (List ℕ)) (source : List ℕ) (a b : Answer) → IsAnswer hosts words source a → IsAnswer hosts words source b → IsSameAnswer a b
-one_answer hosts words source a b h k = by_words hosts (command_of words) source a b h k
+pub one_status : (hosts : List HostSpec) (words : List (List ℕ)) (source : List ℕ) (a b : Answer) → IsAnswer hosts words source a → IsAnswer hosts words source b → IsLikeAnswer a b
+one_status hosts words source a b h k = like-by_words hosts (command_of words) source a b h k
+
+-- and all but those of `compile` are one
+by_words : (hosts : List HostSpec) (command : Option Command) (source : List ℕ) (a b : Answer) → has_one_text command ≡ true → MatchOption command (a ≡ Usage) (λ c. Answers hosts c source a) → MatchOption command (b ≡ Usage) (λ c. Answers hosts c source b) → IsSameAnswer a b
+by_words hosts None source a b one h k = equal-same a b (h ∙ sym k)
+by_words hosts (Some Check) source a b one h k = check-same hosts source a b h k
+by_words hosts (Some Print) source a b one h k = print-same source a b h k
+by_words hosts (Some (Sim cycles shown)) source a b one h k = sim-same hosts source cycles shown a b h k
+by_words hosts (Some Compile) source a b one h k = absurd (false≢true one)
+by_words hosts (Some (Btorsim cycles shown)) source a b one h k = btorsim-same source cycles shown a b h k
+by_words hosts (Some (Gen stages)) source a b one h k = equal-same a b (h ∙ sym k)
+
+pub one_answer : (hosts : List HostSpec) (words : List (List ℕ)) (source : List ℕ) (a b : Answer) → has_one_text (command_of words) ≡ true → IsAnswer hosts words source a → IsAnswer hosts words source b → IsSameAnswer a b
+one_answer hosts words source a b one h k = by_words hosts (command_of words) source a b one h k

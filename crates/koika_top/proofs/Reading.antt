@@ -17,6 +17,7 @@ use Rattle.typed_core.specs.Valid.{IsWidth}
 use Rattle.koika_lower.specs.Lowering.{input_widths}
 use Rattle.koika_top.specs.Sources.{IsIllTyped, IsUnread, IsUnspelled, SpellsDesign, SpellsTree, design_part, longest_source, of_input, shape_of, stimulus_in}
 use Rattle.koika_top.specs.Steps.{Makes}
+use Rattle.koika_top.specs.Compile.{AnswersCompile, ShowsCircuit}
 use Rattle.koika_top.specs.Reads.{AnswersCheck, AnswersPrint, ShowsTree, TellsCounts}
 use Rattle.typed_core.specs.declared.design.HostSpec.{HostSpec}
 use Rattle.koika_syntax.specs.Grammar.{Derives, tree_leaves}
@@ -124,3 +125,8 @@ pub makes-print : (source : List ℕ) (r : Result (List ℕ) Refusal) → IfOk r
 makes-print source (Ok text) told fault = told
 makes-print source (Err (refusals.Fault f)) told fault = inr fault
 makes-print source (Err refusals.NoMemory) told fault = tt
+
+pub makes-compile : (hosts : List HostSpec) (source : List ℕ) (r : Result (List ℕ) Refusal) → IfOk r (ShowsCircuit hosts source) → IfFault r (IsUnspelled hosts source) → Makes (AnswersCompile hosts source) r
+makes-compile hosts source (Ok text) made refused = made
+makes-compile hosts source (Err (refusals.Fault fault)) made refused = inr refused
+makes-compile hosts source (Err refusals.NoMemory) made refused = tt

@@ -8,23 +8,23 @@ use Rattle.kw_base.specs.FaultLine.{line_of_fault}
 use Rattle.kw_base.specs.declared.fault.Fault.{Fault}
 use Rattle.kw_base.specs.declared.fault.Refusal.{Refusal}
 use Rattle.kw_base.specs.declared.fault.Refusal.TheVariants as refusals
-use Rattle.koika_top.specs.Answer.{AppendsFront, IsFailure, IsSameAnswer, status_of, text_of}
+use Rattle.koika_top.specs.Answer.{AppendsFront, IsFailure, IsLikeAnswer, IsSameAnswer, TellsSome, status_of, text_of}
 use Rattle.koika_top.specs.Steps.{Makes, Tells, TellsMade, TellsOne}
 use Rattle.koika_top.specs.declared.answer.Answer.TheVariants.{Usage, Refused, Written}
 use Rattle.koika_top.specs.declared.answer.Answer.{Answer}
 use Rattle.koika_top.specs.declared.status.Status.{Status}
 use Rattle.koika_top.specs.declared.status.Status.TheVariants as status
 
--- answers of this kind can't be told apart
-abbrev pub AreSame : (Answer → Type 0) → Type 0
-AreSame Is = (a b : Answer) → Is a → Is b → IsSameAnswer a b
+-- answers of this kind have one status
+abbrev pub AreLike : (Answer → Type 0) → Type 0
+AreLike Is = (a b : Answer) → Is a → Is b → IsLikeAnswer a b
 
 -- known bytes that stay grow by nothing
 pub appends-none : (known : Option (List ℕ)) → Appends known known []
 appends-none None = tt
 appends-none (Some bytes) = sym (append-nil bytes)
 
-module _ (Is : Answer → Type 0) (same : AreSame Is) (old new : Option (List ℕ)) (result : Status) where
+module _ (Is : Answer → Type 0) (like : AreLike Is) (old new : Option (List ℕ)) (result : Status) where
   done_by : (mine : Answer) → Is mine → (result ≡ status_of mine → Appends old new (text_of mine)) → (result ≡ status_of mine) ⊎ ((result ≡ status.WriteFault) ⊎ (result ≡ status.NoMemory)) → result ≡ status.Done
       → (text : List ℕ) × Is (Written text) × Appends old new text
   done_by Usage is all (inl e) d = let bad : status.Usage ≡ status.Done = sym e ∙ d in absurd cc
@@ -42,7 +42,7 @@ module _ (Is : Answer → Type 0) (same : AreSame Is) (old new : Option (List �
   refused_by mine is all (inr (inr e)) d = let bad : status.NoMemory ≡ status.Refused = sym e ∙ d in absurd cc
 
   exact_by : (mine : Answer) → Is mine → (result ≡ status_of mine) ⊎ ((result ≡ status.WriteFault) ⊎ (result ≡ status.NoMemory)) → (answer : Answer) → Is answer → (result ≡ status_of answer) ⊎ IsFailure result
-  exact_by mine is (inl e) answer k = inl (e ∙ (same mine answer is k).status)
+  exact_by mine is (inl e) answer k = inl (e ∙ (like mine answer is k).status)
   exact_by mine is (inr f) answer k = inr (inr f)
 
   -- an answer that was written, or its first bytes, tells every other one
@@ -51,9 +51,20 @@ module _ (Is : Answer → Type 0) (same : AreSame Is) (old new : Option (List �
     done = done_by mine is told.all told.status;
     refused = refused_by mine is told.all told.status;
     exact = exact_by mine is told.status;
-    front = λ answer k. subst (λ (text : List ℕ). AppendsFront old new text) (same mine answer is k).text told.front;
     some = inl (mine, is, told.front);
   }
+
+-- known bytes that are kept grow by nothing
+appends-kept : (old new : Option (List ℕ)) → Keeps old new → Appends old new []
+appends-kept None new kept = tt
+appends-kept (Some xs) None kept = absurd kept
+appends-kept (Some xs) (Some ys) kept = kept ∙ sym (append-nil xs)
+
+-- what was written is a front of each answer, where all of them are the same
+pub front-of-some : (Is : Answer → Type 0) → ((a b : Answer) → Is a → Is b → IsSameAnswer a b) → (old new : Option (List ℕ)) (result : Status) → TellsSome Is old new result
+    → (answer : Answer) → Is answer → AppendsFront old new (text_of answer)
+front-of-some Is same old new result (inl (mine, is, front)) answer k = subst (λ (text : List ℕ). AppendsFront old new text) (same mine answer is k).text front
+front-of-some Is same old new result (inr (kept, why)) answer k = ([], text_of answer, refl, appends-kept old new kept)
 
 -- known bytes that stay are kept
 pub keeps-known : (known : Option (List ℕ)) → Keeps known known
@@ -66,22 +77,20 @@ tells_nothing Is known result (inl e) = record {
   done = λ d. let bad : status.ReadFault ≡ status.Done = sym e ∙ d in absurd cc;
   refused = λ d. let bad : status.ReadFault ≡ status.Refused = sym e ∙ d in absurd cc;
   exact = λ answer k. inr (inl e);
-  front = λ answer k. ([], text_of answer, refl, appends-none known);
   some = inr (keeps-known known, inl e);
 }
 tells_nothing Is known result (inr e) = record {
   done = λ d. let bad : status.NoMemory ≡ status.Done = sym e ∙ d in absurd cc;
   refused = λ d. let bad : status.NoMemory ≡ status.Refused = sym e ∙ d in absurd cc;
   exact = λ answer k. inr (inr (inr e));
-  front = λ answer k. ([], text_of answer, refl, appends-none known);
   some = inr (keeps-known known, inr e);
 }
 
 -- a text, or why there is none, that was told tells every answer
-pub tells_made : (Is : Answer → Type 0) → AreSame Is → (made : Result (List ℕ) Refusal) → Makes Is made → (old new : Option (List ℕ)) (result : Status) → TellsMade made old new result → Tells Is old new result
-tells_made Is same (Ok text) is old new result told = tells_answer Is same old new result (Written text) is told
-tells_made Is same (Err (refusals.Fault fault)) is old new result told = tells_answer Is same old new result (Refused fault) is told
-tells_made Is same (Err refusals.NoMemory) is old new result told =
+pub tells_made : (Is : Answer → Type 0) → AreLike Is → (made : Result (List ℕ) Refusal) → Makes Is made → (old new : Option (List ℕ)) (result : Status) → TellsMade made old new result → Tells Is old new result
+tells_made Is like (Ok text) is old new result told = tells_answer Is like old new result (Written text) is told
+tells_made Is like (Err (refusals.Fault fault)) is old new result told = tells_answer Is like old new result (Refused fault) is told
+tells_made Is like (Err refusals.NoMemory) is old new result told =
     subst (λ (now : Option (List ℕ)). Tells Is old now result) (sym told.1) (tells_nothing Is old result (inr told.0))
 
 -- a source of which all was taken is at its end

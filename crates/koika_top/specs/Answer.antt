@@ -5,6 +5,7 @@ use Rattle.std.specs.Io.KnownBytes.{Appends, Keeps}
 use Rattle.kw_base.specs.FaultLine.{line_of_fault}
 use Rattle.typed_core.specs.declared.design.HostSpec.{HostSpec}
 use Rattle.koika_top.specs.Btorsim.{AnswersBtorsim, IsRead, longest_circuit}
+use Rattle.koika_top.specs.Compile.{AnswersCompile}
 use Rattle.koika_top.specs.Generator.{pipeline}
 use Rattle.koika_top.specs.Reads.{AnswersCheck, AnswersPrint}
 use Rattle.koika_top.specs.Sim.{AnswersSim}
@@ -15,7 +16,7 @@ use Rattle.koika_top.specs.declared.answer.Answer.TheVariants.{Usage, Refused, W
 use Rattle.koika_top.specs.declared.status.Status.{Status}
 use Rattle.koika_top.specs.declared.status.Status.TheVariants as status
 use Rattle.koika_top.specs.declared.words.Command.{Command}
-use Rattle.koika_top.specs.declared.words.Command.TheVariants.{Check, Print, Sim, Btorsim, Gen}
+use Rattle.koika_top.specs.declared.words.Command.TheVariants.{Check, Print, Sim, Compile, Btorsim, Gen}
 
 -- the answer to a command, where these host functions are handed in
 abbrev pub Answers : List HostSpec → Command → List ℕ → Answer → Type 0
@@ -23,6 +24,7 @@ Answers hosts Check source answer = AnswersCheck hosts source answer
 Answers hosts Print source answer = AnswersPrint source answer
 Answers hosts (Sim cycles shown) source answer = AnswersSim hosts cycles shown source answer
 Answers hosts (Btorsim cycles shown) source answer = AnswersBtorsim cycles shown source answer
+Answers hosts Compile source answer = AnswersCompile hosts source answer
 Answers hosts (Gen stages) source answer = answer ≡ Written (pipeline stages)
 
 -- the answer to words and a source; where the words aren't understood it is how to use the program
@@ -79,7 +81,17 @@ abbrev pub TellsSome : (Answer → Type 0) → Option (List ℕ) → Option (Lis
 TellsSome Is old new result =
     ((answer : Answer) × Is answer × AppendsFront old new (text_of answer)) ⊎ (Keeps old new × ((result ≡ status.ReadFault) ⊎ (result ≡ status.NoMemory)))
 
+-- whether there is one text at most that is written: a design has several circuits
+abbrev pub has_one_text : Option Command → Bool
+has_one_text (Some Compile) = false
+has_one_text other = true
+
 -- two answers that a user can't tell apart: they have one status and one text
 pub record IsSameAnswer (a b : Answer) : Type 0 where
   pub status : status_of a ≡ status_of b
   pub text : text_of a ≡ text_of b
+
+-- two answers that have one status, and one text if they are refusals
+pub record IsLikeAnswer (a b : Answer) : Type 0 where
+  pub refusal : status_of a ≡ status.Refused → text_of a ≡ text_of b
+  pub status : status_of a ≡ status_of b

@@ -10,6 +10,9 @@ pub mod CircuitShapes
 pub mod Btorsim
 pub mod CircuitRuns
 pub mod Engines
+pub mod Compile
+pub mod PlainNames
+pub mod Wired
 pub mod Answer
 pub mod Steps
 pub mod Telling

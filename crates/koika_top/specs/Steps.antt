@@ -16,12 +16,11 @@ use Rattle.koika_top.specs.declared.status.Status.TheVariants as status
 use Rattle.koika_top.specs.declared.words.Command.{Command}
 use Rattle.koika_top.specs.declared.words.Command.TheVariants.{Gen}
 
--- the status and what was written tell the one answer that there is, or its first bytes
+-- the status and what was written tell an answer that there is, or its first bytes, and each has this status
 pub record Tells (Is : Answer → Type 0) (old new : Option (List ℕ)) (result : Status) : Type 0 where
   pub done : result ≡ status.Done → (text : List ℕ) × Is (Written text) × Appends old new text
   pub refused : result ≡ status.Refused → (fault : Fault) × Is (Refused fault) × Appends old new (line_of_fault fault)
   pub exact : (answer : Answer) → Is answer → (result ≡ status_of answer) ⊎ IsFailure result
-  pub front : (answer : Answer) → Is answer → AppendsFront old new (text_of answer)
   pub some : TellsSome Is old new result
 
 -- a text, or why there is none, is such an answer; want of memory is free

@@ -6,7 +6,7 @@ use Rattle.std.specs.Str.{bytes_eq}
 use Rattle.koika_top.specs.declared.shown.Shown.{Shown}
 use Rattle.koika_top.specs.declared.shown.Shown.TheVariants.{Report, Summary}
 use Rattle.koika_top.specs.declared.words.Command.{Command}
-use Rattle.koika_top.specs.declared.words.Command.TheVariants.{Check, Print, Sim, Btorsim, Gen}
+use Rattle.koika_top.specs.declared.words.Command.TheVariants.{Check, Print, Sim, Compile, Btorsim, Gen}
 use Rattle.koika_top.specs.declared.words.Options.{Options}
 
 -- the number that decimal digits write
@@ -104,5 +104,6 @@ command_of (word ∷ rest) =
     else if bytes_eq word (codes "print") then alone_of Print rest
     else if bytes_eq word (codes "sim") then sim_of (options_of rest)
     else if bytes_eq word (codes "btorsim") then btorsim_of (options_of rest)
+    else if bytes_eq word (codes "compile") then alone_of Compile rest
     else if bytes_eq word (codes "gen") then gen_of rest
     else None

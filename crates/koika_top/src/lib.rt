@@ -7,6 +7,7 @@
 mod answer;
 mod circuit_run;
 mod circuit_shapes;
+mod compile;
 mod engine;
 mod generator;
 mod given;
@@ -24,7 +25,7 @@ mod teller;
 mod words;
 
 pub use answer::Answer;
-pub use laws::{one_answer, some_answer};
+pub use laws::{one_answer, one_status, some_answer, some_circuit};
 pub use program::run_here;
 pub use shown::Shown;
 pub use status::Status;

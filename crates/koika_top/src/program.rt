@@ -3,7 +3,7 @@ ghost use Rattle.std.specs.Io.KnownBytes.{Appends, IsAtEnd, Keeps};
 ghost use Rattle.kw_io.specs.Faults.{Rose};
 ghost use Rattle.koika_top.specs.Words.{command_of};
 ghost use Rattle.one_rule.specs.Externs.{host_specs};
-ghost use Rattle.koika_top.specs.Answer.{Answers, AppendsFront, IsAnswer, IsFailure, TellsSome, is_of_source, known_source, longest_of, reads_source, status_of, text_of, usage_line};
+ghost use Rattle.koika_top.specs.Answer.{Answers, AppendsFront, IsAnswer, IsFailure, TellsSome, has_one_text, is_of_source, known_source, longest_of, reads_source, status_of, text_of, usage_line};
 ghost use Rattle.koika_top.specs.Btorsim.{AnswersBtorsim, longest_circuit};
 ghost use Rattle.koika_top.specs.Generator.{pipeline};
 ghost use Rattle.koika_top.specs.Sim.{AnswersSim};
@@ -18,6 +18,7 @@ mod tests;
 
 use crate::answer::{Answer, write_answer, write_made};
 use crate::circuit_run::CircuitRun;
+use crate::compile::compile_source;
 use crate::generator::pipeline;
 use crate::reads::{check_source, print_source};
 use crate::run::{Run, Untold};
@@ -67,10 +68,10 @@ pub fn run_here<S: Source, K: Sink>(
         × Appends (K.written sink.old) (K.written sink.new) (line_of_fault fault) }
 
     // What the answer is decides the status, unless reading or writing fails or memory runs out; and what was
-    // written is the answer's text or its first bytes.
+    // written is the answer's text or its first bytes, where there is one text.
     ensures exact { IfSome (known_source (command_of (map string_bytes words.now)) (S.left source.old)) (λ bytes. (answer : AnyAnswer) →
         IsAnswer (host_specs hosts.now) (map string_bytes words.now) bytes answer → (result ≡ status_of answer) ⊎ IsFailure result) }
-    ensures front { IfSome (known_source (command_of (map string_bytes words.now)) (S.left source.old)) (λ bytes. (answer : AnyAnswer) →
+    ensures front { has_one_text (command_of (map string_bytes words.now)) ≡ true → IfSome (known_source (command_of (map string_bytes words.now)) (S.left source.old)) (λ bytes. (answer : AnyAnswer) →
         IsAnswer (host_specs hosts.now) (map string_bytes words.now) bytes answer →
         AppendsFront (K.written sink.old) (K.written sink.new) (text_of answer)) }
 
@@ -171,6 +172,7 @@ fn answer_bytes<K: Sink>(
         Command::Print => write_made(alloc, print_source(alloc, source), sink),
         Command::Sim { cycles, shown } => simulate(alloc, cycles, shown, hosts, source, sink),
         Command::Btorsim { cycles, shown } => simulate_circuit(alloc, cycles, shown, source, sink),
+        Command::Compile => write_made(alloc, compile_source(alloc, hosts, source), sink),
         Command::Gen { stages } => write_made(alloc, generate(alloc, stages), sink),
     }
 }

@@ -21,6 +21,8 @@ pub enum Command {
     Sim { cycles: u32, shown: Shown },
     /// A run of the source's circuit text for so many cycles.
     Btorsim { cycles: u32, shown: Shown },
+    /// The circuit of the source's design.
+    Compile,
     /// The pipeline design of so many stages.
     Gen { stages: u32 },
 }
@@ -72,6 +74,9 @@ pub(crate) fn command_of(alloc: Global, words: &[String]) -> Result<Option<Comma
         [command, rest @ ..] if command.as_str() == "print" => Ok(alone_of(Command::Print, rest)),
         [command, options @ ..] if command.as_str() == "sim" => sim_of(alloc, options),
         [command, options @ ..] if command.as_str() == "btorsim" => btorsim_of(alloc, options),
+        [command, rest @ ..] if command.as_str() == "compile" => {
+            Ok(alone_of(Command::Compile, rest))
+        }
         [command, stages @ ..] if command.as_str() == "gen" => gen_of(alloc, stages),
         _ => Ok(None),
     }

@@ -1,8 +1,8 @@
 use Rattle.one_rule.specs.Externs.{host_specs}
 use Rattle.koika_top.specs.Answer.{Answers}
-use Rattle.koika_top.specs.declared.words.Command.TheVariants.{Check, Gen, Print}
+use Rattle.koika_top.specs.declared.words.Command.TheVariants.{Check, Compile, Gen, Print}
 use Rattle.koika_top.proofs.OneAnswer.{command_answer-same}
-use Rattle.koika_top.proofs.Reading.{makes-check, makes-print}
+use Rattle.koika_top.proofs.Reading.{makes-check, makes-compile, makes-print}
 use Rattle.koika_top.proofs.Statuses.{tells_made}
 use Rattle.koika_top.proofs.program.answer_bytes.Goals as goal
 
@@ -23,3 +23,9 @@ returns-in-Gen-clause-tells g c =
     rw c.in-Gen.is
     (tells_made (Answers (host_specs c.args.hosts.now) (Gen c.in-Gen.stages) c.args.source.now) (command_answer-same (host_specs c.args.hosts.now) (Gen c.in-Gen.stages) c.args.source.now) c.generate.result
     c.generate.ensures _ _ _ c.write_made-in-Gen.ensures.tells)
+
+pub returns-in-Compile-clause-tells : goal.returns-in-Compile-clause-tells
+returns-in-Compile-clause-tells g c =
+    rw c.in-Compile.is
+    (tells_made (Answers (host_specs c.args.hosts.now) Compile c.args.source.now) (command_answer-same (host_specs c.args.hosts.now) Compile c.args.source.now) c.compile_source.result
+    (makes-compile (host_specs c.args.hosts.now) c.args.source.now c.compile_source.result c.compile_source.ensures.text c.compile_source.ensures.refused) _ _ _ c.write_made-in-Compile.ensures.tells)

@@ -13,7 +13,7 @@ pub returns-clause-exact : goal.returns-clause-exact
 returns-clause-exact g c = exact-of (host_specs c.args.hosts.now) (map string_bytes c.args.words.now) _ _ _ _ c.answer_words.ensures.tells
 
 pub returns-clause-front : goal.returns-clause-front
-returns-clause-front g c = front-of-each (host_specs c.args.hosts.now) (map string_bytes c.args.words.now) _ _ _ _ c.answer_words.ensures.tells
+returns-clause-front g c one = front-of-each (host_specs c.args.hosts.now) (map string_bytes c.args.words.now) _ _ _ _ c.answer_words.ensures.tells one
 
 pub returns-clause-some : goal.returns-clause-some
 returns-clause-some g c = some-of (host_specs c.args.hosts.now) (map string_bytes c.args.words.now) _ _ _ _ c.answer_words.ensures.tells

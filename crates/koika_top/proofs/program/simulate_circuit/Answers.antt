@@ -3,6 +3,7 @@ use Rattle.koika_top.specs.Btorsim.{AnswersBtorsim}
 use Rattle.koika_top.specs.declared.answer.Answer.TheVariants.{Refused}
 use Rattle.koika_top.proofs.CircuitTexts.{within-few}
 use Rattle.koika_top.proofs.Commands.{never-refused, tells-circuit-run}
+use Rattle.koika_top.proofs.OneAnswer.{same-like}
 use Rattle.koika_top.proofs.OneCircuitAnswer.{btorsim-same}
 use Rattle.koika_top.proofs.Reading.{fault-in}
 use Rattle.koika_top.proofs.Statuses.{tells_answer, tells_nothing}
@@ -19,7 +20,7 @@ returns-in-Ok-clause-tells g c =
 
 pub returns-in-Err-Fault-clause-tells : goal.returns-in-Err-Fault-clause-tells
 returns-in-Err-Fault-clause-tells g c =
-    tells_answer (AnswersBtorsim c.args.cycles c.args.shown c.args.source.now) (btorsim-same c.args.source.now c.args.cycles c.args.shown) _ _ _ (Refused c.in-Err-Fault.fault)
+    tells_answer (AnswersBtorsim c.args.cycles c.args.shown c.args.source.now) (λ a b h k. same-like a b (btorsim-same c.args.source.now c.args.cycles c.args.shown a b h k)) _ _ _ (Refused c.in-Err-Fault.fault)
     (fault-in _ _ c.in-Err-Fault.fault c.in-Err-Fault.field-0-is c.in-Err-Fault.ensures.refused)
     (rw c.in-Err-Fault.field-0-is at c.write_answer.ensures.tells)
 

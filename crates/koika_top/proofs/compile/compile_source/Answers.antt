@@ -1,0 +1,23 @@
+use Rattle.std.proofs.Common.{subst}
+use Rattle.btor2_text.specs.Reading.{AreLinesOf}
+use Rattle.one_rule.specs.Externs.{host_specs}
+use Rattle.koika_top.proofs.PlainNames.{plain-names}
+use Rattle.koika_top.proofs.compile.compile_source.Goals as goal
+
+pub circuit_lines-requires-clause-names : goal.circuit_lines-requires-clause-names
+circuit_lines-requires-clause-names g c =
+    let design = c.in_ok-spelled.ensures.spelled.spelled in
+    plain-names (host_specs c.args.hosts.now) design.tree c.in_ok-spelled.spelled.design design.spelled.derived.design.declarations design.typed
+
+pub returns-clause-text : goal.returns-clause-text
+returns-clause-text g c =
+    let lines = c.in_ok-lines in
+    record {
+      design = c.in_ok-spelled.spelled.design;
+      stimulus = c.in_ok-spelled.spelled.stimulus;
+      spelled = c.in_ok-spelled.ensures.spelled;
+      lines = lines.lines;
+      read = subst (AreLinesOf c.in_ok-text.text) lines.ensures.numbers (c.in_ok-text.ensures.read_again lines.ensures.circuit.accepted.forms);
+      printed = c.in_ok-text.ensures.text;
+      circuit = lines.ensures.circuit;
+    }

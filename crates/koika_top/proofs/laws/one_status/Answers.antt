@@ -1,0 +1,5 @@
+use Rattle.koika_top.proofs.OneAnswer.{one_status}
+use Rattle.koika_top.proofs.laws.one_status.Goals as goal
+
+pub returns : goal.returns
+returns c = one_status
