@@ -79,9 +79,10 @@ module _ (c : Wires) (valid : IsCircuit c) (inputs : InputsByCycle) (fits : (k :
 
   pub run-fits : (n : ℕ) → AllByRecursion Fits (run_of c inputs n)
   run-fits n =
-      let first = first_states-AreBits c valid in
-      (row-fits (first_states c.states) (λ (wire : OutputWire). record { width = width_at (widths_of c.net) wire.id; number = 0 }) first (λ (wire : OutputWire). refl),
-      after-fit n 0 (first_states c.states) first)
+      let first = first_states-AreBits c valid in (
+        row-fits (first_states c.states) (λ (wire : OutputWire). record { width = width_at (widths_of c.net) wire.id; number = 0 }) first (λ (wire : OutputWire). refl),
+        after-fit n 0 (first_states c.states) first,
+      )
 
 -- the rows of a circuit's run on a stimulus for its inputs
 pub rows-fit : (c : Wires) (stimulus : InputVectors) → IsCircuit c → stimulus.widths ≡ input_widths c.inputs → AlwaysFits stimulus → (n : ℕ) → RowsFit (circuit.shape_of c) (run_of c (inputs_of stimulus) n)

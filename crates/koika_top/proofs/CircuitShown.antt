@@ -27,36 +27,36 @@ module _
     (lines : List Line) (c bads : Wires) (names : List (List ℕ)) (are : AreCircuitsOf lines c bads names) (shape : Shape) (is : shape ≡ circuit.shape_of c)
     (stimulus : InputVectors) (fits : stimulus.widths ≡ input_widths c.inputs) (bads_fit : stimulus.widths ≡ input_widths bads.inputs) (always : AlwaysFits stimulus) (shown : Shown) (n : ℕ)
   where
-  abbrev rows : List ℕ
-  rows = rows_text shown shape (wired.run_of c (inputs_of stimulus) n)
+    abbrev rows : List ℕ
+    rows = rows_text shown shape (wired.run_of c (inputs_of stimulus) n)
 
-  abbrev violated : List ℕ
-  violated = marked.violations names (range_with_len 0 (length names)) (wired.run_of bads (inputs_of stimulus) n)
+    abbrev violated : List ℕ
+    violated = marked.violations names (range_with_len 0 (length names)) (wired.run_of bads (inputs_of stimulus) n)
 
-  rows-told : rows ≡ rows_text shown (text.shape_of lines) (run_of lines (inputs_of stimulus) n)
-  rows-told =
-      ap (λ (s : Shape). rows_text shown s (wired.run_of c (inputs_of stimulus) n)) (is ∙ shape-of-text lines c are.has)
-      ∙ ap (rows_text shown (text.shape_of lines)) (are.runs stimulus n fits always)
+    rows-told : rows ≡ rows_text shown (text.shape_of lines) (run_of lines (inputs_of stimulus) n)
+    rows-told =
+        ap (λ (s : Shape). rows_text shown s (wired.run_of c (inputs_of stimulus) n)) (is ∙ shape-of-text lines c are.has)
+        ∙ ap (rows_text shown (text.shape_of lines)) (are.runs stimulus n fits always)
 
-  whole : rows ++ violated ≡ shown_run shown lines (inputs_of stimulus) n
-  whole =
-      ap (λ (l : List ℕ). l ++ violated) rows-told
-      ∙ ap (λ (l : List ℕ). rows_text shown (text.shape_of lines) (run_of lines (inputs_of stimulus) n) ++ l) (violations-told lines bads names stimulus n are.shows are.named bads_fit always)
+    whole : rows ++ violated ≡ shown_run shown lines (inputs_of stimulus) n
+    whole =
+        ap (λ (l : List ℕ). l ++ violated) rows-told
+        ∙ ap (λ (l : List ℕ). rows_text shown (text.shape_of lines) (run_of lines (inputs_of stimulus) n) ++ l) (violations-told lines bads names stimulus n are.shows are.named bads_fit always)
 
-  module _ (old mid : Option (List ℕ)) where
-    -- the front of the rows
-    pub front-of-rows : AppendsFront old mid rows → AppendsFront old mid (shown_run shown lines (inputs_of stimulus) n)
-    front-of-rows front = front-of old mid _ _ whole (front-of-first old mid rows violated front)
+    module _ (old mid : Option (List ℕ)) where
+      -- the front of the rows
+      pub front-of-rows : AppendsFront old mid rows → AppendsFront old mid (shown_run shown lines (inputs_of stimulus) n)
+      front-of-rows front = front-of old mid _ _ whole (front-of-first old mid rows violated front)
 
-    -- all rows and nothing behind them
-    pub front-rows-alone : Appends old mid rows → AppendsFront old mid (shown_run shown lines (inputs_of stimulus) n)
-    front-rows-alone all = front-of old mid _ _ whole (front-so-far old mid rows violated all)
+      -- all rows and nothing behind them
+      pub front-rows-alone : Appends old mid rows → AppendsFront old mid (shown_run shown lines (inputs_of stimulus) n)
+      front-rows-alone all = front-of old mid _ _ whole (front-so-far old mid rows violated all)
 
-    -- all rows and the front of what stands behind them
-    pub front-of-both : (new : Option (List ℕ)) (written : List ℕ) → written ≡ violated → Appends old mid rows → AppendsFront mid new written → AppendsFront old new (shown_run shown lines (inputs_of stimulus) n)
-    front-of-both new written same all front =
-        front-of old new _ _ (ap (λ (l : List ℕ). rows ++ l) (append-nil written ∙ same) ∙ whole) (front-behind old mid new rows written [] all front)
+      -- all rows and the front of what stands behind them
+      pub front-of-both : (new : Option (List ℕ)) (written : List ℕ) → written ≡ violated → Appends old mid rows → AppendsFront mid new written → AppendsFront old new (shown_run shown lines (inputs_of stimulus) n)
+      front-of-both new written same all front =
+          front-of old new _ _ (ap (λ (l : List ℕ). rows ++ l) (append-nil written ∙ same) ∙ whole) (front-behind old mid new rows written [] all front)
 
-    -- all of it
-    pub appends-both : (new : Option (List ℕ)) (written : List ℕ) → written ≡ violated → Appends old mid rows → Appends mid new written → Appends old new (shown_run shown lines (inputs_of stimulus) n)
-    appends-both new written same all more = subst (Appends old new) (ap (λ (l : List ℕ). rows ++ l) same ∙ whole) (appends-twice old mid new rows written all more)
+      -- all of it
+      pub appends-both : (new : Option (List ℕ)) (written : List ℕ) → written ≡ violated → Appends old mid rows → Appends mid new written → Appends old new (shown_run shown lines (inputs_of stimulus) n)
+      appends-both new written same all more = subst (Appends old new) (ap (λ (l : List ℕ). rows ++ l) same ∙ whole) (appends-twice old mid new rows written all more)

@@ -55,8 +55,8 @@ module _ (bads : List Line) (is : Line → ℕ → Bool) (row : ℕ → Row) (fl
   lines-behind front [] all from e = refl
   lines-behind front (bad ∷ back) all from e =
       let first =
-          ap (λ (mark : ℕ). position_from (has_fired mark) 1 (map row (range_with_len 0 n))) e
-          ∙ position_from-map row (has_fired (length front)) (is bad) (flag-of front back bad all) 1 (range_with_len 0 n) in
+      ap (λ (mark : ℕ). position_from (has_fired mark) 1 (map row (range_with_len 0 n))) e
+      ∙ position_from-map row (has_fired (length front)) (is bad) (flag-of front back bad all) 1 (range_with_len 0 n) in
       let next : length (front ++ bad ∷ []) ≡ length front + 1 = length-one-more front bad in
       let rest = lines-behind (front ++ bad ∷ []) back (append_assoc front (bad ∷ []) back ∙ all) (from + 1) (ap (λ (k : ℕ). k + 1) e ∙ sym next) in
       ap₂ (λ (one : Option ℕ) (others : List ℕ). violated_line (name_of bad) one ++ others) first rest

@@ -65,11 +65,11 @@ flags-agree f g f' g' (x ∷ xs) (y ∷ ys) names widths =
 pub shape-of-text : (lines : List Line) (c : Wires) → HasLines lines c → circuit.shape_of c ≡ text.shape_of lines
 shape-of-text lines c has =
     let inputs = both-agree (λ (w : InputWire). w.name) (λ (w : InputWire). w.width) name_of (λ (l : Line). width_in lines l.id) c.inputs (lines_of is_input lines)
-          has.inputs (has.input_widths ∙ map-map (width_in lines) (λ (l : Line). l.id) (lines_of is_input lines)) in
+    has.inputs (has.input_widths ∙ map-map (width_in lines) (λ (l : Line). l.id) (lines_of is_input lines)) in
     let states = both-agree (λ (w : StateWire). w.name) (λ (w : StateWire). w.width) name_of (λ (l : Line). width_in lines l.id) c.states (lines_of is_state lines)
-          has.states (has.state_widths ∙ map-map (width_in lines) (λ (l : Line). l.id) (lines_of is_state lines)) in
+    has.states (has.state_widths ∙ map-map (width_in lines) (λ (l : Line). l.id) (lines_of is_state lines)) in
     let flags = flags-agree (λ (w : OutputWire). w.name) (λ (w : OutputWire). width_at (widths_of c.net) w.id) name_of (λ (l : Line). width_in lines (id_at l.arguments 0)) c.outputs (lines_of is_output lines)
-          has.outputs has.output_widths in
+    has.outputs has.output_widths in
     let shape : List NameWidth → List NameWidth → List (List ℕ) → Shape = λ is ss rs. record { inputs = is; registers = ss; rules = rs } in
     ap (λ l. shape l (map circuit.of_state c.states) (map circuit.name_of (filter (circuit.is_flag (widths_of c.net)) c.outputs))) inputs
     ∙ ap (λ l. shape (text.named_lines is_input lines) l (map circuit.name_of (filter (circuit.is_flag (widths_of c.net)) c.outputs))) states

@@ -5,7 +5,8 @@ use std::test::Fail;
 
 const TWO: &[&str] = &["btorsim", "--cycles", "2"];
 
-const COUNTER: &str = "1 sort bitvec 8\n2 zero 1\n3 state 1 count\n4 init 1 3 2\n5 one 1\n6 add 1 3 5\n7 next 1 3 6";
+const COUNTER: &str =
+    "1 sort bitvec 8\n2 zero 1\n3 state 1 count\n4 init 1 3 2\n5 one 1\n6 add 1 3 5\n7 next 1 3 6";
 
 // A sum of inputs, an output of one bit that the sum is high, a wider output, and a bad line without a symbol.
 const SUM: &str =
