@@ -1,4 +1,4 @@
-use super::{Case, expect};
+use super::{Case, expect, run_in_memory};
 use crate::Status;
 use std::process::Abort;
 use std::test::Fail;
@@ -101,6 +101,24 @@ static CIRCUITS: [Case; 16] = [
 fn circuit_texts(rt: HostRuntime) -> Result<(), Fail> {
     for (words, source, status, written) in CIRCUITS {
         expect(&rt, rt.alloc(), words, source, status, written)?;
+    }
+    Ok(())
+}
+
+// A write that fails, of the report or of what stands behind it, leaves what the calls before it wrote.
+#[test]
+fn each_write_fails_in_turn(rt: HostRuntime) -> Result<(), Fail> {
+    let alloc = rt.alloc();
+    let words = ["btorsim", "--cycles", "3"];
+    let whole = run_in_memory(alloc, &words, SUM.as_bytes(), 7, &[], &[])?.written;
+    for call in 1..100 {
+        let ended = run_in_memory(alloc, &words, SUM.as_bytes(), 7, &[], &[call])?;
+        if ended.status == Status::Done {
+            assert_eq!(rt; ended.written.as_slice(), whole.as_slice());
+            break;
+        }
+        assert_eq!(rt; ended.status, Status::WriteFault);
+        assert!(rt; whole.starts_with(&ended.written));
     }
     Ok(())
 }
