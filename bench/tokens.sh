@@ -1,8 +1,7 @@
 #!/usr/bin/env bash
-# Measures what it costs to cut a text into tokens, for each byte: what `print` costs on a text of a megabyte, one line over
-# and over, that ends with a byte that begins no token, less what it costs where that byte stands in front. So the reading of the text
-# and its cut at a line `%%` are aside, the grammar isn't looked at, and finding the place of the fault is included, a few instructions
-# a byte. It is run by hand.
+# Measures what it costs to cut a text into tokens, for each byte: what `print` costs on a text of a megabyte, one line over and
+# over, behind a `;`, with which no design begins, so that all is cut and nothing parsed; less what it costs behind a byte that begins
+# no token, so that nothing is cut. The reading of the text and its cut at a line `%%` are aside. It is run by hand.
 set -eu
 cd "$(dirname "$0")/.."
 . bench/cost.sh
@@ -26,10 +25,10 @@ echo "| text | answer | $of_run | $of_part per byte, the reading aside |"
 echo "|---|---|---|---|"
 while IFS='|' read -r what line; do
     text "$line" $((size - 1)) >"$room/text"
-    { printf '#'; cat "$room/text"; } >"$room/front"
-    { cat "$room/text"; printf '#'; } >"$room/end"
-    start=$(cost "$room/front" /dev/null "$program" print)
-    taken=$(cost "$room/end" "$room/answer" "$program" print)
+    { printf '#'; cat "$room/text"; } >"$room/uncut"
+    { printf ';'; cat "$room/text"; } >"$room/cut"
+    start=$(cost "$room/uncut" /dev/null "$program" print)
+    taken=$(cost "$room/cut" "$room/answer" "$program" print)
     echo "| $what | $(head -n 1 "$room/answer") | $(columns "$taken" "$start" "$size") |"
 done <<'TEXTS'
 usual: a name, a symbol, a literal, a shift, a number, a comment|  count8 <= 8'hff >>> 12; // up\n
