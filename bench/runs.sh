@@ -43,32 +43,37 @@ for many in 0 256 65536 16777216; do
     echo "| $many | $(memory --cycles "$many" --summary) |"
 done
 
-# A design whose rule calls the last of so many functions, each of which calls the one before so often.
+# A design whose rule calls the last of so many functions. Each of the first ones but one calls the one before twice, and each behind
+# them calls the one before once.
 functions() {
-    awk -v count="$1" -v calls="$2" 'BEGIN {
+    awk -v twice="$1" -v once="$2" 'BEGIN {
         print "reg r : bits 8 = 8'\''d0;\nfun f0(x : bits 8) : bits 8 { x + 8'\''d1 }"
-        for (k = 1; k < count; k++)
-            print "fun f" k "(x : bits 8) : bits 8 { f" k - 1 (calls == 1 ? "(x) + 8'\''d1 }" : "(f" k - 1 "(x)) }")
-        print "rule a { write0(r, f" count - 1 "(read0(r))) }\nschedule { a; }"
+        for (k = 1; k < twice; k++) print "fun f" k "(x : bits 8) : bits 8 { f" k - 1 "(f" k - 1 "(x)) }"
+        for (k = twice; k < twice + once; k++) print "fun f" k "(x : bits 8) : bits 8 { f" k - 1 "(x) + 8'\''d1 }"
+        print "rule a { write0(r, f" twice + once - 1 "(read0(r))) }\nschedule { a; }"
     }'
 }
 
 echo
-echo "| functions, each calling the one before | calls of it | answer of \`check\` | $of_run of \`check\` | $of_run of \`sim\` for no cycle | for the lowering, in a unit of weight | kilobytes at most |"
+echo "| functions that call the one before twice | then functions that call it once | weight | $of_run of \`check\` | $of_run of \`sim\` for no cycle besides | for each of the weight | kilobytes at most |"
 echo "|---|---|---|---|---|---|---|"
-while read -r count calls; do
-    functions "$count" "$calls" >"$room/source"
+while read -r twice once; do
+    functions "$twice" "$once" >"$room/source"
     checked=$(cost "$room/source" "$room/answer" "$program" check)
-    lowered=$(cost "$room/source" /dev/null "$program" sim --cycles 0)
-    command time -o "$room/memory" -f %M "$program" sim --cycles 0 <"$room/source" >/dev/null || true
+    run=$(cost "$room/source" /dev/null "$program" sim --cycles 0)
+    command time -o "$room/memory" -f %M "$program" sim --cycles 0 <"$room/source" >/dev/null
     weight=$(sed -n 's/.*weight=//p' "$room/answer")
-    echo "| $count | $calls | $(head -n 1 "$room/answer") | $(columns "$checked" 0 0) $(columns "$lowered" "$checked" "${weight:-0}") | $(tail -n 1 "$room/memory") |"
+    awk -v checked="$checked" -v run="$run" -v weight="$weight" -v scale="$run_scale" -v memory="$(tail -n 1 "$room/memory")" -v what="$((twice - 1)) | $once" \
+        'BEGIN { printf "| %s | %d | %.10g | %.10g | %.4g | %d |\n", what, weight, checked * scale, (run - checked) * scale, (run - checked) * scale / weight, memory }'
 done <<'FUNCTIONS'
-10 1
-50 1
-100 1
-127 1
-8 2
-10 2
-12 2
+1 10
+1 50
+1 100
+1 126
+8 0
+10 0
+12 0
+11 25
+11 50
+11 100
 FUNCTIONS
