@@ -48,6 +48,7 @@ fn run_examples(rt: &HostRuntime) -> io::Result<()> {
 }
 
 // Runs the program on these words and this source.
+#[tactic(auto, unfolding(kw_bits::specs::Host::arity))]
 fn run_source(rt: &HostRuntime, words: &str, source: &str) -> io::Result<()> {
     let alloc = rt.alloc();
     let mut arguments = Vec::new(alloc);
