@@ -32,7 +32,7 @@ impl Lowered {
     }
 }
 
-/// Inside one more `Let`.
+/// Inside one more `Let`. Their number ends far below that of 32 bits in a well typed design, since each is counted in its depth.
 pub(crate) fn deeper(depth: u32) -> Result<u32, NoMemory>
     ensures { IfOk result (λ deep. deep ≡ depth + 1) }
 {
