@@ -15,6 +15,7 @@ use host_fn::HostFn;
 use koika_top::run_here;
 use kw_bits::HostKind;
 use kw_io::{MemSource, StdSink};
+use std::alloc::Global;
 use std::{fs, io};
 
 fn main(rt: HostRuntime) -> io::Result<()> {
@@ -23,7 +24,8 @@ fn main(rt: HostRuntime) -> io::Result<()> {
         let case = case?;
         println!(rt; "{case}")?;
         if let Some((words, source)) = case.as_str().split_once(": ") {
-            run_source(&rt, words, source)?;
+            let words = words_of(rt.alloc(), words)?;
+            run_source(&rt, words.as_slice(), source)?;
         }
     }
     Ok(())
@@ -32,32 +34,37 @@ fn main(rt: HostRuntime) -> io::Result<()> {
 // Runs the examples of the tables of faults, by the command that each table's head names.
 fn run_examples(rt: &HostRuntime) -> io::Result<()> {
     let document = fs::read_to_string(rt, "FAULTS.md")?;
-    let mut words = "";
+    let mut words = Vec::new(rt.alloc());
     for row in document.as_str().lines() {
         let source = code(cell(row, 3));
         let fault = cell(row, 0);
         if fault == "fault" {
-            words = source;
+            words = words_of(rt.alloc(), source)?;
         } else if !source.is_empty() {
             let place = cell(row, 4);
             print!(rt; "{fault} at {place}: ")?;
-            run_source(rt, words, source)?;
+            run_source(rt, words.as_slice(), source)?;
         }
     }
     Ok(())
 }
 
+// The words of a line.
+fn words_of(alloc: Global, line: &str) -> io::Result<Vec<String>> {
+    let mut words = Vec::new(alloc);
+    for word in line.split_whitespace() {
+        words.push(word.to_string(alloc)?)?;
+    }
+    Ok(words)
+}
+
 // Runs the program on these words and this source.
 #[tactic(auto, unfolding(kw_bits::specs::Host::arity))]
-fn run_source(rt: &HostRuntime, words: &str, source: &str) -> io::Result<()> {
+fn run_source(rt: &HostRuntime, words: &[String], source: &str) -> io::Result<()> {
     let alloc = rt.alloc();
-    let mut arguments = Vec::new(alloc);
-    for word in words.split_whitespace() {
-        arguments.push(word.to_string(alloc)?)?;
-    }
     let mut source = MemSource::new(spelled(alloc, source)?, 4096, Vec::new(alloc));
     let mut sink = StdSink::new(rt.stdout());
     let hosts = [HostFn::new(HostKind::Popcount, 8, popcount).unwrap()];
-    let _status = run_here(alloc, arguments.as_slice(), &hosts, &mut source, &mut sink);
+    let _status = run_here(alloc, words, &hosts, &mut source, &mut sink);
     Ok(())
 }
