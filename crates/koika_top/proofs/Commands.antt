@@ -9,7 +9,7 @@ use Rattle.kw_io.specs.Portions.{TakesAll}
 use Rattle.one_rule.specs.Stimulus.{InputVectors, inputs_of}
 use Rattle.typed_core.specs.declared.design.HostSpec.{HostSpec}
 use Rattle.koika_check.specs.declared.checked.Checked.{Checked}
-use Rattle.koika_top.specs.Answer.{Answers, AppendsFront, IsAnswer, IsFailure, is_of_source, known_source, status_of, text_of}
+use Rattle.koika_top.specs.Answer.{Answers, AppendsFront, IsAnswer, IsFailure, TellsSome, is_of_source, known_source, status_of, text_of}
 use Rattle.koika_top.specs.Sim.{AnswersSim, is_too_long, marks_of, text_of_rows}
 use Rattle.koika_top.specs.Sources.{IsTooLong, Spells, fault_of_source, longest_source, shape_of}
 use Rattle.koika_top.specs.Systems.{run_of}
@@ -123,3 +123,6 @@ module _ (hosts : List HostSpec) (words : List (List ℕ)) (left old new : Optio
 
   pub front-of-each : IfSome (known_source (command_of words) left) (λ bytes. (answer : Answer) → IsAnswer hosts words bytes answer → AppendsFront old new (text_of answer))
   front-of-each = of-known (λ bytes. Tells (IsAnswer hosts words bytes) old new result) _ (known_source (command_of words) left) (λ bytes t. t.front) tells
+
+  pub some-of : IfSome (known_source (command_of words) left) (λ bytes. TellsSome (IsAnswer hosts words bytes) old new result)
+  some-of = of-known (λ bytes. Tells (IsAnswer hosts words bytes) old new result) _ (known_source (command_of words) left) (λ bytes t. t.some) tells

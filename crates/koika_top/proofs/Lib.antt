@@ -7,6 +7,7 @@ pub mod OneAnswer
 pub mod Answered
 pub mod Batches
 pub mod Commands
+pub mod ReadWords
 pub mod Lowered
 pub mod Options
 pub mod Reading

@@ -3,7 +3,7 @@ use Rattle.std.proofs.Common.{◌≡◌, ℕ, ◌⊎◌, inl, inr, List, [], tak
 use Rattle.std.specs.Prelude.{IfSome, IfErr, OnOk}
 use Rattle.kw_io.specs.declared.writing.WriteFault.{WriteFault}
 use Rattle.kw_io.specs.Portions.{TakesAll}
-use Rattle.std.specs.Io.KnownBytes.{Appends, IsAtEnd}
+use Rattle.std.specs.Io.KnownBytes.{Appends, IsAtEnd, Keeps}
 use Rattle.kw_base.specs.FaultLine.{line_of_fault}
 use Rattle.kw_base.specs.declared.fault.Fault.{Fault}
 use Rattle.kw_base.specs.declared.fault.Refusal.{Refusal}
@@ -52,7 +52,13 @@ module _ (Is : Answer → Type 0) (same : AreSame Is) (old new : Option (List �
     refused = refused_by mine is told.all told.status;
     exact = exact_by mine is told.status;
     front = λ answer k. subst (λ (text : List ℕ). AppendsFront old new text) (same mine answer is k).text told.front;
+    some = inl (mine, is, told.front);
   }
+
+-- known bytes that stay are kept
+pub keeps-known : (known : Option (List ℕ)) → Keeps known known
+keeps-known None = tt
+keeps-known (Some bytes) = refl
 
 -- where reading failed or memory ran out before anything was written, every answer is told by nothing
 pub tells_nothing : (Is : Answer → Type 0) (known : Option (List ℕ)) (result : Status) → (result ≡ status.ReadFault) ⊎ (result ≡ status.NoMemory) → Tells Is known known result
@@ -61,12 +67,14 @@ tells_nothing Is known result (inl e) = record {
   refused = λ d. let bad : status.ReadFault ≡ status.Refused = sym e ∙ d in absurd cc;
   exact = λ answer k. inr (inl e);
   front = λ answer k. ([], text_of answer, refl, appends-none known);
+  some = inr (keeps-known known, inl e);
 }
 tells_nothing Is known result (inr e) = record {
   done = λ d. let bad : status.NoMemory ≡ status.Done = sym e ∙ d in absurd cc;
   refused = λ d. let bad : status.NoMemory ≡ status.Refused = sym e ∙ d in absurd cc;
   exact = λ answer k. inr (inr (inr e));
   front = λ answer k. ([], text_of answer, refl, appends-none known);
+  some = inr (keeps-known known, inr e);
 }
 
 -- a text, or why there is none, that was told tells every answer

@@ -1,7 +1,7 @@
 -- What the program answers to the words of its command line and to the bytes of its source, and the text of an answer. A
 -- command's own answers stand in the file of its name; later commands are further cases of these definitions.
 use Rattle.std.specs.Prelude.{◌≡◌, ℕ, ◌⊎◌, Bool, false, true, List, [], ◌∷◌, ◌++◌, codes, MatchOption, Option, None, Some, if◌then◌else◌}
-use Rattle.std.specs.Io.KnownBytes.{Appends}
+use Rattle.std.specs.Io.KnownBytes.{Appends, Keeps}
 use Rattle.kw_base.specs.FaultLine.{line_of_fault}
 use Rattle.typed_core.specs.declared.design.HostSpec.{HostSpec}
 use Rattle.koika_top.specs.Generator.{pipeline}
@@ -60,6 +60,11 @@ IsFailure result = (result ≡ status.ReadFault) ⊎ ((result ≡ status.WriteFa
 -- known bytes grow by the first bytes of a text, by all of them or fewer
 abbrev pub AppendsFront : Option (List ℕ) → Option (List ℕ) → List ℕ → Type 0
 AppendsFront old new text = (front : List ℕ) × (rest : List ℕ) × (front ++ rest ≡ text) × Appends old new front
+
+-- there is such an answer, and its first bytes were written; or nothing was, since reading failed or memory ran out
+abbrev pub TellsSome : (Answer → Type 0) → Option (List ℕ) → Option (List ℕ) → Status → Type 0
+TellsSome Is old new result =
+    ((answer : Answer) × Is answer × AppendsFront old new (text_of answer)) ⊎ (Keeps old new × ((result ≡ status.ReadFault) ⊎ (result ≡ status.NoMemory)))
 
 -- two answers that a user can't tell apart: they have one status and one text
 pub record IsSameAnswer (a b : Answer) : Type 0 where

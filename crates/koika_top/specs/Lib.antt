@@ -1,6 +1,7 @@
 pub mod Sources
 pub mod Systems
 pub mod Words
+pub mod Given
 pub mod Generator
 pub mod Reads
 pub mod Sim

@@ -6,7 +6,7 @@ use Rattle.kw_base.specs.FaultLine.{line_of_fault}
 use Rattle.kw_base.specs.declared.fault.Fault.{Fault}
 use Rattle.kw_base.specs.declared.fault.Refusal.{Refusal}
 use Rattle.kw_base.specs.declared.fault.Refusal.TheVariants as refusals
-use Rattle.koika_top.specs.Answer.{AppendsFront, IsFailure, status_of, text_of}
+use Rattle.koika_top.specs.Answer.{AppendsFront, IsFailure, TellsSome, status_of, text_of}
 use Rattle.koika_top.specs.declared.answer.Answer.{Answer}
 use Rattle.koika_top.specs.declared.answer.Answer.TheVariants.{Refused, Written}
 use Rattle.koika_top.specs.declared.run.Untold.{Untold}
@@ -22,6 +22,7 @@ pub record Tells (Is : Answer → Type 0) (old new : Option (List ℕ)) (result 
   pub refused : result ≡ status.Refused → (fault : Fault) × Is (Refused fault) × Appends old new (line_of_fault fault)
   pub exact : (answer : Answer) → Is answer → (result ≡ status_of answer) ⊎ IsFailure result
   pub front : (answer : Answer) → Is answer → AppendsFront old new (text_of answer)
+  pub some : TellsSome Is old new result
 
 -- a text, or why there is none, is such an answer; want of memory is free
 abbrev pub Makes : (Answer → Type 0) → Result (List ℕ) Refusal → Type 0

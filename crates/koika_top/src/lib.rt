@@ -6,6 +6,7 @@
 
 mod answer;
 mod generator;
+mod given;
 mod laws;
 mod program;
 mod reads;

@@ -3,7 +3,7 @@ ghost use Rattle.std.specs.Io.KnownBytes.{Appends, IsAtEnd, Keeps};
 ghost use Rattle.kw_io.specs.Faults.{Rose};
 ghost use Rattle.koika_top.specs.Words.{command_of};
 ghost use Rattle.one_rule.specs.Externs.{host_specs};
-ghost use Rattle.koika_top.specs.Answer.{Answers, AppendsFront, IsAnswer, IsFailure, is_of_source, known_source, reads_source, status_of, text_of, usage_line};
+ghost use Rattle.koika_top.specs.Answer.{Answers, AppendsFront, IsAnswer, IsFailure, TellsSome, is_of_source, known_source, reads_source, status_of, text_of, usage_line};
 ghost use Rattle.koika_top.specs.Generator.{pipeline};
 ghost use Rattle.koika_top.specs.Sim.{AnswersSim};
 ghost use Rattle.koika_top.specs.Sources.{longest_source};
@@ -75,6 +75,11 @@ pub fn run_here<S: Source, K: Sink>(
         IsAnswer (host_specs hosts.now) (map string_bytes words.now) bytes answer →
         AppendsFront (K.written sink.old) (K.written sink.new) (text_of answer)) }
 
+    // Whatever the status, there is such an answer, and its first bytes were written; or nothing was, since reading failed
+    // or memory ran out.
+    ensures some { IfSome (known_source (command_of (map string_bytes words.now)) (S.left source.old)) (λ bytes.
+        TellsSome (IsAnswer (host_specs hosts.now) (map string_bytes words.now) bytes) (K.written sink.old) (K.written sink.new) result) }
+
     // Reading or writing failed only where the count of faults rose.
     ensures read_fault { result ≡ Status.ReadFault → Rose (S.faults source.old) (S.faults source.new) }
     ensures nothing_written { result ≡ Status.ReadFault → Keeps (K.written sink.old) (K.written sink.new) }
@@ -106,12 +111,13 @@ fn answer_words<S: Source, K: Sink>(
     ensures nothing_written { result ≡ Status.ReadFault → Keeps (K.written sink.old) (K.written sink.new) }
     ensures write_fault { result ≡ Status.WriteFault → Rose (K.faults sink.old) (K.faults sink.new) }
 {
-    match command_of(words) {
-        None => write_answer(alloc, &Answer::Usage, sink),
-        Some(command) if command.reads_source() => {
+    match command_of(alloc, words) {
+        Ok(None) => write_answer(alloc, &Answer::Usage, sink),
+        Ok(Some(command)) if command.reads_source() => {
             answer_source(alloc, command, hosts, source, sink)
         }
-        Some(command) => answer_bytes(alloc, command, hosts, &[], sink),
+        Ok(Some(command)) => answer_bytes(alloc, command, hosts, &[], sink),
+        Err(NoMemory) => Status::NoMemory,
     }
 }
 

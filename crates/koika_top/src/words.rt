@@ -1,11 +1,14 @@
-ghost use Rattle.std.specs.Prelude.{◌≡◌, ◌≤◌, map, string_bytes, length, All, IfSome, IsTrue};
+ghost use Rattle.std.specs.Prelude.{◌≡◌, ◌≤◌, map, string_bytes, length, All, IfOk, IfSome, IsTrue, is_some};
 ghost use Rattle.std.specs.List.{list_all};
 ghost use Rattle.std.specs.Char.{IsAsciiDigit, is_ascii_digit};
 ghost use Rattle.koika_top.specs.Steps.{HasFewStages};
 ghost use Rattle.koika_top.specs.Answer.{is_of_source};
-ghost use Rattle.koika_top.specs.Words.{alone_of, are_few_digits, command_of, gen_of, no_options, number_of, options_of, put_number, sim_of, value_of, with_cycles, with_summary, with_word};
+ghost use Rattle.koika_top.specs.Words.{alone_of, are_few_digits, command_of, gen_by, gen_of, no_options, number_of, options_of, put_number, sim_of, value_of, with_cycles, with_summary, with_word};
 
+use crate::given::{read_options, read_stages};
 use crate::shown::Shown;
+use kw_bits::NoMemory;
+use std::alloc::Global;
 
 /// What the arguments ask for.
 #[derive(Clone, Copy, Debug, PartialEq, Eq)]
@@ -29,11 +32,11 @@ impl Command {
     }
 }
 
-// The options of `sim` that are given.
+/// The options of a run that are given.
 #[derive(Clone, Copy, Debug, PartialEq, Eq)]
-struct Options {
-    cycles: Option<u32>,
-    shown: Shown,
+pub(crate) struct Options {
+    pub(crate) cycles: Option<u32>,
+    pub(crate) shown: Shown,
 }
 
 // Options are at most this many words, since each stands at most once.
@@ -43,16 +46,16 @@ const MOST_WORDS: usize = 3;
 const MOST_STAGES: u32 = 100;
 
 /// The command that the words of the command line ask for, if they are understood.
-pub(crate) fn command_of(words: &[String]) -> Option<Command>
-    ensures command { result ≡ command_of (map string_bytes words.now) }
-    ensures few { IfSome result HasFewStages }
+pub(crate) fn command_of(alloc: Global, words: &[String]) -> Result<Option<Command>, NoMemory>
+    ensures command { IfOk result (λ command. command ≡ command_of (map string_bytes words.now)) }
+    ensures few { IfOk result (λ command. IfSome command HasFewStages) }
 {
     match words {
-        [command, rest @ ..] if command.as_str() == "check" => alone_of(Command::Check, rest),
-        [command, rest @ ..] if command.as_str() == "print" => alone_of(Command::Print, rest),
-        [command, options @ ..] if command.as_str() == "sim" => sim_of(options),
-        [command, stages @ ..] if command.as_str() == "gen" => gen_of(stages),
-        _ => None,
+        [command, rest @ ..] if command.as_str() == "check" => Ok(alone_of(Command::Check, rest)),
+        [command, rest @ ..] if command.as_str() == "print" => Ok(alone_of(Command::Print, rest)),
+        [command, options @ ..] if command.as_str() == "sim" => sim_of(alloc, options),
+        [command, stages @ ..] if command.as_str() == "gen" => gen_of(alloc, stages),
+        _ => Ok(None),
     }
 }
 
@@ -67,34 +70,66 @@ fn alone_of(command: Command, words: &[String]) -> Option<Command>
     }
 }
 
-fn sim_of(words: &[String]) -> Option<Command>
-    ensures command { result ≡ sim_of (options_of (map string_bytes words.now)) }
-    ensures few { IfSome result HasFewStages }
+fn sim_of(alloc: Global, words: &[String]) -> Result<Option<Command>, NoMemory>
+    ensures command { IfOk result (λ command. command ≡ sim_of (options_of (map string_bytes words.now))) }
+    ensures few { IfOk result (λ command. IfSome command HasFewStages) }
 {
-    if words.len() > MOST_WORDS {
-        return None;
+    if !are_options(words) {
+        return Ok(None);
     }
-    let options = options_of(words)?;
-    Some(Command::Sim {
-        cycles: options.cycles?,
-        shown: options.shown,
-    })
+    let options = read_options(alloc, "sim", words)?;
+    match options.cycles {
+        Some(cycles) => Ok(Some(Command::Sim {
+            cycles,
+            shown: options.shown,
+        })),
+        None => Ok(None),
+    }
 }
 
-fn gen_of(words: &[String]) -> Option<Command>
-    ensures command { result ≡ gen_of (map string_bytes words.now) }
-    ensures few { IfSome result HasFewStages }
+// Whether words are options of a run, each at most once and the cycles among them.
+fn are_options(words: &[String]) -> bool
+    ensures { result ≡ is_some (sim_of (options_of (map string_bytes words.now))) }
+{
+    if words.len() > MOST_WORDS {
+        return false;
+    }
+    match options_of(words) {
+        Some(options) => options.cycles.is_some(),
+        None => false,
+    }
+}
+
+fn gen_of(alloc: Global, words: &[String]) -> Result<Option<Command>, NoMemory>
+    ensures command { IfOk result (λ command. command ≡ gen_of (map string_bytes words.now)) }
+    ensures few { IfOk result (λ command. IfSome command HasFewStages) }
+{
+    if !are_stages(words) {
+        return Ok(None);
+    }
+    Ok(gen_by(read_stages(alloc, words)?))
+}
+
+// Whether words are one, the number of stages of a pipeline.
+fn are_stages(words: &[String]) -> bool
+    ensures { result ≡ is_some (gen_of (map string_bytes words.now)) }
 {
     match words {
-        [word] => {
-            let stages = number_of(word.as_bytes())?;
-            if 1 <= stages && stages <= MOST_STAGES {
-                Some(Command::Gen { stages })
-            } else {
-                None
-            }
-        }
-        _ => None,
+        [word] => gen_by(number_of(word.as_bytes())).is_some(),
+        _ => false,
+    }
+}
+
+// The pipeline of so many stages, if there is one.
+fn gen_by(stages: Option<u32>) -> Option<Command>
+    ensures command { result ≡ gen_by stages }
+    ensures few { IfSome result HasFewStages }
+{
+    let stages = stages?;
+    if 1 <= stages && stages <= MOST_STAGES {
+        Some(Command::Gen { stages })
+    } else {
+        None
     }
 }
 
@@ -156,8 +191,8 @@ fn with_summary(others: Option<Options>) -> Option<Options>
     }
 }
 
-// The number that a word of one to ten digits writes, if 32 bits hold it.
-fn number_of(word: &[u8]) -> Option<u32>
+/// The number that a word of one to ten digits writes, if 32 bits hold it.
+pub(crate) fn number_of(word: &[u8]) -> Option<u32>
     ensures { result ≡ number_of word.now }
 {
     if !are_few_digits(word) {

@@ -71,8 +71,8 @@ const ECHO: &str =
 
 const SMALL: &str = "reg r:bits 1=1'd1;rule s{write0(r,1'd0)}schedule{s;}\n%%\n?";
 
-// Each command, and each kind of refusal, once.
-static CASES: [Case; 19] = [
+// Each command, each kind of refusal, and small designs of which each shows one rule on accesses or values.
+static CASES: [Case; 34] = [
     (
         &["check"],
         COUNTER,
@@ -166,6 +166,96 @@ static CASES: [Case; 19] = [
         COUNTER,
         Status::Refused,
         "fault 45 at 0:0\n",
+    ),
+    (
+        &["sim", "--cycles", "2"],
+        "reg x : bits 8 = 8'd0; rule a { write0(x, 8'd1) } rule b { write0(x, 8'd2) } schedule { a; b; }",
+        Status::Done,
+        "@0 - x=00\n@1 a x=01\n@2 a x=01\n",
+    ),
+    (
+        &["sim", "--cycles", "1"],
+        "reg x : bits 8 = 8'd0; rule a { write0(x, 8'd1) } rule b { write1(x, read1(x) + 8'd1) } schedule { a; b; }",
+        Status::Done,
+        "@0 - x=00\n@1 a,b x=02\n",
+    ),
+    (
+        &["sim", "--cycles", "1"],
+        "reg x : bits 8 = 8'd3; reg y : bits 8 = 8'd0; rule a { write0(y, read1(x)) } rule b { write0(x, 8'd9) } schedule { a; b; }",
+        Status::Done,
+        "@0 - x=03 y=00\n@1 a x=03 y=03\n",
+    ),
+    (
+        &["sim", "--cycles", "1"],
+        "reg x : bits 8 = 8'd1; reg y : bits 8 = 8'd2; rule a { write0(x, read0(y)) } rule b { write0(y, read0(x)) } schedule { a; b; }",
+        Status::Done,
+        "@0 - x=01 y=02\n@1 a x=02 y=02\n",
+    ),
+    (
+        &["sim", "--cycles", "1"],
+        "reg x : bits 8 = 8'd0; rule a { write1(x, 8'd1); write1(x, 8'd2) } schedule { a; }",
+        Status::Done,
+        "@0 - x=00\n@1 - x=00\n",
+    ),
+    (
+        &["sim", "--cycles", "1"],
+        "reg x : bits 8 = 8'd3; reg y : bits 8 = 8'd0; rule a { write0(x, 8'd5); write0(y, read0(x)) } schedule { a; }",
+        Status::Done,
+        "@0 - x=03 y=00\n@1 a x=05 y=03\n",
+    ),
+    (
+        &["sim", "--cycles", "2"],
+        "reg x : bits 8 = 8'd0; input stop : bits 1; rule a { write0(x, read0(x) + 8'd1); if stop { abort } } schedule { a; }\n%%\nstop=1\nstop=0",
+        Status::Done,
+        "@0 - x=00\n@1 - x=00\n@2 a x=01\n",
+    ),
+    (
+        &["sim", "--cycles", "3"],
+        "reg t : bits 1 = 1'd0; reg n : bits 8 = 8'd0; rule a { if read0(t) == 1'd1 { abort } else { write0(t, 1'd1) } } rule b { write0(n, read0(n) + 8'd1) } rule c { write1(t, 1'd0) } schedule { try a then { b; } else { c; } }",
+        Status::Done,
+        "@0 - t=0 n=00\n@1 a,b t=1 n=01\n@2 c t=0 n=01\n@3 a,b t=1 n=02\n",
+    ),
+    (
+        &["sim", "--cycles", "1"],
+        "reg x : bits 128 = 128'd1; rule a { write0(x, read0(x) << 128'd128) } schedule { a; }",
+        Status::Done,
+        "@0 - x=00000000000000000000000000000001\n@1 a x=00000000000000000000000000000000\n",
+    ),
+    (
+        &["sim", "--cycles", "4"],
+        "table t : bits 2 -> bits 4 { 4'd9, 4'd3, 4'd0, 4'd15 } reg i : bits 2 = 2'd0; reg o : bits 4 = 4'd0; rule a { write0(o, t(read0(i))); write0(i, read0(i) + 2'd1) } schedule { a; }",
+        Status::Done,
+        "@0 - i=0 o=0\n@1 a i=1 o=9\n@2 a i=2 o=3\n@3 a i=3 o=0\n@4 a i=0 o=f\n",
+    ),
+    (
+        &["sim", "--cycles", "0"],
+        "struct P { hi : bits 4, lo : bits 8 } reg p : P = P::{ hi: 4'd1, lo: 8'd2 }; reg q : [bits 4; 2] = [4'd1, 4'd2]; schedule { }",
+        Status::Done,
+        "@0 - p=102 q=21\n",
+    ),
+    (
+        &["sim", "--cycles", "1"],
+        "input k : bits 8; schedule { }\n%%",
+        Status::Done,
+        "@0 -\n@1 -\n",
+    ),
+    (
+        &["sim", "--cycles", "1"],
+        "input k : bits 8; schedule { }\n%%\nk=1 k=1",
+        Status::Refused,
+        "fault 30 at 3:5\n",
+    ),
+    (
+        &["sim", "--cycles", "1"],
+        "input k : bits 8; schedule { }\n%%\nz=1",
+        Status::Refused,
+        "fault 31 at 3:1\n",
+    ),
+    (
+        &["sim", "--cycles", "1"],
+        "input k : bits 8; schedule { }\n%%\nk=256",
+        Status::Refused,
+        "fault 32 at 3:1\n",
     ),
 ];
 

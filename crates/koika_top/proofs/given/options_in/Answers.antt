@@ -1,0 +1,15 @@
+use Rattle.std.proofs.Common.{◌≡◌, ◌∙◌, ap₂, codes, inl, inr}
+use Rattle.clap.specs.Words.{found_of, one_text}
+use Rattle.clap.proofs.WalkLemmas.{one_text-rows}
+use Rattle.koika_top.proofs.ReadWords.{shown_by_flag}
+use Rattle.koika_top.proofs.given.options_in.Goals as goal
+use Rattle.koika_top.proofs.given.options_in.Goals.{then-get_flag, else-get_flag}
+
+pub returns : goal.returns
+returns c options give =
+    let found = found_of c.args.matches.now in
+    let shown =
+    shown_by_flag (one_text found (codes "summary")) c.get_flag.result options.shown c.if-get_flag.shown (one_text-rows found (codes "summary") ∙ give.shown)
+    c.get_flag.ensures.value c.get_flag.ensures.other
+    (elim c.if-get_flag.branch [ then-get_flag w ↦ inl (w.if-get_flag.true, w.shown-is) | else-get_flag w ↦ inr (w.if-get_flag.false, w.shown-is) ]) in
+    ap₂ (λ x y. record { cycles = x; shown = y }) (c.number_in.ensures ∙ give.cycles) shown

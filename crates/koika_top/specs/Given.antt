@@ -1,0 +1,45 @@
+-- What the reader of command lines is told of the options of a run and of the word of `gen`, and which options the rows
+-- that it finds give. Only contracts of private functions cite it.
+use Rattle.std.specs.Prelude.{◌≡◌, ℕ, true, List, codes, Option, Some, option_and_then}
+use Rattle.clap.specs.Walk.{Row, Rule, Text, first_of, one_of}
+use Rattle.clap.specs.Simple.{App, new_app, new_rule, on_top, with_rule}
+use Rattle.clap.specs.declared.builder.action.ArgAction.TheVariants.{SetTrue}
+use Rattle.koika_top.specs.Words.{number_of}
+use Rattle.koika_top.specs.declared.shown.Shown.{Shown}
+use Rattle.koika_top.specs.declared.shown.Shown.TheVariants.{Report, Summary}
+use Rattle.koika_top.specs.declared.words.Options.{Options}
+
+-- a command to which all words belong, and that knows no word of its own
+abbrev pub bare : Text → App
+bare name = on_top (λ s. record s { no_binary_name = true; disable_help_flag = true }) (new_app name)
+
+abbrev pub cycles_rule : Rule
+cycles_rule = record (new_rule (codes "cycles")) { long = Some (codes "cycles"); required = true }
+
+abbrev pub summary_rule : Rule
+summary_rule = record (new_rule (codes "summary")) { long = Some (codes "summary"); action = Some SetTrue }
+
+-- the options of a run
+abbrev pub run_app : Text → App
+run_app name = with_rule (with_rule (bare name) cycles_rule) summary_rule
+
+abbrev pub stages_rule : Rule
+stages_rule = record (new_rule (codes "stages")) { required = true }
+
+-- the one word of `gen`
+abbrev pub gen_app : App
+gen_app = with_rule (bare (codes "gen")) stages_rule
+
+-- the number that the first value of an argument writes
+abbrev pub number_in : Text → List Row → Option ℕ
+number_in id rows = option_and_then number_of (first_of id rows)
+
+-- how a flag tells whether a summary is wanted
+abbrev pub flag_of : Shown → Text
+flag_of Report = codes "false"
+flag_of Summary = codes "true"
+
+-- the rows give these options
+pub record Give (rows : List Row) (options : Options) : Type 0 where
+  pub cycles : number_in (codes "cycles") rows ≡ options.cycles
+  pub shown : one_of (codes "summary") rows ≡ Some (flag_of options.shown)

@@ -1,0 +1,85 @@
+ghost use Rattle.std.specs.Prelude.{◌≡◌, true, map, string_bytes, codes, IfOk, is_some, Some};
+ghost use Rattle.clap.specs.Words.{app_of, found_of, kind_of, rows_of};
+ghost use Rattle.koika_top.specs.Given.{Give, bare, number_in};
+ghost use Rattle.koika_top.specs.Words.{gen_by, gen_of, options_of, sim_of};
+ghost use Rattle.koika_top.specs.declared.words.Options.{Options as AnyOptions};
+
+use crate::shown::Shown;
+use crate::words::{Options, number_of};
+use clap::error::ErrorKind;
+use clap::{Arg, ArgAction, ArgMatches, Command, Error};
+use kw_bits::NoMemory;
+use std::alloc::Global;
+
+/// The options of a run that words give, which are valid for the command of this name.
+pub(crate) fn read_options(alloc: Global, name: &str, words: &[String]) -> Result<Options, NoMemory>
+    requires valid { is_some (sim_of (options_of (map string_bytes words.now))) ≡ true }
+    ensures { IfOk result (λ options. options_of (map string_bytes words.now) ≡ Some options) }
+{
+    let cycles = Arg::new(alloc, "cycles").long("cycles").required(true);
+    let summary = Arg::new(alloc, "summary")
+        .long("summary")
+        .action(ArgAction::SetTrue);
+    let command = bare(alloc, name).arg(cycles)?.arg(summary)?;
+    match command.try_get_matches_from(words) {
+        Ok(matches) => Ok(options_in(&matches)),
+        Err(error) => Err(want_of_memory(&error)),
+    }
+}
+
+/// The number that the word of `gen` writes, which is valid.
+pub(crate) fn read_stages(alloc: Global, words: &[String]) -> Result<Option<u32>, NoMemory>
+    requires valid { is_some (gen_of (map string_bytes words.now)) ≡ true }
+    ensures { IfOk result (λ stages. gen_of (map string_bytes words.now) ≡ gen_by stages) }
+{
+    let stages = Arg::new(alloc, "stages").required(true);
+    let command = bare(alloc, "gen").arg(stages)?;
+    match command.try_get_matches_from(words) {
+        Ok(matches) => Ok(number_in(&matches, "stages")),
+        Err(error) => Err(want_of_memory(&error)),
+    }
+}
+
+// A command to which all words belong, and that knows no word of its own.
+fn bare<'a>(alloc: Global, name: &'a str) -> Command<'a>
+    ensures { app_of result ≡ bare name.entry.now }
+{
+    Command::new(alloc, name)
+        .no_binary_name(true)
+        .disable_help_flag(true)
+}
+
+// The options of a run that were found.
+fn options_in(matches: &ArgMatches<'_>) -> Options
+    ensures { (options : AnyOptions) → Give (rows_of (found_of matches.now)) options → result ≡ options }
+{
+    let shown = if matches.get_flag("summary") {
+        Shown::Summary
+    } else {
+        Shown::Report
+    };
+    Options {
+        cycles: number_in(matches, "cycles"),
+        shown,
+    }
+}
+
+// The number that the first value of an argument writes.
+fn number_in(matches: &ArgMatches<'_>, id: &str) -> Option<u32>
+    ensures { result ≡ number_in id.now (rows_of (found_of matches.now)) }
+{
+    match matches.get_str(id) {
+        Some(word) => number_of(word.as_bytes()),
+        None => None,
+    }
+}
+
+// Why valid words were refused.
+fn want_of_memory(error: &Error) -> NoMemory
+    requires { kind_of error.now ≡ ErrorKind.OutOfMemory }
+{
+    match error.kind() {
+        ErrorKind::OutOfMemory => NoMemory,
+        _ => unreachable!(),
+    }
+}
