@@ -1,10 +1,10 @@
 -- The body of a function is lowered where its parameters are bound.
-use Rattle.std.proofs.Common.{◌≡◌, ℕ, zero, suc, ◌+◌, ◌<◌, ◌≤◌, List, [], ◌∷◌, ◌++◌, length, drop, Option, Some, slice_get, get_or, add-one, drop-cons, arith, refl, ap, sym, subst, ◌∙◌}
+use Rattle.std.proofs.Common.{◌≡◌, ℕ, zero, suc, ◌+◌, ◌<◌, ◌≤◌, List, [], ◌∷◌, length, drop, Option, Some, slice_get, get_or, add-one, drop-cons, arith, refl, ap, sym, subst, ◌∙◌}
 use Rattle.std.proofs.lemmas.Option.{slice_get_read}
 use Rattle.std.specs.Prelude.{reverse}
 use Rattle.koika_check.specs.Meaning.{meaning}
 use Rattle.koika_check.specs.Types.{width_of}
-use Rattle.koika_check.specs.Typing.{HasType, IsFunction, IsTypedDesign}
+use Rattle.koika_check.specs.Typing.{HasType, IsFunction}
 use Rattle.koika_check.specs.declared.checked.Checked.{Checked}
 use Rattle.koika_check.specs.declared.checked.Function.{Function}
 use Rattle.koika_check.specs.declared.typed.ValueType.{ValueType}

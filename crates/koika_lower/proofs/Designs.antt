@@ -1,6 +1,6 @@
 -- The design of the core that is made of a typed design's registers, inputs, tables, hosts and rules is valid, and each of its
 -- rules does alone what the typed tree's rule does.
-use Rattle.std.proofs.Common.{◌≡◌, ℕ, ◌≤◌, List, [], ◌∷◌, length, map, take, Option, Some, None, slice_get, refl, ap, ap₂, sym, subst, ◌∙◌}
+use Rattle.std.proofs.Common.{◌≡◌, ℕ, ◌≤◌, List, [], length, map, Option, None, refl, ap, ap₂, sym, subst, ◌∙◌}
 use Rattle.std.proofs.Math.Seq.{take-length}
 use Rattle.std.proofs.lemmas.List.{length-map}
 use Rattle.std.proofs.lemmas.List.Elements.{All-map}
@@ -29,7 +29,7 @@ use Rattle.typed_core.specs.declared.outcome.Stopped.TheVariants as stopped
 use Rattle.typed_core.proofs.Typed.{PortsFit-alone}
 use Rattle.koika_check.specs.Meaning.{Setting, bodies_behind, meaning, setting}
 use Rattle.koika_check.specs.TypedAlone.{outcome_of as typed_outcome, typed_alone}
-use Rattle.koika_check.specs.Typing.{HasType, IsInput, IsRegister, IsTypedDesign}
+use Rattle.koika_check.specs.Typing.{HasType, IsRegister, IsTypedDesign}
 use Rattle.koika_check.specs.declared.checked.Checked.{Checked}
 use Rattle.koika_check.specs.declared.checked.Function.{Function}
 use Rattle.koika_check.specs.declared.checked.Host.{Host}
@@ -38,7 +38,7 @@ use Rattle.koika_check.specs.declared.checked.Register.{Register}
 use Rattle.koika_check.specs.declared.checked.Rule.{Rule}
 use Rattle.koika_check.specs.declared.checked.Table.{Table}
 use Rattle.koika_check.specs.declared.typed.ValueType.{ValueType}
-use Rattle.koika_lower.specs.Lowering.{DoesTheSame, IsLowered, input_of, register_of, register_widths}
+use Rattle.koika_lower.specs.Lowering.{IsLowered, input_of, register_of, register_widths}
 use Rattle.koika_lower.specs.Rules.{AreRules, IsRule}
 use Rattle.koika_lower.specs.Simulation.{Alike, AreNames, EndAlike, Lowers, Stands, declared_by, environment, world}
 use Rattle.koika_lower.specs.declared.lowered.Bound.{Bound}

@@ -1,5 +1,4 @@
 use Rattle.std.proofs.Common.{◌≡◌, ◌*◌, ◌≤◌, ap, ap₂, sym, subst, length, ◌∙◌}
-use Rattle.koika_lower.specs.declared.lowered.Lowered.{Lowered}
 use Rattle.koika_lower.proofs.Bindings.{array-is}
 use Rattle.koika_lower.proofs.applying.array.Goals as goal
 

@@ -171,11 +171,11 @@ called_body-returns-in_default-get t c design =
     let d = c.args.design.now in
     subst (λ (o : Operation). IsCallee d c.args.functions o c.unit.result) (sym c.in-Call.is)
     (λ (f : Function) below at. elim c.in_default-get.branch [
-      called_body-in_default-get-via-in-Some+else-number-functions w ↦ absurd (omega (arith, below, w.if-number-functions.false))
-    | called_body-in_default-get-via-in_default-get w ↦
-        let none : slice_get d.functions c.in-Call.number ≡ None =
-        slice_get_past d.functions c.in-Call.number (subst (λ (fs : List Function). length fs ≤ c.in-Call.number) c.as_slice.ensures w.in_default-get.ensures.lookup.3) in
-        absurd (let e = sym none ∙ at in cc)
+      | called_body-in_default-get-via-in-Some+else-number-functions w ↦ absurd (omega (arith, below, w.if-number-functions.false))
+      | called_body-in_default-get-via-in_default-get w ↦
+          let none : slice_get d.functions c.in-Call.number ≡ None =
+          slice_get_past d.functions c.in-Call.number (subst (λ (fs : List Function). length fs ≤ c.in-Call.number) c.as_slice.ensures w.in_default-get.ensures.lookup.3) in
+          absurd (let e = sym none ∙ at in cc)
     ])
 
 pub lower_body-returns-in_ok-deeper-in-Some : goal.lower_body-returns-in_ok-deeper-in-Some
