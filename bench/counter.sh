@@ -1,13 +1,13 @@
 #!/usr/bin/env bash
-# Measures the built program: what a cycle of the counter costs, and what sources of up to a megabyte cost. It is run by
-# hand.
+# Measures the program: what a cycle of the counter costs, and what sources of up to a megabyte cost. It takes another program
+# than the built one as an argument, and is run by hand.
 set -eu
 cd "$(dirname "$0")/.."
 . bench/cost.sh
 
 counter=examples/counter.koika
-program=crates/koika_cli/out/koika_cli
-./koika sim --cycles 0 <"$counter" >/dev/null # builds the program if need be
+program=${1:-crates/koika_cli/out/koika_cli}
+[ $# = 1 ] || ./koika sim --cycles 0 <"$counter" >/dev/null # builds the program if need be
 
 bytes() {
     wc -c <"$1" | awk '{ print $1 }'

@@ -94,7 +94,7 @@ impl Checker {
             things: Things::new(alloc, text),
             parts: Parts::new(alloc, text),
             locals: Locals::new(alloc, text),
-            shapes: Shapes::new(alloc),
+            shapes: Shapes::new(alloc, text),
             registers: Sequence::new(alloc),
             inputs: Sequence::new(alloc),
             fields: Sequence::new(alloc),

@@ -32,13 +32,13 @@ pub(crate) struct Shapes {
 }
 
 impl Shapes {
-    /// No array types.
-    pub(crate) fn new(alloc: Global) -> Shapes
+    /// No array types. Those to come stand in this text.
+    pub(crate) fn new(alloc: Global, text: &[u8]) -> Shapes
         ensures kept { AreShapes result }
         ensures none { result.arrays ≡ [] }
     {
         Shapes {
-            keys: Names::new(alloc),
+            keys: Names::of_text(alloc, text),
             arrays: Sequence::new(alloc),
         }
     }

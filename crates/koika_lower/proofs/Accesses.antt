@@ -21,7 +21,8 @@ use Rattle.koika_check.specs.declared.checked.Table.{Table}
 use Rattle.koika_check.specs.declared.typed.Operation.TheVariants as operation
 use Rattle.koika_check.specs.declared.typed.ValueType.{ValueType}
 use Rattle.koika_lower.specs.Applied.{IsAskedTable, IsWritten}
-use Rattle.koika_lower.specs.Simulation.{EndAlike, IsApplied, Lowers, LowersAll, Sense, Simulates, Stands, apply_sense, declared_by, externs_of, widths_of_registers, world}
+use Rattle.koika_lower.specs.Lowering.{register_widths}
+use Rattle.koika_lower.specs.Simulation.{EndAlike, IsApplied, Lowers, LowersAll, Sense, Simulates, Stands, apply_sense, declared_by, externs_of, world}
 use Rattle.koika_lower.specs.declared.lowered.Bound.{Bound}
 use Rattle.koika_lower.specs.declared.lowered.Lowered.{Lowered}
 use Rattle.koika_lower.proofs.Constructs.{bits-come, one-lowers, single, valid-bits, world-design, world-ports}
@@ -49,7 +50,7 @@ module _ (d : Checked) (n depth : ℕ) (names : List Bound) (types : List ValueT
       (λ env ports x. comes_to (entry_of (slice_get env.externs.tables number) x)) h.means (h.width table it.1 ∙ sym (width-bits d table.spec.out_width))
       (λ widths a valid. subst (λ w. ActionHasWidth (declared_by d) l.action widths w) (sym (width-bits d table.spec.out_width))
       (h.typed (declared_by d) widths (width_of d t) table.spec.out_width a valid.0 (table.spec, core, sym from, refl)))
-      (λ inputs ports v x p is. bits-come d (widths_of_registers d) table.spec.out_width (entry_of (slice_get (externs_of d).tables number) x)
+      (λ inputs ports v x p is. bits-come d (register_widths d) table.spec.out_width (entry_of (slice_get (externs_of d).tables number) x)
       (entry_of (table_by (slice_get (world d n inputs ports).design.tables number)) (packed v))
       (ap (λ (c : Checked). entry_of (table_by (slice_get c.tables number)) (packed v)) (world-design d n inputs ports)
       ∙ ap (λ (o : Option Table). entry_of (table_by o) (packed v)) it.1
@@ -79,18 +80,18 @@ module _ (d : Checked) (n depth : ℕ) (names : List Bound) (types : List ValueT
       let it = given.applies in
       let r : Register = it.0 in
       let ok = all-get (IsRegister d) d.registers register r given.design.registers it.2 in
-      let held : slice_get (widths_of_registers d) register ≡ Some (width_of d t) =
+      let held : slice_get (register_widths d) register ≡ Some (width_of d t) =
       slice_get-map (λ (x : Register). x.width) d.registers register ∙ ap (option_map (λ (x : Register). x.width)) it.2 ∙ ap Some (ok.width ∙ ap (width_of d) (sym it.3)) in
       subst (λ (r : Option ValueType). Lowers d n depth names types r (apply_sense (operation.Write port register) senses) l) (sym it.4)
       (one-lowers d n depth names types (operation.Write port register) t None senses operands init last l e false given.all tt
       (λ env ports x. ports.write port register x) h.means h.width
       (λ widths a valid. h.typed (declared_by d) widths (width_of d t) a it.1 held)
       (λ inputs ports v x p is.
-      subst (λ (q : Ports Stopped). Simulates (widths_of_registers d) (Stands d None) (q.write port register (packed v) >>= λ _. comes_to None) (ports.write port register x)) (sym (world-ports d n inputs ports))
-      (subst (λ y. Simulates (widths_of_registers d) (Stands d None) (ports.write port register y >>= λ _. comes_to None) (ports.write port register x)) (sym is.1)
-      (sim-then (widths_of_registers d) (λ a b. (a ≡ b) × ValueFits 0 b) (Stands d None) (ports.write port register x) (ports.write port register x) (λ _. comes_to None)
-      (sim-port (widths_of_registers d) 0 (ports.write port register x) (λ events fit. p.write port register (width_of d t) x events it.1 held is.2 fit))
-      (λ a b same. sim-value (widths_of_registers d) (Stands d None) None b same.1.as_wide)))))
+      subst (λ (q : Ports Stopped). Simulates (register_widths d) (Stands d None) (q.write port register (packed v) >>= λ _. comes_to None) (ports.write port register x)) (sym (world-ports d n inputs ports))
+      (subst (λ y. Simulates (register_widths d) (Stands d None) (ports.write port register y >>= λ _. comes_to None) (ports.write port register x)) (sym is.1)
+      (sim-then (register_widths d) (λ a b. (a ≡ b) × ValueFits 0 b) (Stands d None) (ports.write port register x) (ports.write port register x) (λ _. comes_to None)
+      (sim-port (register_widths d) 0 (ports.write port register x) (λ events fit. p.write port register (width_of d t) x events it.1 held is.2 fit))
+      (λ a b same. sim-value (register_widths d) (Stands d None) None b same.1.as_wide)))))
 
   -- an operation without operands
   no_operands : (rising : _) (senses : List Sense) (operands : List Lowered) → LowersAll d n depth rising names types [] senses operands → senses ≡ []
@@ -106,7 +107,7 @@ module _ (d : Checked) (n depth : ℕ) (names : List Bound) (types : List ValueT
       let it = given.applies in
       let r : Register = it.0 in
       let ok = all-get (IsRegister d) d.registers register r given.design.registers it.2 in
-      let held : slice_get (widths_of_registers d) register ≡ Some (width_of d r.of) =
+      let held : slice_get (register_widths d) register ≡ Some (width_of d r.of) =
       slice_get-map (λ (x : Register). x.width) d.registers register ∙ ap (option_map (λ (x : Register). x.width)) it.2 ∙ ap Some ok.width in
       subst (λ (o : Option ValueType). Lowers d n depth names types o (apply_sense (operation.Read port register) senses) l) (sym it.3)
       (subst (λ (ms : List Sense). Lowers d n depth names types (Some r.of) (apply_sense (operation.Read port register) ms) l) (sym (no_operands false senses operands given.all))
@@ -116,12 +117,12 @@ module _ (d : Checked) (n depth : ℕ) (names : List Bound) (types : List ValueT
         width = ok.width;
         typed = λ widths f. (it.1, held ∙ ap Some (sym ok.width));
         means = λ inputs ports values locals w p st.
-            subst (λ (c : Checked). Simulates (widths_of_registers d) (Stands d (Some r.of)) ((world d n inputs ports).ports.read port register >>= λ x. read_as c (slice_get c.registers register) x) (ports.read port register)) (sym (world-design d n inputs ports))
-            (subst (λ (q : Ports Stopped). Simulates (widths_of_registers d) (Stands d (Some r.of)) (q.read port register >>= λ x. read_as d (slice_get d.registers register) x) (ports.read port register)) (sym (world-ports d n inputs ports))
-            (subst (λ (o : Option Register). Simulates (widths_of_registers d) (Stands d (Some r.of)) (ports.read port register >>= λ x. read_as d o x) (ports.read port register)) (sym it.2)
-            (sim-then (widths_of_registers d) (λ a b. (a ≡ b) × ValueFits (width_of d r.of) b) (Stands d (Some r.of)) (ports.read port register) (ports.read port register) (λ x. read_as d (Some r) x)
-            (sim-port (widths_of_registers d) (width_of d r.of) (ports.read port register) (λ events fit. p.read port register (width_of d r.of) events it.1 held fit))
-            (λ a b same. sim-value (widths_of_registers d) (Stands d (Some r.of)) (Some (unpacked d r.of a)) b
+            subst (λ (c : Checked). Simulates (register_widths d) (Stands d (Some r.of)) ((world d n inputs ports).ports.read port register >>= λ x. read_as c (slice_get c.registers register) x) (ports.read port register)) (sym (world-design d n inputs ports))
+            (subst (λ (q : Ports Stopped). Simulates (register_widths d) (Stands d (Some r.of)) (q.read port register >>= λ x. read_as d (slice_get d.registers register) x) (ports.read port register)) (sym (world-ports d n inputs ports))
+            (subst (λ (o : Option Register). Simulates (register_widths d) (Stands d (Some r.of)) (ports.read port register >>= λ x. read_as d o x) (ports.read port register)) (sym it.2)
+            (sim-then (register_widths d) (λ a b. (a ≡ b) × ValueFits (width_of d r.of) b) (Stands d (Some r.of)) (ports.read port register) (ports.read port register) (λ x. read_as d (Some r) x)
+            (sim-port (register_widths d) (width_of d r.of) (ports.read port register) (λ events fit. p.read port register (width_of d r.of) events it.1 held fit))
+            (λ a b same. sim-value (register_widths d) (Stands d (Some r.of)) (Some (unpacked d r.of a)) b
             (subst (λ y. Stands d (Some r.of) (Some (unpacked d r.of y)) b) (sym same.0)
             (unpacked-stands d given.design r.of b ok.of (same.1.bits ok.of.0, same.1.as_wide)))))));
       })))
@@ -137,6 +138,6 @@ module _ (d : Checked) (n depth : ℕ) (names : List Bound) (types : List ValueT
         width = refl;
         typed = λ widths f. refl;
         means = λ inputs ports values locals w p st.
-            subst (λ (q : Ports Stopped). Simulates (widths_of_registers d) (Stands d None) (stops q.abort) (stops ports.abort)) (sym (world-ports d n inputs ports))
-            (sim-stop (widths_of_registers d) (Stands d None) ports.abort);
+            subst (λ (q : Ports Stopped). Simulates (register_widths d) (Stands d None) (stops q.abort) (stops ports.abort)) (sym (world-ports d n inputs ports))
+            (sim-stop (register_widths d) (Stands d None) ports.abort);
       }))

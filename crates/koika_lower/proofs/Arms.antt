@@ -16,7 +16,8 @@ use Rattle.koika_check.specs.Typing.{AreArms, IsType}
 use Rattle.koika_check.specs.declared.checked.Checked.{Checked}
 use Rattle.koika_check.specs.declared.typed.ValueType.{ValueType}
 use Rattle.koika_lower.specs.Applied.{IsChoice, IsChosen, arms_part, idle, values_of}
-use Rattle.koika_lower.specs.Simulation.{Lowers, LowersAll, NamesFit, NamesStand, Sense, Simulates, Stands, declared_by, environment, width_if, widths_of_inputs, widths_of_registers, world}
+use Rattle.koika_lower.specs.Lowering.{input_widths, register_widths}
+use Rattle.koika_lower.specs.Simulation.{Lowers, LowersAll, NamesFit, NamesStand, Sense, Simulates, Stands, declared_by, environment, width_if, world}
 use Rattle.koika_lower.specs.declared.lowered.Bound.{Bound}
 use Rattle.koika_lower.specs.declared.lowered.Lowered.{Lowered}
 use Rattle.koika_lower.proofs.Constructs.{sim-core}
@@ -43,7 +44,7 @@ module _ (d : Checked) (n depth : ℕ) (names : List Bound) (types : List ValueT
   AreBranches senses ls = LowersAll d n depth false names types (replicate (length ls) of) senses ls
 
   module _ (inputs : List BitVector) (ports : Ports Stopped) (values : List Value) (locals : List BitVector)
-      (w : HaveWidths (widths_of_inputs d) inputs) (p : PortsFit (widths_of_registers d) ports) (st : NamesStand d depth names types values locals) where
+      (w : HaveWidths (input_widths d) inputs) (p : PortsFit (register_widths d) ports) (st : NamesStand d depth names types values locals) where
     abbrev senses_in : List Sense → List (Meaning Stopped)
     senses_in = map (λ (m : Sense). m (world d n inputs ports))
 
@@ -51,18 +52,18 @@ module _ (d : Checked) (n depth : ℕ) (names : List Bound) (types : List ValueT
     actions_in = values_of (environment d inputs) ports
 
     chosen-by : (v : Option Value) (x : BitVector) (m r : Part (Option Value) Stopped) (a b : Part BitVector Stopped) → Stands d (Some (bits 1)) v x →
-        Simulates (widths_of_registers d) (Stands d of) m a → Simulates (widths_of_registers d) (Stands d of) r b →
-        Simulates (widths_of_registers d) (Stands d of) (if nat_eq (number_by v) 1 then m else r) (choose x a b)
+        Simulates (register_widths d) (Stands d of) m a → Simulates (register_widths d) (Stands d of) r b →
+        Simulates (register_widths d) (Stands d of) (if nat_eq (number_by v) 1 then m else r) (choose x a b)
     chosen-by None x m r a b is h g = absurd is
     chosen-by (Some v) x m r a b is h g =
         let wide : x.width ≡ 1 = is.2.1 ∙ width-bits d 1 in
         let low = is.2.0.in_range in
         let few : x.number < 2 = omega (arith, subst (λ k. x.number < 2 ^ k) wide low) in
-        sim-if (widths_of_registers d) (Stands d of) x.number (packed v).number m r a b (ap (λ (y : BitVector). y.number) is.1) few h g
+        sim-if (register_widths d) (Stands d of) x.number (packed v).number m r a b (ap (λ (y : BitVector). y.number) is.1) few h g
 
     sim-arms : (cs bs tail : List Sense) (cls bls : List Lowered) (behind : List BitVector → Part BitVector Stopped) → AreConditions cs cls → AreBranches bs bls → length cls ≡ length bls →
-        Simulates (widths_of_registers d) (Stands d of) (choose_body [] (senses_in tail) values) (behind locals) →
-        Simulates (widths_of_registers d) (Stands d of) (choose_body (senses_in cs) (senses_in (bs ++ tail)) values) (arms_part (actions_in cls) (actions_in bls) behind locals)
+        Simulates (register_widths d) (Stands d of) (choose_body [] (senses_in tail) values) (behind locals) →
+        Simulates (register_widths d) (Stands d of) (choose_body (senses_in cs) (senses_in (bs ++ tail)) values) (arms_part (actions_in cls) (actions_in bls) behind locals)
     sim-arms [] [] tail [] [] behind conditions branches count h = h
     sim-arms cs bs tail [] (b ∷ bls) behind conditions branches count h = absurd (omega arith)
     sim-arms cs bs tail (c ∷ cls) [] behind conditions branches count h = absurd (omega arith)
@@ -71,7 +72,7 @@ module _ (d : Checked) (n depth : ℕ) (names : List Bound) (types : List ValueT
     sim-arms [] bs tail (c ∷ cls) (b ∷ bls) behind conditions branches count h = absurd conditions
     sim-arms (c ∷ cs) [] tail (c' ∷ cls) (b' ∷ bls) behind conditions branches count h = absurd branches
     sim-arms (c ∷ cs) (b ∷ bs) tail (c' ∷ cls) (b' ∷ bls) behind conditions branches count h =
-        sim-bind (widths_of_registers d) (Stands d (Some (bits 1))) (Stands d of)
+        sim-bind (register_widths d) (Stands d (Some (bits 1))) (Stands d of)
         (λ v. if nat_eq (number_by v) 1 then b (world d n inputs ports) values else choose_body (senses_in cs) (senses_in (bs ++ tail)) values)
         (λ x. choose x (evaluate (environment d inputs) ports b'.action locals) (arms_part (actions_in cls) (actions_in bls) behind locals))
         (λ v x is. chosen-by v x (b (world d n inputs ports) values) (choose_body (senses_in cs) (senses_in (bs ++ tail)) values)
@@ -109,8 +110,8 @@ module _ (d : Checked) (n depth : ℕ) (names : List Bound) (types : List ValueT
     width : behind.width ≡ width_if d of
     typed : (widths : List ℕ) → NamesFit depth names widths → ActionHasWidth (declared_by d) behind.action widths (width_if d of)
     means : (inputs : List BitVector) (ports : Ports Stopped) (values : List Value) (locals : List BitVector) →
-        HaveWidths (widths_of_inputs d) inputs → PortsFit (widths_of_registers d) ports → NamesStand d depth names types values locals →
-        Simulates (widths_of_registers d) (Stands d of) (choose_body [] (map (λ (m : Sense). m (world d n inputs ports)) tail) values) (evaluate (environment d inputs) ports behind.action locals)
+        HaveWidths (input_widths d) inputs → PortsFit (register_widths d) ports → NamesStand d depth names types values locals →
+        Simulates (register_widths d) (Stands d of) (choose_body [] (map (λ (m : Sense). m (world d n inputs ports)) tail) values) (evaluate (environment d inputs) ports behind.action locals)
 
   chosen-lowers : (cs bs tail : List Sense) (cls bls : List Lowered) (behind l : Lowered) → IsChosen cls bls behind l → length cls ≡ length bls →
       AreConditions cs cls → AreBranches bs bls → IsLast tail behind → Lowers d n depth names types of (if_sense cs (bs ++ tail)) l
@@ -122,7 +123,7 @@ module _ (d : Checked) (n depth : ℕ) (names : List Bound) (types : List ValueT
         typed = λ widths f. subst (λ w. ActionHasWidth (declared_by d) l.action widths w) (sym wide.0)
             (wide.1 (declared_by d) widths (conditions-typed cs cls widths f conditions) (branches-typed bs bls widths f branches) (last.typed widths f));
         means = λ inputs ports values locals w p st.
-            sim-core (widths_of_registers d) (Stands d of) (if_sense cs (bs ++ tail) (world d n inputs ports) values) (evaluate (environment d inputs) ports l.action locals)
+            sim-core (register_widths d) (Stands d of) (if_sense cs (bs ++ tail) (world d n inputs ports) values) (evaluate (environment d inputs) ports l.action locals)
             (arms_part (values_of (environment d inputs) ports cls) (values_of (environment d inputs) ports bls) (evaluate (environment d inputs) ports behind.action) locals)
             (is.means count (environment d inputs) ports locals)
             (sim-arms inputs ports values locals w p st cs bs tail cls bls (evaluate (environment d inputs) ports behind.action) conditions branches count (last.means inputs ports values locals w p st));
@@ -178,8 +179,8 @@ module _ (d : Checked) (n depth : ℕ) (names : List Bound) (types : List ValueT
         width = sym (ap (width_if d) unit_type);
         typed = λ widths f. ap (width_if d) unit_type;
         means = λ inputs ports values locals w p st.
-            subst (λ (o : Option ValueType). Simulates (widths_of_registers d) (Stands d o) (comes_to None) (comes_to unit)) (sym unit_type)
-            (sim-value (widths_of_registers d) (Stands d None) None unit refl);
+            subst (λ (o : Option ValueType). Simulates (register_widths d) (Stands d o) (comes_to None) (comes_to unit)) (sym unit_type)
+            (sim-value (register_widths d) (Stands d None) None unit refl);
       }))
     where
       append-none : {X : Type 0} (xs : List X) → xs ++ [] ≡ xs

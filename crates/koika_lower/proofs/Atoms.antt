@@ -17,7 +17,8 @@ use Rattle.koika_check.specs.declared.typed.Step.TheOpen as opened
 use Rattle.koika_check.specs.declared.typed.Typed.{Typed}
 use Rattle.koika_check.specs.declared.typed.Typed.TheVariants as typed
 use Rattle.koika_check.specs.declared.typed.ValueType.{ValueType}
-use Rattle.koika_lower.specs.Simulation.{AreNames, Lowers, Sense, Simulates, Stands, place_of, widths_of_inputs, widths_of_registers, world}
+use Rattle.koika_lower.specs.Lowering.{input_widths, register_widths}
+use Rattle.koika_lower.specs.Simulation.{AreNames, Lowers, Sense, Simulates, Stands, place_of, world}
 use Rattle.koika_lower.specs.declared.lowered.Bound.{Bound}
 use Rattle.koika_lower.specs.declared.lowered.Lowered.{Lowered}
 use Rattle.koika_lower.proofs.Constructs.{world-design}
@@ -62,7 +63,7 @@ module _ (d : Checked) (n depth : ℕ) (names : List Bound) (types : List ValueT
           valid = it.2;
           width = stands.2.1;
           typed = λ widths f. (stands.2.0, refl);
-          means = λ inputs ports values locals w p st. sim-value (widths_of_registers d) (Stands d (Some t)) (Some v) (packed v) stands;
+          means = λ inputs ports values locals w p st. sim-value (register_widths d) (Stands d (Some t)) (Some v) (packed v) stands;
         })))
 
     pub input-lowers : (number : ℕ) (of : Option ValueType) (l : Lowered) →
@@ -72,7 +73,7 @@ module _ (d : Checked) (n depth : ℕ) (names : List Bound) (types : List ValueT
         let it = open-HasType d n (typed.Input number) (opened.Input number) (typed.rolls-Input number) types of h in
         let i : Input = it.0 in
         let ok = all-get (IsInput d) d.inputs number i design.inputs it.1 in
-        let held : slice_get (widths_of_inputs d) number ≡ Some i.width = slice_get-map (λ (x : Input). x.width) d.inputs number ∙ ap (option_map (λ (x : Input). x.width)) it.1 in
+        let held : slice_get (input_widths d) number ≡ Some i.width = slice_get-map (λ (x : Input). x.width) d.inputs number ∙ ap (option_map (λ (x : Input). x.width)) it.1 in
         lowers-sense of (λ s. typed_step s (opened.Input number)) (λ s. meaning s (typed.Input number)) l (λ s. sym (meaning-Input s number))
         (subst (λ (o : Option ValueType). Lowers d n depth names types o (λ s. typed_step s (opened.Input number)) l) (sym it.2)
         (subst (λ (x : Lowered). Lowers d n depth names types (Some i.of) (λ s. typed_step s (opened.Input number)) x) (sym (made i it.1))
@@ -84,13 +85,13 @@ module _ (d : Checked) (n depth : ℕ) (names : List Bound) (types : List ValueT
               let x : BitVector = slice_index_or inputs number unit in
               let wide : HasWidth x i.width = w.each number i.width held in
               let found : slice_get inputs number ≡ Some x =
-              slice_get-get_or inputs number unit (subst (λ k. number < k) (sym w.count) (slice_get_within (widths_of_inputs d) number i.width held)) in
-              subst (λ (m : Part (Option Value) Stopped). Simulates (widths_of_registers d) (Stands d (Some i.of)) m (λ events. record { events = events; ending = Reached x }))
+              slice_get-get_or inputs number unit (subst (λ k. number < k) (sym w.count) (slice_get_within (input_widths d) number i.width held)) in
+              subst (λ (m : Part (Option Value) Stopped). Simulates (register_widths d) (Stands d (Some i.of)) m (λ events. record { events = events; ending = Reached x }))
               (sym (ap (λ (c : Checked). input_as c (slice_get c.inputs number) (slice_get (world d n inputs ports).inputs number)) (world-design d n inputs ports)
               ∙ ap (λ (xs : List BitVector). input_as d (slice_get d.inputs number) (slice_get xs number)) (world-inputs d n inputs ports)
               ∙ ap (λ (o : Option Input). input_as d o (slice_get inputs number)) it.1
               ∙ ap (λ (o : Option BitVector). input_as d (Some i) o) found))
-              (sim-value (widths_of_registers d) (Stands d (Some i.of)) (Some (unpacked d i.of x)) x
+              (sim-value (register_widths d) (Stands d (Some i.of)) (Some (unpacked d i.of x)) x
               (unpacked-stands d design i.of x ok.of (wide.0, wide.1 ∙ ok.width)));
         })))
 
@@ -109,5 +110,5 @@ module _ (d : Checked) (n depth : ℕ) (names : List Bound) (types : List ValueT
         width = at.width;
         typed = λ widths f. at.fits widths f;
         means = λ inputs ports values locals w p st.
-            sim-value (widths_of_registers d) (Stands d (Some t)) (slice_get values index) (slice_index_or locals (place_of depth at.bound) unit) (at.stands values locals st);
+            sim-value (register_widths d) (Stands d (Some t)) (slice_get values index) (slice_index_or locals (place_of depth at.bound) unit) (at.stands values locals st);
       })))

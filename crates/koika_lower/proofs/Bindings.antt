@@ -64,13 +64,14 @@ stacked-typed name before a some h is d width widths one few each =
     mul-le-mul : (a b : ℕ) → 1 ≤ a → 1 ≤ b → 1 ≤ a * b
     mul-le-mul a b ha hb = grind arith
 
-pub array-is : (items : List Lowered) (body action : Action) (n width : ℕ) → n ≡ length items → (1 ≤ n → ComesTo body (λ env ports locals. comes_to (names_stacked (n - 1) locals))) →
-    (1 ≤ n → StackFits n body) → IsBound items body action → ((first : Lowered) (rest : List Lowered) → items ≡ first ∷ rest → length items * first.width ≤ 128 → width ≡ length items * first.width) →
+pub array-is : (items : List Lowered) (body action : Action) (n width : ℕ) → (length items ≤ 128 → n ≡ length items) → (1 ≤ n → ComesTo body (λ env ports locals. comes_to (names_stacked (n - 1) locals))) →
+    (1 ≤ n → StackFits n body) → IsBound items body action →
+    ((first : Lowered) (rest : List Lowered) → items ≡ first ∷ rest → length items ≤ 128 → length items * first.width ≤ 128 → width ≡ length items * first.width) →
     IsArray items (record { action = action; width = width })
 array-is items body action n width e means typed bound wide = record {
   body = body;
   bound = bound;
-  means = λ some. subst (λ k. ComesTo body (λ env ports locals. comes_to (names_stacked (k - 1) locals))) e (means (subst (λ k. 1 ≤ k) (sym e) some));
-  typed = λ some. subst (λ k. StackFits k body) e (typed (subst (λ k. 1 ≤ k) (sym e) some));
+  means = λ some few. subst (λ k. ComesTo body (λ env ports locals. comes_to (names_stacked (k - 1) locals))) (e few) (means (subst (λ k. 1 ≤ k) (sym (e few)) some));
+  typed = λ some few. subst (λ k. StackFits k body) (e few) (typed (subst (λ k. 1 ≤ k) (sym (e few)) some));
   width = wide;
 }

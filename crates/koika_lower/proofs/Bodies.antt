@@ -1,42 +1,22 @@
--- The bodies of functions are lowered one by one, each where its parameters are bound.
-use Rattle.std.proofs.Common.{◌≡◌, ℕ, zero, suc, ◌+◌, ◌<◌, ◌≤◌, List, [], ◌∷◌, ◌++◌, length, drop, Option, Some, slice_get, get_or, add-one, drop-cons, arith, refl, ap, sym, subst, ◌∙◌}
-use Rattle.std.proofs.lemmas.Option.{slice_get-get_or}
+-- The body of a function is lowered where its parameters are bound.
+use Rattle.std.proofs.Common.{◌≡◌, ℕ, zero, suc, ◌+◌, ◌<◌, ◌≤◌, List, [], ◌∷◌, length, drop, Option, Some, slice_get, get_or, add-one, drop-cons, arith, refl, ap, sym, subst, ◌∙◌}
+use Rattle.std.proofs.lemmas.Option.{slice_get_read}
 use Rattle.std.specs.Prelude.{reverse}
 use Rattle.koika_check.specs.Meaning.{meaning}
 use Rattle.koika_check.specs.Types.{width_of}
-use Rattle.koika_check.specs.Typing.{HasType, IsFunction, IsTypedDesign}
+use Rattle.koika_check.specs.Typing.{HasType, IsFunction}
 use Rattle.koika_check.specs.declared.checked.Checked.{Checked}
 use Rattle.koika_check.specs.declared.checked.Function.{Function}
 use Rattle.koika_check.specs.declared.typed.ValueType.{ValueType}
-use Rattle.koika_lower.specs.Simulation.{AreBodies, AreNames, IsBody, Lowers, parameter_names}
+use Rattle.koika_lower.specs.Simulation.{AreNames, IsBody, Lowers, parameter_names}
 use Rattle.koika_lower.specs.declared.lowered.Bound.{Bound}
 use Rattle.koika_lower.specs.declared.lowered.Lowered.{Lowered}
 use Rattle.koika_lower.proofs.Calls.{params-are}
 use Rattle.koika_lower.proofs.Operands.{onto, onto-reverse}
 
--- the item at an index of a list with one item more: it is one of those before, or the last
-at-end : {X : Type 0} (P : ℕ → X → Type 0) (from : ℕ) (xs : List X) (y : X) → ((i : ℕ) (x : X) → slice_get xs i ≡ Some x → P (from + i) x) → P (from + length xs) y →
-    (i : ℕ) (x : X) → slice_get (xs ++ y ∷ []) i ≡ Some x → P (from + i) x
-at-end P from [] y before last zero x e = let same : y ≡ x = cc in subst (P (from + 0)) same last
-at-end P from [] y before last (suc i) x e = absurd (cc)
-at-end P from (a ∷ xs) y before last zero x e = before 0 x e
-at-end P from (a ∷ xs) y before last (suc i) x e =
-    subst (λ k. P k x) (omega arith)
-    (at-end P (from + 1) xs y (λ j z f. subst (λ k. P k z) (omega arith) (before (suc j) z f)) (subst (λ k. P k y) (omega arith) last) i x e)
-
--- the function at an index
-pub function-at : (fs items : List Function) (i : ℕ) (f : Function) → items ≡ fs → i < length items → f ≡ get_or items i f → slice_get fs i ≡ Some f
-function-at fs items i f same within is = ap (λ (l : List Function). slice_get l i) (sym same) ∙ slice_get-get_or items i f within ∙ ap Some (sym is)
-
--- one more body
-pub bodies-more : (d : Checked) (bodies : List (Option Lowered)) (f : Function) (body : Option Lowered) → AreBodies d bodies → slice_get d.functions (length bodies) ≡ Some f →
-    ((l : Lowered) → body ≡ Some l → IsBody d (length bodies) f l) → AreBodies d (bodies ++ body ∷ [])
-bodies-more d bodies f body are at is number x e =
-    let P : ℕ → Option Lowered → Type 0 = λ n o. (l : Lowered) → o ≡ Some l → (g : Function) × (slice_get d.functions n ≡ Some g) × IsBody d n g l in
-    let all : P (0 + number) (Some x) =
-    at-end P 0 bodies body (λ i o h. subst (λ k. P k o) (omega arith) (λ (l : Lowered) (same : o ≡ Some l). are i l (h ∙ ap Some same)))
-    (subst (λ k. P k body) (omega arith) (λ (l : Lowered) (same : body ≡ Some l). (f, at, is l same))) number (Some x) e in
-    subst (λ k. P k (Some x)) (omega arith) all x refl
+-- the item that is lent at an index
+pub item-at : {X : Type 0} (items xs : List X) (i : ℕ) (x : X) → xs ≡ items → i < length xs → x ≡ get_or xs i x → slice_get items i ≡ Some x
+item-at {X} items xs i x same within is = ap (λ (l : List X). slice_get l i) (sym same) ∙ slice_get_read xs (length xs) i x refl within is
 
 -- no parameter is bound behind the last
 all-bound : (d : Checked) (index : ℕ) (ts : List ValueType) (names all : List Bound) → length ts ≤ index → parameter_names d index (drop index ts) names ≡ all → names ≡ all

@@ -1,4 +1,4 @@
--- Calls of functions are lowered: the arguments are bound round a copy of the body.
+-- Calls of functions are lowered: the arguments are bound round the body.
 use Rattle.std.proofs.Common.{◌≡◌, ℕ, zero, suc, ◌+◌, ◌≤◌, ◌<◌, List, [], ◌∷◌, ◌++◌, length, map, take, Option, Some, true, slice_get, arith, refl, ap, sym, subst, ◌∙◌}
 use Rattle.std.specs.Prelude.{All, reverse}
 use Rattle.kw_bits.specs.BitVector.{BitVector}
@@ -14,9 +14,9 @@ use Rattle.koika_check.specs.declared.checked.Checked.{Checked}
 use Rattle.koika_check.specs.declared.checked.Function.{Function}
 use Rattle.koika_check.specs.declared.typed.Operation.TheVariants as operation
 use Rattle.koika_check.specs.declared.typed.ValueType.{ValueType}
-use Rattle.koika_lower.specs.Actions.{IsCopy}
 use Rattle.koika_lower.specs.Applied.{IsBound, IsCalled, LetsTyped, lets}
-use Rattle.koika_lower.specs.Simulation.{AreBodies, AreNames, IsApplied, IsBody, Lowers, LowersAll, NamesFit, NamesStand, Sense, Simulates, StandAll, Stands, apply_sense, declared_by, environment, parameter_names, widths_of_registers, world}
+use Rattle.koika_lower.specs.Lowering.{register_widths}
+use Rattle.koika_lower.specs.Simulation.{AreNames, IsApplied, IsBody, IsCallee, Lowers, LowersAll, NamesFit, NamesStand, Sense, Simulates, StandAll, Stands, apply_sense, declared_by, environment, parameter_names, world}
 use Rattle.koika_lower.specs.declared.lowered.Bound.{Bound}
 use Rattle.koika_lower.specs.declared.lowered.Lowered.{Lowered}
 use Rattle.koika_lower.proofs.Constructs.{sim-core}
@@ -116,15 +116,13 @@ lets-typed d n depth names types (t ∷ ts) (m ∷ ms) (l ∷ ls) body widths wi
 )
 
 module _ (d : Checked) (n depth : ℕ) (names : List Bound) (types : List ValueType) where
-  pub call-lowers : (bodies : List (Option Lowered)) (number : ℕ) (ts : List ValueType) (of : Option ValueType) (senses : List Sense) (operands : List Lowered) (body : Lowered) (copy a : Action) →
-      AreBodies d bodies → slice_get bodies number ≡ Some (Some body) → IsCopy body.action copy → IsBound operands copy a → IsApplied d n depth names types (operation.Call number) ts of senses operands →
+  call-lowers : (number : ℕ) (ts : List ValueType) (of : Option ValueType) (senses : List Sense) (operands : List Lowered) (body : Lowered) (a : Action) →
+      IsCallee d n (operation.Call number) body → IsBound operands body.action a → IsApplied d n depth names types (operation.Call number) ts of senses operands →
       Lowers d n depth names types of (apply_sense (operation.Call number) senses) (record { action = a; width = body.width })
-  call-lowers bodies number ts of senses operands body copy a are_bodies at copied bound given =
+  call-lowers number ts of senses operands body a callee bound given =
       let it = given.applies in
       let f : Function = it.0 in
-      let found = are_bodies number body at in
-      let same : found.0 ≡ f = let e = sym found.1 ∙ it.2 in cc in
-      let is : IsBody d number f body = subst (λ (g : Function). IsBody d number g body) same found.2 in
+      let is : IsBody d number f body = callee f it.1 it.2 in
       let valid = (given.design.functions number f it.2).parameters in
       let all : LowersAll d n depth true names types (map Some f.parameters) senses operands = subst (λ us. LowersAll d n depth true names types (map Some us) senses operands) it.3 given.all in
       subst (λ (o : Option ValueType). Lowers d n depth names types o (apply_sense (operation.Call number) senses) (record { action = a; width = body.width })) (sym it.4)
@@ -132,32 +130,27 @@ module _ (d : Checked) (n depth : ℕ) (names : List Bound) (types : List ValueT
         valid = is.valid;
         width = is.width;
         typed = λ widths fits. bound.typed (declared_by d) widths body.width
-            (lets-typed d n depth names types f.parameters senses operands copy widths body.width given.are fits all
-            (copied.typed (declared_by d) (onto (map (width_of d) f.parameters) widths) body.width
+            (lets-typed d n depth names types f.parameters senses operands body.action widths body.width given.are fits all
             (is.typed (onto (map (width_of d) f.parameters) widths)
-            (subst (λ k. NamesFit k (parameter_names d 0 f.parameters []) (onto (map (width_of d) f.parameters) widths)) (omega arith) (params-fit d 0 f.parameters [] [] widths tt tt valid)))));
+            (subst (λ k. NamesFit k (parameter_names d 0 f.parameters []) (onto (map (width_of d) f.parameters) widths)) (omega arith) (params-fit d 0 f.parameters [] [] widths tt tt valid))));
         means = λ inputs ports values locals w p st.
-            sim-core (widths_of_registers d) (Stands d f.result) (apply_sense (operation.Call number) senses (world d n inputs ports) values) (evaluate (environment d inputs) ports a locals)
-            (lets (parts d n names types inputs ports values w p operands) (evaluate (environment d inputs) ports copy) locals) (bound.means (environment d inputs) ports locals)
-            (sim-lets d n names types inputs ports values w p (Stands d f.result) depth f.parameters senses operands (apply (world d n inputs ports) (operation.Call number)) (evaluate (environment d inputs) ports copy) locals
+            sim-core (register_widths d) (Stands d f.result) (apply_sense (operation.Call number) senses (world d n inputs ports) values) (evaluate (environment d inputs) ports a locals)
+            (lets (parts d n names types inputs ports values w p operands) (evaluate (environment d inputs) ports body.action) locals) (bound.means (environment d inputs) ports locals)
+            (sim-lets d n names types inputs ports values w p (Stands d f.result) depth f.parameters senses operands (apply (world d n inputs ports) (operation.Call number)) (evaluate (environment d inputs) ports body.action) locals
             given.are st all
             (λ vs xs each.
-            sim-core (widths_of_registers d) (Stands d f.result) (apply (world d n inputs ports) (operation.Call number) vs) (evaluate (environment d inputs) ports copy (onto xs locals))
-            (evaluate (environment d inputs) ports body.action (onto xs locals)) (copied.means (environment d inputs) ports (onto xs locals))
-            (subst (λ (o : Option (Meaning Stopped)). Simulates (widths_of_registers d) (Stands d f.result) (body_by o (reverse vs)) (evaluate (environment d inputs) ports body.action (onto xs locals)))
+            subst (λ (o : Option (Meaning Stopped)). Simulates (register_widths d) (Stands d f.result) (body_by o (reverse vs)) (evaluate (environment d inputs) ports body.action (onto xs locals)))
             (sym (world-bodies d n number inputs ports f it.1 it.2))
             (is.means inputs ports (reverse vs) (onto xs locals) w p
             (subst (λ us. NamesStand d (length f.parameters) (parameter_names d 0 f.parameters []) us (reverse vs) (onto xs locals)) (onto-reverse f.parameters)
             (subst (λ us. NamesStand d (length f.parameters) (parameter_names d 0 f.parameters []) (onto f.parameters []) us (onto xs locals)) (onto-reverse vs)
             (subst (λ k. NamesStand d k (parameter_names d 0 f.parameters []) (onto f.parameters []) (onto vs []) (onto xs locals)) (omega arith)
-            (params-stand d 0 f.parameters [] [] [] vs locals xs tt tt valid each))))))));
+            (params-stand d 0 f.parameters [] [] [] vs locals xs tt tt valid each)))))));
       })
 
   -- what the code makes of a call
-  pub called-lowers : (bodies : List (Option Lowered)) (number : ℕ) (ts : List ValueType) (of : Option ValueType) (senses : List Sense) (operands : List Lowered) (l : Lowered) → AreBodies d bodies →
-      (body : Lowered) × (slice_get bodies number ≡ Some (Some body)) × IsCalled body operands l → IsApplied d n depth names types (operation.Call number) ts of senses operands →
-      Lowers d n depth names types of (apply_sense (operation.Call number) senses) l
-  called-lowers bodies number ts of senses operands l are_bodies called given =
-      let is = called.2 in
+  pub called-lowers : (number : ℕ) (ts : List ValueType) (of : Option ValueType) (senses : List Sense) (operands : List Lowered) (body l : Lowered) → IsCallee d n (operation.Call number) body →
+      IsCalled body operands l → IsApplied d n depth names types (operation.Call number) ts of senses operands → Lowers d n depth names types of (apply_sense (operation.Call number) senses) l
+  called-lowers number ts of senses operands body l callee is given =
       subst (λ w. Lowers d n depth names types of (apply_sense (operation.Call number) senses) (record { action = l.action; width = w })) (sym is.width)
-      (call-lowers bodies number ts of senses operands called.0 is.copy l.action are_bodies called.1 is.copied is.bound given)
+      (call-lowers number ts of senses operands body l.action callee is.bound given)

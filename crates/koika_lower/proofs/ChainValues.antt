@@ -20,7 +20,8 @@ use Rattle.koika_check.specs.Typing.{Calculates, Chains, Joins, Operates}
 use Rattle.koika_check.specs.declared.checked.Checked.{Checked}
 use Rattle.koika_check.specs.declared.typed.ValueType.{ValueType}
 use Rattle.koika_lower.specs.Applied.{AreOperands, behind, chain_part}
-use Rattle.koika_lower.specs.Simulation.{LowersAll, NamesFit, NamesStand, Sense, Simulates, Stands, declared_by, environment, widths_of_inputs, widths_of_registers, world}
+use Rattle.koika_lower.specs.Lowering.{input_widths, register_widths}
+use Rattle.koika_lower.specs.Simulation.{LowersAll, NamesFit, NamesStand, Sense, Simulates, Stands, declared_by, environment, world}
 use Rattle.koika_lower.specs.declared.lowered.Bound.{Bound}
 use Rattle.koika_lower.specs.declared.lowered.Lowered.{Lowered}
 use Rattle.koika_lower.proofs.Operands.{meanings, parts, sim-cons}
@@ -96,7 +97,7 @@ module _ (d : Checked) (n depth : ℕ) (names : List Bound) (types : List ValueT
   operands-count (t ∷ ts) (m ∷ ms) (l ∷ ls) all = ap suc (operands-count ts ms ls all.1)
 
 module _ (d : Checked) (n depth : ℕ) (names : List Bound) (types : List ValueType) (inputs : List BitVector) (ports : Ports Stopped) (values : List Value) (locals : List BitVector)
-    (widths : HaveWidths (widths_of_inputs d) inputs) (fit : PortsFit (widths_of_registers d) ports) (st : NamesStand d depth names types values locals) where
+    (widths : HaveWidths (input_widths d) inputs) (fit : PortsFit (register_widths d) ports) (st : NamesStand d depth names types values locals) where
   abbrev pub meant : List Sense → List (Meaning Stopped)
   meant = meanings d n names types inputs ports values widths fit
 
@@ -106,8 +107,8 @@ module _ (d : Checked) (n depth : ℕ) (names : List Bound) (types : List ValueT
   -- operands behind a value so far
   sim-behind : {V : Type 0} (Q : V → BitVector → Type 0) (os : List BinaryOperator) (left : ValueType) (ts : List ValueType) (of : ValueType) (senses : List Sense) (ls : List Lowered)
       (k : List Value → Part V Stopped) (z : BitVector) → LowersAll d n depth false names types (map Some ts) senses ls → Chains os left ts of → HasWidth z (width_of d left) →
-      ((vs : List Value) (y : BitVector) → y ≡ chained os z vs → HasWidth y (width_of d of) → Simulates (widths_of_registers d) Q (k vs) (comes_to y)) →
-      Simulates (widths_of_registers d) Q (in_turn (meant senses) values >>= k) (behind os (core ls) z locals)
+      ((vs : List Value) (y : BitVector) → y ≡ chained os z vs → HasWidth y (width_of d of) → Simulates (register_widths d) Q (k vs) (comes_to y)) →
+      Simulates (register_widths d) Q (in_turn (meant senses) values >>= k) (behind os (core ls) z locals)
   sim-behind Q [] left [] of [] [] k z all chains hz next = next [] z refl (subst (λ (t : ValueType). HasWidth z (width_of d t)) (sym chains) hz)
   sim-behind Q [] left [] of [] (l ∷ ls) k z all chains hz next = absurd all
   sim-behind Q [] left [] of (m ∷ ms) ls k z all chains hz next = absurd all
@@ -116,7 +117,7 @@ module _ (d : Checked) (n depth : ℕ) (names : List Bound) (types : List ValueT
   sim-behind Q (o ∷ os) left (t ∷ ts) of [] ls k z all chains hz next = absurd all
   sim-behind Q (o ∷ os) left (t ∷ ts) of (m ∷ ms) [] k z all chains hz next = absurd all
   sim-behind Q (o ∷ os) left (t ∷ ts) of (m ∷ ms) (l ∷ ls) k z all chains hz next =
-      sim-cons d (widths_of_registers d) Q t (m (world d n inputs ports)) (meant ms) values k (evaluate (environment d inputs) ports l.action locals) (λ y. behind os (core ls) (binary_value o z y) locals)
+      sim-cons d (register_widths d) Q t (m (world d n inputs ports)) (meant ms) values k (evaluate (environment d inputs) ports l.action locals) (λ y. behind os (core ls) (binary_value o z y) locals)
       (all.0.means inputs ports values locals widths fit st)
       (λ v x is. sim-behind Q os chains.0 ts of ms ls (λ vs. k (v ∷ vs)) (binary_value o z x) all.1 chains.2 (operates-width d left t chains.0 z x hz is.2 o chains.1)
       (λ vs y e hy. next (v ∷ vs) y (e ∙ ap (λ p. chained os (binary_value o z p) vs) (sym is.1)) hy))
@@ -124,12 +125,12 @@ module _ (d : Checked) (n depth : ℕ) (names : List Bound) (types : List ValueT
   -- all operands of a chain
   pub sim-chain : {V : Type 0} (Q : V → BitVector → Type 0) (os : List BinaryOperator) (t : ValueType) (ts : List ValueType) (of : ValueType) (senses : List Sense) (ls : List Lowered)
       (k : List Value → Part V Stopped) → LowersAll d n depth false names types (map Some (t ∷ ts)) senses ls → Chains os t ts of →
-      ((v : Value) (vs : List Value) (x y : BitVector) → Stands d (Some t) (Some v) x → y ≡ chained os (packed v) vs → HasWidth y (width_of d of) → Simulates (widths_of_registers d) Q (k (v ∷ vs)) (comes_to y)) →
-      Simulates (widths_of_registers d) Q (in_turn (meant senses) values >>= k) (chain_part os (core ls) locals)
+      ((v : Value) (vs : List Value) (x y : BitVector) → Stands d (Some t) (Some v) x → y ≡ chained os (packed v) vs → HasWidth y (width_of d of) → Simulates (register_widths d) Q (k (v ∷ vs)) (comes_to y)) →
+      Simulates (register_widths d) Q (in_turn (meant senses) values >>= k) (chain_part os (core ls) locals)
   sim-chain Q os t ts of [] ls k all chains next = absurd all
   sim-chain Q os t ts of (m ∷ ms) [] k all chains next = absurd all
   sim-chain Q os t ts of (m ∷ ms) (l ∷ ls) k all chains next =
-      sim-cons d (widths_of_registers d) Q t (m (world d n inputs ports)) (meant ms) values k (evaluate (environment d inputs) ports l.action locals) (λ x. behind os (core ls) x locals)
+      sim-cons d (register_widths d) Q t (m (world d n inputs ports)) (meant ms) values k (evaluate (environment d inputs) ports l.action locals) (λ x. behind os (core ls) x locals)
       (all.0.means inputs ports values locals widths fit st)
       (λ v x is. sim-behind Q os t ts of ms ls (λ vs. k (v ∷ vs)) x all.1 chains is.2
       (λ vs y e hy. next v vs x y is (e ∙ ap (λ p. chained os p vs) (sym is.1)) hy))

@@ -17,7 +17,8 @@ use Rattle.koika_check.specs.declared.typed.BaseType.TheVariants as base
 use Rattle.koika_check.specs.declared.typed.Operation.TheVariants as operation
 use Rattle.koika_check.specs.declared.typed.ValueType.{ValueType}
 use Rattle.koika_lower.specs.Applied.{IsChain, chain_part}
-use Rattle.koika_lower.specs.Simulation.{IsApplied, Lowers, Sense, StandAll, Stands, apply_sense, declared_by, environment, widths_of_registers, world}
+use Rattle.koika_lower.specs.Lowering.{register_widths}
+use Rattle.koika_lower.specs.Simulation.{IsApplied, Lowers, Sense, StandAll, Stands, apply_sense, declared_by, environment, world}
 use Rattle.koika_lower.specs.declared.lowered.Bound.{Bound}
 use Rattle.koika_lower.specs.declared.lowered.Lowered.{Lowered}
 use Rattle.koika_lower.proofs.ChainValues.{are-operands, core, operands-count, operands-typed}
@@ -61,11 +62,11 @@ module _ (d : Checked) (n depth : ℕ) (names : List Bound) (types : List ValueT
         width = c.0 ∙ width-bits d (width_of d t + total d ts) ∙ whole;
         typed = λ widths f. c.2 (declared_by d) widths (operands-typed d n depth names types (t ∷ ts) senses operands widths given.all f);
         means = λ inputs ports values locals w p st.
-            sim-core (widths_of_registers d) (Stands d (Some (of_base (base.Struct number)))) (apply_sense (operation.Struct number) senses (world d n inputs ports) values) (evaluate (environment d inputs) ports l.action locals)
+            sim-core (register_widths d) (Stands d (Some (of_base (base.Struct number)))) (apply_sense (operation.Struct number) senses (world d n inputs ports) values) (evaluate (environment d inputs) ports l.action locals)
             (chain_part (replicate (length ts) binary.Concat) (core d n depth names types inputs ports values locals w p st operands) locals)
             (is.means (count ∙ ap suc (sym (length-same (length ts)))) (environment d inputs) ports locals)
             (sim-joined d n depth names types inputs ports values locals w p st (Stands d (Some (of_base (base.Struct number)))) t ts senses operands (apply (world d n inputs ports) (operation.Struct number)) given.all
-            (λ v vs x xs all. sim-value (widths_of_registers d) (Stands d (Some (of_base (base.Struct number)))) (Some (value.Fields number (v ∷ vs))) (below x xs)
+            (λ v vs x xs all. sim-value (register_widths d) (Stands d (Some (of_base (base.Struct number)))) (Some (value.Fields number (v ∷ vs))) (below x xs)
             (struct-stands d given.design number t ts v vs x xs it.1 it.0 all)));
       })
     where

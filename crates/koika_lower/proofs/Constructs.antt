@@ -27,7 +27,8 @@ use Rattle.koika_check.specs.declared.typed.Operation.TheVariants as operation
 use Rattle.koika_check.specs.declared.typed.ValueType.{ValueType}
 use Rattle.koika_lower.specs.Actions.{ComesTo}
 use Rattle.koika_lower.specs.Applied.{IsExtended, IsPrefixed}
-use Rattle.koika_lower.specs.Simulation.{IsApplied, Lowers, LowersAll, NamesFit, Sense, Simulates, Stands, apply_sense, declared_by, environment, width_if, widths_of_registers, world}
+use Rattle.koika_lower.specs.Lowering.{register_widths}
+use Rattle.koika_lower.specs.Simulation.{IsApplied, Lowers, LowersAll, NamesFit, Sense, Simulates, Stands, apply_sense, declared_by, environment, width_if, world}
 use Rattle.koika_lower.specs.declared.lowered.Bound.{Bound}
 use Rattle.koika_lower.specs.declared.lowered.Lowered.{Lowered}
 use Rattle.koika_lower.proofs.Operands.{sim-one, sim-same-bits}
@@ -94,8 +95,8 @@ module _ (d : Checked) (n depth : ℕ) (names : List Bound) (types : List ValueT
   pub one-lowers : (g : Environment → Ports Stopped → BitVector → Part BitVector Stopped) →
       ComesTo l.action (λ env ports locals. evaluate env ports last.action locals >>= g env ports) → l.width ≡ width_if d of →
       ((widths : List ℕ) → ActionHasWidth (declared_by d) last.action widths (width_of d t) → IsType d t → ActionHasWidth (declared_by d) l.action widths (width_if d of)) →
-      ((inputs : List BitVector) (ports : Ports Stopped) (v : Value) (x : BitVector) → PortsFit (widths_of_registers d) ports → Stands d (Some t) (Some v) x →
-      Simulates (widths_of_registers d) (Stands d of) (apply (world d n inputs ports) o (v ∷ [])) (g (environment d inputs) ports x)) →
+      ((inputs : List BitVector) (ports : Ports Stopped) (v : Value) (x : BitVector) → PortsFit (register_widths d) ports → Stands d (Some t) (Some v) x →
+      Simulates (register_widths d) (Stands d of) (apply (world d n inputs ports) o (v ∷ [])) (g (environment d inputs) ports x)) →
       Lowers d n depth names types of (apply_sense o senses) l
   one-lowers g means width typed value =
       subst (λ (ms : List Sense). Lowers d n depth names types of (apply_sense o ms) l) (sym one.are)
@@ -104,9 +105,9 @@ module _ (d : Checked) (n depth : ℕ) (names : List Bound) (types : List ValueT
         width = width;
         typed = λ widths f. subst (λ w. ActionHasWidth (declared_by d) l.action widths w) (sym width) (typed widths (last-typed widths f) one.lowers.valid);
         means = λ inputs ports values locals w p st.
-            sim-core (widths_of_registers d) (Stands d of) (apply_sense o (one.sense ∷ []) (world d n inputs ports) values) (evaluate (environment d inputs) ports l.action locals)
+            sim-core (register_widths d) (Stands d of) (apply_sense o (one.sense ∷ []) (world d n inputs ports) values) (evaluate (environment d inputs) ports l.action locals)
             (evaluate (environment d inputs) ports last.action locals >>= g (environment d inputs) ports) (means (environment d inputs) ports locals)
-            (sim-one d (widths_of_registers d) (Stands d of) t (one.sense (world d n inputs ports)) values (apply (world d n inputs ports) o)
+            (sim-one d (register_widths d) (Stands d of) t (one.sense (world d n inputs ports)) values (apply (world d n inputs ports) o)
             (evaluate (environment d inputs) ports last.action locals) (g (environment d inputs) ports) (one.lowers.means inputs ports values locals w p st)
             (λ v x is. value inputs ports v x p is));
       })
@@ -114,7 +115,7 @@ module _ (d : Checked) (n depth : ℕ) (names : List Bound) (types : List ValueT
   -- and one whose action is the operand's
   pub same-lowers : l ≡ last → width_of d t ≡ width_if d of →
       ((inputs : List BitVector) (ports : Ports Stopped) (v : Value) (x : BitVector) → Stands d (Some t) (Some v) x →
-      Simulates (widths_of_registers d) (Stands d of) (apply (world d n inputs ports) o (v ∷ [])) (comes_to x)) →
+      Simulates (register_widths d) (Stands d of) (apply (world d n inputs ports) o (v ∷ [])) (comes_to x)) →
       Lowers d n depth names types of (apply_sense o senses) l
   same-lowers same wide value =
       subst (λ (x : Lowered). Lowers d n depth names types of (apply_sense o senses) x) (sym same)
@@ -124,7 +125,7 @@ module _ (d : Checked) (n depth : ℕ) (names : List Bound) (types : List ValueT
         width = one.lowers.width ∙ wide;
         typed = one.lowers.typed;
         means = λ inputs ports values locals w p st.
-            sim-same-bits d (widths_of_registers d) (Stands d of) t (one.sense (world d n inputs ports)) values (apply (world d n inputs ports) o)
+            sim-same-bits d (register_widths d) (Stands d of) t (one.sense (world d n inputs ports)) values (apply (world d n inputs ports) o)
             (evaluate (environment d inputs) ports last.action locals) (one.lowers.means inputs ports values locals w p st)
             (λ v x is. value inputs ports v x is);
       }))
@@ -168,7 +169,7 @@ bits-come d regs width x y e h = sim-value regs (Stands d (Some (bits width))) (
 
 module _ (d : Checked) (n depth : ℕ) (names : List Bound) (types : List ValueType) where
   abbrev regs : List ℕ
-  regs = widths_of_registers d
+  regs = register_widths d
 
   retyped : (o : Operation) (senses : List Sense) (l : Lowered) (of of' : Option ValueType) → of ≡ of' → Lowers d n depth names types of' (apply_sense o senses) l → Lowers d n depth names types of (apply_sense o senses) l
   retyped o senses l of of' e h = subst (λ (r : Option ValueType). Lowers d n depth names types r (apply_sense o senses) l) (sym e) h

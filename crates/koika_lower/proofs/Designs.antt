@@ -1,6 +1,6 @@
 -- The design of the core that is made of a typed design's registers, inputs, tables, hosts and rules is valid, and each of its
 -- rules does alone what the typed tree's rule does.
-use Rattle.std.proofs.Common.{◌≡◌, ℕ, ◌≤◌, List, [], ◌∷◌, length, map, take, Option, Some, None, slice_get, refl, ap, ap₂, sym, subst, ◌∙◌}
+use Rattle.std.proofs.Common.{◌≡◌, ℕ, ◌≤◌, List, [], length, map, Option, None, refl, ap, ap₂, sym, subst, ◌∙◌}
 use Rattle.std.proofs.Math.Seq.{take-length}
 use Rattle.std.proofs.lemmas.List.{length-map}
 use Rattle.std.proofs.lemmas.List.Elements.{All-map}
@@ -29,7 +29,7 @@ use Rattle.typed_core.specs.declared.outcome.Stopped.TheVariants as stopped
 use Rattle.typed_core.proofs.Typed.{PortsFit-alone}
 use Rattle.koika_check.specs.Meaning.{Setting, bodies_behind, meaning, setting}
 use Rattle.koika_check.specs.TypedAlone.{outcome_of as typed_outcome, typed_alone}
-use Rattle.koika_check.specs.Typing.{HasType, IsInput, IsRegister, IsTypedDesign}
+use Rattle.koika_check.specs.Typing.{HasType, IsRegister, IsTypedDesign}
 use Rattle.koika_check.specs.declared.checked.Checked.{Checked}
 use Rattle.koika_check.specs.declared.checked.Function.{Function}
 use Rattle.koika_check.specs.declared.checked.Host.{Host}
@@ -38,9 +38,9 @@ use Rattle.koika_check.specs.declared.checked.Register.{Register}
 use Rattle.koika_check.specs.declared.checked.Rule.{Rule}
 use Rattle.koika_check.specs.declared.checked.Table.{Table}
 use Rattle.koika_check.specs.declared.typed.ValueType.{ValueType}
-use Rattle.koika_lower.specs.Lowering.{DoesTheSame, IsLowered, input_of, register_of}
-use Rattle.koika_lower.specs.Rules.{ArePartsOf, IsRule}
-use Rattle.koika_lower.specs.Simulation.{Alike, AreBodies, AreNames, EndAlike, Lowers, Stands, declared_by, environment, world, widths_of_registers}
+use Rattle.koika_lower.specs.Lowering.{IsLowered, input_of, register_of, register_widths}
+use Rattle.koika_lower.specs.Rules.{AreRules, IsRule}
+use Rattle.koika_lower.specs.Simulation.{Alike, AreNames, EndAlike, Lowers, Stands, declared_by, environment, world}
 use Rattle.koika_lower.specs.declared.lowered.Bound.{Bound}
 use Rattle.koika_lower.specs.declared.lowered.Lowered.{Lowered}
 use Rattle.koika_lower.proofs.Lists.{pairs-at, pairs-length, pairs-map, pairs-second}
@@ -56,7 +56,7 @@ same_outcome d of (Stop c) (Reached w) h = absurd h
 same_outcome d of (Stop stopped.Abort) (Stop c) h = subst (λ (z : Stopped). outcome_of (Stop z) ≡ ends.Abort) h refl
 same_outcome d of (Stop (stopped.Refused access)) (Stop c) h = subst (λ (z : Stopped). outcome_of (Stop z) ≡ ends.OwnClash access) h refl
 
-same_alone : (d : Checked) (of : Option ValueType) (p : Progress (Option Value) Stopped) (q : Progress BitVector Stopped) → Alike (widths_of_registers d) (Stands d of) p q →
+same_alone : (d : Checked) (of : Option ValueType) (p : Progress (Option Value) Stopped) (q : Progress BitVector Stopped) → Alike (register_widths d) (Stands d of) p q →
     (let a : Alone = record { events = q.events; outcome = outcome_of q.ending } in a) ≡ record { events = p.events; outcome = typed_outcome p.ending }
 same_alone d of p q h = ap₂ (λ es (o : Outcome). let a : Alone = record { events = es; outcome = o } in a) h.0 (same_outcome d of p.ending q.ending h.2)
 
@@ -65,24 +65,24 @@ world-setting : (d : Checked) (inputs : List BitVector) (ports : Ports Stopped) 
 world-setting d inputs ports =
     ap (λ (fs : List Function). bodies_behind (let s : Setting Stopped = record { design = d; inputs = inputs; ports = ports; bodies = [] } in s) fs) (take-length d.functions)
 
-rule-alone : (d : Checked) (r : Rule) (c : CoreRule) (inputs regs : List BitVector) → IsRule d r c → HaveWidths (map (λ (i : Input). i.width) d.inputs) inputs → HaveWidths (widths_of_registers d) regs →
+rule-alone : (d : Checked) (r : Rule) (c : CoreRule) (inputs regs : List BitVector) → IsRule d r c → HaveWidths (map (λ (i : Input). i.width) d.inputs) inputs → HaveWidths (register_widths d) regs →
     alone (environment d inputs) regs c.body ≡ typed_alone d inputs regs r.body
 rule-alone d r c inputs regs is w held =
     same_alone d None (meaning (setting d inputs (alone_ports regs)) r.body [] []) (evaluate (environment d inputs) (alone_ports regs) c.body [] [])
-    (subst (λ (s : Setting Stopped). Alike (widths_of_registers d) (Stands d None) (meaning s r.body [] []) (evaluate (environment d inputs) (alone_ports regs) c.body [] [])) (world-setting d inputs (alone_ports regs))
-    (is.body.means inputs (alone_ports regs) [] [] w (PortsFit-alone (widths_of_registers d) regs held) tt [] tt))
+    (subst (λ (s : Setting Stopped). Alike (register_widths d) (Stands d None) (meaning s r.body [] []) (evaluate (environment d inputs) (alone_ports regs) c.body [] [])) (world-setting d inputs (alone_ports regs))
+    (is.body.means inputs (alone_ports regs) [] [] w (PortsFit-alone (register_widths d) regs held) tt [] tt))
 
--- a rule whose body is lowered where no name is bound
-pub rule-is : (d : Checked) (bodies : List (Option Lowered)) (names : List Bound) (r : Rule) (name : List ℕ) (l : Lowered) → IsTypedDesign d → AreBodies d bodies → length bodies ≡ length d.functions → names ≡ [] →
+-- a rule whose body is lowered where no name is bound and all functions may be called
+pub rule-is : (d : Checked) (functions : ℕ) (names : List Bound) (r : Rule) (name : List ℕ) (l : Lowered) → IsTypedDesign d → functions ≡ length d.functions → names ≡ [] →
     HasType d (length d.functions) r.body [] None → name ≡ r.name →
-    ((types : List ValueType) (t : Option ValueType) → IsTypedDesign d → AreBodies d bodies → AreNames d 0 names types → HasType d (length bodies) r.body types t →
-    Lowers d (length bodies) 0 names types t (λ s. meaning s r.body) l) →
+    ((types : List ValueType) (t : Option ValueType) → IsTypedDesign d → AreNames d 0 names types → HasType d functions r.body types t →
+    Lowers d functions 0 names types t (λ s. meaning s r.body) l) →
     IsRule d r (record { name = name; body = l.action })
-rule-is d bodies names r name l is are all none typed same lowers =
+rule-is d functions names r name l is all none typed same lowers =
     let one : Lowers d (length d.functions) 0 [] [] None (λ s. meaning s r.body) l =
     subst (λ n. Lowers d n 0 [] [] None (λ s. meaning s r.body) l) all
-    (subst (λ (bs : List Bound). Lowers d (length bodies) 0 bs [] None (λ s. meaning s r.body) l) none
-    (lowers [] None is are (subst (λ (bs : List Bound). AreNames d 0 bs []) (sym none) tt) (subst (λ n. HasType d n r.body [] None) (sym all) typed))) in
+    (subst (λ (bs : List Bound). Lowers d functions 0 bs [] None (λ s. meaning s r.body) l) none
+    (lowers [] None is (subst (λ (bs : List Bound). AreNames d 0 bs []) (sym none) tt) (subst (λ n. HasType d n r.body [] None) (sym all) typed))) in
     record {
       name = same;
       body = subst (λ w. Lowers d (length d.functions) 0 [] [] None (λ s. meaning s r.body) (record { action = l.action; width = w })) one.width one;
@@ -90,9 +90,8 @@ rule-is d bodies names r name l is are all none typed same lowers =
 
 -- ---- the whole design
 
-module _ (d : Checked) (is : IsTypedDesign d) (p : Parts) (parts : ArePartsOf d p) where
-  open parts use {registers as regs, inputs, tables, hosts, rules, nodes}
-
+module _ (d : Checked) (is : IsTypedDesign d) (p : Parts) (regs : p.regs ≡ map register_of d.registers) (inputs : p.inputs ≡ map input_of d.inputs) (tables : p.tables ≡ map (λ (t : Table). t.spec) d.tables)
+    (hosts : p.hosts ≡ map (λ (h : Host). h.spec) d.hosts) (rules : AreRules d d.rules p.rules) (nodes : p.nodes ≡ d.nodes) where
   same_declarations : declared_by d ≡ declarations p
   same_declarations =
       let widths : map (λ (r : Register). r.width) d.registers ≡ map (λ (r : RegDecl). r.width) p.regs = sym (ap (map (λ (r : RegDecl). r.width)) regs ∙ map-map (λ (r : RegDecl). r.width) register_of d.registers) in

@@ -21,7 +21,8 @@ use Rattle.koika_check.specs.declared.checked.Checked.{Checked}
 use Rattle.koika_check.specs.declared.typed.Operation.TheVariants as operation
 use Rattle.koika_check.specs.declared.typed.ValueType.{ValueType}
 use Rattle.koika_lower.specs.Applied.{AreOperands, IsChain, behind, chain_part}
-use Rattle.koika_lower.specs.Simulation.{IsApplied, Lowers, LowersAll, NamesStand, Sense, Simulates, StandAll, Stands, apply_sense, declared_by, environment, widths_of_inputs, widths_of_registers, world}
+use Rattle.koika_lower.specs.Lowering.{input_widths, register_widths}
+use Rattle.koika_lower.specs.Simulation.{IsApplied, Lowers, LowersAll, NamesStand, Sense, Simulates, StandAll, Stands, apply_sense, declared_by, environment, world}
 use Rattle.koika_lower.specs.declared.lowered.Bound.{Bound}
 use Rattle.koika_lower.specs.declared.lowered.Lowered.{Lowered}
 use Rattle.koika_lower.proofs.ChainValues.{are-operands, core, meant, operands-count, operands-typed, sim-chain}
@@ -82,12 +83,12 @@ module _ (d : Checked) (n depth : ℕ) (names : List Bound) (types : List ValueT
         width = c.0;
         typed = λ widths f. c.2 (declared_by d) widths (operands-typed d n depth names types (t ∷ ts) senses operands widths given.all f);
         means = λ inputs ports values locals w p st.
-            sim-core (widths_of_registers d) (Stands d (Some it.1)) (apply_sense (operation.Chain os) senses (world d n inputs ports) values) (evaluate (environment d inputs) ports l.action locals)
+            sim-core (register_widths d) (Stands d (Some it.1)) (apply_sense (operation.Chain os) senses (world d n inputs ports) values) (evaluate (environment d inputs) ports l.action locals)
             (chain_part os (core d n depth names types inputs ports values locals w p st operands) locals) (h.means count (environment d inputs) ports locals)
             (sim-chain d n depth names types inputs ports values locals w p st (Stands d (Some it.1)) os t ts it.1 senses operands (apply (world d n inputs ports) (operation.Chain os)) given.all it.2
             (λ v vs x y is e hy.
-            subst (λ (r : ValueType). Simulates (widths_of_registers d) (Stands d (Some r)) (comes_to (Some (value.Number (chained os (packed v) vs)))) (comes_to y)) (sym b.is)
-            (bits-come d (widths_of_registers d) b.width y (chained os (packed v) vs) (sym e) (bits-width d it.1 b.width y b.is hy))));
+            subst (λ (r : ValueType). Simulates (register_widths d) (Stands d (Some r)) (comes_to (Some (value.Number (chained os (packed v) vs)))) (comes_to y)) (sym b.is)
+            (bits-come d (register_widths d) b.width y (chained os (packed v) vs) (sym e) (bits-width d it.1 b.width y b.is hy))));
       })
 
 -- ---- one below the other
@@ -133,11 +134,11 @@ chains-wide d w (t ∷ ts) few = (
 )
 
 module _ (d : Checked) (n depth : ℕ) (names : List Bound) (types : List ValueType) (inputs : List BitVector) (ports : Ports Stopped) (values : List Value) (locals : List BitVector)
-    (widths : HaveWidths (widths_of_inputs d) inputs) (fit : PortsFit (widths_of_registers d) ports) (st : NamesStand d depth names types values locals) where
+    (widths : HaveWidths (input_widths d) inputs) (fit : PortsFit (register_widths d) ports) (st : NamesStand d depth names types values locals) where
   pub sim-below : {V : Type 0} (Q : V → BitVector → Type 0) (ts : List ValueType) (senses : List Sense) (ls : List Lowered) (k : List Value → Part V Stopped) (z : BitVector) →
       LowersAll d n depth false names types (map Some ts) senses ls →
-      ((vs : List Value) (xs : List BitVector) → StandAll d ts vs xs → Simulates (widths_of_registers d) Q (k vs) (comes_to (below z xs))) →
-      Simulates (widths_of_registers d) Q (in_turn (meant d n depth names types inputs ports values locals widths fit st senses) values >>= k)
+      ((vs : List Value) (xs : List BitVector) → StandAll d ts vs xs → Simulates (register_widths d) Q (k vs) (comes_to (below z xs))) →
+      Simulates (register_widths d) Q (in_turn (meant d n depth names types inputs ports values locals widths fit st senses) values >>= k)
       (behind (replicate (length ts) binary.Concat) (core d n depth names types inputs ports values locals widths fit st ls) z locals)
   sim-below Q [] [] [] k z all next = next [] [] tt
   sim-below Q [] [] (l ∷ ls) k z all next = absurd all
@@ -145,7 +146,7 @@ module _ (d : Checked) (n depth : ℕ) (names : List Bound) (types : List ValueT
   sim-below Q (t ∷ ts) [] ls k z all next = absurd all
   sim-below Q (t ∷ ts) (m ∷ ms) [] k z all next = absurd all
   sim-below Q (t ∷ ts) (m ∷ ms) (l ∷ ls) k z all next =
-      sim-cons d (widths_of_registers d) Q t (m (world d n inputs ports)) (meant d n depth names types inputs ports values locals widths fit st ms) values k
+      sim-cons d (register_widths d) Q t (m (world d n inputs ports)) (meant d n depth names types inputs ports values locals widths fit st ms) values k
       (evaluate (environment d inputs) ports l.action locals) (λ y. behind (replicate (length ts) binary.Concat) (core d n depth names types inputs ports values locals widths fit st ls) (op.concat z y) locals)
       (all.0.means inputs ports values locals widths fit st)
       (λ v x is. sim-below Q ts ms ls (λ vs. k (v ∷ vs)) (op.concat z x) all.1 (λ vs xs rest. next (v ∷ vs) (x ∷ xs) (is, rest)))
@@ -153,13 +154,13 @@ module _ (d : Checked) (n depth : ℕ) (names : List Bound) (types : List ValueT
   -- all operands, one below the other
   pub sim-joined : {V : Type 0} (Q : V → BitVector → Type 0) (t : ValueType) (ts : List ValueType) (senses : List Sense) (ls : List Lowered) (k : List Value → Part V Stopped) →
       LowersAll d n depth false names types (map Some (t ∷ ts)) senses ls →
-      ((v : Value) (vs : List Value) (x : BitVector) (xs : List BitVector) → StandAll d (t ∷ ts) (v ∷ vs) (x ∷ xs) → Simulates (widths_of_registers d) Q (k (v ∷ vs)) (comes_to (below x xs))) →
-      Simulates (widths_of_registers d) Q (in_turn (meant d n depth names types inputs ports values locals widths fit st senses) values >>= k)
+      ((v : Value) (vs : List Value) (x : BitVector) (xs : List BitVector) → StandAll d (t ∷ ts) (v ∷ vs) (x ∷ xs) → Simulates (register_widths d) Q (k (v ∷ vs)) (comes_to (below x xs))) →
+      Simulates (register_widths d) Q (in_turn (meant d n depth names types inputs ports values locals widths fit st senses) values >>= k)
       (chain_part (replicate (length ts) binary.Concat) (core d n depth names types inputs ports values locals widths fit st ls) locals)
   sim-joined Q t ts [] ls k all next = absurd all
   sim-joined Q t ts (m ∷ ms) [] k all next = absurd all
   sim-joined Q t ts (m ∷ ms) (l ∷ ls) k all next =
-      sim-cons d (widths_of_registers d) Q t (m (world d n inputs ports)) (meant d n depth names types inputs ports values locals widths fit st ms) values k
+      sim-cons d (register_widths d) Q t (m (world d n inputs ports)) (meant d n depth names types inputs ports values locals widths fit st ms) values k
       (evaluate (environment d inputs) ports l.action locals) (λ y. behind (replicate (length ts) binary.Concat) (core d n depth names types inputs ports values locals widths fit st ls) y locals)
       (all.0.means inputs ports values locals widths fit st)
       (λ v x is. sim-below Q ts ms ls (λ vs. k (v ∷ vs)) x all.1 (λ vs xs rest. next v vs x xs (is, rest)))

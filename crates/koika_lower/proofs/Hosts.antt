@@ -28,7 +28,8 @@ use Rattle.koika_check.specs.declared.typed.Operation.TheVariants as operation
 use Rattle.koika_check.specs.declared.typed.ValueType.{ValueType}
 use Rattle.koika_lower.specs.Applied.{IsAskedHost, IsChain, chain_part}
 use Rattle.koika_lower.specs.Forms.{FormFits, IsFormed, form_value}
-use Rattle.koika_lower.specs.Simulation.{IsApplied, Lowers, LowersAll, Sense, StandAll, Stands, apply_sense, declared_by, environment, externs_of, widths_of_registers, world}
+use Rattle.koika_lower.specs.Lowering.{register_widths}
+use Rattle.koika_lower.specs.Simulation.{IsApplied, Lowers, LowersAll, Sense, StandAll, Stands, apply_sense, declared_by, environment, externs_of, world}
 use Rattle.koika_lower.specs.declared.forms.Form.{Form}
 use Rattle.koika_lower.specs.declared.lowered.Bound.{Bound}
 use Rattle.koika_lower.specs.declared.lowered.Lowered.{Lowered}
@@ -132,18 +133,18 @@ module _ (d : Checked) (n depth : ℕ) (names : List Bound) (types : List ValueT
                 (asked.typed (declared_by d) widths j.width out (c.2 (declared_by d) widths (operands-typed d n depth names types (t ∷ ts) senses operands widths all f)) (omega (arith, wide, ok.some_bit))
                 (spec, core_spec, sym wide, refl));
             means = λ inputs ports values locals w p st.
-                sim-core (widths_of_registers d) (Stands d (Some (bits out))) (apply_sense (operation.Host number) senses (world d n inputs ports) values) (evaluate (environment d inputs) ports l.action locals)
+                sim-core (register_widths d) (Stands d (Some (bits out))) (apply_sense (operation.Host number) senses (world d n inputs ports) values) (evaluate (environment d inputs) ports l.action locals)
                 (chain_part (replicate (length ts) binary.Concat) (core d n depth names types inputs ports values locals w p st operands) locals >>= λ x. comes_to (answer_of (slice_get (externs_of d).hosts number) x))
                 (asked.means (environment d inputs) ports locals ∙
                 ap (λ (q : Part BitVector Stopped). q >>= λ x. comes_to (answer_of (slice_get (externs_of d).hosts number) x))
                 (is.means (count ∙ ap suc (sym (length-same (length ts)))) (environment d inputs) ports locals))
-                (sim-same (widths_of_registers d) (Stands d (Some (bits out))) (apply_sense (operation.Host number) senses (world d n inputs ports) values)
+                (sim-same (register_widths d) (Stands d (Some (bits out))) (apply_sense (operation.Host number) senses (world d n inputs ports) values)
                 ((in_turn (meant d n depth names types inputs ports values locals w p st senses) values >>= comes_to) >>= apply (world d n inputs ports) (operation.Host number))
                 (chain_part (replicate (length ts) binary.Concat) (core d n depth names types inputs ports values locals w p st operands) locals >>= λ x. comes_to (answer_of (slice_get (externs_of d).hosts number) x))
                 (λ events. sym (bind-assoc (in_turn (meant d n depth names types inputs ports values locals w p st senses) values) comes_to (apply (world d n inputs ports) (operation.Host number)) events))
-                (sim-bind (widths_of_registers d) (λ vs y. (all_joined vs ≡ y) × HasWidth y spec.in_width) (Stands d (Some (bits out))) (apply (world d n inputs ports) (operation.Host number))
+                (sim-bind (register_widths d) (λ vs y. (all_joined vs ≡ y) × HasWidth y spec.in_width) (Stands d (Some (bits out))) (apply (world d n inputs ports) (operation.Host number))
                 (λ x. comes_to (answer_of (slice_get (externs_of d).hosts number) x))
-                (λ vs y r. bits-come d (widths_of_registers d) out (answer_of (slice_get (externs_of d).hosts number) y) (answer_of (host_by (slice_get (world d n inputs ports).design.hosts number)) (all_joined vs))
+                (λ vs y r. bits-come d (register_widths d) out (answer_of (slice_get (externs_of d).hosts number) y) (answer_of (host_by (slice_get (world d n inputs ports).design.hosts number)) (all_joined vs))
                 (ap (λ (c : Checked). answer_of (host_by (slice_get c.hosts number)) (all_joined vs)) (world-design d n inputs ports)
                 ∙ ap (λ (o : Option Host). answer_of (host_by o) (all_joined vs)) it.1
                 ∙ ap (answer_of (Some spec)) r.0
@@ -152,7 +153,7 @@ module _ (d : Checked) (n depth : ℕ) (names : List Bound) (types : List ValueT
                 (in_turn (meant d n depth names types inputs ports values locals w p st senses) values >>= comes_to)
                 (chain_part (replicate (length ts) binary.Concat) (core d n depth names types inputs ports values locals w p st operands) locals)
                 (sim-joined d n depth names types inputs ports values locals w p st (λ vs y. (all_joined vs ≡ y) × HasWidth y spec.in_width) t ts senses operands comes_to all
-                (λ v vs x xs each. sim-value (widths_of_registers d) (λ vs y. (all_joined vs ≡ y) × HasWidth y spec.in_width) (v ∷ vs) (below x xs) (
+                (λ v vs x xs each. sim-value (register_widths d) (λ vs y. (all_joined vs ≡ y) × HasWidth y spec.in_width) (v ∷ vs) (below x xs) (
                   ap (λ y. joined y vs) each.0.1 ∙ joined-below d ts vs xs x each.1,
                   (let b = below-width d x (width_of d t) ts vs xs each.0.2 each.1 few in (b.0, b.1 ∙ whole)),
                 )))));
@@ -193,13 +194,13 @@ module _ (d : Checked) (n depth : ℕ) (names : List Bound) (types : List ValueT
             typed = λ widths f. subst (λ r. ActionHasWidth (declared_by d) l.action widths r) (sym wide)
                 (h.typed (declared_by d) widths 1 (first.typed widths f) (second.typed widths f) (subst (λ r. 1 ≤ r) (sym first.width) first.valid.0) (subst (λ r. 1 ≤ r) (sym second.width) second.valid.0) (omega arith) two);
             means = λ inputs ports values locals wi p st.
-                sim-core (widths_of_registers d) (Stands d (Some (bits 1))) (apply_sense (operation.Compare comparison) (m ∷ k ∷ []) (world d n inputs ports) values) (evaluate (environment d inputs) ports l.action locals)
+                sim-core (register_widths d) (Stands d (Some (bits 1))) (apply_sense (operation.Compare comparison) (m ∷ k ∷ []) (world d n inputs ports) values) (evaluate (environment d inputs) ports l.action locals)
                 (evaluate (environment d inputs) ports left.action locals >>= λ x. evaluate (environment d inputs) ports right.action locals >>= λ y. comes_to (form_value form x y)) (h.means (environment d inputs) ports locals)
-                (sim-cons d (widths_of_registers d) (Stands d (Some (bits 1))) t (m (world d n inputs ports)) (k (world d n inputs ports) ∷ []) values (apply (world d n inputs ports) (operation.Compare comparison))
+                (sim-cons d (register_widths d) (Stands d (Some (bits 1))) t (m (world d n inputs ports)) (k (world d n inputs ports) ∷ []) values (apply (world d n inputs ports) (operation.Compare comparison))
                 (evaluate (environment d inputs) ports left.action locals) (λ x. evaluate (environment d inputs) ports right.action locals >>= λ y. comes_to (form_value form x y)) (first.means inputs ports values locals wi p st)
-                (λ v x is. sim-one d (widths_of_registers d) (Stands d (Some (bits 1))) u (k (world d n inputs ports)) values (λ vs. apply (world d n inputs ports) (operation.Compare comparison) (v ∷ vs))
+                (λ v x is. sim-one d (register_widths d) (Stands d (Some (bits 1))) u (k (world d n inputs ports)) values (λ vs. apply (world d n inputs ports) (operation.Compare comparison) (v ∷ vs))
                 (evaluate (environment d inputs) ports right.action locals) (λ y. comes_to (form_value form x y)) (second.means inputs ports values locals wi p st)
-                (λ v' y is'. bits-come d (widths_of_registers d) 1 (form_value form x y) (comparison_value comparison (packed v) (packed v'))
+                (λ v' y is'. bits-come d (register_widths d) 1 (form_value form x y) (comparison_value comparison (packed v) (packed v'))
                 (ap₂ (comparison_value comparison) is.1 is'.1 ∙ sym (value x y))
                 (subst (λ z. HasWidth z 1) (sym (value x y)) (comparison-width comparison x y w (bits-width d t w x it.1.1.0 is.2) (bits-width d u w y it.1.1.1 is'.2))))));
           })

@@ -10,7 +10,6 @@ pub mod Choices
 pub mod Comparisons
 pub mod Compounds
 pub mod Constructs
-pub mod Copies
 pub mod Designs
 pub mod Groups
 pub mod Hosts

@@ -12,7 +12,8 @@ use Rattle.koika_check.specs.Meaning.{Meaning, in_turn, with_value}
 use Rattle.koika_check.specs.declared.checked.Checked.{Checked}
 use Rattle.koika_check.specs.declared.typed.ValueType.{ValueType}
 use Rattle.koika_lower.specs.Applied.{lets, values_of}
-use Rattle.koika_lower.specs.Simulation.{AreNames, LowersAll, NamesStand, Sense, Simulates, StandAll, Stands, environment, widths_of_inputs, widths_of_registers, world}
+use Rattle.koika_lower.specs.Lowering.{input_widths, register_widths}
+use Rattle.koika_lower.specs.Simulation.{AreNames, LowersAll, NamesStand, Sense, Simulates, StandAll, Stands, environment, world}
 use Rattle.koika_lower.specs.declared.lowered.Bound.{Bound}
 use Rattle.koika_lower.specs.declared.lowered.Lowered.{Lowered}
 use Rattle.koika_lower.proofs.Names.{names-deeper, stand-deeper}
@@ -73,7 +74,7 @@ module _ (d : Checked) (regs : List ℕ) where
 
 -- where operands stand: what the settings and the names' values have to be
 module _ (d : Checked) (n : ℕ) (names : List Bound) (types : List ValueType) (inputs : List BitVector) (ports : Ports Stopped) (values : List Value)
-    (widths : HaveWidths (widths_of_inputs d) inputs) (fit : PortsFit (widths_of_registers d) ports) where
+    (widths : HaveWidths (input_widths d) inputs) (fit : PortsFit (register_widths d) ports) where
   abbrev pub meanings : List Sense → List (Meaning Stopped)
   meanings = map (λ (m : Sense). m (world d n inputs ports))
 
@@ -84,15 +85,15 @@ module _ (d : Checked) (n : ℕ) (names : List Bound) (types : List ValueType) (
   pub sim-lets : {V : Type 0} (Q : V → BitVector → Type 0) (depth : ℕ) (ts : List ValueType) (senses : List Sense) (ls : List Lowered) (k : List Value → Part V Stopped)
       (body : List BitVector → Part BitVector Stopped) (locals : List BitVector) → AreNames d depth names types → NamesStand d depth names types values locals →
       LowersAll d n depth true names types (map Some ts) senses ls →
-      ((vs : List Value) (xs : List BitVector) → StandAll d ts vs xs → Simulates (widths_of_registers d) Q (k vs) (body (onto xs locals))) →
-      Simulates (widths_of_registers d) Q (in_turn (meanings senses) values >>= k) (lets (parts ls) body locals)
+      ((vs : List Value) (xs : List BitVector) → StandAll d ts vs xs → Simulates (register_widths d) Q (k vs) (body (onto xs locals))) →
+      Simulates (register_widths d) Q (in_turn (meanings senses) values >>= k) (lets (parts ls) body locals)
   sim-lets Q depth [] [] [] k body locals are st all next = next [] [] tt
   sim-lets Q depth [] [] (l ∷ ls) k body locals are st all next = absurd all
   sim-lets Q depth [] (m ∷ senses) ls k body locals are st all next = absurd all
   sim-lets Q depth (t ∷ ts) [] ls k body locals are st all next = absurd all
   sim-lets Q depth (t ∷ ts) (m ∷ senses) [] k body locals are st all next = absurd all
   sim-lets Q depth (t ∷ ts) (m ∷ senses) (l ∷ ls) k body locals are st all next =
-      sim-cons d (widths_of_registers d) Q t (m (world d n inputs ports)) (meanings senses) values k (evaluate (environment d inputs) ports l.action locals) (λ x. lets (parts ls) body (x ∷ locals))
+      sim-cons d (register_widths d) Q t (m (world d n inputs ports)) (meanings senses) values k (evaluate (environment d inputs) ports l.action locals) (λ x. lets (parts ls) body (x ∷ locals))
       (all.0.means inputs ports values locals widths fit st)
       (λ v x is. sim-lets Q (depth + 1) ts senses ls (λ vs. k (v ∷ vs)) body (x ∷ locals) (names-deeper d depth names types are) (stand-deeper d depth names types values locals x are st) all.1
       (λ vs xs are_all. next (v ∷ vs) (x ∷ xs) (is, are_all)))

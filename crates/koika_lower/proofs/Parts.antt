@@ -22,13 +22,15 @@ use Rattle.koika_check.specs.declared.typed.Selection.{Selection}
 use Rattle.koika_check.specs.declared.typed.ValueType.{ValueType}
 use Rattle.koika_lower.specs.Actions.{ComesTo}
 use Rattle.koika_lower.specs.Applied.{AllFit, IsArray, IsReplaced, IsSelected, IsUpdated, lets, lowest_bit, lowest_of_all, names_stacked, part_width, range_at, width_of_all, with_part}
-use Rattle.koika_lower.specs.Simulation.{IsApplied, Lowers, LowersAll, Sense, Simulates, StandAll, Stands, apply_sense, declared_by, environment, widths_of_registers, world}
+use Rattle.koika_lower.specs.Lowering.{register_widths}
+use Rattle.koika_lower.specs.Simulation.{IsApplied, Lowers, LowersAll, Sense, Simulates, StandAll, Stands, apply_sense, declared_by, environment, world}
 use Rattle.koika_lower.specs.declared.lowered.Bound.{Bound}
 use Rattle.koika_lower.specs.declared.lowered.Lowered.{Lowered}
 use Rattle.koika_lower.proofs.Calls.{lets-typed}
 use Rattle.koika_lower.proofs.Constructs.{one-lowers, same-lowers, sim-core, single}
 use Rattle.koika_lower.proofs.Operands.{onto, parts, sim-lets}
 use Rattle.koika_lower.proofs.Simulations.{sim-value}
+use Rattle.koika_lower.proofs.TypeWidths.{factor}
 use Rattle.koika_lower.proofs.Values.{array-width, items-stand, replaced-stands, replaces-fit, takes-fit, takes-stands}
 
 -- the slice of all bits
@@ -40,7 +42,7 @@ whole_slice x w low h within =
 -- an update of bound values
 update-value : (d : Checked) → IsTypedDesign d → (n : ℕ) (inputs : List BitVector) (ports : Ports Stopped) (s : Selection) (t u : ValueType) (body : Action) (locals : List BitVector) (width : ℕ) →
     width ≡ width_of d t → IsType d t → Replaces d s t u → IsReplaced (range_at (lowest_bit s) (part_width s)) width body → (vs : List Value) (xs : List BitVector) → StandAll d (t ∷ u ∷ []) vs xs →
-    Simulates (widths_of_registers d) (Stands d (Some t)) (apply (world d n inputs ports) (operation.Update s) vs) (evaluate (environment d inputs) ports body (onto xs locals))
+    Simulates (register_widths d) (Stands d (Some t)) (apply (world d n inputs ports) (operation.Update s) vs) (evaluate (environment d inputs) ports body (onto xs locals))
 update-value d design n inputs ports s t u body locals width e valid r is [] xs h = absurd h
 update-value d design n inputs ports s t u body locals width e valid r is (v ∷ vs) [] h = absurd h
 update-value d design n inputs ports s t u body locals width e valid r is (v ∷ []) (x ∷ xs) h = absurd h.1
@@ -48,9 +50,9 @@ update-value d design n inputs ports s t u body locals width e valid r is (v ∷
 update-value d design n inputs ports s t u body locals width e valid r is (v ∷ w ∷ z ∷ vs) (x ∷ y ∷ xs) h = absurd h.1.1
 update-value d design n inputs ports s t u body locals width e valid r is (v ∷ w ∷ []) (x ∷ y ∷ z ∷ xs) h = absurd h.1.1
 update-value d design n inputs ports s t u body locals width e valid r is (v ∷ w ∷ []) (x ∷ y ∷ []) h =
-    sim-core (widths_of_registers d) (Stands d (Some t)) (apply (world d n inputs ports) (operation.Update s) (v ∷ w ∷ [])) (evaluate (environment d inputs) ports body (y ∷ x ∷ locals))
+    sim-core (register_widths d) (Stands d (Some t)) (apply (world d n inputs ports) (operation.Update s) (v ∷ w ∷ [])) (evaluate (environment d inputs) ports body (y ∷ x ∷ locals))
     (comes_to (with_part (range_at (lowest_bit s) (part_width s)) width x y)) (is.means (environment d inputs) ports y x locals)
-    (sim-value (widths_of_registers d) (Stands d (Some t)) (Some (replaced v s w)) (with_part (range_at (lowest_bit s) (part_width s)) width x y)
+    (sim-value (register_widths d) (Stands d (Some t)) (Some (replaced v s w)) (with_part (range_at (lowest_bit s) (part_width s)) width x y)
     (subst (λ k. Stands d (Some t) (Some (replaced v s w)) (with_part (range_at (lowest_bit s) (part_width s)) k x y)) (sym e)
     (replaced-stands d design s t u v w x y valid r h.0 h.1.0)))
 
@@ -75,7 +77,7 @@ module _ (d : Checked) (n depth : ℕ) (names : List Bound) (types : List ValueT
       by_width part takes valid within is whole wide (inl same) =
           let all_bits : width_of d t ≡ width_of d part = sym whole ∙ sym same ∙ wide in
           same-lowers d n depth names types (operation.Select selections) t (Some part) senses operands init last l e false given.all valid (is.same same) all_bits
-          (λ inputs ports v x st. sim-value (widths_of_registers d) (Stands d (Some part)) (Some (all_selected v selections)) x
+          (λ inputs ports v x st. sim-value (register_widths d) (Stands d (Some part)) (Some (all_selected v selections)) x
           (subst (λ z. Stands d (Some part) (Some (all_selected v selections)) z) (whole_slice x (width_of d part) (lowest_of_all selections) (st.2.0, st.2.1 ∙ all_bits) (omega arith))
           (takes-stands d given.design selections t part v x (subst (λ w. (1 ≤ w) × (w ≤ 128)) (sym all_bits) valid) takes st)))
       by_width part takes valid within is whole wide (inr other) =
@@ -85,7 +87,7 @@ module _ (d : Checked) (n depth : ℕ) (names : List Bound) (types : List ValueT
           one-lowers d n depth names types (operation.Select selections) t (Some part) senses operands init last l e false given.all valid
           (λ env ports x. comes_to (op.slice x (lowest_of_all selections + width_of_all selections last.width - 1) (lowest_of_all selections))) s.means (is.width ∙ wide)
           (λ widths a ok. subst (λ w. ActionHasWidth (declared_by d) l.action widths w) size (s.typed (declared_by d) widths (width_of d t) a (omega (arith, wide, valid.0)) (omega (arith, wide, valid.0, within))))
-          (λ inputs ports v x p st. sim-value (widths_of_registers d) (Stands d (Some part)) (Some (all_selected v selections)) (op.slice x (lowest_of_all selections + width_of_all selections last.width - 1) (lowest_of_all selections))
+          (λ inputs ports v x p st. sim-value (register_widths d) (Stands d (Some part)) (Some (all_selected v selections)) (op.slice x (lowest_of_all selections + width_of_all selections last.width - 1) (lowest_of_all selections))
           (subst (λ k. Stands d (Some part) (Some (all_selected v selections)) (op.slice x k (lowest_of_all selections))) (sym up)
           (takes-stands d given.design selections t part v x (single d n depth false names types t senses operands init last e given.all).lowers.valid takes st)))
 
@@ -121,7 +123,7 @@ module _ (d : Checked) (n depth : ℕ) (names : List Bound) (types : List ValueT
                 subst (λ w. ActionHasWidth (declared_by d) l.action widths w) (sym (h.width a ls refl))
                 (h.bound.typed (declared_by d) widths a.width (lets-typed d n depth names types (t ∷ u ∷ []) (m ∷ ms) (a ∷ ls) h.body widths a.width given.are f all at));
             means = λ inputs ports values locals w p st.
-                sim-core (widths_of_registers d) (Stands d (Some t)) (apply_sense (operation.Update s) (m ∷ ms) (world d n inputs ports) values) (evaluate (environment d inputs) ports l.action locals)
+                sim-core (register_widths d) (Stands d (Some t)) (apply_sense (operation.Update s) (m ∷ ms) (world d n inputs ports) values) (evaluate (environment d inputs) ports l.action locals)
                 (lets (parts d n names types inputs ports values w p (a ∷ ls)) (evaluate (environment d inputs) ports h.body) locals) (h.bound.means (environment d inputs) ports locals)
                 (sim-lets d n names types inputs ports values w p (Stands d (Some t)) depth (t ∷ u ∷ []) (m ∷ ms) (a ∷ ls) (apply (world d n inputs ports) (operation.Update s)) (evaluate (environment d inputs) ports h.body) locals given.are st all
                 (update-value d given.design n inputs ports s t u h.body locals a.width first.width first.valid it.0 is));
@@ -172,15 +174,15 @@ rising-count d n depth names types (t ∷ ts) (m ∷ ms) (l ∷ ls) all = ap suc
 array-value : (d : Checked) → IsTypedDesign d → (n : ℕ) (inputs : List BitVector) (ports : Ports Stopped) (item : ValueType) (ts : List ValueType) (body : Action) (count : ℕ) (locals : List BitVector) →
     count ≡ length ts → 1 ≤ count → ts ≡ replicate (length ts) item → IsType d (array (length ts) item) → ComesTo body (λ env ports locals. comes_to (names_stacked (count - 1) locals)) →
     (vs : List Value) (xs : List BitVector) → StandAll d ts vs xs →
-    Simulates (widths_of_registers d) (Stands d (Some (array (length ts) item))) (apply (world d n inputs ports) operation.Array vs) (evaluate (environment d inputs) ports body (onto xs locals))
+    Simulates (register_widths d) (Stands d (Some (array (length ts) item))) (apply (world d n inputs ports) operation.Array vs) (evaluate (environment d inputs) ports body (onto xs locals))
 array-value d design n inputs ports item ts body count locals e some same valid means vs [] all = absurd (omega (arith, all-count d ts vs [] all))
 array-value d design n inputs ports item ts body count locals e some same valid means vs (x ∷ xs) all =
     let k : length (x ∷ xs) ≡ length ts = all-count d ts vs (x ∷ xs) all in
     let last : count - 1 ≡ length xs = omega (arith, k) in
-    sim-core (widths_of_registers d) (Stands d (Some (array (length ts) item))) (apply (world d n inputs ports) operation.Array vs) (evaluate (environment d inputs) ports body (onto xs (x ∷ locals)))
+    sim-core (register_widths d) (Stands d (Some (array (length ts) item))) (apply (world d n inputs ports) operation.Array vs) (evaluate (environment d inputs) ports body (onto xs (x ∷ locals)))
     (comes_to (stacked_up (x ∷ xs)))
     (means (environment d inputs) ports (onto xs (x ∷ locals)) ∙ ap (λ i. comes_to (names_stacked i (onto xs (x ∷ locals)))) last ∙ ap comes_to (stacked-names xs locals x))
-    (sim-value (widths_of_registers d) (Stands d (Some (array (length ts) item))) (Some (value.Items vs)) (stacked_up (x ∷ xs))
+    (sim-value (register_widths d) (Stands d (Some (array (length ts) item))) (Some (value.Items vs)) (stacked_up (x ∷ xs))
     (subst (λ i. Stands d (Some (array i item)) (Some (value.Items vs)) (stacked_up (x ∷ xs))) k
     (items-stand d item vs (x ∷ xs) (subst (λ i. IsType d (array i item)) (sym k) valid)
     (subst (λ us. StandAll d us vs (x ∷ xs)) (same ∙ ap (λ i. replicate i item) (sym k)) all))))
@@ -200,7 +202,8 @@ module _ (d : Checked) (n depth : ℕ) (names : List Bound) (types : List ValueT
       let wide : a.width ≡ width_of d item = given.all.0.width ∙ ap (width_of d) same in
       let whole : length (a ∷ ls) * width_of d item ≡ width_of d (array (length (t ∷ ts)) item) = ap (λ k. k * width_of d item) count ∙ array-width d (length (t ∷ ts)) item in
       let few : length (a ∷ ls) * a.width ≤ 128 = subst (λ w. length (a ∷ ls) * w ≤ 128) (sym wide) (subst (λ w. w ≤ 128) (sym whole) it.2.1) in
-      let size : l.width ≡ width_of d (array (length (t ∷ ts)) item) = h.width a ls refl few ∙ ap (λ w. length (a ∷ ls) * w) wide ∙ whole in
+      let short : length (a ∷ ls) ≤ 128 = omega (arith, it.2.1, factor (length (a ∷ ls)) (width_of d item) (width_of d (array (length (t ∷ ts)) item)) whole it.2.0) in
+      let size : l.width ≡ width_of d (array (length (t ∷ ts)) item) = h.width a ls refl short few ∙ ap (λ w. length (a ∷ ls) * w) wide ∙ whole in
       subst (λ (o : Option ValueType). Lowers d n depth names types o (apply_sense operation.Array (m ∷ ms)) l) (sym it.3)
       (record {
         valid = it.2;
@@ -209,13 +212,13 @@ module _ (d : Checked) (n depth : ℕ) (names : List Bound) (types : List ValueT
             subst (λ w. ActionHasWidth (declared_by d) l.action widths w) (whole ∙ sym size)
             (h.bound.typed (declared_by d) widths (length (a ∷ ls) * width_of d item) (lets-typed d n depth names types (t ∷ ts) (m ∷ ms) (a ∷ ls) h.body widths (length (a ∷ ls) * width_of d item) given.are f given.all
             (subst (λ ws. ActionHasWidth (declared_by d) h.body (onto ws widths) (length (a ∷ ls) * width_of d item)) (sym (ap (map (width_of d)) it.1 ∙ map-replicate d (length (t ∷ ts)) item))
-            (h.typed (omega arith) (declared_by d) (width_of d item) (onto (replicate (length (t ∷ ts)) (width_of d item)) widths)
+            (h.typed (omega arith) short (declared_by d) (width_of d item) (onto (replicate (length (t ∷ ts)) (width_of d item)) widths)
             (subst (λ w. 1 ≤ w) (ap (width_of d) same) given.all.0.valid.0) (subst (λ w. length (a ∷ ls) * w ≤ 128) wide few)
             (λ i below. get-onto (width_of d item) (length (t ∷ ts)) 0 widths (λ j none. absurd (omega arith)) i (omega (arith, count)))))));
         means = λ inputs ports values locals w p st.
-            sim-core (widths_of_registers d) (Stands d (Some (array (length (t ∷ ts)) item))) (apply_sense operation.Array (m ∷ ms) (world d n inputs ports) values) (evaluate (environment d inputs) ports l.action locals)
+            sim-core (register_widths d) (Stands d (Some (array (length (t ∷ ts)) item))) (apply_sense operation.Array (m ∷ ms) (world d n inputs ports) values) (evaluate (environment d inputs) ports l.action locals)
             (lets (parts d n names types inputs ports values w p (a ∷ ls)) (evaluate (environment d inputs) ports h.body) locals) (h.bound.means (environment d inputs) ports locals)
             (sim-lets d n names types inputs ports values w p (Stands d (Some (array (length (t ∷ ts)) item))) depth (t ∷ ts) (m ∷ ms) (a ∷ ls) (apply (world d n inputs ports) operation.Array)
             (evaluate (environment d inputs) ports h.body) locals given.are st given.all
-            (array-value d given.design n inputs ports item (t ∷ ts) h.body (length (a ∷ ls)) locals count (omega arith) it.1 it.2 (h.means (omega arith))));
+            (array-value d given.design n inputs ports item (t ∷ ts) h.body (length (a ∷ ls)) locals count (omega arith) it.1 it.2 (h.means (omega arith) short)));
       })

@@ -7,7 +7,7 @@ use Rattle.koika_check.specs.declared.checked.Checked.{Checked}
 use Rattle.koika_check.specs.declared.typed.Typed.{Typed}
 use Rattle.koika_check.specs.declared.typed.ValueType.{ValueType}
 use Rattle.koika_lower.specs.Expressions.{AreLowered, sense_of}
-use Rattle.koika_lower.specs.Simulation.{AreBodies, AreNames, Lowers, LowersAll, Sense}
+use Rattle.koika_lower.specs.Simulation.{AreNames, Lowers, LowersAll, Sense}
 use Rattle.koika_lower.specs.declared.lowered.Bound.{Bound}
 use Rattle.koika_lower.specs.declared.lowered.Lowered.{Lowered}
 use Rattle.koika_lower.proofs.Names.{names-deeper}
@@ -66,24 +66,24 @@ module _ (d : Checked) (n : ℕ) (names : List Bound) (types : List ValueType) (
   )
 
 -- none so far
-pub lowered-none : (d : Checked) (bodies : List (Option Lowered)) (depth : ℕ) (rising : Bool) (names : List Bound) → AreLowered d bodies depth rising names [] []
-lowered-none d bodies depth rising names types [] design are_bodies are h = tt
-lowered-none d bodies depth rising names types (of ∷ ofs) design are_bodies are h = absurd h
+pub lowered-none : (d : Checked) (n : ℕ) (depth : ℕ) (rising : Bool) (names : List Bound) → AreLowered d n depth rising names [] []
+lowered-none d n depth rising names types [] design are h = tt
+lowered-none d n depth rising names types (of ∷ ofs) design are h = absurd h
 
 -- and one more
-pub lowered-push : (d : Checked) (bodies : List (Option Lowered)) (depth : ℕ) (rising : Bool) (names : List Bound) (es : List Typed) (i at : ℕ) (e : Typed) (ls : List Lowered) (l : Lowered) →
-    i < length es → length ls ≡ i → at ≡ depth_behind rising depth i → AreLowered d bodies depth rising names (take i es) ls →
-    ((types : List ValueType) (of : Option ValueType) → IsTypedDesign d → AreBodies d bodies → AreNames d at names types → HasType d (length bodies) (get_or es i e) types of →
-    Lowers d (length bodies) at names types of (sense_of (get_or es i e)) l) →
-    AreLowered d bodies depth rising names (take (i + 1) es) (ls ++ l ∷ [])
-lowered-push d bodies depth rising names es i at e ls l below count place before this types ofs design are_bodies are h =
+pub lowered-push : (d : Checked) (n : ℕ) (depth : ℕ) (rising : Bool) (names : List Bound) (es : List Typed) (i at : ℕ) (e : Typed) (ls : List Lowered) (l : Lowered) →
+    i < length es → length ls ≡ i → at ≡ depth_behind rising depth i → AreLowered d n depth rising names (take i es) ls →
+    ((types : List ValueType) (of : Option ValueType) → IsTypedDesign d → AreNames d at names types → HasType d n (get_or es i e) types of →
+    Lowers d n at names types of (sense_of (get_or es i e)) l) →
+    AreLowered d n depth rising names (take (i + 1) es) (ls ++ l ∷ [])
+lowered-push d n depth rising names es i at e ls l below count place before this types ofs design are h =
     let more = take_more es i e below in
-    let P : Typed → Option ValueType → Type 0 = λ x of. HasType d (length bodies) x types of in
+    let P : Typed → Option ValueType → Type 0 = λ x of. HasType d n x types of in
     let parts = pairs-end P (take i es) (get_or es i e) ofs (subst (λ (xs : List Typed). Pairwise P xs ofs) more h) in
-    let here = this types parts.1 design are_bodies (subst (λ k. AreNames d k names types) (sym place) (names-behind d rising depth i names types are)) parts.4 in
-    let all = all-push d (length bodies) names types rising depth parts.0 (map sense_of (take i es)) ls parts.1 (sense_of (get_or es i e)) l
-    (before types parts.0 design are_bodies are parts.3)
-    (subst (λ k. Lowers d (length bodies) k names types parts.1 (sense_of (get_or es i e)) l) (place ∙ ap (depth_behind rising depth) (sym count)) here) in
-    subst (λ (os : List (Option ValueType)). LowersAll d (length bodies) depth rising names types os (map sense_of (take (i + 1) es)) (ls ++ l ∷ [])) (sym parts.2)
-    (subst (λ (ms : List Sense). LowersAll d (length bodies) depth rising names types (parts.0 ++ parts.1 ∷ []) ms (ls ++ l ∷ []))
+    let here = this types parts.1 design (subst (λ k. AreNames d k names types) (sym place) (names-behind d rising depth i names types are)) parts.4 in
+    let all = all-push d n names types rising depth parts.0 (map sense_of (take i es)) ls parts.1 (sense_of (get_or es i e)) l
+    (before types parts.0 design are parts.3)
+    (subst (λ k. Lowers d n k names types parts.1 (sense_of (get_or es i e)) l) (place ∙ ap (depth_behind rising depth) (sym count)) here) in
+    subst (λ (os : List (Option ValueType)). LowersAll d n depth rising names types os (map sense_of (take (i + 1) es)) (ls ++ l ∷ [])) (sym parts.2)
+    (subst (λ (ms : List Sense). LowersAll d n depth rising names types (parts.0 ++ parts.1 ∷ []) ms (ls ++ l ∷ []))
     (sym (ap (map sense_of) more ∙ map-append sense_of (take i es) (get_or es i e ∷ []))) all)

@@ -17,7 +17,8 @@ use Rattle.koika_check.specs.declared.typed.ValueType.{ValueType}
 use Rattle.koika_lower.specs.Actions.{IsLet}
 use Rattle.koika_lower.specs.Applied.{IsAfter, idle}
 use Rattle.koika_lower.specs.Expressions.{block_sense, sense_of}
-use Rattle.koika_lower.specs.Simulation.{AreNames, EndAlike, Lowers, Sense, Simulates, Stands, declared_by, environment, width_if, widths_of_registers, world}
+use Rattle.koika_lower.specs.Lowering.{register_widths}
+use Rattle.koika_lower.specs.Simulation.{AreNames, EndAlike, Lowers, Sense, Simulates, Stands, declared_by, environment, width_if, world}
 use Rattle.koika_lower.specs.declared.lowered.Bound.{Bound}
 use Rattle.koika_lower.specs.declared.lowered.Lowered.{Lowered}
 use Rattle.koika_lower.proofs.Constructs.{sim-core}
@@ -73,7 +74,7 @@ module _ (d : Checked) (n depth : ℕ) (names : List Bound) (types : List ValueT
     valid = tt;
     width = refl;
     typed = λ widths f. refl;
-    means = λ inputs ports values locals w p st. sim-value (widths_of_registers d) (Stands d None) None unit refl;
+    means = λ inputs ports values locals w p st. sim-value (register_widths d) (Stands d None) None unit refl;
   })
 
   -- ---- a value that is bound
@@ -91,13 +92,13 @@ module _ (d : Checked) (n depth : ℕ) (names : List Bound) (types : List ValueT
         typed = λ widths f. is.typed (declared_by d) widths value.width behind.width (bound.typed widths f) (subst (λ w. 1 ≤ w) (sym bound.width) bound.valid.0)
             (body.typed (value.width ∷ widths) (fit-bind d depth names types widths value.width are f));
         means = λ inputs ports values locals w p st.
-            sim-core (widths_of_registers d) (Stands d of) (meaning (world d n inputs ports) v values >>= λ x. block_sense rest (world d n inputs ports) (with_value x values))
+            sim-core (register_widths d) (Stands d of) (meaning (world d n inputs ports) v values >>= λ x. block_sense rest (world d n inputs ports) (with_value x values))
             (evaluate (environment d inputs) ports a locals)
             (evaluate (environment d inputs) ports value.action locals >>= λ x. evaluate (environment d inputs) ports behind.action (x ∷ locals))
             (is.means (environment d inputs) ports locals)
-            (sim-bind (widths_of_registers d) (Stands d (Some t)) (Stands d of) (λ x. block_sense rest (world d n inputs ports) (with_value x values))
+            (sim-bind (register_widths d) (Stands d (Some t)) (Stands d of) (λ x. block_sense rest (world d n inputs ports) (with_value x values))
             (λ x. evaluate (environment d inputs) ports behind.action (x ∷ locals))
-            (some_value d (widths_of_registers d) (Stands d of) t (λ x. block_sense rest (world d n inputs ports) (with_value x values)) (λ x. evaluate (environment d inputs) ports behind.action (x ∷ locals))
+            (some_value d (register_widths d) (Stands d of) t (λ x. block_sense rest (world d n inputs ports) (with_value x values)) (λ x. evaluate (environment d inputs) ports behind.action (x ∷ locals))
             (λ u x stands. body.means inputs ports (u ∷ values) (x ∷ locals) w p (stand-bind d depth names types values locals t u x value.width are st stands)))
             (meaning (world d n inputs ports) v values) (evaluate (environment d inputs) ports value.action locals) (bound.means inputs ports values locals w p st));
       })
@@ -116,9 +117,9 @@ module _ (d : Checked) (n depth : ℕ) (names : List Bound) (types : List ValueT
         width = body.width;
         typed = body.typed;
         means = λ inputs ports values locals w p st.
-            sim-bind (widths_of_registers d) (Stands d t) (Stands d of) (λ _. block_sense rest (world d n inputs ports) values) (λ _. evaluate (environment d inputs) ports behind.action locals)
+            sim-bind (register_widths d) (Stands d t) (Stands d of) (λ _. block_sense rest (world d n inputs ports) values) (λ _. evaluate (environment d inputs) ports behind.action locals)
             (λ u x stands. body.means inputs ports values locals w p st) (meaning (world d n inputs ports) v values) (comes_to unit)
-            (subst (λ (a : Action). Simulates (widths_of_registers d) (Stands d t) (meaning (world d n inputs ports) v values) (evaluate (environment d inputs) ports a locals)) nothing
+            (subst (λ (a : Action). Simulates (register_widths d) (Stands d t) (meaning (world d n inputs ports) v values) (evaluate (environment d inputs) ports a locals)) nothing
             (run.means inputs ports values locals w p st));
       })
   after v t rest of first behind l (inr (inl (none, also, nothing, same))) run body =
@@ -130,13 +131,13 @@ module _ (d : Checked) (n depth : ℕ) (names : List Bound) (types : List ValueT
         width = none;
         typed = run.typed;
         means = λ inputs ports values locals w p st.
-            sim-then (widths_of_registers d) (Stands d None) (Stands d None) (meaning (world d n inputs ports) v values) (evaluate (environment d inputs) ports first.action locals)
+            sim-then (register_widths d) (Stands d None) (Stands d None) (meaning (world d n inputs ports) v values) (evaluate (environment d inputs) ports first.action locals)
             (λ _. block_sense rest (world d n inputs ports) values)
-            (subst (λ (o : Option ValueType). Simulates (widths_of_registers d) (Stands d o) (meaning (world d n inputs ports) v values) (evaluate (environment d inputs) ports first.action locals)) empty
+            (subst (λ (o : Option ValueType). Simulates (register_widths d) (Stands d o) (meaning (world d n inputs ports) v values) (evaluate (environment d inputs) ports first.action locals)) empty
             (run.means inputs ports values locals w p st))
-            (λ u x stands. sim-unit d (widths_of_registers d) (block_sense rest (world d n inputs ports) values) x (no-width d u x stands)
-            (subst (λ (a : Action). Simulates (widths_of_registers d) (Stands d None) (block_sense rest (world d n inputs ports) values) (evaluate (environment d inputs) ports a locals)) nothing
-            (subst (λ (o : Option ValueType). Simulates (widths_of_registers d) (Stands d o) (block_sense rest (world d n inputs ports) values) (evaluate (environment d inputs) ports behind.action locals)) whole
+            (λ u x stands. sim-unit d (register_widths d) (block_sense rest (world d n inputs ports) values) x (no-width d u x stands)
+            (subst (λ (a : Action). Simulates (register_widths d) (Stands d None) (block_sense rest (world d n inputs ports) values) (evaluate (environment d inputs) ports a locals)) nothing
+            (subst (λ (o : Option ValueType). Simulates (register_widths d) (Stands d o) (block_sense rest (world d n inputs ports) values) (evaluate (environment d inputs) ports behind.action locals)) whole
             (body.means inputs ports values locals w p st))));
       }))
   after v t rest of first behind l (inr (inr (is, same))) run body =
@@ -146,9 +147,9 @@ module _ (d : Checked) (n depth : ℕ) (names : List Bound) (types : List ValueT
         typed = λ widths f. subst (λ w. ActionHasWidth (declared_by d) l.action widths w) (sym same)
             (is.typed (declared_by d) widths first.width behind.width (run.typed widths f) (body.typed widths f));
         means = λ inputs ports values locals w p st.
-            sim-core (widths_of_registers d) (Stands d of) (both v rest (world d n inputs ports) values) (evaluate (environment d inputs) ports l.action locals)
+            sim-core (register_widths d) (Stands d of) (both v rest (world d n inputs ports) values) (evaluate (environment d inputs) ports l.action locals)
             (evaluate (environment d inputs) ports first.action locals >>= λ _. evaluate (environment d inputs) ports behind.action locals) (is.means (environment d inputs) ports locals)
-            (sim-bind (widths_of_registers d) (Stands d t) (Stands d of) (λ _. block_sense rest (world d n inputs ports) values) (λ _. evaluate (environment d inputs) ports behind.action locals)
+            (sim-bind (register_widths d) (Stands d t) (Stands d of) (λ _. block_sense rest (world d n inputs ports) values) (λ _. evaluate (environment d inputs) ports behind.action locals)
             (λ u x stands. body.means inputs ports values locals w p st) (meaning (world d n inputs ports) v values) (evaluate (environment d inputs) ports first.action locals)
             (run.means inputs ports values locals w p st));
       }

@@ -1,7 +1,10 @@
--- A measure of typed trees that is less for their parts: how many expressions and steps there are in one.
-use Rattle.std.proofs.Common.{◌≡◌, ℕ, ◌+◌, ◌≤◌, ◌<◌, List, ◌∷◌, length, get_or, sum_by, ap, sym, ◌∙◌, arith}
+-- A measure of typed trees that is less for their parts, how many expressions and steps there are in one, and what the bodies of
+-- the functions that may be called add to it.
+use Rattle.std.proofs.Common.{◌≡◌, ℕ, zero, suc, ◌+◌, ◌*◌, ◌≤◌, ◌<◌, List, [], ◌∷◌, length, get_or, take, sum_by, Some, slice_get, ap, sym, ◌∙◌, arith}
 use Rattle.std.proofs.lemmas.List.Sums.{sum_by-cons, sum_by_more_le}
 use Rattle.koika_types.proofs.Sizes.{sum_by-map}
+use Rattle.koika_check.specs.declared.checked.Checked.{Checked}
+use Rattle.koika_check.specs.declared.checked.Function.{Function}
 use Rattle.koika_check.specs.declared.typed.Operation.{Operation}
 use Rattle.koika_check.specs.declared.typed.Step.{Step, Step-F, fold-Step, fold-roll-Step}
 use Rattle.koika_check.specs.declared.typed.Step.TheOpen as opened
@@ -53,3 +56,26 @@ count-one es k e below is = omega (arith, sum_by_more_le count es k e below, ap 
 
 pub count-first : (steps rest : List Step) (first : Step) → steps ≡ first ∷ rest → sum_by count_step steps ≡ count_step first + sum_by count_step rest
 count-first steps rest first e = ap (sum_by count_step) e ∙ sum_by-cons count_step first rest
+
+-- ---- the bodies of functions
+
+-- what a call of the function adds
+abbrev body_cost : Function → ℕ
+body_cost f = 4 * count f.body + length f.parameters + 2
+
+costs-behind : (fs : List Function) (n number : ℕ) (f : Function) → number < n → slice_get fs number ≡ Some f → sum_by body_cost (take number fs) + body_cost f ≤ sum_by body_cost (take n fs)
+costs-behind [] n number f below at = absurd (cc)
+costs-behind (g ∷ fs) zero number f below at = absurd (omega arith)
+costs-behind (g ∷ fs) (suc n) zero f below at =
+    let same : g ≡ f = cc in
+    omega (arith, sum_by-cons body_cost g (take n fs), ap body_cost same)
+costs-behind (g ∷ fs) (suc n) (suc number) f below at =
+    omega (arith, sum_by-cons body_cost g (take n fs), sum_by-cons body_cost g (take number fs), costs-behind fs n number f (omega arith) at)
+
+-- what calls of the first so many functions add
+abbrev pub calls : Checked → ℕ → ℕ
+calls d functions = sum_by body_cost (take functions d.functions)
+
+pub calls-behind : (d : Checked) (functions number : ℕ) (f : Function) → number < functions → slice_get d.functions number ≡ Some f →
+    calls d number + (4 * count f.body + length f.parameters + 2) ≤ calls d functions
+calls-behind d functions number f below at = costs-behind d.functions functions number f below at

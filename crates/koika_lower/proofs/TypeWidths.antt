@@ -13,7 +13,8 @@ lengths-end [] (suc i) h = refl
 lengths-end (x ∷ ls) zero h = absurd (omega arith)
 lengths-end (x ∷ ls) (suc i) h = lengths-end ls i (omega arith)
 
-factor : (a b w : ℕ) → a * b ≡ w → 1 ≤ w → a ≤ w
+-- a factor of a number above 0 is no greater
+pub factor : (a b w : ℕ) → a * b ≡ w → 1 ≤ w → a ≤ w
 factor a zero w e h = absurd (omega arith)
 factor a (suc b) w e h = omega arith
 

@@ -47,8 +47,3 @@ pub record IsSeq (first second action : Action) : Type 0 where
   pub means : ComesTo action (λ env ports locals. evaluate env ports first locals >>= λ _. evaluate env ports second locals)
   pub typed : (d : Declarations) (widths : List ℕ) (dropped width : ℕ) → ActionHasWidth d first widths dropped →
       ActionHasWidth d second widths width → ActionHasWidth d action widths width
-
--- the copy comes to the same and has the same widths
-pub record IsCopy (action copy : Action) : Type 0 where
-  pub means : ComesTo copy (λ env ports locals. evaluate env ports action locals)
-  pub typed : (d : Declarations) (widths : List ℕ) (width : ℕ) → ActionHasWidth d action widths width → ActionHasWidth d copy widths width

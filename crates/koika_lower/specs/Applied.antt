@@ -22,7 +22,7 @@ use Rattle.koika_check.specs.declared.checked.Table.{Table}
 use Rattle.koika_check.specs.declared.typed.ValueType.{ValueType}
 use Rattle.koika_check.specs.declared.typed.Selection.{Selection}
 use Rattle.koika_check.specs.declared.typed.Selection.TheVariants as selection
-use Rattle.koika_lower.specs.Actions.{ComesTo, IsCopy, IsSeq, IsSlice}
+use Rattle.koika_lower.specs.Actions.{ComesTo, IsSeq, IsSlice}
 use Rattle.koika_lower.specs.Forms.{FormFits, IsFormed, form_value}
 use Rattle.koika_lower.specs.declared.forms.Form.{Form}
 use Rattle.koika_lower.specs.declared.lowered.Lowered.{Lowered}
@@ -200,13 +200,13 @@ abbrev pub StackFits : (names : ℕ) → Action → Type 0
 StackFits names action = (d : Declarations) (width : ℕ) (widths : List ℕ) → 1 ≤ width → names * width ≤ 128 →
     ((i : ℕ) → i < names → slice_get widths i ≡ Some width) → ActionHasWidth d action widths (names * width)
 
--- an array of its items, which are bound
+-- an array of its items, 128 at most, which are bound
 pub record IsArray (items : List Lowered) (l : Lowered) : Type 0 where
   pub body : Action
   pub bound : IsBound items body l.action
-  pub means : 1 ≤ length items → ComesTo body (λ env ports locals. comes_to (names_stacked (length items - 1) locals))
-  pub typed : 1 ≤ length items → StackFits (length items) body
-  pub width : (first : Lowered) (rest : List Lowered) → items ≡ first ∷ rest → length items * first.width ≤ 128 → l.width ≡ length items * first.width
+  pub means : 1 ≤ length items → length items ≤ 128 → ComesTo body (λ env ports locals. comes_to (names_stacked (length items - 1) locals))
+  pub typed : 1 ≤ length items → length items ≤ 128 → StackFits (length items) body
+  pub width : (first : Lowered) (rest : List Lowered) → items ≡ first ∷ rest → length items ≤ 128 → length items * first.width ≤ 128 → l.width ≡ length items * first.width
 
 -- a value with a part replaced by another, both of which are bound
 pub record IsUpdated (s : Selection) (operands : List Lowered) (l : Lowered) : Type 0 where
@@ -218,9 +218,7 @@ pub record IsUpdated (s : Selection) (operands : List Lowered) (l : Lowered) : T
 
 -- a function's body, round which the arguments are bound
 pub record IsCalled (body : Lowered) (arguments : List Lowered) (l : Lowered) : Type 0 where
-  pub copy : Action
-  pub copied : IsCopy body.action copy
-  pub bound : IsBound arguments copy l.action
+  pub bound : IsBound arguments body.action l.action
   pub width : l.width ≡ body.width
 
 -- a comparison of the last two operands

@@ -1,5 +1,6 @@
--- What a design of the core is that a well typed design is lowered to: the same registers, inputs, rules and scheduler by name
--- and packed value, and each rule does the same alone. After the compilation of Kôika (Bourgeat et al., PLDI 2020).
+-- What a design of the core is that a well typed design is lowered to: the same registers with packed first values, inputs,
+-- tables, host functions, rules by name and nodes of the scheduler, and each rule does the same alone. After the compilation of
+-- Kôika (Bourgeat et al., PLDI 2020).
 use Rattle.std.specs.Prelude.{◌≡◌, ℕ, List, Some, map, slice_get}
 use Rattle.kw_bits.specs.BitVector.{BitVector}
 use Rattle.koika_types.specs.Values.{packed}

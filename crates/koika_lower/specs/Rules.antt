@@ -1,14 +1,10 @@
--- The parts of the core's design that a typed design is lowered to. All of it serves private functions alone.
-use Rattle.std.specs.Prelude.{◌≡◌, List, [], length, map, None}
-use Rattle.typed_core.specs.declared.design.Parts.{Parts}
+-- The rules of the core's design that a typed design is lowered to. All of it serves private functions alone.
+use Rattle.std.specs.Prelude.{◌≡◌, List, [], length, None}
 use Rattle.typed_core.specs.declared.design.Rule.{Rule as CoreRule}
 use Rattle.koika_check.specs.Meaning.{meaning}
 use Rattle.koika_check.specs.Typing.{Pairwise}
 use Rattle.koika_check.specs.declared.checked.Checked.{Checked}
-use Rattle.koika_check.specs.declared.checked.Host.{Host}
 use Rattle.koika_check.specs.declared.checked.Rule.{Rule}
-use Rattle.koika_check.specs.declared.checked.Table.{Table}
-use Rattle.koika_lower.specs.Lowering.{input_of, register_of}
 use Rattle.koika_lower.specs.Simulation.{Lowers}
 
 -- the rule has the name, and its action comes to what the body comes to, where all functions may be called
@@ -18,11 +14,3 @@ pub record IsRule (d : Checked) (r : Rule) (c : CoreRule) : Type 0 where
 
 abbrev pub AreRules : Checked → List Rule → List CoreRule → Type 0
 AreRules d = Pairwise (IsRule d)
-
-pub record ArePartsOf (d : Checked) (p : Parts) : Type 0 where
-  pub registers : p.regs ≡ map register_of d.registers
-  pub inputs : p.inputs ≡ map input_of d.inputs
-  pub tables : p.tables ≡ map (λ (t : Table). t.spec) d.tables
-  pub hosts : p.hosts ≡ map (λ (h : Host). h.spec) d.hosts
-  pub rules : AreRules d d.rules p.rules
-  pub nodes : p.nodes ≡ d.nodes

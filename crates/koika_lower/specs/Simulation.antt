@@ -18,12 +18,11 @@ use Rattle.koika_check.specs.Typing.{Applies, IsOf, IsType, IsTypedDesign, Pairw
 use Rattle.koika_check.specs.declared.checked.Checked.{Checked}
 use Rattle.koika_check.specs.declared.checked.Function.{Function}
 use Rattle.koika_check.specs.declared.checked.Host.{Host}
-use Rattle.koika_check.specs.declared.checked.Input.{Input}
-use Rattle.koika_check.specs.declared.checked.Register.{Register}
 use Rattle.koika_check.specs.declared.checked.Table.{Table}
 use Rattle.koika_check.specs.declared.typed.Operation.{Operation}
 use Rattle.koika_check.specs.declared.typed.Operation.TheVariants as operation
 use Rattle.koika_check.specs.declared.typed.ValueType.{ValueType}
+use Rattle.koika_lower.specs.Lowering.{input_widths, register_widths}
 use Rattle.koika_lower.specs.declared.lowered.Bound.{Bound}
 use Rattle.koika_lower.specs.declared.lowered.Lowered.{Lowered}
 
@@ -88,17 +87,11 @@ NamesStand d depth names types values locals = ⊥
 
 -- ---- what is declared
 
-abbrev pub widths_of_registers : Checked → List ℕ
-widths_of_registers d = map (λ (r : Register). r.width) d.registers
-
-abbrev pub widths_of_inputs : Checked → List ℕ
-widths_of_inputs d = map (λ (i : Input). i.width) d.inputs
-
 abbrev pub externs_of : Checked → Externs
 externs_of d = record { tables = map (λ (t : Table). t.spec) d.tables; hosts = map (λ (h : Host). h.spec) d.hosts }
 
 abbrev pub declared_by : Checked → Declarations
-declared_by d = record { regs = widths_of_registers d; inputs = widths_of_inputs d; externs = externs_of d }
+declared_by d = record { regs = register_widths d; inputs = input_widths d; externs = externs_of d }
 
 -- what the actions of a design are evaluated in
 abbrev pub environment : Checked → List BitVector → Environment
@@ -121,8 +114,8 @@ pub record Lowers (d : Checked) (functions depth : ℕ) (names : List Bound) (ty
   pub width : l.width ≡ width_if d of
   pub typed : (widths : List ℕ) → NamesFit depth names widths → ActionHasWidth (declared_by d) l.action widths l.width
   pub means : (inputs : List BitVector) (ports : Ports Stopped) (values : List Value) (locals : List BitVector) →
-      HaveWidths (widths_of_inputs d) inputs → PortsFit (widths_of_registers d) ports → NamesStand d depth names types values locals →
-      Simulates (widths_of_registers d) (Stands d of) (sense (world d functions inputs ports) values) (evaluate (environment d inputs) ports l.action locals)
+      HaveWidths (input_widths d) inputs → PortsFit (register_widths d) ports → NamesStand d depth names types values locals →
+      Simulates (register_widths d) (Stands d of) (sense (world d functions inputs ports) values) (evaluate (environment d inputs) ports l.action locals)
 
 -- expressions side by side, each of which stands one let deeper than the one before where the depth rises
 abbrev pub LowersAll : Checked → (functions depth : ℕ) → (rises : Bool) → List Bound → List ValueType → List (Option ValueType) → List Sense → List Lowered → Type 0
@@ -163,6 +156,7 @@ abbrev pub IsBody : Checked → (number : ℕ) → Function → Lowered → Type
 IsBody d number f l =
     Lowers d number (length f.parameters) (parameter_names d 0 f.parameters []) (reverse f.parameters) f.result (λ s. meaning s f.body) l
 
--- the bodies of the first functions, of those that are lowered
-abbrev pub AreBodies : Checked → List (Option Lowered) → Type 0
-AreBodies d bodies = (number : ℕ) (l : Lowered) → slice_get bodies number ≡ Some (Some l) → (f : Function) × (slice_get d.functions number ≡ Some f) × IsBody d number f l
+-- the body of the function that an operation calls, which is one of the first so many
+abbrev pub IsCallee : Checked → (functions : ℕ) → Operation → Lowered → Type 0
+IsCallee d functions (operation.Call number) l = (f : Function) → number < functions → slice_get d.functions number ≡ Some f → IsBody d number f l
+IsCallee d functions o l = Unit {0}

@@ -1,15 +1,14 @@
-ghost use Rattle.std.specs.Prelude.{◌≡◌, ◌∷◌, ◌*◌, ◌≤◌, ℕ, List, Option, length, slice_get, IfOk};
+ghost use Rattle.std.specs.Prelude.{◌≡◌, ◌∷◌, ◌*◌, ◌≤◌, ℕ, List, Option, length, IfOk};
 ghost use Rattle.kw_bits.specs.BitVector.{BitVector};
 ghost use Rattle.koika_check.specs.Meaning.{prefix_value};
 ghost use Rattle.koika_lower.specs.Applied.{IsArray, IsAskedHost, IsAskedTable, IsCalled, IsCompared, IsExtended, IsPrefixed, IsUpdated, IsWritten};
 ghost use Rattle.koika_check.specs.declared.typed.ValueType.{ValueType};
-ghost use Rattle.koika_lower.specs.Simulation.{AreBodies, IsApplied, Lowers, Sense, apply_sense, rises};
+ghost use Rattle.koika_lower.specs.Simulation.{IsApplied, IsCallee, Lowers, Sense, apply_sense, rises};
 ghost use Rattle.koika_lower.specs.declared.lowered.Bound.{Bound};
 ghost use Rattle.typed_core.specs.Evaluation.{apply_one};
 ghost use Rattle.typed_core.specs.Valid.{OneHasWidth};
 
 use crate::binding::{all_bound, stacked};
-use crate::copying::copy_of;
 use crate::forms::{form_of_comparison, formed};
 use crate::joining::{chained, joined, last_of};
 use crate::leaves::read;
@@ -31,17 +30,17 @@ pub(crate) fn binds_operands(operation: &Operation) -> bool
     )
 }
 
-/// An operation on operands. The bodies are those of the design's functions, where they are lowered.
+/// An operation on operands. A call has the body of the function that it calls, any other operation leaves it.
 pub(crate) fn applied(
     alloc: Global,
     design: &Checked,
-    bodies: &[Option<Lowered>],
     operation: &Operation,
+    body: Lowered,
     operands: Sequence<Lowered>,
 ) -> Result<Lowered, NoMemory>
-    ensures { IfOk result (λ l. (depth : ℕ) (names : List Bound) (types ts : List ValueType) (of : Option ValueType) (senses : List Sense)
-        → AreBodies design.now bodies.now → IsApplied design.now (length bodies.now) depth names types operation.now ts of senses operands
-        → Lowers design.now (length bodies.now) depth names types of (apply_sense operation.now senses) l) }
+    ensures { IfOk result (λ l. (functions depth : ℕ) (names : List Bound) (types ts : List ValueType) (of : Option ValueType) (senses : List Sense)
+        → IsCallee design.now functions operation.now body → IsApplied design.now functions depth names types operation.now ts of senses operands
+        → Lowers design.now functions depth names types of (apply_sense operation.now senses) l) }
 {
     let mut operands = operands;
     match operation {
@@ -63,7 +62,7 @@ pub(crate) fn applied(
         Operation::Compare(comparison) => compared(alloc, *comparison, operands),
         Operation::Table(number) => asked_table(alloc, design, *number, last_of(&mut operands)),
         Operation::Host(number) => asked_host(alloc, design, *number, joined(alloc, operands)?),
-        Operation::Call(number) => called(alloc, bodies, *number, operands),
+        Operation::Call(_) => called(alloc, body, operands),
         Operation::Read { port, register } => Ok(read(design, *port, *register)),
         Operation::Write { port, register } => {
             written(alloc, *port, *register, last_of(&mut operands))
@@ -133,22 +132,26 @@ fn first_width(operands: &[Lowered]) -> u32
 }
 
 // The width of so many values of a width.
-fn times(width: u32, count: usize) -> u32
+fn times(width: u32, count: u32) -> u32
     ensures { count * width ≤ 128 → result ≡ count * width }
 {
-    if count <= Bits::MAX_WIDTH as usize {
-        width.saturating_mul(count as u32)
-    } else {
-        0
-    }
+    width.saturating_mul(count)
+}
+
+// How many items there are, where they are few enough for an array: each has a bit.
+fn count_of(items: &[Lowered]) -> u32
+    ensures { length items.now ≤ 128 → result ≡ length items.now }
+{
+    items.len().min(Bits::MAX_WIDTH as usize) as u32
 }
 
 // An array of its items.
 fn array(alloc: Global, items: Sequence<Lowered>) -> Result<Lowered, NoMemory>
     ensures { IfOk result (IsArray items) }
 {
-    let width = times(first_width(items.as_slice()), items.len());
-    let body = stacked(alloc, items.len())?;
+    let count = count_of(items.as_slice());
+    let width = times(first_width(items.as_slice()), count);
+    let body = stacked(alloc, count)?;
     Ok(Lowered {
         action: all_bound(alloc, items, body)?,
         width,
@@ -228,26 +231,14 @@ fn asked_host(
     Ok(Lowered { action, width })
 }
 
-// The body of the function of this number, with its arguments bound.
-fn called(
-    alloc: Global,
-    bodies: &[Option<Lowered>],
-    number: u32,
-    arguments: Sequence<Lowered>,
-) -> Result<Lowered, NoMemory>
-    ensures { IfOk result (λ l. (body : Lowered) × (slice_get bodies.now number ≡ Some (Some body)) × IsCalled body arguments l) }
+// The body of a function, with its arguments bound.
+fn called(alloc: Global, body: Lowered, arguments: Sequence<Lowered>) -> Result<Lowered, NoMemory>
+    ensures { IfOk result (IsCalled body arguments) }
 {
-    match bodies.get(number as usize) {
-        Some(Some(body)) => {
-            let copy = copy_of(alloc, &body.action)?;
-            Ok(Lowered {
-                action: all_bound(alloc, arguments, copy)?,
-                width: body.width,
-            })
-        }
-        // Only functions that no rule calls aren't lowered.
-        _ => Err(NoMemory),
-    }
+    Ok(Lowered {
+        action: all_bound(alloc, arguments, body.action)?,
+        width: body.width,
+    })
 }
 
 // A write at a port of a register.

@@ -28,16 +28,13 @@ pub(crate) fn all_bound(
 }
 
 /// So many innermost names one above the other, the innermost in the most significant bits.
-pub(crate) fn stacked(alloc: Global, names: usize) -> Result<Action, NoMemory>
+pub(crate) fn stacked(alloc: Global, names: u32) -> Result<Action, NoMemory>
     ensures means { IfOk result (λ action. 1 ≤ names → ComesTo action (λ env ports locals. comes_to (names_stacked (names - 1) locals))) }
     ensures typed { IfOk result (λ action. 1 ≤ names → StackFits names action) }
 {
     let mut action = Action::Local(0);
     for name in 1..names {
-        if name > u32::MAX as usize {
-            return Err(NoMemory);
-        }
-        action = two(alloc, TwoOp::Concat, action, Action::Local(name as u32))?;
+        action = two(alloc, TwoOp::Concat, action, Action::Local(name))?;
     }
     Ok(action)
 }

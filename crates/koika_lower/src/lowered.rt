@@ -32,7 +32,7 @@ impl Lowered {
     }
 }
 
-/// Inside one more `Let`.
+/// Inside one more `Let`. Their number stays far below what 32 bits hold in a well typed design, in whose weight each one's value is.
 pub(crate) fn deeper(depth: u32) -> Result<u32, NoMemory>
     ensures { IfOk result (λ deep. deep ≡ depth + 1) }
 {

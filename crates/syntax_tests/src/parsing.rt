@@ -1,4 +1,5 @@
 use koika_parse::parse;
+use koika_print::print;
 use koika_syntax::{Declaration, Expression, Tree, lex};
 use kw_base::{Fault, Refusal};
 use kw_bits::Text;
@@ -43,7 +44,6 @@ fn designs_are_read(rt: HostRuntime) -> Result<(), Fail> {
     Ok(())
 }
 
-// Each production's first wrong token, where the text's own words say it is.
 #[test]
 fn faults_stand_where_a_text_goes_wrong(rt: HostRuntime) {
     for (text, number, column) in [
@@ -52,102 +52,6 @@ fn faults_stand_where_a_text_goes_wrong(rt: HostRuntime) {
         ("reg x : bits 8 = 8'd256; schedule { }", 13, 18),
         ("schedule {", 11, 11),
         ("schedule { } x", 11, 14),
-        ("bits", 11, 1),
-        ("rule", 11, 5),
-        ("schedule schedule", 11, 10),
-        ("regr : bits 8 = 8'd0;", 11, 1),
-        ("enum {", 11, 6),
-        ("enum E {", 11, 8),
-        ("enum E : 1", 11, 10),
-        ("enum E : bits {", 11, 15),
-        ("enum E : bits 1 A", 11, 17),
-        ("enum E : bits 1 { }", 11, 19),
-        ("enum E : bits 1 { A }", 11, 21),
-        ("enum E : bits 1 { A = }", 11, 23),
-        ("enum E : bits 1 { A = 1'd0 B", 11, 28),
-        ("enum E : bits 1 { A = 1'd0, }", 11, 29),
-        ("struct :", 11, 8),
-        ("struct S ;", 11, 10),
-        ("struct S { }", 11, 12),
-        ("struct S { f bits", 11, 14),
-        ("struct S { f : }", 11, 16),
-        ("struct S { f : E ;", 11, 18),
-        ("reg read2 : bits 8", 11, 5),
-        ("reg r bits", 11, 7),
-        ("reg r : 8", 11, 9),
-        ("reg r : unit = 8'd0;", 11, 9),
-        ("reg r : bits 8 ;", 11, 16),
-        ("reg r : bits 8 = 8", 11, 18),
-        ("reg r : bits 8 = 8'd0 }", 11, 23),
-        ("reg r : E = E ;", 11, 15),
-        ("reg r : E = E::;", 11, 16),
-        ("reg r : S = S::{ }", 11, 18),
-        ("reg r : S = S::{ f 1'd0", 11, 20),
-        ("reg r : A = [ ]", 11, 15),
-        ("reg r : A = [ 1'd0 ;", 11, 20),
-        ("input i ;", 11, 9),
-        ("input i : [ bits 1 ]", 11, 20),
-        ("input i : [ bits 1 ; ]", 11, 22),
-        ("input i : [ bits 1 ; 2 ;", 11, 24),
-        ("input i : bits 1 =", 11, 18),
-        ("table t : bits 1 bits", 11, 18),
-        ("table t : bits 1 -> bits 1 { }", 11, 30),
-        ("table t : bits 1 -> bits 1 { 1'd0 ; }", 11, 35),
-        ("host h : bits 1 -> bits 1 {", 11, 27),
-        ("fun f {", 11, 7),
-        ("fun f(x )", 11, 9),
-        ("fun f(x : bits 1, )", 11, 19),
-        ("fun f() bits", 11, 9),
-        ("fun f() : {", 11, 11),
-        ("fun f() : unit ;", 11, 16),
-        ("rule a ;", 11, 8),
-        ("schedule { a }", 11, 14),
-        ("schedule { try a { }", 11, 18),
-        ("schedule { try a then b", 11, 23),
-        ("schedule { try a then { } }", 11, 27),
-        ("schedule { try a then { } else ;", 11, 32),
-        ("schedule { try a then { } else { } b; }", 11, 36),
-        ("rule a { let = y; }", 11, 14),
-        ("rule a { let x 1'd1; }", 11, 16),
-        ("rule a { let x = ; }", 11, 18),
-        ("rule a { let x = y }", 11, 20),
-        ("rule a { ; }", 11, 10),
-        ("rule a { x y }", 11, 12),
-        ("rule a { x; ) }", 11, 13),
-        ("rule a { if }", 11, 13),
-        ("rule a { if x ;", 11, 15),
-        ("rule a { if x { } else x", 11, 24),
-        ("rule a { if c { } + 1'd1 }", 11, 19),
-        ("rule a { x | | y }", 11, 14),
-        ("rule a { a < b < }", 11, 18),
-        ("rule a { ~ }", 11, 12),
-        ("rule a { x.1 }", 11, 12),
-        ("rule a { x[y] }", 11, 12),
-        ("rule a { x[1.", 11, 13),
-        ("rule a { x[1:]", 11, 14),
-        ("rule a { f(x,) }", 11, 14),
-        ("rule a { f(x ;", 11, 14),
-        ("rule a { E::1", 11, 13),
-        ("rule a { S::{ }", 11, 15),
-        ("rule a { S::{ f = x }", 11, 17),
-        ("rule a { [] }", 11, 11),
-        ("rule a { () }", 11, 11),
-        ("rule a { (x ]", 11, 13),
-        ("rule a { read0 r", 11, 16),
-        ("rule a { read0(1'd1)", 11, 16),
-        ("rule a { write0(r )", 11, 19),
-        ("rule a { write0(r, ) }", 11, 20),
-        ("rule a { abort (", 11, 16),
-        ("rule a { pack() }", 11, 15),
-        ("rule a { unpack(1", 11, 17),
-        ("rule a { unpack(T )", 11, 19),
-        ("rule a { zext(x )", 11, 17),
-        ("rule a { zext(x, y", 11, 18),
-        ("rule a { slt(x )", 11, 16),
-        ("rule a { slt(x, y ,", 11, 19),
-        ("rule a { update(x, 1'd1", 11, 20),
-        ("rule a { update(x, f )", 11, 22),
-        ("rule a { then }", 11, 10),
     ] {
         expect_fault(&rt, rt.alloc(), text, number, column);
     }
@@ -232,7 +136,23 @@ fn operators_have_nine_levels(rt: HostRuntime) -> Result<(), Fail> {
     Ok(())
 }
 
-// Expects that a text of so many lines between these is read.
+// A text of so many lines between these.
+fn repeated(
+    alloc: Global,
+    front: &[u8],
+    line: &[u8],
+    times: usize,
+    behind: &[u8],
+) -> Result<Text, Fail> {
+    let mut text = Text::from_slice(alloc, front)?;
+    for _ in 0..times {
+        text.extend_from_slice(line)?;
+    }
+    text.extend_from_slice(behind)?;
+    Ok(text)
+}
+
+// Expects that such a text is read.
 fn expect_read(
     rt: &impl Abort,
     alloc: Global,
@@ -241,11 +161,7 @@ fn expect_read(
     times: usize,
     behind: &[u8],
 ) -> Result<(), Fail> {
-    let mut text = Text::from_slice(alloc, front)?;
-    for _ in 0..times {
-        text.extend_from_slice(line)?;
-    }
-    text.extend_from_slice(behind)?;
+    let text = repeated(alloc, front, line, times, behind)?;
     let tree = parsed(rt, alloc, text.as_slice())?;
     let _ = tree;
     Ok(())
@@ -285,4 +201,30 @@ fn a_hundred_thousand_declarations(rt: HostRuntime) -> Result<(), Fail> {
         100_000,
         b"schedule { }",
     )
+}
+
+// Expects that the printed text of a text is read and printed as it is.
+fn expect_printed_again(rt: &impl Abort, alloc: Global, text: &[u8]) -> Result<(), Fail> {
+    let first = print(alloc, &parsed(rt, alloc, text)?)?;
+    let again = print(alloc, &parsed(rt, alloc, first.as_slice())?)?;
+    assert!(rt; first.as_slice() == again.as_slice());
+    Ok(())
+}
+
+// A printed text has at most a megabyte where it is to be read: 95,000 of the shortest declarations.
+#[test]
+fn printed_megabytes_are_read(rt: HostRuntime) -> Result<(), Fail> {
+    let alloc = rt.alloc();
+    let sum = repeated(alloc, b"rule a { x", b" + x", 249_999, b" } schedule { }")?;
+    expect_printed_again(&rt, alloc, sum.as_slice())?;
+    let block = repeated(
+        alloc,
+        b"rule a { ",
+        b"let x = 1'd1;",
+        60_000,
+        b" } schedule { }",
+    )?;
+    expect_printed_again(&rt, alloc, block.as_slice())?;
+    let rules = repeated(alloc, b"", b"assert a;", 95_000, b"schedule { }")?;
+    expect_printed_again(&rt, alloc, rules.as_slice())
 }

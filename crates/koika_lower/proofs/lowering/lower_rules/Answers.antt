@@ -14,6 +14,6 @@ loop-rule-preserved c =
     let within : i < length d.rules = omega (arith, ap length c.as_slice-rules.ensures) in
     let is : r ≡ get_or d.rules i r = c.rule-item.is ∙ ap (λ rs. get_or rs i r) c.as_slice-rules.ensures in
     pairs-more (IsRule d) d.rules i r c.loop-rule.all c.push.new.self _ within is c.loop-rule.invariant c.in_ok-push.ensures.ok
-    (rule-is d c.args.bodies.now c.empty.result r c.in_ok-from_slice.field-0 c.in_ok-body.body c.requires.design c.requires.bodies c.requires.all c.empty.ensures
-    (subst (λ (x : Rule). HasType d (length d.functions) x.body [] None) (sym is) (c.requires.design.rules i r within))
+    (rule-is d c.len-functions.result c.empty.result r c.in_ok-from_slice.field-0 c.in_ok-body.body c.requires c.len-functions.ensures c.empty.ensures
+    (subst (λ (x : Rule). HasType d (length d.functions) x.body [] None) (sym is) (c.requires.rules i r within))
     (c.in_ok-from_slice.ensures ∙ c.as_slice.ensures) c.in_ok-body.ensures)

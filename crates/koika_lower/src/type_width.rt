@@ -1,0 +1,33 @@
+ghost use Rattle.std.specs.Prelude.{◌≡◌, map};
+ghost use Rattle.koika_check.specs.Types as types;
+ghost use Rattle.koika_check.specs.Typing.{IsType};
+
+use koika_check::{BaseType, Checked, ValueType};
+
+/// How many bits a value of a valid type has.
+pub(crate) fn width_of(checked: &Checked, of: &ValueType) -> u32
+    ensures { IsType checked.now of.now → result ≡ types.width_of checked.now of.now }
+{
+    let mut width = base_width(checked, of.base);
+    let lengths = of.lengths.as_slice();
+    for length in lengths {
+        width = width.saturating_mul(*length);
+    }
+    width
+}
+
+fn base_width(checked: &Checked, base: BaseType) -> u32
+    ensures { result ≡ types.base_width checked.now base }
+{
+    match base {
+        BaseType::Bits(width) => width,
+        BaseType::Enum(number) => match checked.enums.as_slice().get(number as usize) {
+            Some(declared) => declared.width,
+            None => 0,
+        },
+        BaseType::Struct(number) => match checked.structs.as_slice().get(number as usize) {
+            Some(declared) => declared.width,
+            None => 0,
+        },
+    }
+}

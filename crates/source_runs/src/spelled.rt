@@ -1,0 +1,42 @@
+use std::alloc::Global;
+use std::io;
+
+/// The source that is written so: `/` ends a line, and `"20 r#; "` stands for what is behind the number, that many times,
+/// with the number of the copy, from 0, in place of `#`.
+pub(crate) fn spelled(alloc: Global, written: &str) -> io::Result<Vec<u8>> {
+    let mut source = Vec::new(alloc);
+    let mut rest = written;
+    for _ in 0..written.len() {
+        if rest.is_empty() {
+            break;
+        }
+        let (plain, quoted) = rest.split_once('"').unwrap_or((rest, ""));
+        let (copies, behind) = quoted.split_once('"').unwrap_or(("", ""));
+        let (count, text) = copies.split_once(' ').unwrap_or(("", ""));
+        push(&mut source, plain)?;
+        push_copies(alloc, &mut source, text, count.parse().unwrap_or(0))?;
+        rest = behind;
+    }
+    Ok(source)
+}
+
+// Adds copies of a text, each with its number.
+fn push_copies(alloc: Global, source: &mut Vec<u8>, text: &str, count: u32) -> io::Result<()> {
+    let (front, back) = text.split_once('#').unwrap_or((text, ""));
+    for number in 0..count {
+        push(source, front)?;
+        if front.len() < text.len() {
+            push(source, number.to_string(alloc)?.as_str())?;
+        }
+        push(source, back)?;
+    }
+    Ok(())
+}
+
+// Adds a text as it is written.
+fn push(source: &mut Vec<u8>, text: &str) -> io::Result<()> {
+    for byte in text.bytes() {
+        source.push(if byte == b'/' { b'\n' } else { byte })?;
+    }
+    Ok(())
+}
