@@ -5,4 +5,4 @@ use Rattle.koika_top.proofs.words.btorsim_of.Goals as goal
 
 pub returns-then-not-are_options-clause-command : goal.returns-then-not-are_options-clause-command
 returns-then-not-are_options-clause-command c =
-    sym (no-btorsim (options_of (map string_bytes c.args.words.now)) (sym c.are_options.ensures ∙ c.if-are_options.false))
+    sym (no-btorsim (options_of (map string_bytes c.args.words.now)) (sym c.are_options.ensures ∙ c.if-not-are_options.true))
