@@ -12,7 +12,7 @@ returns-in-Ok-clause-tells g c =
 
 pub returns-in-Err-TooLong-clause-tells : goal.returns-in-Err-TooLong-clause-tells
 returns-in-Err-TooLong-clause-tells g c =
-    tells-long (host_specs c.args.hosts.now) c.args.command _ c.requires.reads c.fault_of_source-fault.ensures _ _ _ _ (c.in-Err-TooLong.ensures.longer (ap (λ e. Err e) c.in-Err-TooLong.field-0-is)) c.write_answer.ensures.tells
+    tells-long (host_specs c.args.hosts.now) c.args.command _ c.requires.reads c.fault_of_source-fault.ensures _ _ _ _ (rw c.longest_source.ensures at c.in-Err-TooLong.ensures.longer (ap (λ e. Err e) c.in-Err-TooLong.field-0-is)) c.write_answer.ensures.tells
 
 pub returns-in-Err-Fault-clause-tells : goal.returns-in-Err-Fault-clause-tells
 returns-in-Err-Fault-clause-tells g c = of-any _ _ (λ bytes. tells_nothing (Answers (host_specs c.args.hosts.now) c.args.command bytes) _ _ (inl refl))

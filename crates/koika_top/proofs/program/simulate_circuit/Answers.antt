@@ -10,7 +10,7 @@ use Rattle.koika_top.proofs.Statuses.{tells_answer, tells_nothing}
 use Rattle.koika_top.proofs.program.simulate_circuit.Goals as goal
 
 pub write-requires : goal.write-requires
-write-requires g c = let found = c.in-Ok.ensures.run in within-few c.args.cycles found.0 found.3
+write-requires g c = let found = c.in-Ok.ensures.run in record { few = within-few c.args.cycles found.0 found.3 }
 
 pub returns-in-Ok-clause-tells : goal.returns-in-Ok-clause-tells
 returns-in-Ok-clause-tells g c =
