@@ -1,4 +1,5 @@
 use Rattle.std.proofs.Common.{subst}
+use Rattle.std.proofs.lemmas.Result.{err_from_is_err_and}
 use Rattle.btor2_text.specs.Reading.{AreLinesOf}
 use Rattle.one_rule.specs.Externs.{host_specs}
 use Rattle.koika_top.proofs.PlainNames.{plain-names}
@@ -21,3 +22,13 @@ returns-clause-text g c =
       printed = c.in_ok-text.ensures.text;
       circuit = lines.ensures.circuit;
     }
+
+pub returns-in_err-lines-clause-refused : goal.returns-in_err-lines-clause-refused
+returns-in_err-lines-clause-refused g c =
+    let p = err_from_is_err_and c.from_residual-in_err-lines.result c.from_residual-in_err-lines.ensures.1 in
+    rw (p.1, p.2) tt
+
+pub returns-in_err-text-clause-refused : goal.returns-in_err-text-clause-refused
+returns-in_err-text-clause-refused g c =
+    let p = err_from_is_err_and c.from_residual-in_err-text.result c.from_residual-in_err-text.ensures.1 in
+    rw (p.1, p.2) tt
