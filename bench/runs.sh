@@ -1,6 +1,6 @@
 #!/usr/bin/env bash
-# Measures what the program costs on the pipelines that it makes itself, for each cycle; what a long run takes in memory; and
-# what it costs to write functions in. It takes another program than the built one as its argument, and is run by hand.
+# Measures what the program costs on the pipelines that it makes itself and on their circuits, for each cycle; what a long run takes
+# in memory; and what it costs to write functions in. It takes another program than the built one as its argument, and is run by hand.
 set -eu
 cd "$(dirname "$0")/.."
 . bench/cost.sh
@@ -28,6 +28,22 @@ echo "| stages | $of_run of \`gen\` |"
 echo "|---|---|"
 for stages in 1 10 100; do
     echo "| $stages | $(columns "$(cost /dev/null /dev/null "$program" gen "$stages")" 0 0 | sed 's/ | *$//') |"
+done
+
+# The circuit of a pipeline, and its run behind the same first cycles.
+echo
+echo "| stages | lines | $of_run of \`compile\` | $of_part of \`btorsim\` per cycle | with a summary |"
+echo "|---|---|---|---|---|"
+for stages in 1 10 100; do
+    "$program" gen "$stages" >"$room/source"
+    compiled=$(cost "$room/source" "$room/circuit" "$program" compile)
+    row="$stages | $(wc -l <"$room/circuit") | $(awk -v taken="$compiled" -v scale="$run_scale" 'BEGIN { printf "%.10g", taken * scale }')"
+    for shown in "" --summary; do
+        start=$(cost "$room/circuit" /dev/null "$program" btorsim --cycles "$first" $shown)
+        taken=$(cost "$room/circuit" /dev/null "$program" btorsim --cycles $((first + cycles)) $shown)
+        row="$row | $(awk -v start="$start" -v taken="$taken" -v scale="$part_scale" -v cycles="$cycles" 'BEGIN { printf "%.4g", (taken - start) * scale / cycles }')"
+    done
+    echo "| $row |"
 done
 
 # The kilobytes that a run takes at most.
