@@ -80,14 +80,19 @@ text() {
         }'
 }
 
+# Counts the bytes of the text of a shape, and what a command costs on it. What it writes is the answer.
+measure() {
+    text "$1" >"$room/source"
+    bytes=$(wc -c <"$room/source" | awk '{ print $1 }')
+    taken=$(cost "$room/source" "$room/answer" "$program" "$2")
+}
+
 start=$(cost examples/counter.koika /dev/null "$program" check)
 
 echo "| text | bytes | $of_run of \`check\` | $of_part for each byte, the start aside | answer |"
 echo "|---|---|---|---|---|"
 while IFS=: read -r what shape; do
-    text "$shape" >"$room/source"
-    bytes=$(wc -c <"$room/source" | awk '{ print $1 }')
-    taken=$(cost "$room/source" "$room/answer" "$program" check)
+    measure "$shape" check
     echo "| $what | $bytes | $(columns "$taken" "$start" "$bytes") | $(head -n 1 "$room/answer") |"
 done <<'SHAPES'
 100,000 declarations of rules:rules
@@ -110,12 +115,10 @@ echo
 echo "| text | bytes | $of_run of \`print\` | $of_part for each byte, the start aside | printed again |"
 echo "|---|---|---|---|---|"
 while IFS=: read -r what shape; do
-    text "$shape" >"$room/source"
-    bytes=$(wc -c <"$room/source" | awk '{ print $1 }')
-    taken=$(cost "$room/source" "$room/printed" "$program" print)
-    answer "$room/printed" "$room/again" "$program" print
+    measure "$shape" print
+    answer "$room/answer" "$room/again" "$program" print
     again="another text"
-    if cmp -s "$room/printed" "$room/again"; then again="the same text"; fi
+    if cmp -s "$room/answer" "$room/again"; then again="the same text"; fi
     echo "| $what | $bytes | $(columns "$taken" "$start" "$bytes") | $again |"
 done <<'SHAPES'
 a chain of 250,000 operands:operands
