@@ -52,26 +52,26 @@ pub enum TwoOp {
 
 impl TwoOp {
     /// The operator's value on two operands of one width, or for `Concat` on two of at most 128 bits together.
-    pub fn apply(self, x: Bits, y: Bits) -> Bits
-        requires { TakesTwo self x y }
-        ensures { result ≡ apply_two self x y }
+    pub fn apply(self, x: &Bits, y: &Bits) -> Bits
+        requires { TakesTwo self x.now y.now }
+        ensures { result ≡ apply_two self x.now y.now }
     {
         match self {
-            TwoOp::And => x.and(y),
-            TwoOp::Or => x.or(y),
-            TwoOp::Xor => x.xor(y),
-            TwoOp::Add => x.add(y),
-            TwoOp::Sub => x.sub(y),
-            TwoOp::Mul => x.mul(y),
-            TwoOp::Sll => x.sll(y),
-            TwoOp::Srl => x.srl(y),
-            TwoOp::Sra => x.sra(y),
-            TwoOp::EqBits => x.eq_bits(y),
-            TwoOp::Ult => x.ult(y),
-            TwoOp::Ulte => x.ulte(y),
-            TwoOp::Slt => x.slt(y),
-            TwoOp::Slte => x.slte(y),
-            TwoOp::Concat => x.concat(y),
+            TwoOp::And => x.and(*y),
+            TwoOp::Or => x.or(*y),
+            TwoOp::Xor => x.xor(*y),
+            TwoOp::Add => x.add(*y),
+            TwoOp::Sub => x.sub(*y),
+            TwoOp::Mul => x.mul(*y),
+            TwoOp::Sll => x.sll(*y),
+            TwoOp::Srl => x.srl(*y),
+            TwoOp::Sra => x.sra(*y),
+            TwoOp::EqBits => x.eq_bits(*y),
+            TwoOp::Ult => x.ult(*y),
+            TwoOp::Ulte => x.ulte(*y),
+            TwoOp::Slt => x.slt(*y),
+            TwoOp::Slte => x.slte(*y),
+            TwoOp::Concat => x.concat(*y),
         }
     }
 }

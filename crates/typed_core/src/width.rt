@@ -19,31 +19,20 @@ pub(crate) fn width_of(parts: &Parts, action: &Action, scope: &Scope<u32>) -> Op
         Action::Const(value) => Some(value.width()),
         Action::Local(name) => scope.get(*name),
         Action::Input(input) => input_width(parts, *input),
-        Action::One(operator, a) => {
-            let operand = operand_width(parts, a, scope)?;
-            Some(one_width(*operator, operand))
-        }
+        Action::One(operator, a) => Some(one_width(*operator, operand_width(parts, a, scope)?)),
         Action::Two(operator, a, b) => {
             let left = operand_width(parts, a, scope)?;
             let right = operand_width(parts, b, scope)?;
             two_width(*operator, left, right)
         }
         Action::Slice(a, upper, lower) => {
-            let operand = operand_width(parts, a, scope)?;
-            slice_width(operand, *upper, *lower)
+            slice_width(operand_width(parts, a, scope)?, *upper, *lower)
         }
         Action::Zext(a, to) | Action::Sext(a, to) => {
-            let operand = operand_width(parts, a, scope)?;
-            extended_width(operand, *to)
+            extended_width(operand_width(parts, a, scope)?, *to)
         }
-        Action::Table(table, a) => {
-            let operand = operand_width(parts, a, scope)?;
-            table_width(parts, *table, operand)
-        }
-        Action::Host(host, a) => {
-            let operand = operand_width(parts, a, scope)?;
-            host_width(parts, *host, operand)
-        }
+        Action::Table(table, a) => table_width(parts, *table, operand_width(parts, a, scope)?),
+        Action::Host(host, a) => host_width(parts, *host, operand_width(parts, a, scope)?),
         Action::Let(value, body) => {
             let bound = operand_width(parts, value, scope)?;
             width_of(parts, body, &Scope::bind(bound, &*scope))

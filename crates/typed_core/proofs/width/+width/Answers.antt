@@ -17,17 +17,17 @@ pub width_of-returns-in_ok-right-in-Two : goal.width_of-returns-in_ok-right-in-T
 width_of-returns-in_ok-right-in-Two t c =
     finds_two _ _ _ _ _ _ c.in-Two.is (rw c.deref-in-Two.ensures at c.in_ok-left-in-Two.ensures.width) (rw c.deref-in-Two-2.ensures at c.in_ok-right-in-Two.ensures.width) c.two_width.ensures
 
-pub width_of-returns-in_ok-operand-in-Slice : goal.width_of-returns-in_ok-operand-in-Slice
-width_of-returns-in_ok-operand-in-Slice t c =
-    finds_slice _ _ _ _ _ c.in-Slice.is (rw c.deref-in-Slice.ensures at c.in_ok-operand-in-Slice.ensures.width.0) c.slice_width.ensures
+pub width_of-returns-in_ok-operand_width-in-Slice : goal.width_of-returns-in_ok-operand_width-in-Slice
+width_of-returns-in_ok-operand_width-in-Slice t c =
+    finds_slice _ _ _ _ _ c.in-Slice.is (rw c.deref-in-Slice.ensures at c.in_ok-operand_width-in-Slice.ensures.width.0) c.slice_width.ensures
 
-pub width_of-returns-in_ok-operand-in-Table : goal.width_of-returns-in_ok-operand-in-Table
-width_of-returns-in_ok-operand-in-Table t c =
-    finds_table _ _ _ _ _ c.in-Table.is (rw c.deref-in-Table.ensures at c.in_ok-operand-in-Table.ensures.width) c.table_width.ensures
+pub width_of-returns-in_ok-operand_width-in-Table : goal.width_of-returns-in_ok-operand_width-in-Table
+width_of-returns-in_ok-operand_width-in-Table t c =
+    finds_table _ _ _ _ _ c.in-Table.is (rw c.deref-in-Table.ensures at c.in_ok-operand_width-in-Table.ensures.width) c.table_width.ensures
 
-pub width_of-returns-in_ok-operand-in-Host : goal.width_of-returns-in_ok-operand-in-Host
-width_of-returns-in_ok-operand-in-Host t c =
-    finds_host _ _ _ _ _ c.in-Host.is (rw c.deref-in-Host.ensures at c.in_ok-operand-in-Host.ensures.width) c.host_width.ensures
+pub width_of-returns-in_ok-operand_width-in-Host : goal.width_of-returns-in_ok-operand_width-in-Host
+width_of-returns-in_ok-operand_width-in-Host t c =
+    finds_host _ _ _ _ _ c.in-Host.is (rw c.deref-in-Host.ensures at c.in_ok-operand_width-in-Host.ensures.width) c.host_width.ensures
 
 pub width_of-returns-in_ok-bound-in-Let : goal.width_of-returns-in_ok-bound-in-Let
 width_of-returns-in_ok-bound-in-Let t c =
@@ -41,5 +41,5 @@ pub width_of-returns-in_ok-held-in-Write : goal.width_of-returns-in_ok-held-in-W
 width_of-returns-in_ok-held-in-Write t c =
     finds_write _ _ _ _ _ c.in-Write.is (rw c.deref-in-Write.ensures at c.in_ok-held-in-Write.ensures) c.write_width.ensures
 
-pub width_of-returns-in_ok-operand-in-Zext : goal.width_of-returns-in_ok-operand-in-Zext
-width_of-returns-in_ok-operand-in-Zext t c = finds_extended _ _ _ _ _ c.in-Zext.is (rw c.deref-in-Zext.ensures at c.in_ok-operand-in-Zext.ensures.width) c.extended_width.ensures
+pub width_of-returns-in_ok-operand_width-in-Zext : goal.width_of-returns-in_ok-operand_width-in-Zext
+width_of-returns-in_ok-operand_width-in-Zext t c = finds_extended _ _ _ _ _ c.in-Zext.is (rw c.deref-in-Zext.ensures at c.in_ok-operand_width-in-Zext.ensures.width) c.extended_width.ensures
