@@ -1,8 +1,8 @@
 //! The types of the source language, and the bits that its values are packed into.
 //!
 //! `specs/Types.antt` says which types are valid and how wide they are, `specs/Values.antt` which values a type has and
-//! what bits they are. Contracts see a `TypeTable` as the enums and structs that it declares. The checker makes the
-//! table and asks for widths and places; the lowering packs constants.
+//! what bits they are. Contracts see a `TypeTable` as the enums and structs that it declares. The checker and the
+//! lowering take its declarations and values; no command packs a value by it yet.
 #![tactic(auto)]
 
 mod declarations;
@@ -22,6 +22,3 @@ pub use ty::Ty;
 pub use unpacking::unpack;
 pub use validity::{have_valid_types, is_valid_enum, valid_width};
 pub use value::Value;
-
-#[cfg(test)]
-mod tests;
