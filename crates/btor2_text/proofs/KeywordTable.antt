@@ -59,10 +59,11 @@ stands keywords.Next = (46, lit< tt, refl)
 stands keywords.Output = (47, lit< tt, refl)
 stands keywords.Bad = (48, lit< tt, refl)
 
-keyword_at : List ℕ → Option Keyword
+-- the keyword that a word is, if it is one
+pub keyword_at : List ℕ → Option Keyword
 keyword_at bytes = find (λ keyword. bytes_eq (keyword_text keyword) bytes) KEYWORDS
 
-keyword_at-keyword_text : (keyword : Keyword) → keyword_at (keyword_text keyword) ≡ Some keyword
+pub keyword_at-keyword_text : (keyword : Keyword) → keyword_at (keyword_text keyword) ≡ Some keyword
 unfolding keyword_at
 keyword_at-keyword_text keywords.Sort = refl
 keyword_at-keyword_text keywords.Input = refl

@@ -3,6 +3,7 @@ pub mod Conjunction
 pub mod Cuts
 pub mod FormsOfLines
 pub mod KeywordTable
+pub mod LinesOrFault
 pub mod Members
 pub mod NotOutside
 pub mod Numerals

@@ -17,7 +17,7 @@ use Rattle.btor2_text.specs.declared.line.Argument.{Argument}
 use Rattle.btor2_text.specs.declared.line.Line.{Line}
 use Rattle.btor2_text.proofs.FormsOfLines.{negation_of, same_word, same_others}
 use Rattle.btor2_text.proofs.KeywordTable.{same_keyword}
-use Rattle.btor2_text.proofs.Members.{any_at-Contains}
+use Rattle.btor2_text.proofs.Members.{listed-Decides}
 
 listed : List ℕ → Bool
 listed word = list_any (λ w. bytes_eq w word) left_out
@@ -76,7 +76,7 @@ listed-keyword_text keywords.Bad = refl
 
 listed-Contains : (word : List ℕ) → Contains left_out word → listed word ≡ true
 unfolding listed
-listed-Contains word among = any_at-Contains (λ w. bytes_eq w word) word ((bytes_eq-Decides word word).1 refl) left_out among
+listed-Contains word among = (listed-Decides left_out word).1 among
 
 -- no keyword of a form is left out
 pub not_listed : (keyword : Keyword) → ¬ Contains left_out (keyword_text keyword)

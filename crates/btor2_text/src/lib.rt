@@ -10,6 +10,7 @@ mod argument;
 mod cut;
 mod keyword;
 mod kind;
+mod laws;
 mod line;
 mod numeral;
 mod print;
@@ -19,6 +20,7 @@ mod tests;
 
 pub use keyword::Keyword;
 pub use kind::{Base, Kind};
+pub use laws::{a_text_has_lines_or_a_fault, a_text_is_read_in_one_way};
 pub use line::{Argument, Line, Lines};
 pub use print::print_lines;
 pub use reader::read_lines;
