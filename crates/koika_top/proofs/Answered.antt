@@ -1,4 +1,4 @@
--- Words and a source have an answer, where the source's tokens are a tree's or have a fault of the grammar.
+-- Words and a source have an answer; if they read a design, where its tokens are a tree's or have a fault of the grammar.
 use Rattle.std.proofs.Common.{◌≡◌, ◌⊎◌, ◌≤◌, ℕ, Bool, true, false, List, length, Option, Some, None, Result, Ok, Err, refl, inl, inr, ⊎_elim}
 use Rattle.std.specs.Prelude.{MatchOption}
 use Rattle.std.proofs.lemmas.Bool.{cases_lt, false≢true}
@@ -129,13 +129,13 @@ command_answer : (hosts : List HostSpec) (command : Command) (source : List ℕ)
 command_answer hosts Check source one parsed = check_answer hosts source parsed
 command_answer hosts Print source one parsed = print_answer hosts source parsed
 command_answer hosts (Sim cycles shown) source one parsed = sim_answer hosts source parsed cycles shown
-command_answer hosts (Btorsim cycles shown) source one read = btorsim_answer source cycles shown read
+command_answer hosts (Btorsim cycles shown) source one read = btorsim_answer source cycles shown
 command_answer hosts Compile source one parsed = absurd (false≢true one)
-command_answer hosts (Gen stages) source one parsed = (Written (pipeline stages), refl)
+command_answer hosts (Gen stages) source one read = (Written (pipeline stages), refl)
 
 by_words : (hosts : List HostSpec) (command : Option Command) (source : List ℕ) → has_one_text command ≡ true → CanBeRead command source → (answer : Answer) × MatchOption command (answer ≡ Usage) (λ c. Answers hosts c source answer)
-by_words hosts None source one parsed = (Usage, refl)
-by_words hosts (Some command) source one parsed = command_answer hosts command source one parsed
+by_words hosts None source one read = (Usage, refl)
+by_words hosts (Some command) source one read = command_answer hosts command source one read
 
 -- there is an answer
 pub some_answer : (hosts : List HostSpec) (words : List (List ℕ)) (source : List ℕ) → has_one_text (command_of words) ≡ true → CanBeRead (command_of words) source → (answer : Answer) × IsAnswer hosts words source answer

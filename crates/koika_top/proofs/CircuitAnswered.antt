@@ -1,11 +1,12 @@
--- A source that holds a circuit text has a run, or a fault, where each of its lines is a line or has a fault.
+-- A source with a circuit text has a run, or a fault.
 use Rattle.std.proofs.Common.{◌≡◌, ◌⊎◌, ◌≤◌, ℕ, Bool, true, false, List, length, Option, Some, None, Result, Ok, Err, refl, inl, inr, ⊎_elim}
 use Rattle.std.proofs.lemmas.Bool.{cases_lt}
 use Rattle.kw_base.specs.declared.fault.Fault.{Fault}
 use Rattle.one_rule.specs.Stimulus.{InputVectors, inputs_of}
 use Rattle.btor2_model.specs.Acceptance.{first_fault}
 use Rattle.btor2_text.specs.declared.line.Line.{Line}
-use Rattle.koika_top.specs.Btorsim.{AnswersBtorsim, HoldsLines, HoldsRun, HoldsText, IsRead, is_too_long, longest_circuit, shown_run, stimulus_in}
+use Rattle.btor2_text.proofs.LinesOrFault.{lines_or_first_fault}
+use Rattle.koika_top.specs.Btorsim.{AnswersBtorsim, HoldsLines, HoldsRun, HoldsText, is_too_long, longest_circuit, shown_run, stimulus_in}
 use Rattle.koika_top.specs.Sources.{design_part, fault_of_source}
 use Rattle.koika_top.specs.declared.answer.Answer.{Answer}
 use Rattle.koika_top.specs.declared.answer.Answer.TheVariants.{Refused, Written}
@@ -49,13 +50,13 @@ module _ (source : List ℕ) (cycles : ℕ) (shown : Shown) where
       (λ fine. stimulus_of_text lines (record { holds = holds; no_fault = fine }))
       (there_or_not (first_fault lines))
 
-  pub btorsim_answer : IsRead (design_part source) → Found
-  btorsim_answer read =
+  pub btorsim_answer : Found
+  btorsim_answer =
       ⊎_elim
       (λ long. (Refused (fault_of_source 40), inl (refl, long)))
       (λ short.
       ⊎_elim
       (λ found. text_of_lines found.0 (record { short = short; are = found.1 }))
       (λ wrong. (Refused wrong.0, inr (inl (short, wrong.1))))
-      read)
+      (lines_or_first_fault (design_part source)))
       (cases_lt longest_circuit (length source))

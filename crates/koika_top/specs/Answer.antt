@@ -4,7 +4,7 @@ use Rattle.std.specs.Prelude.{◌≡◌, ℕ, ◌⊎◌, Bool, false, true, List
 use Rattle.std.specs.Io.KnownBytes.{Appends, Keeps}
 use Rattle.kw_base.specs.FaultLine.{line_of_fault}
 use Rattle.typed_core.specs.declared.design.HostSpec.{HostSpec}
-use Rattle.koika_top.specs.Btorsim.{AnswersBtorsim, IsRead, longest_circuit}
+use Rattle.koika_top.specs.Btorsim.{AnswersBtorsim, longest_circuit}
 use Rattle.koika_top.specs.Compile.{AnswersCompile}
 use Rattle.koika_top.specs.Generator.{pipeline}
 use Rattle.koika_top.specs.Reads.{AnswersCheck, AnswersPrint}
@@ -45,10 +45,12 @@ abbrev pub longest_of : Command → ℕ
 longest_of (Btorsim cycles shown) = longest_circuit
 longest_of other = longest_source
 
--- the text in front of the mark can be read as the command reads it
+-- where the command reads a design: its tokens, if the text in front of the mark has any, are a tree's or have a fault of the grammar
 abbrev pub CanBeRead : Option Command → List ℕ → Type 0
-CanBeRead (Some (Btorsim cycles shown)) source = IsRead (design_part source)
-CanBeRead other source = IsParsed (design_part source)
+CanBeRead None source = Unit {0}
+CanBeRead (Some (Btorsim cycles shown)) source = Unit {0}
+CanBeRead (Some (Gen stages)) source = Unit {0}
+CanBeRead (Some other) source = IsParsed (design_part source)
 
 -- what is known of the bytes that an answer stands on, where these are known of the source
 abbrev pub known_source : Option Command → Option (List ℕ) → Option (List ℕ)

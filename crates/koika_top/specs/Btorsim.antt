@@ -72,10 +72,6 @@ pub record HoldsRun (source : List ℕ) (lines : List Line) (stimulus : InputVec
   pub text : HoldsText source lines
   pub given : stimulus_in source lines ≡ Ok stimulus
 
--- a text has lines, or a first fault
-abbrev pub IsRead : List ℕ → Type 0
-IsRead text = ((lines : List Line) × AreLinesOf text lines) ⊎ ((fault : Fault) × IsFirstFaultOf text fault)
-
 -- The fault with which a source is refused: 40 where it is too long, else that of the first line that is of no form, else that of
 -- the first line that isn't accepted or of a state without `next`, else that of its stimulus, else 45 where its run is too long.
 abbrev pub IsTooLong : List ℕ → Fault → Type 0

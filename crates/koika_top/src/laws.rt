@@ -24,8 +24,8 @@ pub fn one_status()
         IsAnswer hosts words source a → IsAnswer hosts words source b → IsLikeAnswer a b }
 {}
 
-/// Arguments and a source have an answer, but for `compile`, where the tokens of the source's design are a tree's or have a fault of the grammar,
-/// and the lines of its circuit text are lines or have a fault.
+/// Arguments and a source have an answer, but for `compile`: those of `check`, `print` and `sim` where the tokens of the source's design are a
+/// tree's or have a fault of the grammar, and all others always.
 pub fn some_answer()
     ensures { (hosts : List HostSpec) (words : List (List ℕ)) (source : List ℕ) → has_one_text (command_of words) ≡ true → CanBeRead (command_of words) source →
         (answer : Answer) × IsAnswer hosts words source answer }
