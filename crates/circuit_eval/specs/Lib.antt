@@ -1,3 +1,4 @@
 pub mod Circuits
 pub mod Run
 pub mod Simulations
+pub mod Tidy

@@ -10,12 +10,12 @@ use Rattle.net_graph.specs.declared.node.NetTwo.TheVariants.{And, Or}
 use Rattle.net_graph.specs.declared.node.NetOp.{NetOp}
 use Rattle.net_graph.specs.declared.node.NetOp.TheVariants.{Const, Input, One, Two, Ite}
 use Rattle.circuit_eval.specs.Circuits.{IsCircuit}
+use Rattle.circuit_eval.specs.Tidy.{IsConstant, IsNeeded, IsOpen, IsTidy, operands, Serves, next, output, operand}
 use Rattle.circuit_eval.specs.declared.circuit.OutputWire.{OutputWire}
 use Rattle.circuit_eval.specs.declared.circuit.StateWire.{StateWire}
 use Rattle.circuit_eval.specs.declared.circuit.Wires.{Wires}
 use Rattle.net_simplify.specs.Forms.{IsLean}
 use Rattle.net_simplify.specs.Passes.{AreServing, is_marked, LaysOut, moved_output, moved_state, nth, renamed, rewired}
-use Rattle.net_simplify.specs.Tidy.{IsConstant, IsNeeded, IsOpen, IsTidy, operands, Serves, next, output, operand}
 use Rattle.net_simplify.proofs.Forming.{all_at}
 use Rattle.net_simplify.proofs.OtherOperands.{operands-renamed, rebuilt, rebuilt-back}
 use Rattle.net_simplify.proofs.Reducing.{operands_before}

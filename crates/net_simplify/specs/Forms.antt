@@ -12,8 +12,8 @@ use Rattle.net_graph.specs.declared.node.NetOp.TheVariants.{Two}
 use Rattle.net_graph.specs.declared.node.NetOne.{NetOne}
 use Rattle.net_graph.specs.declared.node.NetOne.TheVariants.{RedAnd, RedOr, RedXor}
 use Rattle.net_graph.specs.declared.node.NetTwo.{NetTwo}
+use Rattle.circuit_eval.specs.Tidy.{IsNeeded, IsOpen}
 use Rattle.net_simplify.specs.Identities.{IsDistinguishing}
-use Rattle.net_simplify.specs.Tidy.{IsNeeded, IsOpen}
 use Rattle.net_simplify.specs.declared.form.Form.{Form}
 use Rattle.net_simplify.specs.declared.form.Form.TheVariants.{Node, Constant, Operator}
 

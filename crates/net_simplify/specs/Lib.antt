@@ -2,4 +2,3 @@ pub mod Forms
 pub mod Identities
 pub mod Kept
 pub mod Passes
-pub mod Tidy

@@ -6,12 +6,12 @@ use Rattle.net_graph.specs.Values.{AllRead, node_value, op_value, Reads, Sources
 use Rattle.net_graph.specs.declared.node.NetOp.{NetOp}
 use Rattle.net_graph.specs.declared.node.NetOp.TheVariants.{Const, Input, State, One, Two, Slice, Uext, Sext, Ite}
 use Rattle.circuit_eval.specs.Circuits.{IsCircuit}
+use Rattle.circuit_eval.specs.Tidy.{operands, Serves}
 use Rattle.circuit_eval.specs.declared.circuit.OutputWire.{OutputWire}
 use Rattle.circuit_eval.specs.declared.circuit.StateWire.{StateWire}
 use Rattle.circuit_eval.specs.declared.circuit.Wires.{Wires}
 use Rattle.net_simplify.specs.Forms.{IsLean}
 use Rattle.net_simplify.specs.Kept.{Keeps, RunsAs}
-use Rattle.net_simplify.specs.Tidy.{operands, Serves}
 
 -- ---- nodes and their places in another net
 

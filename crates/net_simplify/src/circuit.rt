@@ -1,9 +1,9 @@
 ghost use Rattle.std.specs.Prelude.{IfOk};
 ghost use Rattle.circuit_eval.specs.Circuits.{IsCircuit};
+ghost use Rattle.circuit_eval.specs.Tidy.{IsTidy};
 ghost use Rattle.net_simplify.specs.Forms.{IsLean};
 ghost use Rattle.net_simplify.specs.Kept.{Keeps, RunsAs};
 ghost use Rattle.net_simplify.specs.Passes.{IsSimpler};
-ghost use Rattle.net_simplify.specs.Tidy.{IsTidy};
 
 use crate::layout::laid_out;
 use crate::reach::serving;

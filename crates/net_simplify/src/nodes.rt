@@ -7,9 +7,9 @@ ghost use Rattle.net_graph.specs.Nets.{IsNet, width_at, widths_of};
 ghost use Rattle.net_graph.specs.Values.{node_value, Sources};
 ghost use Rattle.net_graph.specs.declared.node.NetOne.TheVariants.{Not};
 ghost use Rattle.net_graph.specs.declared.node.NetOp.TheVariants.{Const, One};
+ghost use Rattle.circuit_eval.specs.Tidy.{IsConstant};
 ghost use Rattle.net_simplify.specs.Forms.{IsNodeIf};
 ghost use Rattle.net_simplify.specs.Identities.{IsKnown};
-ghost use Rattle.net_simplify.specs.Tidy.{IsConstant};
 
 use crate::known::{Known, known_of};
 use kw_bits::Bits;

@@ -2,10 +2,10 @@
 ghost use Rattle.std.specs.Prelude.{◌≡◌, ◌<◌, false, length, map, replicate, All, IfOk};
 ghost use Rattle.net_graph.specs.Nets.{IsNet};
 ghost use Rattle.circuit_eval.specs.Circuits.{IsCircuit};
+ghost use Rattle.circuit_eval.specs.Tidy.{operands};
 ghost use Rattle.circuit_eval.specs.declared.circuit.OutputWire.{OutputWire};
 ghost use Rattle.circuit_eval.specs.declared.circuit.StateWire.{StateWire};
 ghost use Rattle.net_simplify.specs.Passes.{AreServing, Closes, ClosesAt, marked};
-ghost use Rattle.net_simplify.specs.Tidy.{operands};
 
 use circuit_eval::{OutputWire, StateWire, Wires};
 use kw_bits::NoMemory;
