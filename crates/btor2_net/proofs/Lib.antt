@@ -10,9 +10,12 @@ pub mod Keeping
 pub mod Made
 pub mod Operands
 pub mod OperatorKeywords
+pub mod OperatorLines
 pub mod Passing
 pub mod Reading
 pub mod Runs
+pub mod TidyNodes
+pub mod TidyWritten
 pub mod Tokens
 pub mod Written
 pub mod WrittenEnds

@@ -1,10 +1,10 @@
 -- What a circuit is written as is an accepted text with the circuit's names, widths and run.
-use Rattle.std.proofs.Common.{◌≡◌, ℕ, suc, ◌+◌, ◌<◌, ◌≤◌, ◌^◌, not, Bool, true, false, ◌&&◌, cond, List, [], ◌∷◌, ◌++◌, Option, None, Some, length, map, refl, sym, ap, ap₂, ◌∙◌, subst, arith, append-nil, All}
+use Rattle.std.proofs.Common.{◌≡◌, ℕ, suc, ◌+◌, ◌<◌, ◌≤◌, ◌^◌, not, Bool, true, false, ◌&&◌, cond, List, [], ◌∷◌, ◌++◌, Option, None, Some, length, map, refl, sym, ap, ap₂, ◌∙◌, subst, arith, append-nil}
 use Rattle.std.specs.Prelude.{IfOk, Result, Ok, Err, slice_get}
 use Rattle.std.proofs.lemmas.Result.{IfOk-weaker}
 use Rattle.std.specs.List.{find}
 use Rattle.std.specs.Option.{option_map, option_or, unwrap_or}
-use Rattle.std.proofs.lemmas.Option.{get_or_from_slice_get, slice_get-map, slice_get_within}
+use Rattle.std.proofs.lemmas.Option.{get_or_from_slice_get, slice_get_within}
 use Rattle.std.proofs.lemmas.Simd.{map-map}
 use Rattle.kw_bits.specs.BitVector.{zero_at}
 use Rattle.net_graph.specs.Nets.{width_at, widths_of}
@@ -33,7 +33,7 @@ use Rattle.btor2_net.proofs.Keeping.{Keeps, Names, continued-by, keeps-both, nam
 use Rattle.btor2_net.proofs.Runs.{Matches, runs-as}
 use Rattle.btor2_net.proofs.WrittenEnds as ends
 use Rattle.btor2_net.proofs.WrittenInputs as ins
-use Rattle.btor2_net.proofs.WrittenLines.{Pairs, pairs-at, pairs-count, pairs-first, pairs-map, pairs-weaker}
+use Rattle.btor2_net.proofs.WrittenLines.{Pairs, map-each, mapped, one-of-all, pairs-at, pairs-count, pairs-first, pairs-map, pairs-weaker}
 use Rattle.btor2_net.proofs.WrittenNodes as nodes
 use Rattle.btor2_net.proofs.WrittenSorts.{Quiet}
 use Rattle.btor2_net.proofs.WrittenStates as states
@@ -47,23 +47,6 @@ quiet-next = record { sort = refl; numeral = refl; unary = refl; reduced = refl;
 
 quiet-output : Quiet is_output
 quiet-output = record { sort = refl; numeral = refl; unary = refl; reduced = refl; binary = refl; compared = refl; boolean = refl; joined = refl; sliced = refl; extended = refl; chosen = refl }
-
--- what holds of an item at a place
-one-of-all : {X : Type 0} (P : X → Type 0) (xs : List X) (k : ℕ) (x : X) → All P xs → slice_get xs k ≡ Some x → P x
-one-of-all {X} P xs k x all at = subst P (get_or_from_slice_get xs k x x at) (all k x (slice_get_within xs k x at))
-
--- functions that agree on each item
-map-each : {A X : Type 0} (f g : A → X) (xs : List A) → ((k : ℕ) (x : A) → slice_get xs k ≡ Some x → f x ≡ g x) → map f xs ≡ map g xs
-map-each {A} {X} f g [] same = refl
-map-each {A} {X} f g (x ∷ xs) same = ap₂ (λ (y : X) (ys : List X). y ∷ ys) (same 0 x refl) (map-each f g xs (λ k z at. same (suc k) z at))
-
--- the item of a place of mapped ones
-mapped : {A : Type 0} (f : A → ℕ) (xs : List A) (k : ℕ) (w : ℕ) → slice_get (map f xs) k ≡ Some w → (x : A) × (slice_get xs k ≡ Some x) × (f x ≡ w)
-mapped {A} f xs k w at = by (slice_get xs k) refl (sym (slice_get-map f xs k) ∙ at)
-  where
-    by : (o : Option A) → slice_get xs k ≡ o → option_map f (slice_get xs k) ≡ Some w → (x : A) × (slice_get xs k ≡ Some x) × (f x ≡ w)
-    by None is found = let none : option_map f (slice_get xs k) ≡ None = ap (option_map f) is in absurd (cc)
-    by (Some x) is found = let some : Some (f x) ≡ Some w = sym (ap (option_map f) is) ∙ found in (x, is, cc)
 
 pairs-from : {A B : Type 0} (P : A → B → Type 0) (xs : List A) (ys : List B) → length xs ≡ length ys → ((k : ℕ) (x : A) (y : B) → slice_get xs k ≡ Some x → slice_get ys k ≡ Some y → P x y) → Pairs P xs ys
 pairs-from {A} {B} P [] [] count each = tt
@@ -104,7 +87,7 @@ module _ (c : Wires) (is : IsCircuit c) (tokens : HasTokens c) where
   abbrev s : Draft
   s = pages.states_of c
 
-  has-s : states.HasStates s c.states
+  pub has-s : states.HasStates s c.states
   has-s =
       states.has-states (record { page = pages.blank; ids = [] }) [] c.states states.no-states
       (λ k wire at. ((one-of-all (IsState c.net) c.states k wire is.states at).first, one-of-all (λ (w : StateWire). IsToken w.name) c.states k wire tokens.states at))
@@ -114,9 +97,9 @@ module _ (c : Wires) (is : IsCircuit c) (tokens : HasTokens c) where
   i = pages.inputs_of c
 
   no-input : NoState is_input
-  no-input = record { quiet = quiet-input; state = refl; init = refl }
+  no-input = record { sort = refl; numeral = refl; state = refl; init = refl }
 
-  has-i : ins.HasInputs s.page i c.inputs
+  pub has-i : ins.HasInputs s.page i c.inputs
   has-i =
       ins.has-inputs s.page (record { page = s.page; ids = [] }) [] c.inputs (ins.no-inputs s.page has-s.good (has-s.none is_input no-input))
       (λ k wire at. let bounds = one-of-all IsInput c.inputs k wire is.inputs at in record { some = bounds.0; most = bounds.1; token = one-of-all (λ (w : InputWire). IsToken w.name) c.inputs k wire tokens.inputs at })
@@ -124,14 +107,14 @@ module _ (c : Wires) (is : IsCircuit c) (tokens : HasTokens c) where
   inits-i : text.lines_of is_init i.page.lines ≡ text.lines_of is_init s.page.lines ++ []
   inits-i = has-i.same is_init refl refl ∙ sym (append-nil (text.lines_of is_init s.page.lines))
 
-  states-i : Pairs (IsStateOn i.page) s.ids c.states
+  pub states-i : Pairs (IsStateOn i.page) s.ids c.states
   states-i = pairs-weaker (IsStateOn s.page) (IsStateOn i.page) s.ids c.states (λ id wire on. states.state-stays s.page i.page [] id wire has-i.keeps inits-i on) has-s.states
 
   -- the nodes
   abbrev n : Draft
   n = pages.nodes_of c
 
-  input-sources : nodes.AreSources c.net is.net i.ids s.ids i.page i.ids (λ (step : text.Step). step.inputs) (input_widths c.inputs)
+  pub input-sources : nodes.AreSources c.net is.net i.ids s.ids i.page i.ids (λ (step : text.Step). step.inputs) (input_widths c.inputs)
   input-sources number width reads =
       let w = mapped (λ (wire : InputWire). wire.width) c.inputs number width reads in
       let p = pairs-at (ins.IsInputOn i.page) i.ids c.inputs number w.0 has-i.inputs w.1 in
@@ -142,7 +125,7 @@ module _ (c : Wires) (is : IsCircuit c) (tokens : HasTokens c) where
         value = λ step. subst (λ (k : ℕ). text.values_at i.page.lines step k ≡ step.inputs k) id (p.2.value step);
       }
 
-  state-sources : nodes.AreSources c.net is.net i.ids s.ids i.page s.ids (λ (step : text.Step). step.states) (state_widths c.states)
+  pub state-sources : nodes.AreSources c.net is.net i.ids s.ids i.page s.ids (λ (step : text.Step). step.states) (state_widths c.states)
   state-sources number width reads =
       let w = mapped (λ (wire : StateWire). wire.width) c.states number width reads in
       let p = pairs-at (IsStateOn i.page) s.ids c.states number w.0 states-i w.1 in
@@ -169,7 +152,7 @@ module _ (c : Wires) (is : IsCircuit c) (tokens : HasTokens c) where
   abbrev x : Page
   x = pages.with_nexts n.ids s.ids n.page 0 c.states
 
-  distinct : AreDistinct s.ids
+  pub distinct : AreDistinct s.ids
   distinct = subst AreDistinct has-s.ids (ids-distinct is_state s.page.lines no_lines has-s.good.sound.fine)
 
   states-count : length s.ids ≡ length c.states
@@ -190,9 +173,9 @@ module _ (c : Wires) (is : IsCircuit c) (tokens : HasTokens c) where
       }
 
   no-next : NoState is_next
-  no-next = record { quiet = quiet-next; state = refl; init = refl }
+  no-next = record { sort = refl; numeral = refl; state = refl; init = refl }
 
-  has-x : ends.HasNexts n.ids s.ids distinct c.states n.page x (0 + length c.states)
+  pub has-x : ends.HasNexts n.ids s.ids distinct c.states n.page x (0 + length c.states)
   has-x =
       ends.has-nexts n.ids s.ids distinct c.states n.page n.page 0 c.states
       (ends.no-nexts n.ids s.ids distinct c.states n.page has-n.good (has-n.same is_next quiet-next ∙ has-i.same is_next refl refl ∙ has-s.none is_next no-next))
@@ -203,9 +186,9 @@ module _ (c : Wires) (is : IsCircuit c) (tokens : HasTokens c) where
   e = pages.with_outputs n.ids x c.outputs
 
   no-output : NoState is_output
-  no-output = record { quiet = quiet-output; state = refl; init = refl }
+  no-output = record { sort = refl; numeral = refl; state = refl; init = refl }
 
-  has-e : ends.HasOutputs n.ids x e c.outputs
+  pub has-e : ends.HasOutputs n.ids x e c.outputs
   has-e =
       ends.has-outputs n.ids x x [] c.outputs
       (ends.no-outputs n.ids x has-x.good (has-x.same is_output refl refl ∙ has-n.same is_output quiet-output ∙ has-i.same is_output refl refl ∙ has-s.none is_output no-output))
@@ -235,10 +218,10 @@ module _ (c : Wires) (is : IsCircuit c) (tokens : HasTokens c) where
   inputs-are : text.lines_of is_input e.lines ≡ text.lines_of is_input i.page.lines
   inputs-are = has-e.same is_input refl ∙ has-x.same is_input refl refl ∙ has-n.same is_input quiet-input
 
-  state-ids : text.ids_of is_state e.lines ≡ s.ids
+  pub state-ids : text.ids_of is_state e.lines ≡ s.ids
   state-ids = ap (map (λ (l : Line). l.id)) states-are ∙ has-s.ids
 
-  input-ids : text.ids_of is_input e.lines ≡ i.ids
+  pub input-ids : text.ids_of is_input e.lines ≡ i.ids
   input-ids = ap (map (λ (l : Line). l.id)) inputs-are ∙ has-i.ids
 
   states-e : Pairs (IsStateOn e) s.ids c.states
@@ -248,11 +231,11 @@ module _ (c : Wires) (is : IsCircuit c) (tokens : HasTokens c) where
   inputs-e = pairs-weaker (ins.IsInputOn i.page) (ins.IsInputOn e) i.ids c.inputs (λ id wire on. ins.input-stays i.page e id wire from-i on) has-i.inputs
 
   -- a state with its `next`
-  record GoesOn (id : ℕ) (wire : StateWire) : Type 0 where
-    next : ends.IsNextOn e id (id_in n.ids wire.next)
-    within : wire.next < length c.net
+  pub record GoesOn (id : ℕ) (wire : StateWire) : Type 0 where
+    pub next : ends.IsNextOn e id (id_in n.ids wire.next)
+    pub within : wire.next < length c.net
 
-  nexts-e : Pairs GoesOn s.ids c.states
+  pub nexts-e : Pairs GoesOn s.ids c.states
   nexts-e =
       pairs-from GoesOn s.ids c.states states-count
       (λ k id wire one two.
@@ -264,7 +247,7 @@ module _ (c : Wires) (is : IsCircuit c) (tokens : HasTokens c) where
         within = (one-of-all (IsState c.net) c.states k wire is.states two).next;
       })
 
-  fine : lines_fault no_lines e.lines ≡ None
+  pub fine : lines_fault no_lines e.lines ≡ None
   fine = has-e.good.sound.fine
 
   goes-on : (k id : ℕ) → slice_get (text.ids_of is_state e.lines) k ≡ Some id → (scope_of e).continued id ≡ true

@@ -1,8 +1,9 @@
 -- A page with one more line of a width, and items in pairs.
-use Rattle.std.proofs.Common.{◌≡◌, ℕ, zero, suc, ◌≤◌, Bool, true, ◌||◌, cond, List, [], ◌∷◌, ◌++◌, Option, Some, length, map, refl, ap, ap₂, subst, arith}
+use Rattle.std.proofs.Common.{◌≡◌, ℕ, zero, suc, ◌≤◌, Bool, true, ◌||◌, cond, List, [], ◌∷◌, ◌++◌, Option, None, Some, length, map, refl, sym, ap, ap₂, ◌∙◌, subst, arith, All}
 use Rattle.std.specs.Prelude.{slice_get}
 use Rattle.std.specs.List.{list_any}
-use Rattle.std.specs.Option.{option_to_list}
+use Rattle.std.specs.Option.{option_map, option_to_list}
+use Rattle.std.proofs.lemmas.Option.{get_or_from_slice_get, slice_get-map, slice_get_within}
 use Rattle.btor2_text.specs.Printable.{AreTokens}
 use Rattle.btor2_text.specs.declared.keyword.Keyword.{Keyword}
 use Rattle.btor2_text.specs.declared.line.Argument.{Argument}
@@ -95,3 +96,20 @@ pairs-first {A} {B} P [] ys k x all at = absurd (cc)
 pairs-first {A} {B} P (a ∷ xs) [] k x all at = absurd all
 pairs-first {A} {B} P (a ∷ xs) (b ∷ ys) zero x all at = let same : a ≡ x = cc in (b, subst (λ (z : A). P z b) same all.0)
 pairs-first {A} {B} P (a ∷ xs) (b ∷ ys) (suc k) x all at = pairs-first P xs ys k x all.1 at
+
+-- functions that agree on each item
+pub map-each : {A X : Type 0} (f g : A → X) (xs : List A) → ((k : ℕ) (x : A) → slice_get xs k ≡ Some x → f x ≡ g x) → map f xs ≡ map g xs
+map-each {A} {X} f g [] same = refl
+map-each {A} {X} f g (x ∷ xs) same = ap₂ (λ (y : X) (ys : List X). y ∷ ys) (same 0 x refl) (map-each f g xs (λ k z at. same (suc k) z at))
+
+-- the item of a place of mapped ones
+pub mapped : {A : Type 0} (f : A → ℕ) (xs : List A) (k : ℕ) (w : ℕ) → slice_get (map f xs) k ≡ Some w → (x : A) × (slice_get xs k ≡ Some x) × (f x ≡ w)
+mapped {A} f xs k w at = by (slice_get xs k) refl (sym (slice_get-map f xs k) ∙ at)
+  where
+    by : (o : Option A) → slice_get xs k ≡ o → option_map f (slice_get xs k) ≡ Some w → (x : A) × (slice_get xs k ≡ Some x) × (f x ≡ w)
+    by None is found = let none : option_map f (slice_get xs k) ≡ None = ap (option_map f) is in absurd (cc)
+    by (Some x) is found = let some : Some (f x) ≡ Some w = sym (ap (option_map f) is) ∙ found in (x, is, cc)
+
+-- what holds of an item at a place
+pub one-of-all : {X : Type 0} (P : X → Type 0) (xs : List X) (k : ℕ) (x : X) → All P xs → slice_get xs k ≡ Some x → P x
+one-of-all {X} P xs k x all at = subst P (get_or_from_slice_get xs k x x at) (all k x (slice_get_within xs k x at))

@@ -185,7 +185,7 @@ module _ (net : List NetOp) (is_net : IsNet net) (inputs states : List ℕ) wher
       record {
         good = c.good;
         keeps = c.keeps;
-        same = c.same;
+        same = λ test quiet. c.same test quiet.sort quiet.numeral;
         id = id_of_line d.page value.width;
         ids = refl;
         node = record {

@@ -120,7 +120,7 @@ pub record HasConstant (p q : Page) (id : ℕ) (value : BitVector) : Type 0 wher
   pub keeps : Keeps p q
   pub means : (scope_of q).meanings id ≡ Some (record { role = roles.Value; width = value.width; depends = false })
   pub gives : (step : Step) → values_at q.lines step id ≡ value
-  pub same : (test : Rule → Bool) → Quiet test → lines_of test q.lines ≡ lines_of test p.lines
+  pub same : (test : Rule → Bool) → test forms.Sort ≡ false → test (forms.Numeral bases.Decimal) ≡ false → lines_of test q.lines ≡ lines_of test p.lines
 
 module _ (p : Page) (value : BitVector) (g : Good p) (is : IsBits value) where
   abbrev one : Page
@@ -170,5 +170,5 @@ module _ (p : Page) (value : BitVector) (g : Good p) (is : IsBits value) where
         ∙ ap (λ (b : Bool). Some (let m : Meaning = record { role = roles.Value; width = value.width; depends = b || false } in m)) (ap meaning_depends h.sort);
     gives = λ step. put-value one (forms.Numeral bases.Decimal) keywords.Constd given None (four value.width 0 0 0) h.good constant-asked tt step
         ∙ ap₂ (λ (w n : ℕ). let v : BitVector = record { width = w; number = n } in v) (ap (λ (o : Option ℕ). unwrap_or o 0) sort-named) (decimal_is_IsNumeral_wide value.number small).1;
-    same = λ test quiet. not-picked test one keywords.Constd given None quiet.numeral ∙ h.same test quiet.sort;
+    same = λ test no_sort no_numeral. not-picked test one keywords.Constd given None no_numeral ∙ h.same test no_sort;
   }

@@ -10,6 +10,7 @@ use Rattle.kw_bits.specs.Laws.{HasWidth}
 use Rattle.circuit_eval.specs.declared.circuit.StateWire.{StateWire}
 use Rattle.btor2_text.specs.Printable.{IsToken}
 use Rattle.btor2_text.specs.declared.keyword.Keyword.TheVariants as keywords
+use Rattle.btor2_text.specs.declared.kind.Base.TheVariants as bases
 use Rattle.btor2_text.specs.declared.kind.Kind.TheVariants as kinds
 use Rattle.btor2_text.specs.declared.line.Argument.{Argument}
 use Rattle.btor2_text.specs.declared.line.Argument.TheVariants as arguments
@@ -55,7 +56,8 @@ state-stays p q more id wire keeps adds s = record {
 
 -- no line of a rule that the states have
 pub record NoState (test : Rule → Bool) : Type 0 where
-  pub quiet : Quiet test
+  pub sort : test forms.Sort ≡ false
+  pub numeral : test (forms.Numeral bases.Decimal) ≡ false
   pub state : test forms.State ≡ false
   pub init : test forms.Init ≡ false
 
@@ -200,7 +202,7 @@ module _ (d : Draft) (wire : StateWire) (g : Good d.page) (first : HasWidth wire
   inits-are : lines_of is_init q.lines ≡ lines_of is_init p.lines ++ init_line ∷ []
   inits-are =
       has-q.picked is_init
-      ∙ ap (λ (ls : List Line). ls ++ init_line ∷ []) (has-q.sorted.same is_init refl ∙ has-s.picked is_init ∙ append-nil (lines_of is_init before.lines) ∙ has-s.sorted.same is_init refl ∙ has-c.same is_init quiet-init)
+      ∙ ap (λ (ls : List Line). ls ++ init_line ∷ []) (has-q.sorted.same is_init refl ∙ has-s.picked is_init ∙ append-nil (lines_of is_init before.lines) ∙ has-s.sorted.same is_init refl ∙ has-c.same is_init refl refl)
 
   found-init : find (set_of state_id) (lines_of is_init q.lines) ≡ Some init_line
   found-init =
@@ -224,15 +226,15 @@ module _ (d : Draft) (wire : StateWire) (g : Good d.page) (first : HasWidth wire
     };
     line = state_line;
     states = has-q.picked is_state ∙ append-nil (lines_of is_state middle.lines) ∙ has-q.sorted.same is_state refl ∙ has-s.picked is_state
-        ∙ ap (λ (ls : List Line). ls ++ state_line ∷ []) (has-s.sorted.same is_state refl ∙ has-c.same is_state quiet-state);
+        ∙ ap (λ (ls : List Line). ls ++ state_line ∷ []) (has-s.sorted.same is_state refl ∙ has-c.same is_state refl refl);
     id_is = refl;
     name_is = refl;
     init = init_line;
     inits = inits-are;
     same = λ test no.
-        has-q.picked test ∙ ap (λ (b : Bool). lines_of test middle.lines ++ cond b (init_line ∷ []) []) no.init ∙ append-nil (lines_of test middle.lines) ∙ has-q.sorted.same test no.quiet.sort
-        ∙ has-s.picked test ∙ ap (λ (b : Bool). lines_of test before.lines ++ cond b (state_line ∷ []) []) no.state ∙ append-nil (lines_of test before.lines) ∙ has-s.sorted.same test no.quiet.sort
-        ∙ has-c.same test no.quiet;
+        has-q.picked test ∙ ap (λ (b : Bool). lines_of test middle.lines ++ cond b (init_line ∷ []) []) no.init ∙ append-nil (lines_of test middle.lines) ∙ has-q.sorted.same test no.sort
+        ∙ has-s.picked test ∙ ap (λ (b : Bool). lines_of test before.lines ++ cond b (state_line ∷ []) []) no.state ∙ append-nil (lines_of test before.lines) ∙ has-s.sorted.same test no.sort
+        ∙ has-c.same test no.sort no.numeral;
   }
 
 -- a page that has these states

@@ -1,8 +1,10 @@
 ghost use Rattle.std.specs.Prelude.{◌≡◌, ◌∷◌, ◌++◌, ◌<◌, ◌^◌, [], ℕ, List, IfOk, OnOk, length};
 ghost use Rattle.net_graph.specs.Nets.{widths_of};
+ghost use Rattle.circuit_eval.specs.Tidy.{IsTidy};
 ghost use Rattle.btor2_model.specs.Acceptance.{IsAccepted};
 ghost use Rattle.btor2_net.specs.PageFields.{page_of};
 ghost use Rattle.btor2_net.specs.Pages as pages;
+ghost use Rattle.btor2_net.specs.TidyLines.{AreTidy};
 ghost use Rattle.btor2_net.specs.Translations.{AreCounted, HasLines, HasTokens, RunsAs};
 
 use crate::keywords::{keyword_of_one, keyword_of_two};
@@ -13,7 +15,7 @@ use kw_bits::{NoMemory, Sequence, Text};
 use net_graph::{Net, NetId, NetOp};
 use std::alloc::Global;
 
-/// The lines that a circuit is written as: an accepted text that has the circuit's names, widths and run.
+/// The lines that a circuit is written as: an accepted text that has the circuit's names, widths and run, and is as tidy as the circuit.
 pub fn to_lines(alloc: Global, circuit: &Circuit) -> Result<Lines, NoMemory>
     requires names { HasTokens circuit.now }
     ensures lines { IfOk result (λ lines. lines ≡ pages.lines_of circuit.now) }
@@ -21,6 +23,7 @@ pub fn to_lines(alloc: Global, circuit: &Circuit) -> Result<Lines, NoMemory>
     ensures names { IfOk result (λ lines. HasLines lines circuit.now) }
     ensures run { IfOk result (λ lines. RunsAs lines circuit.now) }
     ensures ids { IfOk result AreCounted }
+    ensures tidy { IfOk result (λ lines. IsTidy circuit.now → AreTidy lines) }
 {
     let states = circuit.states.as_slice();
     let inputs = circuit.inputs.as_slice();
@@ -130,35 +133,17 @@ fn add_node(
             page.add(alloc, width, keyword, &operands, &[], None)
         }
         NetOp::Slice(a, upper, lower) => {
+            let operand = [id_in(ids, a)];
             let bounds = [upper, lower];
-            page.add(
-                alloc,
-                width,
-                Keyword::Slice,
-                &[id_in(ids, a)],
-                &bounds,
-                None,
-            )
+            page.add(alloc, width, Keyword::Slice, &operand, &bounds, None)
         }
         NetOp::Uext(a, added) => {
-            page.add(
-                alloc,
-                width,
-                Keyword::Uext,
-                &[id_in(ids, a)],
-                &[added],
-                None,
-            )
+            let operand = [id_in(ids, a)];
+            page.add(alloc, width, Keyword::Uext, &operand, &[added], None)
         }
         NetOp::Sext(a, added) => {
-            page.add(
-                alloc,
-                width,
-                Keyword::Sext,
-                &[id_in(ids, a)],
-                &[added],
-                None,
-            )
+            let operand = [id_in(ids, a)];
+            page.add(alloc, width, Keyword::Sext, &operand, &[added], None)
         }
         NetOp::Ite(condition, a, b) => {
             let operands = [id_in(ids, condition), id_in(ids, a), id_in(ids, b)];

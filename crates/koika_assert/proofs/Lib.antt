@@ -4,6 +4,7 @@ pub mod MarkedRuns
 pub mod MoreBads
 pub mod NarrowOutputs
 pub mod SameRuns
+pub mod TidyBads
 pub mod TurnedRuns
 pub mod TurnedScopes
 pub mod TurnedTexts

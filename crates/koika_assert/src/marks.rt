@@ -1,6 +1,7 @@
 // The `bad` lines that marks of outputs are written as.
 ghost use Rattle.std.specs.Prelude.{◌≡◌, ◌+◌, ◌<◌, ◌^◌, ◌∷◌, ◌++◌, [], IfOk, OnOk, All, length, filter};
 ghost use Rattle.btor2_model.specs.Acceptance.{IsAccepted};
+ghost use Rattle.btor2_net.specs.TidyLines.{AreTidy};
 ghost use Rattle.btor2_net.specs.Translations.{AreCounted};
 ghost use Rattle.koika_assert.specs.Bads as bads;
 ghost use Rattle.koika_assert.specs.Widths as widths;
@@ -22,6 +23,7 @@ pub fn add_bads(alloc: Global, lines: &Lines, marks: &[u32]) -> Result<Lines, No
     ensures parts { IfOk result (bads.HasSameParts lines.now) }
     ensures run { IfOk result (bads.RunsAlike lines.now) }
     ensures violations { IfOk result (bads.ShowsMarks lines.now marks.now) }
+    ensures tidy { IfOk result (λ all. AreTidy lines.now → AreTidy all) }
 {
     marked_lines(alloc, lines.as_slice(), marks)
 }
