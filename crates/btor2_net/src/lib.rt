@@ -1,8 +1,8 @@
 //! Circuit texts as circuits, and circuits as circuit texts.
 //!
 //! Contracts cite `specs/Translations.antt`, which says when a circuit is that of a text: names and widths in order, and one
-//! run, and `specs/Pages.antt`, which lines a circuit is written as. The compiler calls this crate for the text that it writes,
-//! and the simulator of texts for the circuit that it runs.
+//! run, `specs/Pages.antt`, which lines a circuit is written as, and `specs/TidyLines.antt`, when lines are tidy. `koika_top`
+//! calls `to_lines` for the text that a design is compiled to, and `to_circuit` for the circuit of a text that it runs.
 #![tactic(auto)]
 
 mod circuit;

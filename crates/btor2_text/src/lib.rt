@@ -2,8 +2,8 @@
 //!
 //! Contracts cite how a text is cut in `specs/Cut.antt`, the table of forms in `specs/Forms.antt`, which line a row
 //! of tokens is in `specs/Lines.antt`, what reading a whole text gives in `specs/Reading.antt`, and what printing
-//! writes in `specs/Printing.antt`. The crate that accepts circuit texts reads what `read_lines` answers; the
-//! compiler prints by `print_lines`.
+//! writes in `specs/Printing.antt`. `koika_top` reads texts by `read_lines` and prints them by `print_lines`;
+//! `btor2_model`, `btor2_net` and `koika_assert` take and make lines.
 #![tactic(auto)]
 
 mod argument;

@@ -1,8 +1,8 @@
 //! Circuits: a net with named inputs, states and outputs, and its run.
 //!
 //! Contracts see a `Circuit` as its wires and cite `specs/Circuits.antt`, which says which wires make a circuit, and
-//! `specs/Run.antt`, which says what its run is. `specs/Simulations.antt` is what a `Sim` is seen as. The makers of
-//! circuits and of circuit texts call this crate.
+//! `specs/Run.antt`, which says what its run is. `specs/Simulations.antt` is what a `Sim` is seen as, and `specs/Tidy.antt`
+//! says when a circuit is tidy. `net_sched`, `net_simplify` and `btor2_net` make circuits, and `koika_top` runs them.
 #![tactic(auto)]
 
 mod circuit;
