@@ -10,7 +10,7 @@ use crate::Btor;
 use crate::known::Known;
 use crate::refusal::refusal_at;
 use btor2_text::{Line, Lines};
-use kw_base::Refusal;
+use kw_base::{Refusal, fault_number};
 use std::alloc::Global;
 
 /// The lines, if they are accepted. Otherwise the fault of the first line that isn't, of 51, 52, 53, 55, 57, 58 and 59 the
@@ -50,7 +50,7 @@ fn no_state_lacks_next(known: &Known, lines: &[Line]) -> Result<(), Refusal>
 {
     for line in lines {
         if known.lacks_next(line) {
-            return Err(refusal_at(56, line));
+            return Err(refusal_at(fault_number::STATE_WITHOUT_NEXT, line));
         }
     }
     Ok(())

@@ -18,7 +18,7 @@ use crate::refusal::refusal_at;
 use crate::rule::{Measures, Rule};
 use crate::table::Table;
 use btor2_text::{Argument, Keyword, Kind, Line};
-use kw_base::Refusal;
+use kw_base::{Refusal, fault_number};
 use kw_bits::NoMemory;
 use std::alloc::Global;
 use std::collections::BTreeSet;
@@ -76,25 +76,25 @@ impl Known {
         let arguments = line.arguments.as_slice();
         let rule = Rule::of(line.keyword);
         if self.meaning(line.id).is_some() {
-            return Err(51);
+            return Err(fault_number::REPEATED_ID);
         }
         if !self.are_known(arguments) {
-            return Err(52);
+            return Err(fault_number::UNDEFINED_ID);
         }
         let Some(measures) = self.agreeing(line.keyword, rule, arguments) else {
-            return Err(53);
+            return Err(fault_number::WRONG_SORT);
         };
         if !rule.bounds_fit(measures) {
-            return Err(55);
+            return Err(fault_number::SORT_OUT_OF_RANGE);
         }
         if !self.sets_first(rule, arguments) {
-            return Err(57);
+            return Err(fault_number::REPEATED_INIT_OR_NEXT);
         }
         if !self.numeral_fits(rule, arguments) {
-            return Err(58);
+            return Err(fault_number::CONSTANT_TOO_GREAT);
         }
         if !self.init_is_fixed(rule, arguments) {
-            return Err(59);
+            return Err(fault_number::INIT_NOT_CONSTANT);
         }
         Ok(Meaning {
             role: rule.role(),

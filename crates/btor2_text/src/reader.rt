@@ -14,7 +14,7 @@ use crate::argument::{has_minus, read_arguments, read_id, read_symbol, skip_toke
 use crate::cut::{Token, next_token, split_line, without_comment};
 use crate::keyword::is_left_out;
 use crate::{Keyword, Line, Lines};
-use kw_base::{Fault, Place, Refusal};
+use kw_base::{Fault, Place, Refusal, fault_number};
 use kw_bits::{NoMemory, Sequence};
 use std::alloc::{AllocError, AllocFailed, Global};
 
@@ -62,8 +62,8 @@ impl Flaw {
             column: 1,
         };
         match self {
-            Flaw::Malformed => Refusal::Fault(Fault::new(50, place)),
-            Flaw::LeftOut => Refusal::Fault(Fault::new(54, place)),
+            Flaw::Malformed => Refusal::Fault(Fault::new(fault_number::MALFORMED_LINE, place)),
+            Flaw::LeftOut => Refusal::Fault(Fault::new(fault_number::FORM_LEFT_OUT, place)),
             Flaw::NoMemory => Refusal::NoMemory,
         }
     }
