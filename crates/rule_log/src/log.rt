@@ -115,8 +115,8 @@ impl Log {
         requires registers { length regs.old ≡ registers self.now }
         ensures { (start : BitVector) → regs.new ≡ slice_set regs.old register (written_below self.now PORTS register (slice_index_or regs.old register start)) }
     {
-        let start = *regs.get(register);
-        regs.set(register, self.value_below(PORTS, register, start));
+        let value = *self.value_below(PORTS, register, regs.get(register));
+        regs.set(register, value);
     }
 
     // Whether one of the accesses refuses this one, at a port below `PORTS`.
@@ -132,13 +132,13 @@ impl Log {
     }
 
     // The value of the write at the highest port below this one, at most `PORTS`, or else the start value.
-    fn value_below(&self, port: u32, register: usize, start: Bits) -> Bits
+    fn value_below<'a>(&'a self, port: u32, register: usize, start: &'a Bits) -> &'a Bits
         requires port { port ≤ PORTS }
         requires register { register < registers self.now }
-        ensures { result ≡ written_below self.now port register start }
+        ensures { result.now ≡ written_below self.now port register start.now }
     {
         match self.flags[register].highest_write_below(port) {
-            Some(top) => self.values[value_index(top, register)],
+            Some(top) => &self.values[value_index(top, register)],
             None => start,
         }
     }
@@ -253,7 +253,7 @@ pub fn seen(rule: &Log, sched: &Log, start: Bits, port: u32, register: u32) -> B
         → result ≡ seen port register rule_events (seen port register sched_events start) }
 {
     let register = register as usize;
-    rule.value_below(port, register, sched.value_below(port, register, start))
+    *rule.value_below(port, register, sched.value_below(port, register, &start))
 }
 
 // Where the value stands that was written at a port of a register.

@@ -20,7 +20,7 @@ returns-in-Some c =
     let kept : c.index-in-Some.result.now ≡ slice_index_or c.self.inside.values.items c.value_index.result unit = get_or_read c.self.inside.values.items c.value_index.result c.index-in-Some.result.now place c.index-in-Some.ensures unit in
     let value : c.index-in-Some.result.now ≡ slice_index_or log.values c.value_index.result unit = kept ∙ ap (λ (l : RegisterLog). slice_index_or l.values c.value_index.result unit) c.self.view_is in
     value ∙ ap (λ (n : ℕ). slice_index_or log.values n unit) c.value_index.ensures
-    ∙ sym (below_top log top c.args.port register c.args.start c.in-Some.ensures.below.0
+    ∙ sym (below_top log top c.args.port register c.args.start.now c.in-Some.ensures.below.0
     (ap (λ (f : PortFlags). has f true top) (sym is) ∙ c.in-Some.ensures.below.1)
     (λ at above below. ap (λ (f : PortFlags). has f true at) (sym is) ∙ c.in-Some.ensures.highest at above below))
 
@@ -31,5 +31,5 @@ returns-in-None c =
     let inside : register < length c.self.inside.flags.items = omega (arith, c.requires.register, ap (λ (l : RegisterLog). registers l) c.self.view_is) in
     let read : c.index.result.now ≡ slice_index_or c.self.inside.flags.items register no_flag = get_or_read c.self.inside.flags.items register c.index.result.now inside c.index.ensures no_flag in
     let is : c.index.result.now ≡ slice_index_or log.flags register no_flag = read ∙ ap (λ (l : RegisterLog). slice_index_or l.flags register no_flag) c.self.view_is in
-    sym (below_none log c.args.port register c.args.start
+    sym (below_none log c.args.port register c.args.start.now
     (λ at below. ap (λ (f : PortFlags). has f true at) (sym is) ∙ c.in-None.ensures.below at below))
