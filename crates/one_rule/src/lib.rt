@@ -2,7 +2,7 @@
 //!
 //! `specs/Cycle.antt` and `specs/Run.antt` are the definitions that every engine is compared with, `specs/PortRun.antt`
 //! says the same cycle by runs that look at a scheduler log, and `specs/Laws.antt` what holds of every cycle and run.
-//! Engines evaluate rules by `evaluate`, at ports of their own, and the checks of attempts by `alone`.
+//! The plain engine evaluates rules by `evaluate`, at ports of its own; attempts are made by `alone`.
 #![tactic(auto)]
 
 mod cycle;

@@ -72,7 +72,13 @@ pub(super) fn run<E: Outside, P: Ports>(
             env, ports, condition, first, second, locals, slot,
         ),
         Action::Seq(first, second) => in_turn(env, ports, first, second, locals, slot),
-        Action::Read(port, register) => read(ports, *port, *register, slot),
+        Action::Read(port, register) => {
+            if read(ports, *port, *register, slot) {
+                End::Value
+            } else {
+                End::Interrupt
+            }
+        }
         Action::Write(port, register, a) => write(env, ports, *port, *register, a, locals, slot),
         Action::Abort => {
             slot.interrupt = Interrupt::Stop(Stopped::Abort);
@@ -109,6 +115,7 @@ fn operand<E: Outside, P: Ports>(
             slot.value = *env.inputs.get(*input as usize);
             true
         }
+        Action::Read(port, register) => read(ports, *port, *register, slot),
         _ => match run(env, ports, action, locals, slot) {
             End::Value => true,
             End::Interrupt => false,
@@ -183,7 +190,7 @@ fn binary<E: Outside, P: Ports>(
     if !operand(env, ports, b, locals, slot) {
         return End::Interrupt;
     }
-    slot.value = operator.apply(x, slot.value);
+    slot.value = operator.apply(&x, &slot.value);
     End::Value
 }
 
@@ -394,23 +401,23 @@ fn in_turn<E: Outside, P: Ports>(
     }
 }
 
-// A read of a register.
-fn read<P: Ports>(ports: &mut P, port: u32, register: u32, slot: &mut Slot) -> End
+// A read of a register, or whether it is interrupted.
+fn read<P: Ports>(ports: &mut P, port: u32, register: u32, slot: &mut Slot) -> bool
     requires port { IsPort port }
     requires register { register < length (P.widths ports.old) }
     ensures leaves { (events : List Event) → P.stands_for ports.old events
-        → Leaves (P.stands_for ports.new) result slot.new ((P.reading ports.old).read port register events) }
+        → LeavesValue (P.stands_for ports.new) result slot.new ((P.reading ports.old).read port register events) }
     ensures reading { P.reading ports.new ≡ P.reading ports.old }
     ensures widths { P.widths ports.new ≡ P.widths ports.old }
 {
     match ports.read(port, register) {
         Ok(value) => {
             slot.value = value;
-            End::Value
+            true
         }
         Err(interrupt) => {
             slot.interrupt = interrupt;
-            End::Interrupt
+            false
         }
     }
 }
