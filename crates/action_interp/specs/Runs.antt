@@ -25,4 +25,4 @@ IsRun widths (run.Blocked access) p = p.ending ≡ Stop (Refused access)
 
 -- the same where the log stands for the events that the rule comes to before it stops, too
 abbrev pub IsLoggedRun : List ℕ → LoggedRun → Progress BitVector Stopped → Type 0
-IsLoggedRun widths run p = (run.end ≡ end_of p.ending) × StandsFor widths run.log p.events
+IsLoggedRun widths run p = (run.end ≡ end_of p.ending) × StandsFor widths run.log.value p.events

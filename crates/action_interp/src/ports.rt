@@ -12,13 +12,13 @@ use typed_core::{Access, Event, Stopped};
 pub(crate) struct RulePorts<'a> {
     pub(crate) regs: &'a Regs,
     pub(crate) sched: &'a Log,
-    pub(crate) log: Log,
+    pub(crate) log: Box<Log>,
     ghost sched_fits: { registers sched.now ≡ length regs.now },
-    ghost log_fits: { registers log ≡ length regs.now },
+    ghost log_fits: { registers log.value ≡ length regs.now },
 }
 
 impl Ports for RulePorts<'_> {
-    ghost stands_for = { λ ports events. IsRunning ports.regs.now ports.sched.now ports.log events };
+    ghost stands_for = { λ ports events. IsRunning ports.regs.now ports.sched.now ports.log.value events };
 
     ghost reading = { λ ports. ports_by ports.sched.now ports.regs.now };
 

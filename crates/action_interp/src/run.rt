@@ -42,7 +42,7 @@ pub enum RuleEnd {
 #[derive(Debug, Drop)]
 pub struct LoggedRun {
     pub end: RuleEnd,
-    pub log: Log,
+    pub log: Box<Log>,
 }
 
 /// Runs a rule behind a scheduler log, in a cycle that began on these registers.
@@ -63,10 +63,10 @@ pub fn run_rule(
     ensures run { IfOk result (λ run. (events : List Event) → StandsFor (register_widths design.now) sched.now events
         → IsRun (register_widths design.now) run (port_run_if (environment design.now inputs.now) events regs.now (slice_get design.now.rules rule))) }
 {
-    let log = Log::new(alloc, design)?;
+    let log = Box::new(alloc, Log::new(alloc, design)?)?;
     let run = run_logged(design, externs, rule, inputs, regs, sched, log)?;
     Ok(match run.end {
-        RuleEnd::Fired => RuleRun::Fired(run.log),
+        RuleEnd::Fired => RuleRun::Fired(Box::into_inner(run.log)),
         RuleEnd::Aborted => RuleRun::Aborted,
         RuleEnd::Blocked(access) => RuleRun::Blocked(access),
     })
@@ -81,14 +81,14 @@ pub fn run_logged(
     inputs: &Inputs,
     regs: &Regs,
     sched: &Log,
-    log: Log,
+    log: Box<Log>,
 ) -> Result<LoggedRun, NoMemory>
     requires externs { kept externs.now ≡ externs_of design.now }
     requires rule { rule < length design.now.rules }
     requires inputs { HaveWidths (input_widths design.now) inputs.now }
     requires registers { HaveWidths (register_widths design.now) regs.now }
     requires sched { (events : List Event) × StandsFor (register_widths design.now) sched.now events }
-    requires log { StandsFor (register_widths design.now) log [] }
+    requires log { StandsFor (register_widths design.now) log.value [] }
     ensures run { IfOk result (λ run. (events : List Event) → StandsFor (register_widths design.now) sched.now events
         → IsLoggedRun (register_widths design.now) run (port_run_if (environment design.now inputs.now) events regs.now (slice_get design.now.rules rule))) }
     ensures follows { IfOk result (λ run. (events : List Event) → StandsFor (register_widths design.now) sched.now events

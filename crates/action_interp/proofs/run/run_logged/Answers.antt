@@ -44,7 +44,7 @@ begins widths regs sched log before fits behind empty =
 
 pub evaluate-value-requires-clause-events : goal.evaluate-value-requires-clause-events
 evaluate-value-requires-clause-events g c =
-    ([], begins (register_widths c.args.design.now) c.args.regs.now c.args.sched.now c.args.log c.requires.sched.0 c.requires.registers c.requires.sched.1 c.requires.log, tt)
+    ([], begins (register_widths c.args.design.now) c.args.regs.now c.args.sched.now c.args.log.value c.requires.sched.0 c.requires.registers c.requires.sched.1 c.requires.log, tt)
 
 pub returns-clause-run : goal.returns-clause-run
 returns-clause-run g c events stands =
@@ -56,12 +56,12 @@ returns-clause-run g c events stands =
     slice_get-get_or design.rules c.args.rule rule c.requires.rule
     ∙ ap Some (sym (c.get.ensures ∙ ap (λ (d : Parts). slice_index_or d.rules c.args.rule rule) c.design.view_is)) in
     let same = widths-same (register_widths design) regs c.requires.registers in
-    let running : IsRunning regs c.args.sched.now c.args.log [] = begins (register_widths design) regs c.args.sched.now c.args.log c.requires.sched.0 c.requires.registers c.requires.sched.1 c.requires.log in
+    let running : IsRunning regs c.args.sched.now c.args.log.value [] = begins (register_widths design) regs c.args.sched.now c.args.log.value c.requires.sched.0 c.requires.registers c.requires.sched.1 c.requires.log in
     let end : Progress BitVector Stopped = evaluate (record { externs = kept c.args.externs.now; inputs = c.args.inputs.now }) (ports_by c.args.sched.now regs) rule.body c.empty.result [] in
     let is = runs_alike design c.args.inputs.now regs c.args.rule rule found events (register_widths design) c.args.sched.now stands (kept c.args.externs.now) c.requires.externs c.empty.result c.empty.ensures in
-    let ran = ended (λ (es : List Event). IsRunning ports.regs.now ports.sched.now ports.log es) c.evaluate-value.result end c.in_ok-end.end (c.evaluate-value.ensures.answers [] running) c.in_ok-end.ensures in
-    let log : StandsFor (register_widths design) ports.log end.events = subst (λ (ws : List ℕ). StandsFor ws ports.log end.events) (c.evaluate-value.ensures.widths ∙ same) ran.1.noted in
-    subst (λ (p : Progress BitVector Stopped). (c.in_ok-end.end ≡ end_of p.ending) × StandsFor (register_widths design) ports.log p.events) is (ran.0, log)
+    let ran = ended (λ (es : List Event). IsRunning ports.regs.now ports.sched.now ports.log.value es) c.evaluate-value.result end c.in_ok-end.end (c.evaluate-value.ensures.answers [] running) c.in_ok-end.ensures in
+    let log : StandsFor (register_widths design) ports.log.value end.events = subst (λ (ws : List ℕ). StandsFor ws ports.log.value end.events) (c.evaluate-value.ensures.widths ∙ same) ran.1.noted in
+    subst (λ (p : Progress BitVector Stopped). (c.in_ok-end.end ≡ end_of p.ending) × StandsFor (register_widths design) ports.log.value p.events) is (ran.0, log)
 
 pub returns-clause-follows : goal.returns-clause-follows
 returns-clause-follows g c events stands =
