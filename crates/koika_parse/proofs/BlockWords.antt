@@ -14,13 +14,13 @@ use Rattle.koika_syntax.specs.declared.tree.Arm.{Arm}
 use Rattle.koika_syntax.specs.declared.tree.Block.{Block}
 use Rattle.koika_syntax.specs.declared.tree.Expression.{Expression}
 use Rattle.koika_syntax.specs.declared.tree.Statement.{Statement}
-use Rattle.koika_parse.specs.Expected.{One, Part, Then, first, Any, InVector, Same, Takes}
+use Rattle.koika_parse.specs.Expected.{One, Part, StandAt, Then, first, Any, InVector, Takes}
 use Rattle.koika_parse.specs.ExpressionWords.{Free, LevelWord, LetWord, ElseWord, ConditionalWord, InsideWord, brace_follows}
 use Rattle.koika_parse.specs.Parts.{IsArm, IsFieldValue, IsStatement}
 use Rattle.koika_parse.specs.Reading.{next, Reads, tokens_left}
 use Rattle.koika_parse.specs.declared.cursor.Cursor.{Cursor}
 use Rattle.koika_parse.specs.declared.source.Source.{Source}
-use Rattle.koika_parse.proofs.Expected.{Empty, Apart, Goes, start, starts, goes_as, Has, Within, begin, next_part, room_at, same_append, same_of, same_one, same_part, same_then, some_one, some_then}
+use Rattle.koika_parse.proofs.Expected.{Empty, Apart, Goes, start, starts, goes_as, Has, Kept, Within, begin, has_within, kept, next_part, room_at, same_again, same_of, same_one, same_part, same_then, some_one, some_then, stand_append, stand_split}
 use Rattle.koika_parse.proofs.Rows.{the_first, the_second, first_one}
 use Rattle.koika_parse.proofs.Words.{word_word}
 use Rattle.koika_parse.proofs.ExpressionWords.{ArmWord, arm_word, BlockWord, block_word, FieldValueWord, field_value_word, StatementWord, statement_word, expression_split}
@@ -31,7 +31,7 @@ some_arm_word : Has ArmWord
 some_arm_word = some_then (some_one (keyword keywords.If)) (some_then (some_level 1 (omega arith)) some_block)
 
 some_arm : Has (Part IsArm arm_leaves)
-some_arm = let found = arm_within some_arm_word.0 some_arm_word.1 in (found.0, found.1)
+some_arm = has_within arm_within some_arm_word
 
 abbrev no_else : (n : ℕ) → InVector n → Has (ElseWord n)
 no_else n fits = ([], ([], None, (All-nil IsArm, omega (arith, fits)), tt, refl))
@@ -109,26 +109,20 @@ else_cases n r found = subst (ElseCases n) (sym found.4) (of found.0 found.1 fou
         )
 
 else_within : (n : ℕ) → InVector n → Within (ElseCases n) (ElseWord n)
-else_within n fits q (inl empty) = ([], (no_else n fits).1, same_of (sym empty))
+else_within n fits q (inl empty) = kept q [] (no_else n fits).1 (same_of (sym empty))
 else_within n fits q (inr both) = of both.3
   where
-    of : ElseTail n both.1 → (r : List Leaf) × ElseWord n r × Same r q
-    of (inr last) = (
-      word keywords.Else ++ block_leaves last.0,
-      ([], Some last.0, (All-nil IsArm, omega (arith, fits)), last.1, refl),
-      same_then (word keywords.Else) (block_leaves last.0) both (same_one None both.2) (same_part last),
-    )
+    of : ElseTail n both.1 → Kept (ElseWord n) q
+    of (inr last) = kept q (word keywords.Else ++ block_leaves last.0) ([], Some last.0, (All-nil IsArm, omega (arith, fits)), last.1, refl) (same_then (word keywords.Else) (block_leaves last.0) both (same_one both.2) (same_part last))
     of (inl more) =
         let arm = more.2.0 in
         let arms = more.3.0 in
         let otherwise = more.3.1 in
         let rest = each_after (word keywords.Else) (map arm_leaves arms) in
-        let end = last_leaves otherwise (λ block. word keywords.Else ++ block_leaves block) in (
-          each_after (word keywords.Else) (map arm_leaves (arm ∷ arms)) ++ end,
-          (arm ∷ arms, otherwise, (All-cons IsArm arm arms more.2.1 more.3.2.0, omega (arith, more.3.2.1)), more.3.3, refl),
-          same_of (append_assoc (word keywords.Else ++ arm_leaves arm) rest end)
-              ∙ same_then (word keywords.Else) (arm_leaves arm ++ (rest ++ end)) both (same_one None both.2) (same_then (arm_leaves arm) (rest ++ end) more (same_part more.2) (same_of (sym more.3.4))),
-        )
+        let end = last_leaves otherwise (λ block. word keywords.Else ++ block_leaves block) in
+        kept q (each_after (word keywords.Else) (map arm_leaves (arm ∷ arms)) ++ end) (arm ∷ arms, otherwise, (All-cons IsArm arm arms more.2.1 more.3.2.0, omega (arith, more.3.2.1)), more.3.3, refl)
+        (same_again (each_after (word keywords.Else) (map arm_leaves (arm ∷ arms)) ++ end) ((word keywords.Else ++ arm_leaves arm) ++ (rest ++ end)) q (same_of (append_assoc (word keywords.Else ++ arm_leaves arm) rest end))
+        (same_then (word keywords.Else) (arm_leaves arm ++ (rest ++ end)) both (same_one both.2) (same_then (arm_leaves arm) (rest ++ end) more (same_part more.2) (same_of (sym more.3.4)))))
 
 -- so many arms have been read, no more than tokens
 pub record ElseGo (source : Source) (old new : Cursor) : Type 0 where
@@ -202,24 +196,27 @@ inside_cases n r found = subst (λ r. Empty r ⊎ MoreInside n r) (sym found.4) 
         (stated (statement_leaves s) (more ++ end) (statement_word s (All-head IsStatement s statements all.0)) (statements, value, (All-tail IsStatement s statements all.0, omega (arith, all.1)), last, refl)))
 
 -- a statement in front of what stands in a block
-statement_front : (n : ℕ) (q a rest : List Leaf) → q ≡ a ++ rest → (r : List Leaf) × Part IsStatement statement_leaves r × Same r a → InsideWord (n + 1) rest → (r : List Leaf) × InsideWord n r × Same r q
-statement_front n q a rest split found more =
-    let s = found.1.0 in
+statement_front : (n : ℕ) (q a rest : List Leaf) → q ≡ a ++ rest → Kept (Part IsStatement statement_leaves) a → InsideWord (n + 1) rest → Kept (InsideWord n) q
+statement_front n q a rest split found more spots stand =
+    let cut = stand_split a rest spots (subst (λ l. StandAt l spots) split stand) in
+    let first = found cut.0 cut.2 in
+    let s = first.1.0 in
     let statements = more.0 in
     let behind = flat_map statement_leaves statements in
-    let end = last_leaves more.1 expression_leaves in (
+    let end = last_leaves more.1 expression_leaves in
+    let stands = stand_append (statement_leaves s) (behind ++ end) cut.0 cut.1 (subst (λ l. StandAt l cut.0) first.1.2 first.2) (subst (λ l. StandAt l cut.1) more.4 cut.3) in (
       flat_map statement_leaves (s ∷ statements) ++ end,
-      (s ∷ statements, more.1, (All-cons IsStatement s statements found.1.1 more.2.0, omega (arith, more.2.1)), more.3, refl),
-      same_of (append_assoc (statement_leaves s) behind end) ∙ same_append (statement_leaves s) a (behind ++ end) rest (same_of (sym found.1.2) ∙ found.2) (same_of (sym more.4)) ∙ same_of (sym split),
+      (s ∷ statements, more.1, (All-cons IsStatement s statements first.1.1 more.2.0, omega (arith, more.2.1)), more.3, refl),
+      subst (λ l. StandAt l spots) (sym (append_assoc (statement_leaves s) behind end)) (subst (StandAt (statement_leaves s ++ (behind ++ end))) (sym cut.4) stands),
     )
 
 inside_within : (n : ℕ) → InVector n → Within (λ r. Empty r ⊎ MoreInside n r) (InsideWord n)
-inside_within n fits q (inl empty) = ([], (no_inside n fits).1, same_of (sym empty))
+inside_within n fits q (inl empty) = kept q [] (no_inside n fits).1 (same_of (sym empty))
 inside_within n fits q (inr (inl both)) = statement_front n q both.0 both.1 both.4 (let_within both.0 both.2) both.3
 inside_within n fits q (inr (inr both)) = of both.3
   where
-    of : AfterWord n both.1 → (r : List Leaf) × InsideWord n r × Same r q
-    of (inl empty) = (expression_leaves both.2.0, ([], Some both.2.0, (All-nil IsStatement, omega (arith, fits)), both.2.1, refl), same_of (sym (both.4 ∙ ap (λ t. both.0 ++ t) empty ∙ append-nil both.0 ∙ both.2.2)))
+    of : AfterWord n both.1 → Kept (InsideWord n) q
+    of (inl empty) = kept q (expression_leaves both.2.0) ([], Some both.2.0, (All-nil IsStatement, omega (arith, fits)), both.2.1, refl) (same_of (sym (both.4 ∙ ap (λ t. both.0 ++ t) empty ∙ append-nil both.0 ∙ both.2.2)))
     of (inr more) = statement_front n q (both.0 ++ more.0) more.1 (both.4 ∙ ap (λ t. both.0 ++ t) more.4 ∙ sym (append_assoc both.0 more.0 more.1)) (do_within (both.0 ++ more.0) (both.0, more.0, both.2, more.2, refl)) more.3
 
 -- so many statements have been read, no more than tokens

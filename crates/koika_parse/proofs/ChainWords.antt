@@ -17,14 +17,14 @@ use Rattle.koika_syntax.specs.declared.operator.UnaryOperator.TheVariants as una
 use Rattle.koika_syntax.specs.declared.tree.Suffix.{Suffix}
 use Rattle.koika_syntax.specs.declared.tree.Suffix.TheVariants as suffixes
 use Rattle.koika_syntax.specs.declared.tree.Prefix.{Prefix}
-use Rattle.koika_parse.specs.Expected.{One, Part, Then, first, Behind, Takes, InVector, Same}
+use Rattle.koika_parse.specs.Expected.{One, Part, Then, first, Behind, Takes, InVector}
 use Rattle.koika_parse.specs.ExpressionWords.{holds, Free, LevelWord, OperandsWord, OperatorWord, SomeOperandsWord, IsAtOperator, PrefixWord, PrefixesWord, SuffixesWord, IsAtPrefix, IsAtSuffix, no_prefix}
 use Rattle.koika_parse.specs.Parts.{IsOperandIn}
 use Rattle.koika_parse.specs.Reading.{next, tokens_left}
 use Rattle.koika_parse.specs.declared.cursor.Cursor.{Cursor}
 use Rattle.koika_parse.specs.declared.source.Source.{Source}
 use Rattle.koika_parse.specs.declared.stop.Stop.TheVariants as stops
-use Rattle.koika_parse.proofs.Expected.{Empty, Apart, Goes, start, starts, goes_as, narrow, narrow_part, refused, same_of_some, kind_of, Has, Within, begin, like_one, like_part, like_then, made, room_at, same_of, some_one, some_then, step}
+use Rattle.koika_parse.proofs.Expected.{Empty, Apart, Goes, start, starts, goes_as, narrow, narrow_part, refused, same_of_some, kind_of, Has, Kept, Within, begin, has_within, kept, like_one, like_part, like_then, made, made_at, place_one, room_at, same_of, some_one, some_then, step}
 use Rattle.koika_parse.proofs.Rows.{Rows, the_first, the_second, rows_cases, rows_made, rows_none, first_one, rows_split}
 use Rattle.koika_parse.proofs.Words.{sign_word}
 use Rattle.koika_parse.proofs.ExpressionWords.{OperandWord, PrimaryWord, primary_word, chain_split, unary_split, postfix_split, operand_word}
@@ -135,7 +135,7 @@ level_begins (suc n) k same low u word = split (chain_split k low (omega (arith,
 pub chain_begins : (k : ℕ) → 0 < k → k ≤ 10 → (u : List Leaf) → LevelWord k u → Begins 1 u
 chain_begins k low high u word = level_begins (10 - k) k (omega (arith, high)) low u word
 
-holds_operator : (operator : BinaryOperator) → holds (binary_symbol operator) ≡ Some (level_of operator)
+pub holds_operator : (operator : BinaryOperator) → holds (binary_symbol operator) ≡ Some (level_of operator)
 holds_operator binary.Or = refl
 holds_operator binary.Xor = refl
 holds_operator binary.And = refl
@@ -175,7 +175,7 @@ free_more k l less (Some (number n)) free = tt
 free_more k l less (Some (literal bits)) free = tt
 
 -- an operand begins with its operator
-operand_first : (k : ℕ) (r v : List Leaf) → Part (IsOperandIn k) operand_leaves r → (operator : BinaryOperator) × (level_of operator ≡ k) × (first (r ++ v) ≡ Some (symbol (binary_symbol operator)))
+pub operand_first : (k : ℕ) (r v : List Leaf) → Part (IsOperandIn k) operand_leaves r → (operator : BinaryOperator) × (level_of operator ≡ k) × (first (r ++ v) ≡ Some (symbol (binary_symbol operator)))
 operand_first k r v part =
     let word = operand_word k part.0 part.1 in
     (word.2.0, word.2.1, ap (λ l. first (l ++ v)) (part.2 ∙ word.4 ∙ ap (λ l. l ++ word.1) word.2.2.2) ∙ ap Some word.2.2.1)
@@ -196,9 +196,9 @@ operands_cases n k r word = subst (λ r. Empty r ⊎ Then (Part (IsOperandIn k) 
         inr (operand_leaves x, flat_map operand_leaves xs, (x, All-head (IsOperandIn k) x xs all.0, refl), (xs, (All-tail (IsOperandIn k) x xs all.0, omega (arith, all.1)), refl), refl)
 
 operands_within : (n k : ℕ) → InVector n → Within (λ r. Empty r ⊎ Then (Part (IsOperandIn k) operand_leaves) (OperandsWord (n + 1) k) r) (OperandsWord n k)
-operands_within n k fits q (inl empty) = ([], ([], (All-nil (IsOperandIn k), omega (arith, fits)), refl), same_of (sym empty))
+operands_within n k fits q (inl empty) = kept q [] ([], (All-nil (IsOperandIn k), omega (arith, fits)), refl) (same_of (sym empty))
 operands_within n k fits q (inr both) =
-    (q, (both.2.0 ∷ both.3.0, (All-cons (IsOperandIn k) both.2.0 both.3.0 both.2.1 both.3.1.0, omega (arith, both.3.1.1)), both.4 ∙ ap (λ l. l ++ both.1) both.2.2 ∙ ap (λ l. operand_leaves both.2.0 ++ l) both.3.2), refl)
+    kept q q (both.2.0 ∷ both.3.0, (All-cons (IsOperandIn k) both.2.0 both.3.0 both.2.1 both.3.1.0, omega (arith, both.3.1.1)), both.4 ∙ ap (λ l. l ++ both.1) both.2.2 ∙ ap (λ l. operand_leaves both.2.0 ++ l) both.3.2) (same_of refl)
 
 abbrev no_operands : (n k : ℕ) → InVector n → Has (OperandsWord n k)
 no_operands n k fits = ([], ([], (All-nil (IsOperandIn k), omega (arith, fits)), refl))
@@ -244,10 +244,7 @@ some_operand_word : (k : ℕ) → 0 < k → k ≤ 9 → Has (OperandWord k)
 some_operand_word k low high = some_then (some_operator k low high) (some_level (k + 1) (omega (arith, high)))
 
 some_operand : (k : ℕ) → 0 < k → k ≤ 9 → Has (Part (IsOperandIn k) operand_leaves)
-some_operand k low high =
-    let word = some_operand_word k low high in
-    let found = operand_within k word.0 word.1 in
-    (found.0, found.1)
+some_operand k low high = has_within (operand_within k) (some_operand_word k low high)
 
 -- at an operator of the level, one operand more; elsewhere none
 pub operands_at : {source : Source} {old new : Cursor} {Word : List Leaf → Type 0} (k : ℕ) → 0 < k → k ≤ 9 → IsAtOperator source new k → (go : OperandsGo source old new k Word) →
@@ -300,7 +297,7 @@ operator_start k low high = begin (OperatorWord k) (some_operator k low high)
 pub operator_at : {source : Source} {cursor : Cursor} {Follow : Option Terminal → Type 0} (k : ℕ) → 0 < k → k ≤ 9 → (operator : BinaryOperator) → level_of operator ≡ k → next source cursor ≡ Some (symbol (binary_symbol operator)) →
     Goes source cursor cursor (OperatorWord k) Follow (One (symbol (binary_symbol operator)))
 operator_at k low high operator level at =
-    narrow (operator_start k low high) (λ r v word behind same. (word.2.0, same_of_some (sym (ap (λ l. first (l ++ v)) word.2.2) ∙ same ∙ at), word.2.2)) (some_one (symbol (binary_symbol operator))) (λ q one. (q, (operator, level, one), refl))
+    narrow (operator_start k low high) (λ r v word behind same. (word.2.0, same_of_some (sym (ap (λ l. first (l ++ v)) word.2.2) ∙ same ∙ at), word.2.2)) (some_one (symbol (binary_symbol operator))) (λ q one. kept q q (operator, level, one) (same_of refl))
 
 pub operator_refused : {Y : Type 0} {source : Source} {cursor : Cursor} {Follow : Option Terminal → Type 0} (k : ℕ) → 0 < k → k ≤ 9 → (IsAtOperator source cursor k → ⊥) → Takes {X = Y} source cursor cursor (OperatorWord k) Follow (Err stops.Unexpected)
 operator_refused k low high other = refused (operator_start k low high) (λ r v word behind same. other (word.0, word.1, sym same ∙ ap (λ l. first (l ++ v)) word.2.2 ∙ ap Some word.2.1))
@@ -368,7 +365,7 @@ prefix_start = begin PrefixWord some_prefix
 
 pub prefix_at_sign : {source : Source} {cursor : Cursor} {Follow : Option Terminal → Type 0} (operator : UnaryOperator) → next source cursor ≡ Some (symbol (unary_symbol operator)) → Goes source cursor cursor PrefixWord Follow (One (symbol (unary_symbol operator)))
 prefix_at_sign operator at = narrow prefix_start (λ r v word behind same. (record { terminal = symbol (unary_symbol word.0.operator); place = Some word.0.place }, same_of_some (sym (ap (λ l. first (l ++ v)) word.2) ∙ same ∙ at), word.2))
-    (some_one (symbol (unary_symbol operator))) (λ q one. made q (like_one (Some 0) one) (record { operator = operator; place = 0 }) tt refl)
+    (some_one (symbol (unary_symbol operator))) (λ q one. made_at q (λ place. place_one place one) (λ place. record { operator = operator; place = place }) (λ place. tt) (λ place. refl))
 
 pub prefix_refused : {Y : Type 0} {source : Source} {cursor : Cursor} {Follow : Option Terminal → Type 0} → (IsAtPrefix source cursor → ⊥) → Takes {X = Y} source cursor cursor PrefixWord Follow (Err stops.Unexpected)
 prefix_refused other = refused prefix_start (λ r v word behind same. other (word.0.operator, sym same ∙ ap (λ l. first (l ++ v)) word.2))
@@ -439,10 +436,10 @@ IndexWord = Then (One (symbol symbols.LeftBracket)) (Then (Part IsNumber number_
 index_within : Within IndexWord (Part IsSuffix suffix_leaves)
 index_within q both = of both.3.3
   where
-    of : AfterNumber both.3.1 → (r : List Leaf) × Part IsSuffix suffix_leaves r × Same r q
-    of (inl close) = made q (like_then both (like_one None both.2) (like_then both.3 (like_part both.3.2) (like_one None close))) (suffixes.Index both.3.2.0) both.3.2.1 refl
+    of : AfterNumber both.3.1 → Kept (Part IsSuffix suffix_leaves) q
+    of (inl close) = made q (like_then both (like_one both.2) (like_then both.3 (like_part both.3.2) (like_one close))) (suffixes.Index both.3.2.0) both.3.2.1 refl
     of (inr slice) =
-        made q (like_then both (like_one None both.2) (like_then both.3 (like_part both.3.2) (like_then slice (like_one None slice.2) (like_then slice.3 (like_part slice.3.2) (like_one None slice.3.3)))))
+        made q (like_then both (like_one both.2) (like_then both.3 (like_part both.3.2) (like_then slice (like_one slice.2) (like_then slice.3 (like_part slice.3.2) (like_one slice.3.3)))))
         (suffixes.Slice both.3.2.0 slice.3.2.0) (both.3.2.1, slice.3.2.1) refl
 
 some_index : Has IndexWord
@@ -450,7 +447,7 @@ some_index = let close = some_one (symbol symbols.RightBracket) in some_then (so
 
 pub suffix_dot : {source : Source} {cursor : Cursor} {Follow : Option Terminal → Type 0} → next source cursor ≡ Some (symbol symbols.Dot) → Goes source cursor cursor (Part IsSuffix suffix_leaves) Follow (Then (One (symbol symbols.Dot)) (Part IsName name_leaves))
 suffix_dot {source} {cursor} dot = narrow_part (Then (One (symbol symbols.Dot)) (Part IsName name_leaves)) (λ x is v at. of x is v (at ∙ dot)) (some_then (some_one (symbol symbols.Dot)) some_name)
-    (λ q both. made q (like_then both (like_one None both.2) (like_part both.3)) (suffixes.Field both.3.0) both.3.1 refl)
+    (λ q both. made q (like_then both (like_one both.2) (like_part both.3)) (suffixes.Field both.3.0) both.3.1 refl)
   where
     of : (x : Suffix) → IsSuffix x → (v : List Leaf) → first (suffix_leaves x ++ v) ≡ Some (symbol symbols.Dot) → Then (One (symbol symbols.Dot)) (Part IsName name_leaves) (suffix_leaves x)
     of (suffixes.Field n) is v at = (sign symbols.Dot, name_leaves n, sign_word symbols.Dot, (n, is, refl), refl)

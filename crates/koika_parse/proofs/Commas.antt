@@ -1,5 +1,5 @@
 -- Parts with commas between them, part by part.
-use Rattle.std.proofs.Common.{◌≡◌, ℕ, ◌+◌, ◌<◌, ◌≤◌, ◌^◌, Option, None, Some, false, List, [], ◌∷◌, ◌++◌, length, map, refl, sym, ap, ◌∙◌, subst, arith, lit<, Ok}
+use Rattle.std.proofs.Common.{◌≡◌, ℕ, ◌+◌, ◌<◌, ◌≤◌, ◌^◌, Option, Some, false, List, [], ◌∷◌, ◌++◌, length, map, refl, sym, ap, ◌∙◌, subst, arith, lit<, Ok}
 use Rattle.std.specs.List.{All}
 use Rattle.std.proofs.lemmas.List.Elements.{All-head, All-tail, All-cons, All-nil}
 use Rattle.koika_syntax.specs.Grammar.{IsNonempty}
@@ -10,7 +10,7 @@ use Rattle.koika_parse.specs.Reading.{Reads, next}
 use Rattle.koika_parse.specs.declared.cursor.Cursor.{Cursor}
 use Rattle.koika_parse.specs.declared.source.Source.{Source}
 use Rattle.koika_parse.proofs.Reading.{shorter}
-use Rattle.koika_parse.proofs.Expected.{Empty, Apart, Goes, Has, Within, starts, step, next_part, narrow, room_at, same_of, same_then, same_one, same_part, some_one, some_then}
+use Rattle.koika_parse.proofs.Expected.{Empty, Apart, Goes, Has, Within, has_within, kept, starts, step, next_part, narrow, room_at, same_of, same_then, same_one, same_part, some_one, some_then}
 
 -- parts, each with a comma in front of it, where there is room for so many more behind others
 abbrev pub More : {X : Type 0} → (ℕ → Type 0) → ℕ → (X → Type 0) → (X → List Leaf) → List Leaf → Type 0
@@ -47,20 +47,16 @@ commas_made : {X : Type 0} (Room : ℕ → Type 0) (Is : X → Type 0) (leaves :
 unfolding joined
 commas_made Room Is leaves q both =
     let x = both.2.0 in
-    let xs = both.3.0 in (
-      commas (map leaves (x ∷ xs)),
-      (x ∷ xs, (omega arith, All-cons Is x xs both.2.1 both.3.1.0, subst Room (omega arith) both.3.1.1), refl),
-      same_then (leaves x) (each_after (sign symbols.Comma) (map leaves xs)) both (same_part both.2) (same_part both.3),
-    )
+    let xs = both.3.0 in
+    kept q (commas (map leaves (x ∷ xs))) (x ∷ xs, (omega arith, All-cons Is x xs both.2.1 both.3.1.0, subst Room (omega arith) both.3.1.1), refl)
+    (same_then (leaves x) (each_after (sign symbols.Comma) (map leaves xs)) both (same_part both.2) (same_part both.3))
 
 abbrev no_more : {X : Type 0} (Room : ℕ → Type 0) (n : ℕ) (Is : X → Type 0) (leaves : X → List Leaf) → Room n → Has (More Room n Is leaves)
 no_more Room n Is leaves room = ([], ([], (All-nil Is, subst Room (omega arith) room), refl))
 
 pub some_commas : {X : Type 0} {Room : ℕ → Type 0} {Is : X → Type 0} {leaves : X → List Leaf} → Listed Room Is leaves → Has (Commas Room Is leaves)
 some_commas {X} {Room} {Is} {leaves} listed =
-    let both = some_then listed.some (no_more Room 1 Is leaves (listed.roomy 1 (lit< tt))) in
-    let found = commas_made Room Is leaves both.0 both.1 in
-    (found.0, found.1)
+    has_within (commas_made Room Is leaves) (some_then listed.some (no_more Room 1 Is leaves (listed.roomy 1 (lit< tt))))
 
 -- before the first part
 pub commas_start : {X : Type 0} {source : Source} {cursor : Cursor} {Follow : Option Terminal → Type 0} {Room : ℕ → Type 0} {Is : X → Type 0} {leaves : X → List Leaf} → Listed Room Is leaves →
@@ -89,11 +85,9 @@ comma_made : {X : Type 0} (Room : ℕ → Type 0) (n : ℕ) (Is : X → Type 0) 
 comma_made Room n Is leaves q both =
     let x = both.3.2.0 in
     let xs = both.3.3.0 in
-    let rest = each_after (sign symbols.Comma) (map leaves xs) in (
-      each_after (sign symbols.Comma) (map leaves (x ∷ xs)),
-      (x ∷ xs, (All-cons Is x xs both.3.2.1 both.3.3.1.0, subst Room (omega arith) both.3.3.1.1), refl),
-      same_then (sign symbols.Comma) (leaves x ++ rest) both (same_one None both.2) (same_then (leaves x) rest both.3 (same_part both.3.2) (same_part both.3.3)),
-    )
+    let rest = each_after (sign symbols.Comma) (map leaves xs) in
+    kept q (each_after (sign symbols.Comma) (map leaves (x ∷ xs))) (x ∷ xs, (All-cons Is x xs both.3.2.1 both.3.3.1.0, subst Room (omega arith) both.3.3.1.1), refl)
+    (same_then (sign symbols.Comma) (leaves x ++ rest) both (same_one both.2) (same_then (leaves x) rest both.3 (same_part both.3.2) (same_part both.3.3)))
 
 pub commas_at : {X : Type 0} {source : Source} {old new : Cursor} {Follow : Option Terminal → Type 0} {Room : ℕ → Type 0} {Is : X → Type 0} {leaves : X → List Leaf} → Listed Room Is leaves →
     next source new ≡ Some (symbol symbols.Comma) → (go : CommasGo source old new Follow Room Is leaves) →
@@ -131,7 +125,7 @@ pub commas_end : {X : Type 0} {source : Source} {old new : Cursor} {Follow : Opt
     (next source new ≡ Some (symbol symbols.Comma) → ⊥) → CommasGo source old new Follow Room Is leaves → Goes source old new (Commas Room Is leaves) (NoComma Follow) Empty
 commas_end {X} {source} {old} {new} {Follow} {Room} {Is} {leaves} listed other go = narrow go.goes
     (λ r v more behind next_is. more.2 ∙ none more.0 v (ap (λ l. first (l ++ v)) (sym more.2) ∙ next_is)) ([], refl)
-    (λ q empty. ((no_more Room go.count Is leaves room).0, (no_more Room go.count Is leaves room).1, same_of (sym empty)))
+    (λ q empty. kept q (no_more Room go.count Is leaves room).0 (no_more Room go.count Is leaves room).1 (same_of (sym empty)))
   where
     room : Room go.count
     room = listed.roomy go.count go.fits

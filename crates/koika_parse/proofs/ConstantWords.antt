@@ -1,11 +1,11 @@
 -- The words of constants.
-use Rattle.std.proofs.Common.{◌≡◌, Option, None, Some, List, [], ◌∷◌, ◌++◌, length, map, inl, inr, refl, ap, sym, subst, ◌∙◌, Vec, Global, arith}
+use Rattle.std.proofs.Common.{◌≡◌, Option, Some, List, [], ◌∷◌, ◌++◌, length, map, inl, inr, refl, ap, sym, subst, ◌∙◌, Vec, Global, arith}
 use Rattle.std.specs.List.{All}
 use lib.ListN.{length-map}
 use Rattle.koika_syntax.specs.Grammar.{IsName, IsLiteral, constant_leaves, IsConstant, IsConstantLayer, IsConstantFieldLayer, constant_step, constant_field_step, constant_field_leaves}
 use Rattle.koika_syntax.specs.Tree.{Leaf, Terminal, symbol, name_leaves, literal_leaves, sign, placed, commas}
 use Rattle.koika_syntax.specs.declared.symbol.Symbol.TheVariants as symbols
-use Rattle.koika_parse.specs.Expected.{Commas, InVector, One, Part, Same, Then, first}
+use Rattle.koika_parse.specs.Expected.{Commas, InVector, One, Part, Then, first}
 use Rattle.koika_parse.specs.Words.{ConstantArrayWord, ConstantColonsWord, NamedConstantWord}
 use Rattle.koika_parse.specs.Reading.{kind_at, next}
 use Rattle.koika_parse.specs.declared.cursor.Cursor.{Cursor}
@@ -16,7 +16,7 @@ use Rattle.koika_parse.proofs.Parts.{is_constant_array, is_constant_field, is_co
 use Rattle.koika_parse.proofs.Calls.{leaves_constant_field, leaves_constant_literal, leaves_constant_member}
 use Rattle.std.specs.Option.{option_map}
 use Rattle.koika_syntax.specs.declared.token.TokenKind.TheVariants as kinds
-use Rattle.koika_parse.proofs.Expected.{Goes, Has, Within, begin, starts, narrow_part, like_one, like_part, like_then, made, some_one, some_then, kind_of_next, kind_of, sign_or_name, literal_or_sign, name_or_sign, literal_or_name}
+use Rattle.koika_parse.proofs.Expected.{Goes, Has, Kept, Within, begin, has_within, starts, narrow_part, like_one, like_part, like_then, made, made_at, place_one, place_then, then_place, some_one, some_then, kind_of_next, kind_of, sign_or_name, literal_or_sign, name_or_sign, literal_or_name}
 use Rattle.std.proofs.lemmas.List.Elements.{All-cons, All-nil}
 use Rattle.koika_syntax.specs.declared.tree.Constant.{Constant, Constant-F, map-Constant, out-Constant, every_held-Constant, every_here-Constant, fold_out-Constant}
 use Rattle.koika_syntax.specs.declared.tree.Constant.TheOpen as constant
@@ -112,7 +112,7 @@ constant_field_word t is =
 
 constant_field_within : Within ConstantFieldWord (Part IsConstantField constant_field_leaves)
 constant_field_within q both =
-    made q (like_then both (like_part both.2) (like_then both.3 (like_one None both.3.2) (like_part both.3.3))) (roll-ConstantField (record { name = both.2.0; value = both.3.3.0 }))
+    made q (like_then both (like_part both.2) (like_then both.3 (like_one both.3.2) (like_part both.3.3))) (roll-ConstantField (record { name = both.2.0; value = both.3.3.0 }))
     (is_constant_field both.2.0 both.3.3.0 both.2.1 both.3.3.1) (leaves_constant_field both.2.0 both.3.3.0)
 
 some_constant_field_word : Has ConstantFieldWord
@@ -125,7 +125,7 @@ pub constants_listed : Listed InVector IsConstant constant_leaves
 constants_listed = in_vector some_constant
 
 pub constant_fields_listed : Listed InVector IsConstantField constant_field_leaves
-constant_fields_listed = let found = constant_field_within some_constant_field_word.0 some_constant_field_word.1 in in_vector (found.0, found.1)
+constant_fields_listed = in_vector (has_within constant_field_within some_constant_field_word)
 
 -- what stands behind `::` of a constant, and what is a constant
 abbrev pub FieldsTail : List Leaf → Type 0
@@ -143,14 +143,14 @@ named_constant_start = begin NamedConstantWord some_named_constant
 named_constant_within : Within NamedConstantWord (Part IsConstant constant_leaves)
 named_constant_within q both = of both.3.3
   where
-    of : ConstantColonsWord both.3.1 → (r : List Leaf) × Part IsConstant constant_leaves r × Same r q
+    of : ConstantColonsWord both.3.1 → Kept (Part IsConstant constant_leaves) q
     of (inl member) =
-        made q (like_then both (like_part both.2) (like_then both.3 (like_one None both.3.2) (like_part member))) (constant_views.made-Member both.2.0 member.0)
+        made q (like_then both (like_part both.2) (like_then both.3 (like_one both.3.2) (like_part member))) (constant_views.made-Member both.2.0 member.0)
         (is_constant_member both.2.0 member.0 (both.2.1, member.1)) (leaves_constant_member both.2.0 member.0)
     of (inr tail) =
         let fields = vector tail.3.2.0 tail.3.2.1.2 in
-        made q (like_then both (like_part both.2) (like_then both.3 (like_one None both.3.2) (like_then tail (like_one None tail.2) (like_then tail.3 (like_part tail.3.2) (like_one (Some 0) tail.3.3)))))
-        (constant_views.Struct both.2.0 fields 0) (is_constant_struct both.2.0 fields 0 tail.3.2.1.1 (both.2.1, tail.3.2.1.0)) (struct_constant both.2.0 fields 0)
+        made_at q (λ place. then_place both (like_part both.2) (then_place both.3 (like_one both.3.2) (then_place tail (like_one tail.2) (then_place tail.3 (like_part tail.3.2) (place_one place tail.3.3)))))
+        (λ place. constant_views.Struct both.2.0 fields place) (λ place. is_constant_struct both.2.0 fields place tail.3.2.1.1 (both.2.1, tail.3.2.1.0)) (λ place. struct_constant both.2.0 fields place)
 
 some_constant_array : Has ConstantArrayWord
 some_constant_array = some_then (some_one (symbol symbols.LeftBracket)) (some_then (some_commas constants_listed) (some_one (symbol symbols.RightBracket)))
@@ -161,8 +161,8 @@ constant_array_start = begin ConstantArrayWord some_constant_array
 constant_array_within : Within ConstantArrayWord (Part IsConstant constant_leaves)
 constant_array_within q both =
     let elements = vector both.3.2.0 both.3.2.1.2 in
-    made q (like_then both (like_one (Some 0) both.2) (like_then both.3 (like_part both.3.2) (like_one None both.3.3))) (constant_views.Array 0 elements)
-    (is_constant_array 0 elements both.3.2.1.1 both.3.2.1.0) (array_constant 0 elements)
+    made_at q (λ place. place_then place both (like_then both.3 (like_part both.3.2) (like_one both.3.3))) (λ place. constant_views.Array place elements)
+    (λ place. is_constant_array place elements both.3.2.1.1 both.3.2.1.0) (λ place. array_constant place elements)
 
 literal_constant_within : Within (Part IsLiteral literal_leaves) (Part IsConstant constant_leaves)
 literal_constant_within q part = made q (like_part part) (constant_views.made-Literal part.0) (is_constant_literal part.0 part.1) (leaves_constant_literal part.0)

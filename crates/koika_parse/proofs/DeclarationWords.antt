@@ -25,16 +25,16 @@ use Rattle.koika_parse.specs.Words.{ParametersWord, ResultWord, DeclarationWord,
 use Rattle.koika_parse.specs.declared.cursor.Cursor.{Cursor}
 use Rattle.koika_parse.specs.declared.source.Source.{Source}
 use Rattle.koika_parse.specs.declared.stop.Stop.TheVariants as stops
-use Rattle.koika_parse.proofs.Expected.{Empty, Goes, start, starts, goes_as, narrow_part, refused, same_of_some, never_none, kind_is, sign_or_name, Has, Within, begin, like_one, like_part, like_then, made, same_of, some_one, some_then}
+use Rattle.koika_parse.proofs.Expected.{Empty, Goes, start, starts, goes_as, narrow_part, refused, same_of_some, never_none, kind_is, sign_or_name, Has, Within, begin, has_within, kept, like_one, like_part, like_then, made, made_at, place_then, same_of, some_one, some_then, then_place}
 use Rattle.koika_parse.proofs.Rows.{the_first, the_second, rows_none, rows_split}
 use Rattle.koika_parse.proofs.Words.{sign_word, word_word, placed_word, assoc2, assoc3, assoc4, some_field, some_member}
 use Rattle.koika_parse.proofs.PrimaryWords.{no_commas}
 
 -- a declaration has the words of the keyword that it begins with
-abbrev Headed : Declaration → Type 0
+abbrev pub Headed : Declaration → Type 0
 Headed d = (k : Keyword) × DeclarationWord k (declaration_leaves d) × ((v : List Leaf) → first (declaration_leaves d ++ v) ≡ Some (keyword k))
 
-declaration_word : (d : Declaration) → IsDeclaration d → Headed d
+pub declaration_word : (d : Declaration) → IsDeclaration d → Headed d
 declaration_word (declarations.Enum n width members) is = (keywords.Enum, (word keywords.Enum ++ name_leaves n, sign symbols.Colon ++ width_leaves width ++ sign symbols.LeftBrace ++ commas (map member_leaves members) ++ sign symbols.RightBrace, (word keywords.Enum, name_leaves n, word_word keywords.Enum, (n, is.0, refl), refl), (sign symbols.Colon, width_leaves width ++ sign symbols.LeftBrace ++ commas (map member_leaves members) ++ sign symbols.RightBrace, sign_word symbols.Colon, (width_leaves width, sign symbols.LeftBrace ++ commas (map member_leaves members) ++ sign symbols.RightBrace, (width, is.1, refl), (sign symbols.LeftBrace, commas (map member_leaves members) ++ sign symbols.RightBrace, sign_word symbols.LeftBrace, (commas (map member_leaves members), sign symbols.RightBrace, (members, (is.2, is.3, tt), refl), sign_word symbols.RightBrace, refl), refl), refl), refl), refl), λ v. refl)
 declaration_word (declarations.Struct n fields) is = (keywords.Struct, (word keywords.Struct ++ name_leaves n, sign symbols.LeftBrace ++ commas (map field_leaves fields) ++ sign symbols.RightBrace, (word keywords.Struct, name_leaves n, word_word keywords.Struct, (n, is.0, refl), refl), (sign symbols.LeftBrace, commas (map field_leaves fields) ++ sign symbols.RightBrace, sign_word symbols.LeftBrace, (commas (map field_leaves fields), sign symbols.RightBrace, (fields, (is.1, is.2, tt), refl), sign_word symbols.RightBrace, refl), refl), refl), λ v. refl)
 declaration_word (declarations.Register n of first) is = (keywords.Reg, (word keywords.Reg ++ name_leaves n, sign symbols.Colon ++ type_leaves of ++ sign symbols.Equals ++ constant_leaves first ++ sign symbols.Semicolon, (word keywords.Reg, name_leaves n, word_word keywords.Reg, (n, is.0, refl), refl), (sign symbols.Colon, type_leaves of ++ sign symbols.Equals ++ constant_leaves first ++ sign symbols.Semicolon, sign_word symbols.Colon, (type_leaves of, sign symbols.Equals ++ constant_leaves first ++ sign symbols.Semicolon, (of, is.1, refl), (sign symbols.Equals, constant_leaves first ++ sign symbols.Semicolon, sign_word symbols.Equals, (constant_leaves first, sign symbols.Semicolon, (first, is.2, refl), sign_word symbols.Semicolon, refl), refl), assoc3 (type_leaves of) (sign symbols.Equals) (constant_leaves first) (sign symbols.Semicolon)), refl), refl), λ v. refl)
@@ -77,7 +77,7 @@ some_enum = some_then (some_then (some_one (keyword keywords.Enum)) some_name) (
 
 pub enum_within : DeclaredAs EnumWord
 enum_within q both =
-    made q (like_then both (like_then both.2 (like_one None both.2.2) (like_part both.2.3)) (like_then both.3 (like_one None both.3.2) (like_then both.3.3 (like_part both.3.3.2) (like_then both.3.3.3 (like_one None both.3.3.3.2) (like_then both.3.3.3.3 (like_part both.3.3.3.3.2) (like_one None both.3.3.3.3.3))))))
+    made q (like_then both (like_then both.2 (like_one both.2.2) (like_part both.2.3)) (like_then both.3 (like_one both.3.2) (like_then both.3.3 (like_part both.3.3.2) (like_then both.3.3.3 (like_one both.3.3.3.2) (like_then both.3.3.3.3 (like_part both.3.3.3.3.2) (like_one both.3.3.3.3.3))))))
     (declarations.Enum both.2.3.0 both.3.3.2.0 both.3.3.3.3.2.0) (both.2.3.1, both.3.3.2.1, both.3.3.3.3.2.1.0, both.3.3.3.3.2.1.1)
     (refl)
 
@@ -86,7 +86,7 @@ some_struct = some_then (some_then (some_one (keyword keywords.Struct)) some_nam
 
 pub struct_within : DeclaredAs StructWord
 struct_within q both =
-    made q (like_then both (like_then both.2 (like_one None both.2.2) (like_part both.2.3)) (like_then both.3 (like_one None both.3.2) (like_then both.3.3 (like_part both.3.3.2) (like_one None both.3.3.3))))
+    made q (like_then both (like_then both.2 (like_one both.2.2) (like_part both.2.3)) (like_then both.3 (like_one both.3.2) (like_then both.3.3 (like_part both.3.3.2) (like_one both.3.3.3))))
     (declarations.Struct both.2.3.0 both.3.3.2.0) (both.2.3.1, both.3.3.2.1.0, both.3.3.2.1.1)
     (refl)
 
@@ -95,7 +95,7 @@ some_register = some_then (some_then (some_one (keyword keywords.Reg)) some_name
 
 pub register_within : DeclaredAs RegisterWord
 register_within q both =
-    made q (like_then both (like_then both.2 (like_one None both.2.2) (like_part both.2.3)) (like_then both.3 (like_one None both.3.2) (like_then both.3.3 (like_part both.3.3.2) (like_then both.3.3.3 (like_one None both.3.3.3.2) (like_then both.3.3.3.3 (like_part both.3.3.3.3.2) (like_one None both.3.3.3.3.3))))))
+    made q (like_then both (like_then both.2 (like_one both.2.2) (like_part both.2.3)) (like_then both.3 (like_one both.3.2) (like_then both.3.3 (like_part both.3.3.2) (like_then both.3.3.3 (like_one both.3.3.3.2) (like_then both.3.3.3.3 (like_part both.3.3.3.3.2) (like_one both.3.3.3.3.3))))))
     (declarations.Register both.2.3.0 both.3.3.2.0 both.3.3.3.3.2.0) (both.2.3.1, both.3.3.2.1, both.3.3.3.3.2.1)
     (ap (λ t. word keywords.Reg ++ (name_leaves both.2.3.0 ++ (sign symbols.Colon ++ t))) (assoc3 (type_leaves both.3.3.2.0) (sign symbols.Equals) (constant_leaves both.3.3.3.3.2.0) (sign symbols.Semicolon)))
 
@@ -104,7 +104,7 @@ some_input = some_then (some_then (some_one (keyword keywords.Input)) some_name)
 
 pub input_within : DeclaredAs InputWord
 input_within q both =
-    made q (like_then both (like_then both.2 (like_one None both.2.2) (like_part both.2.3)) (like_then both.3 (like_one None both.3.2) (like_then both.3.3 (like_part both.3.3.2) (like_one None both.3.3.3))))
+    made q (like_then both (like_then both.2 (like_one both.2.2) (like_part both.2.3)) (like_then both.3 (like_one both.3.2) (like_then both.3.3 (like_part both.3.3.2) (like_one both.3.3.3))))
     (declarations.Input both.2.3.0 both.3.3.2.0) (both.2.3.1, both.3.3.2.1)
     (refl)
 
@@ -113,7 +113,7 @@ some_table = some_then (some_then (some_one (keyword keywords.Table)) some_name)
 
 pub table_within : DeclaredAs TableWord
 table_within q both =
-    made q (like_then both (like_then both.2 (like_one None both.2.2) (like_part both.2.3)) (like_then both.3 (like_one None both.3.2) (like_then both.3.3 (like_part both.3.3.2) (like_then both.3.3.3 (like_one None both.3.3.3.2) (like_then both.3.3.3.3 (like_part both.3.3.3.3.2) (like_then both.3.3.3.3.3 (like_one None both.3.3.3.3.3.2) (like_then both.3.3.3.3.3.3 (like_part both.3.3.3.3.3.3.2) (like_one None both.3.3.3.3.3.3.3))))))))
+    made q (like_then both (like_then both.2 (like_one both.2.2) (like_part both.2.3)) (like_then both.3 (like_one both.3.2) (like_then both.3.3 (like_part both.3.3.2) (like_then both.3.3.3 (like_one both.3.3.3.2) (like_then both.3.3.3.3 (like_part both.3.3.3.3.2) (like_then both.3.3.3.3.3 (like_one both.3.3.3.3.3.2) (like_then both.3.3.3.3.3.3 (like_part both.3.3.3.3.3.3.2) (like_one both.3.3.3.3.3.3.3))))))))
     (declarations.Table both.2.3.0 both.3.3.2.0 both.3.3.3.3.2.0 both.3.3.3.3.3.3.2.0) (both.2.3.1, both.3.3.2.1, both.3.3.3.3.2.1, both.3.3.3.3.3.3.2.1.0, both.3.3.3.3.3.3.2.1.1)
     (refl)
 
@@ -122,7 +122,7 @@ some_host = some_then (some_then (some_one (keyword keywords.Host)) some_name) (
 
 pub host_within : DeclaredAs HostWord
 host_within q both =
-    made q (like_then both (like_then both.2 (like_one None both.2.2) (like_part both.2.3)) (like_then both.3 (like_one None both.3.2) (like_then both.3.3 (like_part both.3.3.2) (like_then both.3.3.3 (like_one None both.3.3.3.2) (like_then both.3.3.3.3 (like_part both.3.3.3.3.2) (like_one None both.3.3.3.3.3))))))
+    made q (like_then both (like_then both.2 (like_one both.2.2) (like_part both.2.3)) (like_then both.3 (like_one both.3.2) (like_then both.3.3 (like_part both.3.3.2) (like_then both.3.3.3 (like_one both.3.3.3.2) (like_then both.3.3.3.3 (like_part both.3.3.3.3.2) (like_one both.3.3.3.3.3))))))
     (declarations.Host both.2.3.0 both.3.3.2.0 both.3.3.3.3.2.0) (both.2.3.1, both.3.3.2.1, both.3.3.3.3.2.1)
     (refl)
 
@@ -131,7 +131,7 @@ some_function = some_then (some_then (some_one (keyword keywords.Fun)) some_name
 
 pub function_within : DeclaredAs FunctionWord
 function_within q both =
-    made q (like_then both (like_then both.2 (like_one None both.2.2) (like_part both.2.3)) (like_then both.3 (like_one None both.3.2) (like_then both.3.3 (like_part both.3.3.2) (like_then both.3.3.3 (like_one None both.3.3.3.2) (like_then both.3.3.3.3 (like_one None both.3.3.3.3.2) (like_then both.3.3.3.3.3 (like_part both.3.3.3.3.3.2) (like_part both.3.3.3.3.3.3)))))))
+    made q (like_then both (like_then both.2 (like_one both.2.2) (like_part both.2.3)) (like_then both.3 (like_one both.3.2) (like_then both.3.3 (like_part both.3.3.2) (like_then both.3.3.3 (like_one both.3.3.3.2) (like_then both.3.3.3.3 (like_one both.3.3.3.3.2) (like_then both.3.3.3.3.3 (like_part both.3.3.3.3.3.2) (like_part both.3.3.3.3.3.3)))))))
     (declarations.Function both.2.3.0 both.3.3.2.0 both.3.3.3.3.3.2.0 both.3.3.3.3.3.3.0) (both.2.3.1, both.3.3.2.1, both.3.3.3.3.3.2.1, both.3.3.3.3.3.3.1)
     (ap (λ t. word keywords.Fun ++ (name_leaves both.2.3.0 ++ (sign symbols.LeftParenthesis ++ t))) (assoc4 (commas (map field_leaves both.3.3.2.0)) (sign symbols.RightParenthesis) (sign symbols.Colon) (result_leaves both.3.3.3.3.3.2.0) (block_leaves both.3.3.3.3.3.3.0)))
 
@@ -140,7 +140,7 @@ some_rule = some_then (some_then (some_one (keyword keywords.Rule)) some_name) s
 
 pub rule_within : DeclaredAs RuleWord
 rule_within q both =
-    made q (like_then both (like_then both.2 (like_one None both.2.2) (like_part both.2.3)) (like_part both.3))
+    made q (like_then both (like_then both.2 (like_one both.2.2) (like_part both.2.3)) (like_part both.3))
     (declarations.Rule both.2.3.0 both.3.0) (both.2.3.1, both.3.1)
     (refl)
 
@@ -149,7 +149,7 @@ some_assert = some_then (some_then (some_one (keyword keywords.Assert)) some_nam
 
 pub assert_within : DeclaredAs AssertWord
 assert_within q both =
-    made q (like_then both (like_then both.2 (like_one None both.2.2) (like_part both.2.3)) (like_one None both.3))
+    made q (like_then both (like_then both.2 (like_one both.2.2) (like_part both.2.3)) (like_one both.3))
     (declarations.Assert both.2.3.0) both.2.3.1
     (refl)
 
@@ -221,11 +221,17 @@ tree_word t is = (
 
 tree_within : Within TreeWord (Part IsDesign tree_leaves)
 tree_within q both =
-    made q (like_then both (like_part both.2) (like_then both.3 (like_one (Some 0) both.3.2) (like_part both.3.3))) (record { declarations = both.2.0; schedule = 0; scheduler = both.3.3.0 })
-    (record { declarations = both.2.1; scheduler = both.3.3.1 }) (assoc2 (flat_map declaration_leaves both.2.0) (placed (keyword keywords.Schedule) 0) (in_braces (scheduler_leaves both.3.3.0)))
+    made_at q (λ place. then_place both (like_part both.2) (place_then place both.3 (like_part both.3.3))) (λ place. record { declarations = both.2.0; schedule = place; scheduler = both.3.3.0 })
+    (λ place. record { declarations = both.2.1; scheduler = both.3.3.1 }) (λ place. assoc2 (flat_map declaration_leaves both.2.0) (placed (keyword keywords.Schedule) place) (in_braces (scheduler_leaves both.3.3.0)))
+
+some_tree : Has TreeWord
+some_tree = some_then ([], rows_none IsDeclaration declaration_leaves) (some_then (some_one (keyword keywords.Schedule)) some_scheduler)
+
+pub some_design : Has DesignWord
+some_design = has_within tree_within some_tree
 
 pub tree_start : {source : Source} {cursor : Cursor} {Follow : Option Terminal → Type 0} → Goes source cursor cursor DesignWord Follow TreeWord
-tree_start = starts TreeWord tree_word (some_then ([], rows_none IsDeclaration declaration_leaves) (some_then (some_one (keyword keywords.Schedule)) some_scheduler)) tree_within
+tree_start = starts TreeWord tree_word some_tree tree_within
 
 -- a result by the next token
 name_or_unit : {bytes : List ℕ} → Some (name bytes) ≡ Some (keyword keywords.Unit) → ⊥
@@ -243,7 +249,7 @@ type_or_unit (Named n) v at = name_or_unit at
 type_or_unit (Array' place _ element size) v at = bracket_or_unit at
 
 pub result_unit : {source : Source} {cursor : Cursor} {Follow : Option Terminal → Type 0} → next source cursor ≡ Some (keyword keywords.Unit) → Goes source cursor cursor ResultWord Follow (One (keyword keywords.Unit))
-result_unit {source} {cursor} unit = narrow_part (One (keyword keywords.Unit)) (λ x is v at. of x v (at ∙ unit)) (some_one (keyword keywords.Unit)) (λ q one. made q (like_one None one) None tt refl)
+result_unit {source} {cursor} unit = narrow_part (One (keyword keywords.Unit)) (λ x is v at. of x v (at ∙ unit)) (some_one (keyword keywords.Unit)) (λ q one. made q (like_one one) None tt refl)
   where
     of : (x : Option TypeExpression) (v : List Leaf) → first (result_leaves x ++ v) ≡ Some (keyword keywords.Unit) → One (keyword keywords.Unit) (result_leaves x)
     of None v at = word_word keywords.Unit
@@ -265,8 +271,8 @@ parameters_cases r word = subst (λ r. Empty r ⊎ Commas AnyMany IsField field_
     of (x ∷ xs) all = inr (x ∷ xs, (omega arith, all, tt), refl)
 
 parameters_within : Within (λ u. Empty u ⊎ Commas AnyMany IsField field_leaves u) ParametersWord
-parameters_within q (inl empty) = (commas (map field_leaves []), ([], All-nil IsField, refl), same_of (no_commas ∙ sym empty))
-parameters_within q (inr word) = (q, (word.0, word.1.1, word.2), refl)
+parameters_within q (inl empty) = kept q (commas (map field_leaves [])) ([], All-nil IsField, refl) (same_of (no_commas ∙ sym empty))
+parameters_within q (inr word) = kept q q (word.0, word.1.1, word.2) (same_of refl)
 
 parameters_start : {source : Source} {cursor : Cursor} {Follow : Option Terminal → Type 0} → Goes source cursor cursor ParametersWord Follow (λ u. Empty u ⊎ Commas AnyMany IsField field_leaves u)
 parameters_start = start parameters_cases ([], inl refl) parameters_within
@@ -286,7 +292,7 @@ parameters_end {source} {cursor} other = the_first parameters_start (λ r v word
 
 -- nothing is left behind the last part
 pub then_nothing : {source : Source} {old new : Cursor} {Word : List Leaf → Type 0} {Follow : Option Terminal → Type 0} {P : List Leaf → Type 0} → Goes source old new Word Follow P → Goes source old new Word Follow (Then P Empty)
-then_nothing {P = P} goes = goes_as goes (λ r word. (r, [], word, refl, sym (append-nil r))) (some_then goes.some ([], refl)) (λ q both. (both.0, both.2, same_of (sym (both.4 ∙ ap (λ t. both.0 ++ t) both.3 ∙ append-nil both.0))))
+then_nothing {P = P} goes = goes_as goes (λ r word. (r, [], word, refl, sym (append-nil r))) (some_then goes.some ([], refl)) (λ q both. kept q both.0 both.2 (same_of (sym (both.4 ∙ ap (λ t. both.0 ++ t) both.3 ∙ append-nil both.0))))
 
 no_next : (source : Source) (cursor : Cursor) → cursor.at < length source.tokens.now → next source cursor ≡ None → ⊥
 no_next source cursor within none =

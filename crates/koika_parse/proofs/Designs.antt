@@ -13,7 +13,7 @@ use Rattle.koika_syntax.specs.Tree.{Leaf, Terminal, terminal_of}
 use Rattle.koika_syntax.specs.declared.token.Token.{Token}
 use Rattle.koika_syntax.specs.declared.tree.Tree.{Tree}
 use Rattle.koika_parse.specs.Brackets.{AreFewOpen, open_behind, open_behind_all}
-use Rattle.koika_parse.specs.Expected.{AgreesUpTo, first, Ends, Front, Takes}
+use Rattle.koika_parse.specs.Expected.{AgreesUpTo, first, Ends, Front, Spot, StandAt, Takes, spots_of}
 use Rattle.koika_parse.specs.Faults.{BeginsWith, GoesOn, NoneGoesOn, OpensTooMany, place_behind, seen, StandsBetween}
 use Rattle.koika_parse.specs.Laws.{ReadsBack}
 use Rattle.koika_parse.proofs.Unambiguous.{read_again}
@@ -104,25 +104,37 @@ split_of {source} at reads = ap (λ n. drop n source.tokens.now) (sym at) ∙ re
 few_before : {source : Source} {old new : Cursor} (read : List Leaf) → old.depth ≡ 0 → (reads : Reads source old new read) → AreFewOpen 0 (seen source.text.now reads.tokens)
 few_before {source} read depth reads = few_seen source.text.now 0 read reads.tokens reads.each (subst (λ d. AreFewOpen d read) depth (reads.few (omega (arith, depth))))
 
+-- the terminals of leaves are those of the tokens where they stand
+stand_terminals : (leaves : List Leaf) (spots : List Spot) → StandAt leaves spots → map (λ leaf. leaf.terminal) leaves ≡ map (λ spot. spot.terminal) spots
+stand_terminals [] [] stand = refl
+stand_terminals [] (spot ∷ spots) stand = absurd stand
+stand_terminals (leaf ∷ leaves) [] stand = absurd stand
+stand_terminals (leaf ∷ leaves) (spot ∷ spots) stand = (λ i. stand.0.0 i ∷ stand_terminals leaves spots stand.1 i)
+
+terminals_of : (text : List ℕ) (tokens : List Token) → map (λ spot. spot.terminal) (spots_of text tokens) ≡ map (terminal_of text) tokens
+terminals_of text [] = refl
+terminals_of text (token ∷ tokens) = ap (λ t. terminal_of text token ∷ t) (terminals_of text tokens)
+
 -- some design begins with the tokens that were read
-abbrev begun : {source : Source} {old new : Cursor} (rest : List Leaf) (front : Front source old new DesignWord rest) → BeginsWith source.text.now front.reads.tokens front.word.0
+abbrev begun : {source : Source} {old new : Cursor} (rest : List Spot) (front : Front source old new DesignWord rest) → BeginsWith source.text.now front.reads.tokens front.word.0
 begun {source} rest front = record {
   design = front.word.1;
-  rest = map (λ leaf. leaf.terminal) rest;
-  terminals = ap (map (λ leaf. leaf.terminal)) (sym front.word.2) ∙ front.same ∙ map-append (λ leaf. leaf.terminal) front.read rest
-      ∙ ap (λ ts. ts ++ map (λ leaf. leaf.terminal) rest) (zip_terminals source.text.now front.read front.reads.tokens front.reads.each);
+  rest = map (λ spot. spot.terminal) rest;
+  terminals = ap (map (λ leaf. leaf.terminal)) (sym front.word.2) ∙ stand_terminals front.whole (spots_of source.text.now front.reads.tokens ++ rest) front.stands
+      ∙ map-append (λ spot. spot.terminal) (spots_of source.text.now front.reads.tokens) rest
+      ∙ ap (λ ts. ts ++ map (λ spot. spot.terminal) rest) (terminals_of source.text.now front.reads.tokens);
 }
 
 -- and some design goes on with the token that opens a bracket too many
-goes_on : {source : Source} {old new : Cursor} (leaf : Leaf) (rest : List Leaf) (front : Front source old new DesignWord (leaf ∷ rest)) → next source new ≡ Some leaf.terminal → (behind : List Token) → drop new.at source.tokens.now ≡ behind →
+goes_on : {source : Source} {old new : Cursor} (spot : Spot) (rest : List Spot) (front : Front source old new DesignWord (spot ∷ rest)) → next source new ≡ Some spot.terminal → (behind : List Token) → drop new.at source.tokens.now ≡ behind →
     GoesOn source.text.now front.reads.tokens behind
-goes_on {source} {old} {new} leaf rest front at [] ends = never_none (sym (next_is source new [] ends) ∙ at)
-goes_on {source} {old} {new} leaf rest front at (token ∷ behind) ends =
+goes_on {source} {old} {new} spot rest front at [] ends = never_none (sym (next_is source new [] ends) ∙ at)
+goes_on {source} {old} {new} spot rest front at (token ∷ behind) ends =
     let text = source.text.now in
     let before = front.reads.tokens in
-    let more = map (λ (l : Leaf). l.terminal) rest in
-    let same : leaf.terminal ≡ terminal_of text token = same_of_some (sym at ∙ next_is source new (token ∷ behind) ends) in
-    let begins = begun (leaf ∷ rest) front in (
+    let more = map (λ (s : Spot). s.terminal) rest in
+    let same : spot.terminal ≡ terminal_of text token = same_of_some (sym at ∙ next_is source new (token ∷ behind) ends) in
+    let begins = begun (spot ∷ rest) front in (
       front.word.0,
       record {
         design = begins.design;
@@ -147,7 +159,7 @@ stands_between {source} {old} {new} stops.Unexpected fault at depth takes is =
       why = inl (is, none_goes_on at depth takes front.reads.tokens (drop new.at source.tokens.now) split refl);
     }
 stands_between {source} {old} {new} stops.TooDeep fault at depth takes is =
-    let leaf = takes.leads.0 in
+    let spot = takes.leads.0 in
     let rest = takes.leads.1 in
     let front = takes.leads.2 in
     let tokens = front.reads.tokens in
@@ -158,8 +170,8 @@ stands_between {source} {old} {new} stops.TooDeep fault at depth takes is =
       behind = behind;
       split = split_of at front.reads;
       few = few_before front.read depth front.reads;
-      begun = (front.word.0, begun (leaf ∷ rest) front);
-      why = inr (is, opens source new tokens behind leaf.terminal refl depths takes.leads.3 takes.leads.4, goes_on leaf rest front takes.leads.3 behind refl);
+      begun = (front.word.0, begun (spot ∷ rest) front);
+      why = inr (is, opens source new tokens behind spot.terminal refl depths takes.leads.3 takes.leads.4, goes_on spot rest front takes.leads.3 behind refl);
     }
 stands_between {source} {old} {new} stops.NoMemory fault at depth takes is = absurd is
 

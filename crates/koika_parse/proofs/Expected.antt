@@ -1,20 +1,21 @@
 -- From step to step, what is left of a word of a part.
-use Rattle.std.proofs.Common.{◌≡◌, ℕ, zero, suc, ◌+◌, ◌<◌, ◌≤◌, Option, None, Some, Result, Ok, Err, IsErr, IsErrAnd, List, [], ◌∷◌, ◌++◌, drop, length, map, get_or, append_assoc, refl, sym, ap, ◌∙◌, subst, arith}
+use Rattle.std.proofs.Common.{◌≡◌, ℕ, zero, suc, ◌+◌, ◌<◌, ◌≤◌, Option, None, Some, IfSome, Result, Ok, Err, IsErr, IsErrAnd, List, [], ◌∷◌, ◌++◌, drop, length, map, get_or, append_assoc, append-nil, refl, sym, ap, ◌∙◌, subst, arith}
 use Rattle.std.proofs.lemmas.List.{drop-drop, map-append}
 use Rattle.std.proofs.lemmas.Option.{slice_get-get_or, slice_get_past}
 use Rattle.kw_bits.specs.BitVector.{BitVector}
 use Rattle.std.specs.Bool.{⊤}
+use Rattle.std.specs.List.{AllZip}
 use Rattle.std.specs.Prelude.{slice_get, slice_range, Bool, false, IsTrue, ◌↔◌}
 use Rattle.std.specs.Option.{option_map}
-use Rattle.koika_syntax.specs.Tree.{Leaf, Terminal, name, number, literal, keyword, symbol, placed, terminal_of}
+use Rattle.koika_syntax.specs.Tree.{Leaf, Terminal, name, number, literal, keyword, symbol, placed, terminal_of, IsLeafAt}
 use Rattle.koika_syntax.specs.declared.keyword.Keyword.{Keyword}
 use Rattle.koika_syntax.specs.declared.symbol.Symbol.{Symbol}
 use Rattle.koika_syntax.specs.declared.token.Token.{Token}
 use Rattle.koika_syntax.specs.declared.token.TokenKind.{TokenKind}
 use Rattle.koika_syntax.specs.declared.token.TokenKind.TheVariants as kinds
 use Rattle.koika_parse.specs.Brackets.{AreFewOpen, open_behind}
-use Rattle.koika_parse.specs.Expected.{InVector, Part, One, Then, first, Any, Behind, AgreesUpTo, Leaves, Ends, Same, Front, Leads, Takes}
-use Rattle.koika_parse.proofs.Reading.{in_turn, nothing}
+use Rattle.koika_parse.specs.Expected.{InVector, Part, One, Then, first, Any, Behind, AgreesUpTo, Leaves, Ends, Spot, StandAt, spots_of, Front, Leads, Takes}
+use Rattle.koika_parse.proofs.Reading.{in_turn, tokens_in_turn, zip_append}
 use Rattle.koika_parse.specs.Reading.{Reads, next, kind_at, token_at}
 use Rattle.koika_parse.specs.declared.cursor.Cursor.{Cursor}
 use Rattle.koika_parse.specs.declared.source.Source.{Source}
@@ -29,9 +30,59 @@ Empty u = u ≡ []
 abbrev pub Has : (List Leaf → Type 0) → Type 0
 Has P = (q : List Leaf) × P q
 
--- each word of the one language is a word of the other, with the same tokens
+-- leaves at the places that they say, and at 0 where they say none
+abbrev pub place_or : Option ℕ → ℕ
+place_or None = 0
+place_or (Some place) = place
+
+abbrev pub spots_in : List Leaf → List Spot
+spots_in leaves = map (λ leaf. record { terminal = leaf.terminal; place = place_or leaf.place }) leaves
+
+pub stand_in : (leaves : List Leaf) → StandAt leaves (spots_in leaves)
+stand_in [] = tt
+stand_in (leaf ∷ leaves) = ((refl, said leaf.place), stand_in leaves)
+  where
+    said : (o : Option ℕ) → IfSome o (λ place. place ≡ place_or o)
+    said None = tt
+    said (Some place) = refl
+
+-- leaves of tokens stand where these do
+pub stand_tokens : (text : List ℕ) (leaves : List Leaf) (tokens : List Token) → AllZip (IsLeafAt text) leaves tokens → StandAt leaves (spots_of text tokens)
+stand_tokens text [] [] each = tt
+stand_tokens text [] (token ∷ tokens) each = each
+stand_tokens text (leaf ∷ leaves) [] each = each
+stand_tokens text (leaf ∷ leaves) (token ∷ tokens) each = (each.0, stand_tokens text leaves tokens each.1)
+
+-- leaves of two parts, and the tokens of each
+pub stand_append : (a b : List Leaf) (x y : List Spot) → StandAt a x → StandAt b y → StandAt (a ++ b) (x ++ y)
+stand_append a b x y p q = zip_append (λ leaf spot. (leaf.terminal ≡ spot.terminal) × IfSome leaf.place (λ place. place ≡ spot.place)) a b x y p q
+
+pub stand_split : (a b : List Leaf) (spots : List Spot) → StandAt (a ++ b) spots → (x y : List Spot) × StandAt a x × StandAt b y × (spots ≡ x ++ y)
+stand_split [] b spots stand = ([], spots, tt, stand, refl)
+stand_split (leaf ∷ a) b [] stand = absurd stand
+stand_split (leaf ∷ a) b (spot ∷ spots) stand = let cut = stand_split a b spots stand.1 in (spot ∷ cut.0, cut.1, (stand.0, cut.2), cut.3, ap (λ t. spot ∷ t) cut.4)
+
+-- a word of the language stands there
+abbrev pub Found : (List Leaf → Type 0) → List Spot → Type 0
+Found Q spots = (r : List Leaf) × Q r × StandAt r spots
+
+-- wherever these leaves stand, a word of the language does
+abbrev pub Kept : (List Leaf → Type 0) → List Leaf → Type 0
+Kept Q q = (spots : List Spot) → StandAt q spots → Found Q spots
+
+-- wherever a word of the one language stands, one of the other does
 abbrev pub Within : (P Q : List Leaf → Type 0) → Type 0
-Within P Q = (q : List Leaf) → P q → (r : List Leaf) × Q r × Same r q
+Within P Q = (q : List Leaf) → P q → Kept Q q
+
+-- wherever the second leaves stand, the first do
+abbrev pub Same : List Leaf → List Leaf → Type 0
+Same a b = (spots : List Spot) → StandAt b spots → StandAt a spots
+
+pub kept : {Q : List Leaf → Type 0} (q r : List Leaf) → Q r → Same r q → Kept Q q
+kept q r word same spots stand = (r, word, same spots stand)
+
+pub has_within : {P Q : List Leaf → Type 0} → Within P Q → Has P → Has Q
+has_within within some = let found = within some.0 some.1 (spots_in some.0) (stand_in some.0) in (found.0, found.1)
 
 -- of a word of the language such a word is left, and what has been read and any such word are a word of the language
 pub record Goes (source : Source) (old new : Cursor) (Word : List Leaf → Type 0) (Follow : Option Terminal → Type 0) (Rest : List Leaf → Type 0) : Type 0 where
@@ -40,49 +91,56 @@ pub record Goes (source : Source) (old new : Cursor) (Word : List Leaf → Type 
   pub read : List Leaf
   pub reads : Reads source old new read
   pub some : Has Rest
-  pub back : (q : List Leaf) → Rest q → (u : List Leaf) × Word u × Same u (read ++ q)
+  pub back : (q : List Leaf) → Rest q → (spots : List Spot) → StandAt q spots → Found Word (spots_of source.text.now reads.tokens ++ spots)
 
 -- the same tokens, part by part
 pub same_of : {a b : List Leaf} → a ≡ b → Same a b
-same_of same = ap (λ l. map (λ leaf. leaf.terminal) l) same
+same_of same spots stand = subst (λ l. StandAt l spots) (sym same) stand
+
+pub same_again : (a b c : List Leaf) → Same a b → Same b c → Same a c
+same_again a b c p q spots stand = p spots (q spots stand)
 
 pub same_append : (a a' b b' : List Leaf) → Same a a' → Same b b' → Same (a ++ b) (a' ++ b')
-same_append a a' b b' p q =
-    map-append (λ leaf. leaf.terminal) a b ∙ ap (λ t. t ++ map (λ leaf. leaf.terminal) b) p ∙ ap (λ t. map (λ leaf. leaf.terminal) a' ++ t) q
-    ∙ sym (map-append (λ leaf. leaf.terminal) a' b')
+same_append a a' b b' p q spots stand =
+    let cut = stand_split a' b' spots stand in
+    subst (StandAt (a ++ b)) (sym cut.4) (stand_append a b cut.0 cut.1 (p cut.0 cut.2) (q cut.1 cut.3))
+
+-- a word stands behind what is read in turn
+stand_in_turn : {source : Source} {old mid new : Cursor} {xs ys : List Leaf} (p : Reads source old mid xs) (q : Reads source mid new ys) (word : List Leaf) (rest : List Spot) →
+    StandAt word (spots_of source.text.now p.tokens ++ (spots_of source.text.now q.tokens ++ rest)) → StandAt word (spots_of source.text.now (in_turn p q).tokens ++ rest)
+stand_in_turn {source} p q word rest stand =
+    let spot = λ (token : Token). let s : Spot = record { terminal = terminal_of source.text.now token; place = token.start } in s in
+    subst (StandAt word) (sym (ap (λ t. map spot t ++ rest) (tokens_in_turn p q) ∙ ap (λ t. t ++ rest) (map-append spot p.tokens q.tokens) ∙ append_assoc (map spot p.tokens) (map spot q.tokens) rest)) stand
 
 -- a part of a word that is read to its end, or not
-between : (a r rest b w u : List Leaf) → Same w (r ++ rest) → Same u (a ++ (w ++ b)) → Same u ((a ++ r) ++ (rest ++ b))
-between a r rest b w u p q =
-    q ∙ same_append a a (w ++ b) ((r ++ rest) ++ b) refl (same_append w (r ++ rest) b b p refl)
-    ∙ same_of (ap (λ t. a ++ t) (append_assoc r rest b) ∙ sym (append_assoc a r (rest ++ b)))
-
-abbrev front_then : {source : Source} {old mid new : Cursor} {Word : List Leaf → Type 0} {Follow : Option Terminal → Type 0} {P Q : List Leaf → Type 0} →
-    Goes source old mid Word Follow (Then P Q) → (rest : List Leaf) → Front source mid new P rest → (b : List Leaf) → Q b → Front source old new Word (rest ++ b)
-front_then {source} {old} {mid} {new} {Word} {Follow} {P} {Q} goes rest front b q =
-    let found = goes.back (front.whole ++ b) (front.whole, b, front.word, q, refl) in
-    record { read = goes.read ++ front.read; reads = in_turn goes.reads front.reads; whole = found.0; word = found.1; same = between goes.read front.read rest b front.whole found.0 front.same found.2 }
-
-abbrev front_last : {source : Source} {old mid new : Cursor} {Word : List Leaf → Type 0} {Follow : Option Terminal → Type 0} {P : List Leaf → Type 0} →
-    Goes source old mid Word Follow P → (rest : List Leaf) → Front source mid new P rest → Front source old new Word rest
-front_last {source} {old} {mid} {new} {Word} {Follow} {P} goes rest front =
-    let found = goes.back front.whole front.word in
+front_then : {source : Source} {old mid new : Cursor} {Word : List Leaf → Type 0} {Follow : Option Terminal → Type 0} {P Q : List Leaf → Type 0} →
+    Goes source old mid Word Follow (Then P Q) → (rest : List Spot) → Front source mid new P rest → (b : List Leaf) → Q b → (spots : List Spot) → StandAt b spots → Front source old new Word (rest ++ spots)
+front_then {source} goes rest front b q spots stand =
+    let text = source.text.now in
+    let tokens = front.reads.tokens in
+    let found = goes.back (front.whole ++ b) (front.whole, b, front.word, q, refl) ((spots_of text tokens ++ rest) ++ spots) (stand_append front.whole b (spots_of text tokens ++ rest) spots front.stands stand) in
     record {
       read = goes.read ++ front.read;
       reads = in_turn goes.reads front.reads;
       whole = found.0;
       word = found.1;
-      same = found.2 ∙ same_append goes.read goes.read front.whole (front.read ++ rest) refl front.same ∙ same_of (sym (append_assoc goes.read front.read rest));
+      stands = stand_in_turn goes.reads front.reads found.0 (rest ++ spots) (subst (λ t. StandAt found.0 (spots_of text goes.reads.tokens ++ t)) (append_assoc (spots_of text tokens) rest spots) found.2);
     }
 
-abbrev front_here : {source : Source} {old new : Cursor} {Word : List Leaf → Type 0} {Follow : Option Terminal → Type 0} {P : List Leaf → Type 0} →
-    Goes source old new Word Follow P → (rest : List Leaf) → P rest → Front source old new Word rest
-front_here goes rest word = let found = goes.back rest word in record { read = goes.read; reads = goes.reads; whole = found.0; word = found.1; same = found.2 }
+front_last : {source : Source} {old mid new : Cursor} {Word : List Leaf → Type 0} {Follow : Option Terminal → Type 0} {P : List Leaf → Type 0} →
+    Goes source old mid Word Follow P → (rest : List Spot) → Front source mid new P rest → Front source old new Word rest
+front_last {source} goes rest front =
+    let found = goes.back front.whole front.word (spots_of source.text.now front.reads.tokens ++ rest) front.stands in
+    record { read = goes.read ++ front.read; reads = in_turn goes.reads front.reads; whole = found.0; word = found.1; stands = stand_in_turn goes.reads front.reads found.0 rest found.2 }
+
+front_here : {source : Source} {old new : Cursor} {Word : List Leaf → Type 0} {Follow : Option Terminal → Type 0} {P : List Leaf → Type 0} →
+    Goes source old new Word Follow P → (q : List Leaf) → P q → (rest : List Spot) → StandAt q rest → Front source old new Word rest
+front_here goes q word rest stand = let found = goes.back q word rest stand in record { read = goes.read; reads = goes.reads; whole = found.0; word = found.1; stands = found.2 }
 
 leads_then : (X Y : Type 0) {source : Source} {old mid : Cursor} (new : Cursor) {Word : List Leaf → Type 0} {Follow : Option Terminal → Type 0} {P Q : List Leaf → Type 0} (stop : Stop) →
     Goes source old mid Word Follow (Then P Q) → Leads {X = X} source mid new P (Err stop) → Leads {X = Y} source old new Word (Err stop)
-leads_then X Y new stops.Unexpected goes leads = (leads.0 ++ goes.some.1.1, front_then goes leads.0 leads.1 goes.some.1.1 goes.some.1.3)
-leads_then X Y new stops.TooDeep goes leads = (leads.0, leads.1 ++ goes.some.1.1, front_then goes (leads.0 ∷ leads.1) leads.2 goes.some.1.1 goes.some.1.3, leads.3, leads.4)
+leads_then X Y new stops.Unexpected goes leads = let b = goes.some.1.1 in (leads.0 ++ spots_in b, front_then goes leads.0 leads.1 b goes.some.1.3 (spots_in b) (stand_in b))
+leads_then X Y new stops.TooDeep goes leads = let b = goes.some.1.1 in (leads.0, leads.1 ++ spots_in b, front_then goes (leads.0 ∷ leads.1) leads.2 b goes.some.1.3 (spots_in b) (stand_in b), leads.3, leads.4)
 leads_then X Y new stops.NoMemory goes leads = tt
 
 leads_last : (X Y : Type 0) {source : Source} {old mid : Cursor} (new : Cursor) {Word : List Leaf → Type 0} {Follow : Option Terminal → Type 0} {P : List Leaf → Type 0} (stop : Stop) →
@@ -90,6 +148,10 @@ leads_last : (X Y : Type 0) {source : Source} {old mid : Cursor} (new : Cursor) 
 leads_last X Y new stops.Unexpected goes leads = (leads.0, front_last goes leads.0 leads.1)
 leads_last X Y new stops.TooDeep goes leads = (leads.0, leads.1, front_last goes (leads.0 ∷ leads.1) leads.2, leads.3, leads.4)
 leads_last X Y new stops.NoMemory goes leads = tt
+
+-- nothing has been read
+abbrev none_read : (source : Source) (cursor : Cursor) → Reads source cursor cursor []
+none_read source cursor = record { tokens = []; split = refl; each = tt; left = omega arith; depth = refl; few = λ low. tt }
 
 before : (source : Source) (mid new : Cursor) (w : List Leaf) → mid.at ≤ new.at → AgreesUpTo source new w → AgreesUpTo source mid w
 before source mid new w low agrees = λ cursor at. agrees cursor (omega (arith, low, at))
@@ -104,10 +166,16 @@ free Q Follow q v is behind = tt
 -- before anything is read
 pub start : {source : Source} {cursor : Cursor} {Word : List Leaf → Type 0} {Follow : Option Terminal → Type 0} {Rest : List Leaf → Type 0} → ((u : List Leaf) → Word u → Rest u) → Has Rest → Within Rest Word →
     Goes source cursor cursor Word Follow Rest
-start {source} {cursor} into some back = record { forward = omega arith; left = λ w u v agrees word behind here. (u, into u word, record { rest = here; few = λ few. few }); read = []; reads = nothing source cursor cursor refl; some = some; back = back }
+start {source} {cursor} into some back = record { forward = omega arith; left = λ w u v agrees word behind here. (u, into u word, record { rest = here; few = λ few. few }); read = []; reads = none_read source cursor; some = some; back = back }
 
 pub begin : {source : Source} {cursor : Cursor} {Follow : Option Terminal → Type 0} (Word : List Leaf → Type 0) → Has Word → Goes source cursor cursor Word Follow Word
-begin Word some = start (λ u word. word) some (λ q word. (q, word, refl))
+begin Word some = start (λ u word. word) some (λ q word spots stand. (q, word, stand))
+
+-- what is left stands behind a part more
+front_then_stands : {source : Source} {old mid new : Cursor} {Word : List Leaf → Type 0} {Follow : Option Terminal → Type 0} {P Q : List Leaf → Type 0} (goes : Goes source old mid Word Follow (Then P Q)) (front : Front source mid new P []) →
+    (q : List Leaf) → Q q → (spots : List Spot) → StandAt q spots → Found Word (spots_of source.text.now (in_turn goes.reads front.reads).tokens ++ spots)
+unfolding front_then
+front_then_stands goes front q word spots stand = let found = front_then goes [] front q word spots stand in (found.whole, found.word, found.stands)
 
 -- a part more
 pub step : {X : Type 0} {source : Source} {old mid new : Cursor} {Word : List Leaf → Type 0} {Follow Mid : Option Terminal → Type 0} {P Q : List Leaf → Type 0} {x : X} →
@@ -124,7 +192,7 @@ step {X} {source} {old} {mid} {new} {Word} {Follow} {Mid} {P} {Q} {x} goes takes
   read = goes.read ++ takes.leads.read;
   reads = in_turn goes.reads takes.leads.reads;
   some = (goes.some.1.1, goes.some.1.3);
-  back = λ q word. let front = front_then goes [] takes.leads q word in (front.whole, front.word, front.same);
+  back = λ q word spots stand. front_then_stands goes takes.leads q word spots stand;
 }
 
 ends_as : (X Y : Type 0) (stop : Stop) (few few' left left' : Type 0) → (few' → few) → Ends {X = X} (Err stop) few left → Ends {X = Y} (Err stop) few' left'
@@ -153,7 +221,7 @@ finish {X} {source} {old} {new} x goes = record {
   takes = λ w u v agrees word behind here.
       let found = goes.left w u v agrees word behind here in
       subst (λ r. Leaves old new w (u ++ v) (r ++ v)) found.1 found.2;
-  leads = front_here goes [] refl;
+  leads = front_here goes [] refl [] tt;
 }
 
 -- the next token tells what is left
@@ -167,10 +235,7 @@ narrow {source} {old} {new} goes tells some within = record {
   read = goes.read;
   reads = goes.reads;
   some = some;
-  back = λ q word.
-      let rest = within q word in
-      let found = goes.back rest.0 rest.1 in
-      (found.0, found.1, found.2 ∙ same_append goes.read goes.read rest.0 q refl rest.2);
+  back = λ q word spots stand. let rest = within q word spots stand in goes.back rest.0 rest.1 spots rest.2;
 }
 
 -- the next token cannot be
@@ -181,7 +246,7 @@ refused {Y} {source} {old} {new} goes tells = record {
   takes = λ w u v agrees word behind here.
       let found = goes.left w u v agrees word behind here in
       tells found.0 v found.1 behind (sym (ap first found.2.rest) ∙ agrees new (omega arith));
-  leads = (goes.some.0, front_here goes goes.some.0 goes.some.1);
+  leads = (spots_in goes.some.0, front_here goes goes.some.0 goes.some.1 (spots_in goes.some.0) (stand_in goes.some.0));
 }
 
 -- the last part, and what is made of it
@@ -234,10 +299,17 @@ never_none e = subst IsOne (sym e) tt
 
 -- words of one token each, where the next token is known
 pub single : {X : Type 0} {source : Source} {cursor : Cursor} {Is : X → Type 0} {leaves : X → List Leaf} {terminal : Terminal} (leaf : X → Leaf) →
-    ((x : X) → leaves x ≡ leaf x ∷ []) → (x : X) → Is x → (leaf x).terminal ≡ terminal → next source cursor ≡ Some terminal → Goes source cursor cursor (Part Is leaves) Any (One terminal)
-single {X} {source} {cursor} {Is} {leaves} {terminal} leaf each x is one at =
-    narrow (begin {source = source} {cursor = cursor} {Follow = Any} (Part Is leaves) (leaves x, (x, is, refl))) (λ r v word behind next_is. (leaf word.0, same_of_some (sym (ap (λ l. first (l ++ v)) (word.2 ∙ each word.0)) ∙ next_is ∙ at), word.2 ∙ each word.0))
-    (leaf x ∷ [], (leaf x, one, refl)) (λ q word. (leaves x, (x, is, refl), same_of (each x) ∙ ap (λ t. t ∷ []) (one ∙ sym word.1) ∙ same_of (sym word.2)))
+    ((x : X) → leaves x ≡ leaf x ∷ []) → (x : ℕ → X) → ((place : ℕ) → Is (x place)) → ((place : ℕ) → (leaf (x place)).terminal ≡ terminal) → ((place : ℕ) → (leaf (x place)).place ≡ Some place) → next source cursor ≡ Some terminal →
+    Goes source cursor cursor (Part Is leaves) Any (One terminal)
+single {X} {source} {cursor} {Is} {leaves} {terminal} leaf each x is one placed at =
+    narrow (begin {source = source} {cursor = cursor} {Follow = Any} (Part Is leaves) (leaves (x 0), (x 0, is 0, refl))) (λ r v word behind next_is. (leaf word.0, same_of_some (sym (ap (λ l. first (l ++ v)) (word.2 ∙ each word.0)) ∙ next_is ∙ at), word.2 ∙ each word.0))
+    (leaf (x 0) ∷ [], (leaf (x 0), one 0, refl)) (λ q word spots stand. at_spot word.0 word.1 spots (subst (λ l. StandAt l spots) word.2 stand))
+  where
+    at_spot : (l : Leaf) → l.terminal ≡ terminal → (spots : List Spot) → StandAt (l ∷ []) spots → Found (Part Is leaves) spots
+    at_spot l same [] stand = absurd stand
+    at_spot l same (spot ∷ spots) stand =
+        let y = x spot.place in
+        (leaves y, (y, is spot.place, refl), subst (λ ls. StandAt ls (spot ∷ spots)) (sym (each y)) ((one spot.place ∙ sym same ∙ stand.0.0, subst (λ o. IfSome o (λ place. place ≡ spot.place)) (sym (placed spot.place)) refl), stand.1))
 
 -- a token has a kind
 abbrev pub kind_of : Terminal → TokenKind
@@ -300,7 +372,13 @@ one_takes {X} {source} {old} {new} {terminal} {place} x forward reads = record {
         rest = ap (λ n. drop n w) forward ∙ sym (drop-drop 1 old.at w) ∙ ap (drop 1) front;
         few = λ few. subst (λ d. AreFewOpen d v) depth (subst (AreFewOpen old.depth) (ap (λ l. l ++ v) one.2) few).1;
       };
-  leads = record { read = placed terminal place; reads = reads; whole = placed terminal place; word = (_, refl, refl); same = refl };
+  leads = record {
+    read = placed terminal place;
+    reads = reads;
+    whole = placed terminal place;
+    word = (_, refl, refl);
+    stands = subst (StandAt (placed terminal place)) (sym (append-nil (spots_of source.text.now reads.tokens))) (stand_tokens source.text.now (placed terminal place) reads.tokens reads.each);
+  };
 }
 
 -- the same, where any token may follow the part
@@ -394,8 +472,7 @@ no_kind source cursor past at = never_none (sym (ap (option_map (λ t. t.kind)) 
 pub narrow_part : {X : Type 0} {source : Source} {cursor : Cursor} {Is : X → Type 0} {leaves : X → List Leaf} {Follow : Option Terminal → Type 0} (P : List Leaf → Type 0) →
     ((x : X) → Is x → (v : List Leaf) → first (leaves x ++ v) ≡ next source cursor → P (leaves x)) → Has P → Within P (Part Is leaves) → Goes source cursor cursor (Part Is leaves) Follow P
 narrow_part {X} {source} {cursor} {Is} {leaves} {Follow} P tells some within =
-    let one = within some.0 some.1 in
-    narrow (begin {source = source} {cursor = cursor} {Follow = Follow} (Part Is leaves) (one.0, one.1)) (λ r v word behind next_is. subst P (sym word.2) (tells word.0 word.1 v (ap (λ l. first (l ++ v)) (sym word.2) ∙ next_is))) some within
+    narrow (begin {source = source} {cursor = cursor} {Follow = Follow} (Part Is leaves) (has_within within some)) (λ r v word behind next_is. subst P (sym word.2) (tells word.0 word.1 v (ap (λ l. first (l ++ v)) (sym word.2) ∙ next_is))) some within
 
 -- tokens of two kinds differ
 terminal_tag : Terminal → ℕ
@@ -465,9 +542,9 @@ too_deep {Y} {source} {cursor} terminal at deep = record {
   forward = omega arith;
   takes = λ w u v agrees one behind here few. omega (arith, deep, ap (open_behind cursor.depth) one.1, (subst (λ l. AreFewOpen cursor.depth (l ++ v)) one.2 few).0);
   leads = (
-    record { terminal = terminal; place = None },
+    record { terminal = terminal; place = 0 },
     [],
-    record { read = []; reads = nothing source cursor cursor refl; whole = record { terminal = terminal; place = None } ∷ []; word = (_, refl, refl); same = refl },
+    record { read = []; reads = none_read source cursor; whole = record { terminal = terminal; place = None } ∷ []; word = (_, refl, refl); stands = ((refl, tt), tt) },
     at,
     deep,
   );
@@ -475,10 +552,14 @@ too_deep {Y} {source} {cursor} terminal at deep = record {
 
 -- the parts of a word, as those of another one
 pub same_then : {P Q : List Leaf → Type 0} {q : List Leaf} (l m : List Leaf) (both : Then P Q q) → Same l both.0 → Same m both.1 → Same (l ++ m) q
-same_then l m both left right = same_append l both.0 m both.1 left right ∙ same_of (sym both.4)
+same_then {q = q} l m both left right = same_again (l ++ m) (both.0 ++ both.1) q (same_append l both.0 m both.1 left right) (same_of (sym both.4))
 
-pub same_one : {terminal : Terminal} {u : List Leaf} (place : Option ℕ) (one : One terminal u) → Same (record { terminal = terminal; place = place } ∷ []) u
-same_one place one = ap (λ t. t ∷ []) (sym one.1) ∙ same_of (sym one.2)
+pub same_one : {terminal : Terminal} {u : List Leaf} (one : One terminal u) → Same (record { terminal = terminal; place = None } ∷ []) u
+same_one {terminal} one spots stand = at_spot spots (subst (λ l. StandAt l spots) one.2 stand)
+  where
+    at_spot : (spots : List Spot) → StandAt (one.0 ∷ []) spots → StandAt (record { terminal = terminal; place = None } ∷ []) spots
+    at_spot [] stand = stand
+    at_spot (spot ∷ spots) stand = ((sym one.1 ∙ stand.0.0, tt), stand.1)
 
 pub same_part : {X : Type 0} {Is : X → Type 0} {leaves : X → List Leaf} {u : List Leaf} (part : Part Is leaves u) → Same (leaves part.0) u
 same_part part = same_of (sym part.2)
@@ -490,15 +571,72 @@ Like q = (l : List Leaf) × Same l q
 abbrev pub like_then : {P Q : List Leaf → Type 0} {q : List Leaf} (both : Then P Q q) → Like both.0 → Like both.1 → Like q
 like_then both left right = (left.0 ++ right.0, same_then left.0 right.0 both left.1 right.1)
 
-abbrev pub like_one : {terminal : Terminal} {u : List Leaf} (place : Option ℕ) (one : One terminal u) → Like u
-like_one {terminal = terminal} place one = (record { terminal = terminal; place = place } ∷ [], same_one place one)
+abbrev pub like_one : {terminal : Terminal} {u : List Leaf} (one : One terminal u) → Like u
+like_one {terminal = terminal} one = (record { terminal = terminal; place = None } ∷ [], same_one one)
 
 abbrev pub like_part : {X : Type 0} {Is : X → Type 0} {leaves : X → List Leaf} {u : List Leaf} (part : Part Is leaves u) → Like u
 like_part {leaves = leaves} part = (leaves part.0, same_part part)
 
 -- what is made of the parts of a word
-pub made : {X : Type 0} {Is : X → Type 0} {leaves : X → List Leaf} (q : List Leaf) (like : Like q) (x : X) → Is x → leaves x ≡ like.0 → (r : List Leaf) × Part Is leaves r × Same r q
-made {leaves = leaves} q like x is same = (leaves x, (x, is, refl), same_of same ∙ like.1)
+pub made : {X : Type 0} {Is : X → Type 0} {leaves : X → List Leaf} (q : List Leaf) (like : Like q) (x : X) → Is x → leaves x ≡ like.0 → Kept (Part Is leaves) q
+made {leaves = leaves} q like x is same spots stand = (leaves x, (x, is, refl), same_of same spots (like.1 spots stand))
+
+-- the place of the token of this index
+pub place_in : ℕ → List Spot → ℕ
+place_in i [] = 0
+place_in zero (spot ∷ spots) = spot.place
+place_in (suc i) (spot ∷ spots) = place_in i spots
+
+-- leaves that are like a word where its token of this index stands at this place
+pub record LikeAt (i place : ℕ) (q : List Leaf) : Type 0 where
+  pub leaves : List Leaf
+  pub same : (spots : List Spot) → place_in i spots ≡ place → StandAt q spots → StandAt leaves spots
+
+pub place_one_stands : (terminal : Terminal) (place : ℕ) (leaf : Leaf) → leaf.terminal ≡ terminal → (spots : List Spot) → place_in 0 spots ≡ place → StandAt (leaf ∷ []) spots → StandAt (placed terminal place) spots
+unfolding place_in
+place_one_stands terminal place leaf same [] is stand = stand
+place_one_stands terminal place leaf same (spot ∷ spots) is stand = ((sym same ∙ stand.0.0, sym is), stand.1)
+
+pub place_then_stands : (terminal : Terminal) (place : ℕ) (leaf : Leaf) → leaf.terminal ≡ terminal → (b r : List Leaf) → Same r b → (spots : List Spot) → place_in 0 spots ≡ place → StandAt (leaf ∷ b) spots → StandAt (placed terminal place ++ r) spots
+unfolding place_in
+place_then_stands terminal place leaf same b r right [] is stand = absurd stand
+place_then_stands terminal place leaf same b r right (spot ∷ spots) is stand = ((sym same ∙ stand.0.0, sym is), right spots stand.1)
+
+place_behind : (i : ℕ) (a : List Leaf) (x y : List Spot) → StandAt a x → place_in (length a + i) (x ++ y) ≡ place_in i y
+unfolding place_in
+place_behind i [] [] y stand = ap (λ n. place_in n y) (omega arith)
+place_behind i [] (spot ∷ x) y stand = absurd stand
+place_behind i (leaf ∷ a) [] y stand = absurd stand
+place_behind i (leaf ∷ a) (spot ∷ x) y stand =
+    let more : suc (length a) + i ≡ suc (length a + i) = omega arith in
+    ap (λ n. place_in n (spot ∷ (x ++ y))) more ∙ place_behind i a x y stand.1
+
+pub then_place_stands : (i place : ℕ) (a b l r : List Leaf) → Same l a → ((spots : List Spot) → place_in i spots ≡ place → StandAt b spots → StandAt r spots) → (spots : List Spot) → place_in (length a + i) spots ≡ place → StandAt (a ++ b) spots → StandAt (l ++ r) spots
+then_place_stands i place a b l r left right spots is stand =
+    let cut = stand_split a b spots stand in
+    let at : place_in i cut.1 ≡ place = sym (place_behind i a cut.0 cut.1 cut.2) ∙ ap (place_in (length a + i)) (sym cut.4) ∙ is in
+    subst (StandAt (l ++ r)) (sym cut.4) (stand_append l r cut.0 cut.1 (left cut.0 cut.2) (right cut.1 at cut.3))
+
+abbrev pub place_one : {terminal : Terminal} {u : List Leaf} (place : ℕ) (one : One terminal u) → LikeAt 0 place u
+place_one {terminal} place one = record { leaves = placed terminal place; same = λ spots is stand. place_one_stands terminal place one.0 one.1 spots is (subst (λ l. StandAt l spots) one.2 stand) }
+
+abbrev pub place_then : {terminal : Terminal} {Q : List Leaf → Type 0} {q : List Leaf} (place : ℕ) (both : Then (One terminal) Q q) → Like both.1 → LikeAt 0 place q
+place_then {terminal} place both right = record {
+  leaves = placed terminal place ++ right.0;
+  same = λ spots is stand. place_then_stands terminal place both.2.0 both.2.1 both.1 right.0 right.1 spots is (subst (λ l. StandAt l spots) (both.4 ∙ ap (λ l. l ++ both.1) both.2.2) stand);
+}
+
+abbrev pub then_place : {P Q : List Leaf → Type 0} {q : List Leaf} {i place : ℕ} (both : Then P Q q) → Like both.0 → LikeAt i place both.1 → LikeAt (length both.0 + i) place q
+then_place {i = i} {place = place} both left right = record {
+  leaves = left.0 ++ right.leaves;
+  same = λ spots is stand. then_place_stands i place both.0 both.1 left.0 right.leaves left.1 right.same spots is (subst (λ l. StandAt l spots) both.4 stand);
+}
+
+-- what is made of the parts of a word, with the place of one of its tokens
+pub made_at : {X : Type 0} {Is : X → Type 0} {leaves : X → List Leaf} {i : ℕ} (q : List Leaf) (like : (place : ℕ) → LikeAt i place q) (x : ℕ → X) → ((place : ℕ) → Is (x place)) → ((place : ℕ) → leaves (x place) ≡ (like place).leaves) → Kept (Part Is leaves) q
+made_at {leaves = leaves} {i = i} q like x is same spots stand =
+    let place = place_in i spots in
+    (leaves (x place), (x place, is place, refl), same_of (same place) spots ((like place).same spots refl stand))
 
 -- two words one after the other
 pub some_then : {P Q : List Leaf → Type 0} → Has P → Has Q → Has (Then P Q)

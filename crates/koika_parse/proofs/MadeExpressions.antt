@@ -1,6 +1,6 @@
 -- What expressions are made of: of each word of a level or of a part, an expression or that part with the same tokens.
 use Rattle.koika_parse.specs.ExpressionWords.{ArrayWord, ColonsWord, CompareWord, ConditionalWord, ExtendWord, LetWord, LevelWord, NamedTailWord, NamedWord, OneBlock, OneLiteral, OperandsWord, OperatorWord, PackWord, ParenthesesWord, PrefixesWord, ReadWord, UnpackWord, UpdateWord, WriteWord}
-use Rattle.koika_parse.proofs.Expected.{Within, like_one, like_part, like_then, made, same_of}
+use Rattle.koika_parse.proofs.Expected.{Kept, Within, kept, like_one, like_part, like_then, made, made_at, place_one, place_then, same_of, then_place}
 use Rattle.koika_parse.proofs.Parts.{is_abort, is_arm, is_array, is_block, is_block_expression, is_call, is_chain_of, is_compare, is_do, is_extend, is_field_value, is_if, is_let, is_literal, is_member, is_name, is_operand, is_operand_at, is_pack, is_parentheses, is_postfix, is_read, is_struct, is_unary, is_unpack, is_update, is_write, level_abort, level_array, level_block, level_call, level_chain_of, level_compare, level_extend, level_literal, level_member, level_name, level_pack, level_parentheses, level_postfix, level_read, level_struct, level_unary, level_unpack, level_update, level_write}
 use Rattle.koika_parse.proofs.Calls.{all_of_map, leaves_abort, leaves_arm, leaves_block, leaves_do, leaves_extend, leaves_field_value, leaves_let, leaves_literal, leaves_member, leaves_name, leaves_operand, leaves_pack, leaves_parentheses, leaves_postfix, leaves_read, leaves_unary, leaves_unpack, leaves_write}
 use Rattle.koika_parse.proofs.ExpressionWords.{ArmWord, BlockWord, DoWord, FieldValueWord}
@@ -10,7 +10,7 @@ use Rattle.koika_syntax.specs.Grammar.{level, IsBlock, IsExpression, IsSuffix, a
 use Rattle.koika_syntax.proofs.Leaves.{array_expression, block_expression, call_expression, chain_expression, compare_expression, if_expression, struct_expression, update_expression}
 use Rattle.koika_syntax.specs.declared.tree.Suffix.{Suffix}
 use Rattle.koika_parse.proofs.Witnesses.{boxed, vector}
-use Rattle.koika_parse.specs.Expected.{InVector, One, Part, Same, Then}
+use Rattle.koika_parse.specs.Expected.{InVector, One, Part, Then}
 use Rattle.koika_syntax.specs.declared.tree.Expression.{Expression}
 use Rattle.koika_syntax.specs.declared.tree.FieldValue.{roll-FieldValue}
 use Rattle.koika_syntax.specs.declared.tree.Arm.{Arm, roll-Arm}
@@ -47,68 +47,68 @@ block_primary q part = made q (like_part part) (views.Block part.0) (is_block_ex
 pub array_primary : Primary ArrayWord
 array_primary q both =
     let elements = vector both.3.2.0 both.3.2.1.2 in
-    made q (like_then both (like_one (Some 0) both.2) (like_then both.3 (like_part both.3.2) (like_one None both.3.3))) (views.Array 0 elements)
-    (is_array 0 elements both.3.2.1.1 both.3.2.1.0, omega (arith, level_array 0 elements)) (array_expression 0 elements)
+    made_at q (λ place. place_then place both (like_then both.3 (like_part both.3.2) (like_one both.3.3))) (λ place. views.Array place elements)
+    (λ place. (is_array place elements both.3.2.1.1 both.3.2.1.0, omega (arith, level_array place elements))) (λ place. array_expression place elements)
 
 pub parentheses_primary : Primary ParenthesesWord
 parentheses_primary q both =
     let inside = boxed both.3.2.0 in
-    made q (like_then both (like_one (Some 0) both.2) (like_then both.3 (like_part both.3.2) (like_one None both.3.3))) (views.Parentheses 0 inside)
-    (is_parentheses 0 inside both.3.2.1 tt, omega (arith, level_parentheses 0 inside)) (leaves_parentheses 0 inside)
+    made_at q (λ place. place_then place both (like_then both.3 (like_part both.3.2) (like_one both.3.3))) (λ place. views.Parentheses place inside)
+    (λ place. (is_parentheses place inside both.3.2.1 tt, omega (arith, level_parentheses place inside))) (λ place. leaves_parentheses place inside)
 
 pub read_primary : (port : ℕ) → port < 4 → Primary (ReadWord port)
 read_primary port low q both =
     let register = both.3.3.2 in
-    made q (like_then both (like_one (Some 0) both.2) (like_then both.3 (like_one None both.3.2) (like_then both.3.3 (like_part register) (like_one None both.3.3.3)))) (views.made-Read 0 port register.0)
-    (is_read 0 port register.0 (low, register.1), omega (arith, level_read 0 port register.0)) (leaves_read 0 port register.0)
+    made_at q (λ place. place_then place both (like_then both.3 (like_one both.3.2) (like_then both.3.3 (like_part register) (like_one both.3.3.3)))) (λ place. views.made-Read place port register.0)
+    (λ place. (is_read place port register.0 (low, register.1), omega (arith, level_read place port register.0))) (λ place. leaves_read place port register.0)
 
 pub write_primary : (port : ℕ) → port < 4 → Primary (WriteWord port)
 write_primary port low q both =
     let register = both.3.3.2 in
     let value = boxed both.3.3.3.3.2.0 in
-    made q
-    (like_then both (like_one (Some 0) both.2) (like_then both.3 (like_one None both.3.2) (like_then both.3.3 (like_part register) (like_then both.3.3.3 (like_one None both.3.3.3.2) (like_then both.3.3.3.3 (like_part both.3.3.3.3.2) (like_one None both.3.3.3.3.3))))))
-    (views.Write 0 port register.0 value) (is_write 0 port register.0 value both.3.3.3.3.2.1 (low, register.1), omega (arith, level_write 0 port register.0 value)) (leaves_write 0 port register.0 value)
+    made_at q
+    (λ place. place_then place both (like_then both.3 (like_one both.3.2) (like_then both.3.3 (like_part register) (like_then both.3.3.3 (like_one both.3.3.3.2) (like_then both.3.3.3.3 (like_part both.3.3.3.3.2) (like_one both.3.3.3.3.3))))))
+    (λ place. views.Write place port register.0 value) (λ place. (is_write place port register.0 value both.3.3.3.3.2.1 (low, register.1), omega (arith, level_write place port register.0 value))) (λ place. leaves_write place port register.0 value)
 
 pub abort_primary : Primary (One (keyword keywords.Abort))
-abort_primary q one = made q (like_one (Some 0) one) (views.made-Abort 0) (is_abort 0 tt, omega (arith, level_abort 0)) (leaves_abort 0)
+abort_primary q one = made_at q (λ place. place_one place one) (λ place. views.made-Abort place) (λ place. (is_abort place tt, omega (arith, level_abort place))) (λ place. leaves_abort place)
 
 pub pack_primary : Primary PackWord
 pack_primary q both =
     let value = boxed both.3.3.2.0 in
-    made q (like_then both (like_one (Some 0) both.2) (like_then both.3 (like_one None both.3.2) (like_then both.3.3 (like_part both.3.3.2) (like_one None both.3.3.3)))) (views.Pack 0 value)
-    (is_pack 0 value both.3.3.2.1 tt, omega (arith, level_pack 0 value)) (leaves_pack 0 value)
+    made_at q (λ place. place_then place both (like_then both.3 (like_one both.3.2) (like_then both.3.3 (like_part both.3.3.2) (like_one both.3.3.3)))) (λ place. views.Pack place value)
+    (λ place. (is_pack place value both.3.3.2.1 tt, omega (arith, level_pack place value))) (λ place. leaves_pack place value)
 
 -- two arguments in parentheses behind a word
-two_arguments : (k : Keyword) (a b : List Leaf) → placed (keyword k) 0 ++ in_parentheses (a ++ sign symbols.Comma ++ b) ≡ placed (keyword k) 0 ++ (sign symbols.LeftParenthesis ++ (a ++ (sign symbols.Comma ++ (b ++ sign symbols.RightParenthesis))))
-two_arguments k a b = ap (λ t. placed (keyword k) 0 ++ (sign symbols.LeftParenthesis ++ t)) (assoc3 a (sign symbols.Comma) b (sign symbols.RightParenthesis))
+two_arguments : (place : ℕ) (k : Keyword) (a b : List Leaf) → placed (keyword k) place ++ in_parentheses (a ++ sign symbols.Comma ++ b) ≡ placed (keyword k) place ++ (sign symbols.LeftParenthesis ++ (a ++ (sign symbols.Comma ++ (b ++ sign symbols.RightParenthesis))))
+two_arguments place k a b = ap (λ t. placed (keyword k) place ++ (sign symbols.LeftParenthesis ++ t)) (assoc3 a (sign symbols.Comma) b (sign symbols.RightParenthesis))
 
 pub unpack_primary : Primary UnpackWord
 unpack_primary q both =
     let to = both.3.3.2 in
     let value = boxed both.3.3.3.3.2.0 in
-    made q
-    (like_then both (like_one (Some 0) both.2) (like_then both.3 (like_one None both.3.2) (like_then both.3.3 (like_part to) (like_then both.3.3.3 (like_one None both.3.3.3.2) (like_then both.3.3.3.3 (like_part both.3.3.3.3.2) (like_one None both.3.3.3.3.3))))))
-    (views.Unpack 0 to.0 value) (is_unpack 0 to.0 value both.3.3.3.3.2.1 to.1, omega (arith, level_unpack 0 to.0 value))
-    (leaves_unpack 0 to.0 value ∙ two_arguments keywords.Unpack (type_leaves to.0) (expression_leaves value.value))
+    made_at q
+    (λ place. place_then place both (like_then both.3 (like_one both.3.2) (like_then both.3.3 (like_part to) (like_then both.3.3.3 (like_one both.3.3.3.2) (like_then both.3.3.3.3 (like_part both.3.3.3.3.2) (like_one both.3.3.3.3.3))))))
+    (λ place. views.Unpack place to.0 value) (λ place. (is_unpack place to.0 value both.3.3.3.3.2.1 to.1, omega (arith, level_unpack place to.0 value)))
+    (λ place. leaves_unpack place to.0 value ∙ two_arguments place keywords.Unpack (type_leaves to.0) (expression_leaves value.value))
 
 pub extend_primary : (extension : Extension) → Primary (ExtendWord extension)
 extend_primary extension q both =
     let value = boxed both.3.3.2.0 in
     let width = both.3.3.3.3.2 in
-    made q
-    (like_then both (like_one (Some 0) both.2) (like_then both.3 (like_one None both.3.2) (like_then both.3.3 (like_part both.3.3.2) (like_then both.3.3.3 (like_one None both.3.3.3.2) (like_then both.3.3.3.3 (like_part width) (like_one None both.3.3.3.3.3))))))
-    (views.Extend 0 extension value width.0) (is_extend 0 extension value width.0 both.3.3.2.1 width.1, omega (arith, level_extend 0 extension value width.0))
-    (leaves_extend 0 extension value width.0 ∙ two_arguments (extension_word extension) (expression_leaves value.value) (number_leaves width.0))
+    made_at q
+    (λ place. place_then place both (like_then both.3 (like_one both.3.2) (like_then both.3.3 (like_part both.3.3.2) (like_then both.3.3.3 (like_one both.3.3.3.2) (like_then both.3.3.3.3 (like_part width) (like_one both.3.3.3.3.3))))))
+    (λ place. views.Extend place extension value width.0) (λ place. (is_extend place extension value width.0 both.3.3.2.1 width.1, omega (arith, level_extend place extension value width.0)))
+    (λ place. leaves_extend place extension value width.0 ∙ two_arguments place (extension_word extension) (expression_leaves value.value) (number_leaves width.0))
 
 pub compare_primary : (comparison : SignedComparison) → Primary (CompareWord comparison)
 compare_primary comparison q both =
     let left = boxed both.3.3.2.0 in
     let right = boxed both.3.3.3.3.2.0 in
-    made q
-    (like_then both (like_one (Some 0) both.2) (like_then both.3 (like_one None both.3.2) (like_then both.3.3 (like_part both.3.3.2) (like_then both.3.3.3 (like_one None both.3.3.3.2) (like_then both.3.3.3.3 (like_part both.3.3.3.3.2) (like_one None both.3.3.3.3.3))))))
-    (views.Compare 0 comparison left right) (is_compare 0 comparison left right both.3.3.2.1 both.3.3.3.3.2.1 tt, omega (arith, level_compare 0 comparison left right))
-    (compare_expression 0 comparison left right ∙ two_arguments (comparison_word comparison) (expression_leaves left.value) (expression_leaves right.value))
+    made_at q
+    (λ place. place_then place both (like_then both.3 (like_one both.3.2) (like_then both.3.3 (like_part both.3.3.2) (like_then both.3.3.3 (like_one both.3.3.3.2) (like_then both.3.3.3.3 (like_part both.3.3.3.3.2) (like_one both.3.3.3.3.3))))))
+    (λ place. views.Compare place comparison left right) (λ place. (is_compare place comparison left right both.3.3.2.1 both.3.3.3.3.2.1 tt, omega (arith, level_compare place comparison left right)))
+    (λ place. compare_expression place comparison left right ∙ two_arguments place (comparison_word comparison) (expression_leaves left.value) (expression_leaves right.value))
 
 pub update_primary : Primary UpdateWord
 update_primary q both =
@@ -118,40 +118,40 @@ update_primary q both =
     let value = boxed more.3.2.0 in
     let comma = sign symbols.Comma in
     let close = sign symbols.RightParenthesis in
-    made q
-    (like_then both (like_one (Some 0) both.2) (like_then both.3 (like_one None both.3.2) (like_then both.3.3 (like_part both.3.3.2) (like_then both.3.3.3 (like_one None both.3.3.3.2) (like_then both.3.3.3.3 (like_part part) (like_then more (like_one None more.2) (like_then more.3 (like_part more.3.2) (like_one None more.3.3))))))))
-    (views.Update 0 whole part.0 value) (is_update 0 whole part.0 value both.3.3.2.1 more.3.2.1 part.1, omega (arith, level_update 0 whole part.0 value))
-    (update_expression 0 whole part.0 value
-    ∙ ap (λ t. placed (keyword keywords.Update) 0 ++ (sign symbols.LeftParenthesis ++ t))
+    made_at q
+    (λ place. place_then place both (like_then both.3 (like_one both.3.2) (like_then both.3.3 (like_part both.3.3.2) (like_then both.3.3.3 (like_one both.3.3.3.2) (like_then both.3.3.3.3 (like_part part) (like_then more (like_one more.2) (like_then more.3 (like_part more.3.2) (like_one more.3.3))))))))
+    (λ place. views.Update place whole part.0 value) (λ place. (is_update place whole part.0 value both.3.3.2.1 more.3.2.1 part.1, omega (arith, level_update place whole part.0 value)))
+    (λ place. update_expression place whole part.0 value
+    ∙ ap (λ t. placed (keyword keywords.Update) place ++ (sign symbols.LeftParenthesis ++ t))
     (assoc5 (expression_leaves whole.value) comma (part_leaves part.0) comma (expression_leaves value.value) close ∙ ap (λ t. expression_leaves whole.value ++ (comma ++ t)) (assoc3 (part_leaves part.0) comma (expression_leaves value.value) close)))
 
 pub named_primary : Primary NamedWord
 named_primary q both = of both.3
   where
-    of : NamedTailWord both.1 → (r : List Leaf) × LevelWord 12 r × Same r q
+    of : NamedTailWord both.1 → Kept (LevelWord 12) q
     of (inl empty) =
         made q (like_then both (like_part both.2) ([], same_of (sym empty))) (views.made-Name both.2.0) (is_name both.2.0 both.2.1, omega (arith, level_name both.2.0)) (leaves_name both.2.0)
     of (inr (inl call)) =
         let arguments = vector call.3.2.0 call.3.2.1.1 in
-        made q (like_then both (like_part both.2) (like_then call (like_one None call.2) (like_then call.3 (like_part call.3.2) (like_one None call.3.3)))) (views.Call both.2.0 arguments)
+        made q (like_then both (like_part both.2) (like_then call (like_one call.2) (like_then call.3 (like_part call.3.2) (like_one call.3.3)))) (views.Call both.2.0 arguments)
         (is_call both.2.0 arguments call.3.2.1.0 both.2.1, omega (arith, level_call both.2.0 arguments)) (call_expression both.2.0 arguments)
     of (inr (inr colons)) = behind colons.3
       where
-        behind : ColonsWord colons.1 → (r : List Leaf) × LevelWord 12 r × Same r q
+        behind : ColonsWord colons.1 → Kept (LevelWord 12) q
         behind (inl member) =
-            made q (like_then both (like_part both.2) (like_then colons (like_one None colons.2) (like_part member))) (views.made-Member both.2.0 member.0)
+            made q (like_then both (like_part both.2) (like_then colons (like_one colons.2) (like_part member))) (views.made-Member both.2.0 member.0)
             (is_member both.2.0 member.0 (both.2.1, member.1), omega (arith, level_member both.2.0 member.0)) (leaves_member both.2.0 member.0)
         behind (inr tail) =
             let fields = vector tail.3.2.0 tail.3.2.1.2 in
-            made q (like_then both (like_part both.2) (like_then colons (like_one None colons.2) (like_then tail (like_one None tail.2) (like_then tail.3 (like_part tail.3.2) (like_one (Some 0) tail.3.3)))))
-            (views.Struct both.2.0 fields 0) (is_struct both.2.0 fields 0 tail.3.2.1.1 (both.2.1, tail.3.2.1.0), omega (arith, level_struct both.2.0 fields 0)) (struct_expression both.2.0 fields 0)
+            made_at q (λ place. then_place both (like_part both.2) (then_place colons (like_one colons.2) (then_place tail (like_one tail.2) (then_place tail.3 (like_part tail.3.2) (place_one place tail.3.3)))))
+            (λ place. views.Struct both.2.0 fields place) (λ place. (is_struct both.2.0 fields place tail.3.2.1.1 (both.2.1, tail.3.2.1.0), omega (arith, level_struct both.2.0 fields place))) (λ place. struct_expression both.2.0 fields place)
 
 -- chains, unary runs and postfixes
 pub chain_within : (k : ℕ) → Within (Then (LevelWord (k + 1)) (OperandsWord 0 k)) (LevelWord k)
 chain_within k q both = of both.3.0 both.3.1 both.3.2
   where
-    of : (operands : List Operand) → All (IsOperandIn k) operands × InVector (length operands + 0) → both.1 ≡ flat_map operand_leaves operands → (r : List Leaf) × LevelWord k r × Same r q
-    of [] all same = (both.0, looser k (k + 1) (omega arith) both.0 both.2, same_of (sym (both.4 ∙ ap (λ t. both.0 ++ t) same ∙ append-nil both.0)))
+    of : (operands : List Operand) → All (IsOperandIn k) operands × InVector (length operands + 0) → both.1 ≡ flat_map operand_leaves operands → Kept (LevelWord k) q
+    of [] all same = kept q both.0 (looser k (k + 1) (omega arith) both.0 both.2) (same_of (sym (both.4 ∙ ap (λ t. both.0 ++ t) same ∙ append-nil both.0)))
     of (o ∷ os) all same =
         let first = boxed both.2.0 in
         let rest = vector (o ∷ os) (omega (arith, all.1)) in
@@ -161,7 +161,7 @@ chain_within k q both = of both.3.0 both.3.1 both.3.2
         (chain_expression first rest ∙ ap (λ t. expression_leaves first.value ++ t) (sym (all_of_map operand_leaves (o ∷ os))))
 
 pub unary_within : Within (λ u. LevelWord 11 u ⊎ Then PrefixesWord (LevelWord 11) u) (LevelWord 10)
-unary_within q (inl postfix) = (q, looser 10 11 (omega arith) q postfix, refl)
+unary_within q (inl postfix) = kept q q (looser 10 11 (omega arith) q postfix) (same_of refl)
 unary_within q (inr both) =
     let prefixes = both.2.2.0 ∷ both.2.3.0 in
     let operand = boxed both.3.0 in
@@ -171,8 +171,8 @@ unary_within q (inr both) =
 pub postfix_within : Within (Then (LevelWord 12) (Rows IsSuffix suffix_leaves)) (LevelWord 11)
 postfix_within q both = of both.3.0 both.3.1 both.3.2
   where
-    of : (suffixes : List Suffix) → All IsSuffix suffixes → both.1 ≡ flat_map suffix_leaves suffixes → (r : List Leaf) × LevelWord 11 r × Same r q
-    of [] all same = (both.0, looser 11 12 (omega arith) both.0 both.2, same_of (sym (both.4 ∙ ap (λ t. both.0 ++ t) same ∙ append-nil both.0)))
+    of : (suffixes : List Suffix) → All IsSuffix suffixes → both.1 ≡ flat_map suffix_leaves suffixes → Kept (LevelWord 11) q
+    of [] all same = kept q both.0 (looser 11 12 (omega arith) both.0 both.2) (same_of (sym (both.4 ∙ ap (λ t. both.0 ++ t) same ∙ append-nil both.0)))
     of (s ∷ ss) all same =
         let primary = boxed both.2.0 in
         made q (like_then both (like_part both.2) (flat_map suffix_leaves (s ∷ ss), same_of (sym same))) (views.Postfix primary (s ∷ ss))
@@ -182,7 +182,7 @@ pub operand_within : (k : ℕ) → Within (Then (OperatorWord k) (LevelWord (k +
 operand_within k q both =
     let operator = both.2.0 in
     let operand = both.3.0 in
-    made q (like_then both (like_one None both.2.2) (like_part both.3)) (roll-Operand (record { operator = operator; operand = operand }))
+    made q (like_then both (like_one both.2.2) (like_part both.3)) (roll-Operand (record { operator = operator; operand = operand }))
     (is_operand operator operand both.3.1.0, is_operand_at k operator operand both.2.1 (omega (arith, both.3.1.1))) (leaves_operand operator operand)
 
 -- an `if`, its arms, blocks and what stands in them
@@ -205,42 +205,42 @@ conditional_within q both =
     (is_if all otherwise (All-cons IsArm arm arms both.2.1 both.3.2.0) both.3.3 (omega arith)) (if_expression all otherwise ∙ if_leaves_are arm arms otherwise)
 
 pub expression_within : Within (λ u. LevelWord 1 u ⊎ ConditionalWord u) (Part IsExpression expression_leaves)
-expression_within q (inl chain) = (q, (chain.0, chain.1.0, chain.2), refl)
+expression_within q (inl chain) = kept q q (chain.0, chain.1.0, chain.2) (same_of refl)
 expression_within q (inr conditional) = conditional_within q conditional
 
 pub arm_within : Within ArmWord (Part IsArm arm_leaves)
 arm_within q both =
     let condition = both.3.2.0 in
     let body = both.3.3.0 in
-    made q (like_then both (like_one (Some 0) both.2) (like_then both.3 (like_part both.3.2) (like_part both.3.3))) (roll-Arm (record { place = 0; condition = condition; body = body }))
-    (is_arm 0 condition body both.3.2.1.0 (omega (arith, both.3.2.1.1)) both.3.3.1) (leaves_arm 0 condition body)
+    made_at q (λ place. place_then place both (like_then both.3 (like_part both.3.2) (like_part both.3.3))) (λ place. roll-Arm (record { place = place; condition = condition; body = body }))
+    (λ place. is_arm place condition body both.3.2.1.0 (omega (arith, both.3.2.1.1)) both.3.3.1) (λ place. leaves_arm place condition body)
 
 pub field_value_within : Within FieldValueWord (Part IsFieldValue field_value_leaves)
 field_value_within q both =
-    made q (like_then both (like_part both.2) (like_then both.3 (like_one None both.3.2) (like_part both.3.3))) (roll-FieldValue (record { name = both.2.0; value = both.3.3.0 }))
+    made q (like_then both (like_part both.2) (like_then both.3 (like_one both.3.2) (like_part both.3.3))) (roll-FieldValue (record { name = both.2.0; value = both.3.3.0 }))
     (is_field_value both.2.0 both.3.3.0 both.2.1 both.3.3.1) (leaves_field_value both.2.0 both.3.3.0)
 
 pub block_within : Within BlockWord (Part IsBlock block_leaves)
 block_within q both = of both.3.2.1 both.3.2.3 both.3.2.4
   where
-    of : (value : Option Expression) → IfSome value IsExpression → both.3.0 ≡ flat_map statement_leaves both.3.2.0 ++ last_leaves value expression_leaves → (r : List Leaf) × Part IsBlock block_leaves r × Same r q
+    of : (value : Option Expression) → IfSome value IsExpression → both.3.0 ≡ flat_map statement_leaves both.3.2.0 ++ last_leaves value expression_leaves → Kept (Part IsBlock block_leaves) q
     of None is same =
         let statements : Vec Statement Global = vector both.3.2.0 (omega (arith, both.3.2.2.1)) in
-        made q (like_then both (like_one (Some 0) both.2) (like_then both.3 (flat_map statement_leaves both.3.2.0 ++ [], same_of (sym same)) (like_one None both.3.3))) (roll-Block (record { place = 0; statements = statements; value = None }))
-        (is_block 0 statements None both.3.2.2.0 tt)
-        (leaves_block 0 statements None ∙ ap (λ t. placed (symbol symbols.LeftBrace) 0 ++ ((t ++ []) ++ sign symbols.RightBrace)) (sym (all_of_map statement_leaves both.3.2.0)))
+        made_at q (λ place. place_then place both (like_then both.3 (flat_map statement_leaves both.3.2.0 ++ [], same_of (sym same)) (like_one both.3.3))) (λ place. roll-Block (record { place = place; statements = statements; value = None }))
+        (λ place. is_block place statements None both.3.2.2.0 tt)
+        (λ place. leaves_block place statements None ∙ ap (λ t. placed (symbol symbols.LeftBrace) place ++ ((t ++ []) ++ sign symbols.RightBrace)) (sym (all_of_map statement_leaves both.3.2.0)))
     of (Some e) is same =
         let statements : Vec Statement Global = vector both.3.2.0 (omega (arith, both.3.2.2.1)) in
-        made q (like_then both (like_one (Some 0) both.2) (like_then both.3 (flat_map statement_leaves both.3.2.0 ++ expression_leaves e, same_of (sym same)) (like_one None both.3.3)))
-        (roll-Block (record { place = 0; statements = statements; value = Some (boxed e) })) (is_block 0 statements (Some (boxed e)) both.3.2.2.0 is)
-        (leaves_block 0 statements (Some (boxed e)) ∙ ap (λ t. placed (symbol symbols.LeftBrace) 0 ++ ((t ++ expression_leaves e) ++ sign symbols.RightBrace)) (sym (all_of_map statement_leaves both.3.2.0)))
+        made_at q (λ place. place_then place both (like_then both.3 (flat_map statement_leaves both.3.2.0 ++ expression_leaves e, same_of (sym same)) (like_one both.3.3)))
+        (λ place. roll-Block (record { place = place; statements = statements; value = Some (boxed e) })) (λ place. is_block place statements (Some (boxed e)) both.3.2.2.0 is)
+        (λ place. leaves_block place statements (Some (boxed e)) ∙ ap (λ t. placed (symbol symbols.LeftBrace) place ++ ((t ++ expression_leaves e) ++ sign symbols.RightBrace)) (sym (all_of_map statement_leaves both.3.2.0)))
 
 pub let_within : Within LetWord (Part IsStatement statement_leaves)
 let_within q both =
     let bound = both.3.2 in
     let value = both.3.3.3.2 in
-    made q (like_then both (like_one None both.2) (like_then both.3 (like_part bound) (like_then both.3.3 (like_one None both.3.3.2) (like_then both.3.3.3 (like_part value) (like_one None both.3.3.3.3))))) (views.made-Let bound.0 value.0)
+    made q (like_then both (like_one both.2) (like_then both.3 (like_part bound) (like_then both.3.3 (like_one both.3.3.2) (like_then both.3.3.3 (like_part value) (like_one both.3.3.3.3))))) (views.made-Let bound.0 value.0)
     (is_let bound.0 value.0 bound.1 value.1) (leaves_let bound.0 value.0)
 
 pub do_within : Within DoWord (Part IsStatement statement_leaves)
-do_within q both = made q (like_then both (like_part both.2) (like_one None both.3)) (views.made-Do both.2.0) (is_do both.2.0 both.2.1) (leaves_do both.2.0)
+do_within q both = made q (like_then both (like_part both.2) (like_one both.3)) (views.made-Do both.2.0) (is_do both.2.0 both.2.1) (leaves_do both.2.0)

@@ -30,7 +30,7 @@ use Rattle.koika_parse.specs.Reading.{kind_at, next}
 use Rattle.koika_parse.specs.declared.cursor.Cursor.{Cursor}
 use Rattle.koika_parse.specs.declared.source.Source.{Source}
 use Rattle.koika_parse.specs.declared.stop.Stop.TheVariants as stops
-use Rattle.koika_parse.proofs.Expected.{Empty, Goes, start, narrow_part, refused, same_of_some, kind_is, Has, Within, begin, kind_of, like_part, made, same_of, some_one, some_then}
+use Rattle.koika_parse.proofs.Expected.{Empty, Goes, start, narrow_part, refused, same_of_some, kind_is, Has, Within, begin, has_within, kept, kind_of, like_part, made, same_of, some_one, some_then}
 use Rattle.koika_parse.proofs.Rows.{the_first, the_second, first_one}
 use Rattle.koika_parse.proofs.ExpressionWords.{PrimaryWord, primary_word, ArmWord, arm_word, expression_split, FieldValueWord}
 use Rattle.koika_parse.proofs.ChainWords.{begins, chain_begins, other_token}
@@ -79,7 +79,7 @@ pub expressions_listed : Listed InVector IsExpression expression_leaves
 expressions_listed = in_vector some_expression
 
 pub field_values_listed : Listed InVector IsFieldValue field_value_leaves
-field_values_listed = in_vector (let found = field_value_within some_field_value_word.0 some_field_value_word.1 in (found.0, found.1))
+field_values_listed = in_vector (has_within field_value_within some_field_value_word)
 
 some_call : Has CallTailWord
 some_call = some_then (some_one (symbol symbols.LeftParenthesis)) (some_then no_arguments (some_one (symbol symbols.RightParenthesis)))
@@ -142,8 +142,8 @@ arguments_cases r word = subst (λ r. Empty r ⊎ SomeArguments r) (sym word.2) 
     of (x ∷ xs) all = inr (x ∷ xs, (omega arith, all.0, all.1), refl)
 
 arguments_within : Within (λ u. Empty u ⊎ SomeArguments u) ArgumentsWord
-arguments_within q (inl empty) = (commas (map expression_leaves []), ([], (All-nil IsExpression, lit< tt), refl), same_of (no_commas ∙ sym empty))
-arguments_within q (inr word) = (q, (word.0, (word.1.1, word.1.2), word.2), refl)
+arguments_within q (inl empty) = kept q (commas (map expression_leaves [])) ([], (All-nil IsExpression, lit< tt), refl) (same_of (no_commas ∙ sym empty))
+arguments_within q (inr word) = kept q q (word.0, (word.1.1, word.1.2), word.2) (same_of refl)
 
 arguments_start : {source : Source} {cursor : Cursor} {Follow : Option Terminal → Type 0} → Goes source cursor cursor ArgumentsWord Follow (λ u. Empty u ⊎ SomeArguments u)
 arguments_start = start arguments_cases ([], inl refl) arguments_within

@@ -13,7 +13,7 @@ use Rattle.koika_parse.specs.Reading.{Reads, next, token_at, tokens_left}
 use Rattle.koika_parse.specs.declared.cursor.Cursor.{Cursor}
 use Rattle.koika_parse.specs.declared.source.Source.{Source}
 
-zip_append : {A B : Type 0} (R : A → B → Type 0) (xs us : List A) (ys vs : List B) → AllZip R xs ys → AllZip R us vs → AllZip R (xs ++ us) (ys ++ vs)
+pub zip_append : {A B : Type 0} (R : A → B → Type 0) (xs us : List A) (ys vs : List B) → AllZip R xs ys → AllZip R us vs → AllZip R (xs ++ us) (ys ++ vs)
 zip_append R [] us [] vs a b = b
 zip_append R [] us (y ∷ ys) vs a b = absurd a
 zip_append R (x ∷ xs) us [] vs a b = absurd a
@@ -41,6 +41,10 @@ in_turn {source} {old} {mid} {new} {xs} {ys} p q = record {
   depth = q.depth ∙ ap (λ n. open_behind_all n ys) p.depth ∙ sym (open_append old.depth xs ys);
   few = λ low. few_append old.depth xs ys (p.few low) (subst (λ n. AreFewOpen n ys) p.depth (q.few (subst (λ n. n ≤ 64) (sym p.depth) (few_behind old.depth xs low (p.few low)))));
 }
+
+pub tokens_in_turn : {source : Source} {old mid new : Cursor} {xs ys : List Leaf} (p : Reads source old mid xs) (q : Reads source mid new ys) → (in_turn p q).tokens ≡ p.tokens ++ q.tokens
+unfolding in_turn
+tokens_in_turn p q = refl
 
 -- nothing is read
 pub nothing : (source : Source) (old new : Cursor) → new ≡ old → Reads source old new []

@@ -11,7 +11,7 @@ use Rattle.koika_parse.specs.Expected.{One, Part, Then, first, Behind}
 use Rattle.koika_parse.specs.Reading.{kind_at, next}
 use Rattle.koika_parse.specs.declared.cursor.Cursor.{Cursor}
 use Rattle.koika_parse.specs.declared.source.Source.{Source}
-use Rattle.koika_parse.proofs.Expected.{Empty, Goes, Has, Within, narrow, goes_as, kind_is, sign_or_name, some_one, some_then}
+use Rattle.koika_parse.proofs.Expected.{Empty, Goes, Has, Within, kept, narrow, goes_as, same_of, kind_is, sign_or_name, some_one, some_then}
 use Rattle.koika_parse.proofs.Witnesses.{some_name}
 
 abbrev pub Rows : {X : Type 0} → (X → Type 0) → (X → List Leaf) → List Leaf → Type 0
@@ -37,7 +37,7 @@ rows_again Is leaves r (inr both) = rows_made Is leaves r both
 
 -- the words of the one language are words of the other
 pub as_they_are : (P Q : List Leaf → Type 0) → ((r : List Leaf) → P r → Q r) → Within P Q
-as_they_are P Q each r word = (r, each r word, refl)
+as_they_are P Q each r word = kept r r (each r word) (same_of refl)
 
 -- rows are none, or the first and the others
 pub rows_split : {X : Type 0} {source : Source} {old new : Cursor} {Word : List Leaf → Type 0} {Follow : Option Terminal → Type 0} (Is : X → Type 0) (leaves : X → List Leaf) →
@@ -47,7 +47,7 @@ rows_split Is leaves goes = goes_as goes (rows_cases Is leaves) ([], inl refl) (
 -- one of two, by the next token
 pub the_first : {source : Source} {old new : Cursor} {Word : List Leaf → Type 0} {Follow : Option Terminal → Type 0} {A B : List Leaf → Type 0} →
     Goes source old new Word Follow (λ u. A u ⊎ B u) → ((r v : List Leaf) → B r → Behind Follow v → first (r ++ v) ≡ next source new → ⊥) → Has A → Goes source old new Word Follow A
-the_first {source} {old} {new} {Word} {Follow} {A} {B} goes never some = narrow goes (λ r v word behind at. of r v word behind at) some (λ q word. (q, inl word, refl))
+the_first {source} {old} {new} {Word} {Follow} {A} {B} goes never some = narrow goes (λ r v word behind at. of r v word behind at) some (λ q word. kept q q (inl word) (same_of refl))
   where
     of : (r v : List Leaf) → A r ⊎ B r → Behind Follow v → first (r ++ v) ≡ next source new → A r
     of r v (inl a) behind at = a
@@ -55,7 +55,7 @@ the_first {source} {old} {new} {Word} {Follow} {A} {B} goes never some = narrow 
 
 pub the_second : {source : Source} {old new : Cursor} {Word : List Leaf → Type 0} {Follow : Option Terminal → Type 0} {A B : List Leaf → Type 0} →
     Goes source old new Word Follow (λ u. A u ⊎ B u) → ((r v : List Leaf) → A r → Behind Follow v → first (r ++ v) ≡ next source new → ⊥) → Has B → Goes source old new Word Follow B
-the_second {source} {old} {new} {Word} {Follow} {A} {B} goes never some = narrow goes (λ r v word behind at. of r v word behind at) some (λ q word. (q, inr word, refl))
+the_second {source} {old} {new} {Word} {Follow} {A} {B} goes never some = narrow goes (λ r v word behind at. of r v word behind at) some (λ q word. kept q q (inr word) (same_of refl))
   where
     of : (r v : List Leaf) → A r ⊎ B r → Behind Follow v → first (r ++ v) ≡ next source new → B r
     of r v (inl a) behind at = absurd (never r v a behind at)

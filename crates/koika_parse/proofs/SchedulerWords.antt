@@ -10,11 +10,11 @@ use Rattle.koika_syntax.specs.Tree.{Leaf, Terminal, keyword, symbol, name_leaves
 use Rattle.koika_syntax.specs.declared.keyword.Keyword.{Keyword}
 use Rattle.koika_syntax.specs.declared.keyword.Keyword.TheVariants as keywords
 use Rattle.koika_syntax.specs.declared.symbol.Symbol.TheVariants as symbols
-use Rattle.koika_parse.specs.Expected.{One, Part, Then, first, Behind, Same}
+use Rattle.koika_parse.specs.Expected.{One, Part, Then, first, Behind}
 use Rattle.koika_parse.specs.Words.{LastChoiceWord, RulesWord, no_name, no_try}
 use Rattle.std.specs.Option.{option_map}
 use Rattle.koika_syntax.specs.declared.token.TokenKind.TheVariants as kinds
-use Rattle.koika_parse.proofs.Expected.{Empty, kind_of, Goes, start, goes_as, kind_of_next, kind_is, name_of, same_of_some, never_none, Has, Within, begin, like_one, like_part, like_then, made, same_of, same_one, same_part, same_then, some_one, some_then, starts}
+use Rattle.koika_parse.proofs.Expected.{Empty, kind_of, Goes, start, goes_as, kind_of_next, kind_is, name_of, same_of_some, never_none, Has, Kept, Same, Within, begin, has_within, kept, like_one, like_part, like_then, made, same_of, same_one, same_part, same_then, some_one, some_then, starts}
 use Rattle.koika_syntax.specs.declared.tree.Name.{Name}
 use Rattle.koika_syntax.specs.declared.tree.Choice.{Choice, Choice-F, map-Choice, out-Choice, every_held-Choice, every_here-Choice, fold_out-Choice, roll-Choice}
 use Rattle.koika_syntax.specs.declared.tree.Scheduler.{Scheduler, Scheduler-F, map-Scheduler, out-Scheduler, every_held-Scheduler, every_here-Scheduler, fold_out-Scheduler, roll-Scheduler}
@@ -99,13 +99,13 @@ not_named (Some t) free e = let b = name_of t (same_of_some e) in subst (λ t. n
 scheduler_within : Within SchedulerWord (Part IsScheduler (λ s. in_braces (scheduler_leaves s)))
 scheduler_within q both = of both.3.3.2.0 both.3.3.2.1 (same_part both.3.3.2)
   where
-    of : (last : Option Choice) → IfSome last IsChoice → Same (last_leaves last choice_leaves) both.3.3.0 → (r : List Leaf) × Part IsScheduler (λ s. in_braces (scheduler_leaves s)) r × Same r q
+    of : (last : Option Choice) → IfSome last IsChoice → Same (last_leaves last choice_leaves) both.3.3.0 → Kept (Part IsScheduler (λ s. in_braces (scheduler_leaves s))) q
     of None is like =
-        made q (like_then both (like_one None both.2) (like_then both.3 (like_part both.3.2) (like_then both.3.3 ([], like) (like_one None both.3.3.3)))) (roll-Scheduler (record { rules = both.3.2.0; last = None }))
+        made q (like_then both (like_one both.2) (like_then both.3 (like_part both.3.2) (like_then both.3.3 ([], like) (like_one both.3.3.3)))) (roll-Scheduler (record { rules = both.3.2.0; last = None }))
         (is_scheduler both.3.2.0 None both.3.2.1 tt)
         (ap in_braces (leaves_scheduler both.3.2.0 None) ∙ ap (λ t. sign symbols.LeftBrace ++ t) (append_assoc (flat_map rule_leaves both.3.2.0) [] (sign symbols.RightBrace)))
     of (Some c) is like =
-        made q (like_then both (like_one None both.2) (like_then both.3 (like_part both.3.2) (like_then both.3.3 (choice_leaves c, like) (like_one None both.3.3.3)))) (roll-Scheduler (record { rules = both.3.2.0; last = Some (boxed c) }))
+        made q (like_then both (like_one both.2) (like_then both.3 (like_part both.3.2) (like_then both.3.3 (choice_leaves c, like) (like_one both.3.3.3)))) (roll-Scheduler (record { rules = both.3.2.0; last = Some (boxed c) }))
         (is_scheduler both.3.2.0 (Some (boxed c)) both.3.2.1 is)
         (ap in_braces (leaves_scheduler both.3.2.0 (Some (boxed c))) ∙ ap (λ t. sign symbols.LeftBrace ++ t) (append_assoc (flat_map rule_leaves both.3.2.0) (choice_leaves c) (sign symbols.RightBrace)))
 
@@ -124,7 +124,7 @@ choice_within q both =
     let taken = both.3.3.3.2 in
     let other = both.3.3.3.3.3 in
     made q
-    (like_then both (like_one None both.2) (like_then both.3 (like_part rule) (like_then both.3.3 (like_one None both.3.3.2) (like_then both.3.3.3 (like_part taken) (like_then both.3.3.3.3 (like_one None both.3.3.3.3.2) (like_part other))))))
+    (like_then both (like_one both.2) (like_then both.3 (like_part rule) (like_then both.3.3 (like_one both.3.3.2) (like_then both.3.3.3 (like_part taken) (like_then both.3.3.3.3 (like_one both.3.3.3.3.2) (like_part other))))))
     (roll-Choice (record { rule = rule.0; then = taken.0; otherwise = other.0 })) (is_choice rule.0 taken.0 other.0 rule.1 taken.1 other.1)
     (leaves_choice rule.0 taken.0 other.0
     ∙ ap (λ t. word keywords.Try ++ (name_leaves rule.0 ++ (word keywords.Then ++ t))) (assoc2 (in_braces (scheduler_leaves taken.0)) (word keywords.Else) (in_braces (scheduler_leaves other.0))))
@@ -133,7 +133,7 @@ some_choice_word : Has ChoiceWord
 some_choice_word = some_then (some_one (keyword keywords.Try)) (some_then some_name (some_then (some_one (keyword keywords.Then)) (some_then some_scheduler (some_then (some_one (keyword keywords.Else)) some_scheduler))))
 
 some_choice : Has (Part IsChoice choice_leaves)
-some_choice = let found = choice_within some_choice_word.0 some_choice_word.1 in (found.0, found.1)
+some_choice = has_within choice_within some_choice_word
 
 pub choice_start : {source : Source} {cursor : Cursor} {Follow : Option Terminal → Type 0} → Goes source cursor cursor (Part IsChoice choice_leaves) Follow ChoiceWord
 choice_start = starts ChoiceWord choice_word some_choice_word choice_within
@@ -147,7 +147,7 @@ RuleWord = Then (Part IsName name_leaves) (Then (One (symbol symbols.Semicolon))
 
 rule_within : Within RuleWord (Then (Part IsName rule_leaves) RulesWord)
 rule_within q both =
-    (rule_leaves both.2.0 ++ both.3.1, (rule_leaves both.2.0, both.3.1, (both.2.0, both.2.1, refl), both.3.3, refl), same_then (name_leaves both.2.0) (sign symbols.Semicolon ++ both.3.1) both (same_part both.2) (same_then (sign symbols.Semicolon) both.3.1 both.3 (same_one None both.3.2) refl))
+    kept q (rule_leaves both.2.0 ++ both.3.1) (rule_leaves both.2.0, both.3.1, (both.2.0, both.2.1, refl), both.3.3, refl) (same_then (name_leaves both.2.0) (sign symbols.Semicolon ++ both.3.1) both (same_part both.2) (same_then (sign symbols.Semicolon) both.3.1 both.3 (same_one both.3.2) (same_of refl)))
 
 pub rules_at : {source : Source} {old new : Cursor} {Word : List Leaf → Type 0} → kind_at source new ≡ Some kinds.Name → Goes source old new Word no_name RulesWord → Goes source old new Word no_name (Then (Part IsName name_leaves) (Then (One (symbol symbols.Semicolon)) RulesWord))
 rules_at {source} {old} {new} named goes = goes_as
@@ -169,8 +169,8 @@ last_cases u word = subst (λ u. Empty u ⊎ Part IsChoice choice_leaves u) (sym
     of (Some c) is = inr (c, is, refl)
 
 last_within : Within (λ u. Empty u ⊎ Part IsChoice choice_leaves u) LastChoiceWord
-last_within q (inl empty) = ([], (None, tt, refl), same_of (sym empty))
-last_within q (inr part) = (q, (Some part.0, part.1, part.2), refl)
+last_within q (inl empty) = kept q [] (None, tt, refl) (same_of (sym empty))
+last_within q (inr part) = kept q q (Some part.0, part.1, part.2) (same_of refl)
 
 last_start : {source : Source} {cursor : Cursor} {Follow : Option Terminal → Type 0} → Goes source cursor cursor LastChoiceWord Follow (λ u. Empty u ⊎ Part IsChoice choice_leaves u)
 last_start = start last_cases ([], inl refl) last_within

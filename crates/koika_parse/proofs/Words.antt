@@ -1,7 +1,9 @@
 -- The words of each part, as the words of its own parts in turn.
-use Rattle.std.proofs.Common.{◌≡◌, ℕ, Option, None, Some, List, ◌++◌, append_assoc, refl, ap, sym, ◌∙◌}
+use Rattle.std.proofs.Common.{◌≡◌, ℕ, ◌<◌, ◌^◌, Option, Some, List, ◌++◌, append_assoc, refl, ap, sym, ◌∙◌}
 use Rattle.koika_syntax.specs.Grammar.{IsName, IsNumber, IsLiteral, IsWidth, IsType, IsMember, IsField, type_leaves, member_leaves, field_leaves}
-use Rattle.koika_syntax.specs.Tree.{Leaf, Terminal, keyword, symbol, name_leaves, number_leaves, literal_leaves, width_leaves, word, sign, placed}
+use Rattle.kw_bits.specs.BitVector.{BitVector, IsBitVector}
+use Rattle.koika_syntax.specs.Tokens.{IsToken}
+use Rattle.koika_syntax.specs.Tree.{Leaf, Terminal, name, number, literal, keyword, symbol, name_leaves, number_leaves, literal_leaves, width_leaves, word, sign, placed}
 use Rattle.koika_syntax.specs.declared.keyword.Keyword.{Keyword}
 use Rattle.koika_syntax.specs.declared.keyword.Keyword.TheVariants as keywords
 use Rattle.koika_syntax.specs.declared.symbol.Symbol.{Symbol}
@@ -10,13 +12,14 @@ use Rattle.koika_syntax.specs.declared.tree.Field.{Field}
 use Rattle.koika_syntax.specs.declared.tree.Member.{Member}
 use Rattle.koika_syntax.specs.declared.tree.TypeExpression.{TypeExpression, Bits, Named, Array'}
 use Rattle.koika_syntax.specs.declared.tree.Width.{Width}
-use Rattle.koika_parse.specs.Expected.{One, Part, Then, first}
+use Rattle.koika_parse.specs.Expected.{Any, One, Part, Then, first}
+use Rattle.koika_parse.specs.Reading.{next}
 use Rattle.koika_parse.specs.Words.{ArrayTypeWord}
 use Rattle.std.specs.Option.{option_map}
 use Rattle.koika_syntax.specs.declared.token.TokenKind.TheVariants as kinds
 use Rattle.koika_parse.specs.declared.cursor.Cursor.{Cursor}
 use Rattle.koika_parse.specs.declared.source.Source.{Source}
-use Rattle.koika_parse.proofs.Expected.{Goes, Has, Within, begin, starts, like_one, like_part, like_then, made, some_one, some_then, kind_of, name_or_word, sign_or_word, word_or_name, sign_or_name}
+use Rattle.koika_parse.proofs.Expected.{Goes, Has, Within, begin, starts, like_one, like_part, like_then, made, made_at, place_then, single, some_one, some_then, kind_of, name_or_word, sign_or_word, word_or_name, sign_or_name}
 use Rattle.koika_parse.proofs.Witnesses.{a_literal, a_literal_is, a_name, a_name_is, boxed, some_literal, some_name, some_number, some_type}
 
 pub sign_word : (s : Symbol) → One (symbol s) (sign s)
@@ -40,6 +43,16 @@ assoc5 e a b c d f = ap (λ t. t ++ f) (assoc4 e a b c d) ∙ append_assoc e (a 
 pub placed_word : (terminal : Terminal) (place : ℕ) → One terminal (placed terminal place)
 placed_word terminal place = (_, refl, refl)
 
+-- a name, a number and a literal by the next token
+pub one_name : {source : Source} {cursor : Cursor} {terminal : Terminal} (bytes : List ℕ) → IsToken kinds.Name bytes → name bytes ≡ terminal → next source cursor ≡ Some terminal → Goes source cursor cursor (Part IsName name_leaves) Any (One terminal)
+one_name bytes is same at = single (λ n. record { terminal = name n.text; place = Some n.place }) (λ n. refl) (λ place. record { text = bytes; place = place }) (λ place. is) (λ place. same) (λ place. refl) at
+
+pub one_number : {source : Source} {cursor : Cursor} {terminal : Terminal} (value : ℕ) → value < 2 ^ 32 → number value ≡ terminal → next source cursor ≡ Some terminal → Goes source cursor cursor (Part IsNumber number_leaves) Any (One terminal)
+one_number value is same at = single (λ n. record { terminal = number n.value; place = Some n.place }) (λ n. refl) (λ place. record { value = value; place = place }) (λ place. is) (λ place. same) (λ place. refl) at
+
+pub one_literal : {source : Source} {cursor : Cursor} {terminal : Terminal} (bits : BitVector) → IsBitVector bits.width bits.number → literal bits ≡ terminal → next source cursor ≡ Some terminal → Goes source cursor cursor (Part IsLiteral literal_leaves) Any (One terminal)
+one_literal bits is same at = single (λ l. record { terminal = literal l.bits; place = Some l.place }) (λ l. refl) (λ place. record { bits = bits; place = place }) (λ place. is) (λ place. same) (λ place. refl) at
+
 -- `bits` and a number
 abbrev pub WidthWord : List Leaf → Type 0
 WidthWord = Then (One (keyword keywords.Bits)) (Part IsNumber number_leaves)
@@ -48,7 +61,7 @@ pub width_word : (width : Width) → IsWidth width → WidthWord (width_leaves w
 width_word width is = (placed (keyword keywords.Bits) width.place, number_leaves width.number, placed_word (keyword keywords.Bits) width.place, (width.number, is, refl), refl)
 
 width_within : Within WidthWord (Part IsWidth width_leaves)
-width_within q both = made q (like_then both (like_one (Some 0) both.2) (like_part both.3)) (record { place = 0; number = both.3.0 }) both.3.1 refl
+width_within q both = made_at q (λ place. place_then place both (like_part both.3)) (λ place. record { place = place; number = both.3.0 }) (λ place. both.3.1) (λ place. refl)
 
 pub width_start : {source : Source} {cursor : Cursor} {Follow : Option Terminal → Type 0} → Goes source cursor cursor (Part IsWidth width_leaves) Follow WidthWord
 width_start = starts WidthWord width_word (some_then (some_one (keyword keywords.Bits)) some_number) width_within
@@ -62,7 +75,7 @@ member_word member is = (name_leaves member.name, sign symbols.Equals ++ literal
 
 member_within : Within MemberWord (Part IsMember member_leaves)
 member_within q both =
-    made q (like_then both (like_part both.2) (like_then both.3 (like_one None both.3.2) (like_part both.3.3))) (record { name = both.2.0; value = both.3.3.0 }) (both.2.1, both.3.3.1) refl
+    made q (like_then both (like_part both.2) (like_then both.3 (like_one both.3.2) (like_part both.3.3))) (record { name = both.2.0; value = both.3.3.0 }) (both.2.1, both.3.3.1) refl
 
 pub member_start : {source : Source} {cursor : Cursor} {Follow : Option Terminal → Type 0} → Goes source cursor cursor (Part IsMember member_leaves) Follow MemberWord
 member_start = starts MemberWord member_word (some_then some_name (some_then (some_one (symbol symbols.Equals)) some_literal)) member_within
@@ -75,7 +88,7 @@ field_word field is = (name_leaves field.name, sign symbols.Colon ++ type_leaves
 
 field_within : Within FieldWord (Part IsField field_leaves)
 field_within q both =
-    made q (like_then both (like_part both.2) (like_then both.3 (like_one None both.3.2) (like_part both.3.3))) (record { name = both.2.0; of = both.3.3.0 }) (both.2.1, both.3.3.1) refl
+    made q (like_then both (like_part both.2) (like_then both.3 (like_one both.3.2) (like_part both.3.3))) (record { name = both.2.0; of = both.3.3.0 }) (both.2.1, both.3.3.1) refl
 
 pub field_start : {source : Source} {cursor : Cursor} {Follow : Option Terminal → Type 0} → Goes source cursor cursor (Part IsField field_leaves) Follow FieldWord
 field_start = starts FieldWord field_word (some_then some_name (some_then (some_one (symbol symbols.Colon)) some_type)) field_within
@@ -102,10 +115,10 @@ array_is_type q both =
     let element = both.3.2.0 in
     let size = both.3.3.3.2.0 in
     let b = boxed tt in
-    made q
-    (like_then both (like_one (Some 0) both.2) (like_then both.3 (like_part both.3.2) (like_then both.3.3 (like_one None both.3.3.2) (like_then both.3.3.3 (like_part both.3.3.3.2) (like_one None both.3.3.3.3)))))
-    (Array' 0 b element size) (both.3.2.1, both.3.3.3.2.1)
-    (ap (λ t. placed (symbol symbols.LeftBracket) 0 ++ t) (assoc3 (type_leaves element) (sign symbols.Semicolon) (number_leaves size) (sign symbols.RightBracket)))
+    made_at q
+    (λ place. place_then place both (like_then both.3 (like_part both.3.2) (like_then both.3.3 (like_one both.3.3.2) (like_then both.3.3.3 (like_part both.3.3.3.2) (like_one both.3.3.3.3)))))
+    (λ place. Array' place b element size) (λ place. (both.3.2.1, both.3.3.3.2.1))
+    (λ place. ap (λ t. placed (symbol symbols.LeftBracket) place ++ t) (assoc3 (type_leaves element) (sign symbols.Semicolon) (number_leaves size) (sign symbols.RightBracket)))
 
 pub some_array_type : Has ArrayTypeWord
 some_array_type = some_then (some_one (symbol symbols.LeftBracket)) (some_then some_type (some_then (some_one (symbol symbols.Semicolon)) (some_then some_number (some_one (symbol symbols.RightBracket)))))

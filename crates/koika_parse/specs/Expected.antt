@@ -2,9 +2,11 @@
 -- takes that word and leaves what is behind it, and reading ends unexpectedly nowhere where some word goes on. Where it
 -- ends, some word goes on with what has been read.
 -- This serves private functions alone.
-use Rattle.std.specs.Prelude.{◌≡◌, ℕ, ◌<◌, ◌≤◌, ◌^◌, Option, None, Some, Result, Ok, Err, Bool, true, false, ⊤, List, [], ◌∷◌, ◌++◌, length, map, All, drop}
+use Rattle.std.specs.Prelude.{◌≡◌, ℕ, ◌<◌, ◌≤◌, ◌^◌, Option, None, Some, IfSome, Result, Ok, Err, Bool, true, false, ⊤, List, [], ◌∷◌, ◌++◌, length, map, All, drop}
+use Rattle.std.specs.List.{AllZip}
 use Rattle.koika_syntax.specs.Grammar.{IsNonempty}
-use Rattle.koika_syntax.specs.Tree.{Leaf, Terminal, symbol, commas}
+use Rattle.koika_syntax.specs.Tree.{Leaf, Terminal, symbol, commas, terminal_of}
+use Rattle.koika_syntax.specs.declared.token.Token.{Token}
 use Rattle.koika_syntax.specs.declared.symbol.Symbol.TheVariants as symbols
 use Rattle.koika_parse.specs.Brackets.{AreFewOpen, open_behind}
 use Rattle.koika_parse.specs.Reading.{Reads, next}
@@ -54,23 +56,32 @@ Ends (Err stops.Unexpected) few left = ⊥
 Ends (Err stops.TooDeep) few left = few → ⊥
 Ends (Err stops.NoMemory) few left = ⊤
 
--- the same tokens, wherever a tree says that they stand
-abbrev pub Same : List Leaf → List Leaf → Type 0
-Same a b = map (λ leaf. leaf.terminal) a ≡ map (λ leaf. leaf.terminal) b
+-- a token and where it stands
+pub record Spot : Type 0 where
+  pub terminal : Terminal
+  pub place : ℕ
+
+-- the leaves are these tokens, and stand where a tree says
+abbrev pub StandAt : List Leaf → List Spot → Type 0
+StandAt leaves spots = AllZip (λ leaf spot. (leaf.terminal ≡ spot.terminal) × IfSome leaf.place (λ place. place ≡ spot.place)) leaves spots
+
+-- where the tokens of a text stand
+abbrev pub spots_of : List ℕ → List Token → List Spot
+spots_of text tokens = map (λ token. record { terminal = terminal_of text token; place = token.start }) tokens
 
 -- what has been read is the front of a word of the language, and this is the rest of that word
-pub record Front (source : Source) (old new : Cursor) (Word : List Leaf → Type 0) (rest : List Leaf) : Type 0 where
+pub record Front (source : Source) (old new : Cursor) (Word : List Leaf → Type 0) (rest : List Spot) : Type 0 where
   pub read : List Leaf
   pub reads : Reads source old new read
   pub whole : List Leaf
   pub word : Word whole
-  pub same : Same whole (read ++ rest)
+  pub stands : StandAt whole (spots_of source.text.now reads.tokens ++ rest)
 
 -- how far reading comes: over a word; over the front of one; over the front of one that goes on with a bracket too many
 abbrev pub Leads : {X : Type 0} → Source → (old new : Cursor) → (List Leaf → Type 0) → Result X Stop → Type 0
 Leads source old new Word (Ok x) = Front source old new Word []
-Leads source old new Word (Err stops.Unexpected) = (rest : List Leaf) × Front source old new Word rest
-Leads source old new Word (Err stops.TooDeep) = (leaf : Leaf) × (rest : List Leaf) × Front source old new Word (leaf ∷ rest) × (next source new ≡ Some leaf.terminal) × (64 < open_behind new.depth leaf.terminal)
+Leads source old new Word (Err stops.Unexpected) = (rest : List Spot) × Front source old new Word rest
+Leads source old new Word (Err stops.TooDeep) = (spot : Spot) × (rest : List Spot) × Front source old new Word (spot ∷ rest) × (next source new ≡ Some spot.terminal) × (64 < open_behind new.depth spot.terminal)
 Leads source old new Word (Err stops.NoMemory) = ⊤
 
 -- a reader takes words of this language, wherever such a token follows

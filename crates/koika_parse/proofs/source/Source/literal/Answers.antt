@@ -1,10 +1,11 @@
-use Rattle.std.proofs.Common.{Some, refl, sym, ap, ◌∙◌, ◌++◌}
+use Rattle.std.proofs.Common.{refl, sym, ap, ◌∙◌, ◌++◌}
 use Rattle.koika_syntax.specs.Grammar.{IsLiteral}
-use Rattle.koika_syntax.specs.Tree.{literal, literal_leaves}
+use Rattle.koika_syntax.specs.Tree.{literal_leaves}
 use Rattle.koika_parse.specs.Expected.{Part, first}
-use Rattle.koika_parse.proofs.Expected.{begin, fails_last, last_part, refused, single, within}
+use Rattle.koika_parse.proofs.Expected.{begin, fails_last, last_part, refused, within}
 use Rattle.koika_parse.proofs.Reading.{in_place_of}
 use Rattle.koika_parse.proofs.Witnesses.{some_literal}
+use Rattle.koika_parse.proofs.Words.{one_literal}
 use Rattle.koika_parse.proofs.source.Source.literal.Goals as goal
 
 pub step-requires : goal.step-requires
@@ -18,8 +19,8 @@ returns-in-None-clause-takes c = refused (begin (Part IsLiteral literal_leaves) 
 
 pub returns-in_err-place-in-Some-clause-takes : goal.returns-in_err-place-in-Some-clause-takes
 returns-in_err-place-in-Some-clause-takes c =
-    fails_last c.from_residual.result c.from_residual.ensures (single (λ l. record { terminal = literal l.bits; place = Some l.place }) (λ l. refl) (record { bits = c.in-Some.bits; place = 0 }) c.in-Some.ensures.is refl c.in-Some.ensures.at) (c.in_err-place-in-Some.ensures.takes _ c.in-Some.ensures.at)
+    fails_last c.from_residual.result c.from_residual.ensures (one_literal c.in-Some.bits c.in-Some.ensures.is refl c.in-Some.ensures.at) (c.in_err-place-in-Some.ensures.takes _ c.in-Some.ensures.at)
 
 pub returns-in_ok-place-in-Some-clause-takes : goal.returns-in_ok-place-in-Some-clause-takes
 returns-in_ok-place-in-Some-clause-takes c =
-    last_part _ (single (λ l. record { terminal = literal l.bits; place = Some l.place }) (λ l. refl) (record { bits = c.in-Some.bits; place = 0 }) c.in-Some.ensures.is refl c.in-Some.ensures.at) (c.in_ok-place-in-Some.ensures.takes _ c.in-Some.ensures.at)
+    last_part _ (one_literal c.in-Some.bits c.in-Some.ensures.is refl c.in-Some.ensures.at) (c.in_ok-place-in-Some.ensures.takes _ c.in-Some.ensures.at)

@@ -1,9 +1,10 @@
-use Rattle.std.proofs.Common.{Some, refl, sym, ap, ◌∙◌, ◌++◌}
+use Rattle.std.proofs.Common.{refl, sym, ap, ◌∙◌, ◌++◌}
 use Rattle.koika_syntax.specs.Grammar.{IsNumber}
-use Rattle.koika_syntax.specs.Tree.{number, number_leaves}
+use Rattle.koika_syntax.specs.Tree.{number_leaves}
 use Rattle.koika_parse.specs.Expected.{Part, first}
-use Rattle.koika_parse.proofs.Expected.{begin, fails_last, last_part, refused, single, within}
+use Rattle.koika_parse.proofs.Expected.{begin, fails_last, last_part, refused, within}
 use Rattle.koika_parse.proofs.Witnesses.{some_number}
+use Rattle.koika_parse.proofs.Words.{one_number}
 use Rattle.koika_parse.proofs.source.Source.number.Goals as goal
 
 pub step-requires : goal.step-requires
@@ -14,8 +15,8 @@ returns-in-None-clause-takes c = refused (begin (Part IsNumber number_leaves) so
 
 pub returns-in_err-place-in-Some-clause-takes : goal.returns-in_err-place-in-Some-clause-takes
 returns-in_err-place-in-Some-clause-takes c =
-    fails_last c.from_residual.result c.from_residual.ensures (single (λ n. record { terminal = number n.value; place = Some n.place }) (λ n. refl) (record { value = c.in-Some.value; place = 0 }) c.in-Some.ensures.small refl c.in-Some.ensures.at) (c.in_err-place-in-Some.ensures.takes _ c.in-Some.ensures.at)
+    fails_last c.from_residual.result c.from_residual.ensures (one_number c.in-Some.value c.in-Some.ensures.small refl c.in-Some.ensures.at) (c.in_err-place-in-Some.ensures.takes _ c.in-Some.ensures.at)
 
 pub returns-in_ok-place-in-Some-clause-takes : goal.returns-in_ok-place-in-Some-clause-takes
 returns-in_ok-place-in-Some-clause-takes c =
-    last_part _ (single (λ n. record { terminal = number n.value; place = Some n.place }) (λ n. refl) (record { value = c.in-Some.value; place = 0 }) c.in-Some.ensures.small refl c.in-Some.ensures.at) (c.in_ok-place-in-Some.ensures.takes _ c.in-Some.ensures.at)
+    last_part _ (one_number c.in-Some.value c.in-Some.ensures.small refl c.in-Some.ensures.at) (c.in_ok-place-in-Some.ensures.takes _ c.in-Some.ensures.at)
