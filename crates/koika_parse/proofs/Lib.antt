@@ -28,3 +28,7 @@ pub mod DeclarationWords
 pub mod Designs
 pub mod Seen
 pub mod OneFault
+pub mod Answered
+pub mod AnsweredParts
+pub mod AnsweredExpressions
+pub mod EachText

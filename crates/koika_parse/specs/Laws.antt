@@ -1,9 +1,10 @@
--- The laws of the grammar: tokens are derived by one tree at most, or they have one fault at most, and not both.
-use Rattle.std.specs.Prelude.{◌≡◌, ℕ, Result, List, map}
+-- The laws of the grammar: tokens are derived by one tree at most, or they have one fault at most, and not both; and one of both they have.
+use Rattle.std.specs.Prelude.{◌≡◌, ◌⊎◌, ℕ, ◌<◌, ◌^◌, Result, List, map, length}
 use Rattle.kw_base.specs.Fault.{IsOkUnlessNoMemory}
 use Rattle.kw_base.specs.declared.fault.Refusal.{Refusal}
 use Rattle.kw_base.specs.declared.fault.Fault.{Fault}
 use Rattle.koika_syntax.specs.Grammar.{Derives, IsDesign, tree_leaves}
+use Rattle.koika_syntax.specs.Tokens.{AreTokensOf}
 use Rattle.koika_syntax.specs.Tree.{Terminal, terminal_of}
 use Rattle.koika_syntax.specs.declared.token.Token.{Token}
 use Rattle.koika_syntax.specs.declared.tree.Tree.{Tree}
@@ -37,6 +38,14 @@ OneFault = (text : List ℕ) (tokens : List Token) (f g : Fault) → StandsBetwe
 -- where a tree derives the tokens with few open brackets, no fault stands between them
 abbrev pub NoFault : Type 0
 NoFault = (text : List ℕ) (tokens : List Token) (tree : Tree) (fault : Fault) → Derives text tree tokens → AreFewOpen 0 (tree_leaves tree) → StandsBetween text tokens fault → ⊥
+
+-- the tokens of a text are a tree's with few open brackets, or a fault stands between them
+abbrev pub IsParsed : List ℕ → List Token → Type 0
+IsParsed text tokens = ((tree : Tree) × Derives text tree tokens × AreFewOpen 0 (tree_leaves tree)) ⊎ ((fault : Fault) × StandsBetween text tokens fault)
+
+-- the tokens of each text are, where a vector has room for as many items as the text has bytes
+abbrev pub EachTextIsParsed : Type 0
+EachTextIsParsed = (text : List ℕ) (tokens : List Token) → AreTokensOf tokens text → length text < 2 ^ 62 → IsParsed text tokens
 
 -- where the tokens of a text are those of a tree with few open brackets, as in a printed text, that tree is answered up to places,
 -- unless memory ran out

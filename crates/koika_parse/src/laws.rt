@@ -29,3 +29,8 @@ pub fn a_text_has_one_fault()
 pub fn a_design_has_no_fault()
     ensures { law.NoFault }
 {}
+
+/// The tokens of a text are a tree's with few open brackets, or a fault stands between them.
+pub fn each_text_is_parsed()
+    ensures { law.EachTextIsParsed }
+{}

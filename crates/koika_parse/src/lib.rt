@@ -1,8 +1,8 @@
 //! From the tokens of a design to its tree.
 //!
 //! What tokens a tree stands for and which trees are the grammar's stands in `koika_syntax`;
-//! `specs/Reading.antt` says what a reader of a part has read. The checker and the command `print` call
-//! `parse`.
+//! `specs/Reading.antt` says what a reader of a part has read, and `specs/Laws.antt` what holds of each text.
+//! `koika_top` and `koika_print` call `parse`.
 #![tactic(auto, using(crate::proofs::Reading::reading))]
 
 mod constants;
@@ -19,7 +19,8 @@ mod tokens;
 mod types;
 
 pub use laws::{
-    a_design_has_no_fault, a_text_has_one_fault, tokens_are_derived_by_one_tree,
-    trees_of_the_same_tokens_differ_in_places_alone, what_is_printed_is_read_again,
+    a_design_has_no_fault, a_text_has_one_fault, each_text_is_parsed,
+    tokens_are_derived_by_one_tree, trees_of_the_same_tokens_differ_in_places_alone,
+    what_is_printed_is_read_again,
 };
 pub use parser::parse;
