@@ -17,7 +17,7 @@ use crate::cursor::Cursor;
 use crate::source::Source;
 use crate::stop::Stop;
 use koika_syntax::{Declaration, Keyword, Token, Tree};
-use kw_base::{Fault, Refusal, place_of};
+use kw_base::{Fault, Refusal, fault_number, place_of};
 use kw_bits::Sequence;
 use std::alloc::Global;
 
@@ -84,8 +84,8 @@ impl<'a> Source<'a> {
         ensures { IfFault {X = Tree} (Err result) (IsFaultOf self.now cursor.now stop) }
     {
         match stop {
-            Stop::Unexpected => Refusal::Fault(self.fault(cursor, 11)),
-            Stop::TooDeep => Refusal::Fault(self.fault(cursor, 12)),
+            Stop::Unexpected => Refusal::Fault(self.fault(cursor, fault_number::UNEXPECTED_TOKEN)),
+            Stop::TooDeep => Refusal::Fault(self.fault(cursor, fault_number::BRACKETS_TOO_DEEP)),
             Stop::NoMemory => Refusal::NoMemory,
         }
     }

@@ -1,7 +1,7 @@
 //! From the tree of a design to its text.
 //!
 //! `specs/Printed.antt` says how each token is written and what stands behind it; the tokens of a tree are
-//! those of the grammar in `koika_syntax`. The command `print` and the generator call `print`.
+//! those of the grammar in `koika_syntax`. `koika_top` calls `print` for the command `print`.
 #![tactic(auto, using(crate::proofs::Printing::printing))]
 
 mod constants;
