@@ -1,13 +1,19 @@
--- Words and a source have an answer; if they read a design, where its tokens are a tree's or have a fault of the grammar.
-use Rattle.std.proofs.Common.{◌≡◌, ◌⊎◌, ◌≤◌, ℕ, Bool, true, false, List, length, Option, Some, None, Result, Ok, Err, refl, inl, inr, ⊎_elim}
-use Rattle.std.specs.Prelude.{MatchOption}
+-- Words and a source have an answer.
+use Rattle.std.proofs.Common.{◌≡◌, ◌⊎◌, ◌+◌, ◌≤◌, ℕ, zero, suc, Bool, true, false, List, [], ◌∷◌, ◌++◌, length, length-append, take, Option, Some, None, Result, Ok, Err, refl, ap, inl, inr, arith, ⊎_elim}
+use Rattle.std.specs.Prelude.{MatchOption, position}
+use Rattle.std.specs.List.{flat_map, join_with_byte, slice_split}
 use Rattle.std.proofs.lemmas.Bool.{cases_lt, false≢true}
+use Rattle.std.proofs.lemmas.List.Splits.{join_with_byte-slice_split}
 use Rattle.kw_base.specs.Fault.{fault_at}
 use Rattle.kw_base.specs.Place.{place_at}
 use Rattle.kw_base.specs.declared.fault.Fault.{Fault}
 use Rattle.koika_syntax.specs.Grammar.{tree_leaves}
 use Rattle.koika_syntax.specs.declared.tree.Tree.{Tree}
+use Rattle.koika_syntax.specs.Tokens.{AreTokensOf}
+use Rattle.koika_syntax.specs.declared.token.Token.{Token}
 use Rattle.koika_syntax.proofs.Lexing.{tokens_or_first_fault}
+use Rattle.koika_parse.specs.Laws.{IsParsed}
+use Rattle.koika_parse.proofs.EachText.{each_text}
 use Rattle.koika_check.specs.Checks.{checked}
 use Rattle.koika_check.specs.Counts.{counts_of}
 use Rattle.koika_check.specs.Outcomes.{Outcome, Fails, Gives}
@@ -15,13 +21,14 @@ use Rattle.koika_check.specs.declared.checked.Checked.{Checked}
 use Rattle.koika_check.specs.declared.stop.Wrong.{Wrong}
 use Rattle.koika_print.specs.Printed.{printed}
 use Rattle.one_rule.specs.Stimulus.{InputVectors, inputs_of}
+use Rattle.stim_report.specs.Cuts.{cut_at, ends_line, is_mark, parts_of, with_line_feed}
 use Rattle.typed_core.specs.declared.design.HostSpec.{HostSpec}
-use Rattle.koika_top.specs.Answer.{Answers, CanBeRead, IsAnswer, has_one_text}
+use Rattle.koika_top.specs.Answer.{Answers, IsAnswer, has_one_text}
 use Rattle.koika_top.specs.Compile.{AnswersCompile}
 use Rattle.koika_top.specs.Generator.{pipeline}
 use Rattle.koika_top.specs.Reads.{AnswersCheck, AnswersPrint, counts_line}
 use Rattle.koika_top.specs.Sim.{AnswersSim, is_too_long, marks_of, text_of_rows}
-use Rattle.koika_top.specs.Sources.{IsIllTyped, IsParsed, IsUnread, IsUnspelled, Spells, SpellsDesign, SpellsTree, design_part, fault_of_source, longest_source, shape_of, stimulus_in}
+use Rattle.koika_top.specs.Sources.{IsIllTyped, IsUnread, IsUnspelled, Spells, SpellsDesign, SpellsTree, design_part, fault_of_source, longest_source, shape_of, stimulus_in}
 use Rattle.koika_top.specs.Systems.{run_of}
 use Rattle.koika_top.specs.Words.{command_of}
 use Rattle.koika_top.specs.declared.answer.Answer.{Answer}
@@ -45,7 +52,42 @@ design_told : (o : Outcome Checked) → ((d : Checked) × (o ≡ Gives d)) ⊎ (
 design_told (Gives d) = inl (d, refl)
 design_told (Fails w) = inr (w, refl)
 
-module _ (hosts : List HostSpec) (source : List ℕ) (parsed : IsParsed (design_part source)) where
+-- the design of a source is no longer than the source and a line feed
+marked_length : (mark : ℕ) (lines : List (List ℕ)) → length (flat_map with_line_feed (take mark lines)) ≤ length (join_with_byte 10 lines) + 1
+marked_length zero lines = omega arith
+marked_length (suc mark) [] = omega arith
+marked_length (suc mark) (line ∷ []) = of mark
+  where
+    of : (mark : ℕ) → length (flat_map with_line_feed (take (suc mark) (line ∷ []))) ≤ length line + 1
+    of zero = omega (arith, length-append (line ++ 10 ∷ []) [], length-append line (10 ∷ []))
+    of (suc mark) = omega (arith, length-append (line ++ 10 ∷ []) [], length-append line (10 ∷ []))
+marked_length (suc mark) (line ∷ next ∷ lines) =
+    let behind = next ∷ lines in
+    let front : flat_map with_line_feed (take (suc mark) (line ∷ behind)) ≡ (line ++ 10 ∷ []) ++ flat_map with_line_feed (take mark behind) = refl in
+    let whole : join_with_byte 10 (line ∷ behind) ≡ line ++ (10 ∷ join_with_byte 10 behind) = refl in
+    omega (
+      arith,
+      ap length front,
+      ap length whole,
+      length-append line (10 ∷ []),
+      length-append (line ++ 10 ∷ []) (flat_map with_line_feed (take mark behind)),
+      length-append line (10 ∷ join_with_byte 10 behind),
+      marked_length mark behind,
+    )
+
+design_length : (source : List ℕ) → length (design_part source) ≤ length source + 1
+unfolding parts_of
+design_length source = of (position is_mark (slice_split ends_line source))
+  where
+    of : (mark : Option ℕ) → length (cut_at (slice_split ends_line source) mark source).design ≤ length source + 1
+    of None = omega arith
+    of (Some mark) = omega (arith, marked_length mark (slice_split ends_line source), ap length (join_with_byte-slice_split 10 source))
+
+-- the tokens of its design are a tree's, or have a fault of the grammar
+parsed : (source : List ℕ) (tokens : List Token) → AreTokensOf tokens (design_part source) → length source ≤ longest_source → IsParsed (design_part source) tokens
+parsed source tokens are short = each_text (design_part source) tokens are (omega (arith, design_length source, short))
+
+module _ (hosts : List HostSpec) (source : List ℕ) where
   -- a short source spells a tree, or there is a fault of its tokens or of the grammar
   tree_or_fault : length source ≤ longest_source → ((t : Tree) × SpellsTree source t) ⊎ ((f : Fault) × IsUnread source f)
   tree_or_fault short =
@@ -54,7 +96,7 @@ module _ (hosts : List HostSpec) (source : List ℕ) (parsed : IsParsed (design_
       ⊎_elim
       (λ found. inl (found.0, record { short = short; tokens = cut.0; are = cut.1; derived = found.1; few = found.2 }))
       (λ wrong. inr (wrong.0, inr (short, (cut.0, cut.1, wrong.1))))
-      (parsed cut.0 cut.1))
+      (parsed source cut.0 cut.1 short))
       (λ first. inr (first.0, inl (short, first.1)))
       (tokens_or_first_fault (design_part source))
 
@@ -125,27 +167,27 @@ module _ (hosts : List HostSpec) (source : List ℕ) (parsed : IsParsed (design_
         (spelled_or_fault short))
         (cases_lt longest_source (length source))
 
-command_answer : (hosts : List HostSpec) (command : Command) (source : List ℕ) → has_one_text (Some command) ≡ true → CanBeRead (Some command) source → (answer : Answer) × Answers hosts command source answer
-command_answer hosts Check source one parsed = check_answer hosts source parsed
-command_answer hosts Print source one parsed = print_answer hosts source parsed
-command_answer hosts (Sim cycles shown) source one parsed = sim_answer hosts source parsed cycles shown
-command_answer hosts (Btorsim cycles shown) source one read = btorsim_answer source cycles shown
-command_answer hosts Compile source one parsed = absurd (false≢true one)
-command_answer hosts (Gen stages) source one read = (Written (pipeline stages), refl)
+command_answer : (hosts : List HostSpec) (command : Command) (source : List ℕ) → has_one_text (Some command) ≡ true → (answer : Answer) × Answers hosts command source answer
+command_answer hosts Check source one = check_answer hosts source
+command_answer hosts Print source one = print_answer hosts source
+command_answer hosts (Sim cycles shown) source one = sim_answer hosts source cycles shown
+command_answer hosts (Btorsim cycles shown) source one = btorsim_answer source cycles shown
+command_answer hosts Compile source one = absurd (false≢true one)
+command_answer hosts (Gen stages) source one = (Written (pipeline stages), refl)
 
-by_words : (hosts : List HostSpec) (command : Option Command) (source : List ℕ) → has_one_text command ≡ true → CanBeRead command source → (answer : Answer) × MatchOption command (answer ≡ Usage) (λ c. Answers hosts c source answer)
-by_words hosts None source one read = (Usage, refl)
-by_words hosts (Some command) source one read = command_answer hosts command source one read
+by_words : (hosts : List HostSpec) (command : Option Command) (source : List ℕ) → has_one_text command ≡ true → (answer : Answer) × MatchOption command (answer ≡ Usage) (λ c. Answers hosts c source answer)
+by_words hosts None source one = (Usage, refl)
+by_words hosts (Some command) source one = command_answer hosts command source one
 
 -- there is an answer
-pub some_answer : (hosts : List HostSpec) (words : List (List ℕ)) (source : List ℕ) → has_one_text (command_of words) ≡ true → CanBeRead (command_of words) source → (answer : Answer) × IsAnswer hosts words source answer
-some_answer hosts words source one read = by_words hosts (command_of words) source one read
+pub some_answer : (hosts : List HostSpec) (words : List (List ℕ)) (source : List ℕ) → has_one_text (command_of words) ≡ true → (answer : Answer) × IsAnswer hosts words source answer
+some_answer hosts words source one = by_words hosts (command_of words) source one
 
 -- a source is refused by `compile`, or spells what a circuit can be written of
-pub some_circuit : (hosts : List HostSpec) (source : List ℕ) → IsParsed (design_part source)
-    → ((fault : Fault) × AnswersCompile hosts source (Refused fault)) ⊎ ((design : Checked) × (stimulus : InputVectors) × Spells hosts source design stimulus)
-some_circuit hosts source parsed =
+pub some_circuit : (hosts : List HostSpec) (source : List ℕ) →
+    ((fault : Fault) × AnswersCompile hosts source (Refused fault)) ⊎ ((design : Checked) × (stimulus : InputVectors) × Spells hosts source design stimulus)
+some_circuit hosts source =
     ⊎_elim
     (λ long. inl (fault_of_source 40, inl (refl, long)))
-    (λ short. ⊎_elim (λ found. inr found) (λ wrong. inl (wrong.0, inr wrong.1)) (spelled_or_fault hosts source parsed short))
+    (λ short. ⊎_elim (λ found. inr found) (λ wrong. inl (wrong.0, inr wrong.1)) (spelled_or_fault hosts source short))
     (cases_lt longest_source (length source))

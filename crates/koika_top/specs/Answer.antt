@@ -9,7 +9,7 @@ use Rattle.koika_top.specs.Compile.{AnswersCompile}
 use Rattle.koika_top.specs.Generator.{pipeline}
 use Rattle.koika_top.specs.Reads.{AnswersCheck, AnswersPrint}
 use Rattle.koika_top.specs.Sim.{AnswersSim}
-use Rattle.koika_top.specs.Sources.{IsParsed, design_part, longest_source}
+use Rattle.koika_top.specs.Sources.{longest_source}
 use Rattle.koika_top.specs.Words.{command_of}
 use Rattle.koika_top.specs.declared.answer.Answer.{Answer}
 use Rattle.koika_top.specs.declared.answer.Answer.TheVariants.{Usage, Refused, Written}
@@ -44,13 +44,6 @@ reads_source (Some command) = is_of_source command
 abbrev pub longest_of : Command → ℕ
 longest_of (Btorsim cycles shown) = longest_circuit
 longest_of other = longest_source
-
--- where the command reads a design: its tokens, if the text in front of the mark has any, are a tree's or have a fault of the grammar
-abbrev pub CanBeRead : Option Command → List ℕ → Type 0
-CanBeRead None source = Unit {0}
-CanBeRead (Some (Btorsim cycles shown)) source = Unit {0}
-CanBeRead (Some (Gen stages)) source = Unit {0}
-CanBeRead (Some other) source = IsParsed (design_part source)
 
 -- what is known of the bytes that an answer stands on, where these are known of the source
 abbrev pub known_source : Option Command → Option (List ℕ) → Option (List ℕ)

@@ -73,11 +73,6 @@ pub record Spells (hosts : List HostSpec) (source : List ℕ) (design : Checked)
   pub spelled : SpellsDesign hosts source design
   pub given : stimulus_in source design ≡ Ok stimulus
 
--- the tokens of a text, if it has any, are those of a tree with few open brackets, or they have a fault of the grammar
-abbrev pub IsParsed : List ℕ → Type 0
-IsParsed text = (tokens : List Token) → AreTokensOf tokens text →
-    ((tree : Tree) × Derives text tree tokens × AreFewOpen 0 (tree_leaves tree)) ⊎ ((fault : Fault) × StandsBetween text tokens fault)
-
 -- ---- faults
 
 -- 40 where the source is too long

@@ -7,9 +7,9 @@ ghost use Rattle.koika_check.specs.declared.checked.Checked.{Checked};
 ghost use Rattle.one_rule.specs.Stimulus.{InputVectors};
 ghost use Rattle.koika_top.specs.declared.answer.Answer.{Answer};
 ghost use Rattle.koika_top.specs.declared.answer.Answer.TheVariants.{Refused};
-ghost use Rattle.koika_top.specs.Answer.{CanBeRead, IsAnswer, IsLikeAnswer, IsSameAnswer, has_one_text};
+ghost use Rattle.koika_top.specs.Answer.{IsAnswer, IsLikeAnswer, IsSameAnswer, has_one_text};
 ghost use Rattle.koika_top.specs.Compile.{AnswersCompile};
-ghost use Rattle.koika_top.specs.Sources.{IsParsed, Spells, design_part};
+ghost use Rattle.koika_top.specs.Sources.{Spells};
 ghost use Rattle.koika_top.specs.Words.{command_of};
 
 /// Arguments and a source have one answer at most, where the same host functions are handed in, but for `compile`.
@@ -24,17 +24,15 @@ pub fn one_status()
         IsAnswer hosts words source a → IsAnswer hosts words source b → IsLikeAnswer a b }
 {}
 
-/// Arguments and a source have an answer, but for `compile`: those of `check`, `print` and `sim` where the tokens of the source's design are a
-/// tree's or have a fault of the grammar, and all others always.
+/// Arguments and a source have an answer, but for `compile`.
 pub fn some_answer()
-    ensures { (hosts : List HostSpec) (words : List (List ℕ)) (source : List ℕ) → has_one_text (command_of words) ≡ true → CanBeRead (command_of words) source →
+    ensures { (hosts : List HostSpec) (words : List (List ℕ)) (source : List ℕ) → has_one_text (command_of words) ≡ true →
         (answer : Answer) × IsAnswer hosts words source answer }
 {}
 
-/// `compile` refuses a source, or the source spells a design and a stimulus for it, where the tokens of the design are a tree's or
-/// have a fault of the grammar.
+/// `compile` refuses a source, or the source spells a design and a stimulus for it.
 pub fn some_circuit()
-    ensures { (hosts : List HostSpec) (source : List ℕ) → IsParsed (design_part source) →
+    ensures { (hosts : List HostSpec) (source : List ℕ) →
         ((fault : Fault) × AnswersCompile hosts source (Refused fault))
         ⊎ ((design : Checked) × (stimulus : InputVectors) × Spells hosts source design stimulus) }
 {}
