@@ -1,7 +1,6 @@
 -- A source with a circuit text has a run, or a fault.
-use Rattle.std.proofs.Common.{◌≡◌, ◌⊎◌, ◌≤◌, ℕ, Bool, true, false, List, length, Option, Some, None, Result, Ok, Err, refl, inl, inr, ⊎_elim}
+use Rattle.std.proofs.Common.{◌≡◌, ◌⊎◌, ℕ, Bool, true, false, List, length, Option, Some, None, Result, Ok, Err, refl, inl, inr, ⊎_elim}
 use Rattle.std.proofs.lemmas.Bool.{cases_lt}
-use Rattle.kw_base.specs.declared.fault.Fault.{Fault}
 use Rattle.one_rule.specs.Stimulus.{InputVectors, inputs_of}
 use Rattle.btor2_model.specs.Acceptance.{first_fault}
 use Rattle.btor2_text.specs.declared.line.Line.{Line}
