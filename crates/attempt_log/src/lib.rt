@@ -2,7 +2,7 @@
 //!
 //! `specs/Trace.antt` says which events are a trace of a rule, `specs/Verdict.antt` what is answered to an attempt, and
 //! `specs/Past.antt` which commits a `Past` stands for. An `Attempt` is a trace of its rule by its type, whoever made it.
-//! Workers make attempts by `attempt`; the board asks for the `verdict` on them.
+//! `board_core` stores attempts and asks for the `verdict` on them. No command uses either yet.
 #![tactic(auto)]
 
 mod cause;

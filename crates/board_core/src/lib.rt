@@ -1,7 +1,7 @@
 //! The board: attempts are taken in any order and settled one at a time, in scheduler order.
 //!
 //! `specs/Board.antt` is the board step that the contracts of `Core` cite, and `specs/Position.antt` says at which plain
-//! positions a core stands. The boards that workers share keep a `Core` behind a lock.
+//! positions a core stands. No command uses a board yet: `library_tests` makes and runs them.
 #![tactic(auto)]
 
 mod blank;
