@@ -9,3 +9,11 @@ pub(crate) fn popcount(x: u64) -> u64
 {
     x.count_ones() as u64
 }
+
+/// The Gray code.
+#[tactic(auto, unfolding(kw_bits::specs::Host::answer))]
+pub(crate) fn gray(x: u64) -> u64
+    ensures { result ≡ host.answer kinds.Gray 8 x }
+{
+    x ^ (x >> 1)
+}

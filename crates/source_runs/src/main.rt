@@ -8,7 +8,7 @@ mod hosts;
 mod spelled;
 mod tables;
 
-use crate::hosts::popcount;
+use crate::hosts::{gray, popcount};
 use crate::spelled::spelled;
 use crate::tables::{cell, code};
 use host_fn::HostFn;
@@ -64,7 +64,10 @@ fn run_source(rt: &HostRuntime, words: &[String], source: &str) -> io::Result<()
     let alloc = rt.alloc();
     let mut source = MemSource::new(spelled(alloc, source)?, 4096, Vec::new(alloc));
     let mut sink = StdSink::new(rt.stdout());
-    let hosts = [HostFn::new(HostKind::Popcount, 8, popcount).unwrap()];
+    let hosts = [
+        HostFn::new(HostKind::Popcount, 8, popcount).unwrap(),
+        HostFn::new(HostKind::Gray, 8, gray).unwrap(),
+    ];
     let _status = run_here(alloc, words, &hosts, &mut source, &mut sink);
     Ok(())
 }
