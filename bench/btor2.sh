@@ -5,9 +5,9 @@ set -eu
 cd "$(dirname "$0")/.."
 . bench/cost.sh
 
-program=crates/btor2_model/out/btor2_model_tests
+program=crates/library_tests/out/library_tests_tests
 # The kit builds tests by running them.
-[ "$program" -nt crates/btor2_model/src/tests.rt ] || (cd crates/btor2_model && rt test >/dev/null)
+[ "$program" -nt crates/library_tests/src/circuit_texts.rt ] || (cd crates/library_tests && rt test >/dev/null)
 
 # What the test's text has: its first lines, and then a line for each id.
 bytes=$(awk 'BEGIN {
@@ -23,13 +23,13 @@ bytes=$(awk 'BEGIN {
 
 # The kilobytes that a test takes at most.
 memory() {
-    /usr/bin/time -f %M "$program" "tests::ten_megabytes_$1" 2>&1 >/dev/null | tail -1
+    /usr/bin/time -f %M "$program" "circuit_texts::ten_megabytes_$1" 2>&1 >/dev/null | tail -1
 }
 
 echo "| a text of $bytes bytes is | $of_run | $of_part per byte, the making (and for printing the reading) aside | bytes of memory per byte, the text aside |"
 echo "|---|---|---|---|"
 for what in made read accepted printed; do
-    taken=$(cost /dev/null /dev/null "$program" "tests::ten_megabytes_$what")
+    taken=$(cost /dev/null /dev/null "$program" "circuit_texts::ten_megabytes_$what")
     kilobytes=$(memory "$what")
     if [ "$what" = made ]; then
         start=$taken least=$kilobytes

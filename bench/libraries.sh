@@ -14,19 +14,19 @@ while IFS=: read -r crate what many module test; do
     taken=$(cost /dev/null /dev/null "$program" "$module::$test")
     echo "| $what | $many | $(columns "$taken" 0 "$many") |"
 done <<'TESTS'
-koika_syntax:bytes of a text, cut into tokens:262144:tests:a_quarter_of_a_megabyte
-koika_syntax:bytes of a text, cut into tokens:524288:tests:half_a_megabyte
-koika_syntax:bytes of a text, cut into tokens:1048576:tests:a_megabyte
-syntax_tests:bytes of a chain of 250,000 operands, cut and parsed:1000021:parsing:a_chain_of_250_000_operands
-syntax_tests:bytes of 60,000 statements, cut and parsed:1020024:parsing:sixty_thousand_statements
-syntax_tests:bytes of 100,000 declarations, cut and parsed:1000012:parsing:a_hundred_thousand_declarations
-kw_base:names, each added and found:25000:tests:twenty_five_thousand_names
-kw_base:names, each added and found:50000:tests:fifty_thousand_names
-kw_base:names, each added and found:100000:tests:a_hundred_thousand_names
+syntax_tests:bytes of a text, cut into tokens:262144:costs:a_quarter_of_a_megabyte
+syntax_tests:bytes of a text, cut into tokens:524288:costs:half_a_megabyte
+syntax_tests:bytes of a text, cut into tokens:1048576:costs:a_megabyte
+syntax_tests:bytes of a chain of 250,000 operands, cut and parsed:1000025:costs:operands_are_read
+syntax_tests:bytes of 60,000 statements, cut and parsed:900024:costs:statements_are_read
+syntax_tests:bytes of 100,000 declarations, cut and parsed:900012:costs:declarations_are_read
+library_tests:names, each added and found:25000:name_costs:twenty_five_thousand_names
+library_tests:names, each added and found:50000:name_costs:fifty_thousand_names
+library_tests:names, each added and found:100000:name_costs:a_hundred_thousand_names
 library_tests:nodes, each tested and added:100000:circuit_costs:a_hundred_thousand_nodes
 library_tests:nodes, each tested and added:200000:circuit_costs:two_hundred_thousand_nodes
-net_simplify:nodes, each tested, added and simplified:100000:tests:costs::a_hundred_thousand_nodes
-net_simplify:nodes, each tested, added and simplified:200000:tests:costs::two_hundred_thousand_nodes
+library_tests:nodes, each tested, added and simplified:100000:circuit_costs:a_hundred_thousand_nodes_made_simpler
+library_tests:nodes, each tested, added and simplified:200000:circuit_costs:two_hundred_thousand_nodes_made_simpler
 library_tests:nodes of 64 bits, evaluated:1000000:circuit_costs:a_thousand_steps_at_64_bits
 library_tests:nodes of 128 bits, evaluated:1000000:circuit_costs:a_thousand_steps_at_128_bits
 TESTS

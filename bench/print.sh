@@ -7,13 +7,13 @@ cd "$(dirname "$0")/.."
 
 program=crates/syntax_tests/out/syntax_tests_tests
 # The kit builds tests by running them.
-[ "$program" -nt crates/syntax_tests/src/printing/costs.rt ] || (cd crates/syntax_tests && rt test >/dev/null)
+[ "$program" -nt crates/syntax_tests/src/costs.rt ] || (cd crates/syntax_tests && rt test >/dev/null)
 
 echo "| what | bytes, ten texts | $of_run | $of_part for each byte, the making of the tree aside |"
 echo "|---|---|---|---|"
 while IFS=: read -r what bytes parts; do
-    start=$(cost /dev/null /dev/null "$program" "printing::costs::${parts}_are_printed_once")
-    taken=$(cost /dev/null /dev/null "$program" "printing::costs::${parts}_are_printed_eleven_times")
+    start=$(cost /dev/null /dev/null "$program" "costs::${parts}_are_printed_once")
+    taken=$(cost /dev/null /dev/null "$program" "costs::${parts}_are_printed_eleven_times")
     echo "| $what | $bytes | $(columns "$taken" "$start" "$bytes") |"
 done <<'PARTS'
 a sum of 250,001 operands:10000260:operands

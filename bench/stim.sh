@@ -1,19 +1,19 @@
 #!/usr/bin/env bash
-# Measures what it costs to write reports and to read stimuli, for each byte, by tests of stim_report that do the same once and
+# Measures what it costs to write reports and to read stimuli, for each byte, by tests of library_tests that do the same once and
 # more often. It proves and builds the tests if need be, and is run by hand.
 set -eu
 cd "$(dirname "$0")/.."
 . bench/cost.sh
 
-program=crates/stim_report/out/stim_report_tests
+program=crates/library_tests/out/library_tests_tests
 # The kit builds tests by running them.
-[ "$program" -nt crates/stim_report/src/tests/costs.rt ] || (cd crates/stim_report && rt test >/dev/null)
+[ "$program" -nt crates/library_tests/src/report_costs.rt ] || (cd crates/library_tests && rt test >/dev/null)
 
 echo "| what | bytes | $of_run | $of_part for each byte, the start aside |"
 echo "|---|---|---|---|"
 while IFS=: read -r what bytes once often; do
-    start=$(cost /dev/null /dev/null "$program" "tests::costs::$once")
-    taken=$(cost /dev/null /dev/null "$program" "tests::costs::$often")
+    start=$(cost /dev/null /dev/null "$program" "report_costs::$once")
+    taken=$(cost /dev/null /dev/null "$program" "report_costs::$often")
     echo "| $what | $bytes | $(columns "$taken" "$start" "$bytes") |"
 done <<'TESTS'
 reports of a pipeline of four stages:3189000:a_pipeline_is_written_once:a_pipeline_is_written_101_times

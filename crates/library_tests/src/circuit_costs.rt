@@ -1,32 +1,78 @@
 // What nets and their steps cost: `bench/libraries.sh` counts these.
 ghost use Rattle.std.specs.Prelude.{◌≡◌, [], IfOk};
 
-use crate::circuits::{bits, closed_circuit};
-use circuit_eval::{Circuit, run_circuit};
-use kw_bits::{NoMemory, Sequence};
-use net_graph::{NetId, NetOp, NetTwo};
+use circuit_eval::{Circuit, StateWire, Wires, run_circuit};
+use kw_bits::{Bits, NoMemory, Sequence, Text};
+use net_graph::{Net, NetId, NetOp, NetTwo};
+use net_simplify::simplify;
 use one_rule::Stimulus;
 use std::alloc::Global;
 use std::process::Abort;
 use std::test::Fail;
 
+fn bits(rt: &impl Abort, width: u32, number: u128) -> Bits
+    ensures { result.width ≡ width }
+{
+    Bits::new(width, number).expect(rt, "a bit vector")
+}
+
+fn add(rt: &impl Abort, net: &mut Net, op: NetOp) -> Result<(), NoMemory> {
+    assert!(rt; net.can_add(&op), "{op:?}");
+    net.add(op)?;
+    Ok(())
+}
+
+// A circuit of one state, without inputs and outputs.
+fn circuit_of(
+    rt: &impl Abort,
+    alloc: Global,
+    net: Net,
+    first: Bits,
+    next: NetId,
+) -> Result<Circuit, NoMemory>
+    ensures { IfOk result (λ circuit. circuit.inputs ≡ []) }
+{
+    let mut states = Sequence::new(alloc);
+    states.push(StateWire {
+        name: Text::new(alloc),
+        width: first.width(),
+        first,
+        next,
+    })?;
+    let wires = Wires {
+        net,
+        states,
+        inputs: Sequence::new(alloc),
+        outputs: Sequence::new(alloc),
+    };
+    Ok(Circuit::new(wires).expect(rt, "a circuit"))
+}
+
 // A state of 7 that grows by one for each node of a chain.
 fn chain(rt: &impl Abort, alloc: Global, width: u32, nodes: NetId) -> Result<Circuit, NoMemory>
     ensures { IfOk result (λ circuit. circuit.inputs ≡ []) }
 {
-    let mut ops = Sequence::new(alloc);
-    ops.push(NetOp::Const(bits(rt, width, 1)))?;
-    ops.push(NetOp::State(0, width))?;
+    let mut net = Net::new(alloc);
+    add(rt, &mut net, NetOp::Const(bits(rt, width, 1)))?;
+    add(rt, &mut net, NetOp::State(0, width))?;
     for last in 1..nodes {
-        ops.push(NetOp::Two(NetTwo::Add, last, 0))?;
+        add(rt, &mut net, NetOp::Two(NetTwo::Add, last, 0))?;
     }
     let first = bits(rt, width, 7);
-    closed_circuit(rt, alloc, ops.as_slice(), &[(first, nodes)], &[])
+    circuit_of(rt, alloc, net, first, nodes)
 }
 
 fn expect_nodes(rt: &impl Abort, alloc: Global, nodes: u32) -> Result<(), Fail> {
     let circuit = chain(rt, alloc, 64, NetId::from(nodes))?;
     assert_eq!(rt; circuit.net.len() as NetId, NetId::from(nodes) + 1);
+    Ok(())
+}
+
+// A chain of sums stays as long, made simpler.
+fn expect_simpler(rt: &impl Abort, alloc: Global, nodes: u32) -> Result<(), Fail> {
+    let circuit = chain(rt, alloc, 64, NetId::from(nodes))?;
+    let simpler = simplify(alloc, &circuit)?;
+    assert_eq!(rt; simpler.net.len() as NetId, NetId::from(nodes) + 1);
     Ok(())
 }
 
@@ -50,6 +96,16 @@ fn a_hundred_thousand_nodes(rt: HostRuntime) -> Result<(), Fail> {
 #[test]
 fn two_hundred_thousand_nodes(rt: HostRuntime) -> Result<(), Fail> {
     expect_nodes(&rt, rt.alloc(), 200_000)
+}
+
+#[test]
+fn a_hundred_thousand_nodes_made_simpler(rt: HostRuntime) -> Result<(), Fail> {
+    expect_simpler(&rt, rt.alloc(), 100_000)
+}
+
+#[test]
+fn two_hundred_thousand_nodes_made_simpler(rt: HostRuntime) -> Result<(), Fail> {
+    expect_simpler(&rt, rt.alloc(), 200_000)
 }
 
 #[test]

@@ -4,13 +4,14 @@ ghost use Rattle.one_rule.specs.Rows.{RowsFit};
 
 use crate::designs::{Place, Rules, Step, design_of};
 use crate::settings::{Setting, setting_of};
-use kw_bits::NoMemory;
+use kw_bits::{NoMemory, Text};
 use one_rule::{Row, Rows, first_values, slow_cycle};
 use plain_run::{cycle, run, run_from};
 use std::alloc::Global;
 use std::process::Abort;
 use std::test::Fail;
-use typed_core::Next;
+use stim_report::{shape_of, summary};
+use typed_core::{Design, Next};
 
 // A design, what its first cycle leaves in the registers, and which rules fire in it.
 struct Case {
@@ -23,7 +24,7 @@ struct Case {
 
 const END: Next = Next::End;
 
-const ONE: [Place; 1] = [(0, END, END)];
+const SWAP: Rules = &[&[Step::Copy(0, 0, 0, 1)], &[Step::Copy(0, 1, 0, 0)]];
 
 const TWO: [Place; 2] = [(0, Next::Node(1), Next::Node(1)), (1, END, END)];
 
@@ -34,54 +35,14 @@ const FOUR: [Place; 4] = [
     (3, END, END),
 ];
 
-const CASES: [Case; 12] = [
+const CASES: [Case; 3] = [
     // Rules that swap two registers.
     Case {
         first: &[1, 2],
-        rules: &[&[Step::Copy(0, 0, 0, 1)], &[Step::Copy(0, 1, 0, 0)]],
+        rules: SWAP,
         nodes: &TWO,
         left: &[2, 2],
         fired: &[true, false],
-    },
-    // A later write at the same port clashes.
-    Case {
-        first: &[0],
-        rules: &[&[Step::Put(0, 0, 1)], &[Step::Put(0, 0, 2)]],
-        nodes: &TWO,
-        left: &[1],
-        fired: &[true, false],
-    },
-    // Port 1 reads an earlier write at port 0.
-    Case {
-        first: &[0],
-        rules: &[&[Step::Put(0, 0, 1)], &[Step::Next(1, 0, 1, 0)]],
-        nodes: &TWO,
-        left: &[2],
-        fired: &[true, true],
-    },
-    // A write at port 0 after a read at port 1 clashes.
-    Case {
-        first: &[3, 0],
-        rules: &[&[Step::Copy(0, 1, 1, 0)], &[Step::Put(0, 0, 9)]],
-        nodes: &TWO,
-        left: &[3, 3],
-        fired: &[true, false],
-    },
-    // A second write at port 1 is refused.
-    Case {
-        first: &[7],
-        rules: &[&[Step::Copy(1, 0, 0, 0), Step::Put(1, 0, 2)]],
-        nodes: &ONE,
-        left: &[7],
-        fired: &[false],
-    },
-    // Port 0 reads the old value after an own write.
-    Case {
-        first: &[3, 0],
-        rules: &[&[Step::Put(0, 0, 5), Step::Copy(0, 1, 0, 0)]],
-        nodes: &ONE,
-        left: &[5, 3],
-        fired: &[true],
     },
     // Each port sees the writes below it.
     Case {
@@ -95,46 +56,6 @@ const CASES: [Case; 12] = [
         nodes: &FOUR,
         left: &[5],
         fired: &[true, true, true, true],
-    },
-    // After a write at port 3 no other is let through.
-    Case {
-        first: &[1],
-        rules: &[
-            &[Step::Next(3, 0, 3, 0)],
-            &[Step::Next(2, 0, 2, 0)],
-            &[Step::Next(1, 0, 1, 0)],
-            &[Step::Put(0, 0, 2)],
-        ],
-        nodes: &FOUR,
-        left: &[2],
-        fired: &[true, false, false, false],
-    },
-    // A write at port 3 after a read at port 3.
-    Case {
-        first: &[1, 0],
-        rules: &[&[Step::Copy(0, 1, 3, 0)], &[Step::Put(3, 0, 9)]],
-        nodes: &TWO,
-        left: &[9, 1],
-        fired: &[true, true],
-    },
-    // A write at port 2 after a read at port 3 clashes.
-    Case {
-        first: &[1, 0],
-        rules: &[&[Step::Copy(0, 1, 3, 0)], &[Step::Put(2, 0, 9)]],
-        nodes: &TWO,
-        left: &[1, 1],
-        fired: &[true, false],
-    },
-    // An aborted rule drops its writes.
-    Case {
-        first: &[4],
-        rules: &[
-            &[Step::Put(0, 0, 5), Step::Abort],
-            &[Step::Next(0, 0, 0, 0)],
-        ],
-        nodes: &TWO,
-        left: &[5],
-        fired: &[false, true],
     },
     // A rule in yes that is refused, and two in no, of which the first fires.
     Case {
@@ -215,8 +136,8 @@ fn expect_same_runs(rt: &impl Abort, alloc: Global, setting: &Setting) -> Result
     Ok(())
 }
 
-/// The engines leave this row of the first cycle.
-pub(crate) fn expect_first(
+// The engines leave the row of the first cycle.
+fn expect_first(
     rt: &impl Abort,
     alloc: Global,
     setting: &Setting,
@@ -240,5 +161,34 @@ fn rules_run_whole_in_every_engine(rt: HostRuntime) -> Result<(), Fail> {
     for case in &CASES {
         expect_case(&rt, rt.alloc(), case)?;
     }
+    Ok(())
+}
+
+// The summary of a run of a design.
+fn summary_of(alloc: Global, design: &Design, rows: &Rows) -> Result<Text, NoMemory>
+    requires fit { RowsFit design.now rows.now }
+    requires some { 0 < length rows.now }
+{
+    let shape = shape_of(alloc, design)?;
+    summary(alloc, &shape, rows)
+}
+
+#[test]
+fn a_run_is_summed_up(rt: HostRuntime) -> Result<(), Fail> {
+    let design = design_of(&rt, rt.alloc(), &[1, 2], SWAP, &TWO)?;
+    let setting = setting_of(rt.alloc(), design)?;
+    let Setting {
+        design,
+        externs,
+        stimulus,
+    } = &setting;
+    assert!(rt; design.same(design) && stimulus.same(stimulus));
+    let rows = run(rt.alloc(), design, externs, stimulus, 4)?;
+    assert_eq!(rt; rows.len(), 5);
+    let text = summary_of(rt.alloc(), design, &rows)?;
+    assert_eq!(rt;
+        text.as_slice(),
+        b"cycles 4\nfired  4\nfired  0\n=02\n=02\n".as_slice()
+    );
     Ok(())
 }

@@ -1,8 +1,11 @@
-//! Tests of the parser and the printer, by their public calls: texts with their faults, trees and their texts, and long texts that
-//! are measured. They cite no definition, and nothing stands on them. A library with tests of its own is proved twice at each merge.
+//! Tests of the parser, the printer and the types of values, by those of their public calls that no command makes. They cite no
+//! definition, and nothing stands on them. Texts of a megabyte are for measuring. A library with tests of its own is proved twice at
+//! each merge.
 #![tactic(auto)]
 
 #[cfg(test)]
-mod parsing;
+mod costs;
 #[cfg(test)]
 mod printing;
+#[cfg(test)]
+mod values;
