@@ -17,8 +17,6 @@ mod opposites;
 mod reach;
 mod reduced;
 mod renaming;
-#[cfg(test)]
-mod tests;
 mod wiring;
 
 pub use circuit::simplify;
