@@ -9,8 +9,6 @@ mod cycle;
 mod flags;
 mod log;
 mod registers;
-#[cfg(test)]
-mod tests;
 mod visit;
 
 pub use circuit::build;
