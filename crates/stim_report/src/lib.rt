@@ -19,8 +19,6 @@ mod shape;
 mod source;
 mod stimulus;
 mod tally;
-#[cfg(test)]
-mod tests;
 mod value;
 
 pub use laws::a_report_is_made_in_parts;

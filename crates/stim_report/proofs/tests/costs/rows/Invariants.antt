@@ -1,5 +1,0 @@
-use Rattle.stim_report.specs.Shapes.{RowsFit}
-use Rattle.stim_report.proofs.tests.costs.rows.Given as goal
-
-abbrev pub invariant-loop-cycle : goal.invariant-loop-cycle
-invariant-loop-cycle l = RowsFit l.shape l.rows

@@ -1,9 +1,0 @@
-use Rattle.std.proofs.Common.{◌≡◌, length}
-use Rattle.stim_report.proofs.RowsTold.{AreWide}
-use Rattle.stim_report.proofs.tests.rows.values_of.Given as goal
-
-abbrev pub invariant-loop-place : goal.invariant-loop-place
-invariant-loop-place l = record {
-  count : length l.values ≡ l.place;
-  wide : AreWide l.registers l.values l.place;
-}
