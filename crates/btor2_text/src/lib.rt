@@ -15,8 +15,6 @@ mod line;
 mod numeral;
 mod print;
 mod reader;
-#[cfg(test)]
-mod tests;
 
 pub use keyword::Keyword;
 pub use kind::{Base, Kind};
