@@ -19,8 +19,6 @@ mod rows;
 mod rule;
 mod states;
 mod table;
-#[cfg(test)]
-mod tests;
 
 pub use acceptance::accept;
 pub use arguments::{digits_at, id_at, number_at};
