@@ -15,8 +15,6 @@ mod nodes;
 mod operators;
 mod page;
 mod settings;
-#[cfg(test)]
-mod tests;
 mod wires;
 
 pub use circuit::to_circuit;
