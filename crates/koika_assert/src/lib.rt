@@ -9,8 +9,6 @@
 mod bads;
 mod copies;
 mod marks;
-#[cfg(test)]
-mod tests;
 mod watch;
 
 pub use bads::bads_as_outputs;
