@@ -244,6 +244,7 @@ fn a_list_of_events_is_answered(rt: HostRuntime) -> Result<(), Fail> {
     }
     assert_eq!(rt; answers.len(), 1);
     assert_eq!(rt; (table.core.first(), table.core.last()), (0, 1));
+    assert_eq!(rt; table.core.regs().len(), table.core.design().regs.len());
     assert_eq!(rt; table.core.into_rows().len(), 1);
     Ok(())
 }
@@ -258,6 +259,8 @@ fn attempts_cross_threads(rt: HostRuntime) -> Result<(), Fail> {
     crosses_threads(&job);
     crosses_threads(&made);
     assert_eq!(rt; (made.cycle(), made.rule()), (1, 0));
+    assert_eq!(rt; (made.events().len(), made.inputs().len()), (1, 0));
+    assert!(rt; *made.outcome() == Outcome::Done);
     Ok(())
 }
 
