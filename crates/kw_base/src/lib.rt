@@ -9,8 +9,6 @@ mod fault;
 pub mod fault_number;
 mod names;
 mod place;
-#[cfg(test)]
-mod tests;
 
 pub use fault::{Fault, Refusal, fault_line};
 pub use names::{Added, Names};
