@@ -14,8 +14,6 @@ mod lexer;
 mod literal;
 mod operator;
 mod symbol;
-#[cfg(test)]
-mod tests;
 mod token;
 mod tree;
 mod word;
