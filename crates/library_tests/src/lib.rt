@@ -4,6 +4,8 @@
 #![tactic(auto)]
 
 #[cfg(test)]
+mod attempts;
+#[cfg(test)]
 mod boards;
 #[cfg(test)]
 mod circuit_costs;
@@ -25,6 +27,8 @@ mod report_rows;
 mod rule_runs;
 #[cfg(test)]
 mod settings;
+#[cfg(test)]
+mod slow_board;
 #[cfg(test)]
 mod streams;
 #[cfg(test)]
