@@ -13,9 +13,6 @@ ghost use Rattle.kw_base.specs.declared.fault.Fault.{Fault as FaultRecord};
 ghost use Rattle.kw_base.specs.FaultLine.{line_of_fault};
 ghost use Rattle.koika_top.specs.declared.answer.Answer.{Answer as AnyAnswer};
 
-#[cfg(test)]
-mod tests;
-
 use crate::answer::{Answer, write_answer, write_made};
 use crate::circuit_run::CircuitRun;
 use crate::compile::compile_source;

@@ -1,0 +1,48 @@
+use crate::hosts::{gray, popcount};
+use host_fn::HostFn;
+use koika_top::{Status, run_here};
+use kw_bits::{HostKind, NoMemory};
+use kw_io::{MemSink, MemSource};
+use std::alloc::Global;
+use std::io;
+use std::io::ErrorKind;
+
+// How many bytes an answer may have.
+const ROOM: usize = 1_048_576;
+
+/// How a run of the program ends.
+#[derive(Debug, Drop)]
+pub(crate) struct Ended {
+    pub(crate) status: Status,
+    pub(crate) written: Vec<u8>,
+}
+
+/// Runs the program over memory, where a read gives and a write takes at most so many bytes, and these calls of both fail.
+#[tactic(auto, unfolding(kw_bits::specs::Host::arity))]
+pub(crate) fn run(
+    alloc: Global,
+    words: &[String],
+    source: &[u8],
+    piece: usize,
+    failing_reads: &[u64],
+    failing_writes: &[u64],
+) -> io::Result<Ended> {
+    let piece = piece.max(1);
+    let source = Vec::from_slice(alloc, source)?;
+    let mut source = MemSource::new(source, piece, Vec::from_slice(alloc, failing_reads)?);
+    let failing = Vec::from_slice(alloc, failing_writes)?;
+    let mut sink = MemSink::new(alloc, ROOM, piece, failing).map_err(out_of_memory)?;
+    let hosts = [
+        HostFn::new(HostKind::Popcount, 8, popcount).unwrap(),
+        HostFn::new(HostKind::Gray, 8, gray).unwrap(),
+    ];
+    let status = run_here(alloc, words, &hosts, &mut source, &mut sink);
+    Ok(Ended {
+        status,
+        written: Vec::from_slice(alloc, sink.written())?,
+    })
+}
+
+fn out_of_memory(_: NoMemory) -> io::Error {
+    io::Error::from(ErrorKind::OutOfMemory)
+}
