@@ -27,4 +27,4 @@ abbrev pub IsEmpty : Parts → RegisterLog → Type 0
 IsEmpty design log = StandsFor (register_widths design) log []
 
 abbrev pub AreEmpty : Parts → Logs → Type 0
-AreEmpty design logs = IsEmpty design logs.sched × IsEmpty design logs.rule
+AreEmpty design logs = IsEmpty design logs.sched × IsEmpty design logs.rule.value

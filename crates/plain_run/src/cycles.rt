@@ -13,12 +13,12 @@ use rule_log::Log;
 use std::alloc::Global;
 use typed_core::Design;
 
-// The logs of a run: that of the rules that fired in a cycle, and that of the rule that is tried. Between cycles they
-// are of no access.
+// The logs of a run: that of the rules that fired in a cycle, and that of the rule that is tried, in a box since it is handed
+// from call to call. Between cycles they are of no access.
 #[derive(Debug, Drop)]
 pub(crate) struct Logs {
     pub(crate) sched: Log,
-    pub(crate) rule: Log,
+    pub(crate) rule: Box<Log>,
 }
 
 impl Logs {
@@ -27,7 +27,7 @@ impl Logs {
     {
         Ok(Logs {
             sched: Log::new(alloc, design)?,
-            rule: Log::new(alloc, design)?,
+            rule: Box::new(alloc, Log::new(alloc, design)?)?,
         })
     }
 }

@@ -33,16 +33,16 @@ pub(crate) fn walk(
     inputs: &Inputs,
     regs: &Regs,
     walking: &mut Walking,
-    log: Log,
-) -> Result<Log, NoMemory>
+    log: Box<Log>,
+) -> Result<Box<Log>, NoMemory>
     requires externs { kept externs.now ≡ externs_of design.now }
     requires inputs { HaveWidths (input_widths design.now) inputs.now }
     requires registers { HaveWidths (register_widths design.now) regs.now }
     requires begin { Stands design.now walking.old begin }
     requires root { walking.old.at ≡ root design.now.nodes }
-    requires log { IsEmpty design.now log }
+    requires log { IsEmpty design.now log.value }
     ensures walk { IfOk result (λ _. Stands design.now walking.new (port_walk design.now inputs.now regs.now)) }
-    ensures log { IfOk result (λ log. IsEmpty design.now log) }
+    ensures log { IfOk result (λ log. IsEmpty design.now log.value) }
 {
     let nodes = design.nodes.as_slice();
     let mut log = log;
@@ -80,17 +80,17 @@ fn pass(
     number: usize,
     node: &Node,
     walking: &mut Walking,
-    log: Log,
-) -> Result<Log, NoMemory>
+    log: Box<Log>,
+) -> Result<Box<Log>, NoMemory>
     requires externs { kept externs.now ≡ externs_of design.now }
     requires inputs { HaveWidths (input_widths design.now) inputs.now }
     requires registers { HaveWidths (register_widths design.now) regs.now }
     requires rule { node.now.rule < length design.now.rules }
     requires stands { (state : PortState) × Stands design.now walking.old state }
-    requires log { IsEmpty design.now log }
+    requires log { IsEmpty design.now log.value }
     ensures pass { IfOk result (λ _. (state : PortState) → Stands design.now walking.old state
         → IsAt design.now walking.new (pass (port_fire design.now inputs.now regs.now) number node.now (record { state = state; at = walking.old.at }))) }
-    ensures log { IfOk result (λ log. IsEmpty design.now log) }
+    ensures log { IfOk result (λ log. IsEmpty design.now log.value) }
 {
     if is_at(number, walking.at) {
         visit(design, externs, inputs, regs, node, walking, log)
@@ -107,17 +107,17 @@ fn visit(
     regs: &Regs,
     node: &Node,
     walking: &mut Walking,
-    log: Log,
-) -> Result<Log, NoMemory>
+    log: Box<Log>,
+) -> Result<Box<Log>, NoMemory>
     requires externs { kept externs.now ≡ externs_of design.now }
     requires inputs { HaveWidths (input_widths design.now) inputs.now }
     requires registers { HaveWidths (register_widths design.now) regs.now }
     requires rule { node.now.rule < length design.now.rules }
     requires stands { (state : PortState) × Stands design.now walking.old state }
-    requires log { IsEmpty design.now log }
+    requires log { IsEmpty design.now log.value }
     ensures visit { IfOk result (λ _. (state : PortState) → Stands design.now walking.old state
         → IsAt design.now walking.new (goes_on node.now state (port_fire design.now inputs.now regs.now node.now.rule state))) }
-    ensures log { IfOk result (λ log. IsEmpty design.now log) }
+    ensures log { IfOk result (λ log. IsEmpty design.now log.value) }
 {
     let LoggedRun { end, mut log } = run_logged(
         design,

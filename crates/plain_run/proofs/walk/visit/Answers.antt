@@ -1,7 +1,9 @@
-use Rattle.std.proofs.Common.{length, ap, arith}
+use Rattle.std.proofs.Common.{length, sym, ap, subst, arith}
 use Rattle.std.specs.Prelude.{slice_get}
+use Rattle.typed_core.specs.Widths.{register_widths}
 use Rattle.one_rule.specs.Cycle.{environment}
 use Rattle.one_rule.specs.PortRun.{port_run_if}
+use Rattle.rule_log.specs.StandsFor.{RegisterLog, StandsFor}
 use Rattle.plain_run.proofs.Walking.{flags_count}
 use Rattle.plain_run.proofs.walk.visit.Goals as goal
 
@@ -15,4 +17,5 @@ returns-clause-visit g c state stands =
     let design = c.args.design.now in
     let p = port_run_if (environment design c.args.inputs.now) state.log c.args.regs.now (slice_get design.rules c.args.node.now.rule) in
     let run = c.in_ok-end.ensures.run state.log stands.log in
-    c.settle.ensures design state p stands run.0 run.1 (c.in_ok-end.ensures.follows state.log stands.log)
+    let log = subst (λ (log : RegisterLog). StandsFor (register_widths design) log p.events) (sym c.deref.ensures) run.1 in
+    c.settle.ensures design state p stands run.0 log (c.in_ok-end.ensures.follows state.log stands.log)

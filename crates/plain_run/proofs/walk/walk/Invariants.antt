@@ -10,5 +10,5 @@ invariant-loop-number g l =
     record {
       stands : (state : PortState) × Stands l.design l.walking state
           × (walk_past (port_fire l.design l.inputs l.regs) l.number (drop l.number l.nodes) (record { state = state; at = l.walking.at }) ≡ walk_from (port_fire l.design l.inputs l.regs) l.nodes begin);
-      log : IsEmpty l.design l.log;
+      log : IsEmpty l.design l.log.value;
     }
