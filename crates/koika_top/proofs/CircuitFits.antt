@@ -1,5 +1,5 @@
 -- The rows of a circuit's run fit what texts tell of it.
-use Rattle.std.proofs.Common.{◌≡◌, ℕ, zero, suc, ◌+◌, ◌<◌, nat_eq, ◌==◌, Bool, true, false, cond, filter, List, [], ◌∷◌, length, map, refl, sym, ap, subst, ◌∙◌, arith}
+use Rattle.std.proofs.Common.{◌≡◌, ℕ, zero, suc, ◌+◌, nat_eq, ◌==◌, Bool, true, false, cond, filter, List, [], ◌∷◌, length, map, refl, sym, ap, subst, ◌∙◌, arith}
 use Rattle.std.specs.Prelude.{All}
 use Rattle.std.specs.List.{AllByRecursion}
 use Rattle.std.proofs.lemmas.Simd.{map-map}
@@ -14,16 +14,14 @@ use Rattle.one_rule.specs.declared.rows.Row.{Row}
 use Rattle.typed_core.specs.Widths.{HaveWidths}
 use Rattle.typed_core.proofs.WidthLists.{HaveWidths-cons, HaveWidths-empty}
 use Rattle.circuit_eval.specs.Circuits.{AreBits, IsCircuit, input_widths, state_widths}
-use Rattle.circuit_eval.specs.Run.{first_row, first_states, flags, is_one, next_states, row_after, rows_after, run_of, values_in}
+use Rattle.circuit_eval.specs.Run.{first_states, flags, is_one, next_states, row_after, rows_after, run_of, values_in}
 use Rattle.circuit_eval.specs.declared.circuit.OutputWire.{OutputWire}
-use Rattle.circuit_eval.specs.declared.circuit.StateWire.{StateWire}
 use Rattle.circuit_eval.specs.declared.circuit.Wires.{Wires}
 use Rattle.circuit_eval.proofs.Fitting.{first_states-AreBits, next_states-AreBits, step_feeds}
 use Rattle.circuit_eval.proofs.Stimuli.{HaveWidths-AreBits}
 use Rattle.stim_report.specs.Shapes.{RowFits, RowsFit}
 use Rattle.stim_report.specs.Shapes as told
 use Rattle.stim_report.specs.declared.shape.NameWidth.{NameWidth}
-use Rattle.stim_report.specs.declared.shape.Shape.{Shape}
 use Rattle.koika_top.specs.CircuitShapes as circuit
 
 bits-fit : (values : List BitVector) → All IsBits values → HaveWidths (widths values) values

@@ -4,7 +4,7 @@ use Rattle.one_rule.specs.Run.{InputsByCycle}
 use Rattle.one_rule.specs.declared.rows.Row.{Row}
 use Rattle.kw_bits.specs.BitVector.{BitVector}
 use Rattle.circuit_eval.specs.Run.{first_row, first_states, row_after, rows_after, run_of}
-use Rattle.circuit_eval.specs.Simulations.{Simulation, after_step, after_steps, beginning, row_at, rows_from}
+use Rattle.circuit_eval.specs.Simulations.{Simulation, after_step, after_steps, beginning, rows_from}
 use Rattle.circuit_eval.specs.declared.circuit.Wires.{Wires}
 use Rattle.koika_top.specs.Engines.{AreRows}
 

@@ -1,5 +1,5 @@
 -- What was written of a circuit and of its violations is what is shown of its circuit text.
-use Rattle.std.proofs.Common.{◌≡◌, ℕ, List, [], ◌++◌, length, Option, refl, sym, ap, subst, ◌∙◌, append-nil}
+use Rattle.std.proofs.Common.{◌≡◌, ℕ, List, [], ◌++◌, length, Option, ap, subst, ◌∙◌, append-nil}
 use Rattle.std.specs.Io.KnownBytes.{Appends}
 use Rattle.std.specs.List.{range_with_len}
 use Rattle.btor2_model.specs.Run.{run_of}
@@ -8,9 +8,7 @@ use Rattle.circuit_eval.specs.Circuits.{input_widths}
 use Rattle.circuit_eval.specs.Run as wired
 use Rattle.circuit_eval.specs.declared.circuit.Wires.{Wires}
 use Rattle.koika_assert.specs.Violations as marked
-use Rattle.one_rule.specs.Run.{InputsByCycle}
 use Rattle.one_rule.specs.Stimulus.{AlwaysFits, InputVectors, inputs_of}
-use Rattle.one_rule.specs.declared.rows.Row.{Row}
 use Rattle.stim_report.specs.declared.shape.Shape.{Shape}
 use Rattle.koika_top.specs.Answer.{AppendsFront}
 use Rattle.koika_top.specs.Btorsim as text

@@ -1,27 +1,26 @@
 -- What the readers of a source found of its circuit text.
-use Rattle.std.proofs.Common.{◌≡◌, ℕ, ◌+◌, ◌≤◌, ◌<◌, ◌^◌, not, Bool, true, false, filter, List, [], ◌∷◌, map, length, All, Option, None, Some, Result, Ok, Err, inl, inr, ⊎_elim, refl, sym, ap, ap₂, subst, ◌∙◌, arith}
+use Rattle.std.proofs.Common.{◌≡◌, ℕ, ◌≤◌, ◌<◌, ◌^◌, not, Bool, true, false, List, [], ◌∷◌, map, length, None, Some, Result, Ok, Err, inl, inr, ⊎_elim, refl, sym, ap, ap₂, subst, ◌∙◌, arith}
 use Rattle.std.specs.Prelude.{IfOk, OnOk, ◌⊎◌, ◌||◌, ◌*◌, min, nat_lt}
 use Rattle.std.proofs.lemmas.Bool.{ltb-false}
 use Rattle.std.proofs.lemmas.List.{length-map}
-use Rattle.std.proofs.lemmas.List.Sums.{length-filter}
 use Rattle.kw_base.specs.Fault.{IfFault}
 use Rattle.kw_base.specs.declared.fault.Fault.{Fault}
 use Rattle.kw_base.specs.declared.fault.Refusal.{Refusal}
 use Rattle.kw_base.specs.declared.fault.Refusal.TheVariants as refusals
 use Rattle.kw_bits.specs.BitVector.{BitVector}
 use Rattle.one_rule.specs.Stimulus.{InputVectors}
-use Rattle.btor2_text.specs.Reading.{AreLinesOf, IsFirstFaultOf}
+use Rattle.btor2_text.specs.Reading.{AreLinesOf}
 use Rattle.btor2_text.specs.declared.line.Line.{Line}
 use Rattle.btor2_model.specs.Acceptance.{first_fault}
 use Rattle.btor2_model.specs.Rules.{is_bad, is_input, is_output, is_state, rule_of}
-use Rattle.btor2_model.specs.Run.{ids_of, lines_of, width_in}
+use Rattle.btor2_model.specs.Run.{lines_of, width_in}
 use Rattle.btor2_model.specs.declared.rule.Rule.{Rule}
 use Rattle.btor2_net.specs.Translations.{HasLines, name_of}
 use Rattle.btor2_net.proofs.FewLines.{few-lines, filter-fewer}
 use Rattle.circuit_eval.specs.Circuits.{input_widths}
 use Rattle.circuit_eval.specs.declared.circuit.OutputWire.{OutputWire}
 use Rattle.circuit_eval.specs.declared.circuit.Wires.{Wires}
-use Rattle.koika_assert.specs.Bads.{ShowsViolations, bads_as_outputs, turned}
+use Rattle.koika_assert.specs.Bads.{bads_as_outputs, turned}
 use Rattle.stim_report.specs.Cuts as cuts
 use Rattle.stim_report.specs.Shapes.{widths_of}
 use Rattle.stim_report.specs.Stimuli.{after, cycles_from, stimulus_of}
@@ -32,7 +31,7 @@ use Rattle.koika_top.specs.Btorsim.{HasNoLines, HasNoStimulus, HasNoText, HoldsL
 use Rattle.koika_top.specs.CircuitRuns.{HasFewLines, ShowsBads}
 use Rattle.koika_top.specs.CircuitShapes as circuit
 use Rattle.koika_top.specs.Lengths as lengths
-use Rattle.koika_top.proofs.Shapes.{inputs-count, shape-of-text, widths-told}
+use Rattle.koika_top.proofs.Shapes.{inputs-count, widths-told}
 
 -- a fault of a part is one of the whole
 pub fault-of-part : (P Q : Fault → Type 0) (e : Refusal) → ((fault : Fault) → P fault → Q fault) → IfFault {X = Unit {0}} (Err e) P → IfFault {X = Unit {0}} (Err e) Q

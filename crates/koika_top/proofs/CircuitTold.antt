@@ -1,5 +1,5 @@
 -- What a teller and a watch know before all rows and behind some, and what is told of no marks.
-use Rattle.std.proofs.Common.{◌≡◌, ℕ, zero, suc, ◌+◌, ◌∷◌, ◌++◌, List, [], Result, Ok, Err, refl, sym, ap, ap₂, ◌∙◌, append-nil, arith}
+use Rattle.std.proofs.Common.{◌≡◌, ℕ, zero, suc, ◌+◌, ◌∷◌, ◌++◌, List, [], Result, Ok, Err, sym, ap, ap₂, ◌∙◌, append-nil, arith}
 use Rattle.std.specs.List.{range_with_len}
 use Rattle.std.specs.Prelude.{IfOk}
 use Rattle.one_rule.specs.declared.rows.Row.{Row}

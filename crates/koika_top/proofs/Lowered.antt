@@ -1,12 +1,11 @@
 -- A typed design and what it is lowered to have the same shape and the same runs.
-use Rattle.std.proofs.Common.{◌≡◌, ℕ, ◌<◌, ◌≤◌, ◌⊎◌, List, [], ◌∷◌, length, map, Option, Some, None, refl, sym, ap, ap₂, subst, ◌∙◌, inl, inr, ⊎_elim, arith}
+use Rattle.std.proofs.Common.{◌≡◌, ℕ, ◌<◌, ◌⊎◌, List, [], ◌∷◌, length, map, Option, Some, None, refl, sym, ap, ap₂, subst, ◌∙◌, ⊎_elim, arith}
 use Rattle.std.specs.Prelude.{All, Contains, slice_get}
 use Rattle.std.specs.List.{AllByRecursion}
 use Rattle.std.proofs.lemmas.List.{length-map}
 use Rattle.std.proofs.lemmas.List.Elements.{All-from_recursion, recursion_from_All}
 use Rattle.std.proofs.lemmas.Option.{slice_get_cases, slice_get_within}
 use Rattle.kw_bits.specs.BitVector.{BitVector}
-use Rattle.koika_types.specs.Values.{packed}
 use Rattle.typed_core.specs.Fits.{EventsFit}
 use Rattle.typed_core.specs.Valid.{IsValid}
 use Rattle.typed_core.specs.Widths as core
@@ -29,8 +28,6 @@ use Rattle.one_rule.proofs.Fitting.{first_values_fit, run_fits}
 use Rattle.stim_report.specs.Shapes as core_shapes
 use Rattle.koika_check.specs.declared.checked.Checked.{Checked}
 use Rattle.koika_check.specs.declared.checked.Host.{Host}
-use Rattle.koika_check.specs.declared.checked.Input.{Input}
-use Rattle.koika_check.specs.declared.checked.Register.{Register}
 use Rattle.koika_check.specs.declared.checked.Rule.{Rule}
 use Rattle.koika_lower.specs.Lowering.{IsLowered, input_of, input_widths, register_of, register_widths}
 use Rattle.koika_top.specs.Sim.{marks_of, text_of_rows}

@@ -1,5 +1,5 @@
 -- A source that holds a circuit text has one run, or one fault.
-use Rattle.std.proofs.Common.{◌≡◌, ◌⊎◌, ℕ, ◌<◌, ◌≤◌, true, false, List, length, Some, None, Ok, Err, refl, sym, ap, ◌∙◌, inl, inr, ⊎_elim, arith}
+use Rattle.std.proofs.Common.{◌≡◌, ◌⊎◌, ℕ, ◌<◌, ◌≤◌, true, false, List, length, refl, sym, ap, ◌∙◌, inl, inr, arith}
 use Rattle.kw_base.specs.declared.fault.Fault.{Fault}
 use Rattle.one_rule.specs.Stimulus.{InputVectors, inputs_of}
 use Rattle.btor2_model.specs.Acceptance.{first_fault}
@@ -8,7 +8,7 @@ use Rattle.btor2_text.specs.declared.line.Line.{Line}
 use Rattle.btor2_text.proofs.Readings.{lines_or_fault, same_faults, same_readings}
 use Rattle.stim_report.specs.Cuts as cuts
 use Rattle.koika_top.specs.Answer.{IsSameAnswer, text_of}
-use Rattle.koika_top.specs.Btorsim.{AnswersBtorsim, HasNoLines, HasNoStimulus, HasNoText, HoldsLines, HoldsRun, HoldsText, IsRefusal, IsTooLong, RunsTooLong, ShowsRun, is_too_long, longest_circuit, shown_run, stimulus_in}
+use Rattle.koika_top.specs.Btorsim.{AnswersBtorsim, HasNoLines, HasNoStimulus, HasNoText, HoldsLines, HoldsRun, HoldsText, IsRefusal, RunsTooLong, ShowsRun, is_too_long, longest_circuit, shown_run, stimulus_in}
 use Rattle.koika_top.specs.declared.answer.Answer.{Answer}
 use Rattle.koika_top.specs.declared.answer.Answer.TheVariants.{Usage, Refused, Written}
 use Rattle.koika_top.specs.declared.shown.Shown.{Shown}

@@ -1,12 +1,12 @@
 -- The names of a typed design are names of its tree, which are words; so circuit texts can hold them.
-use Rattle.std.proofs.Common.{◌≡◌, ◌<◌, ◌≤◌, ℕ, Bool, true, false, eqb, ◌&&◌, List, [], ◌∷◌, ◌++◌, length, Option, Some, None, refl, sym, ap, subst, ◌∙◌, ⊎_elim, arith}
+use Rattle.std.proofs.Common.{◌≡◌, ℕ, Bool, true, false, eqb, ◌&&◌, List, [], ◌∷◌, Some, None, refl, sym, ap, subst, ◌∙◌, ⊎_elim, arith}
 use Rattle.std.specs.Prelude.{All, ⊤}
 use Rattle.std.specs.List.{AllByRecursion, list_all}
 use Rattle.std.proofs.lemmas.Bool.{false≢true}
 use Rattle.std.proofs.lemmas.Bool.Decides.{eqb_tells}
 use Rattle.std.proofs.lemmas.List.Elements.{All-from_recursion, All-push, recursion_from_All}
 use Rattle.koika_syntax.specs.Grammar.{IsDeclaration, IsName}
-use Rattle.koika_syntax.specs.Lexemes.{IsWord, begins_word, continues_word}
+use Rattle.koika_syntax.specs.Lexemes.{IsWord, continues_word}
 use Rattle.koika_syntax.specs.declared.tree.Block.{Block}
 use Rattle.koika_syntax.specs.declared.tree.Constant.{Constant}
 use Rattle.koika_syntax.specs.declared.tree.Declaration.{Declaration}

@@ -1,8 +1,7 @@
 -- Trees of one outline are checked alike: what a tree comes to is told by its outline.
-use Rattle.std.proofs.Common.{◌≡◌, ℕ, ◌+◌, cond, Box, Global, Option, Some, None, Bool, List, [], ◌∷◌, ◌++◌, length, drop, map, refl, sym, ap, ap₂, subst, ◌∙◌}
-use Rattle.std.specs.Prelude.{All, IfSome, codes}
+use Rattle.std.proofs.Common.{◌≡◌, ℕ, ◌+◌, cond, Box, Global, Option, Some, None, List, [], ◌∷◌, ◌++◌, length, drop, map, refl, sym, ap, ap₂, subst, ◌∙◌}
+use Rattle.std.specs.Prelude.{IfSome, codes}
 use Rattle.std.specs.List.{AllByRecursion, flat_map}
-use Rattle.std.specs.Option.{option_map}
 use Rattle.std.specs.Str.{bytes_eq}
 use Rattle.std.proofs.lemmas.List.Elements.{recursion_from_All}
 use Rattle.kw_base.specs.declared.fault_number.TheConstants.{TOO_MANY_REGISTERS, TOO_MANY_RULES, TOO_MANY_INPUTS, TOO_MANY_NODES}
@@ -23,10 +22,10 @@ use Rattle.koika_syntax.specs.declared.tree.Scheduler.{Scheduler, Scheduler-F, m
 use Rattle.koika_syntax.specs.declared.tree.Tree.{Tree}
 use Rattle.koika_syntax.specs.declared.tree.TypeExpression.{TypeExpression, Bits, Named, Array'}
 use Rattle.koika_syntax.specs.declared.tree.Width.{Width}
-use Rattle.koika_parse.specs.Outline.{Outline, SameTree, node, listed, block_outline, choice_outline, choice_outline_step, constant_outline, declaration_outline, enum_member_outline, field_outline, last_outline, literal_outline, name_outline, outline, result_outline, scheduler_outline, scheduler_outline_step, type_outline, width_outline}
+use Rattle.koika_parse.specs.Outline.{Outline, SameTree, node, listed, block_outline, choice_outline, choice_outline_step, constant_outline, declaration_outline, enum_member_outline, field_outline, literal_outline, name_outline, outline, result_outline, scheduler_outline, scheduler_outline_step, type_outline, width_outline}
 use Rattle.koika_print.proofs.Levels.{Such}
 use Rattle.koika_check.specs.Checks as checks
-use Rattle.koika_check.specs.Checks.{at_most, checked, choice_places, counts_within, input_place, places_if, places_of, register_place, rule_place, scheduler_places, size_within}
+use Rattle.koika_check.specs.Checks.{at_most, checked, choice_places, input_place, places_if, places_of, register_place, rule_place, scheduler_places, size_within}
 use Rattle.koika_check.specs.Constants as constants
 use Rattle.koika_check.specs.Declarations.{add_parameter, declare, enum_with, host_with, input_typed, new_name, nothing, register_known, result_of, function_typed, rule_typed, struct_with, table_with, assert_with, other_name, add_field, struct_typed}
 use Rattle.koika_check.specs.Expressions.{Meaning, block_in}
@@ -39,7 +38,7 @@ use Rattle.koika_check.specs.Types.{type_of}
 use Rattle.koika_check.specs.declared.checked.Checked.{Checked}
 use Rattle.koika_check.specs.declared.checked.Field.{Field as CheckedField}
 use Rattle.koika_check.specs.declared.typed.ValueType.{ValueType}
-use Rattle.koika_top.proofs.Senses.{Sensed, map-each, name_at, literal_at, map-twice, place_at, sense, sensed, unlisted, unlisted-listed}
+use Rattle.koika_top.proofs.Senses.{Sensed, map-each, name_at, literal_at, map-twice, place_at, sense, unlisted, unlisted-listed}
 use Rattle.koika_top.proofs.SensesOfTypes.{constant_sense, constant-at, here, type_at, type-at, width_at}
 use Rattle.koika_top.proofs.SensesOfExpressions.{block_meaning, block-at}
 

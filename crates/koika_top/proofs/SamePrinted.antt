@@ -1,5 +1,5 @@
 -- Two trees of the same tokens are printed alike.
-use Rattle.std.proofs.Common.{◌≡◌, ℕ, List, [], ◌∷◌, ◌++◌, map, refl, sym, ap, ap₂, ◌∙◌}
+use Rattle.std.proofs.Common.{◌≡◌, ℕ, List, [], ◌∷◌, ◌++◌, map, refl, sym, ap₂, ◌∙◌}
 use Rattle.std.specs.List.{AllZip}
 use Rattle.koika_syntax.specs.Grammar.{Derives, tree_leaves}
 use Rattle.koika_syntax.specs.Tree.{IsLeafAt, Leaf, Terminal, terminal_of}

@@ -1,11 +1,11 @@
 -- Expressions, statements and blocks are checked by their outlines.
-use Rattle.std.proofs.Common.{◌≡◌, ℕ, zero, suc, ◌<◌, Vec, Box, Global, Bool, Option, Some, None, List, [], ◌∷◌, ◌++◌, map, append-nil, false, refl, sym, ap, ap₂, subst, ◌∙◌, arith}
+use Rattle.std.proofs.Common.{◌≡◌, ℕ, zero, suc, ◌<◌, Vec, Box, Global, Option, Some, None, List, [], ◌∷◌, ◌++◌, map, append-nil, false, refl, sym, ap, ap₂, subst, ◌∙◌, arith}
 use Rattle.std.specs.Prelude.{codes, if◌then◌else◌}
 use Rattle.std.specs.List.{AllByRecursion}
 use Rattle.std.specs.Str.{bytes_eq}
 use Rattle.kw_base.specs.declared.fault_number.TheConstants.{UNKNOWN_NAME}
 use Rattle.koika_syntax.specs.Grammar.{IsExpression, IsBlock, IsExpressionLayer, IsStatementLayer, IsArmLayer, IsBlockLayer, IsFieldValueLayer, IsOperandLayer}
-use Rattle.koika_syntax.specs.Tree.{Terminal, binary_symbol, comparison_word, extension_word, keyword, read_word, symbol, unary_symbol, write_word}
+use Rattle.koika_syntax.specs.Tree.{Terminal, binary_symbol, comparison_word, extension_word, read_word, symbol, unary_symbol, write_word}
 use Rattle.koika_syntax.specs.declared.keyword.Keyword.{Keyword}
 use Rattle.koika_syntax.specs.declared.keyword.Keyword.TheVariants as keywords
 use Rattle.koika_syntax.specs.declared.operator.BinaryOperator.{BinaryOperator}
@@ -18,9 +18,9 @@ use Rattle.koika_syntax.specs.declared.operator.UnaryOperator.{UnaryOperator}
 use Rattle.koika_syntax.specs.declared.operator.UnaryOperator.TheVariants as unaries
 use Rattle.koika_syntax.specs.declared.symbol.Symbol.{Symbol}
 use Rattle.koika_syntax.specs.declared.symbol.Symbol.TheVariants as symbols
-use Rattle.koika_syntax.specs.declared.tree.Arm.{Arm, Arm-F, map-Arm, out-Arm, roll-Arm, every-Arm, every_held-Arm, every_here-Arm, out-roll-Arm, fold-Arm, fold-roll-Arm, fold_out-Arm}
+use Rattle.koika_syntax.specs.declared.tree.Arm.{Arm, Arm-F, map-Arm, roll-Arm, every-Arm, every_held-Arm, every_here-Arm, out-roll-Arm, fold-Arm, fold-roll-Arm, fold_out-Arm}
 use Rattle.koika_syntax.specs.declared.tree.Block.{Block, Block-F, map-Block, roll-Block, every_held-Block, every_here-Block, out-roll-Block, fold-Block, fold-roll-Block, fold_out-Block, ind-Block}
-use Rattle.koika_syntax.specs.declared.tree.Expression.{Expression, Expression-F, map-Expression, roll-Expression, every_held-Expression, every_here-Expression, out-roll-Expression, fold-Expression, fold-roll-Expression, ind-Expression}
+use Rattle.koika_syntax.specs.declared.tree.Expression.{Expression, Expression-F, map-Expression, roll-Expression, every_held-Expression, every_here-Expression, out-roll-Expression, fold-Expression, fold-roll-Expression}
 use Rattle.koika_syntax.specs.declared.tree.Expression.TheOpen as expression
 use Rattle.koika_syntax.specs.declared.tree.FieldValue.{FieldValue, FieldValue-F, map-FieldValue, roll-FieldValue, every-FieldValue, every_held-FieldValue, every_here-FieldValue, out-roll-FieldValue, fold-FieldValue, fold-roll-FieldValue}
 use Rattle.koika_syntax.specs.declared.tree.Name.{Name}
@@ -33,9 +33,9 @@ use Rattle.koika_syntax.specs.declared.tree.Prefix.{Prefix}
 use Rattle.koika_syntax.specs.declared.tree.Statement.{Statement, Statement-F, map-Statement, out-Statement, roll-Statement, every-Statement, every_held-Statement, every_here-Statement, out-roll-Statement, fold-Statement, fold-roll-Statement, fold_out-Statement}
 use Rattle.koika_syntax.specs.declared.tree.Suffix.{Suffix}
 use Rattle.koika_syntax.specs.declared.tree.Suffix.TheVariants as suffixes
-use Rattle.koika_parse.specs.Outline.{Outline, node, listed, arm_outline, arm_outline_step, block_outline, block_outline_step, expression_outline, expression_outline_step, field_value_outline, field_value_outline_step, last_outline, name_outline, number_outline, operand_outline, operand_outline_step, part_outline, prefix_outline, statement_outline, statement_outline_step, suffix_outline, type_outline}
-use Rattle.koika_print.proofs.Levels.{Such, firsts, EachOfExpression, EachOfStatement, EachOfArm, EachOfBlock, EachOfFieldValue, EachOfOperand, each_of_expression, each_of_statement, each_of_arm, each_of_block, each_of_field_value, each_of_operand}
-use Rattle.koika_check.specs.Constructs.{FieldTyping, Typing, abort_at, array_in, call, comparison, conditional, extended, literal, member_in, named, packed, postfix, read_in, struct_in, typing, unary, unpacked, updated, written}
+use Rattle.koika_parse.specs.Outline.{Outline, node, arm_outline, arm_outline_step, block_outline, block_outline_step, expression_outline, expression_outline_step, field_value_outline, field_value_outline_step, name_outline, number_outline, operand_outline, operand_outline_step, part_outline, prefix_outline, statement_outline, statement_outline_step, suffix_outline, type_outline}
+use Rattle.koika_print.proofs.Levels.{Such, EachOfExpression, EachOfStatement, EachOfArm, EachOfBlock, EachOfFieldValue, EachOfOperand, each_of_expression, each_of_statement, each_of_arm, each_of_block, each_of_field_value, each_of_operand}
+use Rattle.koika_check.specs.Constructs.{abort_at, array_in, call, comparison, conditional, extended, literal, member_in, named, packed, postfix, read_in, struct_in, typing, unary, unpacked, updated, written}
 use Rattle.koika_check.specs.Expressions.{Armed, Fielded, Joining, Meaning, Stepped, all_in, arm_in, arm_step, block_from, block_in, block_step, chain_in, expression_in, expression_step, field_value_in, field_value_step, held, operand_in, operand_step, otherwise_in, statement_in, statement_step}
 use Rattle.koika_check.specs.Outcomes.{Outcome, ◌>>=◌, Fails, Gives, found, wrong}
 use Rattle.koika_check.specs.Scopes.{Scope, bound, called, register}

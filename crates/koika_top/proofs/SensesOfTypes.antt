@@ -1,5 +1,5 @@
 -- Types and constants are checked by their outlines.
-use Rattle.std.proofs.Common.{◌≡◌, ℕ, Box, Global, Bool, Option, Some, None, List, [], ◌∷◌, map, refl, sym, ap, ap₂, subst, ◌∙◌}
+use Rattle.std.proofs.Common.{◌≡◌, ℕ, Box, Global, Some, List, [], ◌∷◌, map, refl, sym, ap, subst, ◌∙◌}
 use Rattle.std.specs.Prelude.{codes, if◌then◌else◌}
 use Rattle.std.specs.List.{AllByRecursion}
 use Rattle.std.specs.Ptr.{null_ptr}
@@ -10,19 +10,17 @@ use Rattle.koika_syntax.specs.declared.symbol.Symbol.TheVariants as symbols
 use Rattle.koika_syntax.specs.declared.tree.Constant.{Constant, Constant-F, map-Constant, roll-Constant, fold-roll-Constant, ind-Constant}
 use Rattle.koika_syntax.specs.declared.tree.Constant.TheOpen as constant
 use Rattle.koika_syntax.specs.declared.tree.ConstantField.{ConstantField, ConstantField-F, map-ConstantField, roll-ConstantField, fold-roll-ConstantField}
-use Rattle.koika_syntax.specs.declared.tree.Name.{Name}
 use Rattle.koika_syntax.specs.declared.tree.TypeExpression.{TypeExpression, Bits, Named, Array'}
 use Rattle.koika_syntax.specs.declared.tree.Width.{Width}
-use Rattle.koika_parse.specs.Outline.{Outline, node, listed, type_outline, width_outline, name_outline, constant_outline, constant_field_outline, constant_outline_step, constant_field_outline_step}
+use Rattle.koika_parse.specs.Outline.{Outline, type_outline, constant_outline, constant_field_outline, constant_outline_step, constant_field_outline_step}
 use Rattle.koika_print.proofs.Levels.{Such, firsts}
-use Rattle.koika_check.specs.Constants.{Known, KnownField, Meaning, FieldMeaning, array_known, constant_field_of, constant_field_step, constant_of, constant_step, known_member, struct_known}
+use Rattle.koika_check.specs.Constants.{Meaning, FieldMeaning, array_known, constant_field_of, constant_field_step, constant_of, constant_step, known_member, struct_known}
 use Rattle.koika_check.specs.Composites.{member}
 use Rattle.koika_check.specs.Outcomes.{Outcome, ◌>>=◌, Fails, Gives, found, in_turn, wrong}
 use Rattle.koika_check.specs.Types.{array_type, bits, part, struct_named, type_of}
 use Rattle.koika_check.specs.declared.checked.Checked.{Checked}
-use Rattle.koika_check.specs.declared.typed.ValueType.{ValueType}
 use Rattle.koika_types.specs.declared.value.Value.TheVariants as value
-use Rattle.koika_top.proofs.Senses.{Sensed, name_at, number_at, place_at, sense, sensed, sense-node, kept, kept-list}
+use Rattle.koika_top.proofs.Senses.{Sensed, name_at, number_at, place_at, sense, sense-node, kept, kept-list}
 
 abbrev pub here : ℕ → ℕ
 here place = place

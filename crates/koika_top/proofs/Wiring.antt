@@ -13,6 +13,7 @@ use Rattle.typed_core.specs.declared.design.RegDecl.{RegDecl}
 use Rattle.one_rule.specs.Stimulus.{InputVectors, inputs_of}
 use Rattle.one_rule.specs.declared.rows.Row.{Row}
 use Rattle.circuit_eval.specs.Circuits as circuit
+use Rattle.circuit_eval.specs.Tidy.{IsTidy}
 use Rattle.circuit_eval.specs.declared.circuit.InputWire.{InputWire}
 use Rattle.circuit_eval.specs.declared.circuit.OutputWire.{OutputWire}
 use Rattle.circuit_eval.specs.declared.circuit.StateWire.{StateWire}
@@ -25,6 +26,7 @@ use Rattle.btor2_model.specs.Acceptance.{IsAccepted}
 use Rattle.btor2_model.specs.Rules.{is_bad, is_output}
 use Rattle.btor2_model.specs.Run as text
 use Rattle.btor2_net.specs.Pages.{lines_of}
+use Rattle.btor2_net.specs.TidyLines.{AreTidy}
 use Rattle.btor2_net.specs.Translations as translation
 use Rattle.btor2_net.specs.Translations.{AreCounted, HasLines, HasTokens, name_of, output_widths}
 use Rattle.koika_assert.specs.Bads.{HasSameParts, RunsAlike, ShowsMarks, flag_lines, is_violated, with_bads}
@@ -35,7 +37,7 @@ use Rattle.koika_check.specs.declared.checked.Input.{Input}
 use Rattle.koika_check.specs.declared.checked.Register.{Register}
 use Rattle.koika_check.specs.declared.checked.Rule.{Rule}
 use Rattle.koika_lower.specs.Lowering.{IsLowered, input_of, register_of}
-use Rattle.koika_top.specs.Compile.{AreCircuitOf, HasPartsOf, IsStimulusFor, IsViolatedAs, RunsAs, input_widths}
+use Rattle.koika_top.specs.Compile.{AreCircuitOf, HasPartsOf, IsStimulusFor, RunsAs, input_widths}
 use Rattle.koika_top.specs.PlainNames.{HasPlainNames}
 use Rattle.koika_top.specs.Sim.{marks_of}
 use Rattle.koika_top.specs.Sources as sources
@@ -155,10 +157,12 @@ module _ (d : Checked) (c : Wires) (is : IsWiredAs d c) (lines : List Line) (are
     }
 
     -- the lines with the bad ones behind them are the design's circuit
-    pub are-circuit : IsAccepted all → AreCounted all → AreCircuitOf d all
-    are-circuit accepted ids = record {
+    pub are-circuit : IsAccepted all → AreCounted all → circuit.IsCircuit c → IsTidy c → AreTidy all → AreCircuitOf d all
+    are-circuit accepted ids stands tidy tidy_lines = record {
       accepted = accepted;
       ids = ids;
+      layout = record { wires = c; circuit = stands; tidy = tidy; lines_are = marked ∙ ap (λ (ls : List Line). with_bads ls d.asserts) are };
+      tidy = tidy_lines;
       parts = has-parts;
       run = λ stimulus n fits. alike (inputs_of stimulus) n ∙ lines-run stimulus n fits;
       violated = violated;

@@ -1,20 +1,24 @@
 -- What `compile` answers to a source: a circuit text (BTOR2; Niemetz et al., CAV 2018) that is accepted and whose own run is that
--- of the source's design, for every stimulus. It says nothing of how the text comes about.
+-- of the source's design, for every stimulus. It is tidy, and its lines are laid out as those of a circuit; which one is left open:
+-- any that is tidy and runs so.
 use Rattle.std.specs.Prelude.{◌≡◌, ℕ, ◌+◌, ◌⊎◌, List, map, Some, slice_get}
-use Rattle.kw_base.specs.declared.fault.Fault.{Fault}
 use Rattle.btor2_model.specs.Acceptance.{IsAccepted}
 use Rattle.btor2_model.specs.Rules.{is_bad, is_input, is_output, is_state}
 use Rattle.btor2_model.specs.Run as circuit
+use Rattle.btor2_net.specs.Pages as pages
+use Rattle.btor2_net.specs.TidyLines.{AreTidy}
 use Rattle.btor2_net.specs.Translations.{AreCounted, names_of, output_widths, widths_in}
 use Rattle.btor2_text.specs.Printing.{text_of}
 use Rattle.btor2_text.specs.Reading.{AreLinesOf}
 use Rattle.btor2_text.specs.declared.line.Line.{Line}
-use Rattle.koika_assert.specs.Bads.{is_violated}
+use Rattle.circuit_eval.specs.Circuits.{IsCircuit}
+use Rattle.circuit_eval.specs.Tidy.{IsTidy}
+use Rattle.circuit_eval.specs.declared.circuit.Wires.{Wires}
+use Rattle.koika_assert.specs.Bads.{is_violated, with_bads}
 use Rattle.koika_check.specs.declared.checked.Checked.{Checked}
 use Rattle.koika_check.specs.declared.checked.Input.{Input}
 use Rattle.koika_check.specs.declared.checked.Register.{Register}
 use Rattle.koika_check.specs.declared.checked.Rule.{Rule}
-use Rattle.one_rule.specs.Run.{InputsByCycle}
 use Rattle.one_rule.specs.Stimulus.{AlwaysFits, InputVectors, inputs_of}
 use Rattle.one_rule.specs.declared.rows.Row.{Row}
 use Rattle.stim_report.specs.Summary.{has_fired}
@@ -55,10 +59,19 @@ IsViolatedAs d lines = (stimulus : InputVectors) (n step : ℕ) (row : Row) → 
     → slice_get (typed.run_of d (inputs_of stimulus) n) (step + 1) ≡ Some row
     → map (is_violated lines (inputs_of stimulus) step) (circuit.lines_of is_bad lines) ≡ map (λ rule. has_fired rule row) d.asserts
 
+-- the lines are those that a tidy circuit is written as, and behind them a bad line for each mark
+pub record AreLaidOut (d : Checked) (lines : List Line) : Type 0 where
+  pub wires : Wires
+  pub circuit : IsCircuit wires
+  pub tidy : IsTidy wires
+  pub lines_are : lines ≡ with_bads (pages.lines_of wires) d.asserts
+
 -- the lines are a circuit of the design
 pub record AreCircuitOf (d : Checked) (lines : List Line) : Type 0 where
   pub accepted : IsAccepted lines
   pub ids : AreCounted lines
+  pub layout : AreLaidOut d lines
+  pub tidy : AreTidy lines
   pub parts : HasPartsOf d lines
   pub run : RunsAs d lines
   pub violated : IsViolatedAs d lines

@@ -1,6 +1,5 @@
 -- What `check` and `print` answer to a source.
 use Rattle.std.specs.Prelude.{◌≡◌, ℕ, ◌⊎◌, List, [], ◌∷◌, ◌++◌, codes, decimal}
-use Rattle.kw_base.specs.declared.fault.Fault.{Fault}
 use Rattle.koika_syntax.specs.Grammar.{tree_leaves}
 use Rattle.koika_syntax.specs.declared.tree.Tree.{Tree}
 use Rattle.koika_check.specs.Counts.{counts_of}

@@ -1,5 +1,5 @@
 -- When a circuit is that of a typed design. Contracts of private functions alone cite it.
-use Rattle.std.specs.Prelude.{◌≡◌, ℕ, List, map}
+use Rattle.std.specs.Prelude.{◌≡◌, ℕ, map}
 use Rattle.net_graph.specs.Nets.{width_at, widths_of}
 use Rattle.circuit_eval.specs.Circuits as circuit
 use Rattle.circuit_eval.specs.Run as wired

@@ -1,6 +1,7 @@
 ghost use Rattle.std.specs.Prelude.{◌≡◌, ◌≤◌, All, Contains, IfOk, length};
 ghost use Rattle.kw_base.specs.Fault.{IfFault};
 ghost use Rattle.btor2_text.specs.Printable.{numbered_from};
+ghost use Rattle.circuit_eval.specs.Tidy.{IsTidy};
 ghost use Rattle.koika_check.specs.Typing.{IsTypedDesign};
 ghost use Rattle.koika_check.specs.declared.checked.Host.{Host};
 ghost use Rattle.one_rule.specs.Externs.{host_specs};
@@ -9,6 +10,7 @@ ghost use Rattle.koika_top.specs.PlainNames.{HasPlainNames};
 ghost use Rattle.koika_top.specs.Sources.{IsUnspelled, longest_source};
 ghost use Rattle.koika_top.specs.Wired.{IsWiredAs};
 
+use crate::engine::is_valid;
 use crate::source::read_source;
 use btor2_net::to_lines;
 use btor2_text::{Lines, print_lines};
@@ -45,7 +47,8 @@ pub(crate) fn compile_source(
 fn circuit_of(alloc: Global, hosts: &[HostFn], design: &Checked) -> Result<Circuit, NoMemory>
     requires typed { IsTypedDesign design.now }
     requires offered { All (λ (host : Host). Contains (host_specs hosts.now) host.spec) design.now.hosts }
-    ensures { IfOk result (IsWiredAs design.now) }
+    ensures wired { IfOk result (IsWiredAs design.now) }
+    ensures tidy { IfOk result IsTidy }
 {
     let lowered = lower(alloc, design)?;
     let externs = Externs::new(alloc, &lowered, hosts)?;
@@ -59,9 +62,11 @@ fn circuit_lines(alloc: Global, design: &Checked, circuit: &Circuit) -> Result<L
     requires typed { IsTypedDesign design.now }
     requires names { HasPlainNames design.now }
     requires wired { IsWiredAs design.now circuit.now }
+    requires tidy { IsTidy circuit.now }
     ensures circuit { IfOk result (AreCircuitOf design.now) }
     ensures numbers { IfOk result (λ lines. numbered_from 1 lines ≡ lines) }
 {
+    is_valid(circuit);
     let lines = to_lines(alloc, circuit)?;
     let marked = add_bads(alloc, &lines, design.asserts())?;
     Ok(marked)

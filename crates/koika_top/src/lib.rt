@@ -25,6 +25,7 @@ mod teller;
 mod words;
 
 pub use answer::Answer;
+pub use circuit_shapes::circuit_shape;
 pub use laws::{one_answer, one_status, some_answer, some_circuit};
 pub use program::run_here;
 pub use shown::Shown;

@@ -1,5 +1,5 @@
-use Rattle.std.proofs.Common.{All, sym, ap, subst}
-use Rattle.circuit_eval.specs.Circuits.{IsCircuit, IsOutput}
+use Rattle.std.proofs.Common.{All, sym, subst}
+use Rattle.circuit_eval.specs.Circuits.{IsOutput}
 use Rattle.circuit_eval.specs.declared.circuit.OutputWire.{OutputWire}
 use Rattle.std.specs.Prelude.{List}
 use Rattle.koika_top.proofs.circuit_shapes.circuit_shape.Goals as goal

@@ -18,6 +18,7 @@ returns-clause-circuit c =
     are-circuit c.args.design.now c.args.circuit.now c.requires.wired lines.lines lines.ensures.lines lines.ensures.names c.requires.typed lines.ensures.run all.marked
     (all.ensures.lines ∙ ap (with_bads lines.lines) c.asserts.ensures) all.ensures.parts all.ensures.run
     (subst (λ marks. ShowsMarks lines.lines marks all.marked) c.asserts.ensures all.ensures.violations) all.ensures.accepted all.ensures.ids
+    c.is_valid.ensures c.requires.tidy (all.ensures.tidy (lines.ensures.tidy c.requires.tidy))
 
 pub returns-clause-numbers : goal.returns-clause-numbers
 returns-clause-numbers c =

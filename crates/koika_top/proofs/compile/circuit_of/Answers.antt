@@ -10,6 +10,6 @@ pub new-requires : goal.new-requires
 new-requires g c =
     subst (All (Contains (host_specs c.args.hosts.now))) (sym c.in_ok-lowered.ensures.hosts) (all-of-map (host_specs c.args.hosts.now) c.args.design.now.hosts c.requires.offered)
 
-pub returns : goal.returns
-returns g c =
+pub returns-clause-wired : goal.returns-clause-wired
+returns-clause-wired g c =
     wired c.args.design.now c.in_ok-lowered.lowered c.in_ok-circuit.circuit c.in_ok-simple.simple c.in_ok-lowered.ensures (subst IsValid c.lowered.view_is c.lowered.invariant) c.in_ok-circuit.ensures.parts c.in_ok-circuit.ensures.run c.in_ok-simple.ensures.kept c.in_ok-simple.ensures.run
