@@ -170,7 +170,7 @@ module _ (hosts : List HostSpec) (source : List ℕ) where
 command_answer : (hosts : List HostSpec) (command : Command) (source : List ℕ) → has_one_text (Some command) ≡ true → (answer : Answer) × Answers hosts command source answer
 command_answer hosts Check source one = check_answer hosts source
 command_answer hosts Print source one = print_answer hosts source
-command_answer hosts (Sim cycles shown) source one = sim_answer hosts source cycles shown
+command_answer hosts (Sim cycles shown engine) source one = sim_answer hosts source cycles shown
 command_answer hosts (Btorsim cycles shown) source one = btorsim_answer source cycles shown
 command_answer hosts Compile source one = absurd (false≢true one)
 command_answer hosts (Gen stages) source one = (Written (pipeline stages), refl)

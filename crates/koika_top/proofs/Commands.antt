@@ -20,6 +20,7 @@ use Rattle.koika_top.specs.Steps.{Tells, TellsOne, status_by}
 use Rattle.koika_top.specs.Words.{command_of}
 use Rattle.koika_top.specs.declared.answer.Answer.{Answer}
 use Rattle.koika_top.specs.declared.answer.Answer.TheVariants.{Usage, Refused, Written}
+use Rattle.koika_top.specs.declared.engine_kind.EngineKind.TheVariants.{Plain}
 use Rattle.koika_top.specs.declared.run.Untold.{Untold}
 use Rattle.koika_top.specs.declared.run.Untold.TheVariants as untold
 use Rattle.koika_top.specs.declared.shown.Shown.{Shown}
@@ -74,7 +75,7 @@ pub tells-run : (hosts : List HostSpec) (cycles : ℕ) (shown : Shown) (source :
     → Tells (AnswersSim hosts cycles shown source) old new (status_by r)
 tells-run hosts cycles shown source design stimulus spelled within old new r all front =
     let mine = text_of_rows shown (shape_of design) (marks_of design) (run_of design (inputs_of stimulus) cycles) in
-    tells_answer (AnswersSim hosts cycles shown source) (command_answer-same hosts (Sim cycles shown) source) old new (status_by r) (Written mine)
+    tells_answer (AnswersSim hosts cycles shown source) (command_answer-same hosts (Sim cycles shown Plain) source) old new (status_by r) (Written mine)
     (record { design = design; stimulus = stimulus; spelled = spelled; within = within; told = refl })
     (record { status = told-so mine r; all = told-all old new mine r all; front = front })
 
@@ -117,7 +118,7 @@ pub refuses-long : (hosts : List HostSpec) (command : Command) (source : List �
     → Answers hosts command source (Refused fault)
 refuses-long hosts Check source fault reads is long = inl (is, long)
 refuses-long hosts Print source fault reads is long = inl (is, long)
-refuses-long hosts (Sim cycles shown) source fault reads is long = inl (is, long)
+refuses-long hosts (Sim cycles shown engine) source fault reads is long = inl (is, long)
 refuses-long hosts (Btorsim cycles shown) source fault reads is long = inl (is, long)
 refuses-long hosts Compile source fault reads is long = inl (is, long)
 refuses-long hosts (Gen stages) source fault reads is long = absurd (false≢true reads)

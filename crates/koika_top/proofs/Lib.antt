@@ -9,6 +9,7 @@ pub mod CircuitLines
 pub mod BadLines
 pub mod Answered
 pub mod Batches
+pub mod ByCircuit
 pub mod Commands
 pub mod ReadWords
 pub mod Lowered
@@ -27,5 +28,4 @@ pub mod BatchesOfEngines
 pub mod OneCircuitAnswer
 pub mod CircuitAnswered
 pub mod CircuitShown
-pub mod CircuitWords
 pub mod CircuitTold

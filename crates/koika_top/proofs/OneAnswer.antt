@@ -249,7 +249,7 @@ equal-same a b e = record { status = ap status_of e; text = ap text_of e }
 pub command_answer-same : (hosts : List HostSpec) (command : Command) (source : List ℕ) (a b : Answer) → Answers hosts command source a → Answers hosts command source b → IsLikeAnswer a b
 command_answer-same hosts Check source a b h k = same-like a b (check-same hosts source a b h k)
 command_answer-same hosts Print source a b h k = same-like a b (print-same source a b h k)
-command_answer-same hosts (Sim cycles shown) source a b h k = same-like a b (sim-same hosts source cycles shown a b h k)
+command_answer-same hosts (Sim cycles shown engine) source a b h k = same-like a b (sim-same hosts source cycles shown a b h k)
 command_answer-same hosts Compile source a b h k = compile-like hosts source a b h k
 command_answer-same hosts (Btorsim cycles shown) source a b h k = same-like a b (btorsim-same source cycles shown a b h k)
 command_answer-same hosts (Gen stages) source a b h k = same-like a b (equal-same a b (h ∙ sym k))
@@ -266,7 +266,7 @@ by_words : (hosts : List HostSpec) (command : Option Command) (source : List ℕ
 by_words hosts None source a b one h k = equal-same a b (h ∙ sym k)
 by_words hosts (Some Check) source a b one h k = check-same hosts source a b h k
 by_words hosts (Some Print) source a b one h k = print-same source a b h k
-by_words hosts (Some (Sim cycles shown)) source a b one h k = sim-same hosts source cycles shown a b h k
+by_words hosts (Some (Sim cycles shown engine)) source a b one h k = sim-same hosts source cycles shown a b h k
 by_words hosts (Some Compile) source a b one h k = absurd (false≢true one)
 by_words hosts (Some (Btorsim cycles shown)) source a b one h k = btorsim-same source cycles shown a b h k
 by_words hosts (Some (Gen stages)) source a b one h k = equal-same a b (h ∙ sym k)

@@ -1,21 +1,28 @@
--- What is found in valid words is what they give: each of their six shapes is taken, and its rows are those of its options.
-use Rattle.std.proofs.Common.{◌≡◌, ◌∙◌, ◌⊎◌, ℕ, ◌==◌, ◌&&◌, Bool, true, false, List, [], ◌∷◌, ◌++◌, take, drop, length, Option, Some, None, is_some, refl, sym, ap, ap₂, subst, inl, inr, codes, nat_le, true≢false}
-use Rattle.std.specs.Prelude.{if◌then◌else◌, option_and_then, unwrap_or}
+-- What is found in valid words is what they give, in whatever order their options stand: the reader goes from one option to the
+-- next, and behind each it has found what was given so far.
+use Rattle.std.proofs.Common.{◌≡◌, ◌∙◌, ◌⊎◌, ℕ, ◌==◌, ◌&&◌, Bool, true, false, cond, List, [], ◌∷◌, ◌++◌, take, drop, length, Option, Some, None, is_some, refl, sym, ap, ap₂, subst, inl, inr, codes, nat_le, true≢false, append-nil}
+use Rattle.std.specs.Prelude.{if◌then◌else◌, find, fold, option_and_then, option_map, slice_get, unwrap_or}
+use Rattle.std.specs.Option.{option_or}
 use Rattle.std.specs.Str.{bytes_eq}
 use Rattle.std.proofs.lemmas.Bool.{eqb-true}
 use Rattle.std.proofs.lemmas.List.{take-append-drop}
+use Rattle.std.proofs.lemmas.List.Folds.{find-append}
 use Rattle.std.proofs.lemmas.Option.{none-some}
 use Rattle.std.proofs.lemmas.Slice.Eq.{bytes_eq-Decides}
-use Rattle.clap.specs.Walk.{Text, first_of, one_of}
-use Rattle.clap.specs.Walk.{rule_of}
-use Rattle.clap.specs.Simple.{app_of, is_simple, matches_of, with_rule}
+use Rattle.clap.specs.Walk.{Held, Row, Rule, Text, Walk, at_row, finished, first_of, has_row, idle, more_values, nothing_held, one_of, reading_by, rule_of, row_text, settled_rows, walk, walk_from, walked, with_default, with_values, without}
+use Rattle.clap.specs.Simple.{Shape, app_of, built, filled, is_simple, matches_of, with_rule}
 use Rattle.clap.specs.Built.{AddsArg}
 use Rattle.clap.specs.declared.builder.arg.Arg.{Arg}
 use Rattle.clap.specs.declared.builder.command.Command.{Command}
-use Rattle.clap.specs.Takes.{takes}
+use Rattle.clap.specs.declared.parser.matches.ValueSource.{ValueSource}
+use Rattle.clap.specs.declared.parser.matches.ValueSource.TheVariants.{CommandLine, DefaultValue}
+use Rattle.clap.specs.declared.builder.value_parser.Reading.{Reading}
+use Rattle.clap.specs.Takes.{is_given, settle_passes, takes, turn_passes, walk_passes}
 use Rattle.clap.proofs.OnLiterals.{clap_on_literals}
-use Rattle.koika_top.specs.Given.{Give, bare, cycles_rule, flag_of, gen_app, number_in, run_app, stages_rule, summary_rule}
-use Rattle.koika_top.specs.Words.{gen_by, gen_of, no_options, number_of, options_of, put_cycles, put_number, put_summary, sim_by, sim_of, value_of, with_cycles, with_summary, with_word}
+use Rattle.koika_top.specs.Given.{Give, bare, cycles_rule, engine_rule, flag_of, gen_app, number_in, run_app, stages_rule, summary_rule}
+use Rattle.koika_top.specs.Words.{engine_of, gen_by, gen_of, no_options, number_of, options_of, put_cycles, put_engine, put_named, put_number, put_summary, sim_by, sim_of, value_of, with_cycles, with_engine, with_summary, with_word}
+use Rattle.koika_top.specs.declared.engine_kind.EngineKind.{EngineKind}
+use Rattle.koika_top.specs.declared.engine_kind.EngineKind.TheVariants.{Plain, Circuit}
 use Rattle.koika_top.specs.declared.shown.Shown.{Shown}
 use Rattle.koika_top.specs.declared.shown.Shown.TheVariants.{Report, Summary}
 use Rattle.koika_top.specs.declared.words.Options.{Options}
@@ -25,173 +32,534 @@ some_is x y e = ap (λ o. unwrap_or o x) e
 
 -- ---- words, as options one after another
 
--- `--cycles` and its value, `--cycles=` with its value, and `--summary`
+-- the options that have a value
+data Key : Type 0 where
+  of_cycles : Key
+  of_engine : Key
+
+abbrev flag_word : Key → Text
+flag_word of_cycles = codes "--cycles"
+flag_word of_engine = codes "--engine"
+
+abbrev front_word : Key → Text
+front_word of_cycles = codes "--cycles="
+front_word of_engine = codes "--engine="
+
+-- an option and its value, an option with its value behind `=`, and `--summary`
 data Step : Type 0 where
-  next : List ℕ → Step
-  equals : List ℕ → Step
+  next : Key → Text → Step
+  equals : Key → Text → Step
   summary : Step
 
-abbrev words_of : List Step → List (List ℕ)
+abbrev words_of : List Step → List Text
 words_of [] = []
-words_of (next v ∷ steps) = codes "--cycles" ∷ v ∷ words_of steps
-words_of (equals v ∷ steps) = (codes "--cycles=" ++ v) ∷ words_of steps
+words_of (next key v ∷ steps) = flag_word key ∷ v ∷ words_of steps
+words_of (equals key v ∷ steps) = (front_word key ++ v) ∷ words_of steps
 words_of (summary ∷ steps) = codes "--summary" ∷ words_of steps
 
-record IsPut (v : List ℕ) (rest o : Options) : Type 0 where
+record PutsCycles (v : Text) (rest o : Options) : Type 0 where
   n : ℕ
   number : number_of v ≡ Some n
   fresh : rest.cycles ≡ None
-  is : o ≡ record rest { cycles = Some n }
+  cycles : o.cycles ≡ Some n
+  engine : o.engine ≡ rest.engine
+  shown : o.shown ≡ rest.shown
+
+record PutsEngine (v : Text) (rest o : Options) : Type 0 where
+  kind : EngineKind
+  named : engine_of v ≡ Some kind
+  fresh : rest.engine ≡ None
+  cycles : o.cycles ≡ rest.cycles
+  engine : o.engine ≡ Some kind
+  shown : o.shown ≡ rest.shown
+
+abbrev Puts : Key → Text → Options → Options → Type 0
+Puts of_cycles v rest o = PutsCycles v rest o
+Puts of_engine v rest o = PutsEngine v rest o
 
 record IsShown (rest o : Options) : Type 0 where
   fresh : rest.shown ≡ Report
-  is : o ≡ record rest { shown = Summary }
+  cycles : o.cycles ≡ rest.cycles
+  engine : o.engine ≡ rest.engine
+  shown : o.shown ≡ Summary
 
 -- steps give options
 abbrev Gives : List Step → Options → Type 0
 Gives [] o = o ≡ no_options
-Gives (next v ∷ steps) o = (rest : Options) × Gives steps rest × IsPut v rest o
-Gives (equals v ∷ steps) o = (rest : Options) × Gives steps rest × IsPut v rest o
+Gives (next key v ∷ steps) o = (rest : Options) × Gives steps rest × Puts key v rest o
+Gives (equals key v ∷ steps) o = (rest : Options) × Gives steps rest × Puts key v rest o
 Gives (summary ∷ steps) o = (rest : Options) × Gives steps rest × IsShown rest o
 
-put_cycles-is : (c : Option ℕ) (s : Shown) (n : ℕ) (o : Options) → put_cycles c n (record { cycles = c; shown = s }) ≡ Some o → (c ≡ None) × (o ≡ record { cycles = Some n; shown = s })
-put_cycles-is None s n o e = (refl, sym (some_is _ o e))
-put_cycles-is (Some m) s n o e = absurd (none-some o e)
+module _ (v : Text) (c : Option ℕ) (e : Option EngineKind) (s : Shown) (o : Options) where
+  abbrev mine : Options
+  mine = record { cycles = c; engine = e; shown = s }
 
-with_cycles-is : (v : List ℕ) (others : Option Options) (o : Options) → with_cycles v others ≡ Some o → (rest : Options) × (others ≡ Some rest) × IsPut v rest o
-with_cycles-is v None o e = absurd (none-some o e)
-with_cycles-is v (Some rest) o e = (rest, refl, go (number_of v) refl e)
+  puts_cycles : (n : ℕ) → number_of v ≡ Some n → (c' : Option ℕ) → c ≡ c' → put_cycles c' n mine ≡ Some o → PutsCycles v mine o
+  puts_cycles n number None none e =
+      let is = sym (some_is _ o e) in
+      record { n = n; number = number; fresh = none; cycles = ap (λ (p : Options). p.cycles) is; engine = ap (λ (p : Options). p.engine) is; shown = ap (λ (p : Options). p.shown) is }
+  puts_cycles n number (Some m) none e = absurd (none-some o e)
+
+  puts_engine : (kind : EngineKind) → engine_of v ≡ Some kind → (e' : Option EngineKind) → e ≡ e' → put_engine e' kind mine ≡ Some o → PutsEngine v mine o
+  puts_engine kind named None none put =
+      let is = sym (some_is _ o put) in
+      record { kind = kind; named = named; fresh = none; cycles = ap (λ (p : Options). p.cycles) is; engine = ap (λ (p : Options). p.engine) is; shown = ap (λ (p : Options). p.shown) is }
+  puts_engine kind named (Some k) none put = absurd (none-some o put)
+
+  puts_summary : (s' : Shown) → s ≡ s' → put_summary s' mine ≡ Some o → IsShown mine o
+  puts_summary Report fresh put =
+      let is = sym (some_is _ o put) in
+      record { fresh = fresh; cycles = ap (λ (p : Options). p.cycles) is; engine = ap (λ (p : Options). p.engine) is; shown = ap (λ (p : Options). p.shown) is }
+  puts_summary Summary fresh put = absurd (none-some o put)
+
+-- options with one more, if they are valid
+abbrev with_key : Key → Text → Option Options → Option Options
+with_key of_cycles v others = with_cycles v others
+with_key of_engine v others = with_engine v others
+
+with_key-is : (key : Key) (v : Text) (others : Option Options) (o : Options) → with_key key v others ≡ Some o → (rest : Options) × (others ≡ Some rest) × Puts key v rest o
+with_key-is of_cycles v None o e = absurd (none-some o e)
+with_key-is of_cycles v (Some rest) o e = (rest, refl, go (number_of v) refl e)
   where
-    go : (m : Option ℕ) → number_of v ≡ m → put_number m rest ≡ Some o → IsPut v rest o
+    go : (m : Option ℕ) → number_of v ≡ m → put_number m rest ≡ Some o → PutsCycles v rest o
     go None is e = absurd (none-some o e)
-    go (Some n) is e =
-        let put = put_cycles-is rest.cycles rest.shown n o e in
-        record { n = n; number = is; fresh = put.0; is = put.1 }
-
-put_summary-is : (c : Option ℕ) (s : Shown) (o : Options) → put_summary s (record { cycles = c; shown = s }) ≡ Some o → (s ≡ Report) × (o ≡ record { cycles = c; shown = Summary })
-put_summary-is c Report o e = (refl, sym (some_is _ o e))
-put_summary-is c Summary o e = absurd (none-some o e)
+    go (Some n) is e = puts_cycles v rest.cycles rest.engine rest.shown o n is rest.cycles refl e
+with_key-is of_engine v None o e = absurd (none-some o e)
+with_key-is of_engine v (Some rest) o e = (rest, refl, go (engine_of v) refl e)
+  where
+    go : (m : Option EngineKind) → engine_of v ≡ m → put_named m rest ≡ Some o → PutsEngine v rest o
+    go None is e = absurd (none-some o e)
+    go (Some kind) is e = puts_engine v rest.cycles rest.engine rest.shown o kind is rest.engine refl e
 
 with_summary-is : (others : Option Options) (o : Options) → with_summary others ≡ Some o → (rest : Options) × (others ≡ Some rest) × IsShown rest o
 with_summary-is None o e = absurd (none-some o e)
-with_summary-is (Some rest) o e =
-    let put = put_summary-is rest.cycles rest.shown o e in
-    (rest, refl, record { fresh = put.0; is = put.1 })
+with_summary-is (Some rest) o e = (rest, refl, puts_summary [] rest.cycles rest.engine rest.shown o rest.shown refl e)
 
-abbrev Found : List (List ℕ) → Options → Type 0
+abbrev Found : List Text → Options → Type 0
 Found words o = (steps : List Step) × (words ≡ words_of steps) × Gives steps o
 
-with_word-is : (word : List ℕ) (words : List (List ℕ)) (o : Options) → ((rest : Options) → options_of words ≡ Some rest → Found words rest)
-    → with_word word (options_of words) ≡ Some o → Found (word ∷ words) o
-with_word-is word words o later e = go (bytes_eq word (codes "--summary")) (bytes_eq (take 9 word) (codes "--cycles=")) refl refl e
-  where
-    go : (b c : Bool) → bytes_eq word (codes "--summary") ≡ b → bytes_eq (take 9 word) (codes "--cycles=") ≡ c
-        → (if b then with_summary (options_of words) else if c then with_cycles (drop 9 word) (options_of words) else None) ≡ Some o → Found (word ∷ words) o
-    go true c is begins e =
-        let put = with_summary-is (options_of words) o e in
-        let found = later put.0 put.1 in
-        (summary ∷ found.0, ap₂ (λ w ws. w ∷ ws) ((bytes_eq-Decides word (codes "--summary")).0 is) found.1, (put.0, found.2, put.2))
-    go false true is begins e =
-        let put = with_cycles-is (drop 9 word) (options_of words) o e in
-        let found = later put.0 put.1 in
-        let whole : word ≡ codes "--cycles=" ++ drop 9 word = sym (take-append-drop 9 word) ∙ ap (λ front. front ++ drop 9 word) ((bytes_eq-Decides (take 9 word) (codes "--cycles=")).0 begins) in
-        (equals (drop 9 word) ∷ found.0, ap₂ (λ w ws. w ∷ ws) whole found.1, (put.0, found.2, put.2))
-    go false false is begins e = absurd (none-some o e)
+module _ (word : Text) (words : List Text) (o : Options) (later : (rest : Options) → options_of words ≡ Some rest → Found words rest) where
+  -- a word that is an option with its value
+  equals-is : (key : Key) → bytes_eq (take 9 word) (front_word key) ≡ true → front_word key ++ drop 9 word ≡ take 9 word ++ drop 9 word → with_key key (drop 9 word) (options_of words) ≡ Some o → Found (word ∷ words) o
+  equals-is key begins front e =
+      let put = with_key-is key (drop 9 word) (options_of words) o e in
+      let found = later put.0 put.1 in
+      (equals key (drop 9 word) ∷ found.0, ap₂ (λ w ws. w ∷ ws) (sym (front ∙ take-append-drop 9 word)) found.1, (put.0, found.2, put.2))
 
-with_first-is : (word value : List ℕ) (words : List (List ℕ)) (o : Options) → ((rest : Options) → options_of words ≡ Some rest → Found words rest)
-    → ((rest : Options) → options_of (value ∷ words) ≡ Some rest → Found (value ∷ words) rest) → options_of (word ∷ value ∷ words) ≡ Some o → Found (word ∷ value ∷ words) o
-with_first-is word value words o later behind e = go (bytes_eq word (codes "--cycles")) refl e
-  where
-    go : (b : Bool) → bytes_eq word (codes "--cycles") ≡ b
-        → (if b then with_cycles value (options_of words) else with_word word (options_of (value ∷ words))) ≡ Some o → Found (word ∷ value ∷ words) o
-    go true is e =
-        let put = with_cycles-is value (options_of words) o e in
-        let found = later put.0 put.1 in
-        (next value ∷ found.0, ap₂ (λ w ws. w ∷ value ∷ ws) ((bytes_eq-Decides word (codes "--cycles")).0 is) found.1, (put.0, found.2, put.2))
-    go false is e = with_word-is word (value ∷ words) o behind e
+  summary-is : bytes_eq word (codes "--summary") ≡ true → with_summary (options_of words) ≡ Some o → Found (word ∷ words) o
+  summary-is is e =
+      let put = with_summary-is (options_of words) o e in
+      let found = later put.0 put.1 in
+      (summary ∷ found.0, ap₂ (λ w ws. w ∷ ws) ((bytes_eq-Decides word (codes "--summary")).0 is) found.1, (put.0, found.2, put.2))
 
-steps_of : (words : List (List ℕ)) (o : Options) → options_of words ≡ Some o → Found words o
+  with_word-is : with_word word (options_of words) ≡ Some o → Found (word ∷ words) o
+  with_word-is e = go (bytes_eq word (codes "--summary")) (bytes_eq (take 9 word) (codes "--cycles=")) (bytes_eq (take 9 word) (codes "--engine=")) refl refl refl e
+    where
+      go : (a b c : Bool) → bytes_eq word (codes "--summary") ≡ a → bytes_eq (take 9 word) (codes "--cycles=") ≡ b → bytes_eq (take 9 word) (codes "--engine=") ≡ c
+          → (if a then with_summary (options_of words) else if b then with_cycles (drop 9 word) (options_of words) else if c then with_engine (drop 9 word) (options_of words) else None) ≡ Some o
+          → Found (word ∷ words) o
+      go true b c is first second e = summary-is is e
+      go false true c is first second e = equals-is of_cycles first (ap (λ front. front ++ drop 9 word) (sym ((bytes_eq-Decides (take 9 word) (codes "--cycles=")).0 first))) e
+      go false false true is first second e = equals-is of_engine second (ap (λ front. front ++ drop 9 word) (sym ((bytes_eq-Decides (take 9 word) (codes "--engine=")).0 second))) e
+      go false false false is first second e = absurd (none-some o e)
+
+module _ (word value : Text) (words : List Text) (o : Options) (later : (rest : Options) → options_of words ≡ Some rest → Found words rest) where
+  -- a word that is an option, and its value behind it
+  next-is : (key : Key) → word ≡ flag_word key → with_key key value (options_of words) ≡ Some o → Found (word ∷ value ∷ words) o
+  next-is key is e =
+      let put = with_key-is key value (options_of words) o e in
+      let found = later put.0 put.1 in
+      (next key value ∷ found.0, ap₂ (λ w ws. w ∷ value ∷ ws) is found.1, (put.0, found.2, put.2))
+
+  with_first-is : ((rest : Options) → options_of (value ∷ words) ≡ Some rest → Found (value ∷ words) rest) → options_of (word ∷ value ∷ words) ≡ Some o → Found (word ∷ value ∷ words) o
+  with_first-is behind e = go (bytes_eq word (codes "--cycles")) (bytes_eq word (codes "--engine")) refl refl e
+    where
+      go : (a b : Bool) → bytes_eq word (codes "--cycles") ≡ a → bytes_eq word (codes "--engine") ≡ b
+          → (if a then with_cycles value (options_of words) else if b then with_engine value (options_of words) else with_word word (options_of (value ∷ words))) ≡ Some o
+          → Found (word ∷ value ∷ words) o
+      go true b is first e = next-is of_cycles ((bytes_eq-Decides word (codes "--cycles")).0 is) e
+      go false true is first e = next-is of_engine ((bytes_eq-Decides word (codes "--engine")).0 first) e
+      go false false is first e = with_word-is word (value ∷ words) o behind e
+
+steps_of : (words : List Text) (o : Options) → options_of words ≡ Some o → Found words o
 steps_of [] o e = ([], refl, sym (some_is _ o e))
 steps_of (word ∷ []) o e = with_word-is word [] o (λ rest h. steps_of [] rest h) e
 steps_of (word ∷ value ∷ words) o e = with_first-is word value words o (λ rest h. steps_of words rest h) (λ rest h. steps_of (value ∷ words) rest h) e
 
--- ---- no option twice
+-- ---- values begin with no hyphen
 
-none-fresh : (o rest : Options) (v : List ℕ) → o.cycles ≡ None → IsPut v rest o → ⊥
-none-fresh o rest v e put = none-some put.n (sym e ∙ ap (λ (p : Options). p.cycles) put.is)
-
-abbrev is_summary : Shown → Bool
-is_summary Report = false
-is_summary Summary = true
-
-report-fresh : (o rest : Options) → o.shown ≡ Report → IsShown rest o → ⊥
-report-fresh o rest e put = true≢false (ap is_summary (sym (ap (λ (p : Options). p.shown) put.is) ∙ e))
-
-nothing : (steps : List Step) (o : Options) → Gives steps o → o.cycles ≡ None → o.shown ≡ Report → steps ≡ []
-nothing [] o g c s = refl
-nothing (next v ∷ steps) o g c s = absurd (none-fresh o g.0 v c g.2)
-nothing (equals v ∷ steps) o g c s = absurd (none-fresh o g.0 v c g.2)
-nothing (summary ∷ steps) o g c s = absurd (report-fresh o g.0 s g.2)
-
--- without cycles there is at most a summary
-abbrev OnlySummary : List Step → Options → Type 0
-OnlySummary steps o = ((steps ≡ []) × (o ≡ no_options)) ⊎ ((steps ≡ summary ∷ []) × (o ≡ record no_options { shown = Summary }))
-
-only_summary : (steps : List Step) (o : Options) → Gives steps o → o.cycles ≡ None → OnlySummary steps o
-only_summary [] o g c = inl (refl, g)
-only_summary (next v ∷ steps) o g c = absurd (none-fresh o g.0 v c g.2)
-only_summary (equals v ∷ steps) o g c = absurd (none-fresh o g.0 v c g.2)
-only_summary (summary ∷ steps) o g c =
-    let rest_is : g.0 ≡ no_options = ap₂ (λ x y. record { cycles = x; shown = y }) (sym (ap (λ (p : Options). p.cycles) g.2.is) ∙ c) g.2.fresh in
-    let none = nothing steps g.0 g.1 (ap (λ (p : Options). p.cycles) rest_is) g.2.fresh in
-    inr (ap (λ more. summary ∷ more) none, g.2.is ∙ ap (λ (p : Options). record p { shown = Summary }) rest_is)
-
--- ---- each shape is taken
-
--- a number is a word that begins with no hyphen
 no_dash : (a b c : Bool) (value n : ℕ) → (if (a && b && false) && c then Some value else None) ≡ Some n → ⊥
 no_dash true true c value n e = none-some n e
 no_dash true false c value n e = none-some n e
 no_dash false b c value n e = none-some n e
 
-dash-first : (d : ℕ) (ds : List ℕ) (n : ℕ) → number_of (d ∷ ds) ≡ Some n → (d == 45) ≡ false
+dash-first : (d : ℕ) (ds : Text) (n : ℕ) → number_of (d ∷ ds) ≡ Some n → (d == 45) ≡ false
 dash-first d ds n e = go (d == 45) refl
   where
     go : (b : Bool) → (d == 45) ≡ b → b ≡ false
     go false is = refl
     go true is = absurd (no_dash (nat_le 1 (length (45 ∷ ds))) (nat_le (length (45 ∷ ds)) 10) (nat_le (value_of (45 ∷ ds)) 4294967295) (value_of (45 ∷ ds)) n (subst (λ x. number_of (x ∷ ds) ≡ Some n) (eqb-true d 45 is) e))
 
--- the words are taken, and their rows have this value of the cycles, and whether a summary is wanted
-record IsTaken (name : Text) (words : List Text) (v : Text) (shown : Shown) : Type 0 where
-  taken : takes (run_app name) words ≡ true
-  cycles : first_of (codes "cycles") (matches_of (run_app name) words) ≡ Some v
-  flag : one_of (codes "summary") (matches_of (run_app name) words) ≡ Some (flag_of shown)
+no_number : (n : ℕ) → number_of [] ≡ Some n → ⊥
+no_number n e = none-some n e
 
-module _ (name : Text) (d : ℕ) (ds : Text) (dash : (d == 45) ≡ false) where
-  next_alone : IsTaken name (codes "--cycles" ∷ (d ∷ ds) ∷ []) (d ∷ ds) Report
-  unfolding clap_on_literals
-  next_alone = record { taken = simp dash; cycles = simp dash; flag = simp dash }
+record IsPlain (v : Text) : Type 0 where
+  d : ℕ
+  ds : Text
+  is : v ≡ d ∷ ds
+  dash : (d == 45) ≡ false
 
-  next_first : IsTaken name (codes "--cycles" ∷ (d ∷ ds) ∷ codes "--summary" ∷ []) (d ∷ ds) Summary
-  unfolding clap_on_literals
-  next_first = record { taken = simp dash; cycles = simp dash; flag = simp dash }
+number-plain : (v : Text) (n : ℕ) → number_of v ≡ Some n → IsPlain v
+number-plain [] n e = absurd (no_number n e)
+number-plain (d ∷ ds) n e = record { d = d; ds = ds; is = refl; dash = dash-first d ds n e }
 
-  next_last : IsTaken name (codes "--summary" ∷ codes "--cycles" ∷ (d ∷ ds) ∷ []) (d ∷ ds) Summary
-  unfolding clap_on_literals
-  next_last = record { taken = simp dash; cycles = simp dash; flag = simp dash }
+engine-plain : (v : Text) (kind : EngineKind) → engine_of v ≡ Some kind → IsPlain v
+engine-plain v kind e = go (bytes_eq v (codes "plain")) (bytes_eq v (codes "circuit")) refl refl e
+  where
+    go : (a b : Bool) → bytes_eq v (codes "plain") ≡ a → bytes_eq v (codes "circuit") ≡ b → (if a then Some Plain else if b then Some Circuit else None) ≡ Some kind → IsPlain v
+    go true b is other e = record { d = 112; ds = codes "lain"; is = (bytes_eq-Decides v (codes "plain")).0 is; dash = refl }
+    go false true is other e = record { d = 99; ds = codes "ircuit"; is = (bytes_eq-Decides v (codes "circuit")).0 other; dash = refl }
+    go false false is other e = absurd (none-some kind e)
 
-module _ (name v : Text) where
-  equals_alone : IsTaken name ((codes "--cycles=" ++ v) ∷ []) v Report
-  unfolding clap_on_literals
-  equals_alone = record { taken = refl; cycles = refl; flag = refl }
+value-plain : (key : Key) (v : Text) (rest o : Options) → Puts key v rest o → IsPlain v
+value-plain of_cycles v rest o put = number-plain v put.n put.number
+value-plain of_engine v rest o put = engine-plain v put.kind put.named
 
-  equals_first : IsTaken name ((codes "--cycles=" ++ v) ∷ codes "--summary" ∷ []) v Summary
-  unfolding clap_on_literals
-  equals_first = record { taken = refl; cycles = refl; flag = refl }
+-- ---- rows
 
-  equals_last : IsTaken name (codes "--summary" ∷ (codes "--cycles=" ++ v) ∷ []) v Summary
+-- what may be found: values of the two options, and that a summary is wanted
+data Slot : Type 0 where
+  of_value : Key → Slot
+  of_summary : Slot
+
+abbrev id_of : Slot → Text
+id_of (of_value of_cycles) = codes "cycles"
+id_of (of_value of_engine) = codes "engine"
+id_of of_summary = codes "summary"
+
+abbrev reading_of_slot : Slot → Reading
+reading_of_slot (of_value of_cycles) = reading_by (filled cycles_rule)
+reading_of_slot (of_value of_engine) = reading_by (filled engine_rule)
+reading_of_slot of_summary = reading_by (filled summary_rule)
+
+abbrev row_for : Slot → List Text → Row
+row_for slot values = record { id = id_of slot; values = values; count = None; source = Some CommandLine; reading = reading_of_slot slot }
+
+or-none : {X : Type 0} (found : Option X) → option_or found None ≡ found
+or-none None = refl
+or-none (Some x) = refl
+
+abbrev row_of_id : Text → List Row → Option Row
+row_of_id id rows = find (λ (r : Row). bytes_eq r.id id) rows
+
+-- a row more, where there is none of its id
+module _ (id : Text) where
+  row-behind : (change : Row → List Row) (missing rows : List Row) → row_of_id id rows ≡ None → at_row id change missing rows ≡ rows ++ missing
+  row-behind change missing [] none = refl
+  row-behind change missing (r ∷ rows) none = go (bytes_eq r.id id) refl none (λ none. row-behind change missing rows none)
+    where
+      go : (b : Bool) → bytes_eq r.id id ≡ b → cond b (Some r) (row_of_id id rows) ≡ None → (row_of_id id rows ≡ None → at_row id change missing rows ≡ rows ++ missing)
+          → at_row id change missing (r ∷ rows) ≡ (r ∷ rows) ++ missing
+      go true is none later = absurd (none-some r (sym none))
+      go false is none later = rw is (ap (λ rest. r ∷ rest) (later none))
+
+  has-found : (rows : List Row) → has_row id rows ≡ is_some (row_of_id id rows)
+  has-found [] = refl
+  has-found (r ∷ rows) = go (bytes_eq r.id id) refl (has-found rows)
+    where
+      go : (b : Bool) → bytes_eq r.id id ≡ b → has_row id rows ≡ is_some (row_of_id id rows) → has_row id (r ∷ rows) ≡ is_some (row_of_id id (r ∷ rows))
+      go true is later = rw is refl
+      go false is later = rw is later
+
+  with_row-is : (how : Reading) (source : ValueSource) (values : List Text) (rows : List Row) → row_of_id id rows ≡ None
+      → with_values id how source values rows ≡ rows ++ (record { id = id; values = values; count = None; source = Some source; reading = how } ∷ [])
+  with_row-is how source values rows none = row-behind (more_values source values) _ rows none
+
+  without-none : (rows : List Row) → row_of_id id rows ≡ None → without id rows ≡ rows
+  without-none rows none = row-behind (λ r. []) [] rows none ∙ append-nil rows
+
+-- what is known of rows: the values of each option
+abbrev Known : List Row → (Slot → Option (List Text)) → Type 0
+Known rows values = (slot : Slot) → row_of_id (id_of slot) rows ≡ option_map (row_for slot) (values slot)
+
+abbrev put : Slot → List Text → (Slot → Option (List Text)) → Slot → Option (List Text)
+put slot given values other = if bytes_eq (id_of slot) (id_of other) then Some given else values other
+
+abbrev used_by : Slot → List Text → List Row → List Row
+used_by slot given rows = with_values (id_of slot) (reading_of_slot slot) CommandLine given (without (id_of slot) rows)
+
+module _ (rows : List Row) (values : Slot → Option (List Text)) (known : Known rows values) (slot : Slot) (given : List Text) (fresh : values slot ≡ None) where
+  no-row : row_of_id (id_of slot) rows ≡ None
+  no-row = known slot ∙ ap (option_map (row_for slot)) fresh
+
+  used-is : used_by slot given rows ≡ rows ++ (row_for slot given ∷ [])
+  used-is =
+      ap (with_values (id_of slot) (reading_of_slot slot) CommandLine given) (without-none (id_of slot) rows no-row)
+      ∙ with_row-is (id_of slot) (reading_of_slot slot) CommandLine given rows no-row
+
+  found-behind : (other : Slot) → row_of_id (id_of other) (used_by slot given rows) ≡ option_or (option_map (row_for other) (values other)) (cond (bytes_eq (id_of slot) (id_of other)) (Some (row_for slot given)) None)
+  found-behind other =
+      ap (row_of_id (id_of other)) used-is
+      ∙ find-append (λ (r : Row). bytes_eq r.id (id_of other)) rows (row_for slot given ∷ [])
+      ∙ ap (λ found. option_or found (cond (bytes_eq (id_of slot) (id_of other)) (Some (row_for slot given)) None)) (known other)
+
+module _ (rows : List Row) (values : Slot → Option (List Text)) (known : Known rows values) where
+  found-own : (slot : Slot) (given : List Text) → values slot ≡ None → bytes_eq (id_of slot) (id_of slot) ≡ true → row_of_id (id_of slot) (used_by slot given rows) ≡ Some (row_for slot given)
+  found-own slot given fresh same =
+      found-behind rows values known slot given fresh slot
+      ∙ ap₂ (λ found b. option_or (option_map (row_for slot) found) (cond b (Some (row_for slot given)) None)) fresh same
+
+  found-other : (slot other : Slot) (given : List Text) → values slot ≡ None → bytes_eq (id_of slot) (id_of other) ≡ false → row_of_id (id_of other) (used_by slot given rows) ≡ option_map (row_for other) (values other)
+  found-other slot other given fresh differ =
+      found-behind rows values known slot given fresh other
+      ∙ ap (λ b. option_or (option_map (row_for other) (values other)) (cond b (Some (row_for slot given)) None)) differ
+      ∙ or-none (option_map (row_for other) (values other))
+
+  -- rows with one more
+  known-used : (slot : Slot) (given : List Text) → values slot ≡ None → Known (used_by slot given rows) (put slot given values)
+  known-used (of_value of_cycles) given fresh (of_value of_cycles) = found-own (of_value of_cycles) given fresh refl
+  known-used (of_value of_cycles) given fresh (of_value of_engine) = found-other (of_value of_cycles) (of_value of_engine) given fresh refl
+  known-used (of_value of_cycles) given fresh of_summary = found-other (of_value of_cycles) of_summary given fresh refl
+  known-used (of_value of_engine) given fresh (of_value of_cycles) = found-other (of_value of_engine) (of_value of_cycles) given fresh refl
+  known-used (of_value of_engine) given fresh (of_value of_engine) = found-own (of_value of_engine) given fresh refl
+  known-used (of_value of_engine) given fresh of_summary = found-other (of_value of_engine) of_summary given fresh refl
+  known-used of_summary given fresh (of_value of_cycles) = found-other of_summary (of_value of_cycles) given fresh refl
+  known-used of_summary given fresh (of_value of_engine) = found-other of_summary (of_value of_engine) given fresh refl
+  known-used of_summary given fresh of_summary = found-own of_summary given fresh refl
+
+  none-used : (slot : Slot) → values slot ≡ None → has_row (id_of slot) rows ≡ false
+  none-used slot fresh = has-found (id_of slot) rows ∙ ap is_some (known slot) ∙ ap (λ found. is_some (option_map (row_for slot) found)) fresh
+
+-- ---- the reader goes on by an option
+
+both-true : (a b : Bool) → (a && b) ≡ true → (a ≡ true) × (b ≡ true)
+both-true true b e = (refl, e)
+both-true false b e = absurd (true≢false (sym e))
+
+abbrev run_shape : Text → Shape
+run_shape name = (built (run_app name)).top
+
+abbrev run_rules : List Rule
+run_rules = (run_shape []).rules
+
+abbrev held_with : List Row → Option (Text × List Text) → Held
+held_with rows pending = record { rows = rows; pending = pending; skip = 0 }
+
+-- where the reader stands between two options
+abbrev between : List Row → Option (Text × List Text) → Walk
+between rows pending = record { held = held_with rows pending; waiting = idle; position = 1; is_trailing = false; stopped = None }
+
+-- it has these rows when what is pending is settled, and that passes
+record Stands (values : Slot → Option (List Text)) (w : Walk) : Type 0 where
+  rows : List Row
+  pending : Option (Text × List Text)
+  is : w ≡ between rows pending
+  passes : settle_passes run_rules false (held_with rows pending) ≡ true
+  known : Known (settled_rows run_rules pending rows) values
+
+-- the words pass, and behind them the reader stands so
+record Reads (name : Text) (values : Slot → Option (List Text)) (w : Walk) (words : List Text) : Type 0 where
+  passes : walk_passes (run_shape name) [] w words ≡ true
+  stands : Stands values (fold (walked run_rules []) w words)
+
+module _ (name : Text) (rows : List Row) (pending : Option (Text × List Text)) (settles : settle_passes run_rules false (held_with rows pending) ≡ true) where
+  abbrev so_far : List Row
+  so_far = settled_rows run_rules pending rows
+
+  module _ (v : Text) where
+    equals_walked : (key : Key) → walked run_rules [] (between rows pending) (front_word key ++ v) ≡ between (used_by (of_value key) (v ∷ []) so_far) None
+    unfolding clap_on_literals
+    equals_walked of_cycles = refl
+    equals_walked of_engine = refl
+
+    equals_passes : (key : Key) → has_row (id_of (of_value key)) so_far ≡ false → turn_passes (run_shape name) [] (between rows pending) (front_word key ++ v) ≡ true
+    unfolding clap_on_literals
+    equals_passes of_cycles none = simp (settles, none)
+    equals_passes of_engine none = simp (settles, none)
+
+  flag_walked : walked run_rules [] (between rows pending) (codes "--summary") ≡ between (used_by of_summary (codes "true" ∷ []) so_far) None
   unfolding clap_on_literals
-  equals_last = record { taken = refl; cycles = refl; flag = refl }
+  flag_walked = refl
+
+  flag_passes : has_row (id_of of_summary) so_far ≡ false → turn_passes (run_shape name) [] (between rows pending) (codes "--summary") ≡ true
+  unfolding clap_on_literals
+  flag_passes none = simp (settles, none)
+
+  module _ (d : ℕ) (ds : Text) (dash : (d == 45) ≡ false) where
+    next_walked : (key : Key) → walked run_rules [] (walked run_rules [] (between rows pending) (flag_word key)) (d ∷ ds) ≡ between so_far (Some (id_of (of_value key), (d ∷ ds) ∷ []))
+    unfolding clap_on_literals
+    next_walked of_cycles = simp dash
+    next_walked of_engine = simp dash
+
+    next_passes : (key : Key) → (turn_passes (run_shape name) [] (between rows pending) (flag_word key) && turn_passes (run_shape name) [] (walked run_rules [] (between rows pending) (flag_word key)) (d ∷ ds)) ≡ true
+    unfolding clap_on_literals
+    next_passes of_cycles = simp (settles, dash)
+    next_passes of_engine = simp (settles, dash)
+
+  -- the value is used when it is settled
+  next_settles : (key : Key) (v : Text) → has_row (id_of (of_value key)) so_far ≡ false → settle_passes run_rules false (held_with so_far (Some (id_of (of_value key), v ∷ []))) ≡ true
+  next_settles of_cycles v none = simp none
+  next_settles of_engine v none = simp none
+
+  next_used : (key : Key) (v : Text) → settled_rows run_rules (Some (id_of (of_value key), v ∷ [])) so_far ≡ used_by (of_value key) (v ∷ []) so_far
+  next_used of_cycles v = refl
+  next_used of_engine v = refl
+
+module _ (name : Text) (values : Slot → Option (List Text)) where
+  -- what a word leaves, where what is pending settles
+  word-read : (w after : Walk) (word : Text) (words : List Text) (others : Slot → Option (List Text)) → walked run_rules [] w word ≡ after → turn_passes (run_shape name) [] w word ≡ true
+      → Reads name others after words → Reads name others w (word ∷ words)
+  unfolding clap_on_literals
+  word-read w after word words others is passes reads = record {
+    passes = rw passes (rw is reads.passes);
+    stands = rw is reads.stands;
+  }
+
+  -- the words of an option, from where the reader stands
+  module _ (steps : List Step) (w : Walk) (stands : Stands values w) where
+    equals-read : (key : Key) (v : Text) (others : Slot → Option (List Text)) → values (of_value key) ≡ None
+        → ((after : Walk) → Stands (put (of_value key) (v ∷ []) values) after → Reads name others after (words_of steps)) → Reads name others w (words_of (equals key v ∷ steps))
+    equals-read key v others fresh later =
+        let none = none-used (settled_rows run_rules stands.pending stands.rows) values stands.known (of_value key) fresh in
+        let so_far = settled_rows run_rules stands.pending stands.rows in
+        subst (λ (from : Walk). Reads name others from (words_of (equals key v ∷ steps))) (sym stands.is)
+        (word-read (between stands.rows stands.pending) _ (front_word key ++ v) (words_of steps) others (equals_walked name stands.rows stands.pending stands.passes v key) (equals_passes name stands.rows stands.pending stands.passes v key none)
+        (later _ (record { rows = used_by (of_value key) (v ∷ []) so_far; pending = None; is = refl; passes = refl; known = known-used so_far values stands.known (of_value key) (v ∷ []) fresh })))
+
+    flag-read : (others : Slot → Option (List Text)) → values of_summary ≡ None
+        → ((after : Walk) → Stands (put of_summary (codes "true" ∷ []) values) after → Reads name others after (words_of steps)) → Reads name others w (words_of (summary ∷ steps))
+    flag-read others fresh later =
+        let none = none-used (settled_rows run_rules stands.pending stands.rows) values stands.known of_summary fresh in
+        let so_far = settled_rows run_rules stands.pending stands.rows in
+        subst (λ (from : Walk). Reads name others from (words_of (summary ∷ steps))) (sym stands.is)
+        (word-read (between stands.rows stands.pending) _ (codes "--summary") (words_of steps) others (flag_walked name stands.rows stands.pending stands.passes) (flag_passes name stands.rows stands.pending stands.passes none)
+        (later _ (record { rows = used_by of_summary (codes "true" ∷ []) so_far; pending = None; is = refl; passes = refl; known = known-used so_far values stands.known of_summary (codes "true" ∷ []) fresh })))
+
+    next-read : (key : Key) (v : Text) (others : Slot → Option (List Text)) → IsPlain v → values (of_value key) ≡ None
+        → ((after : Walk) → Stands (put (of_value key) (v ∷ []) values) after → Reads name others after (words_of steps)) → Reads name others w (words_of (next key v ∷ steps))
+    next-read key v others plain fresh later =
+        let none = none-used (settled_rows run_rules stands.pending stands.rows) values stands.known (of_value key) fresh in
+        let so_far = settled_rows run_rules stands.pending stands.rows in
+        let start = between stands.rows stands.pending in
+        let text = plain.d ∷ plain.ds in
+        let both = both-true _ _ (next_passes name stands.rows stands.pending stands.passes plain.d plain.ds plain.dash key) in
+        let after : Stands (put (of_value key) (v ∷ []) values) (between so_far (Some (id_of (of_value key), text ∷ []))) =
+        subst (λ (t : Text). Stands (put (of_value key) (v ∷ []) values) (between so_far (Some (id_of (of_value key), t ∷ [])))) plain.is
+        (record {
+          rows = so_far;
+          pending = Some (id_of (of_value key), v ∷ []);
+          is = refl;
+          passes = next_settles name stands.rows stands.pending stands.passes key v none;
+          known = subst (λ (rows : List Row). Known rows (put (of_value key) (v ∷ []) values)) (sym (next_used name stands.rows stands.pending stands.passes key v)) (known-used so_far values stands.known (of_value key) (v ∷ []) fresh);
+        }) in
+        subst (λ (from : Walk). Reads name others from (words_of (next key v ∷ steps))) (sym stands.is)
+        (subst (λ (t : Text). Reads name others start (flag_word key ∷ t ∷ words_of steps)) (sym plain.is)
+        (word-read start _ (flag_word key) (text ∷ words_of steps) others refl both.0
+        (word-read _ _ text (words_of steps) others (next_walked name stands.rows stands.pending stands.passes plain.d plain.ds plain.dash key) both.1
+        (later _ after))))
+
+-- ---- all the options
+
+-- the values that steps give, behind those that there are
+abbrev all_values : List Step → (Slot → Option (List Text)) → Slot → Option (List Text)
+all_values [] values = values
+all_values (next key v ∷ steps) values = all_values steps (put (of_value key) (v ∷ []) values)
+all_values (equals key v ∷ steps) values = all_values steps (put (of_value key) (v ∷ []) values)
+all_values (summary ∷ steps) values = all_values steps (put of_summary (codes "true" ∷ []) values)
+
+-- nothing is there yet of what options give
+record AreFree (o : Options) (values : Slot → Option (List Text)) : Type 0 where
+  cycles : is_some o.cycles ≡ true → values (of_value of_cycles) ≡ None
+  engine : is_some o.engine ≡ true → values (of_value of_engine) ≡ None
+  shown : o.shown ≡ Summary → values of_summary ≡ None
+
+report-summary : (s : Shown) → s ≡ Report → s ≡ Summary → ⊥
+report-summary s e f = let bad : Report ≡ Summary = sym e ∙ f in absurd cc
+
+none-there : {X : Type 0} (o : Option X) → o ≡ None → is_some o ≡ true → ⊥
+none-there o e s = true≢false (sym s ∙ ap is_some e)
+
+module _ (values : Slot → Option (List Text)) (rest o : Options) (free : AreFree o values) where
+  key-fresh : (key : Key) (v : Text) → Puts key v rest o → values (of_value key) ≡ None
+  key-fresh of_cycles v put = free.cycles (ap is_some put.cycles)
+  key-fresh of_engine v put = free.engine (ap is_some put.engine)
+
+  key-free : (key : Key) (v : Text) → Puts key v rest o → AreFree rest (put (of_value key) (v ∷ []) values)
+  key-free of_cycles v put = record {
+    cycles = λ s. absurd (none-there rest.cycles put.fresh s);
+    engine = λ s. free.engine (ap is_some put.engine ∙ s);
+    shown = λ s. free.shown (put.shown ∙ s);
+  }
+  key-free of_engine v put = record {
+    cycles = λ s. free.cycles (ap is_some put.cycles ∙ s);
+    engine = λ s. absurd (none-there rest.engine put.fresh s);
+    shown = λ s. free.shown (put.shown ∙ s);
+  }
+
+  flag-free : IsShown rest o → AreFree rest (put of_summary (codes "true" ∷ []) values)
+  flag-free put = record {
+    cycles = λ s. free.cycles (ap is_some put.cycles ∙ s);
+    engine = λ s. free.engine (ap is_some put.engine ∙ s);
+    shown = λ s. absurd (report-summary rest.shown put.fresh s);
+  }
+
+all-read : (name : Text) (steps : List Step) (o : Options) (values : Slot → Option (List Text)) (w : Walk) → Gives steps o → AreFree o values → Stands values w → Reads name (all_values steps values) w (words_of steps)
+unfolding clap_on_literals
+all-read name [] o values w gives free stands = record { passes = refl; stands = stands }
+all-read name (next key v ∷ steps) o values w gives free stands =
+    next-read name values steps w stands key v _ (value-plain key v gives.0 o gives.2) (key-fresh values gives.0 o free key v gives.2)
+    (λ after stands'. all-read name steps gives.0 _ after gives.1 (key-free values gives.0 o free key v gives.2) stands')
+all-read name (equals key v ∷ steps) o values w gives free stands =
+    equals-read name values steps w stands key v _ (key-fresh values gives.0 o free key v gives.2)
+    (λ after stands'. all-read name steps gives.0 _ after gives.1 (key-free values gives.0 o free key v gives.2) stands')
+all-read name (summary ∷ steps) o values w gives free stands =
+    flag-read name values steps w stands _ (free.shown gives.2.shown)
+    (λ after stands'. all-read name steps gives.0 _ after gives.1 (flag-free values gives.0 o free gives.2) stands')
+
+-- ---- what they are read as
+
+abbrev first_as : {X : Type 0} → (Text → Option X) → Option (List Text) → Option X
+first_as read given = option_and_then (λ (texts : List Text). option_and_then read (slice_get texts 0)) given
+
+abbrev flag_values : Shown → Option (List Text) → Option (List Text)
+flag_values Report given = given
+flag_values Summary given = Some (codes "true" ∷ [])
+
+-- values are read as options, where those that the options don't give were there before
+record AreReadAs (o : Options) (before values : Slot → Option (List Text)) : Type 0 where
+  cycles : first_as number_of (values (of_value of_cycles)) ≡ option_or o.cycles (first_as number_of (before (of_value of_cycles)))
+  engine : first_as engine_of (values (of_value of_engine)) ≡ option_or o.engine (first_as engine_of (before (of_value of_engine)))
+  shown : values of_summary ≡ flag_values o.shown (before of_summary)
+
+module _ (rest o : Options) (before values : Slot → Option (List Text)) where
+  key-read : (key : Key) (v : Text) → Puts key v rest o → AreReadAs rest (put (of_value key) (v ∷ []) before) values → AreReadAs o before values
+  key-read of_cycles v put read = record {
+    cycles = read.cycles ∙ ap₂ option_or put.fresh put.number ∙ ap (λ (own : Option ℕ). option_or own (first_as number_of (before (of_value of_cycles)))) (sym put.cycles);
+    engine = read.engine ∙ ap (λ (own : Option EngineKind). option_or own (first_as engine_of (before (of_value of_engine)))) (sym put.engine);
+    shown = read.shown ∙ ap (λ (own : Shown). flag_values own (before of_summary)) (sym put.shown);
+  }
+  key-read of_engine v put read = record {
+    cycles = read.cycles ∙ ap (λ (own : Option ℕ). option_or own (first_as number_of (before (of_value of_cycles)))) (sym put.cycles);
+    engine = read.engine ∙ ap₂ option_or put.fresh put.named ∙ ap (λ (own : Option EngineKind). option_or own (first_as engine_of (before (of_value of_engine)))) (sym put.engine);
+    shown = read.shown ∙ ap (λ (own : Shown). flag_values own (before of_summary)) (sym put.shown);
+  }
+
+  flag-read-as : IsShown rest o → AreReadAs rest (put of_summary (codes "true" ∷ []) before) values → AreReadAs o before values
+  flag-read-as put read = record {
+    cycles = read.cycles ∙ ap (λ (own : Option ℕ). option_or own (first_as number_of (before (of_value of_cycles)))) (sym put.cycles);
+    engine = read.engine ∙ ap (λ (own : Option EngineKind). option_or own (first_as engine_of (before (of_value of_engine)))) (sym put.engine);
+    shown = read.shown ∙ ap (λ (own : Shown). flag_values own (Some (codes "true" ∷ []))) put.fresh ∙ ap (λ (own : Shown). flag_values own (before of_summary)) (sym put.shown);
+  }
+
+all-read-as : (steps : List Step) (o : Options) (before : Slot → Option (List Text)) → Gives steps o → AreReadAs o before (all_values steps before)
+all-read-as [] o before gives = record {
+  cycles = ap (λ (p : Options). option_or p.cycles (first_as number_of (before (of_value of_cycles)))) (sym gives);
+  engine = ap (λ (p : Options). option_or p.engine (first_as engine_of (before (of_value of_engine)))) (sym gives);
+  shown = ap (λ (p : Options). flag_values p.shown (before of_summary)) (sym gives);
+}
+all-read-as (next key v ∷ steps) o before gives = key-read gives.0 o before _ key v gives.2 (all-read-as steps gives.0 (put (of_value key) (v ∷ []) before) gives.1)
+all-read-as (equals key v ∷ steps) o before gives = key-read gives.0 o before _ key v gives.2 (all-read-as steps gives.0 (put (of_value key) (v ∷ []) before) gives.1)
+all-read-as (summary ∷ steps) o before gives = flag-read-as gives.0 o before _ gives.2 (all-read-as steps gives.0 (put of_summary (codes "true" ∷ []) before) gives.1)
 
 gen_taken : (d : ℕ) (ds : Text) → (d == 45) ≡ false → (takes gen_app ((d ∷ ds) ∷ []) ≡ true) × (first_of (codes "stages") (matches_of gen_app ((d ∷ ds) ∷ [])) ≡ Some (d ∷ ds))
 unfolding clap_on_literals
@@ -205,10 +573,10 @@ gen_is_simple = refl
 
 -- ---- what is built
 
-pub run_app-is : (name : Text) (b first whole : Command) (cycles summary : Arg) → app_of b ≡ bare name → AddsArg b cycles first → AddsArg first summary whole
-    → rule_of cycles ≡ cycles_rule → rule_of summary ≡ summary_rule → cycles.global ≡ false → summary.global ≡ false → app_of whole ≡ run_app name
-run_app-is name b first whole cycles shows begun one two cycles_is summary_is here there =
-    two.shape there ∙ ap₂ with_rule (one.shape here ∙ ap₂ with_rule begun cycles_is) summary_is
+pub run_app-is : (name : Text) (b first second whole : Command) (cycles engine summary : Arg) → app_of b ≡ bare name → AddsArg b cycles first → AddsArg first engine second → AddsArg second summary whole
+    → rule_of cycles ≡ cycles_rule → rule_of engine ≡ engine_rule → rule_of summary ≡ summary_rule → cycles.global ≡ false → engine.global ≡ false → summary.global ≡ false → app_of whole ≡ run_app name
+run_app-is name b first second whole cycles engine shows begun one two three cycles_is engine_is summary_is here there behind =
+    three.shape behind ∙ ap₂ with_rule (two.shape there ∙ ap₂ with_rule (one.shape here ∙ ap₂ with_rule begun cycles_is) engine_is) summary_is
 
 pub gen_app-is : (b whole : Command) (stages : Arg) → app_of b ≡ bare (codes "gen") → AddsArg b stages whole → rule_of stages ≡ stages_rule → stages.global ≡ false → app_of whole ≡ gen_app
 gen_app-is b whole stages begun one stages_is here = one.shape here ∙ ap₂ with_rule begun stages_is
@@ -221,6 +589,10 @@ shown_by_flag one flag Report s e on off (inr (f, is)) = is
 shown_by_flag one flag Summary s e on off (inl (t, is)) = is
 shown_by_flag one flag Summary s e on off (inr (f, is)) = absurd (true≢false (sym (on e) ∙ f))
 
+-- options are what they have
+pub options_same : (a b : Options) → a.cycles ≡ b.cycles → a.engine ≡ b.engine → a.shown ≡ b.shown → a ≡ b
+options_same a b cycles engine shown = rw cycles (rw engine (rw shown refl))
+
 -- ---- what is found
 
 -- the words are taken, and what is found gives the options
@@ -228,70 +600,125 @@ pub record IsRead (name : Text) (words : List Text) (o : Options) : Type 0 where
   pub taken : takes (run_app name) words ≡ true
   pub gives : Give (matches_of (run_app name) words) o
 
-read_as : (name : Text) (words : List Text) (v : Text) (shown : Shown) (n : ℕ) → number_of v ≡ Some n → IsTaken name words v shown → IsRead name words (record { cycles = Some n; shown = shown })
-read_as name words v shown n e t = record {
-  taken = t.taken;
-  gives = record { cycles = ap (option_and_then number_of) t.cycles ∙ e; shown = t.flag };
-}
+-- without a value of its own, an option has none
+module _ (rows : List Row) where
+  plain-default : (rule : Rule) → rule.defaults ≡ [] → with_default rows rule ≡ rows
+  plain-default rule none = rw none (go (has_row rule.id rows))
+    where
+      go : (b : Bool) → (if b then rows else rows) ≡ rows
+      go true = refl
+      go false = refl
 
-no_number : (n : ℕ) → number_of [] ≡ Some n → ⊥
-no_number n e = none-some n e
+abbrev summary_filled : Rule
+summary_filled = filled summary_rule
 
-module _ (name : Text) (n : ℕ) where
-  after_next : (v : Text) → number_of v ≡ Some n → (steps : List Step) (rest : Options) → OnlySummary steps rest → IsRead name (words_of (next v ∷ steps)) (record rest { cycles = Some n })
-  after_next [] e steps rest only = absurd (no_number n e)
-  after_next (d ∷ ds) e steps rest (inl none) =
-      subst (λ more. IsRead name (words_of (next (d ∷ ds) ∷ more)) (record rest { cycles = Some n })) (sym none.0)
-      (subst (λ (p : Options). IsRead name (words_of (next (d ∷ ds) ∷ [])) (record p { cycles = Some n })) (sym none.1)
-      (read_as name _ (d ∷ ds) Report n e (next_alone name d ds (dash-first d ds n e))))
-  after_next (d ∷ ds) e steps rest (inr one) =
-      subst (λ more. IsRead name (words_of (next (d ∷ ds) ∷ more)) (record rest { cycles = Some n })) (sym one.0)
-      (subst (λ (p : Options). IsRead name (words_of (next (d ∷ ds) ∷ summary ∷ [])) (record p { cycles = Some n })) (sym one.1)
-      (read_as name _ (d ∷ ds) Summary n e (next_first name d ds (dash-first d ds n e))))
+-- the rows behind all words have the rows of both options, and whether a summary is wanted
+record IsFinished (rows final : List Row) (shown : Shown) : Type 0 where
+  values : (key : Key) → row_of_id (id_of (of_value key)) final ≡ row_of_id (id_of (of_value key)) rows
+  flag : one_of (codes "summary") final ≡ Some (flag_of shown)
 
-  after_equals : (v : Text) → number_of v ≡ Some n → (steps : List Step) (rest : Options) → OnlySummary steps rest → IsRead name (words_of (equals v ∷ steps)) (record rest { cycles = Some n })
-  after_equals v e steps rest (inl none) =
-      subst (λ more. IsRead name (words_of (equals v ∷ more)) (record rest { cycles = Some n })) (sym none.0)
-      (subst (λ (p : Options). IsRead name (words_of (equals v ∷ [])) (record p { cycles = Some n })) (sym none.1)
-      (read_as name _ v Report n e (equals_alone name v)))
-  after_equals v e steps rest (inr one) =
-      subst (λ more. IsRead name (words_of (equals v ∷ more)) (record rest { cycles = Some n })) (sym one.0)
-      (subst (λ (p : Options). IsRead name (words_of (equals v ∷ summary ∷ [])) (record p { cycles = Some n })) (sym one.1)
-      (read_as name _ v Summary n e (equals_first name v)))
+abbrev default_row : Row
+default_row = record { id = codes "summary"; values = codes "false" ∷ []; count = None; source = Some DefaultValue; reading = reading_of_slot of_summary }
 
-  next_behind : (v : Text) → number_of v ≡ Some n → IsRead name (words_of (summary ∷ next v ∷ [])) (record { cycles = Some n; shown = Summary })
-  next_behind [] e = absurd (no_number n e)
-  next_behind (d ∷ ds) e = read_as name _ (d ∷ ds) Summary n e (next_last name d ds (dash-first d ds n e))
+module _ (rows : List Row) (values : Slot → Option (List Text)) (known : Known rows values) where
+  behind-all : (values of_summary ≡ None) → with_default rows summary_filled ≡ rows ++ (default_row ∷ [])
+  behind-all none =
+      let absent = known of_summary ∙ ap (option_map (row_for of_summary)) none in
+      rw (none-used rows values known of_summary none) (with_row-is (codes "summary") (reading_of_slot of_summary) DefaultValue (codes "false" ∷ []) rows absent)
 
-  equals_behind : (v : Text) → number_of v ≡ Some n → IsRead name (words_of (summary ∷ equals v ∷ [])) (record { cycles = Some n; shown = Summary })
-  equals_behind v e = read_as name _ v Summary n e (equals_last name v)
+  finish : (shown : Shown) → values of_summary ≡ flag_values shown None → IsFinished rows (with_default rows summary_filled) shown
+  finish Report none =
+      let is = behind-all none in
+      let found : (id : Text) → row_of_id id (with_default rows summary_filled) ≡ option_or (row_of_id id rows) (row_of_id id (default_row ∷ [])) =
+      λ id. ap (row_of_id id) is ∙ find-append (λ (r : Row). bytes_eq r.id id) rows (default_row ∷ []) in
+      record {
+        values = λ key. found (id_of (of_value key)) ∙ ap (option_or (row_of_id (id_of (of_value key)) rows)) (other-id key) ∙ or-none (row_of_id (id_of (of_value key)) rows);
+        flag = ap (option_and_then row_text) (found (codes "summary") ∙ ap (λ own. option_or own (Some default_row)) (known of_summary ∙ ap (option_map (row_for of_summary)) none));
+      }
+    where
+      other-id : (key : Key) → row_of_id (id_of (of_value key)) (default_row ∷ []) ≡ None
+      other-id of_cycles = refl
+      other-id of_engine = refl
+  finish Summary there =
+      let has : has_row (codes "summary") rows ≡ true = has-found (codes "summary") rows ∙ ap is_some (known of_summary ∙ ap (option_map (row_for of_summary)) there) in
+      let is : with_default rows summary_filled ≡ rows = rw has refl in
+      record {
+        values = λ key. ap (row_of_id (id_of (of_value key))) is;
+        flag = ap (one_of (codes "summary")) is ∙ ap (option_and_then row_text) (known of_summary ∙ ap (option_map (row_for of_summary)) there);
+      }
 
--- the cycles behind a summary are all that is there
-behind_summary : (name : Text) (steps : List Step) (rest : Options) → Gives steps rest → rest.shown ≡ Report → is_some rest.cycles ≡ true → IsRead name (words_of (summary ∷ steps)) (record rest { shown = Summary })
-behind_summary name [] rest g s c = absurd (true≢false (sym c ∙ ap (λ (p : Options). is_some p.cycles) g))
-behind_summary name (next v ∷ steps) rest g s c =
-    let before = nothing steps g.0 g.1 g.2.fresh (sym (ap (λ (p : Options). p.shown) g.2.is) ∙ s) in
-    subst (λ (p : Options). IsRead name (words_of (summary ∷ next v ∷ steps)) (record p { shown = Summary })) (sym g.2.is)
-    (subst (λ more. IsRead name (words_of (summary ∷ next v ∷ more)) (record { cycles = Some g.2.n; shown = Summary })) (sym before) (next_behind name g.2.n v g.2.number))
-behind_summary name (equals v ∷ steps) rest g s c =
-    let before = nothing steps g.0 g.1 g.2.fresh (sym (ap (λ (p : Options). p.shown) g.2.is) ∙ s) in
-    subst (λ (p : Options). IsRead name (words_of (summary ∷ equals v ∷ steps)) (record p { shown = Summary })) (sym g.2.is)
-    (subst (λ more. IsRead name (words_of (summary ∷ equals v ∷ more)) (record { cycles = Some g.2.n; shown = Summary })) (sym before) (equals_behind name g.2.n v g.2.number))
-behind_summary name (summary ∷ steps) rest g s c = absurd (report-fresh rest g.0 s g.2)
+  finished-is : (pending : Option (Text × List Text)) (before : List Row) → settled_rows run_rules pending before ≡ rows → finished run_rules (held_with before pending) ≡ with_default rows summary_filled
+  finished-is pending before is =
+      rw is
+      (ap (λ (first : List Row). with_default (with_default first (filled engine_rule)) summary_filled) (plain-default rows (filled cycles_rule) refl)
+      ∙ ap (λ (second : List Row). with_default second summary_filled) (plain-default rows (filled engine_rule) refl))
 
-steps_are_read : (name : Text) (steps : List Step) (o : Options) → Gives steps o → is_some o.cycles ≡ true → IsRead name (words_of steps) o
-steps_are_read name [] o g c = absurd (true≢false (sym c ∙ ap (λ (p : Options). is_some p.cycles) g))
-steps_are_read name (next v ∷ steps) o g c =
-    subst (IsRead name (words_of (next v ∷ steps))) (sym g.2.is) (after_next name g.2.n v g.2.number steps g.0 (only_summary steps g.0 g.1 g.2.fresh))
-steps_are_read name (equals v ∷ steps) o g c =
-    subst (IsRead name (words_of (equals v ∷ steps))) (sym g.2.is) (after_equals name g.2.n v g.2.number steps g.0 (only_summary steps g.0 g.1 g.2.fresh))
-steps_are_read name (summary ∷ steps) o g c =
-    subst (IsRead name (words_of (summary ∷ steps))) (sym g.2.is)
-    (behind_summary name steps g.0 g.1 g.2.fresh (sym (ap (λ (p : Options). is_some p.cycles) g.2.is) ∙ c))
+-- what is read of a row is read of its values
+read-through : {X : Type 0} (read : Text → Option X) (slot : Slot) (found : Option (List Text)) → option_and_then read (option_and_then (λ (r : Row). slice_get r.values 0) (option_map (row_for slot) found)) ≡ first_as read found
+read-through read slot None = refl
+read-through read slot (Some texts) = refl
 
-cycles_there : (c : Option ℕ) (shown : Shown) → is_some (sim_by c shown) ≡ true → is_some c ≡ true
-cycles_there None shown e = e
-cycles_there (Some n) shown e = refl
+-- a row that the words gave
+given-through : (found : Option (List Text)) (n : ℕ) → first_as number_of found ≡ Some n → (final : List Row) → row_of_id (codes "cycles") final ≡ option_map (row_for (of_value of_cycles)) found → is_given (codes "cycles") final ≡ true
+given-through None n e final is = absurd (none-some n e)
+given-through (Some texts) n e final is = rw is refl
+
+abbrev nothing : Slot → Option (List Text)
+nothing slot = None
+
+all-free : (o : Options) → AreFree o nothing
+all-free o = record { cycles = λ s. refl; engine = λ s. refl; shown = λ s. refl }
+
+none-known : Known [] nothing
+none-known (of_value of_cycles) = refl
+none-known (of_value of_engine) = refl
+none-known of_summary = refl
+
+first-stands : Stands nothing (walk_from nothing_held)
+first-stands = record { rows = []; pending = None; is = refl; passes = refl; known = none-known }
+
+module _ (name : Text) (words : List Text) (o : Options) (values : Slot → Option (List Text)) (reads : Reads name values (walk_from nothing_held) words) (told : AreReadAs o nothing values) (n : ℕ) (cycles : o.cycles ≡ Some n) where
+  abbrev so : List Row
+  so = settled_rows run_rules reads.stands.pending reads.stands.rows
+
+  abbrev final : List Row
+  final = with_default so summary_filled
+
+  end : finished run_rules (walk run_rules [] nothing_held words).held ≡ final
+  end = ap (λ (w : Walk). finished run_rules w.held) reads.stands.is ∙ finished-is so values reads.stands.known reads.stands.pending reads.stands.rows refl
+
+  is-finished : IsFinished so final o.shown
+  is-finished = finish so values reads.stands.known o.shown told.shown
+
+  row-is : (key : Key) → row_of_id (id_of (of_value key)) final ≡ option_map (row_for (of_value key)) (values (of_value key))
+  row-is key = is-finished.values key ∙ reads.stands.known (of_value key)
+
+  own-cycles : first_as number_of (values (of_value of_cycles)) ≡ o.cycles
+  own-cycles = told.cycles ∙ or-none o.cycles
+
+  given : is_given (codes "cycles") (finished run_rules (held_with reads.stands.rows reads.stands.pending)) ≡ true
+  given =
+      ap (is_given (codes "cycles")) (finished-is so values reads.stands.known reads.stands.pending reads.stands.rows refl)
+      ∙ given-through (values (of_value of_cycles)) n (own-cycles ∙ cycles) final (row-is of_cycles)
+
+  are-taken : takes (run_app name) words ≡ true
+  unfolding clap_on_literals
+  are-taken = rw reads.passes (rw reads.stands.is (simp (reads.stands.passes, given)))
+
+  are-read : IsRead name words o
+  are-read = record {
+    taken = are-taken;
+    gives = subst (λ (rows : List Row). Give rows o) (sym end) (record {
+      cycles = ap (λ found. option_and_then number_of (option_and_then (λ (r : Row). slice_get r.values 0) found)) (row-is of_cycles) ∙ read-through number_of (of_value of_cycles) (values (of_value of_cycles)) ∙ own-cycles;
+      engine = ap (λ found. option_and_then engine_of (option_and_then (λ (r : Row). slice_get r.values 0) found)) (row-is of_engine) ∙ read-through engine_of (of_value of_engine) (values (of_value of_engine)) ∙ told.engine ∙ or-none o.engine;
+      shown = is-finished.flag;
+    });
+  }
+
+-- the cycles are there
+cycles-there : (c : Option ℕ) (shown : Shown) (engine : Option EngineKind) → is_some (sim_by c shown engine) ≡ true → (n : ℕ) × (c ≡ Some n)
+cycles-there None shown engine e = absurd (true≢false (sym e))
+cycles-there (Some n) shown engine e = (n, refl)
 
 -- valid words are read as the options that they give
 pub words_are_read : (name : Text) (words : List Text) → is_some (sim_of (options_of words)) ≡ true
@@ -302,7 +729,9 @@ words_are_read name words valid = go (options_of words) refl valid
     go None is valid = absurd (true≢false (sym valid))
     go (Some o) is valid =
         let found = steps_of words o is in
-        (o, is, subst (λ ws. IsRead name ws o) (sym found.1) (steps_are_read name found.0 o found.2 (cycles_there o.cycles o.shown valid)))
+        let there = cycles-there o.cycles o.shown o.engine valid in
+        let reads = all-read name found.0 o nothing (walk_from nothing_held) found.2 (all-free o) first-stands in
+        (o, is, subst (λ ws. IsRead name ws o) (sym found.1) (are-read name (words_of found.0) o _ reads (all-read-as found.0 o nothing found.2) there.0 there.1))
 
 -- the word of `gen`, if it is valid, is taken and found
 pub stages_are_read : (words : List Text) → is_some (gen_of words) ≡ true

@@ -22,7 +22,7 @@ use Rattle.koika_top.specs.declared.words.Command.TheVariants.{Check, Print, Sim
 abbrev pub Answers : List HostSpec → Command → List ℕ → Answer → Type 0
 Answers hosts Check source answer = AnswersCheck hosts source answer
 Answers hosts Print source answer = AnswersPrint source answer
-Answers hosts (Sim cycles shown) source answer = AnswersSim hosts cycles shown source answer
+Answers hosts (Sim cycles shown engine) source answer = AnswersSim hosts cycles shown source answer
 Answers hosts (Btorsim cycles shown) source answer = AnswersBtorsim cycles shown source answer
 Answers hosts Compile source answer = AnswersCompile hosts source answer
 Answers hosts (Gen stages) source answer = answer ≡ Written (pipeline stages)

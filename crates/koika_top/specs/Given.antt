@@ -4,7 +4,8 @@ use Rattle.std.specs.Prelude.{◌≡◌, ℕ, true, List, codes, Option, Some, o
 use Rattle.clap.specs.Walk.{Row, Rule, Text, first_of, one_of}
 use Rattle.clap.specs.Simple.{App, new_app, new_rule, on_top, with_rule}
 use Rattle.clap.specs.declared.builder.action.ArgAction.TheVariants.{SetTrue}
-use Rattle.koika_top.specs.Words.{number_of}
+use Rattle.koika_top.specs.Words.{engine_of, number_of}
+use Rattle.koika_top.specs.declared.engine_kind.EngineKind.{EngineKind}
 use Rattle.koika_top.specs.declared.shown.Shown.{Shown}
 use Rattle.koika_top.specs.declared.shown.Shown.TheVariants.{Report, Summary}
 use Rattle.koika_top.specs.declared.words.Options.{Options}
@@ -16,12 +17,15 @@ bare name = on_top (λ s. record s { no_binary_name = true; disable_help_flag = 
 abbrev pub cycles_rule : Rule
 cycles_rule = record (new_rule (codes "cycles")) { long = Some (codes "cycles"); required = true }
 
+abbrev pub engine_rule : Rule
+engine_rule = record (new_rule (codes "engine")) { long = Some (codes "engine") }
+
 abbrev pub summary_rule : Rule
 summary_rule = record (new_rule (codes "summary")) { long = Some (codes "summary"); action = Some SetTrue }
 
 -- the options of a run
 abbrev pub run_app : Text → App
-run_app name = with_rule (with_rule (bare name) cycles_rule) summary_rule
+run_app name = with_rule (with_rule (with_rule (bare name) cycles_rule) engine_rule) summary_rule
 
 abbrev pub stages_rule : Rule
 stages_rule = record (new_rule (codes "stages")) { required = true }
@@ -34,6 +38,10 @@ gen_app = with_rule (bare (codes "gen")) stages_rule
 abbrev pub number_in : Text → List Row → Option ℕ
 number_in id rows = option_and_then number_of (first_of id rows)
 
+-- the engine that the first value of an argument names
+abbrev pub engine_in : Text → List Row → Option EngineKind
+engine_in id rows = option_and_then engine_of (first_of id rows)
+
 -- how a flag tells whether a summary is wanted
 abbrev pub flag_of : Shown → Text
 flag_of Report = codes "false"
@@ -42,4 +50,5 @@ flag_of Summary = codes "true"
 -- the rows give these options
 pub record Give (rows : List Row) (options : Options) : Type 0 where
   pub cycles : number_in (codes "cycles") rows ≡ options.cycles
+  pub engine : engine_in (codes "engine") rows ≡ options.engine
   pub shown : one_of (codes "summary") rows ≡ Some (flag_of options.shown)

@@ -1,8 +1,10 @@
 -- Which arguments are valid, as words of the command line, and what they ask for. The program's own name isn't among them.
-use Rattle.std.specs.Prelude.{ℕ, ◌+◌, ◌-◌, ◌*◌, ◌&&◌, nat_le, Bool, true, false, List, [], ◌∷◌, length, fold, codes, take, drop, Option, Some, None, if◌then◌else◌}
+use Rattle.std.specs.Prelude.{ℕ, ◌+◌, ◌-◌, ◌*◌, ◌&&◌, nat_le, Bool, List, [], ◌∷◌, length, fold, codes, take, drop, Option, Some, None, unwrap_or, if◌then◌else◌}
 use Rattle.std.specs.List.{list_all}
 use Rattle.std.specs.Char.{is_ascii_digit}
 use Rattle.std.specs.Str.{bytes_eq}
+use Rattle.koika_top.specs.declared.engine_kind.EngineKind.{EngineKind}
+use Rattle.koika_top.specs.declared.engine_kind.EngineKind.TheVariants.{Plain, Circuit}
 use Rattle.koika_top.specs.declared.shown.Shown.{Shown}
 use Rattle.koika_top.specs.declared.shown.Shown.TheVariants.{Report, Summary}
 use Rattle.koika_top.specs.declared.words.Command.{Command}
@@ -21,9 +23,13 @@ are_few_digits word = nat_le 1 (length word) && nat_le (length word) 10 && list_
 abbrev pub number_of : List ℕ → Option ℕ
 number_of word = if are_few_digits word && nat_le (value_of word) 4294967295 then Some (value_of word) else None
 
+-- the engine that a word names
+abbrev pub engine_of : List ℕ → Option EngineKind
+engine_of word = if bytes_eq word (codes "plain") then Some Plain else if bytes_eq word (codes "circuit") then Some Circuit else None
+
 -- no option is given
 abbrev pub no_options : Options
-no_options = record { cycles = None; shown = Report }
+no_options = record { cycles = None; engine = None; shown = Report }
 
 -- options with a number of cycles, which isn't given yet
 abbrev pub put_cycles : Option ℕ → ℕ → Options → Option Options
@@ -40,6 +46,21 @@ abbrev pub with_cycles : List ℕ → Option Options → Option Options
 with_cycles word None = None
 with_cycles word (Some options) = put_number (number_of word) options
 
+-- options with an engine, which isn't given yet
+abbrev pub put_engine : Option EngineKind → EngineKind → Options → Option Options
+put_engine None kind options = Some (record options { engine = Some kind })
+put_engine (Some other) kind options = None
+
+-- the same, where the value names one
+abbrev pub put_named : Option EngineKind → Options → Option Options
+put_named None options = None
+put_named (Some kind) options = put_engine options.engine kind options
+
+-- options, if they are valid, with a value of `--engine`
+abbrev pub with_engine : List ℕ → Option Options → Option Options
+with_engine word None = None
+with_engine word (Some options) = put_named (engine_of word) options
+
 -- options with a summary, which isn't asked for yet
 abbrev pub put_summary : Shown → Options → Option Options
 put_summary Report options = Some (record options { shown = Summary })
@@ -55,6 +76,7 @@ abbrev pub with_word : List ℕ → Option Options → Option Options
 with_word word others =
     if bytes_eq word (codes "--summary") then with_summary others
     else if bytes_eq (take 9 word) (codes "--cycles=") then with_cycles (drop 9 word) others
+    else if bytes_eq (take 9 word) (codes "--engine=") then with_engine (drop 9 word) others
     else None
 
 -- what options ask for: each stands at most once, in any order, and a value stands behind its option or behind `=`
@@ -62,25 +84,27 @@ abbrev pub options_of : List (List ℕ) → Option Options
 options_of [] = Some no_options
 options_of (word ∷ []) = with_word word (Some no_options)
 options_of (word ∷ value ∷ rest) =
-    if bytes_eq word (codes "--cycles") then with_cycles value (options_of rest) else with_word word (options_of (value ∷ rest))
+    if bytes_eq word (codes "--cycles") then with_cycles value (options_of rest)
+    else if bytes_eq word (codes "--engine") then with_engine value (options_of rest)
+    else with_word word (options_of (value ∷ rest))
 
--- `sim` with options: the cycles have to be given
-abbrev pub sim_by : Option ℕ → Shown → Option Command
-sim_by None shown = None
-sim_by (Some cycles) shown = Some (Sim cycles shown)
+-- `sim` with options: the cycles have to be given, and without an engine it is the plain one
+abbrev pub sim_by : Option ℕ → Shown → Option EngineKind → Option Command
+sim_by None shown engine = None
+sim_by (Some cycles) shown engine = Some (Sim cycles shown (unwrap_or engine Plain))
 
 abbrev pub sim_of : Option Options → Option Command
 sim_of None = None
-sim_of (Some options) = sim_by options.cycles options.shown
+sim_of (Some options) = sim_by options.cycles options.shown options.engine
 
--- `btorsim` with options: the cycles have to be given
-abbrev pub btorsim_by : Option ℕ → Shown → Option Command
-btorsim_by None shown = None
-btorsim_by (Some cycles) shown = Some (Btorsim cycles shown)
+-- `btorsim` with options: the cycles have to be given, and no engine
+abbrev pub btorsim_by : Option ℕ → Shown → Option EngineKind → Option Command
+btorsim_by (Some cycles) shown None = Some (Btorsim cycles shown)
+btorsim_by cycles shown engine = None
 
 abbrev pub btorsim_of : Option Options → Option Command
 btorsim_of None = None
-btorsim_of (Some options) = btorsim_by options.cycles options.shown
+btorsim_of (Some options) = btorsim_by options.cycles options.shown options.engine
 
 -- `gen` with a number of stages from 1 to 100
 abbrev pub gen_by : Option ℕ → Option Command

@@ -57,8 +57,12 @@ fn circuit_of(alloc: Global, hosts: &[HostFn], design: &Checked) -> Result<Circu
     Ok(simple)
 }
 
-// The lines of a design's circuit, and behind them a bad line for each rule that is marked.
-fn circuit_lines(alloc: Global, design: &Checked, circuit: &Circuit) -> Result<Lines, NoMemory>
+/// The lines of a design's circuit, and behind them a bad line for each rule that is marked.
+pub(crate) fn circuit_lines(
+    alloc: Global,
+    design: &Checked,
+    circuit: &Circuit,
+) -> Result<Lines, NoMemory>
     requires typed { IsTypedDesign design.now }
     requires names { HasPlainNames design.now }
     requires wired { IsWiredAs design.now circuit.now }

@@ -1,11 +1,12 @@
 ghost use Rattle.std.specs.Prelude.{◌≡◌, true, map, string_bytes, codes, IfOk, is_some, Some};
 ghost use Rattle.clap.specs.Words.{app_of, found_of, kind_of, rows_of};
-ghost use Rattle.koika_top.specs.Given.{Give, bare, number_in};
+ghost use Rattle.koika_top.specs.Given.{Give, bare, engine_in, number_in};
 ghost use Rattle.koika_top.specs.Words.{gen_by, gen_of, options_of, sim_of};
 ghost use Rattle.koika_top.specs.declared.words.Options.{Options as AnyOptions};
 
+use crate::engine_kind::EngineKind;
 use crate::shown::Shown;
-use crate::words::{Options, number_of};
+use crate::words::{Options, engine_of, number_of};
 use clap::error::ErrorKind;
 use clap::{Arg, ArgAction, ArgMatches, Command, Error};
 use kw_bits::NoMemory;
@@ -17,10 +18,11 @@ pub(crate) fn read_options(alloc: Global, name: &str, words: &[String]) -> Resul
     ensures { IfOk result (λ options. options_of (map string_bytes words.now) ≡ Some options) }
 {
     let cycles = Arg::new(alloc, "cycles").long("cycles").required(true);
+    let engine = Arg::new(alloc, "engine").long("engine");
     let summary = Arg::new(alloc, "summary")
         .long("summary")
         .action(ArgAction::SetTrue);
-    let command = bare(alloc, name).arg(cycles)?.arg(summary)?;
+    let command = bare(alloc, name).arg(cycles)?.arg(engine)?.arg(summary)?;
     match command.try_get_matches_from(words) {
         Ok(matches) => Ok(options_in(&matches)),
         Err(error) => Err(want_of_memory(&error)),
@@ -60,6 +62,7 @@ fn options_in(matches: &ArgMatches<'_>) -> Options
     };
     Options {
         cycles: number_in(matches, "cycles"),
+        engine: engine_in(matches, "engine"),
         shown,
     }
 }
@@ -70,6 +73,16 @@ fn number_in(matches: &ArgMatches<'_>, id: &str) -> Option<u32>
 {
     match matches.get_str(id) {
         Some(word) => number_of(word.as_bytes()),
+        None => None,
+    }
+}
+
+// The engine that the first value of an argument names.
+fn engine_in(matches: &ArgMatches<'_>, id: &str) -> Option<EngineKind>
+    ensures { result ≡ engine_in id.now (rows_of (found_of matches.now)) }
+{
+    match matches.get_str(id) {
+        Some(word) => engine_of(word.as_bytes()),
         None => None,
     }
 }

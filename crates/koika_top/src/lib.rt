@@ -5,10 +5,12 @@
 #![tactic(auto)]
 
 mod answer;
+mod by_circuit;
 mod circuit_run;
 mod circuit_shapes;
 mod compile;
 mod engine;
+mod engine_kind;
 mod generator;
 mod given;
 mod laws;
@@ -26,6 +28,7 @@ mod words;
 
 pub use answer::Answer;
 pub use circuit_shapes::circuit_shape;
+pub use engine_kind::EngineKind;
 pub use laws::{one_answer, one_status, some_answer, some_circuit};
 pub use program::run_here;
 pub use shown::Shown;

@@ -16,6 +16,7 @@ ghost use Rattle.koika_top.specs.declared.answer.Answer.{Answer as AnyAnswer};
 use crate::answer::{Answer, write_answer, write_made};
 use crate::circuit_run::CircuitRun;
 use crate::compile::compile_source;
+use crate::engine_kind::EngineKind;
 use crate::generator::pipeline;
 use crate::reads::{check_source, print_source};
 use crate::run::{Run, Untold};
@@ -167,7 +168,11 @@ fn answer_bytes<K: Sink>(
     match command {
         Command::Check => write_made(alloc, check_source(alloc, hosts, source), sink),
         Command::Print => write_made(alloc, print_source(alloc, source), sink),
-        Command::Sim { cycles, shown } => simulate(alloc, cycles, shown, hosts, source, sink),
+        Command::Sim {
+            cycles,
+            shown,
+            engine,
+        } => simulate(alloc, cycles, shown, engine, hosts, source, sink),
         Command::Btorsim { cycles, shown } => simulate_circuit(alloc, cycles, shown, source, sink),
         Command::Compile => write_made(alloc, compile_source(alloc, hosts, source), sink),
         Command::Gen { stages } => write_made(alloc, generate(alloc, stages), sink),
@@ -182,11 +187,12 @@ fn generate(alloc: Global, stages: u32) -> Result<Text, Refusal>
     Ok(pipeline(alloc, stages)?)
 }
 
-// Runs the design of a source and writes what is shown of the run, or the line of the source's fault.
+// Runs the design of a source by an engine and writes what is shown of the run, or the line of the source's fault.
 fn simulate<K: Sink>(
     alloc: Global,
     cycles: u32,
     shown: Shown,
+    engine: EngineKind,
     hosts: &[HostFn],
     source: &[u8],
     sink: &mut K,
@@ -199,7 +205,7 @@ fn simulate<K: Sink>(
     ensures write_fault { result ≡ Status.WriteFault → Rose (K.faults sink.old) (K.faults sink.new) }
 {
     match Run::read(alloc, cycles, hosts, source) {
-        Ok(run) => status_of(run.write(alloc, cycles, shown, sink)),
+        Ok(run) => status_of(run.write(alloc, cycles, shown, engine, sink)),
         Err(Refusal::Fault(fault)) => write_answer(alloc, &Answer::Refused(fault), sink),
         Err(Refusal::NoMemory) => Status::NoMemory,
     }

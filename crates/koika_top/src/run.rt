@@ -7,16 +7,19 @@ ghost use Rattle.koika_lower.specs.Lowering.{IsLowered};
 ghost use Rattle.one_rule.specs.Cycle.{system_of};
 ghost use Rattle.one_rule.specs.Externs.{host_specs, kept};
 ghost use Rattle.one_rule.specs.Run.{last_registers, run, run_of};
-ghost use Rattle.one_rule.specs.Stimulus.{AlwaysFits, StimulusFits, inputs_of};
+ghost use Rattle.one_rule.specs.Stimulus.{StimulusFits, inputs_of};
 ghost use Rattle.typed_core.specs.Valid.{IsValid, externs_of};
 ghost use Rattle.typed_core.specs.Widths.{HaveWidths, register_widths};
 ghost use Rattle.koika_top.specs.Answer.{AppendsFront};
+ghost use Rattle.koika_top.specs.PlainNames.{HasPlainNames};
 ghost use Rattle.koika_top.specs.Sim.{HasNoRun, Marks, is_too_long, marks_of, text_of_rows};
 ghost use Rattle.koika_top.specs.Sources.{Spells, longest_source, shape_of};
 ghost use Rattle.koika_top.specs.Systems as typed;
 ghost use Rattle.koika_top.specs.Telling.{GoesOnFrom, HasRows, TakesRows, part_of_batch, shown_by};
 
 use crate::answer::write_text;
+use crate::engine::always_fits;
+use crate::engine_kind::EngineKind;
 use crate::lengths;
 use crate::lengths::BATCH;
 use crate::shape::watch_of;
@@ -29,7 +32,7 @@ use koika_lower::lower;
 use kw_base::{Refusal, fault_number};
 use kw_bits::NoMemory;
 use kw_io::{Sink, WriteFault};
-use one_rule::{Externs, Inputs, Regs, Stimulus, first_values};
+use one_rule::{Externs, Regs, Stimulus, first_values};
 use std::alloc::Global;
 use stim_report::Shape;
 use typed_core::Design;
@@ -37,11 +40,11 @@ use typed_core::Design;
 /// A typed design and what it is lowered to, ready to run on a stimulus.
 #[derive(Drop)]
 pub(crate) struct Run {
-    checked: Checked,
-    design: Design,
-    externs: Externs,
-    stimulus: Stimulus,
-    shape: Shape,
+    pub(crate) checked: Checked,
+    pub(crate) design: Design,
+    pub(crate) externs: Externs,
+    pub(crate) stimulus: Stimulus,
+    pub(crate) shape: Shape,
     ghost externs_fit: { kept externs ≡ externs_of design },
     ghost stimulus_fits: { StimulusFits design stimulus },
     ghost shape_fits: { shape ≡ shape_of checked },
@@ -106,8 +109,34 @@ impl Run {
         })
     }
 
-    /// Runs the design and writes what is shown of its rows, batch by batch.
+    /// Runs the design by an engine and writes what is shown of its rows, batch by batch.
     pub(crate) fn write<K: Sink>(
+        &self,
+        alloc: Global,
+        cycles: u32,
+        shown: Shown,
+        engine: EngineKind,
+        sink: &mut K,
+    ) -> Result<(), Untold>
+        requires few { cycles ≤ 16777216 }
+        requires typed { IsTypedDesign self.now.checked }
+        requires names { HasPlainNames self.now.checked }
+        requires lowered { IsLowered self.now.checked self.now.design }
+        ensures all { OnOk result (Appends (K.written sink.old) (K.written sink.new)
+            (text_of_rows shown (shape_of self.now.checked) (marks_of self.now.checked) (typed.run_of self.now.checked (inputs_of self.now.stimulus) cycles))) }
+        ensures front { AppendsFront (K.written sink.old) (K.written sink.new)
+            (text_of_rows shown (shape_of self.now.checked) (marks_of self.now.checked) (typed.run_of self.now.checked (inputs_of self.now.stimulus) cycles)) }
+        ensures cause { IsErrOf result Untold.WriteFault → Rose (K.faults sink.old) (K.faults sink.new) }
+        ensures never_falls { K.faults sink.old ≤ K.faults sink.new }
+    {
+        match engine {
+            EngineKind::Plain => self.write_plain(alloc, cycles, shown, sink),
+            EngineKind::Circuit => self.write_by_circuit(alloc, cycles, shown, sink),
+        }
+    }
+
+    // The same by the plain engine.
+    fn write_plain<K: Sink>(
         &self,
         alloc: Global,
         cycles: u32,
@@ -214,15 +243,8 @@ fn is_too_long(cycles: u32, design: &Checked) -> bool
     lengths::is_too_long(cycles, design.registers.len(), design.rules.len())
 }
 
-// A stimulus has values of its widths in every cycle.
-fn always_fits(alloc: Global, stimulus: &Stimulus)
-    ensures { AlwaysFits stimulus.now }
-{
-    let _agrees = stimulus.agrees(0, &Inputs::new(alloc));
-}
-
-// A design is valid.
-fn is_valid(design: &Design)
+/// A design is valid.
+pub(crate) fn is_valid(design: &Design)
     ensures { IsValid design.now }
 {
     let _registers = design.regs.len();

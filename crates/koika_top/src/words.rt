@@ -3,8 +3,9 @@ ghost use Rattle.std.specs.List.{list_all};
 ghost use Rattle.std.specs.Char.{IsAsciiDigit, is_ascii_digit};
 ghost use Rattle.koika_top.specs.Steps.{HasFewStages};
 ghost use Rattle.koika_top.specs.Answer.{is_of_source, longest_of};
-ghost use Rattle.koika_top.specs.Words.{alone_of, are_few_digits, btorsim_of, command_of, gen_by, gen_of, no_options, number_of, options_of, put_number, sim_of, value_of, with_cycles, with_summary, with_word};
+ghost use Rattle.koika_top.specs.Words.{alone_of, are_few_digits, btorsim_of, command_of, engine_of, gen_by, gen_of, no_options, number_of, options_of, put_number, sim_of, value_of, with_cycles, with_engine, with_summary, with_word};
 
+use crate::engine_kind::EngineKind;
 use crate::given::{read_options, read_stages};
 use crate::shown::Shown;
 use kw_bits::NoMemory;
@@ -18,13 +19,22 @@ pub enum Command {
     /// The source's design, printed.
     Print,
     /// A run of the source's design for so many cycles.
-    Sim { cycles: u32, shown: Shown },
+    Sim {
+        cycles: u32,
+        shown: Shown,
+        engine: EngineKind,
+    },
     /// A run of the source's circuit text for so many cycles.
-    Btorsim { cycles: u32, shown: Shown },
+    Btorsim {
+        cycles: u32,
+        shown: Shown,
+    },
     /// The circuit of the source's design.
     Compile,
     /// The pipeline design of so many stages.
-    Gen { stages: u32 },
+    Gen {
+        stages: u32,
+    },
 }
 
 impl Command {
@@ -55,11 +65,12 @@ const LONGEST_CIRCUIT: usize = 268_435_456;
 #[derive(Clone, Copy, Debug, PartialEq, Eq)]
 pub(crate) struct Options {
     pub(crate) cycles: Option<u32>,
+    pub(crate) engine: Option<EngineKind>,
     pub(crate) shown: Shown,
 }
 
 // Options are at most this many words, since each stands at most once.
-const MOST_WORDS: usize = 3;
+const MOST_WORDS: usize = 5;
 
 // A pipeline has at most this many stages.
 const MOST_STAGES: u32 = 100;
@@ -97,47 +108,58 @@ fn sim_of(alloc: Global, words: &[String]) -> Result<Option<Command>, NoMemory>
     ensures command { IfOk result (λ command. command ≡ sim_of (options_of (map string_bytes words.now))) }
     ensures few { IfOk result (λ command. IfSome command HasFewStages) }
 {
-    if !are_options(words) {
+    if sim_by(few_options_of(words)).is_none() {
         return Ok(None);
     }
-    let options = read_options(alloc, "sim", words)?;
-    match options.cycles {
-        Some(cycles) => Ok(Some(Command::Sim {
-            cycles,
-            shown: options.shown,
-        })),
-        None => Ok(None),
-    }
+    Ok(sim_by(Some(read_options(alloc, "sim", words)?)))
+}
+
+// The run of a design with options, if they are valid.
+fn sim_by(options: Option<Options>) -> Option<Command>
+    ensures command { result ≡ sim_of options }
+    ensures few { IfSome result HasFewStages }
+{
+    let options = options?;
+    Some(Command::Sim {
+        cycles: options.cycles?,
+        shown: options.shown,
+        engine: options.engine.unwrap_or(EngineKind::Plain),
+    })
 }
 
 fn btorsim_of(alloc: Global, words: &[String]) -> Result<Option<Command>, NoMemory>
     ensures command { IfOk result (λ command. command ≡ btorsim_of (options_of (map string_bytes words.now))) }
     ensures few { IfOk result (λ command. IfSome command HasFewStages) }
 {
-    if !are_options(words) {
+    if btorsim_by(few_options_of(words)).is_none() {
         return Ok(None);
     }
-    let options = read_options(alloc, "btorsim", words)?;
-    match options.cycles {
-        Some(cycles) => Ok(Some(Command::Btorsim {
-            cycles,
-            shown: options.shown,
-        })),
-        None => Ok(None),
-    }
+    Ok(btorsim_by(Some(read_options(alloc, "btorsim", words)?)))
 }
 
-// Whether words are options of a run, each at most once and the cycles among them.
-fn are_options(words: &[String]) -> bool
-    ensures { result ≡ is_some (sim_of (options_of (map string_bytes words.now))) }
+// The run of a circuit text with options, if they are valid: it takes no engine.
+fn btorsim_by(options: Option<Options>) -> Option<Command>
+    ensures command { result ≡ btorsim_of options }
+    ensures few { IfSome result HasFewStages }
+{
+    let options = options?;
+    if options.engine.is_some() {
+        return None;
+    }
+    Some(Command::Btorsim {
+        cycles: options.cycles?,
+        shown: options.shown,
+    })
+}
+
+// The options that words give, of which more than are ever valid aren't looked at.
+fn few_options_of(words: &[String]) -> Option<Options>
+    ensures { result ≡ options_of (map string_bytes words.now) }
 {
     if words.len() > MOST_WORDS {
-        return false;
+        return None;
     }
-    match options_of(words) {
-        Some(options) => options.cycles.is_some(),
-        None => false,
-    }
+    options_of(words)
 }
 
 fn gen_of(alloc: Global, words: &[String]) -> Result<Option<Command>, NoMemory>
@@ -180,10 +202,14 @@ fn options_of(words: &[String]) -> Option<Options>
     match words {
         [] => Some(Options {
             cycles: None,
+            engine: None,
             shown: Shown::Report,
         }),
         [word, value, rest @ ..] if word.as_str() == "--cycles" => {
             with_cycles(value.as_bytes(), options_of(rest))
+        }
+        [word, value, rest @ ..] if word.as_str() == "--engine" => {
+            with_engine(value.as_bytes(), options_of(rest))
         }
         [word, rest @ ..] => with_word(word.as_bytes(), options_of(rest)),
     }
@@ -196,8 +222,11 @@ fn with_word(word: &[u8], others: Option<Options>) -> Option<Options>
     if word == b"--summary".as_slice() {
         return with_summary(others);
     }
-    match word.strip_prefix(b"--cycles=") {
-        Some(value) => with_cycles(value, others),
+    if let Some(value) = word.strip_prefix(b"--cycles=") {
+        return with_cycles(value, others);
+    }
+    match word.strip_prefix(b"--engine=") {
+        Some(value) => with_engine(value, others),
         None => None,
     }
 }
@@ -217,6 +246,21 @@ fn with_cycles(value: &[u8], others: Option<Options>) -> Option<Options>
     }
 }
 
+// Other options and the engine, which isn't given yet.
+fn with_engine(value: &[u8], others: Option<Options>) -> Option<Options>
+    ensures { result ≡ with_engine value.now others }
+{
+    let others = others?;
+    let engine = engine_of(value)?;
+    if others.engine.is_some() {
+        return None;
+    }
+    Some(Options {
+        engine: Some(engine),
+        ..others
+    })
+}
+
 // Other options and that a summary is wanted, which isn't said yet.
 fn with_summary(others: Option<Options>) -> Option<Options>
     ensures { result ≡ with_summary others }
@@ -229,6 +273,19 @@ fn with_summary(others: Option<Options>) -> Option<Options>
         }),
         Shown::Summary => None,
     }
+}
+
+/// The engine that a word names.
+pub(crate) fn engine_of(word: &[u8]) -> Option<EngineKind>
+    ensures { result ≡ engine_of word.now }
+{
+    if word == b"plain".as_slice() {
+        return Some(EngineKind::Plain);
+    }
+    if word == b"circuit".as_slice() {
+        return Some(EngineKind::Circuit);
+    }
+    None
 }
 
 /// The number that a word of one to ten digits writes, if 32 bits hold it.

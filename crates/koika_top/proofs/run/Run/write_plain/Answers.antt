@@ -1,7 +1,7 @@
 use Rattle.koika_top.specs.Sim.{marks_of}
 use Rattle.koika_top.proofs.Batches.{all-as, front-of}
 use Rattle.koika_top.proofs.Lowered.{told-same}
-use Rattle.koika_top.proofs.run.Run.write.Goals as goal
+use Rattle.koika_top.proofs.run.Run.write_plain.Goals as goal
 
 pub write_rows-requires-clause-none : goal.write_rows-requires-clause-none
 write_rows-requires-clause-none g c = c.in_ok-teller.ensures.rows (marks_of c.args.self.now.checked) c.in_ok-watch.ensures

@@ -1,0 +1,8 @@
+/// How the run of a design is made.
+#[derive(Clone, Copy, Debug, PartialEq, Eq)]
+pub enum EngineKind {
+    /// Rule by rule, as the scheduler tries them.
+    Plain,
+    /// By the circuit that the design is compiled to.
+    Circuit,
+}
