@@ -30,6 +30,8 @@ mod settings;
 #[cfg(test)]
 mod slow_board;
 #[cfg(test)]
+mod stimuli;
+#[cfg(test)]
 mod streams;
 #[cfg(test)]
 mod threads;
