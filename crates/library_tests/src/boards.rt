@@ -9,7 +9,6 @@ ghost use Rattle.board_core.specs.Position.{IsFor};
 use crate::designs::{Listed, Place, Step, bits, design_of, events_of};
 use crate::slow_board::{Kept, SlowBoard, Told};
 use crate::threads::crosses_threads;
-use crate::valid_designs::next;
 use attempt_log::{Attempt, Job, JobAnswer, Settled, Submitted, Taken, attempt};
 use board_core::{BoardAnswer, BoardEvent, Core};
 use kw_bits::NoMemory;
@@ -250,6 +249,15 @@ const TURNS: [&[Step]; 4] = [
     &[Step::Next(0, 2, 0, 1), Step::Copy(3, 0, 1, 2)],
     &[Step::Next(1, 2, 1, 1), Step::Abort],
 ];
+
+// The node after this one by so many, or the end.
+fn next(number: u32, by: u32, nodes: u32) -> Next {
+    if by < nodes && number < nodes - by {
+        Next::Node(number + by)
+    } else {
+        Next::End
+    }
+}
 
 // So many rules, each of which goes on to the next two.
 fn ladder(rt: &impl Abort, alloc: Global, rules: u32) -> Result<Design, NoMemory>
