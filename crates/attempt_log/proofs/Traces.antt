@@ -8,7 +8,7 @@ use Rattle.kw_bits.specs.BitVector.{BitVector, zero_at}
 use Rattle.kw_bits.specs.Laws.{HasWidth}
 use Rattle.typed_core.specs.Alone.{alone_ports, is_refused, outcome_of, seen}
 use Rattle.typed_core.specs.Evaluation as core
-use Rattle.typed_core.specs.Evaluation.{evaluate, Environment, Ports, Progress, Stop, Value, unit}
+use Rattle.typed_core.specs.Evaluation.{evaluate, Environment, Progress, Stop, Value, unit}
 use Rattle.typed_core.specs.Fits.{Continues, EnvironmentFits, EventFits, EventsFit, PortsFit, ProgressFits}
 use Rattle.typed_core.specs.Laws.{read_at, write_at}
 use Rattle.typed_core.specs.Valid.{IsPort, IsValid, IsWidth, declarations}

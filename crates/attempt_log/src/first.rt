@@ -1,4 +1,4 @@
-ghost use Rattle.std.specs.Prelude.{◌≡◌, ◌<◌, ◌⊎◌, ℕ, List, Option, Some, None, length, replicate, slice_index_or, slice_set, true, false, IfOk, All};
+ghost use Rattle.std.specs.Prelude.{◌≡◌, ◌<◌, ◌⊎◌, ℕ, List, Option, Some, None, length, replicate, slice_index_or, slice_set, false, IfOk, All};
 ghost use Rattle.attempt_log.specs.Firsts.{is_listed};
 
 use kw_bits::{NoMemory, Reserved};

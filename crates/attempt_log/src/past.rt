@@ -1,4 +1,4 @@
-ghost use Rattle.std.specs.Prelude.{◌≡◌, ◌+◌, ◌*◌, ◌<◌, ℕ, List, [], ◌∷◌, ◌++◌, Option, option_map, length, IfOk, All};
+ghost use Rattle.std.specs.Prelude.{◌≡◌, ◌+◌, ◌*◌, ◌<◌, ℕ, List, [], ◌∷◌, ◌++◌, Option, length, IfOk, All};
 ghost use Rattle.typed_core.specs.Widths.{register_widths};
 ghost use Rattle.typed_core.specs.declared.access.Event.{Event};
 ghost use Rattle.attempt_log.specs.Firsts.{access_of, clash_of, earlier_of, in_the_way, noted, noted_all, place_of, row, earliest_below};

@@ -1,5 +1,5 @@
 // The values of lines in a step.
-ghost use Rattle.std.specs.Prelude.{◌≡◌, ℕ, Bool, true, None, Some, nat_eq, IfOk, IfSome, OnOk, unwrap_or};
+ghost use Rattle.std.specs.Prelude.{◌≡◌, ℕ, Bool, true, None, Some, nat_eq, IfOk, IfSome, OnOk};
 ghost use Rattle.std.specs.List.{zip};
 ghost use Rattle.std.specs.Map.{lookup};
 ghost use Rattle.kw_bits.specs.BitVector.{BitVector};

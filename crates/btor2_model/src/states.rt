@@ -1,5 +1,5 @@
 // The values of states, before all steps and behind one.
-ghost use Rattle.std.specs.Prelude.{◌≡◌, ℕ, None, Some, nat_eq, IfOk, IfSome, option_map, unwrap_or};
+ghost use Rattle.std.specs.Prelude.{◌≡◌, ℕ, None, Some, IfOk, IfSome, option_map, unwrap_or};
 ghost use Rattle.kw_bits.specs.BitVector.{BitVector, zero_at};
 ghost use Rattle.btor2_model.specs.Acceptance as acceptance;
 ghost use Rattle.btor2_model.specs.Known.{scope_of};

@@ -1,5 +1,5 @@
 // The nodes of a text's lines.
-ghost use Rattle.std.specs.Prelude.{◌≡◌, [], cond, nat_eq, length, ◌+◌, ◌<◌, ◌≤◌, ◌^◌, IfOk, IfSome, OnOk, None, Some, slice_get, true};
+ghost use Rattle.std.specs.Prelude.{◌≡◌, [], cond, nat_eq, length, ◌+◌, ◌<◌, ◌≤◌, ◌^◌, IfOk, IfSome, OnOk, None, Some, true};
 ghost use Rattle.std.specs.Map.{update};
 ghost use Rattle.net_graph.specs.Nets.{IsNet, Stands, widths_of};
 ghost use Rattle.btor2_text.specs.Printable.{ArePrintable};

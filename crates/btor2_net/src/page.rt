@@ -1,4 +1,4 @@
-ghost use Rattle.std.specs.Prelude.{◌≡◌, ◌∷◌, ◌++◌, ◌<◌, ◌^◌, [], IfOk, OnOk, None, length, map, decimal};
+ghost use Rattle.std.specs.Prelude.{◌≡◌, ◌∷◌, ◌++◌, ◌<◌, ◌^◌, [], IfOk, OnOk, None, length, map};
 ghost use Rattle.btor2_text.specs.declared.line.Argument.TheVariants as arguments;
 ghost use Rattle.btor2_net.specs.PageFields.{page_of};
 ghost use Rattle.btor2_net.specs.Pages as pages;

@@ -1,5 +1,5 @@
 // The wires of a text's inputs, states and outputs.
-ghost use Rattle.std.specs.Prelude.{◌≡◌, ◌<◌, ◌≤◌, IfOk, IfSome, Some, length, map, ℕ};
+ghost use Rattle.std.specs.Prelude.{◌≡◌, ◌<◌, IfOk, Some, length, map, ℕ};
 ghost use Rattle.net_graph.specs.Laws.{Feeds};
 ghost use Rattle.net_graph.specs.Values.{values_of};
 ghost use Rattle.btor2_model.specs.Rules.{is_input, is_output, is_state};

@@ -1,4 +1,4 @@
-ghost use Rattle.std.specs.Prelude.{◌≡◌, ◌≢◌, ◌++◌, ◌∷◌, [], IfSome, IfNone};
+ghost use Rattle.std.specs.Prelude.{◌≡◌, ◌++◌, ◌∷◌, [], IfSome, IfNone};
 ghost use Rattle.std.specs.List.{AllPass, before_first};
 ghost use Rattle.btor2_text.specs.Cut.{begins_comment, lines_of, words_of};
 ghost use Rattle.btor2_text.specs.Runs.{is_of, lines_behind, StopsAt};

@@ -1,4 +1,4 @@
-ghost use Rattle.std.specs.Prelude.{◌≡◌, ◌<◌, ◌≤◌, IfOk, length, All};
+ghost use Rattle.std.specs.Prelude.{◌≡◌, ◌<◌, IfOk, length, All};
 ghost use Rattle.net_graph.specs.Nets.{widths_of};
 ghost use Rattle.circuit_eval.specs.Circuits.{AreBits, input_widths, IsOutput, state_widths};
 ghost use Rattle.circuit_eval.specs.Run.{first_states, next_states, outputs_in, zero_outputs};

@@ -1,6 +1,3 @@
-ghost use Rattle.std.specs.Prelude.{◌≡◌, ◌↔◌, IsSome, IfSome};
-ghost use Rattle.kw_bits.specs.Host as host;
-
 use crate::binary::Binary;
 use crate::unary::Unary;
 

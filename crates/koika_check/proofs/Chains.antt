@@ -4,7 +4,7 @@ use Rattle.std.proofs.lemmas.List.{map-append}
 use Rattle.koika_syntax.specs.declared.operator.BinaryOperator.{BinaryOperator}
 use Rattle.koika_syntax.specs.declared.tree.Operand.{Operand, out-Operand}
 use Rattle.koika_check.specs.Checking.{IsChecker, IsPart, IsTyping, Yields, arrays_of, scope_of, typing_of}
-use Rattle.koika_check.specs.Constructs.{Joined, chained, join, typed_of}
+use Rattle.koika_check.specs.Constructs.{Joined, chained, join}
 use Rattle.koika_check.specs.Constructs as constructs
 use Rattle.koika_check.specs.Expressions.{chain_in, expression_in, join_in, operand_in}
 use Rattle.koika_check.specs.Operators.{operated}

@@ -4,8 +4,7 @@ ghost use Rattle.koika_check.specs.Checking.{AreGiven, Checks, IsChecker, IsGive
 ghost use Rattle.koika_check.specs.Composites as types;
 ghost use Rattle.koika_check.specs.Outcomes.{Tells, earlier, holds, wrong};
 ghost use Rattle.koika_check.specs.Shapes.{AreArrays, IsShapeIf, part_of, type_if};
-ghost use Rattle.koika_check.specs.Types.{Part as Parted, each};
-ghost use Rattle.koika_check.specs.declared.agreement.Part.{Part as Counted};
+ghost use Rattle.koika_check.specs.Types.{each};
 ghost use Rattle.koika_check.specs.declared.composites.Given.{Given as Giving};
 ghost use Rattle.koika_check.specs.declared.typed.ValueType.{ValueType};
 ghost use Rattle.std.specs.Prelude.{nat_le};

@@ -1,4 +1,4 @@
-ghost use Rattle.std.specs.Prelude.{◌≡◌, ◌+◌, ◌^◌, ◌≤◌, List, map, min, length, slice_get, IfOk};
+ghost use Rattle.std.specs.Prelude.{◌≡◌, ◌+◌, ◌^◌, ◌≤◌, List, map, min, slice_get, IfOk};
 ghost use Rattle.koika_check.specs.Capped as counts;
 ghost use Rattle.koika_check.specs.Sizes as sizes;
 

@@ -1,4 +1,4 @@
-ghost use Rattle.std.specs.Prelude.{◌≡◌, ◌<◌, ◌≤◌, ◌++◌, ◌∷◌, [], false, length, take, IfOk, OnOk};
+ghost use Rattle.std.specs.Prelude.{◌≡◌, ◌<◌, ◌++◌, ◌∷◌, [], false, length, take, IfOk, OnOk};
 ghost use Rattle.koika_check.specs.Paths.{IsPath};
 ghost use Rattle.koika_check.specs.Schedule.{is_on};
 

@@ -1,5 +1,4 @@
-ghost use Rattle.std.specs.Prelude.{◌≡◌, ◌-◌, ◌≤◌, List, IfOk};
-ghost use Rattle.kw_bits.specs.BitVector.{BitVector};
+ghost use Rattle.std.specs.Prelude.{◌-◌, ◌≤◌, IfOk};
 ghost use Rattle.koika_lower.specs.Actions.{ComesTo};
 ghost use Rattle.koika_lower.specs.Applied.{IsBound, StackFits, names_stacked};
 ghost use Rattle.typed_core.specs.Evaluation.{comes_to};

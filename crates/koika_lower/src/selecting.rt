@@ -1,4 +1,3 @@
-ghost use Rattle.std.specs.List.{AllByRecursion};
 ghost use Rattle.std.specs.Prelude.{◌≡◌, ◌+◌, ◌≤◌, IfOk};
 ghost use Rattle.koika_lower.specs.Applied.{AllFit, IsReplaced, IsSelected, IsWithHigh, IsWithLow, SelectionFits, lowest_bit, lowest_of_all, part_width, range_at, width_of_all};
 

@@ -1,4 +1,4 @@
-ghost use Rattle.std.specs.Prelude.{◌≡◌, map};
+ghost use Rattle.std.specs.Prelude.{◌≡◌};
 ghost use Rattle.koika_check.specs.Types as types;
 ghost use Rattle.koika_check.specs.Typing.{IsType};
 

@@ -1,15 +1,14 @@
 -- The tokens of a text have one fault at most, and none where a design with few open brackets has them.
-use Rattle.std.proofs.Common.{◌≡◌, ℕ, ◌<◌, ◌≤◌, List, [], ◌∷◌, ◌++◌, map, drop, append_assoc, append-nil, inl, inr, refl, sym, ap, ◌∙◌, subst, arith}
+use Rattle.std.proofs.Common.{◌≡◌, ℕ, ◌≤◌, List, [], ◌∷◌, ◌++◌, map, append_assoc, append-nil, inl, inr, refl, sym, ap, ◌∙◌, subst, arith}
 use Rattle.std.specs.Prelude.{◌⊎◌}
 use Rattle.std.proofs.lemmas.List.{map-append}
 use Rattle.kw_base.specs.Fault.{fault_at}
 use Rattle.kw_base.specs.declared.fault.Fault.{Fault}
-use Rattle.koika_syntax.specs.Grammar.{Derives, tree_leaves}
-use Rattle.koika_syntax.specs.Tree.{Leaf, terminal_of}
+use Rattle.koika_syntax.specs.Grammar.{tree_leaves}
+use Rattle.koika_syntax.specs.Tree.{terminal_of}
 use Rattle.koika_syntax.specs.declared.token.Token.{Token}
-use Rattle.koika_syntax.specs.declared.tree.Tree.{Tree}
 use Rattle.koika_parse.specs.Brackets.{AreFewOpen, open_behind, open_behind_all}
-use Rattle.koika_parse.specs.Faults.{Begins, BeginsWith, design_terminals, GoesOn, NoneGoesOn, OpensTooMany, place_behind, seen, StandsBetween}
+use Rattle.koika_parse.specs.Faults.{Begins, design_terminals, GoesOn, NoneGoesOn, OpensTooMany, place_behind, seen, StandsBetween}
 use Rattle.koika_parse.specs.Laws.{OneFault, NoFault}
 use Rattle.koika_parse.proofs.Seen.{few_seen, same_head, same_tail, zip_terminals}
 

@@ -1,6 +1,6 @@
-ghost use Rattle.std.specs.Prelude.{◌++◌, All, IfOk, map};
-ghost use Rattle.koika_syntax.specs.Grammar.{IsConstant, IsLiteral, IsName, IsNonempty, constant_field_leaves, constant_leaves, struct_leaves};
-ghost use Rattle.koika_syntax.specs.Tree.{commas, literal_leaves, name_leaves, sign};
+ghost use Rattle.std.specs.Prelude.{All, IfOk, map};
+ghost use Rattle.koika_syntax.specs.Grammar.{IsConstant, IsLiteral, IsNonempty, constant_field_leaves, constant_leaves};
+ghost use Rattle.koika_syntax.specs.Tree.{commas, literal_leaves, sign};
 ghost use Rattle.koika_syntax.specs.declared.symbol.Symbol.TheVariants as symbols;
 ghost use Rattle.koika_parse.specs.Expected.{Any, Commas, InVector, NoComma, Part, Takes};
 ghost use Rattle.koika_parse.specs.Reading.{Reads};

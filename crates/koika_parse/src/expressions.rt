@@ -1,4 +1,4 @@
-ghost use Rattle.std.specs.Prelude.{ℕ, ◌+◌, ◌≡◌, ◌≢◌, ◌<◌, ◌≤◌, ◌↔◌, ◌++◌, All, IfNone, IfOk, IsTrue, OnOk, IfSome, Some, map};
+ghost use Rattle.std.specs.Prelude.{◌+◌, ◌≡◌, ◌≢◌, ◌<◌, ◌≤◌, ◌↔◌, ◌++◌, All, IfNone, IfOk, IsTrue, OnOk, IfSome, Some, map};
 ghost use Rattle.koika_syntax.specs.Grammar.{IsBlock, IsExpression, IsNonempty, arm_leaves, block_leaves, expression_leaves, last_leaves, level, level_of, operand_leaves, statement_leaves};
 ghost use Rattle.koika_syntax.specs.Tree.{all_of, binary_symbol, sign, symbol};
 ghost use Rattle.koika_syntax.specs.declared.operator.BinaryOperator.{BinaryOperator};

@@ -1,4 +1,4 @@
-ghost use Rattle.std.specs.Prelude.{◌≡◌, ◌≢◌, ◌<◌, ◌↔◌, ◌++◌, All, IfNone, IfOk, IfSome, IsTrue, OnOk, Some, map};
+ghost use Rattle.std.specs.Prelude.{◌≡◌, ◌≢◌, ◌<◌, ◌↔◌, All, IfNone, IfOk, IfSome, IsTrue, OnOk, Some, map};
 ghost use Rattle.std.specs.List.{flat_map};
 ghost use Rattle.koika_syntax.specs.Grammar.{IsExpression, IsNonempty, IsPart, IsSuffix, expression_leaves, field_value_leaves, level, part_leaves, prefix_leaves, suffix_leaves};
 ghost use Rattle.koika_syntax.specs.Tree.{commas, keyword, read_word, symbol, unary_symbol, write_word};

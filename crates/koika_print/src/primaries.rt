@@ -1,4 +1,4 @@
-ghost use Rattle.std.specs.Prelude.{ℕ, ◌≡◌, OnOk, [], ◌∷◌, ◌++◌};
+ghost use Rattle.std.specs.Prelude.{◌≡◌, OnOk, [], ◌∷◌, ◌++◌};
 ghost use Rattle.std.specs.List.{flat_map};
 ghost use Rattle.koika_syntax.specs.Grammar.{call_leaves, expression_leaves, part_leaves, prefix_leaves, suffix_leaves, type_leaves};
 ghost use Rattle.koika_syntax.specs.Tree.{extension_word, name_leaves, number_leaves, read_word, sign, word, write_word};

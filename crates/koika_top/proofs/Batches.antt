@@ -7,7 +7,7 @@ use Rattle.std.specs.Io.KnownBytes.{Appends}
 use Rattle.kw_bits.specs.BitVector.{BitVector}
 use Rattle.kw_io.specs.Faults.{Rose}
 use Rattle.one_rule.specs.Cycle.{System}
-use Rattle.one_rule.specs.Run.{InputsByCycle, last_registers, opening, rows_after, run}
+use Rattle.one_rule.specs.Run.{InputsByCycle, last_registers, run}
 use Rattle.one_rule.specs.declared.rows.Row.{Row}
 use Rattle.one_rule.proofs.Runs.{rows_are_cycles, runs_in_parts}
 use Rattle.stim_report.specs.Batches.{joined, last_cycle}

@@ -1,6 +1,5 @@
 -- A circuit that was printed and read again is still the design's, and what is told of its rows is what is told of the design's.
-use Rattle.std.proofs.Common.{◌≡◌, ℕ, suc, List, [], ◌∷◌, length, map, filter, refl, sym, ap, ap₂, subst, ◌∙◌, Option, None, Result, Ok}
-use Rattle.std.specs.List.{AllByRecursion}
+use Rattle.std.proofs.Common.{◌≡◌, ℕ, suc, List, [], ◌∷◌, length, map, filter, refl, sym, ap, ap₂, subst, ◌∙◌, None, Result, Ok}
 use Rattle.std.proofs.lemmas.List.{length-map}
 use Rattle.kw_base.specs.Fault.{IfFault, IsOkUnlessNoMemory}
 use Rattle.kw_base.specs.declared.fault.Refusal.{Refusal}
@@ -10,7 +9,6 @@ use Rattle.one_rule.specs.declared.rows.Row.{Row}
 use Rattle.typed_core.specs.Widths.{HaveWidths}
 use Rattle.circuit_eval.specs.Run as wired
 use Rattle.circuit_eval.specs.declared.circuit.OutputWire.{OutputWire}
-use Rattle.circuit_eval.specs.declared.circuit.StateWire.{StateWire}
 use Rattle.circuit_eval.specs.declared.circuit.Wires.{Wires}
 use Rattle.btor2_text.specs.Printable.{ArePrintable, numbered_from}
 use Rattle.btor2_text.specs.Reading.{AreLinesOf}
@@ -19,7 +17,7 @@ use Rattle.btor2_model.specs.Acceptance.{IsAccepted, first_fault}
 use Rattle.btor2_net.specs.Translations as translation
 use Rattle.btor2_net.specs.Translations.{HasLines}
 use Rattle.stim_report.specs.Shapes as told
-use Rattle.stim_report.specs.Shapes.{RowFits, RowsFit}
+use Rattle.stim_report.specs.Shapes.{RowsFit}
 use Rattle.stim_report.specs.declared.shape.NameWidth.{NameWidth}
 use Rattle.stim_report.specs.declared.shape.Shape.{Shape}
 use Rattle.koika_check.specs.declared.checked.Checked.{Checked}
@@ -29,7 +27,7 @@ use Rattle.koika_top.specs.Compile.{AreCircuitOf, IsStimulusFor}
 use Rattle.koika_top.specs.Sim.{Marks, marks_of, text_of_rows}
 use Rattle.koika_top.specs.Sources as sources
 use Rattle.koika_top.specs.Systems as typed
-use Rattle.koika_top.specs.Telling.{HasRows, marks_in, shown_by}
+use Rattle.koika_top.specs.Telling.{HasRows, marks_in}
 use Rattle.koika_top.specs.Wired.{IsWiredAs}
 use Rattle.koika_top.specs.declared.shown.Shown.{Shown}
 use Rattle.koika_top.specs.declared.teller.Teller.{Teller}

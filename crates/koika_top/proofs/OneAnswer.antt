@@ -1,11 +1,11 @@
 -- Words and a source have one answer, by its status and its text.
-use Rattle.std.proofs.Common.{◌≡◌, ℕ, ◌<◌, ◌≤◌, inl, inr, true, false, List, length, map, Option, Some, None, Result, Ok, Err, refl, sym, ap, subst, ◌∙◌, arith}
+use Rattle.std.proofs.Common.{◌≡◌, ℕ, ◌<◌, ◌≤◌, inl, inr, true, false, List, length, Option, Some, None, refl, sym, ap, subst, ◌∙◌, arith}
 use Rattle.std.specs.Prelude.{MatchOption}
 use Rattle.std.proofs.lemmas.Bool.{false≢true}
 use Rattle.kw_base.specs.Fault.{fault_at}
 use Rattle.kw_base.specs.Place.{place_at}
 use Rattle.kw_base.specs.declared.fault.Fault.{Fault}
-use Rattle.koika_syntax.specs.Grammar.{Derives, tree_leaves}
+use Rattle.koika_syntax.specs.Grammar.{Derives}
 use Rattle.koika_syntax.specs.Tokens.{AreTokensOf}
 use Rattle.koika_syntax.specs.declared.token.Token.{Token}
 use Rattle.koika_syntax.specs.declared.tree.Tree.{Tree}
@@ -23,10 +23,9 @@ use Rattle.one_rule.specs.Stimulus.{InputVectors, inputs_of}
 use Rattle.typed_core.specs.declared.design.HostSpec.{HostSpec}
 use Rattle.koika_top.specs.Answer.{Answers, IsAnswer, IsLikeAnswer, IsSameAnswer, has_one_text, status_of, text_of}
 use Rattle.koika_top.specs.Compile.{AnswersCompile, ShowsCircuit}
-use Rattle.koika_top.specs.Generator.{pipeline}
 use Rattle.koika_top.specs.Reads.{AnswersCheck, AnswersPrint, ShowsTree, TellsCounts, counts_line}
-use Rattle.koika_top.specs.Sim.{AnswersSim, HasNoRun, RunsTooLong, ShowsRun, is_too_long, marks_of, text_of_rows}
-use Rattle.koika_top.specs.Sources.{HasNoDesign, HasNoStimulus, HasNoTokens, HasNoTree, IsIllTyped, IsTooLong, IsUnread, IsUnspelled, Spells, SpellsDesign, SpellsTree, design_part, longest_source, shape_of, stimulus_in}
+use Rattle.koika_top.specs.Sim.{AnswersSim, HasNoRun, ShowsRun, is_too_long, marks_of, text_of_rows}
+use Rattle.koika_top.specs.Sources.{HasNoTree, IsIllTyped, IsTooLong, IsUnread, IsUnspelled, Spells, SpellsDesign, SpellsTree, design_part, longest_source, shape_of, stimulus_in}
 use Rattle.koika_top.specs.Systems.{run_of}
 use Rattle.koika_top.specs.Words.{command_of}
 use Rattle.koika_top.specs.declared.answer.Answer.{Answer}

@@ -12,7 +12,7 @@ ghost use Rattle.typed_core.specs.Valid.{IsValid, externs_of};
 ghost use Rattle.typed_core.specs.Widths.{HaveWidths, register_widths};
 ghost use Rattle.koika_top.specs.Answer.{AppendsFront};
 ghost use Rattle.koika_top.specs.PlainNames.{HasPlainNames};
-ghost use Rattle.koika_top.specs.Sim.{HasNoRun, Marks, is_too_long, marks_of, text_of_rows};
+ghost use Rattle.koika_top.specs.Sim.{HasNoRun, is_too_long, marks_of, text_of_rows};
 ghost use Rattle.koika_top.specs.Sources.{Spells, longest_source, shape_of};
 ghost use Rattle.koika_top.specs.Systems as typed;
 ghost use Rattle.koika_top.specs.Telling.{GoesOnFrom, HasRows, TakesRows, part_of_batch, shown_by};

@@ -3,7 +3,7 @@ ghost use Rattle.std.specs.List.{list_all};
 ghost use Rattle.std.specs.Char.{IsAsciiDigit, is_ascii_digit};
 ghost use Rattle.koika_top.specs.Steps.{HasFewStages};
 ghost use Rattle.koika_top.specs.Answer.{is_of_source, longest_of};
-ghost use Rattle.koika_top.specs.Words.{alone_of, are_few_digits, btorsim_of, command_of, engine_of, gen_by, gen_of, no_options, number_of, options_of, put_number, sim_of, value_of, with_cycles, with_engine, with_summary, with_word};
+ghost use Rattle.koika_top.specs.Words.{alone_of, are_few_digits, btorsim_of, command_of, engine_of, gen_by, gen_of, number_of, options_of, sim_of, value_of, with_cycles, with_engine, with_summary, with_word};
 
 use crate::engine_kind::EngineKind;
 use crate::given::{read_options, read_stages};

@@ -1,4 +1,4 @@
-ghost use Rattle.std.specs.Prelude.{◌≡◌, ◌*◌, ◌+◌, ◌<◌, ◌≤◌, drop, length, position, slice_index, map};
+ghost use Rattle.std.specs.Prelude.{◌≡◌, ◌*◌, ◌+◌, ◌<◌, ◌≤◌, drop, length, position};
 ghost use Rattle.std.specs.Str.{bytes_eq};
 ghost use Rattle.koika_types.specs.Types.{IsType, fields_of, total_width, width};
 ghost use Rattle.koika_types.specs.declared.ty.Ty.{Struct};

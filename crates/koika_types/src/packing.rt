@@ -1,4 +1,4 @@
-ghost use Rattle.std.specs.Prelude.{◌≡◌, ◌+◌, ◌-◌, ◌*◌, ◌<◌, ◌≤◌, All, IfOk, length, map};
+ghost use Rattle.std.specs.Prelude.{◌≡◌, ◌-◌, ◌*◌, map};
 ghost use Rattle.koika_types.specs.Types.{IsType, width};
 ghost use Rattle.koika_types.specs.Values.{AreParts, IsOf, IsValue, packed, stacked, stacked_up};
 

@@ -1,4 +1,4 @@
-ghost use Rattle.std.specs.Prelude.{◌≡◌, ◌+◌, ◌^◌, ◌<◌, ◌≤◌, ◌↔◌, min, All, IsTrue, OnOk, OnErr, IfOk, [], ◌∷◌, ◌++◌, length, map, slice_get};
+ghost use Rattle.std.specs.Prelude.{◌≡◌, ◌+◌, ◌<◌, min, OnOk, OnErr, [], ◌∷◌, ◌++◌, length};
 ghost use Rattle.koika_types.specs.Types.{AreTypes, IsEnum, IsTable, IsType, IsWidth, struct_of, width, total_width};
 
 use crate::declarations::{Declarations, EnumDecl, Field, StructDecl};

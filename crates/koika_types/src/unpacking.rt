@@ -1,4 +1,4 @@
-ghost use Rattle.std.specs.Prelude.{◌≡◌, ◌*◌, ◌≤◌, IfOk, map, replicate};
+ghost use Rattle.std.specs.Prelude.{◌≡◌, ◌*◌, IfOk, map, replicate};
 ghost use Rattle.kw_bits.specs.Laws.{HasWidth};
 ghost use Rattle.koika_types.specs.Types.{IsType, width};
 ghost use Rattle.koika_types.specs.Values.{AreFields, IsOf, Pairwise, packed, stacked, stacked_up};

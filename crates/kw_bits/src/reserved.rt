@@ -1,4 +1,4 @@
-ghost use Rattle.std.specs.Prelude.{◌≡◌, ◌+◌, ◌<◌, ◌≤◌, ◌^◌, List, [], ◌∷◌, ◌++◌, length, slice_index_or, slice_set, vec_capacity, IfOk, IsTrue, ◌↔◌};
+ghost use Rattle.std.specs.Prelude.{◌≡◌, ◌+◌, ◌<◌, ◌≤◌, ◌^◌, [], ◌∷◌, ◌++◌, length, slice_index_or, slice_set, vec_capacity, IfOk, IsTrue, ◌↔◌};
 ghost use Rattle.std.specs.Iterator.Adapters.{IterYieldsInOrder};
 ghost use Rattle.std.specs.Iterator.Runs.{EveryRun, ItemsMapTo};
 ghost use Rattle.std.specs.Slice.Iter.{iter_rest, iter_steps};

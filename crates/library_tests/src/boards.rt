@@ -1,5 +1,5 @@
 // Boards of a small design: one interleaving event by event, guesses that go stale, and lists of events drawn at random.
-ghost use Rattle.std.specs.Prelude.{◌≡◌, ◌<◌, ◌≤◌, [], IfOk, length};
+ghost use Rattle.std.specs.Prelude.{◌≡◌, ◌<◌, ◌≤◌, [], IfOk};
 ghost use Rattle.std.specs.Arc.{arc_value};
 ghost use Rattle.typed_core.specs.Valid.{externs_of};
 ghost use Rattle.one_rule.specs.Externs.{kept};

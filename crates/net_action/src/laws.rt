@@ -1,5 +1,5 @@
 // A law of values of nets is the contract of a function that does nothing.
-ghost use Rattle.std.specs.Prelude.{◌≡◌, ◌++◌, List};
+ghost use Rattle.std.specs.Prelude.{◌++◌, List};
 ghost use Rattle.net_graph.specs.Laws.{Feeds};
 ghost use Rattle.net_graph.specs.Nets.{IsNet};
 ghost use Rattle.net_graph.specs.Values.{Sources, values_of};

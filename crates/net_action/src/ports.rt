@@ -1,5 +1,5 @@
 // Reads and writes at ports as wires. What isn't refused is noted where the rule still runs.
-ghost use Rattle.std.specs.Prelude.{◌≡◌, ◌+◌, ◌*◌, ◌&&◌, ◌||◌, ◌<◌, ◌≤◌, ◌↔◌, ◌^◌, ℕ, List, Bool, false, true, IfOk, Some, not, length, slice_get, slice_index_or, None, if◌then◌else◌};
+ghost use Rattle.std.specs.Prelude.{◌≡◌, ◌+◌, ◌*◌, ◌||◌, ◌<◌, ◌≤◌, ◌↔◌, ℕ, List, false, true, IfOk, Some, length, slice_get, slice_index_or, None, if◌then◌else◌};
 ghost use Rattle.kw_bits.specs.BitVector.{BitVector};
 ghost use Rattle.net_graph.specs.Values.{Sources, value_at};
 ghost use Rattle.typed_core.specs.Alone.{is_refused, seen};

@@ -1,4 +1,4 @@
-ghost use Rattle.std.specs.Prelude.{◌≡◌, ◌<◌, ◌≤◌, ◌↔◌, length, [], IfOk, IsTrue, OnErr, slice_index_or};
+ghost use Rattle.std.specs.Prelude.{◌≡◌, ◌<◌, ◌≤◌, ◌↔◌, length, [], IfOk, IsTrue, OnErr};
 ghost use Rattle.net_graph.specs.Nets.{Adds, IsNet, Stands, width_at, widths_of};
 
 use crate::node::{NetId, NetOp};

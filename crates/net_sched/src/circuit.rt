@@ -1,4 +1,4 @@
-ghost use Rattle.std.specs.Prelude.{◌≡◌, All, IfOk, List, ℕ, length, map};
+ghost use Rattle.std.specs.Prelude.{◌≡◌, All, IfOk, length, map};
 ghost use Rattle.kw_bits.specs.Laws.{HasWidth};
 ghost use Rattle.typed_core.specs.Valid.{IsRegister, IsWidth, externs_of};
 ghost use Rattle.typed_core.specs.declared.design.InputDecl.{InputDecl};

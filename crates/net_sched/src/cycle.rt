@@ -1,6 +1,6 @@
 // The walk of a cycle as wires. Nodes are passed in order of their numbers, as the walk visits them, so one scheduler log
 // serves them all: what a rule does joins it where the walk visits the rule's node and the rule fires.
-ghost use Rattle.std.specs.Prelude.{◌≡◌, ◌+◌, ◌*◌, ◌<◌, ◌≤◌, ℕ, List, IfOk, Some, length, replicate, slice_get, slice_set};
+ghost use Rattle.std.specs.Prelude.{◌≡◌, ◌+◌, ◌*◌, ◌<◌, ◌≤◌, ℕ, List, IfOk, length, replicate, slice_set};
 ghost use Rattle.kw_bits.specs.BitVector.{BitVector};
 ghost use Rattle.net_graph.specs.Values.{Sources};
 ghost use Rattle.typed_core.specs.Valid.{IsNode, IsPort, externs_of};

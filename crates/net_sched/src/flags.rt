@@ -1,5 +1,5 @@
 // Lists of wires of one bit.
-ghost use Rattle.std.specs.Prelude.{◌≡◌, ◌<◌, ◌==◌, ◌&&◌, ◌||◌, ℕ, List, IfOk, length, replicate, slice_set};
+ghost use Rattle.std.specs.Prelude.{◌≡◌, ◌<◌, ◌==◌, ◌&&◌, ◌||◌, ℕ, List, IfOk, length, replicate};
 ghost use Rattle.kw_bits.specs.BitVector.{BitVector};
 ghost use Rattle.net_graph.specs.Values.{Sources};
 ghost use Rattle.one_rule.specs.Walk.{is_at};

@@ -1,5 +1,5 @@
 // What a rule's log leaves in the scheduler log. Where the rule makes no access at a port, nothing is added.
-ghost use Rattle.std.specs.Prelude.{◌≡◌, ◌+◌, ◌*◌, ◌<◌, ◌&&◌, ◌||◌, ℕ, List, false, IfOk, IsTrue, length, slice_get, Some, if◌then◌else◌};
+ghost use Rattle.std.specs.Prelude.{◌≡◌, ◌*◌, ◌<◌, ◌&&◌, ◌||◌, ℕ, List, false, IfOk, IsTrue, length, if◌then◌else◌};
 ghost use Rattle.kw_bits.specs.BitVector.{BitVector};
 ghost use Rattle.net_graph.specs.Values.{Sources, value_at};
 ghost use Rattle.typed_core.specs.Widths.{register_widths};

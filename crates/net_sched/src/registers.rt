@@ -1,8 +1,8 @@
 // The wires of registers: their values at the start of a cycle, and those at its end.
-ghost use Rattle.std.specs.Prelude.{◌≡◌, ◌+◌, ◌*◌, ◌<◌, ◌^◌, ℕ, List, [], All, IfOk, Some, length, map, slice_get, slice_index_or, if◌then◌else◌};
+ghost use Rattle.std.specs.Prelude.{◌≡◌, ◌+◌, ◌*◌, ◌<◌, ◌^◌, ℕ, List, [], All, IfOk, length, map, slice_index_or, if◌then◌else◌};
 ghost use Rattle.kw_bits.specs.BitVector.{BitVector};
 ghost use Rattle.net_graph.specs.Values.{AllRead, Sources, value_at};
-ghost use Rattle.typed_core.specs.Alone.{after, seen};
+ghost use Rattle.typed_core.specs.Alone.{seen};
 ghost use Rattle.typed_core.specs.Evaluation.{unit};
 ghost use Rattle.typed_core.specs.Valid.{IsPort, IsRegister};
 ghost use Rattle.typed_core.specs.Widths.{register_widths};

@@ -1,5 +1,5 @@
 // One node of the scheduler as wires.
-ghost use Rattle.std.specs.Prelude.{◌≡◌, ◌<◌, ℕ, List, IfOk, length};
+ghost use Rattle.std.specs.Prelude.{◌≡◌, ◌<◌, List, IfOk, length};
 ghost use Rattle.kw_bits.specs.BitVector.{BitVector};
 ghost use Rattle.net_graph.specs.Values.{Sources};
 ghost use Rattle.typed_core.specs.Valid.{externs_of};

@@ -1,7 +1,7 @@
 // What an operator on two nodes comes to by what is known of them, whatever the net.
-ghost use Rattle.std.specs.Prelude.{◌≡◌, false, IsTrue};
+ghost use Rattle.std.specs.Prelude.{IsTrue};
 ghost use Rattle.net_simplify.specs.Identities.{HoldsOf, IsAsWide, IsNeverBelow, LeavesOnly};
-ghost use Rattle.net_graph.specs.declared.node.NetTwo.TheVariants.{And, Or, Xor, Add, Sub, Mul, EqBits, Neq, Iff};
+ghost use Rattle.net_graph.specs.declared.node.NetTwo.TheVariants.{And, Or, Xor, Add, Sub, Mul, EqBits, Neq};
 
 use crate::known::Known;
 use net_graph::NetTwo;

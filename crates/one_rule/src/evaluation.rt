@@ -1,7 +1,7 @@
 ghost use Rattle.std.specs.Prelude.{◌≡◌, ◌<◌, ℕ, List, length, slice_get, Some};
 ghost use Rattle.kw_bits.specs.BitVector.{BitVector};
 ghost use Rattle.typed_core.specs.Evaluation as core;
-ghost use Rattle.typed_core.specs.Fits.{CanBeOperand, CanEvaluate, EnvironmentFits, EventsFit, PortsFit};
+ghost use Rattle.typed_core.specs.Fits.{CanEvaluate, EnvironmentFits, EventsFit, PortsFit};
 ghost use Rattle.typed_core.specs.Valid.{HostHasWidth, IsPort, TableHasWidth};
 ghost use Rattle.typed_core.specs.declared.access.Event.{Event};
 ghost use Rattle.typed_core.specs.declared.outcome.Stopped.{Stopped};

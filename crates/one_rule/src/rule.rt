@@ -1,9 +1,9 @@
-ghost use Rattle.std.specs.Prelude.{◌≡◌, ◌<◌, ℕ, [], ◌++◌, ◌∷◌, IfOk, List, length, map, slice_get, Some};
+ghost use Rattle.std.specs.Prelude.{◌≡◌, ◌<◌, [], ◌∷◌, IfOk, List, length, map};
 ghost use Rattle.kw_bits.specs.BitVector.{BitVector};
 ghost use Rattle.typed_core.specs.Alone.{alone_ports, is_refused, is_write_below, outcome_of, seen};
 ghost use Rattle.typed_core.specs.Evaluation.{Progress};
 ghost use Rattle.typed_core.specs.Fits.{EventsFit};
-ghost use Rattle.typed_core.specs.Valid.{externs_of, IsPort};
+ghost use Rattle.typed_core.specs.Valid.{externs_of};
 ghost use Rattle.typed_core.specs.Widths.{HaveWidths, input_widths, register_widths};
 ghost use Rattle.typed_core.specs.declared.access.Event.{Event};
 ghost use Rattle.typed_core.specs.declared.outcome.Stopped.{Stopped};

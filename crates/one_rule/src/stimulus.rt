@@ -1,4 +1,4 @@
-ghost use Rattle.std.specs.Prelude.{◌≡◌, ℕ, ◌-◌, ◌++◌, ◌∷◌, [], All, IsTrue, ◌↔◌, IfOk, OnOk, OnErr};
+ghost use Rattle.std.specs.Prelude.{◌≡◌, ◌-◌, ◌++◌, ◌∷◌, [], All, IsTrue, ◌↔◌, IfOk, OnOk, OnErr};
 ghost use Rattle.typed_core.specs.Valid.{IsWidth};
 ghost use Rattle.one_rule.specs.KeptLines.{IsKeptLine};
 ghost use Rattle.typed_core.specs.Widths.{HaveWidths};

@@ -1,7 +1,6 @@
 ghost use Rattle.std.specs.Prelude.{◌≡◌, ◌≢◌, ◌+◌, ◌*◌, ◌<◌, ◌≤◌, ℕ, List, Bool, true, false, [], ◌∷◌, ◌++◌, ◌&&◌, ◌||◌, ◌==◌, not, length, replicate, slice_set, slice_index_or, IfOk, if◌then◌else◌, All, ◌^◌};
 ghost use Rattle.std.specs.List.{list_any};
 ghost use Rattle.kw_bits.specs.BitVector.{BitVector};
-ghost use Rattle.kw_bits.specs.Reserved.{ReservedList};
 ghost use Rattle.typed_core.specs.Alone.{after, is_refused, seen};
 ghost use Rattle.typed_core.specs.Fits.{EventFits};
 ghost use Rattle.typed_core.specs.Valid.{IsPort};

@@ -1,5 +1,5 @@
 // How bytes are cut into lines and words.
-ghost use Rattle.std.specs.Prelude.{◌≡◌, ◌+◌, ◌<◌, ◌++◌, ◌∷◌, [], ℕ, length, IfSome, IfNone, IsTrue};
+ghost use Rattle.std.specs.Prelude.{◌≡◌, ◌+◌, ◌<◌, ◌++◌, ◌∷◌, [], ℕ, length, IfSome, IfNone};
 ghost use Rattle.std.specs.List.{AllPass, slice_split};
 ghost use Rattle.stim_report.specs.Cuts as cuts;
 ghost use Rattle.stim_report.specs.Cuts.{ends_line, lines_of, words_from};

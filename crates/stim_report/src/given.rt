@@ -1,6 +1,5 @@
 // Which inputs a line assigns.
-ghost use Rattle.std.specs.Prelude.{◌≡◌, ◌<◌, ℕ, IfOk, [], replicate, length};
-ghost use Rattle.stim_report.specs.Assignments.{is_assigned};
+ghost use Rattle.std.specs.Prelude.{◌≡◌, ◌<◌, IfOk, [], length};
 ghost use Rattle.stim_report.specs.Given.{AreGiven};
 
 use kw_bits::{Bits, NoMemory};

@@ -1,5 +1,4 @@
-ghost use Rattle.std.specs.Prelude.{◌≡◌, ◌≤◌, ◌<◌, ◌+◌, ◌^◌, IfOk, length};
-ghost use Rattle.std.specs.List.{AllByRecursion};
+ghost use Rattle.std.specs.Prelude.{◌≡◌, ◌<◌, ◌+◌, ◌^◌, IfOk, length};
 ghost use Rattle.stim_report.specs.Pages.{Gains, HasRoom};
 ghost use Rattle.stim_report.specs.Report as texts;
 ghost use Rattle.stim_report.specs.Shapes.{RowFits, RowsFit};

@@ -1,4 +1,4 @@
-use Rattle.std.proofs.Common.{ℕ, ◌<◌, ◌^◌, List, length, sym, subst}
+use Rattle.std.proofs.Common.{◌<◌, ◌^◌, List, length, sym, subst}
 use Rattle.std.specs.Prelude.{IfOk}
 use Rattle.btor2_text.specs.Printable.{ArePrintable}
 use Rattle.btor2_text.specs.declared.line.Line.{Line}

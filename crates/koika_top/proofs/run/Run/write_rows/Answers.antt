@@ -1,4 +1,4 @@
-use Rattle.std.proofs.Common.{◌≡◌, ◌<◌, ◌≤◌, ℕ, [], refl, sym, ◌∙◌, arith}
+use Rattle.std.proofs.Common.{◌≤◌, [], refl, ◌∙◌, arith}
 use Rattle.one_rule.specs.Cycle.{system_of}
 use Rattle.one_rule.specs.Run.{first_values}
 use Rattle.one_rule.specs.Stimulus.{inputs_of}
