@@ -4,7 +4,7 @@ ghost use Rattle.action_interp.specs.ByLog.{IsRunning, ports_by, widths_of};
 
 use kw_bits::Bits;
 use one_rule::{Interrupt, Ports, Regs};
-use rule_log::{Log, may_read, may_write, seen};
+use rule_log::{Log, may_read, may_write, seen_in};
 use typed_core::{Access, Event, Stopped};
 
 /// The ports of a rule that runs behind a scheduler log, in a cycle that began on these registers, and its own log.
@@ -33,8 +33,8 @@ impl Ports for RulePorts<'_> {
         if !may_read(self.sched, port, register) {
             return Err(Interrupt::Stop(Stopped::Refused(access)));
         }
-        let start = *self.regs.get(register as usize);
-        let value = seen(&self.log, self.sched, start, port, register);
+        let start = self.regs.get(register as usize);
+        let value = *seen_in(&self.log, self.sched, start, port, register);
         self.log.note(Event { access, value });
         Ok(value)
     }

@@ -1,8 +1,8 @@
 -- What a log's flags and values say of the lists that it stands for.
 use Rattle.std.proofs.Common.{◌≡◌, ◌≢◌, ◌⊎◌, ◌↔◌, ℕ, zero, suc, ◌+◌, ◌*◌, ◌<◌, ◌≤◌, Bool, true, false, List, [], ◌∷◌, ◌++◌, length, replicate, refl, sym, ap, ap₂, ◌∙◌, inl, inr, eqb-true, eq-eqb, arith}
-use Rattle.std.specs.Prelude.{◌==◌, ◌&&◌, ◌||◌, slice_index_or, if◌then◌else◌}
+use Rattle.std.specs.Prelude.{⊤, ◌==◌, ◌&&◌, ◌||◌, slice_index_or, if◌then◌else◌}
 use Rattle.std.specs.List.{list_any}
-use Rattle.std.proofs.lemmas.Bool.{and_parts, cases_Bool, cases_eq, cases_lt, false_from_ne_true, both_ways}
+use Rattle.std.proofs.lemmas.Bool.{and_parts, or_parts, or_from, cases_Bool, cases_eq, cases_lt, false_from_ne_true, both_ways}
 use Rattle.std.proofs.lemmas.List.{same_lists, get_or-replicate, get_or_past, length-replicate}
 use Rattle.kw_bits.specs.BitVector.{BitVector}
 use Rattle.typed_core.specs.Alone.{after, is_refused, seen}
@@ -74,6 +74,69 @@ refused_by_flags widths log events s a within writes reads w r =
     (λ h at above p. s.tells.flags true at a.register p within ∙ no_writes a events h at above p)
     (λ h is at above p. s.tells.flags false at a.register p within ∙ no_reads a events is h at above p)
 
+or_none : (a : Bool) → a ≡ (a || false)
+or_none true = refl
+or_none false = refl
+
+-- none of these flags is of this kind and at such a port
+abbrev pub NoneSetIn : PortFlags → Bool → (ℕ → Type 0) → Type 0
+NoneSetIn flags write At = (at : ℕ) → At at → IsPort at → has flags write at ≡ false
+
+-- a read is refused by the writes of its register from its port on
+pub read_refused : (widths : List ℕ) (log : RegisterLog) (events : List Event) → StandsFor widths log events → (port register : ℕ) → register < registers log → (flags : PortFlags)
+    → ((write : Bool) (at : ℕ) → has flags write at ≡ is_set log write at register)
+    → (writes : Bool) → ((writes ≡ false) ↔ NoneSetIn flags true (λ at. port ≤ at))
+    → writes ≡ is_refused events (record { write = false; port = port; register = register })
+read_refused widths log events s port register within flags is writes w =
+    or_none writes
+    ∙ refused_by_tests writes false false (is_refused events access) (NoneSetIn flags true (λ at. port ≤ at)) ⊤ w (λ h. tt, λ h. refl)
+    (λ none more. unrefused widths access events s.tells.fit (λ at above p. sym (s.tells.flags true at register p declared) ∙ sym (is true at) ∙ none at above p) (λ h. absurd cc))
+    (λ h at above p. is true at ∙ s.tells.flags true at register p declared ∙ no_writes access events h at above p)
+    (λ h k. absurd cc)
+  where
+    access : Access
+    access = record { write = false; port = port; register = register }
+
+    declared : register < length widths
+    declared = omega (arith, s.count, within)
+
+-- a write is refused by two logs where the flags of both, taken together, have a write from its port on or a read above it
+pub write_refused : (widths : List ℕ) (sched rule : RegisterLog) (sched_events rule_events : List Event) → StandsFor widths sched sched_events → StandsFor widths rule rule_events
+    → (port register : ℕ) → register < registers sched → (flags : PortFlags)
+    → ((write : Bool) (at : ℕ) → has flags write at ≡ (is_set sched write at register || is_set rule write at register))
+    → (writes reads : Bool) → ((writes ≡ false) ↔ NoneSetIn flags true (λ at. port ≤ at)) → ((reads ≡ false) ↔ NoneSetIn flags false (λ at. port < at))
+    → let access : Access = record { write = true; port = port; register = register } in
+    (writes || reads) ≡ (is_refused sched_events access || is_refused rule_events access)
+write_refused widths sched rule sched_events rule_events s r port register within flags is writes reads w v =
+    refused_by_tests writes true reads (is_refused sched_events access || is_refused rule_events access) (NoneSetIn flags true (λ at. port ≤ at)) (NoneSetIn flags false (λ at. port < at)) w v
+    (λ none more.
+    or_from (is_refused sched_events access) (is_refused rule_events access)
+    (unrefused widths access sched_events s.tells.fit
+    (λ at above p. sym (s.tells.flags true at register p declared) ∙ (parts true at (none at above p)).0)
+    (λ h at above p. sym (s.tells.flags false at register p declared) ∙ (parts false at (more refl at above p)).0))
+    (unrefused widths access rule_events r.tells.fit
+    (λ at above p. sym (r.tells.flags true at register p declared) ∙ (parts true at (none at above p)).1)
+    (λ h at above p. sym (r.tells.flags false at register p declared) ∙ (parts false at (more refl at above p)).1)))
+    (λ h at above p.
+    let both = or_parts (is_refused sched_events access) (is_refused rule_events access) h in
+    is true at ∙ or_from (is_set sched true at register) (is_set rule true at register)
+    (s.tells.flags true at register p declared ∙ no_writes access sched_events both.0 at above p)
+    (r.tells.flags true at register p declared ∙ no_writes access rule_events both.1 at above p))
+    (λ h k at above p.
+    let both = or_parts (is_refused sched_events access) (is_refused rule_events access) h in
+    is false at ∙ or_from (is_set sched false at register) (is_set rule false at register)
+    (s.tells.flags false at register p declared ∙ no_reads access sched_events refl both.0 at above p)
+    (r.tells.flags false at register p declared ∙ no_reads access rule_events refl both.1 at above p))
+  where
+    access : Access
+    access = record { write = true; port = port; register = register }
+
+    declared : register < length widths
+    declared = omega (arith, s.count, within)
+
+    parts : (write : Bool) (at : ℕ) → has flags write at ≡ false → (is_set sched write at register ≡ false) × (is_set rule write at register ≡ false)
+    parts write at none = or_parts (is_set sched write at register) (is_set rule write at register) (sym (is write at) ∙ none)
+
 -- ---- logs that are joined
 
 pub stands_both : (widths : List ℕ) (old rule new : RegisterLog) → registers new ≡ registers old → ((register : ℕ) → register < registers old → JoinedAt old rule new register)
@@ -109,10 +172,6 @@ place_of_access e write port register p q r =
     (λ h.
     let parts = access_parts write e port register h in
     eq-eqb (place write port) (place e.access.write e.access.port) (ap₂ place (sym parts.0) (sym parts.1)))
-
-or_none : (a : Bool) → a ≡ (a || false)
-or_none true = refl
-or_none false = refl
 
 -- the log has what it had, and the event
 pub record Noted (old new : RegisterLog) (e : Event) : Type 0 where

@@ -7,4 +7,4 @@
 mod flags;
 mod log;
 
-pub use log::{Log, may_read, may_write, seen};
+pub use log::{Log, may_read, may_write, seen, seen_in};

@@ -118,16 +118,21 @@ impl Log {
         regs.set(register, value);
     }
 
-    // Whether one of the accesses refuses this one, at a port below `PORTS`.
-    fn refuses(&self, access: &Access) -> bool
-        requires port { IsPort access.now.port }
-        requires register { access.now.register < registers self.now }
-        ensures { (widths : List ℕ) (events : List Event) → StandsFor widths self.now events → result ≡ is_refused events access.now }
+    // The flags of a register.
+    fn flags_of(&self, register: usize) -> PortFlags
+        requires { register < registers self.now }
+        ensures { (write : Bool) (port : ℕ) → has result write port ≡ is_set self.now write port register }
     {
-        let flags = self.flags[access.register as usize];
-        let is_written = flags.has_write_from(access.port);
-        let is_read = flags.has_read_above(access.port);
-        is_written || access.write && is_read
+        self.flags[register]
+    }
+
+    // What is kept as the value of a write at a port of a register.
+    fn value_at(&self, port: u32, register: usize) -> &Bits
+        requires port { IsPort port }
+        requires register { register < registers self.now }
+        ensures { result.now ≡ written self.now port register }
+    {
+        &self.values[value_index(port, register)]
     }
 
     // The value of the write at the highest port below this one, at most `PORTS`, or else the start value.
@@ -136,8 +141,8 @@ impl Log {
         requires register { register < registers self.now }
         ensures { result.now ≡ written_below self.now port register start.now }
     {
-        match self.flags[register].highest_write_below(port) {
-            Some(top) => &self.values[value_index(top, register)],
+        match self.flags_of(register).highest_write_below(port) {
+            Some(top) => self.value_at(top, register),
             None => start,
         }
     }
@@ -150,36 +155,39 @@ impl Log {
         ensures elsewhere { (other : ℕ) → other ≢ register → SameAt self.old self.new other }
         ensures registers { registers self.new ≡ registers self.old }
     {
-        self.join_values(rule, register);
-        self.mark(register, rule.flags[register]);
+        let flags = rule.flags_of(register);
+        self.join_values(rule, flags, register);
+        self.mark(register, flags);
     }
 
-    // Takes the values of a rule log's writes of a register.
-    fn join_values(&mut self, rule: &Log, register: usize)
+    // Takes the values of a rule log's writes of a register, of which it has these flags.
+    fn join_values(&mut self, rule: &Log, flags: PortFlags, register: usize)
         requires within { register < registers self.old }
         requires registers { registers rule.now ≡ registers self.old }
+        requires flags { (write : Bool) (port : ℕ) → has flags write port ≡ is_set rule.now write port register }
         ensures flags { self.new.flags ≡ self.old.flags }
         ensures here { (port : ℕ) → IsPort port → written self.new port register ≡ (if is_set rule.now true port register then written rule.now port register else written self.old port register) }
         ensures elsewhere { (port other : ℕ) → IsPort port → other ≢ register → written self.new port other ≡ written self.old port other }
     {
-        if rule.flags[register].has_write_from(0) {
+        if flags.has_write_from(0) {
             for port in 0..PORTS {
-                self.join_value(rule, port, register);
+                self.join_value(rule, flags, port, register);
             }
         }
     }
 
-    // Takes the value of a rule log's write at a port of a register.
-    fn join_value(&mut self, rule: &Log, port: u32, register: usize)
+    // Takes the value of a rule log's write at a port of a register, of which it has these flags.
+    fn join_value(&mut self, rule: &Log, flags: PortFlags, port: u32, register: usize)
         requires port { IsPort port }
         requires within { register < registers self.old }
         requires registers { registers rule.now ≡ registers self.old }
+        requires flags { (write : Bool) (port : ℕ) → has flags write port ≡ is_set rule.now write port register }
         ensures flags { self.new.flags ≡ self.old.flags }
         ensures here { written self.new port register ≡ (if is_set rule.now true port register then written rule.now port register else written self.old port register) }
         ensures elsewhere { (at other : ℕ) → IsPort at → is_same_place at other port register ≡ false → written self.new at other ≡ written self.old at other }
     {
-        if rule.flags[register].has_write(port) {
-            self.set_value(port, register, rule.values[value_index(port, register)]);
+        if flags.has_write(port) {
+            self.set_value(port, register, *rule.value_at(port, register));
         }
     }
 
@@ -218,11 +226,7 @@ pub fn may_read(sched: &Log, port: u32, register: u32) -> bool
     ensures { (widths : List ℕ) (events : List Event) → StandsFor widths sched.now events
         → result ≡ not (is_refused events (record { write = false; port = port; register = register })) }
 {
-    !sched.refuses(&Access {
-        write: false,
-        port,
-        register,
-    })
+    !sched.flags_of(register as usize).has_write_from(port)
 }
 
 /// Whether no access of the rule log and none of the scheduler log refuses a write of a register at a port below `PORTS`.
@@ -234,12 +238,11 @@ pub fn may_write(rule: &Log, sched: &Log, port: u32, register: u32) -> bool
         → let access : Access = record { write = true; port = port; register = register } in
         result ≡ not (is_refused sched_events access || is_refused rule_events access) }
 {
-    let access = Access {
-        write: true,
-        port,
-        register,
-    };
-    !sched.refuses(&access) && !rule.refuses(&access)
+    let register = register as usize;
+    let flags = sched.flags_of(register).and_also(rule.flags_of(register));
+    let is_written = flags.has_write_from(port);
+    let is_read = flags.has_read_above(port);
+    !(is_written || is_read)
 }
 
 /// What a read of a register at a port below `PORTS` sees: the value of the rule's last write at a port below, else that
@@ -251,8 +254,25 @@ pub fn seen(rule: &Log, sched: &Log, start: Bits, port: u32, register: u32) -> B
     ensures { (widths : List ℕ) (rule_events sched_events : List Event) → StandsFor widths rule.now rule_events → StandsFor widths sched.now sched_events
         → result ≡ seen port register rule_events (seen port register sched_events start) }
 {
+    *seen_in(rule, sched, &start, port, register)
+}
+
+/// What a read of a register at a port below `PORTS` sees, as `seen` has it, where it stands.
+pub fn seen_in<'a>(
+    rule: &'a Log,
+    sched: &'a Log,
+    start: &'a Bits,
+    port: u32,
+    register: u32,
+) -> &'a Bits
+    requires port { IsPort port }
+    requires rule { register < registers rule.now }
+    requires sched { register < registers sched.now }
+    ensures { (widths : List ℕ) (rule_events sched_events : List Event) → StandsFor widths rule.now rule_events → StandsFor widths sched.now sched_events
+        → result.now ≡ seen port register rule_events (seen port register sched_events start.now) }
+{
     let register = register as usize;
-    *rule.value_below(port, register, sched.value_below(port, register, &start))
+    rule.value_below(port, register, sched.value_below(port, register, start))
 }
 
 // Where the value stands that was written at a port of a register.
