@@ -1,3 +1,5 @@
+//! Values: bit vectors of 1 to 128 bits.
+
 ghost use Rattle.std.specs.Prelude.{◌≡◌, ◌+◌, ◌%◌, ◌<◌, ◌≤◌, ◌^◌, ◌↔◌, IsSome, IfSome};
 ghost use Rattle.kw_bits.specs.BitVector.{IsBitVector, zero_at};
 

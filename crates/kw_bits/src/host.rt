@@ -1,3 +1,5 @@
+//! Values: kinds of host functions, and the value of each.
+
 ghost use Rattle.std.specs.Prelude.{◌≡◌, ◌+◌, ◌*◌, ◌%◌, ◌^◌, ◌≤◌, ◌<◌, ◌↔◌, IsTrue, count_ones};
 ghost use Rattle.kw_bits.specs.Host as host;
 
@@ -12,7 +14,7 @@ pub enum HostKind {
     Parity,
     /// The bits in reverse order.
     Reverse,
-    /// How many bits stand above the highest 1, or all where no bit is 1.
+    /// How many bits are above the highest 1, or all where no bit is 1.
     LeadingZeros,
     /// The Gray code.
     Gray,
@@ -22,6 +24,13 @@ pub enum HostKind {
     Morton,
     /// The sum of two arguments, or the greatest number of their width where that is less.
     SatAdd,
+}
+
+/// A host function: what it answers, and how many bits its input has.
+#[derive(Clone, Copy, Debug, PartialEq, Eq)]
+pub struct HostSpec {
+    pub kind: HostKind,
+    pub in_width: u32,
 }
 
 impl HostKind {

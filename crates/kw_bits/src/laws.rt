@@ -1,3 +1,5 @@
+//! Values: laws of the operators.
+
 // Each law of the operators is the contract of a function that does nothing. Proofs cite the lemmas of
 // `proofs/OperatorLaws.antt`, which say the same.
 ghost use Rattle.kw_bits.specs.Laws as law;

@@ -1,3 +1,5 @@
+//! Values: the error of a call that is out of memory.
+
 use std::alloc::{AllocError, AllocFailed};
 use std::error::Error;
 use std::fmt;

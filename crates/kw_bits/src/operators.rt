@@ -1,3 +1,5 @@
+//! Values: the operators on bit vectors.
+
 ghost use Rattle.std.specs.Prelude.{◌≡◌, ◌+◌, ◌-◌, ◌^◌, ◌<◌, ◌≤◌, MatchBool, int_lt};
 ghost use Rattle.kw_bits.specs.BitVector.{IsBitVector};
 ghost use Rattle.kw_bits.specs.Operators as op;

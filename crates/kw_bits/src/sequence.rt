@@ -1,3 +1,5 @@
+//! Values: the list type that contracts see as its items, and texts.
+
 ghost use Rattle.std.specs.Prelude.{◌≡◌, ◌<◌, ◌^◌, List, [], ◌∷◌, ◌++◌, length, take, slice_index_or, slice_set, IsNone, IfOk, OnOk, OnErr, IsTrue, ◌↔◌};
 ghost use Rattle.std.specs.Iterator.Adapters.{IterYieldsInOrder};
 ghost use Rattle.std.specs.Iterator.Runs.{EveryRun, ItemsMapTo};
