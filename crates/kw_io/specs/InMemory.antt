@@ -1,6 +1,6 @@
 -- Sources and sinks in memory, as their callers see them. They fail at calls that are listed by their numbers.
 use Rattle.std.specs.Prelude.{ℕ, ◌-◌, List, length, Contains}
-use Rattle.kw_io.specs.Faults.{one_more}
+use Rattle.kw_bits.specs.Faults.{one_more}
 
 -- how many calls were made and how many of them failed, and the numbers of those that are to fail: the first is 1
 pub record Calls : Type 0 where

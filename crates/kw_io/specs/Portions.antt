@@ -1,4 +1,4 @@
--- What a call of several reads took of the bytes that a source had left, where the source tells them.
+-- What a call of several reads took of the bytes that a source had left, where the source exposes them.
 use Rattle.std.specs.Prelude.{◌≡◌, ◌↔◌, ℕ, ◌+◌, ◌<◌, ◌≤◌, List, [], length, ⊤, None, Some}
 use Rattle.std.specs.Io.KnownBytes.{Consumes}
 use Rattle.std.specs.declared.option.Option.{Option}

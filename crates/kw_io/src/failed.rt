@@ -1,3 +1,5 @@
+//! Streams: the error of one read or one write.
+
 use std::error::Error;
 use std::fmt;
 

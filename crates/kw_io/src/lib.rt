@@ -1,8 +1,8 @@
 //! Where bytes come from and where they go: sources and sinks that may fail, over the system and in memory.
 //!
-//! Contracts speak of the bytes left and written, where they are told, in the words of std
+//! Contracts speak of the bytes left and written, where they are exposed, in the words of std
 //! (`Rattle.std.specs.Io.KnownBytes`), and of counts of faults that rise (`specs/Faults.antt`). The top
-//! crate reads its whole input and writes its whole answer through `read_all` and `write_all`.
+//! crate reads its whole input and writes its whole output through `read_all` and `write_all`.
 #![tactic(auto)]
 
 mod calls;

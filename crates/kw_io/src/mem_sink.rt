@@ -1,3 +1,5 @@
+//! Streams: a sink in memory, for tests and for callers that keep what is written.
+
 ghost use Rattle.std.specs.Prelude.{◌≡◌, ◌↔◌, ◌≤◌, ◌<◌, ◌++◌, ◌⊎◌, Some, length, min, take, IsErr, IfOk, OnErr, []};
 ghost use Rattle.kw_io.specs.InMemory.{IsNextListed, after_failure, after_success, room_left};
 
@@ -8,7 +10,7 @@ use kw_bits::NoMemory;
 use std::alloc::Global;
 use std::marker::Model;
 
-/// A sink of bytes in memory, which takes no memory after it was made. It tells its bytes, takes them in
+/// A sink of bytes in memory, which allocates nothing after it was made. It exposes its bytes, takes them in
 /// pieces, and fails at listed calls and where it is full.
 #[derive(Debug, Drop)]
 pub struct MemSink {
@@ -30,7 +32,7 @@ impl Model for MemSink {
 }
 
 impl MemSink {
-    /// A sink with room for so many bytes. A write takes at most `piece` of them, which is at least 1, and
+    /// A sink with room for this many bytes. A write takes at most `piece` of them, which is at least 1, and
     /// the calls whose numbers are in `failing` fail. The first call is number 1.
     pub fn new(
         alloc: Global,

@@ -1,3 +1,5 @@
+//! Streams: a source in memory, for tests and for callers that have the bytes.
+
 ghost use Rattle.std.specs.Prelude.{◌≡◌, ◌↔◌, ◌≤◌, ◌<◌, ◌++◌, Some, length, min, take, drop, IsErr, IfOk, OnErr, []};
 ghost use Rattle.kw_io.specs.InMemory.{IsNextListed, after_failure, after_success};
 
@@ -6,7 +8,7 @@ use crate::failed::Failed;
 use crate::source::Source;
 use std::marker::Model;
 
-/// A source of bytes in memory. It tells its bytes, gives them in pieces, and fails at listed calls.
+/// A source of bytes in memory. It exposes its bytes, gives them in pieces, and fails at listed calls.
 #[derive(Debug, Drop)]
 pub struct MemSource {
     bytes: Vec<u8>,

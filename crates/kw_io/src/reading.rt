@@ -1,6 +1,8 @@
+//! Streams: reading a source to its end, up to a limit.
+
 ghost use Rattle.std.specs.Prelude.{◌≡◌, ◌+◌, ◌-◌, ◌<◌, ◌++◌, ◌≤◌, length, IfOk, IfSome, OnSome, OnOk, OnErr, IsErrOf, vec_len, List, ℕ};
 ghost use Rattle.std.specs.Io.KnownBytes.{Consumes, IsAtEnd};
-ghost use Rattle.kw_io.specs.Faults.{Rose};
+ghost use Rattle.kw_bits.specs.Faults.{Rose};
 ghost use Rattle.kw_io.specs.Portions.{TakesAll, TakesUpTo};
 ghost use Rattle.kw_io.specs.declared.reading.ReadAll.TheVariants.{Fault, NoMemory as WantOfMemory};
 
@@ -60,7 +62,7 @@ pub fn read_all<S: Source>(alloc: Global, source: &mut S, limit: usize) -> Resul
     ensures within { IfOk result (λ bytes. vec_len bytes ≤ limit) }
     ensures fault { IsErrOf result ReadAll.Fault → Rose (S.faults source.old) (S.faults source.new) }
 
-    // It is too long exactly where byte `limit + 1` came, and no byte behind that one was taken.
+    // It is too long exactly where byte `limit + 1` came, and no byte after that one was taken.
     ensures too_long { TakesUpTo (S.left source.old) (S.left source.new) limit
         (IsErrOf result ReadAll.TooLong) }
     ensures longer { IsErrOf result ReadAll.TooLong
@@ -92,7 +94,7 @@ fn join_pieces<S: Source>(
     Ok(bytes)
 }
 
-// Reads once and appends what came, as many bytes as it answers. None is the end of input.
+// Reads once and appends what came, as many bytes as it returns. None is the end of input.
 fn append_piece<S: Source>(
     source: &mut S,
     limit: usize,

@@ -1,19 +1,21 @@
+//! Streams: the trait of sinks.
+
 ghost use Rattle.std.specs.Prelude.{◌≤◌, ℕ, List, Option, length, take, IfOk, OnErr, ◌<◌};
 ghost use Rattle.std.specs.Io.KnownBytes.{Appends, Keeps};
-ghost use Rattle.kw_io.specs.Faults.{Rose};
+ghost use Rattle.kw_bits.specs.Faults.{Rose};
 
 use crate::failed::Failed;
 
 /// A sink of bytes: a file, a pipe, or room in memory.
 pub trait Sink {
-    /// The bytes written so far, where the sink tells them.
+    /// The bytes written so far, where the sink exposes them.
     ghost written: { Self → Option (List ℕ) };
 
     /// How many writes have failed, as far as the sink counts.
     ghost faults: { Self → ℕ };
 
-    /// Writes the first bytes of `piece`, at least one, as many as it answers. A sink that tells its
-    /// bytes goes on telling them.
+    /// Writes the first bytes of `piece`, at least one, as many as it returns. A sink that exposes its
+    /// bytes goes on doing so.
     fn write(&mut self, piece: &[u8]) -> Result<usize, Failed>
         requires { 0 < length piece.now }
         ensures some { IfOk result (λ n. 1 ≤ n) }

@@ -1,3 +1,5 @@
+//! Streams: a sink over a writer of std, as standard output.
+
 ghost use Rattle.std.specs.Prelude.{◌≡◌, ◌≤◌, length, take, IfSome, IfNone};
 ghost use Rattle.std.specs.Io.KnownBytes.{Appends, Keeps};
 
@@ -5,7 +7,7 @@ use crate::failed::Failed;
 use crate::sink::Sink;
 use std::io::{ErrorKind, Write};
 
-/// A sink over a writer of std. It tells the bytes that the writer tells: those of a vector, and none of
+/// A sink over a writer of std. It exposes the bytes that the writer does: those of a vector, and none of
 /// a file's or a pipe's. A write that a signal interrupts is tried again, and one that takes nothing fails.
 #[derive(Debug, Drop)]
 pub struct StdSink<W> {

@@ -1,3 +1,5 @@
+//! Streams: a source over a reader of std, as standard input.
+
 ghost use Rattle.std.specs.Prelude.{◌≡◌, ◌<◌, ◌≤◌, length, take, IfSome, IfNone};
 ghost use Rattle.std.specs.Io.KnownBytes.{Consumes, IsAtEnd, Keeps};
 
@@ -5,7 +7,7 @@ use crate::failed::Failed;
 use crate::source::Source;
 use std::io::{ErrorKind, Read};
 
-/// A source over a reader of std. It tells the bytes that the reader tells: those of a slice, and none of
+/// A source over a reader of std. It exposes the bytes that the reader does: those of a slice, and none of
 /// a file's or a pipe's. A read that a signal interrupts is tried again.
 #[derive(Debug, Drop)]
 pub struct StdSource<R> {

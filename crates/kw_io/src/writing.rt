@@ -1,6 +1,8 @@
+//! Streams: writing all bytes of a text.
+
 ghost use Rattle.std.specs.Prelude.{◌≤◌, ◌<◌, length, take, IfErr, OnOk, OnErr};
 ghost use Rattle.std.specs.Io.KnownBytes.{Appends};
-ghost use Rattle.kw_io.specs.Faults.{Rose};
+ghost use Rattle.kw_bits.specs.Faults.{Rose};
 
 use crate::sink::Sink;
 use std::error::Error;
@@ -21,7 +23,7 @@ impl fmt::Display for WriteFault {
 
 impl Error for WriteFault {}
 
-/// Writes all bytes in order, in as many pieces as the sink wants, and takes no memory.
+/// Writes all bytes in order, in as many pieces as the sink wants, and allocates nothing.
 #[tactic(auto, using(crate::proofs::Portions::appends_next))]
 pub fn write_all<K: Sink>(sink: &mut K, bytes: &[u8]) -> Result<(), WriteFault>
     ensures all { OnOk result (Appends (K.written sink.old) (K.written sink.new) bytes.now) }
