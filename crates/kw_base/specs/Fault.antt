@@ -1,4 +1,4 @@
--- A fault is a number and the place of what is wrong. A call that reads a text answers a value, or a fault,
+-- A fault is a number and the place of what is wrong. A call that reads a text returns a value, or a fault,
 -- or that memory ran out.
 use Rattle.std.specs.Prelude.{◌≡◌, ℕ, Result, Ok, Err}
 use Rattle.kw_base.specs.declared.fault.Fault.{Fault}
@@ -10,19 +10,19 @@ use Rattle.kw_base.specs.declared.place.Place.{Place}
 abbrev pub fault_at : ℕ → Place → Fault
 fault_at number place = record { number = number; line = place.line; column = place.column }
 
--- if the call answers a fault, it is such a one
+-- if the call returns a fault, it is one of these
 abbrev pub IfFault : {X : Type 0} → Result X Refusal → (Fault → Type 0) → Type 0
 IfFault (Ok x) P = Unit {0}
 IfFault (Err (refusals.Fault fault)) P = P fault
 IfFault (Err refusals.NoMemory) P = Unit {0}
 
--- the call answers a value and no fault, unless memory ran out
+-- the call returns a value and no fault, unless memory ran out
 abbrev pub IsOkUnlessNoMemory : {X : Type 0} → Result X Refusal → (X → Type 0) → Type 0
 IsOkUnlessNoMemory (Ok x) P = P x
 IsOkUnlessNoMemory (Err (refusals.Fault fault)) P = ⊥
 IsOkUnlessNoMemory (Err refusals.NoMemory) P = Unit {0}
 
--- the call answers this fault and no value, unless memory ran out
+-- the call returns this fault and no value, unless memory ran out
 abbrev pub IsFaultUnlessNoMemory : {X : Type 0} → Result X Refusal → Fault → Type 0
 IsFaultUnlessNoMemory (Ok x) fault = ⊥
 IsFaultUnlessNoMemory (Err (refusals.Fault other)) fault = other ≡ fault

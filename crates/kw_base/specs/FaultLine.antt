@@ -1,4 +1,4 @@
--- The line that tells a fault: `fault N at L:C` and a line feed, each number in decimal digits.
+-- The line of a fault: `fault N at L:C` and a line feed, each number in decimal digits.
 use Rattle.std.specs.Prelude.{ℕ, List, [], ◌∷◌, ◌++◌, codes, decimal}
 use Rattle.kw_base.specs.declared.fault.Fault.{Fault}
 

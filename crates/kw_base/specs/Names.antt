@@ -1,5 +1,5 @@
 -- Names are numbered from 0 in order of first sight: the number of a name is its index in the list of the
--- names seen so far, each of which stands there once.
+-- names seen so far, each of which is there once.
 use Rattle.std.specs.Prelude.{◌≡◌, ◌≢◌, ℕ, ◌≤◌, ◌^◌, List, [], ◌∷◌, ◌++◌, length, AllPairs, position, Option, None, Some}
 use Rattle.std.specs.Str.{bytes_eq}
 use Rattle.kw_base.specs.declared.names.Added.{Added}

@@ -9,7 +9,7 @@ use Rattle.kw_base.specs.declared.place.Place.{Place}
 abbrev pub capped : ℕ → ℕ
 capped n = min n 4294967295
 
--- one more than the line feeds of what stands before
+-- one more than the line feeds of what comes before
 abbrev pub line_after : List ℕ → ℕ
 line_after front = capped (1 + count_by (λ b. b == 10) front)
 

@@ -1,3 +1,5 @@
+//! Texts: faults, each a number and a place, and the line that is written for one.
+
 ghost use Rattle.std.specs.Prelude.{◌≡◌, IfOk};
 ghost use Rattle.kw_base.specs.Fault.{fault_at};
 ghost use Rattle.kw_base.specs.FaultLine.{line_of_fault};
@@ -65,7 +67,7 @@ impl<T: Drop> From<AllocFailed<T>> for Refusal {
     }
 }
 
-/// The line that tells a fault: `fault N at L:C` and a line feed.
+/// The line of a fault: `fault N at L:C` and a line feed.
 pub fn fault_line(alloc: Global, fault: Fault) -> Result<Text, NoMemory>
     ensures { IfOk result (λ line. line ≡ line_of_fault fault) }
 {

@@ -23,11 +23,11 @@ pub const WRONG_WIDTH: u32 = 23;
 pub const WRONG_FIELD: u32 = 24;
 /// A call with a wrong number of arguments.
 pub const WRONG_ARGUMENT_COUNT: u32 = 25;
-/// A rule that stands twice on one path of the schedule.
+/// A rule that is twice on one path of the schedule.
 pub const RULE_TWICE_ON_A_PATH: u32 = 27;
 /// A table with a wrong number of entries.
 pub const WRONG_ENTRY_COUNT: u32 = 28;
-/// A host function that wasn't handed in with this name and these widths.
+/// A host function that wasn't offered with this name and these widths.
 pub const UNKNOWN_HOST_FUNCTION: u32 = 29;
 
 /// A malformed or repeated assignment of a stimulus.
@@ -54,7 +54,7 @@ pub const TOO_DEEP: u32 = 46;
 /// Too many inputs.
 pub const TOO_MANY_INPUTS: u32 = 47;
 
-/// A malformed line of a circuit text.
+/// A malformed line of a BTOR2 file.
 pub const MALFORMED_LINE: u32 = 50;
 /// An id that an earlier line defines.
 pub const REPEATED_ID: u32 = 51;
@@ -62,9 +62,9 @@ pub const REPEATED_ID: u32 = 51;
 pub const UNDEFINED_ID: u32 = 52;
 /// An id of the wrong kind, or widths that don't agree.
 pub const WRONG_SORT: u32 = 53;
-/// A keyword or a form of circuit texts that isn't taken here.
+/// A keyword or a form of BTOR2 files that isn't taken here.
 pub const FORM_LEFT_OUT: u32 = 54;
-/// A width or a slice of a circuit text that is out of its range.
+/// A width or a slice of a BTOR2 file that is out of its range.
 pub const SORT_OUT_OF_RANGE: u32 = 55;
 /// A state without a next value.
 pub const STATE_WITHOUT_NEXT: u32 = 56;

@@ -1,3 +1,5 @@
+//! Texts: names numbered in order of first sight, found by a hash that the text decides.
+
 ghost use Rattle.std.specs.Prelude.{◌≡◌, ◌↔◌, ◌<◌, ◌^◌, IsTrue, length, [], Some, slice_get, IfOk, OnErr};
 ghost use Rattle.std.specs.Hash.DefaultHasher as sip;
 ghost use Rattle.sha2.specs.Sha256.{sha256};
@@ -37,7 +39,7 @@ pub enum Added {
 }
 
 impl Names {
-    /// No names, which takes no memory. All such have one hash, so names can be chosen that make it slow:
+    /// No names, which allocates nothing. All such have one hash, so names can be chosen that make it slow:
     /// `of_text` is for names that others choose.
     pub fn new(alloc: Global) -> Names
         ensures { result ≡ [] }
@@ -45,7 +47,7 @@ impl Names {
         Names::of_text(alloc, b"")
     }
 
-    /// No names, which takes no memory, for those that stand in this text. Each text has a hash of its own, so
+    /// No names, which allocates nothing, for those of this text. Each text has a hash of its own, so
     /// names can't be chosen that make it slow.
     pub fn of_text(alloc: Global, text: &[u8]) -> Names
         ensures { result ≡ [] }
@@ -55,7 +57,7 @@ impl Names {
         }
     }
 
-    /// Sees a name. One that was there already takes no memory, and an `Err` leaves the names as they were.
+    /// Sees a name. One that was there already allocates nothing, and an `Err` leaves the names as they were.
     pub fn add(&mut self, name: &[u8]) -> Result<Added, NoMemory>
         requires { length self.old < 2 ^ 32 }
         ensures numbered { AreNumbered self.new }
@@ -105,7 +107,7 @@ impl Names {
     }
 }
 
-// Hashes names by SipHash that was fed with the digest of the text that they stand in.
+// Hashes names by SipHash that was fed with the digest of the text that they are in.
 #[derive(Clone, Copy)]
 struct HashOfText {
     fed: DefaultHasher,

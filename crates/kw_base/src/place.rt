@@ -1,3 +1,5 @@
+//! Texts: the line and the column of a byte.
+
 ghost use Rattle.std.specs.Prelude.{◌≡◌, ◌≤◌, length};
 ghost use Rattle.kw_base.specs.Place.{place_at};
 
