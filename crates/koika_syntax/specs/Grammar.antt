@@ -246,7 +246,8 @@ level_of binary.Multiply = 9
 abbrev ExpressionLayer : Type 0
 ExpressionLayer = Expression-F Expression Statement Arm Block FieldValue Operand
 
--- how tightly an expression holds together: 0 is an `if`, 1 to 9 a chain of that level, 10 a unary run, 11 a postfix, 12 a primary
+-- how tightly an expression holds together: 0 is an `if`, 1 to 9 a chain of that level, 10 a unary run, 11 a postfix,
+-- 12 a primary
 abbrev pub level_of_chain : List Operand → ℕ
 level_of_chain [] = 0
 level_of_chain (operand ∷ operands) = level_of (out-Operand operand).operator
@@ -279,7 +280,7 @@ IsType (Bits width) = IsWidth width
 IsType (Named n) = IsName n
 IsType (Array' place _ element size) = IsType element × IsNumber size
 
--- what is repeated with commas stands at least once
+-- what is repeated with commas is there at least once
 abbrev pub IsNonempty : {X : Type 0} → List X → Type 0
 IsNonempty xs = 0 < length xs
 

@@ -1,4 +1,4 @@
--- What the calls that read one lexeme answer: the piece that a text begins with, or the fault.
+-- What the calls that read one lexeme return: the piece that a text begins with, or the fault.
 use Rattle.std.specs.Prelude.{◌≡◌, ℕ, ◌+◌, ◌<◌, List, [], ◌∷◌, ◌++◌, length, drop, Option, None, Some, Result, Ok, Err}
 use Rattle.kw_base.specs.declared.fault.Fault.{Fault}
 use Rattle.kw_base.specs.Fault.{fault_at}
@@ -20,7 +20,7 @@ abbrev pub piece_of : Option TokenKind → List ℕ → Piece
 piece_of None bytes = Piece.gap bytes
 piece_of (Some kind) bytes = Piece.token kind bytes
 
--- the text begins with this piece, of so many bytes, and it is the longest lexeme there
+-- the text begins with this piece, of this many bytes, and it is the longest lexeme there
 pub record BeginsWithPiece (text : List ℕ) (token : Option TokenKind) (len : ℕ) : Type 0 where
   pub bytes : List ℕ
   pub after : List ℕ
@@ -36,7 +36,7 @@ number_of (flaws.Byte offset) = 10
 number_of flaws.Range = 13
 number_of flaws.LongName = 14
 
--- how many bytes behind the text's first byte the fault stands
+-- how many bytes after the text's first byte the fault is
 abbrev pub offset_of : Flaw → ℕ
 offset_of (flaws.Byte offset) = offset
 offset_of flaws.Range = 0
@@ -52,12 +52,12 @@ abbrev pub IsAnswer : {K : Type 0} → (K → TokenKind) → List ℕ → Result
 IsAnswer token_of text (Ok lexeme) = BeginsWithPiece text (Some (token_of lexeme.kind)) lexeme.len
 IsAnswer token_of text (Err flaw) = BeginsFaulty text (number_of flaw) (offset_of flaw)
 
--- the token of a span, if what stands there is one
+-- the token of a span, if what is there is one
 abbrev pub tokens_of : Option TokenKind → (start end : ℕ) → List Token
 tokens_of None start end = []
 tokens_of (Some kind) start end = record { kind = kind; start = start; end = end } ∷ []
 
--- a piece of the text stands between the offset and the end, and its token, if it is one, came behind those before
+-- a piece of the text is between the offset and the end, and its token, if it is one, came after those before
 pub record HasRead (text : List ℕ) (offset : ℕ) (before after : List Token) (end : ℕ) : Type 0 where
   pub token : Option TokenKind
   pub len : ℕ
@@ -65,7 +65,7 @@ pub record HasRead (text : List ℕ) (offset : ℕ) (before after : List Token) 
   pub end_is : end ≡ offset + len
   pub tokens : after ≡ before ++ tokens_of token offset end
 
--- the text behind the offset begins with the fault
+-- the text after the offset begins with the fault
 pub record BeginsFault (text : List ℕ) (offset : ℕ) (fault : Fault) : Type 0 where
   pub further : ℕ
   pub faulty : BeginsFaulty (drop offset text) fault.number further

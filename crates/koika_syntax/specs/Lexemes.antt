@@ -64,7 +64,7 @@ pub record IsLiteral (parts : LiteralParts) (bytes : List ℕ) : Type 0 where
   pub width : IsNumeral 10 parts.width
   pub value : IsNumeral (radix_of parts.base) parts.value
 
--- a literal that breaks off where its base or the first digit of its value should stand
+-- a literal that breaks off where its base or the first digit of its value should be
 abbrev pub IsUnfinished : List ℕ → Type 0
 IsUnfinished bytes =
     (width : List ℕ) × IsNumeral 10 width × ((bytes ≡ width ++ 39 ∷ []) ⊎ ((base : Base) × (bytes ≡ width ++ 39 ∷ letter_of base ∷ [])))
@@ -89,7 +89,7 @@ HasKind literal bytes = (parts : LiteralParts) × IsLiteral parts bytes
 HasKind unfinished bytes = IsUnfinished bytes
 HasKind symbol bytes = (s : Symbol) × (bytes ≡ symbol_text s)
 
--- no lexeme is longer: whatever front of what follows makes one together with the bytes is empty
+-- no lexeme is longer: every front of what follows that makes one together with the bytes is empty
 abbrev pub IsLongest : (bytes rest : List ℕ) → Type 0
 IsLongest bytes rest = (kind : Kind) (more after : List ℕ) → rest ≡ more ++ after → HasKind kind (bytes ++ more) → more ≡ []
 

@@ -11,7 +11,7 @@ use Rattle.kw_bits.specs.BitVector.{IsBitVector}
 use Rattle.koika_syntax.specs.Lexemes.{Kind, LiteralParts, IsLiteral, HasKind, IsLongest, BeginsNoLexeme}
 use Rattle.koika_syntax.specs.Tokens.{width_of, value_of, Piece, bytes_of, IsCut}
 
--- a lexeme of this kind is no token: this is the fault, and it stands so many bytes behind the first one
+-- a lexeme of this kind is no token: this is the fault, and it is this many bytes after the first one
 abbrev pub IsWrong : Kind → List ℕ → (number offset : ℕ) → Type 0
 IsWrong Kind.word bytes number offset = (64 < length bytes) × (number ≡ 14) × (offset ≡ 0)
 IsWrong Kind.number bytes number offset = (2 ^ 32 ≤ digits_value 10 bytes) × (number ≡ 13) × (offset ≡ 0)
@@ -43,7 +43,7 @@ pub record BeginsWrong (text : List ℕ) (number offset : ℕ) : Type 0 where
 abbrev pub BeginsFaulty : List ℕ → (number offset : ℕ) → Type 0
 BeginsFaulty text number offset = BeginsStray text number offset ⊎ BeginsWrong text number offset
 
--- the text is cut into blanks, comments and tokens up to some place, and behind it begins with the fault
+-- the text is cut into blanks, comments and tokens up to some place, and after it begins with the fault
 pub record IsFirstFault (text : List ℕ) (fault : Fault) : Type 0 where
   pub pieces : List Piece
   pub rest : List ℕ

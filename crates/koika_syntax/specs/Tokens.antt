@@ -1,5 +1,5 @@
 -- The tokens of a design's text. The text is cut into blanks, comments and tokens, each the longest lexeme
--- that stands at its place; what a token is, its bytes say. The text form is this project's own.
+-- that is at its place; what a token is, its bytes say. The text form is this project's own.
 use Rattle.std.specs.Prelude.{◌≡◌, ◌≢◌, ℕ, ◌<◌, ◌≤◌, ◌^◌, ◌⊎◌, List, [], ◌∷◌, ◌++◌, length, slice_range, AllPairs}
 use Rattle.std.specs.Str.Parse.{IsNumeral, digits_value}
 use Rattle.kw_bits.specs.BitVector.{BitVector, IsBitVector}
@@ -54,7 +54,7 @@ IsCut [] text rest = text ≡ rest
 IsCut (piece ∷ pieces) text rest =
     (after : List ℕ) × (text ≡ bytes_of piece ++ after) × IsPiece piece × IsLongest (bytes_of piece) after × IsCut pieces after rest
 
--- the tokens among pieces, each with its span, where this text stands before the pieces
+-- the tokens among pieces, each with its span, where this text comes before the pieces
 abbrev pub tokens_behind : List ℕ → List Piece → List Token
 tokens_behind before [] = []
 tokens_behind before (gap bytes ∷ pieces) = tokens_behind (before ++ bytes) pieces
@@ -67,7 +67,7 @@ pub record AreTokensOf (tokens : List Token) (text : List ℕ) : Type 0 where
   pub cut : IsCut pieces text []
   pub spans : tokens ≡ tokens_behind [] pieces
 
--- the token stands at its span: these bytes of the text are a token of its kind
+-- the token is at its span: these bytes of the text are a token of its kind
 pub record StandsIn (text : List ℕ) (found : Token) : Type 0 where
   pub some_byte : found.start < found.end
   pub within : found.end ≤ length text

@@ -1,4 +1,4 @@
--- The leaves of a tree: the tokens that it stands for, in order, and where the tree says that they stand.
+-- The leaves of a tree: the tokens that it stands for, in order, and where the tree says that they are.
 -- What a name, a number or an operator is written as; how the parts of a design follow one another is the
 -- grammar. This project's own text form.
 use Rattle.std.specs.Prelude.{◌≡◌, ℕ, Option, None, Some, IfSome, List, [], ◌∷◌, ◌++◌, slice_range, slice_index_or}
@@ -139,6 +139,6 @@ terminal_of text token = of_kind token.kind
     of_kind (kinds.Keyword k) = keyword k
     of_kind (kinds.Symbol s) = symbol s
 
--- the leaf is this token of the text, and stands where the tree says
+-- the leaf is this token of the text, and is where the tree says
 abbrev pub IsLeafAt : List ℕ → Leaf → Token → Type 0
 IsLeafAt text leaf token = (leaf.terminal ≡ terminal_of text token) × IfSome leaf.place (λ place. place ≡ token.start)

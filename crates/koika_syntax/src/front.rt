@@ -1,3 +1,5 @@
+//! Tokens: the first bytes of a text, as a symbol or a run of blanks, words, digits or a comment.
+
 ghost use Rattle.std.specs.Prelude.{◌≡◌, ◌<◌, ◌∷◌, [], false, length, slice_index};
 ghost use Rattle.std.specs.Char.{is_ascii_digit};
 ghost use Rattle.std.specs.List.{prefix_len};
@@ -41,7 +43,7 @@ pub(crate) fn symbol(text: &[u8]) -> Result<Lexeme<Symbol>, Flaw>
     }
 }
 
-/// How many bytes stand before the first line feed.
+/// How many bytes come before the first line feed.
 pub(crate) fn line_len(bytes: &[u8]) -> usize
     ensures { result ≡ prefix_len lexemes.stays_on_line bytes.now }
 {

@@ -1,3 +1,5 @@
+//! Tokens: the keywords, with their bytes.
+
 ghost use Rattle.std.specs.Prelude.{◌≡◌, ◌≢◌, ◌↔◌, ◌%◌, slice_get, slice_index, IsTrue, IfSome, IfNone};
 ghost use Rattle.koika_syntax.specs.declared.keyword.TheConstants.{KEYWORDS, PLACES};
 ghost use Rattle.koika_syntax.specs.Keywords.{keyword_text};
@@ -81,7 +83,7 @@ const KEYWORDS: [Keyword; 35] = [
     Keyword::Assert,
 ];
 
-// The places of the keywords in that table, 35 for none. That of a keyword stands at four times its first
+// The places of the keywords in that table, 35 for none. That of a keyword is at four times its first
 // byte, its middle one and its last one, modulo 128.
 const PLACES: [u8; 128] = [
     30, 31, 32, 33, 35, 35, 35, 5, 1, 13, 35, 35, 35, 35, 17, 35, 35, 35, 35, 35, 0, 8, 35, 4, 25,

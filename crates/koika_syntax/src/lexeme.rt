@@ -1,3 +1,5 @@
+//! Tokens: what the readers of one lexeme return.
+
 ghost use Rattle.koika_syntax.specs.LexemeAnswers.{number_of, offset_of};
 ghost use Rattle.std.specs.Prelude.{◌≡◌};
 
@@ -33,7 +35,7 @@ impl Flaw {
         }
     }
 
-    /// How far behind the text's first byte the fault is.
+    /// How far after the text's first byte the fault is.
     pub(crate) fn offset(self) -> usize
         ensures { result ≡ offset_of self }
     {

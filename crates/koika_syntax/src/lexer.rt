@@ -1,3 +1,5 @@
+//! Tokens: the lexer, from a text to its tokens or its first fault.
+
 ghost use Rattle.std.specs.Prelude.{◌≡◌, ◌+◌, ◌<◌, ◌≤◌, ◌++◌, List, Some, false, length, drop, slice_index, All, IfOk};
 ghost use Rattle.koika_syntax.specs.Lexemes as lexemes;
 ghost use Rattle.kw_base.specs.Fault.{IfFault, IsOkUnlessNoMemory, IsFaultUnlessNoMemory};
@@ -46,7 +48,7 @@ fn is_blank(byte: u8) -> bool
     byte == b' ' || byte == b'\t' || byte == b'\r' || byte == b'\n'
 }
 
-// Adds the token that stands at an offset, if it is no comment, and gives the offset behind it.
+// Adds the token at an offset, if it is no comment, and gives the offset after it.
 fn read_at(text: &[u8], offset: usize, tokens: &mut Vec<Token>) -> Result<usize, Refusal>
     requires short { length text.now ≤ 1048576 }
     requires within { offset < length text.now }
@@ -88,7 +90,7 @@ fn read_at(text: &[u8], offset: usize, tokens: &mut Vec<Token>) -> Result<usize,
     }
 }
 
-// The text behind an offset.
+// The text after an offset.
 fn behind(text: &[u8], offset: usize) -> &[u8]
     requires { offset ≤ length text.now }
     ensures { result.now ≡ drop offset text.now }
@@ -96,7 +98,7 @@ fn behind(text: &[u8], offset: usize) -> &[u8]
     &text[offset..]
 }
 
-// Adds a token of so many bytes at an offset, and gives the offset behind it.
+// Adds a token of this many bytes at an offset, and gives the offset after it.
 fn add(
     tokens: &mut Vec<Token>,
     kind: TokenKind,
@@ -117,7 +119,7 @@ fn add(
     Ok(end)
 }
 
-// The fault that a flaw of the text behind an offset is.
+// The fault that a flaw of the text after an offset is.
 fn fault_of(text: &[u8], offset: usize, flaw: Flaw) -> Fault
     requires within { offset ≤ length text.now }
     requires faulty { BeginsFaulty (drop offset text.now) (number_of flaw) (offset_of flaw) }

@@ -2,8 +2,8 @@
 //!
 //! Contracts cite the lexemes and the rule of the longest one in `specs/Lexemes.antt`, what the tokens of
 //! a text are in `specs/Tokens.antt`, and which fault comes first in `specs/TokenFaults.antt`. What tokens a
-//! tree stands for and which trees are the grammar's stands in `specs/Grammar.antt`. The parser reads what
-//! `lex` answers and gives a `Tree`, from which the printer and the checker go on.
+//! tree stands for and which trees are the grammar's is in `specs/Grammar.antt`. The parser reads what
+//! `lex` returns and gives a `Tree`, from which the printer and the checker go on.
 #![tactic(auto)]
 
 mod front;

@@ -1,3 +1,5 @@
+//! Tokens: numbers and literals, read digit by digit.
+
 ghost use Rattle.std.specs.Prelude.{◌≡◌, ◌≢◌, ◌+◌, ◌*◌, ◌<◌, ◌^◌, ◌∷◌, ◌++◌, length, slice_index, IfSome, IfNone, IsTrue};
 ghost use Rattle.std.specs.Char.{digit_value, is_digit};
 ghost use Rattle.std.specs.List.{prefix_len};
@@ -109,7 +111,7 @@ fn decimal_digit(byte: u8) -> u32
     char::from(byte).to_digit(10).unwrap()
 }
 
-// The number with one more decimal digit behind it, if it is below 2^32.
+// The number with one more decimal digit after it, if it is below 2^32.
 fn with_decimal_digit(number: u32, digit: u32) -> Option<u32>
     ensures { SomeIff result (number * 10 + digit < 2 ^ 32) (number * 10 + digit) }
 {
@@ -165,7 +167,7 @@ fn value_of(digits: &[u8], base: Base) -> Option<u128>
     Some(value)
 }
 
-// The number with one more digit behind it, if it is below 2^128.
+// The number with one more digit after it, if it is below 2^128.
 fn with_digit(value: u128, radix: u32, digit: u32) -> Option<u128>
     ensures { SomeIff result (value * radix + digit < 2 ^ 128) (value * radix + digit) }
 {

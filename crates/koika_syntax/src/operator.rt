@@ -1,3 +1,5 @@
+//! Trees: the operators of expressions, with their symbols and levels.
+
 ghost use Rattle.std.specs.Prelude.{◌≡◌};
 ghost use Rattle.koika_syntax.specs.Grammar.{level_of};
 ghost use Rattle.koika_syntax.specs.Tree.{binary_symbol, comparison_word, extension_word, unary_symbol};
@@ -35,7 +37,7 @@ pub enum BinaryOperator {
     LessOrEqual,
     Greater,
     GreaterOrEqual,
-    /// The left operand's bits stand above the right one's.
+    /// The left operand's bits are above the right one's.
     Concat,
     ShiftLeft,
     ShiftRight,

@@ -1,3 +1,5 @@
+//! Tokens: the symbols, with their bytes.
+
 ghost use Rattle.std.specs.Prelude.{◌≡◌, ◌≢◌, ◌∷◌, [], IfSome, IfNone};
 ghost use Rattle.koika_syntax.specs.Symbols.{symbol_text};
 

@@ -1,3 +1,5 @@
+//! Tokens: a token, its kind and its span.
+
 use crate::{Keyword, Symbol};
 use kw_bits::Bits;
 
@@ -11,7 +13,7 @@ pub enum TokenKind {
     Symbol(Symbol),
 }
 
-/// A token, and the offsets of its first byte and of the byte behind its last.
+/// A token, and the offsets of its first byte and of the byte after its last.
 #[derive(Clone, Copy, Debug, PartialEq, Eq)]
 pub struct Token {
     pub kind: TokenKind,

@@ -1,3 +1,5 @@
+//! Trees: the tree of a design, part by part as the grammar has them.
+
 use crate::operator::{BinaryOperator, Extension, SignedComparison, UnaryOperator};
 use kw_bits::{Bits, Sequence, Text};
 
@@ -80,7 +82,7 @@ pub struct Prefix {
     pub place: u32,
 }
 
-/// What stands behind a value and takes a part of it.
+/// What comes after a value and takes a part of it.
 #[derive(Drop)]
 pub enum Suffix {
     /// `.f`.
@@ -102,7 +104,7 @@ pub enum Part {
 #[derive(Drop)]
 #[cycle(expression)]
 pub enum Expression {
-    /// Conditions with their blocks, and the block behind the last `else`.
+    /// Conditions with their blocks, and the block after the last `else`.
     If {
         arms: Vec<Arm>,
         otherwise: Option<Block>,
@@ -193,7 +195,7 @@ pub enum Expression {
     },
 }
 
-/// An operator and the operand behind it.
+/// An operator and the operand after it.
 #[derive(Drop)]
 #[cycle(expression)]
 pub struct Operand {
@@ -209,7 +211,7 @@ pub struct FieldValue {
     pub value: Expression,
 }
 
-/// A condition and the block behind it, with the place of its `if`.
+/// A condition and the block after it, with the place of its `if`.
 #[derive(Drop)]
 #[cycle(expression)]
 pub struct Arm {

@@ -1,3 +1,5 @@
+//! Tokens: words, each a keyword or a name.
+
 ghost use Rattle.std.specs.Prelude.{◌≡◌, ◌<◌, length, slice_index, IsTrue};
 ghost use Rattle.std.specs.List.{prefix_len};
 ghost use Rattle.koika_syntax.specs.Lexemes as lexemes;
@@ -51,7 +53,7 @@ pub(crate) fn word(text: &[u8]) -> Result<Lexeme<WordKind>, Flaw>
     })
 }
 
-// How many bytes at the front can stand in a word, whose first byte begins one.
+// How many bytes at the front can be in a word, whose first byte begins one.
 fn word_len(bytes: &[u8]) -> usize
     requires some_byte { 0 < length bytes.now }
     requires first { IsTrue (lexemes.begins_word (slice_index bytes.now 0)) }
