@@ -1,3 +1,5 @@
+//! Language: what is declared of enums and structs.
+
 use crate::ty::Ty;
 use kw_bits::{Bits, Sequence, Text};
 

@@ -1,3 +1,5 @@
+//! Language: members, fields and structs found by name or number.
+
 ghost use Rattle.std.specs.Prelude.{◌≡◌, ◌*◌, ◌+◌, ◌<◌, ◌≤◌, drop, length, position};
 ghost use Rattle.std.specs.Str.{bytes_eq};
 ghost use Rattle.koika_types.specs.Types.{IsType, fields_of, total_width, width};

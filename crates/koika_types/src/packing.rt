@@ -1,3 +1,5 @@
+//! Language: from a value to its bits.
+
 ghost use Rattle.std.specs.Prelude.{◌≡◌, ◌-◌, ◌*◌, map};
 ghost use Rattle.koika_types.specs.Types.{IsType, width};
 ghost use Rattle.koika_types.specs.Values.{AreParts, IsOf, IsValue, packed, stacked, stacked_up};

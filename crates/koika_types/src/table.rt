@@ -1,3 +1,5 @@
+//! Language: the table of declared types, each of which names earlier ones alone.
+
 ghost use Rattle.std.specs.Prelude.{◌≡◌, ◌+◌, ◌<◌, min, OnOk, OnErr, [], ◌∷◌, ◌++◌, length};
 ghost use Rattle.koika_types.specs.Types.{AreTypes, IsEnum, IsTable, IsType, IsWidth, struct_of, width, total_width};
 
@@ -33,7 +35,7 @@ impl Model for TypeTable {
 }
 
 impl TypeTable {
-    /// The table without declarations, which takes no memory.
+    /// The table without declarations, which allocates nothing.
     pub fn new(alloc: Global) -> TypeTable
         ensures enums { result.enums ≡ [] }
         ensures structs { result.structs ≡ [] }

@@ -1,3 +1,5 @@
+//! Language: the types of the source language.
+
 ghost use Rattle.std.specs.Prelude.{◌↔◌, IsTrue};
 ghost use Rattle.koika_types.specs.Types.{SameTy};
 

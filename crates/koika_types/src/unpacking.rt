@@ -1,3 +1,5 @@
+//! Language: from bits to the value of a type.
+
 ghost use Rattle.std.specs.Prelude.{◌≡◌, ◌*◌, IfOk, map, replicate};
 ghost use Rattle.kw_bits.specs.Laws.{HasWidth};
 ghost use Rattle.koika_types.specs.Types.{IsType, width};

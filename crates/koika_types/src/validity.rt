@@ -1,3 +1,5 @@
+//! Language: which types are valid, and how wide they are.
+
 ghost use Rattle.std.specs.Prelude.{◌≡◌, ◌*◌, ◌≤◌, ◌↔◌, All, IsTrue};
 ghost use Rattle.koika_types.specs.Types.{AreTypes, Finds, IsEnum, IsMember, IsType, IsWidth, width};
 ghost use Rattle.koika_types.specs.declared.ty.Ty.{Enum, Struct};

@@ -1,3 +1,5 @@
+//! Language: the values of the source language.
+
 use kw_bits::{Bits, Sequence};
 
 /// A value of the source language.
