@@ -9,3 +9,4 @@ pub mod Paths
 pub mod ClashLaws
 pub mod Equal
 pub mod Meaning
+pub mod Crossing

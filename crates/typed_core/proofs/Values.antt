@@ -14,8 +14,8 @@ use Rattle.typed_core.specs.declared.action.OneOp.{OneOp}
 use Rattle.typed_core.specs.declared.action.OneOp.TheVariants.{Not, Neg, RedAnd, RedOr, RedXor}
 use Rattle.typed_core.specs.declared.action.TwoOp.{TwoOp}
 use Rattle.typed_core.specs.declared.action.TwoOp.TheVariants.{And, Or, Xor, Add, Sub, Mul, Sll, Srl, Sra, EqBits, Ult, Ulte, Slt, Slte, Concat}
-use Rattle.typed_core.specs.declared.design.HostSpec.{HostSpec}
-use Rattle.typed_core.specs.declared.design.TableSpec.{TableSpec}
+use Rattle.kw_bits.specs.declared.host.HostSpec.{HostSpec}
+use Rattle.kw_bits.specs.declared.table.TableSpec.{TableSpec}
 
 pub ValueFits-unit : ValueFits 0 unit
 ValueFits-unit = record { as_wide = refl; bits = λ h. absurd (omega arith) }

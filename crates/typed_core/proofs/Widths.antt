@@ -11,8 +11,8 @@ use Rattle.typed_core.specs.declared.action.TwoOp.{TwoOp}
 use Rattle.typed_core.specs.declared.action.TwoOp.TheVariants.{And, Or, Xor, Add, Sub, Mul, Sll, Srl, Sra, EqBits, Ult, Ulte, Slt, Slte, Concat}
 use Rattle.typed_core.specs.declared.action.Action.{Action}
 use Rattle.typed_core.specs.declared.action.Action.TheVariants as action
-use Rattle.typed_core.specs.declared.design.HostSpec.{HostSpec}
-use Rattle.typed_core.specs.declared.design.TableSpec.{TableSpec}
+use Rattle.kw_bits.specs.declared.host.HostSpec.{HostSpec}
+use Rattle.kw_bits.specs.declared.table.TableSpec.{TableSpec}
 
 -- ---- one width at most
 

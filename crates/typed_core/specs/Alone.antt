@@ -28,7 +28,7 @@ seen port register (e ∷ events) start =
 abbrev pub is_refused : List Event → Access → Bool
 is_refused events access = list_any (λ (e : Event). clashes access e.access) events
 
--- a read comes to the value that it sees, and is noted with it
+-- a read evaluates to the value that it sees, and is noted with it
 abbrev pub read : List BitVector → ℕ → ℕ → Part BitVector Stopped
 read regs port register events =
     let access : Access = record { write = false; port = port; register = register } in
@@ -46,7 +46,7 @@ write port register value events =
 abbrev pub alone_ports : List BitVector → Ports Stopped
 alone_ports regs = record { read = read regs; write = write; abort = stopped.Abort }
 
--- a body that comes to a value reached its end
+-- a body that has a value reached its end
 abbrev pub outcome_of : Ending BitVector Stopped → Outcome
 outcome_of (Value value) = ends.Done
 outcome_of (Stop stopped.Abort) = ends.Abort

@@ -1,4 +1,4 @@
--- Which accesses of a register cannot share a cycle, after the checks of Kôika's logs (Bourgeat et al., PLDI
+-- Which accesses of a register cannot follow which in a cycle, after the checks of Kôika's logs (Bourgeat et al., PLDI
 -- 2020), as pairs of accesses at ports i and j. It says nothing of which rules made them.
 use Rattle.std.specs.Prelude.{ℕ, Bool, true, false, ◌==◌, ◌&&◌, nat_lt, nat_le}
 use Rattle.typed_core.specs.declared.access.Access.{Access}

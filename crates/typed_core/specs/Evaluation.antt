@@ -1,5 +1,5 @@
--- What an action comes to, after Kôika's semantics (Bourgeat et al., PLDI 2020), given what the ports answer to reads
--- and writes. It says nothing of registers or of a scheduler.
+-- What an action evaluates to, after Kôika's semantics (Bourgeat et al., PLDI 2020), given what the ports answer to
+-- reads and writes. It says nothing of registers or of a scheduler.
 use Rattle.std.specs.Prelude.{ℕ, List, [], ◌∷◌, ◌++◌, if◌then◌else◌, slice_index_or, slice_get, nat_eq, Option, Some, None}
 use Rattle.kw_bits.specs.BitVector.{BitVector}
 use Rattle.kw_bits.specs.Operators as op
@@ -11,8 +11,8 @@ use Rattle.typed_core.specs.declared.action.TwoOp.{TwoOp}
 use Rattle.typed_core.specs.declared.action.TwoOp.TheVariants.{And, Or, Xor, Add, Sub, Mul, Sll, Srl, Sra, EqBits, Ult, Ulte, Slt, Slte, Concat}
 use Rattle.typed_core.specs.declared.action.Action.{Action}
 use Rattle.typed_core.specs.declared.action.Action.TheVariants as action
-use Rattle.typed_core.specs.declared.design.HostSpec.{HostSpec}
-use Rattle.typed_core.specs.declared.design.TableSpec.{TableSpec}
+use Rattle.kw_bits.specs.declared.host.HostSpec.{HostSpec}
+use Rattle.kw_bits.specs.declared.table.TableSpec.{TableSpec}
 
 -- ---- parts of a rule's body
 
@@ -30,7 +30,7 @@ pub record Progress (V S : Type 0) : Type 0 where
 abbrev pub Part : Type 0 → Type 0 → Type 0
 Part V S = List Event → Progress V S
 
--- comes to the value
+-- evaluates to the value
 abbrev pub comes_to : {V S : Type 0} → V → Part V S
 comes_to value events = record { events = events; ending = Value value }
 
@@ -38,7 +38,7 @@ comes_to value events = record { events = events; ending = Value value }
 abbrev pub stops : {V S : Type 0} → S → Part V S
 stops cause events = record { events = events; ending = Stop cause }
 
--- adds the event and comes to the value
+-- adds the event and evaluates to the value
 abbrev pub notes : {V S : Type 0} → Event → V → Part V S
 notes event value events = record { events = events ++ event ∷ []; ending = Value value }
 
@@ -47,7 +47,7 @@ abbrev pub bind : {V W S : Type 0} → List Event → Ending V S → (V → Part
 bind events (Value value) next = next value events
 bind events (Stop cause) next = record { events = events; ending = Stop cause }
 
--- where the first part comes to a value, the second goes on with it
+-- where the first part has a value, the second goes on with it
 infixl 10 ◌>>=◌
 abbrev pub ◌>>=◌ : {V W S : Type 0} → Part V S → (V → Part W S) → Part W S
 (first >>= next) events = bind (first events).events (first events).ending next
@@ -64,7 +64,8 @@ pub record Environment : Type 0 where
   pub externs : Externs
   pub inputs : List BitVector
 
--- what a read at a port of a register comes to, what a write of a value there does, and what an abort stops the rule with
+-- what a read at a port of a register evaluates to, what a write of a value there does, and what an abort stops the
+-- rule with
 pub record Ports (S : Type 0) : Type 0 where
   pub read : ℕ → ℕ → Part BitVector S
   pub write : ℕ → ℕ → BitVector → Part BitVector S
@@ -115,7 +116,7 @@ answer_of (Some spec) x = host.value spec.kind x
 abbrev pub choose : {V S : Type 0} → BitVector → Part V S → Part V S → Part V S
 choose condition first second = if nat_eq condition.number 0 then second else first
 
--- What an action comes to, with these values of the names that are bound round it, the innermost first. Parts are
+-- What an action evaluates to, with these values of the names that are bound round it, the innermost first. Parts are
 -- evaluated from left to right, a write's value before the write, and of an `If` one arm.
 abbrev pub evaluate : {S : Type 0} → Environment → Ports S → Action → List BitVector → Part BitVector S
 evaluate env ports action.Unit locals = comes_to unit

@@ -22,7 +22,7 @@ pub record EnvironmentFits (d : Declarations) (env : Environment) : Type 0 where
 abbrev pub CanEvaluate : Declarations → Action → List BitVector → Type 0
 CanEvaluate d action values = (widths : List ℕ) × HaveWidths widths values × IsTyped d action widths
 
--- and comes to a value unless the rule ends in it
+-- and has a value unless the rule ends in it
 abbrev pub CanBeOperand : Declarations → Action → List BitVector → Type 0
 CanBeOperand d action values = (widths : List ℕ) × HaveWidths widths values × IsOperand d action widths
 
@@ -39,16 +39,16 @@ pub record ValueFits (width : ℕ) (value : BitVector) : Type 0 where
   pub as_wide : value.width ≡ width
   pub bits : 1 ≤ width → IsBits value
 
--- the value that a part comes to, if it comes to one, has this width
+-- the value that a part evaluates to, if it has one, has this width
 abbrev pub EndingFits : {S : Type 0} → ℕ → Ending BitVector S → Type 0
 EndingFits width (Value value) = ValueFits width value
 EndingFits width (Stop cause) = Unit {0}
 
--- a part notes events that fit, and the value that it comes to has this width
+-- a part notes events that fit, and the value that it evaluates to has this width
 abbrev pub ProgressFits : {S : Type 0} → List ℕ → ℕ → Progress BitVector S → Type 0
 ProgressFits widths width progress = EventsFit widths progress.events × EndingFits width progress.ending
 
--- with registers of these widths, a read at these ports comes to a value of its register's width, and the events that
+-- with registers of these widths, a read at these ports has a value of its register's width, and the events that
 -- reads and writes note fit
 pub record PortsFit {S : Type 0} (widths : List ℕ) (ports : Ports S) : Type 0 where
   pub read : (port register width : ℕ) (events : List Event) → IsPort port → slice_get widths register ≡ Some width
@@ -60,7 +60,7 @@ pub record PortsFit {S : Type 0} (widths : List ℕ) (ports : Ports S) : Type 0 
 abbrev pub Continues : List Event → List Event → Type 0
 Continues earlier later = (more : List Event) × (later ≡ earlier ++ more)
 
--- the part only adds events behind those before it
+-- the part only adds events after those before it
 abbrev pub Appends : {V S : Type 0} → Part V S → Type 0
 Appends part = (events : List Event) → Continues events (part events).events
 

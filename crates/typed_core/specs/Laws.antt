@@ -43,7 +43,7 @@ OtherRegister = (later earlier : Access) → later.register ≢ earlier.register
 abbrev pub ActionsAppend : Type 0 → Type 0
 ActionsAppend S = (env : Environment) (ports : Ports S) (action : Action) (values : List BitVector) → PortsAppend ports → Appends (evaluate env ports action values)
 
--- at ports that answer values of the registers' widths and note events that fit, an action of a width comes to a value
+-- at ports that answer values of the registers' widths and note events that fit, an action of a width has a value
 -- of that width, and the events fit
 abbrev pub ActionsFit : Type 0 → Type 0
 ActionsFit S = (d : Declarations) (env : Environment) (ports : Ports S) (action : Action) (locals : List ℕ) (values : List BitVector) (width : ℕ) (events : List Event)

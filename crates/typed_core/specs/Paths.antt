@@ -1,4 +1,4 @@
--- How often the scheduler tries a rule on its paths: what the check that no rule stands twice on a path counts.
+-- How often the scheduler tries a rule on its paths: what the check that no rule occurs twice on a path counts.
 use Rattle.std.specs.Prelude.{◌≡◌, ℕ, ◌+◌, ◌-◌, ◌≤◌, Bool, false, ◌==◌, List, [], ◌∷◌, length, Option, Some, None, if◌then◌else◌, slice_get, slice_index}
 use Rattle.typed_core.specs.Valid.{IsContinuation, IsPath}
 use Rattle.typed_core.specs.declared.design.Node.{Node}

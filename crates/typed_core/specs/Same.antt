@@ -46,7 +46,7 @@ pub record SameDesign (d e : Parts) : Type 0 where
   pub rules : SameRules d.rules e.rules
   pub nodes : d.nodes ≡ e.nodes
 
--- the designs have the same declarations, names and scheduler, and each rule's body comes to the same in every
+-- the designs have the same declarations, names and scheduler, and each rule's body evaluates to the same in every
 -- environment, whatever the ports answer
 pub record DoTheSame (S : Type 0) (d e : Parts) : Type 0 where
   pub regs : d.regs ≡ e.regs

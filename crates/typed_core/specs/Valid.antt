@@ -1,9 +1,10 @@
 -- Which designs are valid: the conditions on a design's parts that its type keeps, after the typing of
 -- Kôika's core (Bourgeat et al., PLDI 2020) at bit vectors of 1 to 128 bits. It says nothing of how large a body is.
-use Rattle.std.specs.Prelude.{◌≡◌, ℕ, ◌+◌, ◌-◌, ◌<◌, ◌≤◌, ◌^◌, ◌⊎◌, List, [], ◌∷◌, length, All, AllPairs, slice_get, Some, ◌≢◌}
+use Rattle.std.specs.Prelude.{◌≡◌, ℕ, ◌+◌, ◌-◌, ◌<◌, ◌≤◌, ◌⊎◌, List, [], ◌∷◌, length, All, AllPairs, slice_get, Some, ◌≢◌}
 use Rattle.kw_bits.specs.BitVector.{BitVector}
 use Rattle.kw_bits.specs.Host as host
 use Rattle.kw_bits.specs.Laws.{HasWidth}
+pub use Rattle.kw_bits.specs.Tables.{IsTable}
 use Rattle.typed_core.specs.Evaluation.{Externs}
 use Rattle.typed_core.specs.Widths.{input_widths, register_widths}
 use Rattle.typed_core.specs.declared.action.OneOp.{OneOp}
@@ -12,16 +13,16 @@ use Rattle.typed_core.specs.declared.action.TwoOp.{TwoOp}
 use Rattle.typed_core.specs.declared.action.TwoOp.TheVariants.{And, Or, Xor, Add, Sub, Mul, Sll, Srl, Sra, EqBits, Ult, Ulte, Slt, Slte, Concat}
 use Rattle.typed_core.specs.declared.action.Action.{Action}
 use Rattle.typed_core.specs.declared.action.Action.TheVariants as action
-use Rattle.typed_core.specs.declared.design.HostSpec.{HostSpec}
+use Rattle.kw_bits.specs.declared.host.HostSpec.{HostSpec}
 use Rattle.typed_core.specs.declared.design.RegDecl.{RegDecl}
 use Rattle.typed_core.specs.declared.design.InputDecl.{InputDecl}
-use Rattle.typed_core.specs.declared.design.TableSpec.{TableSpec}
+use Rattle.kw_bits.specs.declared.table.TableSpec.{TableSpec}
 use Rattle.typed_core.specs.declared.design.Rule.{Rule}
 use Rattle.typed_core.specs.declared.design.Node.{Node}
 use Rattle.typed_core.specs.declared.design.Next.{Next}
 use Rattle.typed_core.specs.declared.design.Next.TheVariants as next
 use Rattle.typed_core.specs.declared.design.Parts.{Parts}
-use Rattle.typed_core.specs.declared.limits.TheConstants.{PORTS, MAX_REGISTERS, MAX_INPUTS, MAX_RULES, MAX_NODES, MAX_TABLE_IN_WIDTH}
+use Rattle.typed_core.specs.declared.limits.TheConstants.{PORTS, MAX_REGISTERS, MAX_INPUTS, MAX_RULES, MAX_NODES}
 
 -- a width of bit vectors
 abbrev pub IsWidth : ℕ → Type 0
@@ -80,8 +81,8 @@ TwoHasWidth Concat left right width = (left + right ≤ 128) × (width ≡ left 
 abbrev pub TakesTwo : TwoOp → BitVector → BitVector → Type 0
 TakesTwo operator x y = (width : ℕ) × TwoHasWidth operator x.width y.width width
 
--- The action comes to a value of this width, or to none where the width is 0, with names of these widths bound round
--- it, the innermost first. Operands come to values.
+-- The action has a value of this width, or none where the width is 0, with names of these widths bound round
+-- it, the innermost first. Operands have values.
 abbrev pub ActionHasWidth : Declarations → Action → List ℕ → ℕ → Type 0
 ActionHasWidth d action.Unit locals width = width ≡ 0
 ActionHasWidth d (action.Const value) locals width = HasWidth value width
@@ -112,24 +113,17 @@ ActionHasWidth d (action.Write' port register p a) locals width =
     (held : ℕ) × ActionHasWidth d a locals held × IsPort port × (slice_get d.regs register ≡ Some held) × (width ≡ 0)
 ActionHasWidth d action.Abort locals width = width ≡ 0
 
--- the action is typed: it has a width, which is 0 for one that comes to no value
+-- the action is typed: it has a width, which is 0 for one that has no value
 abbrev pub IsTyped : Declarations → Action → List ℕ → Type 0
 IsTyped d action locals = (width : ℕ) × ActionHasWidth d action locals width
 
--- the action may be an operand: it comes to a value
+-- the action may be an operand: it has a value
 abbrev pub IsOperand : Declarations → Action → List ℕ → Type 0
 IsOperand d action locals = (width : ℕ) × ActionHasWidth d action locals width × (1 ≤ width)
 
 -- a register's first value has its width
 abbrev pub IsRegister : RegDecl → Type 0
 IsRegister decl = HasWidth decl.first decl.width
-
--- a table has an entry of its output width for each number of its input width
-pub record IsTable (table : TableSpec) : Type 0 where
-  pub some_input : 1 ≤ table.in_width
-  pub few_inputs : table.in_width ≤ MAX_TABLE_IN_WIDTH
-  pub count : length table.entries ≡ 2 ^ table.in_width
-  pub entries : All (λ (entry : BitVector). HasWidth entry table.out_width) table.entries
 
 -- a host function's input may have its width
 abbrev pub IsHost : HostSpec → Type 0
@@ -163,7 +157,7 @@ IsPath nodes from (to ∷ path) = LeadsTo nodes from to × IsPath nodes to path
 abbrev pub TryOthers : List Node → ℕ → ℕ → Type 0
 TryOthers nodes a b = (m n : Node) → slice_get nodes a ≡ Some m → slice_get nodes b ≡ Some n → m.rule ≢ n.rule
 
--- no rule stands twice on a path from the root
+-- no rule occurs twice on a path from the root
 abbrev pub TriesNoneTwice : List Node → Type 0
 TriesNoneTwice nodes = (path : List ℕ) → IsPath nodes 0 path → AllPairs (TryOthers nodes) (0 ∷ path)
 

@@ -1,3 +1,5 @@
+//! Core: accesses of registers, events, and which access cannot follow which.
+
 ghost use Rattle.std.specs.Prelude.{◌≡◌};
 ghost use Rattle.typed_core.specs.Clash.{clashes};
 

@@ -1,3 +1,5 @@
+//! Core: actions, the bodies of rules.
+
 ghost use Rattle.std.specs.Prelude.{◌≡◌};
 ghost use Rattle.typed_core.specs.Evaluation.{apply_one, apply_two};
 ghost use Rattle.typed_core.specs.Valid.{TakesTwo};
@@ -46,7 +48,7 @@ pub enum TwoOp {
     Ulte,
     Slt,
     Slte,
-    /// The left operand's bits stand above the right one's.
+    /// The left operand's bits are above the right one's.
     Concat,
 }
 

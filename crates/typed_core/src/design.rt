@@ -1,9 +1,11 @@
+//! Core: designs that are valid by their type.
+
 ghost use Rattle.std.specs.Prelude.{◌≡◌, ◌↔◌, IsSome, IfSome, IsTrue};
 
 use crate::action::Action;
 use crate::equality::are_same_rules;
 use crate::validity::is_valid;
-use kw_bits::{Bits, HostKind, Sequence, Text};
+use kw_bits::{Bits, HostSpec, Sequence, TableSpec, Text};
 use std::marker::Model;
 
 /// A register: its name, its width and its first value.
@@ -19,21 +21,6 @@ pub struct RegDecl {
 pub struct InputDecl {
     pub name: Text,
     pub width: u32,
-}
-
-/// A table from numbers below 2 to its input width to bit vectors of its output width.
-#[derive(Debug, PartialEq, Eq, Drop)]
-pub struct TableSpec {
-    pub in_width: u32,
-    pub out_width: u32,
-    pub entries: Sequence<Bits>,
-}
-
-/// A host function: what it answers and how many bits its input has.
-#[derive(Clone, Copy, Debug, PartialEq, Eq)]
-pub struct HostSpec {
-    pub kind: HostKind,
-    pub in_width: u32,
 }
 
 /// A rule: its name and its body.

@@ -1,7 +1,9 @@
+//! Core: equality of designs by value.
+
 ghost use Rattle.std.specs.Prelude.{◌↔◌, IsTrue};
 ghost use Rattle.typed_core.specs.Same.{SameRules};
 
-use crate::design::{HostSpec, InputDecl, Node, RegDecl, Rule, TableSpec};
+use crate::design::{InputDecl, Node, RegDecl, Rule};
 use kw_bits::{Same, Sequence};
 
 /// Whether the rules are the same, one by one.
@@ -18,19 +20,6 @@ impl Same for RegDecl {
 }
 
 impl Same for InputDecl {
-    ghost use Rattle.std.proofs.Common.{rules};
-
-    ghost same = { λ x y. Prim.search rules };
-}
-
-impl Same for TableSpec {
-    ghost use Rattle.std.proofs.Common.{rules};
-    ghost use Rattle.std.specs.Cmp.Lexicographic.{pointwise_decides};
-
-    ghost same = { λ x y. Prim.search (rules, pointwise_decides) };
-}
-
-impl Same for HostSpec {
     ghost use Rattle.std.proofs.Common.{rules};
 
     ghost same = { λ x y. Prim.search rules };

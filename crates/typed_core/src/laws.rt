@@ -1,3 +1,5 @@
+//! Core: laws of accesses, evaluation and designs.
+
 // Each law of accesses, of evaluation and of designs is the contract of a function that does nothing.
 ghost use Rattle.typed_core.specs.Laws as law;
 ghost use Rattle.typed_core.specs.Same.{DoTheSame, SameDesign};

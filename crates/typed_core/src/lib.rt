@@ -1,7 +1,7 @@
 //! The core language: designs whose rules are actions on bit vectors.
 //!
-//! `specs/Evaluation.antt` says what an action comes to, `specs/Alone.antt` what a rule does when it runs alone,
-//! `specs/Clash.antt` which two accesses cannot share a cycle, `specs/Valid.antt` which designs are valid. A `Design`
+//! `specs/Evaluation.antt` says what an action evaluates to, `specs/Alone.antt` what a rule does when it runs alone,
+//! `specs/Clash.antt` which accesses cannot follow which, `specs/Valid.antt` which designs are valid. A `Design`
 //! is valid by its type. The checker's lowering makes designs; every engine runs them.
 #![tactic(auto)]
 
@@ -19,7 +19,8 @@ mod width;
 
 pub use access::{Access, Event, Events};
 pub use action::{Action, OneOp, TwoOp};
-pub use design::{Design, HostSpec, InputDecl, Next, Node, Parts, RegDecl, Rule, TableSpec};
+pub use design::{Design, InputDecl, Next, Node, Parts, RegDecl, Rule};
+pub use kw_bits::{HostSpec, TableSpec};
 pub use laws::{
     accesses_clash_by_their_ports, actions_keep_what_ports_keep, equal_designs_do_the_same,
     equality_is_an_equivalence,

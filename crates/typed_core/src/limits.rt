@@ -1,3 +1,7 @@
+//! Core: limits of designs.
+
+use kw_bits::TableSpec;
+
 /// A register has this many ports, numbered from 0.
 pub const PORTS: u32 = 4;
 
@@ -14,4 +18,4 @@ pub const MAX_RULES: usize = 256;
 pub const MAX_NODES: usize = 1024;
 
 /// A table's input has at most this many bits.
-pub const MAX_TABLE_IN_WIDTH: u32 = 12;
+pub const MAX_TABLE_IN_WIDTH: u32 = TableSpec::MAX_IN_WIDTH;

@@ -1,3 +1,5 @@
+//! Core: how a rule ends.
+
 use crate::access::{Access, Events};
 
 /// What stops a rule before its end.

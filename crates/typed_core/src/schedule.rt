@@ -1,3 +1,5 @@
+//! Core: the check that no rule is scheduled twice on a path.
+
 ghost use Rattle.std.specs.Prelude.{◌≡◌, ◌+◌, ◌<◌, ◌≤◌, ◌↔◌, IsTrue, length};
 ghost use Rattle.typed_core.specs.Paths.{AreMost, Ascends, IsMost, number_behind};
 ghost use Rattle.typed_core.specs.Valid.{AreNodes, IsContinuation, TriesNoneTwice};
@@ -5,7 +7,7 @@ ghost use Rattle.typed_core.specs.Valid.{AreNodes, IsContinuation, TriesNoneTwic
 use crate::design::{Next, Node};
 use crate::limits::MAX_NODES;
 
-/// Whether no rule stands twice on a path from the root, in a scheduler whose nodes are valid.
+/// Whether no rule occurs twice on a path from the root, in a scheduler whose nodes are valid.
 pub(crate) fn tries_none_twice(nodes: &[Node], rules: usize) -> bool
     requires few { length nodes.now ≤ MAX_NODES }
     requires nodes { AreNodes rules nodes.now }

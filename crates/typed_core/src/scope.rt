@@ -1,9 +1,11 @@
+//! Core: the names that are bound around an action.
+
 ghost use Rattle.std.specs.Prelude.{◌≡◌, [], ◌∷◌, slice_get};
 
 use std::marker::Model;
 
 /// What the names that are bound round an action stand for, the innermost first. One that is bound inside others
-/// stands in front of them for as long as its body is looked at, so binding copies nothing and takes no memory.
+/// is in front of them for as long as its body is looked at, so binding copies nothing and takes no memory.
 #[derive(Drop)]
 pub struct Scope<'a, T> {
     innermost: Option<(T, &'a Scope<'a, T>)>,

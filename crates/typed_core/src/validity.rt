@@ -1,14 +1,16 @@
+//! Core: the check of a design's parts.
+
 ghost use Rattle.std.specs.Prelude.{◌≤◌, ◌↔◌, All, IsTrue, length, []};
 ghost use Rattle.kw_bits.specs.Laws.{HasWidth};
 ghost use Rattle.typed_core.specs.Valid.{ActionHasWidth, AreNodes, declarations, IsContinuation, IsHost, IsNode, IsRegister, IsTable, IsValid, IsWidth, TriesNoneTwice};
 
 use crate::action::Action;
-use crate::design::{HostSpec, InputDecl, Next, Node, Parts, RegDecl, TableSpec};
+use crate::design::{InputDecl, Next, Node, Parts, RegDecl};
 use crate::limits::{MAX_INPUTS, MAX_NODES, MAX_REGISTERS, MAX_RULES, MAX_TABLE_IN_WIDTH};
 use crate::schedule::tries_none_twice;
 use crate::scope::Scope;
 use crate::width::width_of;
-use kw_bits::{Bits, Sequence};
+use kw_bits::{Bits, HostSpec, Sequence, TableSpec};
 
 /// Whether a design of these parts is valid.
 pub(crate) fn is_valid(parts: &Parts) -> bool
@@ -95,7 +97,7 @@ fn are_rules(parts: &Parts) -> bool
     rules.len() <= MAX_RULES && rules.iter().all(|rule| is_unit(parts, &rule.body))
 }
 
-// Whether a rule's body is typed and comes to no value.
+// Whether a rule's body is typed and has no value.
 fn is_unit(parts: &Parts, body: &Action) -> bool
     ensures { IsTrue result ↔ ActionHasWidth (declarations parts.now) body.now [] 0 }
 {

@@ -1,3 +1,5 @@
+//! Core: the width of an action's value.
+
 ghost use Rattle.std.specs.Prelude.{◌≡◌, ◌+◌, ◌-◌, ◌≤◌, ◌<◌, slice_get, Some};
 ghost use Rattle.typed_core.specs.Finds.{Finds};
 ghost use Rattle.typed_core.specs.Widths.{input_widths, register_widths};
@@ -9,7 +11,7 @@ use crate::limits::PORTS;
 use crate::scope::Scope;
 use kw_bits::Bits;
 
-/// The width of an action's value, 0 where it comes to none, if the action is typed.
+/// The width of an action's value, 0 where it has none, if the action is typed.
 #[cycle(width)]
 pub(crate) fn width_of(parts: &Parts, action: &Action, scope: &Scope<u32>) -> Option<u32>
     ensures { Finds (ActionHasWidth (declarations parts.now) action.now scope.now) result }
@@ -55,7 +57,7 @@ pub(crate) fn width_of(parts: &Parts, action: &Action, scope: &Scope<u32>) -> Op
     }
 }
 
-// The width of an action's value, if the action is typed and comes to a value.
+// The width of an action's value, if the action is typed and has a value.
 #[cycle(width)]
 fn operand_width(parts: &Parts, action: &Action, scope: &Scope<u32>) -> Option<u32>
     ensures width { Finds (λ width. ActionHasWidth (declarations parts.now) action.now scope.now width × (1 ≤ width)) result }
