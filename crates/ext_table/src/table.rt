@@ -1,14 +1,14 @@
+//! Core: a table that keeps an entry for each input.
+
 ghost use Rattle.std.specs.Prelude.{◌≡◌, ◌^◌, ◌≤◌, ◌↔◌, length, slice_get, All, Some, IsOk, IfOk, codes};
 ghost use Rattle.kw_bits.specs.BitVector.{BitVector};
 ghost use Rattle.kw_bits.specs.Laws.{HasWidth};
-ghost use Rattle.typed_core.specs.Valid.{IsTable};
+ghost use Rattle.kw_bits.specs.Tables.{IsTable};
 
-use kw_bits::{Bits, Sequence};
+use kw_bits::{Bits, Sequence, TableSpec};
 use std::error::Error;
 use std::fmt;
 use std::marker::Model;
-use typed_core::TableSpec;
-use typed_core::limits::MAX_TABLE_IN_WIDTH;
 
 /// A table from bit vectors of 1 to 12 bits to bit vectors of one width, with an entry for each input.
 #[derive(Debug, Drop)]
@@ -17,8 +17,8 @@ pub struct Table {
 }
 
 impl Model for Table {
-    ghost use Rattle.typed_core.specs.Valid.{IsTable};
-    ghost use Rattle.typed_core.specs.declared.design.TableSpec.{TableSpec};
+    ghost use Rattle.kw_bits.specs.Tables.{IsTable};
+    ghost use Rattle.kw_bits.specs.declared.table.TableSpec.{TableSpec};
 
     ghost Value = { TableSpec };
 
@@ -31,7 +31,7 @@ impl Table {
     /// The table of these entries, in order of the input. A table of `in_width` bits needs 2 to the `in_width` of them.
     pub fn new(in_width: u32, out_width: u32, entries: Vec<Bits>) -> Result<Table, TableLength>
         requires some_input { 1 ≤ in_width }
-        requires few_inputs { in_width ≤ MAX_TABLE_IN_WIDTH }
+        requires few_inputs { in_width ≤ TableSpec.MAX_IN_WIDTH }
         requires entries { All (λ (entry : BitVector). HasWidth entry out_width) entries.items }
         ensures ok { IsOk result ↔ (length entries.items ≡ 2 ^ in_width) }
         ensures table { IfOk result
