@@ -1,12 +1,7 @@
--- Stored host functions: which functions on numbers answer a kind, and what contracts see of a stored one.
+-- Which functions on numbers return what a kind of host function says.
 use Rattle.std.specs.Prelude.{◌≡◌, ℕ, ◌+◌, ◌*◌, ◌/◌, ◌^◌, ◌<◌}
 use Rattle.kw_bits.specs.Host as host
 use Rattle.kw_bits.specs.declared.host.HostKind.{HostKind}
-
--- what a host function answers, and how many bits its input has
-pub record HostFunction : Type 0 where
-  pub kind : HostKind
-  pub in_width : ℕ
 
 -- a function of one argument may be called on each number of w bits, and then gives the kind's answer. It is given by
 -- the arguments that it may be called on, and by the results that it may give for an argument

@@ -1,3 +1,5 @@
+//! Core: the result of a host function as a bit vector, and the two halves of an input.
+
 ghost use Rattle.std.specs.Prelude.{◌≡◌, ◌%◌, ◌/◌, ◌^◌, ◌≤◌, ◌<◌};
 ghost use Rattle.kw_bits.specs.Host as host;
 

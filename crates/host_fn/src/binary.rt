@@ -1,3 +1,5 @@
+//! Core: a stored host function of two arguments.
+
 ghost use Rattle.std.specs.Prelude.{◌≡◌, ◌%◌};
 ghost use Rattle.kw_bits.specs.Host as host;
 ghost use Rattle.host_fn.specs.HostFn.{AnswersTwo};
@@ -5,7 +7,7 @@ ghost use Rattle.host_fn.specs.HostFn.{AnswersTwo};
 use crate::answer::{answer_of, high_half, low_half};
 use kw_bits::{Bits, HostKind};
 
-// A function of two arguments, beside the fact that it answers its kind.
+// A function of two arguments, beside the fact that it returns what its kind says.
 #[derive(Clone, Copy)]
 pub(crate) struct Binary {
     pub(crate) kind: HostKind,

@@ -1,3 +1,5 @@
+//! Core: how host functions are stored, and how a stored one is called.
+
 ghost use Rattle.std.specs.Prelude.{◌≡◌, ◌↔◌, IsSome, IfSome};
 ghost use Rattle.kw_bits.specs.Host as host;
 ghost use Rattle.host_fn.specs.HostFn.{AnswersOne, AnswersTwo};
@@ -13,7 +15,8 @@ type One = fn(u64) -> u64;
 type Two = fn(u64, u64) -> u64;
 
 impl HostFn {
-    /// A function of one argument. There is none where the input width is outside 1 to 12 or the kind has two arguments.
+    /// A function of one argument. There is none where the input width is outside 1 to 12 or the kind has two
+    /// arguments.
     pub fn new(kind: HostKind, in_width: u32, call: fn(u64) -> u64) -> Option<HostFn>
         requires { host.TakesWidth kind in_width → host.arity kind ≡ 1 → AnswersOne kind in_width (One.pre call) (One.post call) }
         ensures some { IsSome result ↔ (host.TakesWidth kind in_width × (host.arity kind ≡ 1)) }
@@ -31,8 +34,8 @@ impl HostFn {
         })
     }
 
-    /// A function of two arguments, the halves of the input. There is none where the input width is outside 1 to 12 or odd, or
-    /// the kind has one argument.
+    /// A function of two arguments, the halves of the input. There is none where the input width is outside 1 to 12 or
+    /// odd, or the kind has one argument.
     pub fn new_two(kind: HostKind, in_width: u32, call: fn(u64, u64) -> u64) -> Option<HostFn>
         requires { host.TakesWidth kind in_width → host.arity kind ≡ 2 → AnswersTwo kind in_width (Two.pre call) (Two.post call) }
         ensures some { IsSome result ↔ (host.TakesWidth kind in_width × (host.arity kind ≡ 2)) }
@@ -50,7 +53,7 @@ impl HostFn {
         })
     }
 
-    /// What the function answers.
+    /// What the function returns.
     pub fn kind(&self) -> HostKind
         ensures { result ≡ (spec_of self.now).kind }
     {
@@ -71,14 +74,14 @@ impl HostFn {
         }
     }
 
-    /// How many bits its answers have.
+    /// How many bits its results have.
     pub fn out_width(&self) -> u32
         ensures { result ≡ host.out_width (spec_of self.now).kind (spec_of self.now).in_width }
     {
         self.kind().out_width(self.in_width())
     }
 
-    /// The stored function's answer to an input of its width.
+    /// The stored function's result for an input of its width.
     pub fn ask(&self, x: Bits) -> Bits
         requires { x.width ≡ (spec_of self.now).in_width }
         ensures { result ≡ host.value (spec_of self.now).kind x }

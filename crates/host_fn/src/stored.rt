@@ -1,3 +1,5 @@
+//! Core: the type of stored host functions.
+
 use crate::binary::Binary;
 use crate::unary::Unary;
 

@@ -1,3 +1,5 @@
+//! Core: a stored host function of one argument.
+
 ghost use Rattle.std.specs.Prelude.{◌≡◌};
 ghost use Rattle.kw_bits.specs.Host as host;
 ghost use Rattle.host_fn.specs.HostFn.{AnswersOne};
@@ -5,7 +7,7 @@ ghost use Rattle.host_fn.specs.HostFn.{AnswersOne};
 use crate::answer::answer_of;
 use kw_bits::{Bits, HostKind};
 
-// A function of one argument, beside the fact that it answers its kind.
+// A function of one argument, beside the fact that it returns what its kind says.
 #[derive(Clone, Copy)]
 pub(crate) struct Unary {
     pub(crate) kind: HostKind,
