@@ -102,7 +102,7 @@ alone-same env regs (x ∷ xs) (y ∷ ys) zero h =
     ap (λ (meaning : List BitVector → List Event → Progress BitVector Stopped). let end = meaning [] [] in let run : Alone = record { events = end.events; outcome = outcome_of end.ending } in run) (evaluate-same env (alone_ports regs) x.body y.body h.0.1)
 alone-same env regs (x ∷ xs) (y ∷ ys) (suc rule) h = alone-same env regs xs ys rule h.1
 
-length-same : (xs ys : List Rule) → SameRules xs ys → length xs ≡ length ys
+pub length-same : (xs ys : List Rule) → SameRules xs ys → length xs ≡ length ys
 length-same [] [] h = refl
 length-same [] (y ∷ ys) h = absurd h
 length-same (x ∷ xs) [] h = absurd h

@@ -11,3 +11,4 @@ pub mod Steps
 pub mod Clashes
 pub mod PortRuns
 pub mod Alike
+pub mod Crossing

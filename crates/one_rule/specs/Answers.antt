@@ -21,8 +21,8 @@ declarations_of env = declarations env.design.now
 abbrev pub value_of : Option BitVector → BitVector
 value_of value = unwrap_or value unit
 
--- the answer says what the part comes to, and the events after it are those that are stood for; for want of memory it
--- says nothing
+-- the answer says what the part evaluates to, and the events after it are those that are stood for; when out of
+-- memory it says nothing
 abbrev pub Answers : {V : Type 0} → (V → BitVector) → (List Event → Type 0) → Result V Interrupt → Progress BitVector Stopped → Type 0
 Answers view stands_for (Ok value) p = stands_for p.events × (p.ending ≡ Value (view value))
 Answers view stands_for (Err (interrupt.Stop cause)) p = stands_for p.events × (p.ending ≡ Stop cause)

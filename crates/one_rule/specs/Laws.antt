@@ -25,7 +25,7 @@ use Rattle.one_rule.specs.declared.cycle.Fired.{Fired}
 use Rattle.one_rule.specs.declared.cycle.State.{State}
 use Rattle.one_rule.specs.declared.rows.Row.{Row}
 
--- the scheduler is valid: each node tries a rule that there is and goes on to greater numbers, and no rule stands twice
+-- the scheduler is valid: each node tries a rule that there is and goes on to greater numbers, and no rule occurs twice
 -- on a path
 pub record IsScheduled (system : System) : Type 0 where
   pub nodes : AreNodes system.rules system.nodes
@@ -33,7 +33,7 @@ pub record IsScheduled (system : System) : Type 0 where
 
 -- ---- the walk
 
--- the walk through a cycle comes to the end of its path
+-- the walk through a cycle reaches the end of its path
 abbrev pub WalksEnd : Type 0
 WalksEnd = (system : System) (inputs regs : List BitVector) → IsScheduled system → (walk_of system inputs regs).at ≡ next.End
 

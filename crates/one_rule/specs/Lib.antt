@@ -3,6 +3,7 @@ pub mod Cycle
 pub mod Run
 pub mod Rows
 pub mod PortRun
+pub mod Hosts
 pub mod Externs
 pub mod Answers
 pub mod Laws

@@ -23,22 +23,22 @@ pub record AreReady (d : Declarations) (widths : List ℕ) (reading : Ports Stop
   pub abort : reading.abort ≡ Abort
   pub events : (events : List Event) × stands_for events × EventsFit widths events
 
--- what interrupts the part says how it ends, and for want of memory nothing
+-- what interrupts the part says how it ends, and when out of memory nothing
 abbrev pub Interrupts : (List Event → Type 0) → Interrupt → Progress BitVector Stopped → Type 0
 Interrupts stands_for (interrupt.Stop cause) p = stands_for p.events × (p.ending ≡ Stop cause)
 Interrupts stands_for interrupt.NoMemory p = Unit {0}
 
--- the second part goes on with the value of the first, where it comes to one
+-- the second part goes on with the value of the first, where it has one
 abbrev pub bind : Part BitVector Stopped → (BitVector → Part BitVector Stopped) → Part BitVector Stopped
 bind first next = first >>= next
 
--- what is left says what the part comes to, and the events after it are those that are stood for
+-- what is left says what the part evaluates to, and the events after it are those that are stood for
 abbrev pub Leaves : (List Event → Type 0) → End → Slot → Progress BitVector Stopped → Type 0
 Leaves stands_for end.Unit slot p = stands_for p.events × (p.ending ≡ Value unit)
 Leaves stands_for end.Value slot p = stands_for p.events × (p.ending ≡ Value slot.value)
 Leaves stands_for end.Interrupt slot p = Interrupts stands_for slot.interrupt p
 
--- the same of a part that comes to a value
+-- the same of a part that has a value
 abbrev pub LeavesValue : (List Event → Type 0) → Bool → Slot → Progress BitVector Stopped → Type 0
 LeavesValue stands_for true slot p = stands_for p.events × (p.ending ≡ Value slot.value)
 LeavesValue stands_for false slot p = Interrupts stands_for slot.interrupt p
@@ -48,16 +48,16 @@ abbrev pub OnTrue : Bool → Type 0 → Type 0
 OnTrue true P = P
 OnTrue false P = Unit {0}
 
--- the action comes to a value of such a width
+-- the action has a value of such a width
 abbrev pub HasOperand : Declarations → Action → List BitVector → (ℕ → Type 0) → Type 0
 HasOperand d a values Takes = (widths : List ℕ) × HaveWidths widths values × (width : ℕ) × ActionHasWidth d a widths width × (1 ≤ width) × Takes width
 
--- the actions come to values that the operator takes
+-- the actions have values that the operator takes
 abbrev pub AreOperands : Declarations → TwoOp → Action → Action → List BitVector → Type 0
 AreOperands d operator a b values =
     (widths : List ℕ) × HaveWidths widths values × (left : ℕ) × (right : ℕ) × (width : ℕ) × ActionHasWidth d a widths left × ActionHasWidth d b widths right × (1 ≤ left) × (1 ≤ right) × TwoHasWidth operator left right width
 
--- the action comes to a value, and the body can be evaluated where a name stands for it
+-- the action has a value, and the body can be evaluated where a name stands for it
 abbrev pub HasBody : Declarations → Action → Action → List BitVector → Type 0
 HasBody d a body values =
     (widths : List ℕ) × HaveWidths widths values × (bound : ℕ) × (width : ℕ) × ActionHasWidth d a widths bound × (1 ≤ bound) × ActionHasWidth d body (bound ∷ widths) width

@@ -15,7 +15,7 @@ use Rattle.one_rule.specs.Cycle.{environment, flags}
 use Rattle.one_rule.specs.Walk.{Firing, walk_from}
 use Rattle.one_rule.specs.declared.rows.Row.{Row}
 
--- A read that the scheduler log refuses stops the rule. Every other comes to the value of the last write below its
+-- A read that the scheduler log refuses stops the rule. Every other evaluates to the value of the last write below its
 -- port in the rule log, else in the scheduler log, else to the start value, and is noted with it.
 abbrev pub read_behind : List Event → List BitVector → ℕ → ℕ → Part BitVector Stopped
 read_behind log regs port register events =
@@ -31,7 +31,7 @@ write_behind log port register value events =
     if is_refused log access || is_refused events access then stops (Refused access) events
     else notes (record { access = access; value = value }) unit events
 
--- the ports of a rule that runs behind a scheduler log, in a cycle that began on these registers
+-- the ports of a rule that runs after a scheduler log, in a cycle that began on these registers
 abbrev pub ports_behind : List Event → List BitVector → Ports Stopped
 ports_behind log regs = record { read = read_behind log regs; write = write_behind log; abort = Abort }
 
@@ -50,7 +50,7 @@ pub record PortState : Type 0 where
   pub log : List Event
   pub fired : List ℕ
 
--- the log of a rule that comes to its end joins the scheduler log; every other is dropped
+-- the log of a rule that reaches its end joins the scheduler log; every other is dropped
 abbrev pub merge : PortState → ℕ → List Event → Ending BitVector Stopped → Option PortState
 merge state rule events (Value value) = Some (record { log = state.log ++ events; fired = state.fired ++ rule ∷ [] })
 merge state rule events (Stop cause) = None

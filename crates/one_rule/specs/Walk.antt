@@ -33,7 +33,7 @@ is_at number next.End = false
 abbrev pub pass : {S : Type 0} → Firing S → ℕ → Node → Walk S → Walk S
 pass fire number node walk = if is_at number walk.at then visit fire node walk else walk
 
--- The walk past these nodes, the first of them of this number. It visits the ones that it comes to, and ends,
+-- The walk past these nodes, the first of them of this number. It visits the ones that it reaches, and ends,
 -- since continuations are nodes of greater numbers.
 abbrev pub walk_past : {S : Type 0} → Firing S → ℕ → List Node → Walk S → Walk S
 walk_past fire number [] walk = walk

@@ -1,3 +1,5 @@
+//! Engines: a cycle of whole rules, one after another, as a plain program.
+
 ghost use Rattle.std.specs.Prelude.{◌≡◌, ◌<◌, [], ◌∷◌, IfOk, length, map};
 ghost use Rattle.typed_core.specs.Alone.{after, after_one};
 ghost use Rattle.typed_core.specs.Fits.{EventsFit};

@@ -1,3 +1,5 @@
+//! Engines: the evaluator of actions at any ports.
+
 ghost use Rattle.std.specs.Prelude.{◌≡◌, ◌<◌, ℕ, List, length, slice_get, Some};
 ghost use Rattle.kw_bits.specs.BitVector.{BitVector};
 ghost use Rattle.typed_core.specs.Evaluation as core;
@@ -18,7 +20,7 @@ use typed_core::{Action, Design, Scope, Stopped};
 /// What keeps a part of a rule's body from coming to a value.
 #[derive(Clone, Copy, Debug, PartialEq, Eq)]
 pub enum Interrupt {
-    /// The ports wanted memory.
+    /// The ports ran out of memory.
     NoMemory,
     /// The rule stops.
     Stop(Stopped),
@@ -87,7 +89,7 @@ pub trait Ports {
         ensures widths { widths self.new ≡ widths self.old };
 }
 
-/// What an action comes to, with these values of the names that are bound round it: parts from left to right, a
+/// What an action evaluates to, with these values of the names that are bound round it: parts from left to right, a
 /// write's value before the write, and of an `If` one arm. It takes no memory itself.
 pub fn evaluate<E: Outside, P: Ports>(
     env: &Environment<E>,

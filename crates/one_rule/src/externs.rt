@@ -1,11 +1,17 @@
+//! Engines: the tables and host functions that rules ask.
+
 ghost use Rattle.std.specs.Prelude.{◌≡◌, ◌↔◌, ℕ, All, IfOk, IsTrue, Contains, slice_get};
 ghost use Rattle.typed_core.specs.Evaluation.{answer_of, entry_of};
 ghost use Rattle.typed_core.specs.Valid.{HostHasWidth, IsTable, TableHasWidth, externs_of};
-ghost use Rattle.one_rule.specs.Externs.{AreOffered, host_spec, host_specs, kept};
+ghost use Rattle.one_rule.specs.Externs.{AreOffered, kept};
+ghost use Rattle.host_fn.specs.Stored.{spec_of};
+ghost use Rattle.one_rule.specs.Hosts.{host_specs};
 
 mod kept;
+mod values;
 
 pub use self::kept::Externs;
+use self::values::HostValues;
 use crate::evaluation::Outside;
 use ext_table::Table;
 use host_fn::HostFn;
@@ -40,7 +46,7 @@ impl Externs {
         ensures answer { result ≡ answer_of (slice_get (kept self.now).hosts host) x }
         ensures width { (width : ℕ) → HostHasWidth (kept self.now).hosts host x.width width → result.width ≡ width }
     {
-        self.hosts[host as usize].ask(x)
+        self.hosts.get(host as usize).ask(x)
     }
 }
 
@@ -80,13 +86,17 @@ fn table_of(alloc: Global, spec: &TableSpec) -> Result<Table, NoMemory>
     }
 }
 
-fn hosts_of(alloc: Global, specs: &[HostSpec], offered: &[HostFn]) -> Result<Vec<HostFn>, NoMemory>
+fn hosts_of(
+    alloc: Global,
+    specs: &[HostSpec],
+    offered: &[HostFn],
+) -> Result<Sequence<HostValues>, NoMemory>
     requires { AreOffered specs.now (host_specs offered.now) }
-    ensures { IfOk result (λ hosts. host_specs hosts.items ≡ specs.now) }
+    ensures { IfOk result (λ hosts. hosts ≡ specs.now) }
 {
-    let mut hosts = Vec::new(alloc);
+    let mut hosts = Sequence::new(alloc);
     for spec in specs {
-        hosts.push(host_of(spec, offered))?;
+        hosts.push(HostValues::new(alloc, &host_of(spec, offered))?)?;
     }
     Ok(hosts)
 }
@@ -94,7 +104,7 @@ fn hosts_of(alloc: Global, specs: &[HostSpec], offered: &[HostFn]) -> Result<Vec
 // The first that is offered of a kind and a width.
 fn host_of(spec: &HostSpec, offered: &[HostFn]) -> HostFn
     requires { Contains (host_specs offered.now) spec.now }
-    ensures { host_spec result ≡ spec.now }
+    ensures { spec_of result ≡ spec.now }
 {
     for function in offered {
         if meets(function, spec) {
@@ -105,7 +115,7 @@ fn host_of(spec: &HostSpec, offered: &[HostFn]) -> HostFn
 }
 
 fn meets(function: &HostFn, spec: &HostSpec) -> bool
-    ensures { IsTrue result ↔ (host_spec function.now ≡ spec.now) }
+    ensures { IsTrue result ↔ (spec_of function.now ≡ spec.now) }
 {
     function.kind() == spec.kind && function.in_width() == spec.in_width
 }

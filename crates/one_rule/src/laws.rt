@@ -1,3 +1,5 @@
+//! Engines: laws of cycles and runs.
+
 // Each law of cycles and runs is the contract of a function that does nothing.
 ghost use Rattle.one_rule.specs.Laws as law;
 
@@ -7,7 +9,7 @@ pub fn a_run_has_a_row_more_than_its_cycles()
     ensures { law.RowsAreCycles }
 {}
 
-/// The scheduler's walk through a cycle comes to the end of its path.
+/// The scheduler's walk through a cycle reaches the end of its path.
 #[tactic(auto, using(crate::proofs::Walks::walks_end))]
 pub fn a_walk_comes_to_its_end()
     ensures { law.WalksEnd }

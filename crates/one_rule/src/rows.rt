@@ -1,3 +1,5 @@
+//! Engines: registers, inputs, fired flags and the rows of a run.
+
 ghost use Rattle.std.specs.Prelude.{◌≡◌, IfOk, false, length, replicate};
 ghost use Rattle.one_rule.specs.Rows.{RowFits};
 ghost use Rattle.one_rule.specs.Run.{first_values, opening};

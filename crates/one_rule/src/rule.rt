@@ -1,3 +1,5 @@
+//! Engines: a rule that runs alone.
+
 ghost use Rattle.std.specs.Prelude.{◌≡◌, ◌<◌, [], ◌∷◌, IfOk, List, length, map};
 ghost use Rattle.kw_bits.specs.BitVector.{BitVector};
 ghost use Rattle.typed_core.specs.Alone.{alone_ports, is_refused, is_write_below, outcome_of, seen};
@@ -79,7 +81,7 @@ impl Ports for LonePorts<'_> {
 
     ghost widths = { λ ports. map (λ (value : BitVector). value.width) ports.regs.now };
 
-    // A read comes to the value of the last write of the register at a port below, or else to the register's.
+    // A read evaluates to the value of the last write of the register at a port below, or else to the register's.
     fn read(&mut self, port: u32, register: u32) -> Result<Bits, Interrupt> {
         let value = seen(
             port,

@@ -1,3 +1,5 @@
+//! Engines: the values of the inputs in each cycle.
+
 ghost use Rattle.std.specs.Prelude.{◌≡◌, ◌-◌, ◌++◌, ◌∷◌, [], All, IsTrue, ◌↔◌, IfOk, OnOk, OnErr};
 ghost use Rattle.typed_core.specs.Valid.{IsWidth};
 ghost use Rattle.one_rule.specs.KeptLines.{IsKeptLine};

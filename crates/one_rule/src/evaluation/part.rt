@@ -1,3 +1,5 @@
+//! Engines: the evaluation of each part of an action.
+
 ghost use Rattle.std.specs.Prelude.{◌≡◌, ◌<◌, ◌≤◌, ℕ, ◌∷◌, List, length, slice_get, slice_index_or, Some};
 ghost use Rattle.kw_bits.specs.Laws.{HasWidth};
 ghost use Rattle.kw_bits.specs.Operators as op;
@@ -16,7 +18,7 @@ use typed_core::{Action, OneOp, Scope, Stopped, TwoOp};
 /// How a part of a rule's body ends.
 #[derive(Clone, Copy, Debug, PartialEq, Eq)]
 pub(super) enum End {
-    /// It comes to no value.
+    /// It has no value.
     Unit,
     /// Its value is in the slot.
     Value,
@@ -24,15 +26,15 @@ pub(super) enum End {
     Interrupt,
 }
 
-/// Where the parts of a body leave their values, one after another, and at last what interrupts them: so a call answers a
-/// word, and no value is copied from call to call.
+/// Where the parts of a body leave their values, one after another, and at last what interrupts them: so a call
+/// answers a word, and no value is copied from call to call.
 #[derive(Clone, Copy, Debug, PartialEq, Eq)]
 pub(super) struct Slot {
     pub(super) value: Bits,
     pub(super) interrupt: Interrupt,
 }
 
-/// What an action comes to. It is left in the slot.
+/// What an action evaluates to. It is left in the slot.
 #[cycle(run)]
 pub(super) fn run<E: Outside, P: Ports>(
     env: &Environment<E>,
@@ -87,7 +89,7 @@ pub(super) fn run<E: Outside, P: Ports>(
     }
 }
 
-// The value of an action that comes to one, or whether it is interrupted.
+// The value of an action that has one, or whether it is interrupted.
 #[cycle(run)]
 fn operand<E: Outside, P: Ports>(
     env: &Environment<E>,

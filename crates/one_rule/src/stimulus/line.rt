@@ -1,3 +1,5 @@
+//! Engines: one line of assignments of a stimulus.
+
 // Lines of assignments, in ascending order of the inputs.
 ghost use Rattle.std.specs.Prelude.{◌≡◌, All, IsTrue, ◌↔◌, IfOk};
 ghost use Rattle.typed_core.specs.Valid.{IsWidth};

@@ -6,7 +6,7 @@ use Rattle.one_rule.proofs.cycle.walk_of.Given as goal
 
 -- the walk past the nodes that are left ends where the whole one does
 abbrev pub invariant-loop-number : goal.invariant-loop-number
-invariant-loop-number g l =
+invariant-loop-number l =
     record {
       same : walk_past (fire (system_of l.design) l.inputs) l.number (drop l.number l.nodes) (record { state = l.state; at = l.at }) ≡ walk_of (system_of l.design) l.inputs l.regs;
       registers : HaveWidths (register_widths l.design) l.state.regs;

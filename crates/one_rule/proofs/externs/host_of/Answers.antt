@@ -3,7 +3,8 @@ use Rattle.std.specs.Prelude.{slice_get}
 use Rattle.std.proofs.lemmas.Bool.{cases_lt}
 use Rattle.std.proofs.lemmas.Option.{get_or_from_slice_get, slice_get-get_or}
 use Rattle.std.proofs.lemmas.List.{get_or-map, length-map}
-use Rattle.one_rule.specs.Externs.{host_spec, host_specs}
+use Rattle.host_fn.specs.Stored.{spec_of}
+use Rattle.one_rule.specs.Hosts.{host_specs}
 use Rattle.one_rule.proofs.externs.host_of.Goals as goal
 
 pub loop-function-preserved : goal.loop-function-preserved
@@ -16,7 +17,7 @@ loop-function-preserved g c k within is =
       | inr there ↦
           let here : k ≡ i = omega (arith, within, there) in
           let found = subst (λ (n : ℕ). slice_get (host_specs offered) n ≡ Some c.args.spec.now) here is in
-          let same = ap host_spec c.function-item.is ∙ sym (get_or-map host_spec offered i f (host_spec f) (omega arith)) ∙ get_or_from_slice_get (host_specs offered) i c.args.spec.now (host_spec f) found in
+          let same = ap spec_of c.function-item.is ∙ sym (get_or-map spec_of offered i f (spec_of f) (omega arith)) ∙ get_or_from_slice_get (host_specs offered) i c.args.spec.now (spec_of f) found in
           let no = subst IsTrue c.if-meets.false (c.meets.ensures.1 same) in
           absurd cc
     ]
@@ -25,5 +26,5 @@ pub unreachable-requires : goal.unreachable-requires
 unreachable-requires g c =
     let (k, inside, is) = c.requires in
     let specs = host_specs c.args.offered.now in
-    let passed : k < c.loop-function.function-index = omega (arith, inside, length-map c.args.offered.now host_spec, c.loop-function-test.false) in
+    let passed : k < c.loop-function.function-index = omega (arith, inside, length-map c.args.offered.now spec_of, c.loop-function-test.false) in
     c.loop-function.invariant k passed (slice_get-get_or specs k c.args.spec.now inside ∙ ap Some is)

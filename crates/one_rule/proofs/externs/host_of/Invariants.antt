@@ -1,6 +1,6 @@
 use Rattle.std.proofs.Common.{◌≢◌, ℕ, ◌<◌, Some}
 use Rattle.std.specs.Prelude.{slice_get}
-use Rattle.one_rule.specs.Externs.{host_specs}
+use Rattle.one_rule.specs.Hosts.{host_specs}
 use Rattle.one_rule.proofs.externs.host_of.Given as goal
 
 -- none that was passed has the kind and the width

@@ -19,13 +19,13 @@ use Rattle.one_rule.proofs.Fitting.{HaveWidths-own, run_fits, widths-same}
 use Rattle.one_rule.proofs.rule.alone.Goals as goal
 
 pub evaluate-end-requires-clause-registers : goal.evaluate-end-requires-clause-registers
-evaluate-end-requires-clause-registers g c = widths-same (register_widths c.args.design.now) c.args.regs.now c.requires.registers
+evaluate-end-requires-clause-registers c = widths-same (register_widths c.args.design.now) c.args.regs.now c.requires.registers
 
 pub evaluate-end-requires-clause-reading : goal.evaluate-end-requires-clause-reading
-evaluate-end-requires-clause-reading g c = PortsFit-alone _ c.args.regs.now (HaveWidths-own (register_widths c.args.design.now) c.args.regs.now c.requires.registers)
+evaluate-end-requires-clause-reading c = PortsFit-alone _ c.args.regs.now (HaveWidths-own (register_widths c.args.design.now) c.args.regs.now c.requires.registers)
 
 pub returns-clause-alone : goal.returns-clause-alone
-returns-clause-alone g c =
+returns-clause-alone c =
     let design = c.args.design.now in
     let regs = c.args.regs.now in
     let inputs = c.args.inputs.now in
@@ -43,8 +43,8 @@ returns-clause-alone g c =
     ∙ ap (alone_if (environment design inputs) regs) (sym found)
 
 pub returns-clause-fits : goal.returns-clause-fits
-returns-clause-fits g c =
+returns-clause-fits c =
     let design = c.args.design.now in
     let valid = subst IsValid c.design.view_is c.design.invariant in
     let fits = run_fits design valid c.args.inputs.now c.args.regs.now c.requires.inputs c.requires.registers c.args.rule in
-    subst (λ (run : Alone). EventsFit (register_widths design) run.events) (sym (returns-clause-alone g c)) fits
+    subst (λ (run : Alone). EventsFit (register_widths design) run.events) (sym (returns-clause-alone c)) fits

@@ -1,7 +1,8 @@
 use Rattle.std.proofs.Common.{List, sym, subst, ap, ◌∙◌}
-use Rattle.typed_core.specs.declared.design.HostSpec.{HostSpec}
+use Rattle.kw_bits.specs.declared.host.HostSpec.{HostSpec}
 use Rattle.typed_core.specs.declared.design.Parts.{Parts}
-use Rattle.one_rule.specs.Externs.{AreOffered, host_specs}
+use Rattle.one_rule.specs.Hosts.{host_specs}
+use Rattle.one_rule.specs.Externs.{AreOffered}
 use Rattle.one_rule.proofs.externs.kept.Externs.new.Goals as goal
 
 pub hosts_of-requires : goal.hosts_of-requires
