@@ -1,6 +1,6 @@
 -- What a log's flags and values say of the lists that it stands for.
 use Rattle.std.proofs.Common.{◌≡◌, ◌≢◌, ◌⊎◌, ◌↔◌, ℕ, zero, suc, ◌+◌, ◌*◌, ◌<◌, ◌≤◌, Bool, true, false, List, [], ◌∷◌, ◌++◌, length, replicate, refl, sym, ap, ap₂, ◌∙◌, inl, inr, eqb-true, eq-eqb, arith}
-use Rattle.std.specs.Prelude.{⊤, ◌==◌, ◌&&◌, ◌||◌, slice_index_or, if◌then◌else◌}
+use Rattle.std.specs.Prelude.{◌==◌, ◌||◌, slice_index_or, if◌then◌else◌}
 use Rattle.std.specs.List.{list_any}
 use Rattle.std.proofs.lemmas.Bool.{and_parts, or_parts, or_from, cases_Bool, cases_eq, cases_lt, false_from_ne_true, both_ways}
 use Rattle.std.proofs.lemmas.List.{same_lists, get_or-replicate, get_or_past, length-replicate}
@@ -18,7 +18,7 @@ use Rattle.rule_log.proofs.Bits.{clear_of_bit}
 use Rattle.std.proofs.lemmas.Nat.Bits.{bit_at-zero}
 use Rattle.rule_log.specs.OneRegister.{JoinedAt, is_same_place, written_below}
 use Rattle.rule_log.specs.StandsFor.{RegisterLog, StandsFor, WritesFollow, is_access, is_set, registers, written}
-use Rattle.rule_log.proofs.Telling.{access_parts, after_at, length-after, no_reads, no_writes, own_access, refused_by_tests, seen_at_none, seen_more, tells_both, tells_none, tells_one, unrefused}
+use Rattle.rule_log.proofs.Telling.{NoneSet, access_parts, after_at, length-after, no_reads, no_writes, own_access, refused_by_tests, seen_at_none, seen_more, tells_both, tells_none, tells_one, unrefused}
 
 -- ---- the value of the highest write
 
@@ -59,56 +59,19 @@ below_is_seen widths log events s (suc port) register start most within =
 
 -- ---- what is refused
 
--- no flag of this kind from the access's port on
-abbrev pub NoneSet : RegisterLog → Bool → (ℕ → Type 0) → ℕ → Type 0
-NoneSet log write At register = (at : ℕ) → At at → IsPort at → is_set log write at register ≡ false
-
-pub refused_by_flags : (widths : List ℕ) (log : RegisterLog) (events : List Event) → StandsFor widths log events → (a : Access) → a.register < length widths → (writes reads : Bool)
-    → ((writes ≡ false) ↔ NoneSet log true (λ at. a.port ≤ at) a.register) → ((reads ≡ false) ↔ NoneSet log false (λ at. a.port < at) a.register)
-    → (writes || (a.write && reads)) ≡ is_refused events a
-refused_by_flags widths log events s a within writes reads w r =
-    refused_by_tests writes a.write reads (is_refused events a) (NoneSet log true (λ at. a.port ≤ at) a.register) (NoneSet log false (λ at. a.port < at) a.register) w r
-    (λ none more. unrefused widths a events s.tells.fit
-    (λ at above p. sym (s.tells.flags true at a.register p within) ∙ none at above p)
-    (λ is at above p. sym (s.tells.flags false at a.register p within) ∙ more is at above p))
-    (λ h at above p. s.tells.flags true at a.register p within ∙ no_writes a events h at above p)
-    (λ h is at above p. s.tells.flags false at a.register p within ∙ no_reads a events is h at above p)
-
 or_none : (a : Bool) → a ≡ (a || false)
 or_none true = refl
 or_none false = refl
-
--- none of these flags is of this kind and at such a port
-abbrev pub NoneSetIn : PortFlags → Bool → (ℕ → Type 0) → Type 0
-NoneSetIn flags write At = (at : ℕ) → At at → IsPort at → has flags write at ≡ false
-
--- a read is refused by the writes of its register from its port on
-pub read_refused : (widths : List ℕ) (log : RegisterLog) (events : List Event) → StandsFor widths log events → (port register : ℕ) → register < registers log → (flags : PortFlags)
-    → ((write : Bool) (at : ℕ) → has flags write at ≡ is_set log write at register)
-    → (writes : Bool) → ((writes ≡ false) ↔ NoneSetIn flags true (λ at. port ≤ at))
-    → writes ≡ is_refused events (record { write = false; port = port; register = register })
-read_refused widths log events s port register within flags is writes w =
-    or_none writes
-    ∙ refused_by_tests writes false false (is_refused events access) (NoneSetIn flags true (λ at. port ≤ at)) ⊤ w (λ h. tt, λ h. refl)
-    (λ none more. unrefused widths access events s.tells.fit (λ at above p. sym (s.tells.flags true at register p declared) ∙ sym (is true at) ∙ none at above p) (λ h. absurd cc))
-    (λ h at above p. is true at ∙ s.tells.flags true at register p declared ∙ no_writes access events h at above p)
-    (λ h k. absurd cc)
-  where
-    access : Access
-    access = record { write = false; port = port; register = register }
-
-    declared : register < length widths
-    declared = omega (arith, s.count, within)
 
 -- a write is refused by two logs where the flags of both, taken together, have a write from its port on or a read above it
 pub write_refused : (widths : List ℕ) (sched rule : RegisterLog) (sched_events rule_events : List Event) → StandsFor widths sched sched_events → StandsFor widths rule rule_events
     → (port register : ℕ) → register < registers sched → (flags : PortFlags)
     → ((write : Bool) (at : ℕ) → has flags write at ≡ (is_set sched write at register || is_set rule write at register))
-    → (writes reads : Bool) → ((writes ≡ false) ↔ NoneSetIn flags true (λ at. port ≤ at)) → ((reads ≡ false) ↔ NoneSetIn flags false (λ at. port < at))
+    → (writes reads : Bool) → ((writes ≡ false) ↔ NoneSet (has flags) true (λ at. port ≤ at)) → ((reads ≡ false) ↔ NoneSet (has flags) false (λ at. port < at))
     → let access : Access = record { write = true; port = port; register = register } in
     (writes || reads) ≡ (is_refused sched_events access || is_refused rule_events access)
 write_refused widths sched rule sched_events rule_events s r port register within flags is writes reads w v =
-    refused_by_tests writes true reads (is_refused sched_events access || is_refused rule_events access) (NoneSetIn flags true (λ at. port ≤ at)) (NoneSetIn flags false (λ at. port < at)) w v
+    refused_by_tests writes true reads (is_refused sched_events access || is_refused rule_events access) (NoneSet (has flags) true (λ at. port ≤ at)) (NoneSet (has flags) false (λ at. port < at)) w (λ h. v)
     (λ none more.
     or_from (is_refused sched_events access) (is_refused rule_events access)
     (unrefused widths access sched_events s.tells.fit

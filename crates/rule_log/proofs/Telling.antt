@@ -154,17 +154,48 @@ no_reads a (e ∷ events) w h at above p =
         both_ways (clashes a e.access) none (same_register a e.access (sym q.2) (above_read a.write e.access.write a.port e.access.port w q.0 below))
 
 -- two tests that fail where nothing refuses
-pub refused_by_tests : (writes is_write reads refused : Bool) (W R : Type 0) → ((writes ≡ false) ↔ W) → ((reads ≡ false) ↔ R)
+pub refused_by_tests : (writes is_write reads refused : Bool) (W R : Type 0) → ((writes ≡ false) ↔ W) → (is_write ≡ true → ((reads ≡ false) ↔ R))
     → (W → (is_write ≡ true → R) → refused ≡ false) → (refused ≡ false → W) → (refused ≡ false → is_write ≡ true → R)
     → (writes || (is_write && reads)) ≡ refused
 refused_by_tests false false reads true W R w r none from_w from_r = absurd (both_ways true (none (w.0 refl) (λ h. absurd cc)) refl)
-refused_by_tests false true false true W R w r none from_w from_r = absurd (both_ways true (none (w.0 refl) (λ h. r.0 refl)) refl)
+refused_by_tests false true false true W R w r none from_w from_r = absurd (both_ways true (none (w.0 refl) (λ h. (r refl).0 refl)) refl)
 refused_by_tests false true true true W R w r none from_w from_r = refl
 refused_by_tests true is_write reads true W R w r none from_w from_r = refl
 refused_by_tests true is_write reads false W R w r none from_w from_r = absurd (both_ways true (w.1 (from_w refl)) refl)
 refused_by_tests false false reads false W R w r none from_w from_r = refl
 refused_by_tests false true false false W R w r none from_w from_r = refl
-refused_by_tests false true true false W R w r none from_w from_r = absurd (both_ways true (r.1 (from_r refl refl)) refl)
+refused_by_tests false true true false W R w r none from_w from_r = absurd (both_ways true ((r refl).1 (from_r refl refl)) refl)
+
+-- no flag of this kind is set at such a port
+abbrev pub NoneSet : (Bool → ℕ → Bool) → Bool → (ℕ → Type 0) → Type 0
+NoneSet flags write At = (at : ℕ) → At at → IsPort at → flags write at ≡ false
+
+-- an access is refused where its register's flags have a write from its port on, and a write also where they have a read above it
+pub refused_by_flags : (widths : List ℕ) (is_set : Bool → ℕ → ℕ → Bool) (written : ℕ → ℕ → BitVector) (events : List Event) → Tells widths is_set written events → (a : Access) → a.register < length widths
+    → (flags : Bool → ℕ → Bool) → ((write : Bool) (at : ℕ) → flags write at ≡ is_set write at a.register)
+    → (writes reads : Bool) → ((writes ≡ false) ↔ NoneSet flags true (λ at. a.port ≤ at)) → (a.write ≡ true → ((reads ≡ false) ↔ NoneSet flags false (λ at. a.port < at)))
+    → (writes || (a.write && reads)) ≡ is_refused events a
+refused_by_flags widths is_set written events tells a within flags is writes reads w r =
+    refused_by_tests writes a.write reads (is_refused events a) (NoneSet flags true (λ at. a.port ≤ at)) (NoneSet flags false (λ at. a.port < at)) w r
+    (λ none more. unrefused widths a events tells.fit
+    (λ at above p. sym (told true at p) ∙ none at above p)
+    (λ h at above p. sym (told false at p) ∙ more h at above p))
+    (λ h at above p. told true at p ∙ no_writes a events h at above p)
+    (λ h is_write at above p. told false at p ∙ no_reads a events is_write h at above p)
+  where
+    told : (write : Bool) (at : ℕ) → IsPort at → flags write at ≡ list_any (is_access write at a.register) events
+    told write at p = is write at ∙ tells.flags write at a.register p within
+
+-- the same of a read, which looks at the writes alone
+pub read_refused : (widths : List ℕ) (is_set : Bool → ℕ → ℕ → Bool) (written : ℕ → ℕ → BitVector) (events : List Event) → Tells widths is_set written events → (port register : ℕ) → register < length widths
+    → (flags : Bool → ℕ → Bool) → ((write : Bool) (at : ℕ) → flags write at ≡ is_set write at register)
+    → (writes : Bool) → ((writes ≡ false) ↔ NoneSet flags true (λ at. port ≤ at)) → writes ≡ is_refused events (record { write = false; port = port; register = register })
+read_refused widths is_set written events tells port register within flags is writes w =
+    or_none writes ∙ refused_by_flags widths is_set written events tells (record { write = false; port = port; register = register }) within flags is writes false w (λ h. absurd cc)
+  where
+    or_none : (a : Bool) → a ≡ (a || false)
+    or_none true = refl
+    or_none false = refl
 
 -- ---- what is seen
 

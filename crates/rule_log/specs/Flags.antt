@@ -1,4 +1,4 @@
--- Where the flags of reads and of writes stand in a byte: read 0 lowest, a write above the reads.
+-- Where the flags of reads and of writes are in a byte: read 0 lowest, a write above the reads.
 use Rattle.std.specs.Prelude.{ℕ, ◌+◌, Bool, true, false, ◌==◌, not}
 use Rattle.std.specs.Int.{bit_at}
 use Rattle.typed_core.specs.declared.limits.TheConstants.{PORTS}

@@ -1,3 +1,5 @@
+//! Engines: the ports at which a register was read and written, as bits of a byte.
+
 ghost use Rattle.std.specs.Prelude.{◌≡◌, ◌+◌, ◌<◌, ◌≤◌, ◌↔◌, ℕ, Bool, true, false, ◌||◌, ◌==◌, MatchOption};
 ghost use Rattle.typed_core.specs.Valid.{IsPort};
 ghost use Rattle.typed_core.specs.declared.limits.TheConstants.{PORTS};

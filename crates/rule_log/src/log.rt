@@ -1,3 +1,5 @@
+//! Engines: the log of a rule, or of the rules that fired so far in a cycle.
+
 ghost use Rattle.std.specs.Prelude.{◌≡◌, ◌≢◌, ◌+◌, ◌*◌, ◌<◌, ◌≤◌, ℕ, List, Bool, true, false, [], ◌∷◌, ◌++◌, ◌&&◌, ◌||◌, ◌==◌, not, length, replicate, slice_set, slice_index_or, IfOk, if◌then◌else◌, All, ◌^◌};
 ghost use Rattle.std.specs.List.{list_any};
 ghost use Rattle.kw_bits.specs.BitVector.{BitVector};
@@ -229,7 +231,8 @@ pub fn may_read(sched: &Log, port: u32, register: u32) -> bool
     !sched.flags_of(register as usize).has_write_from(port)
 }
 
-/// Whether no access of the rule log and none of the scheduler log refuses a write of a register at a port below `PORTS`.
+/// Whether no access of the rule log and none of the scheduler log refuses a write of a register at a port below
+/// `PORTS`.
 pub fn may_write(rule: &Log, sched: &Log, port: u32, register: u32) -> bool
     requires port { IsPort port }
     requires rule { register < registers rule.now }
@@ -245,8 +248,8 @@ pub fn may_write(rule: &Log, sched: &Log, port: u32, register: u32) -> bool
     !(is_written || is_read)
 }
 
-/// What a read of a register at a port below `PORTS` sees: the value of the rule's last write at a port below, else that
-/// of the scheduler log's, else the start value.
+/// What a read of a register at a port below `PORTS` sees: the value of the rule's last write at a port below, else
+/// that of the scheduler log's, else the start value.
 pub fn seen(rule: &Log, sched: &Log, start: Bits, port: u32, register: u32) -> Bits
     requires port { IsPort port }
     requires rule { register < registers rule.now }
@@ -254,25 +257,8 @@ pub fn seen(rule: &Log, sched: &Log, start: Bits, port: u32, register: u32) -> B
     ensures { (widths : List ℕ) (rule_events sched_events : List Event) → StandsFor widths rule.now rule_events → StandsFor widths sched.now sched_events
         → result ≡ seen port register rule_events (seen port register sched_events start) }
 {
-    *seen_in(rule, sched, &start, port, register)
-}
-
-/// What a read of a register at a port below `PORTS` sees, as `seen` has it, where it stands.
-pub fn seen_in<'a>(
-    rule: &'a Log,
-    sched: &'a Log,
-    start: &'a Bits,
-    port: u32,
-    register: u32,
-) -> &'a Bits
-    requires port { IsPort port }
-    requires rule { register < registers rule.now }
-    requires sched { register < registers sched.now }
-    ensures { (widths : List ℕ) (rule_events sched_events : List Event) → StandsFor widths rule.now rule_events → StandsFor widths sched.now sched_events
-        → result.now ≡ seen port register rule_events (seen port register sched_events start.now) }
-{
     let register = register as usize;
-    rule.value_below(port, register, sched.value_below(port, register, start))
+    *rule.value_below(port, register, sched.value_below(port, register, &start))
 }
 
 // Where the value stands that was written at a port of a register.
@@ -297,7 +283,7 @@ fn clear_flags(flags: &mut Reserved<PortFlags>, touched: &[u32])
     }
 }
 
-// A list of so many items, all the same.
+// A list of that many items, all the same.
 fn filled<T: Copy>(alloc: Global, item: T, count: usize) -> Result<Reserved<T>, NoMemory>
     ensures { IfOk result (λ list. list.items ≡ replicate count item) }
 {
