@@ -24,9 +24,9 @@ use Rattle.typed_core.proofs.Readings.{Relates, evaluate_related}
 use Rattle.typed_core.proofs.Values.{ValueFits-unit, ValueFits-bits}
 use Rattle.one_rule.specs.PortRun.{ports_behind}
 use Rattle.rule_log.specs.OneRegister.{written_below}
-use Rattle.rule_log.specs.StandsFor.{RegisterLog, StandsFor, WritesFollow, is_access, is_set, registers}
-use Rattle.rule_log.proofs.Logs.{below_is_seen, below_none, no_flag, nothing_set, refused_by_flags}
-use Rattle.rule_log.proofs.Telling.{access_parts, all_append, unrefused}
+use Rattle.rule_log.specs.StandsFor.{RegisterLog, StandsFor, WritesFollow, is_access, is_set, registers, written}
+use Rattle.rule_log.proofs.Logs.{below_is_seen, below_none, no_flag, nothing_set}
+use Rattle.rule_log.proofs.Telling.{access_parts, all_append, refused_by_flags, unrefused}
 use Rattle.action_interp.specs.ByLog.{any_from, ports_by, read_by, refused_by, seen_by, write_by}
 
 -- ---- flags from a port on
@@ -93,9 +93,9 @@ module _ (widths : List ℕ) (log : RegisterLog) (before : List Event) (stands :
     where
       chosen : (a.register < length widths) ⊎ (length widths ≤ a.register) → is_refused before a ≡ refused_by log a
       chosen (inl within) =
-          sym (refused_by_flags widths log before stands a within (any_from log true a.register a.port PORTS) (any_from log false a.register (suc a.port) PORTS)
+          sym (refused_by_flags widths (is_set log) (written log) before stands.tells a within (λ write at. is_set log write at a.register) (λ write at. refl) (any_from log true a.register a.port PORTS) (any_from log false a.register (suc a.port) PORTS)
           (λ h at above p. none_from log true a.register a.port PORTS h at above p, λ h. from_none log true a.register a.port PORTS (λ at above p. h at above p))
-          (λ h at above p. none_from log false a.register (suc a.port) PORTS h at (omega arith) p, λ h. from_none log false a.register (suc a.port) PORTS (λ at above p. h at (omega arith) p)))
+          (λ is. (λ h at above p. none_from log false a.register (suc a.port) PORTS h at (omega arith) p, λ h. from_none log false a.register (suc a.port) PORTS (λ at above p. h at (omega arith) p))))
       chosen (inr past) =
           let none : (write : Bool) (port : ℕ) → is_set log write port a.register ≡ false = none_set log a.register (omega (arith, stands.count)) in
           unrefused widths a before stands.tells.fit

@@ -1,5 +1,5 @@
--- The ports of a rule that runs behind a scheduler log, as the log's flags and values tell them, and what its evaluation
--- came to. This serves private functions: public contracts speak of the lists of events that a log stands for.
+-- The ports of a rule that runs after a scheduler log, as the log's flags and values tell them, and what its evaluation
+-- gave. This serves private functions: public contracts speak of the lists of events that a log stands for.
 use Rattle.std.specs.Prelude.{◌≡◌, ℕ, zero, suc, Bool, true, false, ◌&&◌, ◌||◌, List, map, min, nat_le, Option, Result, Ok, Err, slice_index_or, if◌then◌else◌}
 use Rattle.kw_bits.specs.BitVector.{BitVector}
 use Rattle.typed_core.specs.Alone.{is_refused, seen}
@@ -32,7 +32,7 @@ refused_by log a =
 abbrev pub seen_by : RegisterLog → ℕ → ℕ → BitVector → BitVector
 seen_by log port register start = written_below log (min port PORTS) register start
 
--- what a read comes to and what a write does, by the log
+-- what a read evaluates to and what a write does, by the log
 abbrev pub read_by : RegisterLog → List BitVector → ℕ → ℕ → Part BitVector Stopped
 read_by log regs port register events =
     let access : Access = record { write = false; port = port; register = register } in
@@ -53,13 +53,13 @@ ports_by log regs = record { read = read_by log regs; write = write_by log; abor
 abbrev pub widths_of : List BitVector → List ℕ
 widths_of values = map (λ (value : BitVector). value.width) values
 
--- a rule runs on these registers behind the scheduler log, and its own log stands for its events so far
+-- a rule runs on these registers after the scheduler log, and its own log stands for its events so far
 pub record IsRunning (regs : List BitVector) (sched log : RegisterLog) (events : List Event) : Type 0 where
   pub fits : HaveWidths (widths_of regs) regs
   pub behind : (before : List Event) × StandsFor (widths_of regs) sched before
   pub noted : StandsFor (widths_of regs) log events
 
--- a rule whose evaluation comes to this ends so, unless the evaluation wanted memory
+-- a rule whose evaluation gives this ends so, unless the evaluation ran out of memory
 abbrev pub Ends : Result (Option BitVector) Interrupt → RuleEnd → Type 0
 Ends (Ok value) e = e ≡ end.Fired
 Ends (Err (interrupt.Stop Abort)) e = e ≡ end.Aborted

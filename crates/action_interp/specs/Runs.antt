@@ -1,4 +1,4 @@
--- What a rule's run behind a scheduler log answers, given the port run behind a list of events that the log stands for.
+-- What a rule's run after a scheduler log answers, given the port run after a list of events that the log stands for.
 use Rattle.std.specs.Prelude.{◌≡◌, ℕ, List}
 use Rattle.kw_bits.specs.BitVector.{BitVector}
 use Rattle.typed_core.specs.Evaluation.{Ending, Progress, Stop, Value}
@@ -23,6 +23,6 @@ IsRun widths (run.Fired log) p = (end_of p.ending ≡ end.Fired) × StandsFor wi
 IsRun widths run.Aborted p = p.ending ≡ Stop Abort
 IsRun widths (run.Blocked access) p = p.ending ≡ Stop (Refused access)
 
--- the same where the log stands for the events that the rule comes to before it stops, too
+-- the same where the log stands for the events that the rule makes before it stops, too
 abbrev pub IsLoggedRun : List ℕ → LoggedRun → Progress BitVector Stopped → Type 0
 IsLoggedRun widths run p = (run.end ≡ end_of p.ending) × StandsFor widths run.log.value p.events

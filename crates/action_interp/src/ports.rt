@@ -1,13 +1,15 @@
+//! Engines: the ports of a rule that runs after a scheduler log.
+
 ghost use Rattle.std.specs.Prelude.{◌≡◌, length};
 ghost use Rattle.rule_log.specs.StandsFor.{registers};
 ghost use Rattle.action_interp.specs.ByLog.{IsRunning, ports_by, widths_of};
 
 use kw_bits::Bits;
 use one_rule::{Interrupt, Ports, Regs};
-use rule_log::{Log, may_read, may_write, seen_in};
+use rule_log::{Log, may_read, may_write, seen};
 use typed_core::{Access, Event, Stopped};
 
-/// The ports of a rule that runs behind a scheduler log, in a cycle that began on these registers, and its own log.
+/// The ports of a rule that runs after a scheduler log, in a cycle that began on these registers, and its own log.
 #[derive(Drop)]
 pub(crate) struct RulePorts<'a> {
     pub(crate) regs: &'a Regs,
@@ -34,7 +36,7 @@ impl Ports for RulePorts<'_> {
             return Err(Interrupt::Stop(Stopped::Refused(access)));
         }
         let start = self.regs.get(register as usize);
-        let value = *seen_in(&self.log, self.sched, start, port, register);
+        let value = seen(&self.log, self.sched, *start, port, register);
         self.log.note(Event { access, value });
         Ok(value)
     }

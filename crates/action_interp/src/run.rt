@@ -1,3 +1,5 @@
+//! Engines: the run of one rule by the port rules.
+
 ghost use Rattle.std.specs.Prelude.{◌≡◌, ◌<◌, [], IfOk, List, length, slice_get};
 ghost use Rattle.typed_core.specs.Valid.{externs_of};
 ghost use Rattle.typed_core.specs.Widths.{HaveWidths, input_widths, register_widths};
@@ -16,10 +18,10 @@ use rule_log::Log;
 use std::alloc::Global;
 use typed_core::{Access, Design, Scope, Stopped};
 
-/// A rule's run behind a scheduler log.
+/// A rule's run after a scheduler log.
 #[derive(Debug, Drop)]
 pub enum RuleRun {
-    /// The rule comes to its end. These are its reads and writes.
+    /// The rule reaches its end. These are its reads and writes.
     Fired(Log),
     /// It reaches an abort.
     Aborted,
@@ -27,10 +29,10 @@ pub enum RuleRun {
     Blocked(Access),
 }
 
-/// How a rule's run behind a scheduler log ends.
+/// How a rule's run after a scheduler log ends.
 #[derive(Clone, Copy, Debug, PartialEq, Eq)]
 pub enum RuleEnd {
-    /// The rule comes to its end.
+    /// The rule reaches its end.
     Fired,
     /// It reaches an abort.
     Aborted,
@@ -45,7 +47,7 @@ pub struct LoggedRun {
     pub log: Box<Log>,
 }
 
-/// Runs a rule behind a scheduler log, in a cycle that began on these registers.
+/// Runs a rule after a scheduler log, in a cycle that began on these registers.
 pub fn run_rule(
     alloc: Global,
     design: &Design,
@@ -72,8 +74,8 @@ pub fn run_rule(
     })
 }
 
-/// The same, with a log of no access that the rule's reads and writes are noted in. Nothing here takes memory: `NoMemory` is
-/// only passed on, as ports in general may answer it.
+/// The same, with a log of no access that the rule's reads and writes are noted in. Nothing here takes memory:
+/// `NoMemory` is only passed on, as ports in general may answer it.
 pub fn run_logged(
     design: &Design,
     externs: &Externs,

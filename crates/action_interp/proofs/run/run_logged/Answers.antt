@@ -18,14 +18,14 @@ use Rattle.action_interp.proofs.Runs.{ended, run_follows, runs_alike}
 use Rattle.action_interp.proofs.run.run_logged.Goals as goal
 
 pub evaluate-value-requires-clause-registers : goal.evaluate-value-requires-clause-registers
-evaluate-value-requires-clause-registers g c = widths-same (register_widths c.args.design.now) c.args.regs.now c.requires.registers
+evaluate-value-requires-clause-registers c = widths-same (register_widths c.args.design.now) c.args.regs.now c.requires.registers
 
 -- a log of registers of the design is one of registers of their own widths
 own : (widths : List ℕ) (regs : List BitVector) (log : RegisterLog) (events : List Event) → widths_of regs ≡ widths → StandsFor widths log events → StandsFor (widths_of regs) log events
 own widths regs log events same stands = subst (λ (ws : List ℕ). StandsFor ws log events) (sym same) stands
 
 pub evaluate-value-requires-clause-reading : goal.evaluate-value-requires-clause-reading
-evaluate-value-requires-clause-reading g c =
+evaluate-value-requires-clause-reading c =
     let regs = c.args.regs.now in
     let same = widths-same (register_widths c.args.design.now) regs c.requires.registers in
     PortsFit-by (widths_of regs) c.args.sched.now c.requires.sched.0 regs
@@ -43,11 +43,11 @@ begins widths regs sched log before fits behind empty =
     }
 
 pub evaluate-value-requires-clause-events : goal.evaluate-value-requires-clause-events
-evaluate-value-requires-clause-events g c =
+evaluate-value-requires-clause-events c =
     ([], begins (register_widths c.args.design.now) c.args.regs.now c.args.sched.now c.args.log.value c.requires.sched.0 c.requires.registers c.requires.sched.1 c.requires.log, tt)
 
 pub returns-clause-run : goal.returns-clause-run
-returns-clause-run g c events stands =
+returns-clause-run c events stands =
     let design = c.args.design.now in
     let regs = c.args.regs.now in
     let rule : Rule = c.get.result.now in
@@ -64,7 +64,7 @@ returns-clause-run g c events stands =
     subst (λ (p : Progress BitVector Stopped). (c.in_ok-end.end ≡ end_of p.ending) × StandsFor (register_widths design) ports.log.value p.events) is (ran.0, log)
 
 pub returns-clause-follows : goal.returns-clause-follows
-returns-clause-follows g c events stands =
+returns-clause-follows c events stands =
     let design = c.args.design.now in
     let rule : Rule = c.get.result.now in
     let found : slice_get design.rules c.args.rule ≡ Some rule =

@@ -10,12 +10,12 @@ pub may_read-requires-clause-register : goal.may_read-requires-clause-register
 may_read-requires-clause-register c =
     omega (arith, c.requires.register, length-map c.args.self.now.regs.now (λ (v : BitVector). v.width), c.args.self.now.sched_fits)
 
-pub seen_in-value-requires-clause-rule : goal.seen_in-value-requires-clause-rule
-seen_in-value-requires-clause-rule c =
+pub seen-value-requires-clause-rule : goal.seen-value-requires-clause-rule
+seen-value-requires-clause-rule c =
     omega (arith, ap (λ (log : RegisterLog). registers log) c.deref.ensures, c.requires.register, length-map c.args.self.now.regs.now (λ (v : BitVector). v.width), c.args.self.now.log_fits)
 
-pub seen_in-value-requires-clause-sched : goal.seen_in-value-requires-clause-sched
-seen_in-value-requires-clause-sched c =
+pub seen-value-requires-clause-sched : goal.seen-value-requires-clause-sched
+seen-value-requires-clause-sched c =
     omega (arith, c.requires.register, length-map c.args.self.now.regs.now (λ (v : BitVector). v.width), c.args.self.now.sched_fits)
 
 pub note-requires-clause-register : goal.note-requires-clause-register
@@ -32,5 +32,5 @@ returns-clause-answers c events running =
     let ports = c.args.self.now in
     let within : c.args.register < length ports.regs.now = omega (arith, c.requires.register, length-map ports.regs.now (λ (v : BitVector). v.width)) in
     let begins = get_or_read ports.regs.now c.args.register c.get-start.result.now within c.get-start.ensures unit in
-    read_notes ports.regs.now ports.sched.now ports.log.value c.args.port c.args.register events running c.note.new.self c.get-start.result.now c.seen_in-value.result.now c.may_read.result
-    c.requires.port c.requires.register begins (rw c.deref.ensures at c.seen_in-value.ensures) c.may_read.ensures c.if-not-may_read.false (rw c.deref_mut.ensures.value at c.note.ensures.stands)
+    read_notes ports.regs.now ports.sched.now ports.log.value c.args.port c.args.register events running c.note.new.self c.get-start.result.now c.seen-value.result c.may_read.result
+    c.requires.port c.requires.register begins (rw c.deref.ensures at c.seen-value.ensures) c.may_read.ensures c.if-not-may_read.false (rw c.deref_mut.ensures.value at c.note.ensures.stands)
