@@ -1,3 +1,5 @@
+//! Measuring: actions and rules, built by hand.
+
 // Parts of designs, one by one.
 use kw_bits::{Bits, NoMemory, Sequence, Text};
 use std::alloc::Global;

@@ -1,3 +1,5 @@
+//! Measuring: the designs that are run.
+
 // The designs that are run.
 ghost use Rattle.std.specs.Prelude.{◌≡◌, ◌<◌, ◌≤◌, [], IfOk, IfSome};
 

@@ -1,7 +1,7 @@
 //! Runs a design of its own in the plain engine, for `bench/plain.sh` to count what a cycle costs.
 //!
-//! Its arguments are a design, its size and how many cycles it runs. It prints the rules that fired in the last cycle and
-//! stands on no definition of its own. Nothing calls it.
+//! Its arguments are a design, its size and how many cycles it runs. It prints the rules that fired in the last cycle
+//! and uses no definition of its own. Nothing calls it.
 #![tactic(auto)]
 
 ghost use Rattle.std.specs.Prelude.{◌≡◌, []};
@@ -40,7 +40,7 @@ fn arguments(rt: &(impl Env + AllocGlobal)) -> io::Result<Vec<String>> {
     Ok(args(rt)?.skip(1).collect(rt.alloc())?)
 }
 
-// How many rules fired in the last of so many cycles, if there is such a design and such a run.
+// How many rules fired in the last of this many cycles, if there is such a design and such a run.
 fn fired_last(
     alloc: Global,
     name: &str,

@@ -13,7 +13,7 @@ use Rattle.plain_run.specs.declared.walk.Walking.{Walking}
 abbrev pub begin : PortState
 begin = record { log = []; fired = [] }
 
--- the engine's log stands for the scheduler log, and its flags tell the rules that fired
+-- the engine's log stands for the scheduler log, and its flags are the rules that fired
 pub record Stands (design : Parts) (walking : Walking) (state : PortState) : Type 0 where
   pub log : StandsFor (register_widths design) walking.sched state.log
   pub flags : walking.fired ≡ flags (length design.rules) state.fired

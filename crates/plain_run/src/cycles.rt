@@ -1,3 +1,5 @@
+//! Engines: the cycles of the plain engine, and the logs that they use.
+
 ghost use Rattle.std.specs.Prelude.{◌≡◌, IfOk};
 ghost use Rattle.typed_core.specs.Valid.{externs_of};
 ghost use Rattle.typed_core.specs.Widths.{HaveWidths, input_widths, register_widths};
@@ -13,8 +15,8 @@ use rule_log::Log;
 use std::alloc::Global;
 use typed_core::Design;
 
-// The logs of a run: that of the rules that fired in a cycle, and that of the rule that is tried, in a box since it is handed
-// from call to call. Between cycles they are of no access.
+// The logs of a run: that of the rules that fired in a cycle, and that of the rule that is tried, in a box since it is
+// handed from call to call. Between cycles they are of no access.
 #[derive(Debug, Drop)]
 pub(crate) struct Logs {
     pub(crate) sched: Log,

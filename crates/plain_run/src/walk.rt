@@ -1,3 +1,5 @@
+//! Engines: the walk of a cycle over the scheduler's nodes.
+
 ghost use Rattle.std.specs.Prelude.{◌≡◌, ◌<◌, IfOk, length};
 ghost use Rattle.kw_bits.specs.BitVector.{BitVector};
 ghost use Rattle.typed_core.specs.Evaluation.{Progress};

@@ -12,14 +12,14 @@ use Rattle.plain_run.proofs.Walking.{flags_none}
 use Rattle.plain_run.proofs.cycles.next_row.Goals as goal
 
 pub walk-requires-clause-begin : goal.walk-requires-clause-begin
-walk-requires-clause-begin g c =
+walk-requires-clause-begin c =
     record {
       log = c.requires.logs.0;
       flags = ap (λ (row : Row). row.fired) c.in_ok-after.ensures.row ∙ flags_none (length c.args.design.now.rules);
     }
 
 pub returns-clause-cycle : goal.returns-clause-cycle
-returns-clause-cycle g c =
+returns-clause-cycle c =
     let design = c.args.design.now in
     let regs = c.args.regs.now in
     let inputs = c.args.inputs.now in
@@ -32,7 +32,7 @@ returns-clause-cycle g c =
     ∙ port_cycles_are_cycles design inputs regs valid c.requires.inputs c.requires.registers
 
 pub returns-clause-fits : goal.returns-clause-fits
-returns-clause-fits g c =
+returns-clause-fits c =
     let design = c.args.design.now in
     let valid : IsValid design = subst IsValid c.design.view_is c.design.invariant in
-    subst (λ (row : Row). RowFits design row) (sym (returns-clause-cycle g c)) (cycle_fits design valid c.args.inputs.now c.args.regs.now c.requires.inputs c.requires.registers)
+    subst (λ (row : Row). RowFits design row) (sym (returns-clause-cycle c)) (cycle_fits design valid c.args.inputs.now c.args.regs.now c.requires.inputs c.requires.registers)

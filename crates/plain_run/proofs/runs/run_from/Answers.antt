@@ -10,7 +10,7 @@ use Rattle.plain_run.proofs.Rows.{RowsFit-push, run_step}
 use Rattle.plain_run.proofs.runs.run_from.Goals as goal
 
 pub loop-before-preserved : goal.loop-before-preserved
-loop-before-preserved g c =
+loop-before-preserved c =
     let l = c.loop-before in
     let design = c.args.design.now in
     let inputs = inputs_of c.args.stimulus.now in

@@ -8,7 +8,7 @@ use Rattle.plain_run.proofs.runs.run_from.Given as goal
 
 -- the rows that stand, the last one and those that are left make the run
 abbrev pub invariant-loop-before : goal.invariant-loop-before
-invariant-loop-before g l =
+invariant-loop-before l =
     record {
       same : l.rows.items ++ l.last ∷ rows_after (system_of l.design) (inputs_of l.stimulus) (l.to - l.before) l.before l.last.regs ≡ run (system_of l.design) (inputs_of l.stimulus) l.regs l.from l.to;
       room : l.rows.capacity ≡ l.to - l.from + 1;

@@ -6,7 +6,7 @@ use Rattle.plain_run.proofs.walk.walk.Given as goal
 
 -- the walk past the nodes that are left ends where the whole one does
 abbrev pub invariant-loop-number : goal.invariant-loop-number
-invariant-loop-number g l =
+invariant-loop-number l =
     record {
       stands : (state : PortState) × Stands l.design l.walking state
           × (walk_past (port_fire l.design l.inputs l.regs) l.number (drop l.number l.nodes) (record { state = state; at = l.walking.at }) ≡ walk_from (port_fire l.design l.inputs l.regs) l.nodes begin);
