@@ -19,11 +19,12 @@ use Rattle.typed_core.specs.declared.outcome.Outcome.TheVariants as ends
 use Rattle.typed_core.specs.declared.outcome.Stopped.{Stopped}
 use Rattle.typed_core.specs.declared.outcome.Stopped.TheVariants.{Abort, Refused}
 use Rattle.typed_core.proofs.Readings.{Continues-bind, Continues-self, Continues-trans, PortsAppend-alone, Relates, evaluate_related}
-use Rattle.one_rule.specs.Cycle.{alone_if, environment, is_done, system_of}
+use Rattle.one_rule.specs.Cycle.{alone_if, clash_with, environment, fires, is_done, system_of}
 use Rattle.one_rule.proofs.Fitting.{run_fits}
-use Rattle.attempt_log.specs.Laws.{AloneIsTrace, CommitsFire, NeverStale, SkipsDoNotFire, StaleReadsDiffer, TracesFit, clash_behind, fires_behind}
+use Rattle.attempt_log.specs.Laws.{AloneIsTrace, CommitsFire, NeverStale, SkipsDoNotFire, StaleReadsDiffer, TracesFit}
 use Rattle.attempt_log.specs.Trace.{IsTrace, listed, retrace, trace_ports}
-use Rattle.attempt_log.specs.Verdict.{Committed, answer_now, at_end, is_same, staleness, verdict_from}
+use Rattle.one_rule.specs.declared.cycle.Fired.{Fired}
+use Rattle.attempt_log.specs.Verdict.{answer_now, at_end, is_same, staleness, verdict_from}
 use Rattle.attempt_log.specs.declared.cause.Cause.{Cause}
 use Rattle.attempt_log.specs.declared.cause.StaleRead.{StaleRead}
 use Rattle.attempt_log.specs.declared.cause.Verdict.TheVariants.{Commit, Skip, Stale}
@@ -33,7 +34,7 @@ use Rattle.attempt_log.proofs.Verdicts.{AreFree, DecidedAt, Has, ReadsAgree, cla
 
 -- ---- reads that agree
 
-module _ (regs : List BitVector) (fired : List Committed) where
+module _ (regs : List BitVector) (fired : List Fired) where
   -- at each place
   agrees_at : (before events : List Event) (e : Event) (more : List Event) → ReadsAgree regs fired before (events ++ e ∷ more) → e.access.write ≡ false → e.value ≡ answer_now regs (before ++ events) e.access
   agrees_at before [] e more agree read = agree.0 read ∙ ap (λ (b : List Event). answer_now regs b e.access) (sym (append-nil before))
@@ -119,7 +120,7 @@ begins (y ∷ earlier) e later (x ∷ xs) more is =
     chosen same (inl (tail, ends)) = inl (tail, ap₂ (λ (h : Event) (t : List Event). h ∷ t) same ends)
     chosen same (inr h) = inr (inr h)
 
-module _ (regs : List BitVector) (fired : List Committed) (widths : List ℕ) (list earlier : List Event) (event : Event) (later : List Event) (split : list ≡ earlier ++ event ∷ later) (agree : ReadsAgree regs fired [] earlier) (env : Environment) where
+module _ (regs : List BitVector) (fired : List Fired) (widths : List ℕ) (list earlier : List Event) (event : Event) (later : List Event) (split : list ≡ earlier ++ event ∷ later) (agree : ReadsAgree regs fired [] earlier) (env : Environment) where
   abbrev Meets : Progress BitVector Stopped → Type 0
   Meets q = Has event.access q.events
 
@@ -222,7 +223,7 @@ pub commits_fire : CommitsFire
 commits_fire design rule inputs regs fired run trace h = chosen (decided regs fired [] run.events run.outcome)
   where
     chosen : (ReadsAgree regs fired [] run.events × AreFree regs fired run.events × (verdict_from regs fired [] run.events run.outcome ≡ at_end run.outcome)) ⊎ DecidedAt regs fired [] run.events (verdict_from regs fired [] run.events run.outcome)
-        → ((system_of design).alone rule inputs regs ≡ run) × (fires_behind fired run ≡ true)
+        → ((system_of design).alone rule inputs regs ≡ run) × (fires fired run ≡ true)
     chosen (inl (agree, free, ends)) = (
       alone_again regs fired design rule inputs run trace agree,
       ap₂ (λ (a b : Bool). a && not b) (done_from run.outcome (sym ends ∙ h)) (free_is_clear fired run.events free),
@@ -248,18 +249,18 @@ skips_do_not_fire design rule inputs regs fired run cause trace h = chosen (deci
     and_no false = refl
 
     chosen : (ReadsAgree regs fired [] run.events × AreFree regs fired run.events × (verdict_from regs fired [] run.events run.outcome ≡ at_end run.outcome)) ⊎ DecidedAt regs fired [] run.events (verdict_from regs fired [] run.events run.outcome)
-        → fires_behind fired ((system_of design).alone rule inputs regs) ≡ false
+        → fires fired ((system_of design).alone rule inputs regs) ≡ false
     chosen (inl (agree, free, ends)) =
-        ap (λ (r : Alone). fires_behind fired r) (alone_again regs fired design rule inputs run trace agree)
-        ∙ ap (λ (a : Bool). a && not (clash_behind run.events fired)) (not_done run.outcome cause (sym ends ∙ h))
+        ap (λ (r : Alone). fires fired r) (alone_again regs fired design rule inputs run trace agree)
+        ∙ ap (λ (a : Bool). a && not (clash_with run.events fired)) (not_done run.outcome cause (sym ends ∙ h))
     chosen (inr at) = of_rule (slice_get design.rules rule) trace.gives
       where
-        clashing : (alone : Alone) → Has at.event.access alone.events → fires_behind fired alone ≡ false
+        clashing : (alone : Alone) → Has at.event.access alone.events → fires fired alone ≡ false
         clashing alone has =
             let behind = clash_is_behind at.event.access fired alone.events has (skip_is_clash regs fired at.earlier at.event cause (at.decided ∙ ap Some h)) in
             ap (λ (b : Bool). is_done alone.outcome && not b) behind ∙ and_no (is_done alone.outcome)
 
-        of_rule : (found : Option Rule) → retrace env widths run.events found ≡ run → fires_behind fired (alone_if env regs found) ≡ false
+        of_rule : (found : Option Rule) → retrace env widths run.events found ≡ run → fires fired (alone_if env regs found) ≡ false
         of_rule None gives =
             clashing (alone_if env regs None) (subst (Has at.event.access) (sym at.split ∙ sym (ap (λ (r : Alone). r.events) gives)) (Has-here at.earlier at.event at.later))
         of_rule (Some found) gives =
@@ -267,7 +268,7 @@ skips_do_not_fire design rule inputs regs fired run cause trace h = chosen (deci
 
 -- ---- reads of a rule alone
 
-module _ (regs : List BitVector) (fired : List Committed) (env : Environment) where
+module _ (regs : List BitVector) (fired : List Fired) (env : Environment) where
   abbrev Agrees : List Event → Progress BitVector Stopped → Progress BitVector Stopped → Type 0
   Agrees before p q = ReadsAgree regs fired [] before → ReadsAgree regs fired [] p.events
 

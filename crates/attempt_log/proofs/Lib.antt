@@ -5,3 +5,6 @@ pub mod Notes
 pub mod Searches
 pub mod Verdicts
 pub mod Commits
+pub mod Alike
+pub mod Crossing
+pub mod LookBack

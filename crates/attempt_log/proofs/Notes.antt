@@ -1,5 +1,5 @@
 -- What accesses that are noted in a table leave at its places, and what a past stands for then.
-use Rattle.std.proofs.Common.{◌≡◌, ◌⊎◌, ℕ, ◌+◌, ◌*◌, ◌<◌, Bool, true, false, List, [], ◌∷◌, ◌++◌, length, Option, Some, None, All, refl, sym, ap, ap₂, ◌∙◌, subst, inl, inr, eq-eqb, eqb-true, arith}
+use Rattle.std.proofs.Common.{◌≡◌, ◌⊎◌, ℕ, ◌+◌, ◌*◌, ◌<◌, Bool, true, false, List, [], ◌∷◌, ◌++◌, length, Option, Some, None, is_some, All, refl, sym, ap, ap₂, ◌∙◌, subst, inl, inr, eq-eqb, eqb-true, arith}
 use Rattle.std.specs.Prelude.{◌==◌, ◌&&◌, ◌||◌, not, slice_index_or, slice_set, if◌then◌else◌}
 use Rattle.std.specs.List.{AllByRecursion, list_any}
 use Rattle.std.proofs.lemmas.Bool.{both_ways, cases_eq, ne_eqb}
@@ -10,11 +10,10 @@ use Rattle.typed_core.specs.Fits.{EventFits, EventsFit}
 use Rattle.typed_core.specs.Valid.{IsPort}
 use Rattle.typed_core.specs.declared.access.Access.{Access}
 use Rattle.typed_core.specs.declared.access.Event.{Event}
-use Rattle.attempt_log.specs.Firsts.{is_some, noted, noted_all, place_of}
-use Rattle.attempt_log.specs.Past.{StandsFor, first_from, has_access, is_access, kinds, place}
-use Rattle.attempt_log.specs.Verdict.{Committed}
+use Rattle.attempt_log.specs.Firsts.{noted, noted_all, place_of}
+use Rattle.attempt_log.specs.Past.{Commits, StandsFor, first_from, has_access, is_access, kinds, place}
+use Rattle.one_rule.specs.declared.cycle.Fired.{Fired}
 use Rattle.attempt_log.specs.declared.first.Commit.{Commit}
-use Rattle.attempt_log.specs.declared.past.Past.{Past}
 use Rattle.attempt_log.proofs.Tables.{HoldsNothing, Table, none_from}
 
 -- ---- places
@@ -173,7 +172,7 @@ same_accesses widths (e ∷ events) write port register fit p =
     ap₂ (λ a b. a || b) (same_place e write port register fit.0.port p) (same_accesses widths events write port register fit.1 p)
 
 -- one more rule is committed
-first_push : (position : ℕ) (write : Bool) (port register : ℕ) (fired : List Committed) (f : Committed)
+first_push : (position : ℕ) (write : Bool) (port register : ℕ) (fired : List Fired) (f : Fired)
     → first_from position write port register (fired ++ f ∷ []) ≡ first_or (first_from position write port register fired) (when (has_access write port register f.events) (record { position = position + length fired; rule = f.rule }))
 first_push position write port register [] f =
     let at : position ≡ position + 0 = omega arith in
@@ -199,20 +198,20 @@ all_push P [] x h p = (p, tt)
 all_push P (y ∷ xs) x h p = (h.0, all_push P xs x h.1 p)
 
 -- a past into which a rule's accesses are noted stands for that rule too
-pub stands_taken : (widths : List ℕ) (old new : Past) (fired : List Committed) (rule : ℕ) (events : List Event) → StandsFor widths old fired → EventsFit widths events
+pub stands_taken : (widths : List ℕ) (old new : Commits) (fired : List Fired) (rule : ℕ) (events : List Event) → StandsFor widths old fired → EventsFit widths events
     → new.firsts ≡ noted_all (record { position = old.count; rule = rule }) old.firsts events → new.count ≡ old.count + 1
     → StandsFor widths new (fired ++ record { rule = rule; events = events } ∷ [])
 stands_taken widths old new fired rule events s fit firsts count = record {
   places = ap length firsts ∙ length-noted_all commit old.firsts events ∙ s.places;
   firsts = at;
   count = omega (arith, count, s.count, length_push fired taken);
-  fit = all_push (λ (f : Committed). EventsFit widths f.events) fired taken s.fit fit;
+  fit = all_push (λ (f : Fired). EventsFit widths f.events) fired taken s.fit fit;
 }
   where
     commit : Commit
     commit = record { position = old.count; rule = rule }
 
-    taken : Committed
+    taken : Fired
     taken = record { rule = rule; events = events }
 
     within : AllByRecursion (λ (e : Event). place_of e.access < length old.firsts) events
@@ -229,7 +228,7 @@ stands_taken widths old new fired rule events s fit firsts count = record {
         ∙ sym (first_push 0 write port register fired taken)
 
 -- a past that holds nothing stands for no rule
-pub stands_none : (widths : List ℕ) (past : Past) → length past.firsts ≡ kinds * length widths → HoldsNothing past.firsts → past.count ≡ 0 → StandsFor widths past []
+pub stands_none : (widths : List ℕ) (past : Commits) → length past.firsts ≡ kinds * length widths → HoldsNothing past.firsts → past.count ≡ 0 → StandsFor widths past []
 stands_none widths past places none count = record {
   places = places;
   firsts = λ write port register p lt. none (place write port register);

@@ -10,11 +10,11 @@ use Rattle.typed_core.specs.declared.access.Access.{Access}
 use Rattle.typed_core.specs.declared.access.Event.{Event}
 use Rattle.typed_core.specs.declared.limits.TheConstants.{PORTS}
 use Rattle.attempt_log.specs.Firsts.{access_of, clash_of, earlier_of, in_the_way, is_write_kind, port_of_kind, row, earliest_below}
-use Rattle.attempt_log.specs.Past.{StandsFor, first_from, has_access, is_access, kind, kinds}
-use Rattle.attempt_log.specs.Verdict.{Committed, clash, clash_or, first_clash, first_of, kind_before}
+use Rattle.attempt_log.specs.Past.{Commits, StandsFor, first_from, has_access, is_access, kind, kinds}
+use Rattle.one_rule.specs.declared.cycle.Fired.{Fired}
+use Rattle.attempt_log.specs.Verdict.{clash, clash_or, first_clash, first_of, kind_before}
 use Rattle.attempt_log.specs.declared.first.Commit.{Commit}
 use Rattle.attempt_log.specs.declared.past.Clashing.{Clashing}
-use Rattle.attempt_log.specs.declared.past.Past.{Past}
 use Rattle.attempt_log.proofs.Notes.{access_parts, own_access, same_test}
 
 -- ---- tests
@@ -263,10 +263,10 @@ module _ (access : Access) where
       subst (Late position) (sym (search_step first number)) (late_earlier position (earliest_below access first number) (in_the_way access first number) (late_search position first number late) (late_way position first number (late number)))
 
   -- the first commits by kind
-  abbrev firsts : ℕ → List Committed → ℕ → Option Commit
+  abbrev firsts : ℕ → List Fired → ℕ → Option Commit
   firsts position fired k = first_from position (is_write_kind k) (port_of_kind k) access.register fired
 
-  late_firsts : (position least : ℕ) (fired : List Committed) (k : ℕ) → least ≤ position → LateFirst least (firsts position fired k)
+  late_firsts : (position least : ℕ) (fired : List Fired) (k : ℕ) → least ≤ position → LateFirst least (firsts position fired k)
   late_firsts position least [] k h = tt
   late_firsts position least (f ∷ fired) k h = chosen (has_access (is_write_kind k) (port_of_kind k) access.register f.events) (late_firsts (position + 1) least fired k (omega arith))
     where
@@ -279,7 +279,7 @@ module _ (access : Access) where
   found_or position rule (Some earlier) next = Some (record { commit = record { position = position; rule = rule }; earlier = earlier })
   found_or position rule None next = next
 
-  abbrev found : ℕ → List Committed → Option Clashing
+  abbrev found : ℕ → List Fired → Option Clashing
   found position [] = None
   found position (f ∷ fired) = found_or position f.rule (first_clash access f.events) (found (position + 1) fired)
 
@@ -347,7 +347,7 @@ module _ (access : Access) where
             ∙ keeps (in_the_way access both number) (of_kind least) refl (late_way position both number (late_both number))
 
   -- the search through all kinds finds what the definition names
-  search_found : (widths : List ℕ) (position : ℕ) (fired : List Committed) → AllByRecursion (λ (f : Committed). EventsFit widths f.events) fired → earliest_below access (firsts position fired) kinds ≡ found position fired
+  search_found : (widths : List ℕ) (position : ℕ) (fired : List Fired) → AllByRecursion (λ (f : Fired). EventsFit widths f.events) fired → earliest_below access (firsts position fired) kinds ≡ found position fired
   search_found widths position [] fit = none kinds
     where
       way_none : (k : ℕ) → in_the_way access (firsts position []) k ≡ None
@@ -377,7 +377,7 @@ module _ (access : Access) where
           search_hit position f.rule f.events (firsts (position + 1) fired) late number kinds least.here least.below (kind_bound a.write a.port least.port)
           ∙ ap (λ (x : Access). let c : Clashing = record { commit = record { position = position; rule = f.rule }; earlier = x } in Some c) is
 
-  clash_found : (position : ℕ) (fired : List Committed) → option_map (clash_of access) (found position fired) ≡ clash access fired
+  clash_found : (position : ℕ) (fired : List Fired) → option_map (clash_of access) (found position fired) ≡ clash access fired
   clash_found position [] = refl
   clash_found position (f ∷ fired) = chosen (first_clash access f.events) (clash_found (position + 1) fired)
     where
@@ -386,7 +386,7 @@ module _ (access : Access) where
       chosen None h = h
 
   -- the search of a past finds the clash, on every list that it stands for
-  pub search_is_clash : (widths : List ℕ) (past : Past) (fired : List Committed) → StandsFor widths past fired → access.register < length widths → option_map (clash_of access) (earliest_below access (row past.firsts access.register) kinds) ≡ clash access fired
+  pub search_is_clash : (widths : List ℕ) (past : Commits) (fired : List Fired) → StandsFor widths past fired → access.register < length widths → option_map (clash_of access) (earliest_below access (row past.firsts access.register) kinds) ≡ clash access fired
   search_is_clash widths past fired s lt =
       ap (option_map (clash_of access))
       (search_same (row past.firsts access.register) (firsts 0 fired) kinds (λ k below.

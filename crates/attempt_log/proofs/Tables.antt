@@ -1,5 +1,5 @@
 -- What a table of first commits keeps to: there is room for a place that holds nothing, and a clear leaves nothing anywhere.
-use Rattle.std.proofs.Common.{◌≡◌, ◌⊎◌, ℕ, ◌+◌, ◌<◌, ◌≤◌, Bool, true, false, List, [], ◌∷◌, ◌++◌, length, replicate, Option, Some, None, All, zero, suc, refl, sym, ap, ◌∙◌, subst, inl, inr, eq-eqb, cond, sum_by, take, arith}
+use Rattle.std.proofs.Common.{◌≡◌, ◌⊎◌, ℕ, ◌+◌, ◌<◌, ◌≤◌, Bool, true, false, List, [], ◌∷◌, ◌++◌, length, replicate, Option, Some, None, is_some, All, zero, suc, refl, sym, ap, ◌∙◌, subst, inl, inr, eq-eqb, cond, sum_by, take, arith}
 use Rattle.std.specs.Prelude.{◌==◌, ◌||◌, slice_index_or, slice_set}
 use Rattle.std.specs.List.{count_by, list_any}
 use Rattle.std.proofs.lemmas.Bool.{both_ways, cases_Bool, cases_eq, cases_lt, ne_eqb, or_left, or_right}
@@ -7,7 +7,7 @@ use Rattle.std.proofs.lemmas.List.{get_or_default, get_or-replicate, get_or-set_
 use Rattle.std.proofs.lemmas.List.Elements.{All-append}
 use Rattle.std.proofs.lemmas.List.Sums.{count_by-le-length, sum_by-set}
 use Rattle.std.proofs.lemmas.List.Folds.{list_any-append, list_any_more}
-use Rattle.attempt_log.specs.Firsts.{IsSound, is_listed, is_some}
+use Rattle.attempt_log.specs.Firsts.{IsSound, is_listed}
 use Rattle.attempt_log.specs.declared.first.Commit.{Commit}
 
 abbrev pub Table : Type 0

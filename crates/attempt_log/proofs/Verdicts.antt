@@ -1,5 +1,5 @@
 -- What decides a verdict, and what it says of clashes with the rules that were committed.
-use Rattle.std.proofs.Common.{◌≡◌, ◌⊎◌, ℕ, Bool, true, false, List, [], ◌∷◌, ◌++◌, Option, Some, None, refl, sym, ap, ap₂, ◌∙◌, inl, inr, eqb-true, append-nil, append_assoc}
+use Rattle.std.proofs.Common.{◌≡◌, ◌⊎◌, ℕ, Bool, true, false, List, [], ◌∷◌, ◌++◌, Option, Some, None, is_some, refl, sym, ap, ap₂, ◌∙◌, inl, inr, eqb-true, append-nil, append_assoc}
 use Rattle.std.specs.Prelude.{◌==◌, ◌||◌, unwrap_or, if◌then◌else◌}
 use Rattle.std.specs.List.{AllByRecursion, list_any}
 use Rattle.std.proofs.lemmas.Bool.{and_parts, both_ways, or_cases, or_left, or_right}
@@ -9,11 +9,10 @@ use Rattle.typed_core.specs.Clash.{clashes}
 use Rattle.typed_core.specs.declared.access.Access.{Access}
 use Rattle.typed_core.specs.declared.access.Event.{Event}
 use Rattle.typed_core.specs.declared.outcome.Outcome.{Outcome}
-use Rattle.one_rule.specs.Cycle.{clash_with_events}
+use Rattle.one_rule.specs.Cycle.{clash_with, clash_with_events}
 use Rattle.one_rule.proofs.Clashes.{clash_with-push, meets}
-use Rattle.attempt_log.specs.Firsts.{is_some}
-use Rattle.attempt_log.specs.Laws.{clash_behind}
-use Rattle.attempt_log.specs.Verdict.{Committed, answer_now, at_end, clash, clash_or, decision, first_clash, first_of, is_same, staleness, verdict_from}
+use Rattle.one_rule.specs.declared.cycle.Fired.{Fired}
+use Rattle.attempt_log.specs.Verdict.{answer_now, at_end, clash, clash_or, decision, first_clash, first_of, is_same, staleness, verdict_from}
 use Rattle.attempt_log.specs.declared.cause.Cause.{Cause}
 use Rattle.attempt_log.specs.declared.cause.StaleRead.{StaleRead}
 use Rattle.attempt_log.specs.declared.cause.Verdict.{Verdict}
@@ -21,7 +20,7 @@ use Rattle.attempt_log.specs.declared.cause.Verdict.TheVariants.{Commit, Skip, S
 
 -- ---- what decides
 
-module _ (regs : List BitVector) (fired : List Committed) where
+module _ (regs : List BitVector) (fired : List Fired) where
   -- every read has its answer now, behind these events of the same rule
   abbrev pub ReadsAgree : List Event → List Event → Type 0
   ReadsAgree before [] = Unit {0}
@@ -126,13 +125,13 @@ refused_some access (e ∷ events) = chosen (clashes access e.access) (refused_s
     chosen true h = refl
     chosen false h = h
 
-clash_some : (access : Access) (fired : List Committed) → is_some (clash access fired) ≡ list_any (λ (f : Committed). is_refused f.events access) fired
+clash_some : (access : Access) (fired : List Fired) → is_some (clash access fired) ≡ list_any (λ (f : Fired). is_refused f.events access) fired
 clash_some access [] = refl
 clash_some access (f ∷ fired) =
     chosen (first_clash access f.events) (clash_some access fired)
-    ∙ ap (λ (b : Bool). b || list_any (λ (f : Committed). is_refused f.events access) fired) (sym (refused_some access f.events))
+    ∙ ap (λ (b : Bool). b || list_any (λ (f : Fired). is_refused f.events access) fired) (sym (refused_some access f.events))
   where
-    chosen : (o : Option Access) → is_some (clash access fired) ≡ list_any (λ (f : Committed). is_refused f.events access) fired → is_some (clash_or access f.rule o (clash access fired)) ≡ (is_some o || list_any (λ (f : Committed). is_refused f.events access) fired)
+    chosen : (o : Option Access) → is_some (clash access fired) ≡ list_any (λ (f : Fired). is_refused f.events access) fired → is_some (clash_or access f.rule o (clash access fired)) ≡ (is_some o || list_any (λ (f : Fired). is_refused f.events access) fired)
     chosen (Some a) h = refl
     chosen None h = h
 
@@ -153,25 +152,25 @@ neither true b h = absurd cc
 neither false b h = (refl, h)
 
 -- events that are free of clashes clash with no rule
-pub free_is_clear : (fired : List Committed) (events : List Event) → AllByRecursion (λ (e : Event). clash e.access fired ≡ None) events → clash_behind events fired ≡ false
+pub free_is_clear : (fired : List Fired) (events : List Event) → AllByRecursion (λ (e : Event). clash e.access fired ≡ None) events → clash_with events fired ≡ false
 free_is_clear fired events free = of_refused fired (each events free)
   where
-    each : (es : List Event) → AllByRecursion (λ (e : Event). clash e.access fired ≡ None) es → AllByRecursion (λ (e : Event). list_any (λ (f : Committed). is_refused f.events e.access) fired ≡ false) es
+    each : (es : List Event) → AllByRecursion (λ (e : Event). clash e.access fired ≡ None) es → AllByRecursion (λ (e : Event). list_any (λ (f : Fired). is_refused f.events e.access) fired ≡ false) es
     each [] h = tt
     each (e ∷ es) h = (sym (clash_some e.access fired) ∙ ap (λ (o : Option Cause). is_some o) h.0, each es h.1)
 
-    heads : (f : Committed) (rest : List Committed) (es : List Event) → AllByRecursion (λ (e : Event). list_any (λ (f : Committed). is_refused f.events e.access) (f ∷ rest) ≡ false) es → meets f.events es ≡ false
+    heads : (f : Fired) (rest : List Fired) (es : List Event) → AllByRecursion (λ (e : Event). list_any (λ (f : Fired). is_refused f.events e.access) (f ∷ rest) ≡ false) es → meets f.events es ≡ false
     heads f rest [] h = refl
     heads f rest (e ∷ es) h =
-        let parts = neither (is_refused f.events e.access) (list_any (λ (f : Committed). is_refused f.events e.access) rest) h.0 in
+        let parts = neither (is_refused f.events e.access) (list_any (λ (f : Fired). is_refused f.events e.access) rest) h.0 in
         ap (λ (b : Bool). b || meets f.events es) parts.0 ∙ heads f rest es h.1
 
-    tails : (f : Committed) (rest : List Committed) (es : List Event) → AllByRecursion (λ (e : Event). list_any (λ (f : Committed). is_refused f.events e.access) (f ∷ rest) ≡ false) es
-        → AllByRecursion (λ (e : Event). list_any (λ (f : Committed). is_refused f.events e.access) rest ≡ false) es
+    tails : (f : Fired) (rest : List Fired) (es : List Event) → AllByRecursion (λ (e : Event). list_any (λ (f : Fired). is_refused f.events e.access) (f ∷ rest) ≡ false) es
+        → AllByRecursion (λ (e : Event). list_any (λ (f : Fired). is_refused f.events e.access) rest ≡ false) es
     tails f rest [] h = tt
-    tails f rest (e ∷ es) h = ((neither (is_refused f.events e.access) (list_any (λ (f : Committed). is_refused f.events e.access) rest) h.0).1, tails f rest es h.1)
+    tails f rest (e ∷ es) h = ((neither (is_refused f.events e.access) (list_any (λ (f : Fired). is_refused f.events e.access) rest) h.0).1, tails f rest es h.1)
 
-    of_refused : (some : List Committed) → AllByRecursion (λ (e : Event). list_any (λ (f : Committed). is_refused f.events e.access) some ≡ false) events → clash_behind events some ≡ false
+    of_refused : (some : List Fired) → AllByRecursion (λ (e : Event). list_any (λ (f : Fired). is_refused f.events e.access) some ≡ false) events → clash_with events some ≡ false
     of_refused [] h = refl
     of_refused (f ∷ rest) h =
         ap₂ (λ a b. a || b) (clash_is_meeting events f.events ∙ heads f rest events h) (of_refused rest (tails f rest events h))
@@ -182,7 +181,7 @@ Has access [] = ⊥
 Has access (e ∷ events) = (e.access ≡ access) ⊎ Has access events
 
 -- events with an access that clashes clash with a rule
-pub clash_is_behind : (access : Access) (fired : List Committed) (events : List Event) → Has access events → is_some (clash access fired) ≡ true → clash_behind events fired ≡ true
+pub clash_is_behind : (access : Access) (fired : List Fired) (events : List Event) → Has access events → is_some (clash access fired) ≡ true → clash_with events fired ≡ true
 clash_is_behind access fired events has h = of_refused fired (sym (clash_some access fired) ∙ h)
   where
     met : (log es : List Event) → Has access es → is_refused log access ≡ true → meets log es ≡ true
@@ -190,10 +189,10 @@ clash_is_behind access fired events has h = of_refused fired (sym (clash_some ac
     met log (e ∷ es) (inl here) h = or_left (is_refused log e.access) (meets log es) (ap (is_refused log) here ∙ h)
     met log (e ∷ es) (inr more) h = or_right (is_refused log e.access) (meets log es) (met log es more h)
 
-    of_refused : (some : List Committed) → list_any (λ (f : Committed). is_refused f.events access) some ≡ true → clash_behind events some ≡ true
+    of_refused : (some : List Fired) → list_any (λ (f : Fired). is_refused f.events access) some ≡ true → clash_with events some ≡ true
     of_refused [] h = absurd cc
-    of_refused (f ∷ rest) h = chosen (or_cases (is_refused f.events access) (list_any (λ (f : Committed). is_refused f.events access) rest) h) (of_refused rest)
+    of_refused (f ∷ rest) h = chosen (or_cases (is_refused f.events access) (list_any (λ (f : Fired). is_refused f.events access) rest) h) (of_refused rest)
       where
-        chosen : (is_refused f.events access ≡ true) ⊎ (list_any (λ (f : Committed). is_refused f.events access) rest ≡ true) → (list_any (λ (f : Committed). is_refused f.events access) rest ≡ true → clash_behind events rest ≡ true) → clash_behind events (f ∷ rest) ≡ true
-        chosen (inl k) more = or_left (clash_with_events events f.events) (clash_behind events rest) (clash_is_meeting events f.events ∙ met f.events events has k)
-        chosen (inr k) more = or_right (clash_with_events events f.events) (clash_behind events rest) (more k)
+        chosen : (is_refused f.events access ≡ true) ⊎ (list_any (λ (f : Fired). is_refused f.events access) rest ≡ true) → (list_any (λ (f : Fired). is_refused f.events access) rest ≡ true → clash_with events rest ≡ true) → clash_with events (f ∷ rest) ≡ true
+        chosen (inl k) more = or_left (clash_with_events events f.events) (clash_with events rest) (clash_is_meeting events f.events ∙ met f.events events has k)
+        chosen (inr k) more = or_right (clash_with_events events f.events) (clash_with events rest) (more k)

@@ -1,6 +1,6 @@
 -- The table of first commits, for private functions alone: what its places hold, how accesses are noted in it, and how it is
 -- searched for what an access clashes with.
-use Rattle.std.specs.Prelude.{◌≡◌, ℕ, zero, suc, ◌-◌, ◌<◌, ◌≤◌, Bool, true, false, ◌==◌, not, nat_lt, List, [], ◌∷◌, length, Option, Some, None, option_map, slice_index_or, slice_set, All, if◌then◌else◌}
+use Rattle.std.specs.Prelude.{◌≡◌, ℕ, zero, suc, ◌-◌, ◌<◌, ◌≤◌, Bool, true, ◌==◌, not, nat_lt, List, [], ◌∷◌, length, Option, Some, None, is_some, option_map, slice_index_or, slice_set, All, if◌then◌else◌}
 use Rattle.std.specs.List.{count_by, list_any}
 use Rattle.typed_core.specs.Clash.{clashes}
 use Rattle.typed_core.specs.declared.access.Access.{Access}
@@ -13,10 +13,6 @@ use Rattle.attempt_log.specs.declared.first.Commit.{Commit}
 use Rattle.attempt_log.specs.declared.past.Clashing.{Clashing}
 
 -- ---- places
-
-abbrev pub is_some : {T : Type 0} → Option T → Bool
-is_some None = false
-is_some (Some x) = true
 
 abbrev pub is_listed : List ℕ → ℕ → Bool
 is_listed touched number = list_any (λ (t : ℕ). t == number) touched

@@ -1,6 +1,6 @@
 -- Traces: the events and the outcome that a rule gives where its reads are answered by the values that the events
--- themselves list, over the evaluation of Kôika's actions (Bourgeat et al., PLDI 2020). No register state is named: listed
--- values may contradict each other, and then no state gives them.
+-- themselves list, over the evaluation of Kôika's actions (Bourgeat et al., PLDI 2020). No register state is named:
+-- listed values may contradict each other, and then no state gives them.
 use Rattle.std.specs.Prelude.{◌≡◌, ℕ, Bool, false, not, ◌==◌, ◌&&◌, List, [], length, Option, Some, None, slice_get, slice_index_or, if◌then◌else◌, All}
 use Rattle.kw_bits.specs.BitVector.{BitVector, zero_at}
 use Rattle.kw_bits.specs.Laws.{HasWidth}
@@ -21,13 +21,13 @@ use Rattle.one_rule.specs.Cycle.{environment}
 abbrev pub is_read : ℕ → ℕ → Event → Bool
 is_read port register e = not e.access.write && (e.access.port == port) && (e.access.register == register)
 
--- What a read comes to: the value of the listed event at its place. Where the list has another event there, or none, it
--- comes to 0, and its own event isn't the list's.
+-- What a read evaluates to: the value of the listed event at its place. Where the list has another event there, or
+-- none, it evaluates to 0, and its own event isn't the list's.
 abbrev pub listed : List ℕ → ℕ → ℕ → Option Event → BitVector
 listed widths port register None = zero_at (slice_index_or widths register 0)
 listed widths port register (Some e) = if is_read port register e then e.value else zero_at (slice_index_or widths register 0)
 
--- a read comes to what is listed for it, and is noted with it
+-- a read evaluates to what is listed for it, and is noted with it
 abbrev pub read_listed : List ℕ → List Event → ℕ → ℕ → Part BitVector Stopped
 read_listed widths trace port register events =
     let value = listed widths port register (slice_get trace (length events)) in
@@ -51,7 +51,8 @@ ReadFits widths e = e.access.write ≡ false → (width : ℕ) × (slice_get wid
 abbrev pub ReadsFit : List ℕ → List Event → Type 0
 ReadsFit widths events = All (ReadFits widths) events
 
--- with these inputs, the rule of the design gives exactly these events and this outcome where the events answer its reads
+-- with these inputs, the rule of the design gives exactly these events and this outcome where the events answer its
+-- reads
 pub record IsTrace (design : Parts) (rule : ℕ) (inputs : List BitVector) (run : Alone) : Type 0 where
   pub gives : retrace (environment design inputs) (register_widths design) run.events (slice_get design.rules rule) ≡ run
   pub reads : ReadsFit (register_widths design) run.events

@@ -11,16 +11,12 @@ use Rattle.typed_core.specs.declared.access.Event.{Event}
 use Rattle.typed_core.specs.declared.outcome.Alone.{Alone}
 use Rattle.typed_core.specs.declared.outcome.Outcome.{Outcome}
 use Rattle.typed_core.specs.declared.outcome.Outcome.TheVariants as ends
+use Rattle.one_rule.specs.declared.cycle.Fired.{Fired}
 use Rattle.attempt_log.specs.declared.cause.Cause.{Cause}
 use Rattle.attempt_log.specs.declared.cause.Cause.TheVariants as cause
 use Rattle.attempt_log.specs.declared.cause.StaleRead.{StaleRead}
 use Rattle.attempt_log.specs.declared.cause.Verdict.{Verdict}
 use Rattle.attempt_log.specs.declared.cause.Verdict.TheVariants.{Commit, Skip, Stale}
-
--- a rule that was committed in the cycle, with its events
-pub record Committed : Type 0 where
-  pub rule : ℕ
-  pub events : List Event
 
 -- ---- clashes
 
@@ -48,7 +44,7 @@ clash_or access rule (Some earlier) next = Some (cause.Clash access rule earlier
 clash_or access rule None next = next
 
 -- the clash of the access with the earliest rule that fired and has an access in its way
-abbrev pub clash : Access → List Committed → Option Cause
+abbrev pub clash : Access → List Fired → Option Cause
 clash access [] = None
 clash access (f ∷ fired) = clash_or access f.rule (first_clash access f.events) (clash access fired)
 
@@ -82,11 +78,11 @@ at_end ends.Abort = Skip cause.Abort
 at_end (ends.OwnClash access) = Skip (cause.OwnClash access)
 
 -- the first event that decides does, and else the outcome
-abbrev pub verdict_from : List BitVector → List Committed → List Event → List Event → Outcome → Verdict
+abbrev pub verdict_from : List BitVector → List Fired → List Event → List Event → Outcome → Verdict
 verdict_from regs fired before [] outcome = at_end outcome
 verdict_from regs fired before (e ∷ events) outcome =
     unwrap_or (decision (clash e.access fired) (staleness (answer_now regs before e.access) e)) (verdict_from regs fired (before ++ e ∷ []) events outcome)
 
 -- the verdict on what a rule gave, with these registers and these rules that fired
-abbrev pub verdict : List BitVector → List Committed → Alone → Verdict
+abbrev pub verdict : List BitVector → List Fired → Alone → Verdict
 verdict regs fired run = verdict_from regs fired [] run.events run.outcome

@@ -1,3 +1,5 @@
+//! Engines: the verdicts on attempts, and why a rule is skipped.
+
 use kw_bits::Bits;
 use typed_core::Access;
 

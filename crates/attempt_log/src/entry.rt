@@ -1,3 +1,5 @@
+//! Engines: what boards return, and the entries of a history.
+
 use crate::cause::{Cause, StaleRead};
 use crate::traced::Attempt;
 use one_rule::Inputs;

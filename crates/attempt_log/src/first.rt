@@ -1,3 +1,5 @@
+//! Engines: the first commit with each kind of access.
+
 ghost use Rattle.std.specs.Prelude.{◌≡◌, ◌<◌, ◌⊎◌, ℕ, List, Option, Some, None, length, replicate, slice_index_or, slice_set, false, IfOk, All};
 ghost use Rattle.attempt_log.specs.Firsts.{is_listed};
 
@@ -34,7 +36,7 @@ impl Model for Firsts {
 }
 
 impl Firsts {
-    /// A table of so many places that hold nothing.
+    /// A table of that many places that hold nothing.
     pub(crate) fn new(alloc: Global, places: usize) -> Result<Firsts, NoMemory>
         ensures { IfOk result (λ firsts. firsts ≡ replicate places None) }
     {
@@ -83,7 +85,7 @@ fn clear_places(commits: &mut Reserved<Option<Commit>>, places: &[usize])
     }
 }
 
-// So many places that hold nothing.
+// That many places that hold nothing.
 fn nothing(alloc: Global, places: usize) -> Result<Reserved<Option<Commit>>, NoMemory>
     ensures { IfOk result (λ list. list.items ≡ replicate places None) }
 {

@@ -1,9 +1,9 @@
-ghost use Rattle.std.specs.Prelude.{◌≡◌, ◌<◌, IfOk};
-ghost use Rattle.std.specs.Arc.{arc_value};
-ghost use Rattle.one_rule.specs.Cycle.{system_of};
-ghost use Rattle.one_rule.specs.Externs.{kept};
-ghost use Rattle.attempt_log.specs.Attempt.{FitDesign};
+//! Engines: jobs, and the attempt that does one.
 
+ghost use Rattle.std.specs.Prelude.{◌≡◌, IfOk};
+ghost use Rattle.attempt_log.specs.Setting.{FitsItself, attempt_of};
+
+use crate::sources::sources_of;
 use crate::traced::Attempt;
 use kw_bits::{NoMemory, Sequence};
 use one_rule::{Externs, Inputs, Regs, alone};
@@ -34,15 +34,8 @@ pub enum JobAnswer {
 
 /// The attempt that does the job: its rule runs alone on its registers.
 pub fn attempt(alloc: Global, job: &Job) -> Result<Attempt, NoMemory>
-    requires { FitDesign (arc_value job.now.design) (kept (arc_value job.now.externs)) job.now.rule job.now.inputs job.now.regs }
-    ensures { let design = arc_value job.now.design in
-        IfOk result (λ a. a ≡ record {
-          design = design;
-          cycle = job.now.cycle;
-          rule = job.now.rule;
-          inputs = job.now.inputs;
-          run = (system_of design).alone job.now.rule job.now.inputs job.now.regs;
-        }) }
+    requires { FitsItself job.now }
+    ensures { IfOk result (λ a. a ≡ attempt_of job.now) }
 {
     let run = alone(
         alloc,
@@ -52,11 +45,13 @@ pub fn attempt(alloc: Global, job: &Job) -> Result<Attempt, NoMemory>
         &job.inputs,
         &job.regs,
     )?;
+    let sources = sources_of(alloc, &job.design, &run.events)?;
     Ok(Attempt {
         design: Arc::try_clone(&job.design)?,
         cycle: job.cycle,
         rule: job.rule,
         inputs: Sequence::from_slice(alloc, job.inputs.as_slice())?,
         run,
+        sources,
     })
 }

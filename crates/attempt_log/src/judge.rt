@@ -1,31 +1,46 @@
-ghost use Rattle.std.specs.Prelude.{◌≡◌, ◌<◌, ℕ, List, length};
-ghost use Rattle.typed_core.specs.Alone.{is_write_below, seen};
+//! Engines: the verdict on an attempt.
+
+ghost use Rattle.std.specs.Prelude.{◌≡◌, ◌<◌, ℕ, List, length, slice_index_or, take};
 ghost use Rattle.typed_core.specs.Widths.{HaveWidths, register_widths};
 ghost use Rattle.attempt_log.specs.Past.{HasPlaces, StandsFor};
-ghost use Rattle.attempt_log.specs.Verdict.{Committed, answer_now, at_end, clash, decision, staleness, verdict};
+ghost use Rattle.one_rule.specs.declared.cycle.Fired.{Fired};
+ghost use Rattle.attempt_log.specs.Verdict.{answer_now, at_end, clash, decision, staleness, verdict};
 
 use crate::cause::{Cause, StaleRead, Verdict};
 use crate::past::Past;
+use crate::sources::value_at;
 use crate::traced::Attempt;
 use kw_bits::Bits;
 use one_rule::Regs;
 use typed_core::{Access, Event, Outcome};
 
-/// Whether the attempt may be committed on these registers, behind what the cycle has committed: by its events in order,
-/// of which the first that clashes or is stale decides, and else by its outcome. For each read the attempt's own earlier
-/// events are looked through.
+/// Whether the attempt may be committed on these registers, after what the cycle has committed: by its events in order,
+/// of which the first that clashes or is stale decides, and else by its outcome. Each event is looked at once.
 pub fn verdict(regs: &Regs, past: &Past, attempt: &Attempt) -> Verdict
     requires registers { HaveWidths (register_widths attempt.now.design) regs.now }
     requires past { HasPlaces (length attempt.now.design.regs) past.now }
-    ensures { (fired : List Committed) → StandsFor (register_widths attempt.now.design) past.now fired → result ≡ verdict regs.now fired attempt.now.run }
+    ensures { (fired : List Fired) → StandsFor (register_widths attempt.now.design) past.now fired → result ≡ verdict regs.now fired attempt.now.run }
 {
     let events = attempt.events().as_slice();
     for (number, event) in events.iter().enumerate() {
-        if let Some(decided) = decision(regs, past, &events[..number], event) {
+        let now = value_now(regs, attempt, number, event);
+        if let Some(decided) = decision(past, event, now) {
             return decided;
         }
     }
     at_end(*attempt.outcome())
+}
+
+// The value that a read at an event of the attempt gets on these registers.
+fn value_now(regs: &Regs, attempt: &Attempt, number: usize, event: &Event) -> Bits
+    requires register { event.now.access.register < length regs.now }
+    requires number { number < length attempt.now.run.events }
+    requires event { event.now ≡ slice_index_or attempt.now.run.events number event.now }
+    ensures { result ≡ answer_now regs.now (take number attempt.now.run.events) event.now.access }
+{
+    let events = attempt.events().as_slice();
+    let source = attempt.sources()[number];
+    value_at(regs, events, event, source)
 }
 
 // What the outcome decides where no event does.
@@ -39,26 +54,24 @@ fn at_end(outcome: Outcome) -> Verdict
     }
 }
 
-// What an event decides, if anything, behind these events of the same attempt.
-fn decision(regs: &Regs, past: &Past, before: &[Event], event: &Event) -> Option<Verdict>
-    requires register { event.now.access.register < length regs.now }
-    requires past { HasPlaces (length regs.now) past.now }
-    ensures { (widths : List ℕ) (fired : List Committed) → StandsFor widths past.now fired
-        → result ≡ decision (clash event.now.access fired) (staleness (answer_now regs.now before.now event.now.access) event.now) }
+// What an event decides, if anything, where this is the value that a read there gets now.
+fn decision(past: &Past, event: &Event, now: Bits) -> Option<Verdict>
+    requires { (registers : ℕ) × HasPlaces registers past.now × (event.now.access.register < registers) }
+    ensures { (widths : List ℕ) (fired : List Fired) → StandsFor widths past.now fired
+        → result ≡ decision (clash event.now.access fired) (staleness now event.now) }
 {
     match past.clash(&event.access) {
         Some(cause) => Some(Verdict::Skip(cause)),
-        None => match staleness(regs, before, event) {
+        None => match staleness(event, now) {
             Some(read) => Some(Verdict::Stale(read)),
             None => None,
         },
     }
 }
 
-// Whether an event is a read that would answer another value now.
-fn staleness(regs: &Regs, before: &[Event], event: &Event) -> Option<StaleRead>
-    requires { event.now.access.register < length regs.now }
-    ensures { result ≡ staleness (answer_now regs.now before.now event.now.access) event.now }
+// Whether an event is a read whose value isn't the one that it gets now.
+fn staleness(event: &Event, now: Bits) -> Option<StaleRead>
+    ensures { result ≡ staleness now event.now }
 {
     let Access {
         write,
@@ -68,7 +81,6 @@ fn staleness(regs: &Regs, before: &[Event], event: &Event) -> Option<StaleRead>
     if write {
         return None;
     }
-    let now = seen(port, register, before, *regs.get(register as usize));
     if event.value == now {
         return None;
     }
@@ -78,23 +90,4 @@ fn staleness(regs: &Regs, before: &[Event], event: &Event) -> Option<StaleRead>
         held: event.value,
         now,
     })
-}
-
-// What a read of a register at a port sees of these events, from its start value.
-fn seen(port: u32, register: u32, events: &[Event], start: Bits) -> Bits
-    ensures { result ≡ seen port register events.now start }
-{
-    let mut value = start;
-    for event in events {
-        if is_write_below(port, register, &event.access) {
-            value = event.value;
-        }
-    }
-    value
-}
-
-fn is_write_below(port: u32, register: u32, access: &Access) -> bool
-    ensures { result ≡ is_write_below port register access.now }
-{
-    access.write && access.register == register && access.port < port
 }

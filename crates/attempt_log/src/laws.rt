@@ -1,3 +1,5 @@
+//! Engines: laws of traces and verdicts.
+
 // Each law of traces and verdicts is the contract of a function that does nothing.
 ghost use Rattle.attempt_log.specs.Laws as law;
 
@@ -5,6 +7,11 @@ ghost use Rattle.attempt_log.specs.Laws as law;
 pub fn a_rule_alone_gives_a_trace()
     ensures alone { law.AloneIsTrace }
     ensures fits { law.TracesFit }
+{}
+
+/// A trace of a rule of a design is one of that rule of any design of equal value.
+pub fn equal_designs_have_the_same_traces()
+    ensures { law.EqualDesignsTraceAlike }
 {}
 
 /// An attempt that is committed is what its rule gives, run whole, on the registers as they are, where the rule fires;
@@ -20,7 +27,8 @@ pub fn a_stale_read_was_made_on_other_registers()
     ensures differ { law.StaleReadsDiffer }
 {}
 
-/// The registers that an attempt was made on don't count.
-pub fn a_verdict_asks_not_what_it_was_made_on()
+/// On whichever registers an attempt was made: where it is committed, its rule gives the same on the registers as they are,
+/// and fires; where it is skipped, its rule doesn't fire there.
+pub fn an_attempt_may_be_made_on_any_registers()
     ensures { law.MadeOnAnyRegisters }
 {}

@@ -1,19 +1,23 @@
+//! Engines: what a cycle has committed.
+
 ghost use Rattle.std.specs.Prelude.{◌≡◌, ◌+◌, ◌*◌, ◌<◌, ℕ, List, [], ◌∷◌, ◌++◌, Option, length, IfOk, All};
 ghost use Rattle.typed_core.specs.Widths.{register_widths};
 ghost use Rattle.typed_core.specs.declared.access.Event.{Event};
 ghost use Rattle.attempt_log.specs.Firsts.{access_of, clash_of, earlier_of, in_the_way, noted, noted_all, place_of, row, earliest_below};
 ghost use Rattle.attempt_log.specs.Past.{HasPlaces, StandsFor, kinds};
-ghost use Rattle.attempt_log.specs.Verdict.{Committed, clash};
+ghost use Rattle.one_rule.specs.declared.cycle.Fired.{Fired};
+ghost use Rattle.attempt_log.specs.Verdict.{clash};
 
 use crate::cause::Cause;
 use crate::first::{Commit, Firsts};
 use crate::traced::Attempt;
 use kw_bits::NoMemory;
 use std::alloc::Global;
+use std::marker::Model;
 use typed_core::limits::PORTS;
 use typed_core::{Access, Design, Event};
 
-// The kinds of access of a register: reads, and behind them writes, each at all ports.
+// The kinds of access of a register: reads, and after them writes, each at all ports.
 const KINDS: u32 = PORTS + PORTS;
 
 /// What a cycle has committed: for each register and kind of access the first commit that made one.
@@ -28,6 +32,14 @@ pub struct Past {
 pub(crate) struct Clashing {
     pub(crate) commit: Commit,
     pub(crate) earlier: Access,
+}
+
+impl Model for Past {
+    ghost use Rattle.attempt_log.specs.Past.{Commits};
+
+    ghost Value = { Commits };
+
+    ghost view = { λ p. record { firsts = p.firsts; count = p.count } };
 }
 
 impl Past {
@@ -48,7 +60,7 @@ impl Past {
     pub fn take(&mut self, attempt: &Attempt)
         requires places { HasPlaces (length attempt.now.design.regs) self.old }
         requires few { self.old.count < length attempt.now.design.rules }
-        ensures stands { (fired : List Committed) → StandsFor (register_widths attempt.now.design) self.old fired
+        ensures stands { (fired : List Fired) → StandsFor (register_widths attempt.now.design) self.old fired
             → StandsFor (register_widths attempt.now.design) self.new (fired ++ record { rule = attempt.now.rule; events = attempt.now.run.events } ∷ []) }
         ensures places { length self.new.firsts ≡ length self.old.firsts }
         ensures count { self.new.count ≡ self.old.count + 1 }
@@ -66,7 +78,7 @@ impl Past {
 
     /// Takes all away. The memory stays.
     pub fn clear(&mut self)
-        ensures stands { (widths : List ℕ) (fired : List Committed) → StandsFor widths self.old fired → StandsFor widths self.new [] }
+        ensures stands { (widths : List ℕ) (fired : List Fired) → StandsFor widths self.old fired → StandsFor widths self.new [] }
         ensures places { length self.new.firsts ≡ length self.old.firsts }
         ensures count { self.new.count ≡ 0 }
     {
@@ -77,7 +89,7 @@ impl Past {
     // The clash of an access with the earliest rule that has one in its way.
     pub(crate) fn clash(&self, access: &Access) -> Option<Cause>
         requires { (registers : ℕ) × HasPlaces registers self.now × (access.now.register < registers) }
-        ensures { (widths : List ℕ) (fired : List Committed) → StandsFor widths self.now fired → result ≡ clash access.now fired }
+        ensures { (widths : List ℕ) (fired : List Fired) → StandsFor widths self.now fired → result ≡ clash access.now fired }
     {
         match self.earliest(access) {
             Some(found) => Some(cause_of(*access, found)),

@@ -1,3 +1,5 @@
+//! Engines: the check that events are a rule's trace.
+
 ghost use Rattle.std.specs.Prelude.{◌≡◌, ◌<◌, ◌↔◌, IfOk, IsTrue, List, length, slice_get};
 ghost use Rattle.kw_bits.specs.BitVector.{BitVector};
 ghost use Rattle.typed_core.specs.Alone.{is_refused, outcome_of};
@@ -135,7 +137,7 @@ impl Ports for TracePorts<'_> {
 
     ghost widths = { λ ports. register_widths ports.design.now };
 
-    // A read comes to what is listed for it.
+    // A read evaluates to what is listed for it.
     fn read(&mut self, port: u32, register: u32) -> Result<Bits, Interrupt> {
         let value = listed(self.design, port, register, self.trace, self.events.len());
         let access = Access {
@@ -162,7 +164,7 @@ impl Ports for TracePorts<'_> {
     }
 }
 
-// What a read comes to whose event has this place in the list.
+// What a read evaluates to whose event has this place in the list.
 fn listed(design: &Design, port: u32, register: u32, trace: &Events, place: usize) -> Bits
     requires { register < length design.now.regs }
     ensures { result ≡ listed (register_widths design.now) port register (slice_get trace.now place) }

@@ -1,12 +1,16 @@
+//! Engines: attempts, which are traces by their type.
+
 ghost use Rattle.std.specs.Prelude.{◌≡◌, ◌<◌, ◌↔◌, IfOk, IfSome, IsSome, length};
 ghost use Rattle.std.specs.Arc.{arc_value};
 ghost use Rattle.typed_core.specs.Fits.{EventsFit};
 ghost use Rattle.typed_core.specs.Valid.{externs_of};
 ghost use Rattle.typed_core.specs.Widths.{HaveWidths, input_widths, register_widths};
 ghost use Rattle.one_rule.specs.Externs.{kept};
+ghost use Rattle.attempt_log.specs.Sources.{AreSources};
 ghost use Rattle.attempt_log.specs.Trace.{IsTrace};
 
 use crate::retrace::is_trace;
+use crate::sources::sources_of;
 use kw_bits::NoMemory;
 use one_rule::{Externs, Inputs};
 use std::alloc::Global;
@@ -22,13 +26,16 @@ pub struct Attempt {
     pub(crate) rule: u32,
     pub(crate) inputs: Inputs,
     pub(crate) run: Alone,
+    // Where its reads got their values.
+    pub(crate) sources: Vec<usize>,
 }
 
 impl Model for Attempt {
     ghost use Rattle.std.specs.Arc.{arc_value};
     ghost use Rattle.std.specs.Coded.{codes};
     ghost use Rattle.typed_core.specs.contracts.action.Action as action;
-    ghost use Rattle.attempt_log.specs.Attempt.{Attempted, IsAttempt};
+    ghost use Rattle.attempt_log.specs.Attempt.{Attempted};
+    ghost use Rattle.attempt_log.specs.Sources.{KeepsAttempt};
 
     ghost Value = { Attempted };
 
@@ -36,7 +43,7 @@ impl Model for Attempt {
 
     ghost view = { λ a. record { design = arc_value a.design; cycle = a.cycle; rule = a.rule; inputs = a.inputs; run = a.run } };
 
-    ghost invariant = { λ a. IsAttempt (record { design = arc_value a.design; cycle = a.cycle; rule = a.rule; inputs = a.inputs; run = a.run }) };
+    ghost invariant = { λ a. KeepsAttempt (record { design = arc_value a.design; cycle = a.cycle; rule = a.rule; inputs = a.inputs; run = a.run }) a.sources.items };
 }
 
 impl Attempt {
@@ -65,12 +72,14 @@ impl Attempt {
     {
         let run = Alone { events, outcome };
         if is_trace(alloc, &design, externs, rule, &inputs, &run)? {
+            let sources = sources_of(alloc, &design, &run.events)?;
             Ok(Some(Attempt {
                 design,
                 cycle,
                 rule,
                 inputs,
                 run,
+                sources,
             }))
         } else {
             Ok(None)
@@ -114,6 +123,13 @@ impl Attempt {
         ensures fit { EventsFit (register_widths self.now.design) result.now }
     {
         &self.run.events
+    }
+
+    // Where the reads among its events got their values.
+    pub(crate) fn sources(&self) -> &[usize]
+        ensures { AreSources self.now.run.events result.now }
+    {
+        &self.sources
     }
 
     /// How its rule ended.

@@ -20,20 +20,20 @@ use Rattle.attempt_log.proofs.Traces.{PortsFit-trace, retrace_fits}
 use Rattle.attempt_log.proofs.retrace.retrace.Goals as goal
 
 pub evaluate-end-requires-clause-fits : goal.evaluate-end-requires-clause-fits
-evaluate-end-requires-clause-fits g c =
+evaluate-end-requires-clause-fits c =
     let design = c.args.design.now in
     let valid = subst IsValid c.design.view_is c.design.invariant in
     subst (λ (externs : Externs). EnvironmentFits (declarations design) (let env : Environment = record { externs = externs; inputs = c.args.inputs.now } in env)) (sym c.requires.externs)
     (environment_fits design valid c.args.inputs.now c.requires.inputs)
 
 pub evaluate-end-requires-clause-reading : goal.evaluate-end-requires-clause-reading
-evaluate-end-requires-clause-reading g c =
+evaluate-end-requires-clause-reading c =
     let design = c.args.design.now in
     let valid = subst IsValid c.design.view_is c.design.invariant in
     PortsFit-trace (register_widths design) c.args.trace.now (environment_fits design valid c.args.inputs.now c.requires.inputs).registers c.requires.reads
 
 pub returns-clause-run : goal.returns-clause-run
-returns-clause-run g c =
+returns-clause-run c =
     let design = c.args.design.now in
     let widths = register_widths design in
     let trace = c.args.trace.now in
@@ -52,8 +52,8 @@ returns-clause-run g c =
     ∙ ap (retrace (environment design inputs) widths trace) (sym found)
 
 pub returns-clause-fits : goal.returns-clause-fits
-returns-clause-fits g c =
+returns-clause-fits c =
     let design = c.args.design.now in
     let valid = subst IsValid c.design.view_is c.design.invariant in
     let fits = retrace_fits design valid c.args.inputs.now c.requires.inputs c.args.trace.now c.requires.reads c.args.rule in
-    subst (λ (run : Alone). EventsFit (register_widths design) run.events) (sym (returns-clause-run g c)) fits
+    subst (λ (run : Alone). EventsFit (register_widths design) run.events) (sym (returns-clause-run c)) fits

@@ -1,0 +1,76 @@
+//! Engines: which own write each read of an attempt saw.
+
+ghost use Rattle.std.specs.Prelude.{◌≡◌, ◌+◌, ◌*◌, ◌<◌, ◌≤◌, ℕ, IfOk, if◌then◌else◌, length, slice_index_or};
+ghost use Rattle.kw_bits.specs.BitVector.{BitVector};
+ghost use Rattle.typed_core.specs.Alone.{is_write_below};
+ghost use Rattle.typed_core.specs.Evaluation.{unit};
+ghost use Rattle.typed_core.specs.Fits.{EventsFit};
+ghost use Rattle.typed_core.specs.Valid.{IsPort};
+ghost use Rattle.typed_core.specs.Widths.{register_widths};
+ghost use Rattle.attempt_log.specs.Sources.{AreSources, value_from};
+ghost use Rattle.attempt_log.specs.declared.sources.TheConstants.{PLACES};
+
+use kw_bits::{Bits, NoMemory};
+use one_rule::Regs;
+use std::alloc::Global;
+use typed_core::limits::PORTS;
+use typed_core::{Access, Design, Event, Events};
+
+// Each register has a place for each port.
+pub(crate) const PLACES: usize = PORTS as usize;
+
+// Where the reads among these events get their values, in time linear in the events and the design's registers.
+pub(crate) fn sources_of(
+    alloc: Global,
+    design: &Design,
+    events: &Events,
+) -> Result<Vec<usize>, NoMemory>
+    requires { EventsFit (register_widths design.now) events.now }
+    ensures { IfOk result (λ sources. AreSources events.now sources.items) }
+{
+    let mut latest = Vec::from_elem(alloc, 0, PLACES * design.regs.len())?;
+    let list = events.as_slice();
+    let mut sources = Vec::with_capacity(alloc, list.len())?;
+    for (number, event) in list.iter().enumerate() {
+        sources.push_reserved(latest[place_of(&event.access)]);
+        note(&mut latest, &event.access, number + 1);
+    }
+    Ok(sources)
+}
+
+// The place of a register at a port.
+fn place_of(access: &Access) -> usize
+    requires { IsPort access.now.port }
+    ensures { result ≡ PLACES * access.now.register + access.now.port }
+{
+    PLACES * access.register as usize + access.port as usize
+}
+
+// A write is what later reads of its register get at the ports above it.
+fn note(latest: &mut Vec<usize>, access: &Access, source: usize)
+    requires port { IsPort access.now.port }
+    requires register { PLACES * access.now.register + PLACES ≤ length latest.old.items }
+    ensures length { length latest.new.items ≡ length latest.old.items }
+    ensures each { (port register : ℕ) → IsPort port → let place = PLACES * register + port in
+        slice_index_or latest.new.items place 0 ≡ (if is_write_below port register access.now then source else slice_index_or latest.old.items place 0) }
+{
+    if !access.write {
+        return;
+    }
+    for port in access.port as usize + 1..PLACES {
+        latest[PLACES * access.register as usize + port] = source;
+    }
+}
+
+// What a read of the event's register gets from a source.
+pub(crate) fn value_at(regs: &Regs, events: &[Event], event: &Event, source: usize) -> Bits
+    requires register { event.now.access.register < length regs.now }
+    requires source { source ≤ length events.now }
+    ensures { result ≡ value_from events.now (slice_index_or regs.now event.now.access.register unit) source }
+{
+    if source == 0 {
+        *regs.get(event.access.register as usize)
+    } else {
+        events[source - 1].value
+    }
+}
