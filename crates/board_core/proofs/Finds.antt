@@ -1,5 +1,5 @@
 -- What a search finds in a list, and in one that goes on.
-use Rattle.std.proofs.Common.{◌≡◌, ℕ, zero, suc, ◌+◌, ◌<◌, ◌≤◌, ◌%◌, Bool, false, List, [], ◌∷◌, ◌++◌, length, Option, Some, None, refl, sym, ap, ◌∙◌, subst, arith, append-nil, append_assoc, take, filter, map, flat_map, not, ap₂}
+use Rattle.std.proofs.Common.{◌≡◌, ℕ, zero, suc, ◌+◌, ◌<◌, ◌≤◌, ◌%◌, Bool, false, List, [], ◌∷◌, ◌++◌, length, Option, Some, None, refl, sym, ap, ◌∙◌, subst, arith, append-nil, append_assoc, take, filter, map, flat_map, not, ap₂, is_some}
 use Rattle.std.specs.Prelude.{slice_get, if◌then◌else◌}
 use Rattle.std.proofs.Math.Nat.{mod-eq_of_lt, mod-lt}
 use Rattle.std.proofs.lemmas.Option.{slice_get_within}
@@ -16,11 +16,11 @@ use Rattle.typed_core.specs.declared.design.Next.TheVariants as next
 use Rattle.typed_core.specs.declared.design.Node.{Node}
 use Rattle.one_rule.specs.Cycle.{is_among}
 use Rattle.one_rule.specs.Walk.{is_at}
-use Rattle.attempt_log.specs.Firsts.{is_some}
 use Rattle.board_core.specs.Board.{Board, node_at, stands}
 use Rattle.board_core.specs.Candidates.{Picks, first, is_further, pair_at, pair_of, pairs}
 use Rattle.board_core.specs.Kept.{Kept, StandsFor, slots_from}
 use Rattle.board_core.proofs.Flags.{flag_at}
+use Rattle.board_core.proofs.Sound.{some_home}
 use Rattle.board_core.specs.Search.{Finds, comes_further}
 use Rattle.board_core.specs.declared.candidate.Candidate.{Candidate}
 use Rattle.board_core.specs.declared.candidate.Search.{Search}
@@ -120,7 +120,7 @@ module _ (kept : Kept) (board : Board) (st : StandsFor kept board) where
   pub further_same : (c : Candidate) → c.rule < length kept.opening.design.rules → comes_further kept c ≡ is_further board c
   further_same c within =
       let flag = ap (λ (fs : List Bool). slice_index_or fs c.rule false) st.place.settled ∙ flag_at (length kept.opening.design.rules) board.settled c.rule false within in
-      let stands' = ap is_some (st.slots c.cycle c.rule) in
+      let stands' = sym (some_home kept (slots_from kept.cycle kept.slots c.cycle c.rule)) ∙ ap is_some (st.slots c.cycle c.rule) in
       ap₂ (λ (f s : Bool). not ((c.cycle == kept.cycle) && is_at c.node kept.place.at) && (not ((c.cycle == kept.cycle) && f) && not s)) flag stands'
       ∙ ap₂ (λ (cycle : ℕ) (at : Next). not ((c.cycle == cycle) && is_at c.node at) && (not ((c.cycle == cycle) && is_among board.settled c.rule) && not (stands board c.cycle c.rule))) st.cycle st.place.at
 
@@ -129,7 +129,7 @@ module _ (kept : Kept) (board : Board) (st : StandsFor kept board) where
       → pair.cycle ≡ kept.cycle → free ≡ not (is_some (slots_from kept.cycle kept.slots kept.cycle pair.rule)) → (if free then pair ∷ [] else []) ≡ first kept.opening board
   first_same pair free here cycle is =
       let q : Candidate → Bool = λ c. not (stands board c.cycle c.rule) in
-      let free' : free ≡ q pair = is ∙ ap not (ap is_some (ap (λ (n : ℕ). slots_from kept.cycle kept.slots n pair.rule) (sym cycle) ∙ st.slots pair.cycle pair.rule)) in
+      let free' : free ≡ q pair = is ∙ ap not (ap is_some (ap (λ (n : ℕ). slots_from kept.cycle kept.slots n pair.rule) (sym cycle)) ∙ sym (some_home kept (slots_from kept.cycle kept.slots pair.cycle pair.rule)) ∙ ap is_some (st.slots pair.cycle pair.rule)) in
       let there = sym here ∙ ap₂ (λ (n : ℕ) (at : Next). pair_at n at (node_at kept.opening.design.nodes at)) st.cycle st.place.at in
       ap (λ (b : Bool). if b then pair ∷ [] else []) free' ∙ ap (filter q) there
 

@@ -10,8 +10,6 @@ use Rattle.std.proofs.lemmas.List.Sums.{count_by-le-length, sum_by-cons}
 use Rattle.typed_core.specs.declared.access.Event.{Event}
 use Rattle.one_rule.specs.Cycle.{flags, is_among, numbers}
 use Rattle.one_rule.specs.declared.cycle.Fired.{Fired}
-use Rattle.attempt_log.specs.Verdict.{Committed}
-use Rattle.board_core.specs.Board.{committed}
 
 -- ---- flags of rules
 
@@ -26,7 +24,7 @@ or_no : (b : Bool) → (b || false) ≡ b
 or_no true = refl
 or_no false = refl
 
-one_more : (fired : List ℕ) (rule k : ℕ) → is_among (fired ++ rule ∷ []) k ≡ (is_among fired k || ((rule == k) || false))
+pub one_more : (fired : List ℕ) (rule k : ℕ) → is_among (fired ++ rule ∷ []) k ≡ (is_among fired k || ((rule == k) || false))
 one_more fired rule k = list_any-append (λ (n : ℕ). n == k) fired (rule ∷ [])
 
 pub flags_count : (rules : ℕ) (fired : List ℕ) → length (flags rules fired) ≡ rules
@@ -98,7 +96,3 @@ set_next (suc n) v (x ∷ xs) h = ap (λ ys. v ∷ ys) (set_next n v xs (omega (
 pub numbers-push : (past : List Fired) (rule : ℕ) (events : List Event) → numbers (past ++ record { rule = rule; events = events } ∷ []) ≡ numbers past ++ rule ∷ []
 numbers-push [] rule events = refl
 numbers-push (f ∷ past) rule events = ap (λ (ns : List ℕ). f.rule ∷ ns) (numbers-push past rule events)
-
-pub committed-push : (past : List Fired) (rule : ℕ) (events : List Event) → committed (past ++ record { rule = rule; events = events } ∷ []) ≡ committed past ++ record { rule = rule; events = events } ∷ []
-committed-push [] rule events = refl
-committed-push (f ∷ past) rule events = let first : Committed = record { rule = f.rule; events = f.events } in ap (λ (fs : List Committed). first ∷ fs) (committed-push past rule events)

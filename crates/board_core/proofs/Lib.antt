@@ -1,8 +1,14 @@
 pub mod Positions
 pub mod Paths
+pub mod Open
 pub mod Plain
 pub mod Flags
 pub mod Slots
 pub mod Sound
 pub mod Runs
 pub mod Finds
+pub mod Left
+pub mod Heads
+pub mod Histories
+pub mod Legal
+pub mod Crossing

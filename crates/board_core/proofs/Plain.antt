@@ -1,25 +1,22 @@
 -- Every board step keeps a plain position and the first rows of the run.
-use Rattle.std.proofs.Common.{◌≡◌, ℕ, suc, ◌+◌, ◌-◌, ◌≤◌, Bool, true, false, List, [], ◌∷◌, ◌++◌, length, Option, Some, None, refl, sym, ap, ap₂, ◌∙◌, subst, eq-eqb, eqb-true, arith}
-use Rattle.std.specs.Prelude.{◌==◌, ◌&&◌, ◌||◌, not, nat_lt, drop, IfSome, if◌then◌else◌}
+use Rattle.std.proofs.Common.{◌≡◌, ℕ, suc, ◌+◌, ◌-◌, ◌≤◌, Bool, true, false, List, [], ◌∷◌, ◌++◌, length, Option, Some, None, refl, sym, ap, ap₂, ◌∙◌, subst, eq-eqb, eqb-true, true≢false, arith}
+use Rattle.std.specs.Prelude.{◌==◌, ◌&&◌, nat_lt, drop, IfSome, if◌then◌else◌}
 use Rattle.std.specs.List.{AllByRecursion}
 use Rattle.std.proofs.lemmas.Bool.{and_parts, ltb-false}
 use Rattle.kw_bits.specs.BitVector.{BitVector}
-use Rattle.typed_core.specs.declared.access.Event.{Event}
 use Rattle.typed_core.specs.declared.design.Next.TheVariants as next
 use Rattle.typed_core.specs.declared.design.Node.{Node}
 use Rattle.typed_core.specs.declared.design.Parts.{Parts}
 use Rattle.typed_core.specs.declared.outcome.Alone.{Alone}
-use Rattle.one_rule.specs.Cycle.{System, begin, clash_with, clash_with_events, cycle, fire, fires, flags, is_done, join, numbers, system_of}
+use Rattle.one_rule.specs.Cycle.{System, begin, cycle, fire, fires, flags, join, numbers, system_of}
 use Rattle.one_rule.specs.Laws.{IsScheduled}
 use Rattle.one_rule.specs.Run.{InputsByCycle, last_registers, opening, rows_after, run}
 use Rattle.one_rule.specs.Stimulus.{inputs_of}
 use Rattle.one_rule.specs.Walk.{Walk, goes_on, start, visit}
-use Rattle.one_rule.specs.declared.cycle.Fired.{Fired}
 use Rattle.one_rule.specs.declared.cycle.State.{State}
 use Rattle.one_rule.specs.declared.rows.Row.{Row}
 use Rattle.one_rule.proofs.Runs.{runs_in_parts}
 use Rattle.attempt_log.specs.Attempt.{Attempted}
-use Rattle.attempt_log.specs.Laws.{clash_behind, fires_behind}
 use Rattle.attempt_log.specs.Trace.{IsTrace}
 use Rattle.attempt_log.specs.Verdict.{verdict}
 use Rattle.attempt_log.specs.declared.cause.Cause.{Cause}
@@ -28,8 +25,10 @@ use Rattle.attempt_log.specs.declared.cause.Verdict.{Verdict}
 use Rattle.attempt_log.specs.declared.cause.Verdict.TheVariants.{Commit, Skip, Stale}
 use Rattle.attempt_log.specs.declared.entry.Settled.TheVariants as settled
 use Rattle.attempt_log.specs.declared.entry.Submitted.TheVariants as submitted
+use Rattle.attempt_log.specs.Setting.{at_design}
+use Rattle.attempt_log.proofs.Alike.{attempt_at}
 use Rattle.attempt_log.proofs.Commits.{commits_fire, never_stale, skips_do_not_fire}
-use Rattle.board_core.specs.Board.{Board, Opening, closed, committed, dropped, head, is_ahead, is_late, judged, node_at, opened, row_of, run_events, settle, settle_at, settle_with, stands, stays, step, stored, submit}
+use Rattle.board_core.specs.Board.{Board, Opening, closed, dropped, head, is_ahead, is_late, judged, node_at, opened, row_of, run_events, settle, settle_at, settle_with, stands, stays, step, stored, submit}
 use Rattle.board_core.specs.History.{IsAttemptFor, SubmitsFor}
 use Rattle.board_core.specs.Laws.{HeadNeverStale, HistoriesArePlain, KeepsPlain, SettlesByFiring, TellsFiring, head_attempt}
 use Rattle.board_core.specs.Position.{IsOpening, IsPlain, StandsRight, position, rule_if, visit_if, visited}
@@ -37,6 +36,7 @@ use Rattle.board_core.specs.declared.event.BoardAnswer.{BoardAnswer}
 use Rattle.board_core.specs.declared.event.BoardAnswer.TheVariants as answer
 use Rattle.board_core.specs.declared.event.BoardEvent.{BoardEvent}
 use Rattle.board_core.specs.declared.event.BoardEvent.TheVariants as event
+use Rattle.board_core.proofs.Open.{closed_open, dropped_open, settled_open, stored_open}
 use Rattle.board_core.proofs.Positions.{end_is_end, no_node_is_end}
 
 -- ---- rows
@@ -56,13 +56,6 @@ run_more system inputs regs from m h =
     ∙ ap (λ (n : ℕ). first ++ drop 1 (opening system.rules last ∷ rows_after system inputs n m last)) one
 
 -- ---- rules that fire
-
-behind_same : (past : List Fired) (events : List Event) → clash_behind events (committed past) ≡ clash_with events past
-behind_same [] events = refl
-behind_same (f ∷ past) events = ap (λ (b : Bool). clash_with_events events f.events || b) (behind_same past events)
-
-pub fires_same : (past : List Fired) (run : Alone) → fires past run ≡ fires_behind (committed past) run
-fires_same past run = ap (λ (b : Bool). is_done run.outcome && not b) (sym (behind_same past run.events))
 
 module _ (system : System) (inputs : List BitVector) (rule : ℕ) (state : State) where
   fire_some : (run : Alone) → system.alone rule inputs state.regs ≡ run → fires state.past run ≡ true → fire system inputs rule state ≡ Some (join state rule run.events)
@@ -99,8 +92,8 @@ module _ (o : Opening) (opening' : IsOpening o) where
   -- an attempt that stands is a trace of its rule
   trace_of : (c r : ℕ) (a : Attempted) → StandsRight o c r a → IsTrace o.design r (inputs_of o.stimulus c) a.run
   trace_of c r a s =
-      let given = s.is_for.inputs ∙ ap (inputs_of o.stimulus) s.in_cycle in
-      subst (λ (d : Parts). IsTrace d r (inputs_of o.stimulus c) a.run) s.is_for.design
+      let given = s.inputs ∙ ap (inputs_of o.stimulus) s.in_cycle in
+      subst (λ (d : Parts). IsTrace d r (inputs_of o.stimulus c) a.run) s.design
       (subst (λ (n : ℕ). IsTrace a.design n (inputs_of o.stimulus c) a.run) s.at_rule
       (subst (λ (values : List BitVector). IsTrace a.design a.rule values a.run) given s.attempt.trace))
 
@@ -114,6 +107,8 @@ module _ (o : Opening) (opening' : IsOpening o) where
         walk = ap (λ (regs : List BitVector). start o.design.nodes (begin regs)) (sym (last-push o.regs board.rows (row_of o board)));
         settled = refl;
         slots = λ c r. kept_slot (StandsRight o c r) (c == board.cycle) (board.slots c r) (plain.slots c r);
+        stand = closed_open o board plain.stand;
+        rest = λ _. refl;
       }
     where
       last : List BitVector
@@ -139,7 +134,7 @@ module _ (o : Opening) (opening' : IsOpening o) where
           ∙ ap (run (system_of o.design) (inputs_of o.stimulus) o.regs o.from) (let e : board.cycle - 1 + 1 ≡ board.cycle + 1 - 1 = omega (arith, plain.after) in e)
 
   -- the head's attempt is settled as its rule does
-  module _ (board : Board) (plain : IsPlain o board) (node : Node) (here : head o board ≡ Some node) (a : Attempted) (right : StandsRight o board.cycle node.rule a) where
+  module _ (board : Board) (plain : IsPlain o board) (less : board.cycle ≤ o.to) (node : Node) (here : head o board ≡ Some node) (a : Attempted) (right : StandsRight o board.cycle node.rule a) where
     at_node' : node_at o.design.nodes (position (system_of o.design) (inputs_of o.stimulus board.cycle) (last_registers o.regs board.rows) plain.visits).at ≡ Some node
     at_node' = ap (λ (w : Walk State). node_at o.design.nodes w.at) (sym plain.walk) ∙ here
 
@@ -165,21 +160,21 @@ module _ (o : Opening) (opening' : IsOpening o) where
           walk = same;
           settled = settled_more;
           slots = λ c r. kept_slot (StandsRight o c r) ((c == board.cycle) && (r == node.rule)) (board.slots c r) (plain.slots c r);
+          stand = settled_open o board plain.stand node.rule walk;
+          rest = λ past. absurd (omega (arith, less, past));
         }
 
-    commit_fires : verdict board.walk.state.regs (committed board.walk.state.past) a.run ≡ Commit
+    commit_fires : verdict board.walk.state.regs board.walk.state.past a.run ≡ Commit
         → ((system_of o.design).alone node.rule (inputs_of o.stimulus board.cycle) board.walk.state.regs ≡ a.run) × (fires board.walk.state.past a.run ≡ true)
     commit_fires v =
-        let told = commits_fire o.design node.rule (inputs_of o.stimulus board.cycle) board.walk.state.regs (committed board.walk.state.past) a.run (trace_of board.cycle node.rule a right) v in
-        (told.0, fires_same board.walk.state.past a.run ∙ told.1)
+        commits_fire o.design node.rule (inputs_of o.stimulus board.cycle) board.walk.state.regs board.walk.state.past a.run (trace_of board.cycle node.rule a right) v
 
-    skip_fires_not : (cause : Cause) → verdict board.walk.state.regs (committed board.walk.state.past) a.run ≡ Skip cause
+    skip_fires_not : (cause : Cause) → verdict board.walk.state.regs board.walk.state.past a.run ≡ Skip cause
         → fires board.walk.state.past ((system_of o.design).alone node.rule (inputs_of o.stimulus board.cycle) board.walk.state.regs) ≡ false
     skip_fires_not cause v =
-        fires_same board.walk.state.past ((system_of o.design).alone node.rule (inputs_of o.stimulus board.cycle) board.walk.state.regs)
-        ∙ skips_do_not_fire o.design node.rule (inputs_of o.stimulus board.cycle) board.walk.state.regs (committed board.walk.state.past) a.run cause (trace_of board.cycle node.rule a right) v
+        skips_do_not_fire o.design node.rule (inputs_of o.stimulus board.cycle) board.walk.state.regs board.walk.state.past a.run cause (trace_of board.cycle node.rule a right) v
 
-    judged_plain : (v : Verdict) → verdict board.walk.state.regs (committed board.walk.state.past) a.run ≡ v → IsPlain o (judged board node a v).board
+    judged_plain : (v : Verdict) → verdict board.walk.state.regs board.walk.state.past a.run ≡ v → IsPlain o (judged board node a v).board
     judged_plain Commit v =
         let told = commit_fires v in
         let w : Walk State = record { state = join board.walk.state node.rule a.run.events; at = node.yes } in
@@ -196,10 +191,12 @@ module _ (o : Opening) (opening' : IsOpening o) where
           walk = plain.walk;
           settled = plain.settled;
           slots = λ c r. kept_slot (StandsRight o c r) ((c == board.cycle) && (r == node.rule)) (board.slots c r) (plain.slots c r);
+          stand = dropped_open o board plain.stand node.rule;
+          rest = plain.rest;
         }
 
     -- what the answer tells of the rule
-    judged_tells : (v : Verdict) → verdict board.walk.state.regs (committed board.walk.state.past) a.run ≡ v → TellsAnswer o board (judged board node a v).answer
+    judged_tells : (v : Verdict) → verdict board.walk.state.regs board.walk.state.past a.run ≡ v → TellsAnswer o board (judged board node a v).answer
     judged_tells Commit v =
         let told = commit_fires v in
         (refl, ap (fires board.walk.state.past) told.0 ∙ told.1)
@@ -207,17 +204,17 @@ module _ (o : Opening) (opening' : IsOpening o) where
     judged_tells (Stale read) v = tt
 
   -- the head is settled
-  module _ (board : Board) (plain : IsPlain o board) (node : Node) (here : head o board ≡ Some node) where
+  module _ (board : Board) (plain : IsPlain o board) (less : board.cycle ≤ o.to) (node : Node) (here : head o board ≡ Some node) where
     settled_with : (held : Option Attempted) → board.slots board.cycle node.rule ≡ held → IsPlain o (settle_with board node held).board × TellsAnswer o board (settle_with board node held).answer
     settled_with None is = (plain, tt)
     settled_with (Some a) is =
         let right = held_slot (StandsRight o board.cycle node.rule) (board.slots board.cycle node.rule) a is (plain.slots board.cycle node.rule) in
-        let v = verdict board.walk.state.regs (committed board.walk.state.past) a.run in
-        (judged_plain board plain node here a right v refl, judged_tells board plain node here a right v refl)
+        let v = verdict board.walk.state.regs board.walk.state.past a.run in
+        (judged_plain board plain less node here a right v refl, judged_tells board plain less node here a right v refl)
 
   settled_at : (board : Board) → IsPlain o board → board.cycle ≤ o.to → (n : Option Node) → head o board ≡ n → IsPlain o (settle_at o board n).board × TellsAnswer o board (settle_at o board n).answer
   settled_at board plain less None is = (closed_plain board plain less is, tt)
-  settled_at board plain less (Some node) is = settled_with board plain node is (board.slots board.cycle node.rule) refl
+  settled_at board plain less (Some node) is = settled_with board plain less node is (board.slots board.cycle node.rule) refl
 
   settled_so : (board : Board) → IsPlain o board → IsPlain o (settle o board).board × TellsAnswer o board (settle o board).answer
   settled_so board plain = chosen (nat_lt o.to board.cycle) refl
@@ -234,12 +231,15 @@ module _ (o : Opening) (opening' : IsOpening o) where
   pub settle_tells : (board : Board) → IsPlain o board → TellsAnswer o board (settle o board).answer
   settle_tells board plain = (settled_so board plain).1
 
-  stored_slot : (b : Bool) (c r : ℕ) (a : Attempted) (held : Option Attempted) → (b ≡ true → (a.cycle ≡ c) × (a.rule ≡ r)) → IsAttemptFor o a → IfSome held (StandsRight o c r) → IfSome (if b then Some a else held) (StandsRight o c r)
-  stored_slot true c r a held same for h = let e = same refl in record { attempt = for.attempt; is_for = for.is_for; in_cycle = e.0; at_rule = e.1 }
+  stored_slot : (b : Bool) (c r : ℕ) (a : Attempted) (held : Option Attempted) → (b ≡ true → (a.cycle ≡ c) × (a.rule ≡ r)) → IsAttemptFor o a → IfSome held (StandsRight o c r)
+      → IfSome (if b then Some (at_design o.design a) else held) (StandsRight o c r)
+  stored_slot true c r a held same for h =
+      let e = same refl in
+      record { attempt = attempt_at a o.design for.is_for.design for.attempt; design = refl; inputs = for.is_for.inputs; in_cycle = e.0; at_rule = e.1 }
   stored_slot false c r a held same for h = h
 
-  pub stored_plain : (board : Board) (a : Attempted) → IsAttemptFor o a → IsPlain o board → IsPlain o (stored board a)
-  stored_plain board a for plain =
+  pub stored_plain : (board : Board) (a : Attempted) → IsAttemptFor o a → is_late board a ≡ false → is_ahead o board a ≡ false → IsPlain o board → IsPlain o (stored o board a)
+  stored_plain board a for late ahead plain =
       record {
         after = plain.after;
         within = plain.within;
@@ -248,6 +248,8 @@ module _ (o : Opening) (opening' : IsOpening o) where
         walk = plain.walk;
         settled = plain.settled;
         slots = λ c r. stored_slot ((c == a.cycle) && (r == a.rule)) c r a (board.slots c r) (same c r) for (plain.slots c r);
+        stand = stored_open o board plain.stand a late ahead;
+        rest = plain.rest;
       }
     where
       same : (c r : ℕ) → ((c == a.cycle) && (r == a.rule)) ≡ true → (a.cycle ≡ c) × (a.rule ≡ r)
@@ -255,13 +257,14 @@ module _ (o : Opening) (opening' : IsOpening o) where
 
   -- and so does an attempt that comes
   pub submit_plain : (board : Board) (a : Attempted) → IsAttemptFor o a → IsPlain o board → IsPlain o (submit o board a).board
-  submit_plain board a for plain = chosen (is_late board a) (is_ahead o board a) (stands board a.cycle a.rule)
+  submit_plain board a for plain = chosen (is_late board a) (is_ahead o board a) (stands board a.cycle a.rule) refl refl
     where
-      chosen : (late ahead twice : Bool) → IsPlain o (if late then stays board (answer.Submit (submitted.Late a)) else if ahead then stays board (answer.Submit (submitted.Ahead a)) else if twice then stays board (answer.Submit (submitted.Twice a)) else record { answer = answer.Submit submitted.Stored; board = stored board a }).board
-      chosen true ahead twice = plain
-      chosen false true twice = plain
-      chosen false false true = plain
-      chosen false false false = stored_plain board a for plain
+      chosen : (late ahead twice : Bool) → is_late board a ≡ late → is_ahead o board a ≡ ahead
+          → IsPlain o (if late then stays board (answer.Submit (submitted.Late a)) else if ahead then stays board (answer.Submit (submitted.Ahead a)) else if twice then stays board (answer.Submit (submitted.Twice a)) else record { answer = answer.Submit submitted.Stored; board = stored o board a }).board
+      chosen true ahead twice e f = plain
+      chosen false true twice e f = plain
+      chosen false false true e f = plain
+      chosen false false false e f = stored_plain board a for e f plain
 
   pub step_plain : (board : Board) (e : BoardEvent) → SubmitsFor o e → IsPlain o board → IsPlain o (step o board e).board
   step_plain board (event.Submit a) for plain = submit_plain board a for plain
@@ -278,6 +281,8 @@ module _ (o : Opening) (opening' : IsOpening o) where
         walk = refl;
         settled = refl;
         slots = λ c r. tt;
+        stand = λ c r h. absurd (true≢false (sym h));
+        rest = λ _. refl;
       }
 
   run_plain : (board : Board) (events : List BoardEvent) → AllByRecursion (SubmitsFor o) events → IsPlain o board → IsPlain o (run_events o board events).board
@@ -312,12 +317,12 @@ judged_fresh board node a (Stale read) h = h read refl
 
 -- where no attempt stands for the head, or one that isn't stale, the answer is fresh
 settled_fresh : (o : Opening) (board : Board) (node : Node) (held : Option Attempted) → head o board ≡ Some node → board.slots board.cycle node.rule ≡ held
-    → IfSome held (λ (a : Attempted). (read : StaleRead) → verdict board.walk.state.regs (committed board.walk.state.past) a.run ≡ Stale read → ⊥) → IsFresh (settle o board).answer
+    → IfSome held (λ (a : Attempted). (read : StaleRead) → verdict board.walk.state.regs board.walk.state.past a.run ≡ Stale read → ⊥) → IsFresh (settle o board).answer
 settled_fresh o board node held here is fresh = chosen (nat_lt o.to board.cycle)
   where
-    with_held : (held : Option Attempted) → IfSome held (λ (a : Attempted). (read : StaleRead) → verdict board.walk.state.regs (committed board.walk.state.past) a.run ≡ Stale read → ⊥) → IsFresh (settle_with board node held).answer
+    with_held : (held : Option Attempted) → IfSome held (λ (a : Attempted). (read : StaleRead) → verdict board.walk.state.regs board.walk.state.past a.run ≡ Stale read → ⊥) → IsFresh (settle_with board node held).answer
     with_held None fresh = tt
-    with_held (Some a) fresh = judged_fresh board node a (verdict board.walk.state.regs (committed board.walk.state.past) a.run) fresh
+    with_held (Some a) fresh = judged_fresh board node a (verdict board.walk.state.regs board.walk.state.past a.run) fresh
 
     chosen : (b : Bool) → IsFresh (if b then stays board (answer.Settle settled.Finished) else settle_at o board (head o board)).answer
     chosen true = tt
@@ -338,12 +343,12 @@ head_never_stale o board node in_cycle rule read opening' plain here none is =
     both : (n m : ℕ) → ((n == n) && (m == m)) ≡ true
     both n m = ap₂ (λ (a b : Bool). a && b) (same_number n) (same_number m)
 
-    next_answer : IsFresh (settle o (stored board a)).answer
+    next_answer : IsFresh (settle o (stored o board a)).answer
     next_answer =
-        settled_fresh o (stored board a) node (Some a) here (ap (λ (b : Bool). if b then Some a else board.slots board.cycle node.rule) (both board.cycle node.rule))
-        (λ read v. never_stale o.design node.rule (inputs_of o.stimulus board.cycle) board.walk.state.regs (committed board.walk.state.past) read v)
+        settled_fresh o (stored o board a) node (Some a) here (ap (λ (b : Bool). if b then Some a else board.slots board.cycle node.rule) (both board.cycle node.rule))
+        (λ read v. never_stale o.design node.rule (inputs_of o.stimulus board.cycle) board.walk.state.regs board.walk.state.past read v)
 
-    chosen : (late ahead twice : Bool) → IsFresh (settle o (if late then stays board (answer.Submit (submitted.Late a)) else if ahead then stays board (answer.Submit (submitted.Ahead a)) else if twice then stays board (answer.Submit (submitted.Twice a)) else record { answer = answer.Submit submitted.Stored; board = stored board a }).board).answer
+    chosen : (late ahead twice : Bool) → IsFresh (settle o (if late then stays board (answer.Submit (submitted.Late a)) else if ahead then stays board (answer.Submit (submitted.Ahead a)) else if twice then stays board (answer.Submit (submitted.Twice a)) else record { answer = answer.Submit submitted.Stored; board = stored o board a }).board).answer
     chosen true ahead twice = first
     chosen false true twice = first
     chosen false false true = first

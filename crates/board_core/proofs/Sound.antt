@@ -1,34 +1,44 @@
 -- What a core does to what it keeps is what the board step does to the board that it stands for.
-use Rattle.std.proofs.Common.{◌≡◌, ℕ, ◌+◌, ◌-◌, ◌<◌, ◌≤◌, Bool, true, false, List, [], ◌∷◌, ◌++◌, length, replicate, Option, Some, None, All, refl, sym, ap, ap₂, ◌∙◌, subst, eqb-true, arith}
-use Rattle.std.specs.Prelude.{◌==◌, ◌&&◌, ◌||◌, nat_le, nat_lt, slice_index_or, slice_set, if◌then◌else◌}
+use Rattle.std.proofs.Common.{◌≡◌, ℕ, ◌+◌, ◌-◌, ◌*◌, ◌<◌, ◌≤◌, Bool, true, false, List, [], ◌∷◌, ◌++◌, length, replicate, Option, Some, None, All, refl, sym, ap, ap₂, ◌∙◌, subst, eqb-true, arith, is_some}
+use Rattle.std.specs.Prelude.{◌==◌, ◌&&◌, ◌||◌, nat_le, nat_lt, option_map, slice_index_or, slice_set, if◌then◌else◌}
 use Rattle.std.proofs.lemmas.Bool.{le-ltb, leb-false, ltb-false}
-use Rattle.std.proofs.lemmas.List.{get_or_default, get_or-replicate, length-replicate, length-set, length_push}
+use Rattle.std.proofs.lemmas.List.{get_or_default, get_or-replicate, length-replicate, length-set, length_push, set-get_or}
 use Rattle.std.proofs.lemmas.List.Elements.{All-pop, All-set}
 use Rattle.kw_bits.specs.BitVector.{BitVector}
 use Rattle.typed_core.specs.declared.design.Next.TheVariants as next
+use Rattle.typed_core.specs.Same.{SameDesign}
+use Rattle.typed_core.specs.Widths.{HaveWidths}
 use Rattle.typed_core.specs.declared.design.Node.{Node}
-use Rattle.one_rule.specs.Cycle.{begin, is_among, system_of}
+use Rattle.typed_core.specs.declared.design.Parts.{Parts}
+use Rattle.typed_core.specs.declared.design.RegDecl.{RegDecl}
+use Rattle.one_rule.specs.Cycle.{begin, flags, is_among, numbers, system_of}
 use Rattle.one_rule.specs.Run.{last_registers, opening}
 use Rattle.one_rule.specs.Stimulus.{inputs_of}
 use Rattle.one_rule.specs.Walk.{Walk, start}
 use Rattle.one_rule.specs.declared.cycle.State.{State}
 use Rattle.one_rule.specs.declared.rows.Row.{Row}
+use Rattle.one_rule.proofs.Alike.{length-same}
 use Rattle.one_rule.proofs.WalkLaws.{IsAhead}
 use Rattle.attempt_log.specs.Attempt.{Attempted, IsAttempt}
+use Rattle.attempt_log.specs.Past as past
+use Rattle.attempt_log.specs.Past.{kinds}
+use Rattle.attempt_log.specs.Setting.{IsFor, at_design}
 use Rattle.attempt_log.specs.Verdict.{verdict}
 use Rattle.attempt_log.specs.declared.cause.Verdict.{Verdict}
 use Rattle.attempt_log.specs.declared.cause.Verdict.TheVariants.{Commit, Skip, Stale}
 use Rattle.attempt_log.specs.declared.entry.Settled.TheVariants as settled
 use Rattle.attempt_log.specs.declared.entry.Submitted.TheVariants as submitted
-use Rattle.board_core.specs.Board.{Board, Opening, Step, closed, committed, head, is_ahead, is_late, judged, node_at, opened, replaced, settle, settle_at, settle_with, stands, stays, stored, submit}
-use Rattle.board_core.specs.Kept.{Does, HasSlots, IsAt, IsBlank, IsNear, IsShaped, IsSound, Kept, StandsFor, comes_ahead, comes_late, opened_on, slots_from}
-use Rattle.board_core.specs.Position.{IsFor, IsOpening, IsPlain, StandsRight}
+use Rattle.board_core.specs.Board.{Board, Opening, Step, closed, head, is_ahead, is_late, judged, node_at, opened, replaced, setting_of, settle, settle_at, settle_with, stands, stays, stored, submit}
+use Rattle.board_core.specs.Kept.{Does, HasSlots, HoldsSame, IsAt, IsBlank, IsNear, IsShaped, IsSound, Kept, StandsFor, comes_ahead, comes_late, opened_on, slots_from}
+use Rattle.board_core.specs.Position.{IsOpening, IsPlain, StandsRight}
 use Rattle.board_core.specs.declared.blank.Blank.{Blank}
 use Rattle.board_core.specs.declared.event.BoardAnswer.{BoardAnswer}
 use Rattle.board_core.specs.declared.event.BoardAnswer.TheVariants as answer
 use Rattle.board_core.specs.declared.kept.TheConstants.{MAX_CYCLES, MAX_WINDOW}
 use Rattle.board_core.specs.declared.place.Place.{Place}
+use Rattle.attempt_log.proofs.Alike.{register_widths-same}
 use Rattle.board_core.proofs.Flags.{flag_at}
+use Rattle.board_core.proofs.Open.{neither}
 use Rattle.board_core.proofs.Paths.{next_is_new}
 use Rattle.board_core.proofs.Plain.{held_slot, opened_plain, scheduled, settle_plain, stored_plain}
 use Rattle.board_core.proofs.Positions.{at_node, position_inside}
@@ -38,16 +48,16 @@ use Rattle.board_core.proofs.Slots.{All-moved_up, from_on, moved_up, none_stands
 
 module _ (o : Opening) (board : Board) (a : Attempted) where
   pub submit_late : is_late board a ≡ true → submit o board a ≡ stays board (answer.Submit (submitted.Late a))
-  submit_late late = ap (λ (b : Bool). if b then stays board (answer.Submit (submitted.Late a)) else if is_ahead o board a then stays board (answer.Submit (submitted.Ahead a)) else if stands board a.cycle a.rule then stays board (answer.Submit (submitted.Twice a)) else record { answer = answer.Submit submitted.Stored; board = stored board a }) late
+  submit_late late = ap (λ (b : Bool). if b then stays board (answer.Submit (submitted.Late a)) else if is_ahead o board a then stays board (answer.Submit (submitted.Ahead a)) else if stands board a.cycle a.rule then stays board (answer.Submit (submitted.Twice a)) else record { answer = answer.Submit submitted.Stored; board = stored o board a }) late
 
-  in_time : is_late board a ≡ false → submit o board a ≡ (if is_ahead o board a then stays board (answer.Submit (submitted.Ahead a)) else if stands board a.cycle a.rule then stays board (answer.Submit (submitted.Twice a)) else record { answer = answer.Submit submitted.Stored; board = stored board a })
-  in_time late = ap (λ (b : Bool). if b then stays board (answer.Submit (submitted.Late a)) else if is_ahead o board a then stays board (answer.Submit (submitted.Ahead a)) else if stands board a.cycle a.rule then stays board (answer.Submit (submitted.Twice a)) else record { answer = answer.Submit submitted.Stored; board = stored board a }) late
+  in_time : is_late board a ≡ false → submit o board a ≡ (if is_ahead o board a then stays board (answer.Submit (submitted.Ahead a)) else if stands board a.cycle a.rule then stays board (answer.Submit (submitted.Twice a)) else record { answer = answer.Submit submitted.Stored; board = stored o board a })
+  in_time late = ap (λ (b : Bool). if b then stays board (answer.Submit (submitted.Late a)) else if is_ahead o board a then stays board (answer.Submit (submitted.Ahead a)) else if stands board a.cycle a.rule then stays board (answer.Submit (submitted.Twice a)) else record { answer = answer.Submit submitted.Stored; board = stored o board a }) late
 
   pub submit_ahead : is_late board a ≡ false → is_ahead o board a ≡ true → submit o board a ≡ stays board (answer.Submit (submitted.Ahead a))
-  submit_ahead late ahead = in_time late ∙ ap (λ (b : Bool). if b then stays board (answer.Submit (submitted.Ahead a)) else if stands board a.cycle a.rule then stays board (answer.Submit (submitted.Twice a)) else record { answer = answer.Submit submitted.Stored; board = stored board a }) ahead
+  submit_ahead late ahead = in_time late ∙ ap (λ (b : Bool). if b then stays board (answer.Submit (submitted.Ahead a)) else if stands board a.cycle a.rule then stays board (answer.Submit (submitted.Twice a)) else record { answer = answer.Submit submitted.Stored; board = stored o board a }) ahead
 
-  pub submit_near : is_late board a ≡ false → is_ahead o board a ≡ false → submit o board a ≡ (if stands board a.cycle a.rule then stays board (answer.Submit (submitted.Twice a)) else record { answer = answer.Submit submitted.Stored; board = stored board a })
-  submit_near late ahead = in_time late ∙ ap (λ (b : Bool). if b then stays board (answer.Submit (submitted.Ahead a)) else if stands board a.cycle a.rule then stays board (answer.Submit (submitted.Twice a)) else record { answer = answer.Submit submitted.Stored; board = stored board a }) ahead
+  pub submit_near : is_late board a ≡ false → is_ahead o board a ≡ false → submit o board a ≡ (if stands board a.cycle a.rule then stays board (answer.Submit (submitted.Twice a)) else record { answer = answer.Submit submitted.Stored; board = stored o board a })
+  submit_near late ahead = in_time late ∙ ap (λ (b : Bool). if b then stays board (answer.Submit (submitted.Ahead a)) else if stands board a.cycle a.rule then stays board (answer.Submit (submitted.Twice a)) else record { answer = answer.Submit submitted.Stored; board = stored o board a }) ahead
 
 -- a step that is this one
 pub steps_so : (kept : Kept) (told : BoardAnswer) (s t : Step) → s ≡ t → told ≡ t.answer → StandsFor kept t.board → (told ≡ s.answer) × StandsFor kept s.board
@@ -63,40 +73,82 @@ module _ (kept : Kept) (board : Board) (st : StandsFor kept board) (a : Attempte
   pub ahead_same : comes_ahead kept a ≡ is_ahead kept.opening board a
   ahead_same = ap (λ (c : ℕ). nat_le (c + kept.opening.window) a.cycle || nat_lt kept.opening.to a.cycle) st.cycle
 
-or_none : (x y : Bool) → (x || y) ≡ false → (x ≡ false) × (y ≡ false)
-or_none true y h = absurd cc
-or_none false y h = (refl, h)
-
 -- an attempt that is near is in the window
 pub near_is : (kept : Kept) (a : Attempted) → IsNear kept a → (kept.cycle ≤ a.cycle) × (a.cycle < kept.cycle + kept.opening.window)
 near_is kept a near =
-    let late = or_none (nat_lt a.cycle kept.cycle) ((a.cycle == kept.cycle) && slice_index_or kept.place.settled.items a.rule false) near.in_time in
-    let ahead = or_none (nat_le (kept.cycle + kept.opening.window) a.cycle) (nat_lt kept.opening.to a.cycle) near.in_window in
+    let late = neither (nat_lt a.cycle kept.cycle) ((a.cycle == kept.cycle) && slice_index_or kept.place.settled.items a.rule false) near.in_time in
+    let ahead = neither (nat_le (kept.cycle + kept.opening.window) a.cycle) (nat_lt kept.opening.to a.cycle) near.in_window in
     (ltb-false a.cycle kept.cycle late.0, leb-false (kept.cycle + kept.opening.window) a.cycle ahead.0)
 
 -- the slots with one that is written
 abbrev pub written : Kept → ℕ → ℕ → Option Attempted → Kept
 written kept ahead rule held = record kept { slots = slice_set kept.slots ahead (slice_set (slice_index_or kept.slots ahead []) rule held) }
 
+-- what is kept at a design of equal value, at the board's own
+abbrev pub home : Kept → Option Attempted → Option Attempted
+home kept held = option_map (at_design kept.opening.design) held
+
+home_if : (kept : Kept) (b : Bool) (x y : Option Attempted) → home kept (if b then x else y) ≡ (if b then home kept x else home kept y)
+home_if kept true x y = refl
+home_if kept false x y = refl
+
+pub some_home : (kept : Kept) (held : Option Attempted) → is_some (home kept held) ≡ is_some held
+some_home kept None = refl
+some_home kept (Some a) = refl
+
+-- a place fits designs of equal value alike
+pub shaped_alike : (d e : Parts) (place : Place) → SameDesign d e → IsShaped d place → IsShaped e place
+shaped_alike d e place h s =
+    record {
+      registers = subst (λ (widths : List ℕ). HaveWidths widths place.regs) (register_widths-same d e h) s.registers;
+      fired = s.fired ∙ length-same d.rules e.rules h.rules;
+      settled = s.settled ∙ length-same d.rules e.rules h.rules;
+      places = s.places ∙ ap (λ (regs : List RegDecl). kinds * length regs) h.regs;
+      few = s.few;
+    }
+
+pub at_alike : (d e : Parts) (place : Place) (walk : Walk State) (done : List ℕ) → SameDesign d e → IsAt d place walk done → IsAt e place walk done
+at_alike d e place walk done h at =
+    record {
+      at = at.at;
+      registers = at.registers;
+      fired = at.fired ∙ ap (λ (n : ℕ). flags n (numbers walk.state.past)) (length-same d.rules e.rules h.rules);
+      past = subst (λ (widths : List ℕ). past.StandsFor widths place.past walk.state.past) (register_widths-same d e h) at.past;
+      settled = at.settled ∙ ap (λ (n : ℕ). flags n done) (length-same d.rules e.rules h.rules);
+    }
+
 -- there is a slot for each rule
 pub has_slot : (kept : Kept) (blanks : List Blank) (room : ℕ) → IsSound kept blanks room → (ahead rule : ℕ) → ahead < length kept.slots → rule < length kept.opening.design.rules → rule < length (slice_index_or kept.slots ahead [])
-has_slot kept blanks room s ahead rule inside within = omega (arith, s.slots ahead [] inside, within)
+has_slot kept blanks room s ahead rule inside within = omega (arith, (s.slots ahead [] inside).count, within)
 
-pub slots_written : (kept : Kept) (blanks : List Blank) (room : ℕ) → IsSound kept blanks room → (ahead rule : ℕ) (held : Option Attempted) → ahead < length kept.slots → All (HasSlots kept.opening.design) (written kept ahead rule held).slots
-slots_written kept blanks room s ahead rule held inside =
-    All-set (HasSlots kept.opening.design) kept.slots ahead (slice_set (slice_index_or kept.slots ahead []) rule held) (length-set (slice_index_or kept.slots ahead []) rule held ∙ s.slots ahead [] inside) s.slots
+-- empty slots hold nothing
+pub no_slots : (design : Parts) → HasSlots design (replicate (length design.rules) None)
+no_slots design =
+    let none : Option Attempted = None in
+    record {
+      count = length-replicate (length design.rules) none;
+      same = λ k d inside. subst (HoldsSame design) (sym (get_or-replicate (length design.rules) k none d (omega (arith, inside, length-replicate (length design.rules) none)))) tt;
+    }
 
-module _ (kept : Kept) (blanks : List Blank) (room : ℕ) (s : IsSound kept blanks room) (a : Attempted) (is : IsAttempt a) (for : IsFor kept.opening a) (near : IsNear kept a) where
+pub slots_written : (kept : Kept) (blanks : List Blank) (room : ℕ) → IsSound kept blanks room → (ahead rule : ℕ) (held : Option Attempted) → ahead < length kept.slots → HoldsSame kept.opening.design held → All (HasSlots kept.opening.design) (written kept ahead rule held).slots
+slots_written kept blanks room s ahead rule held inside same =
+    let row = slice_index_or kept.slots ahead [] in
+    let before = s.slots ahead [] inside in
+    All-set (HasSlots kept.opening.design) kept.slots ahead (slice_set row rule held)
+    (record { count = length-set row rule held ∙ before.count; same = All-set (HoldsSame kept.opening.design) row rule held same before.same })
+    s.slots
+
+module _ (kept : Kept) (blanks : List Blank) (room : ℕ) (s : IsSound kept blanks room) (a : Attempted) (is : IsAttempt a) (for : IsFor (setting_of kept.opening) a) (near : IsNear kept a) where
   ahead_by : ℕ
   ahead_by = a.cycle - kept.cycle
 
   pub store_inside : a.cycle - kept.cycle < length kept.slots
   store_inside = let n = near_is kept a near in omega (arith, n.0, n.1, s.cycles)
 
-  rule_within : a.rule < length kept.opening.design.rules
-  rule_within = subst (λ (d : _). a.rule < length d.rules) for.design is.rule
+  pub rule_within : a.rule < length kept.opening.design.rules
+  rule_within = subst (λ (n : ℕ). a.rule < n) (length-same a.design.rules kept.opening.design.rules for.design.rules) is.rule
 
-  pub store_stands : (board : Board) → StandsFor kept board → StandsFor (written kept (a.cycle - kept.cycle) a.rule (Some a)) (stored board a)
+  pub store_stands : (board : Board) → StandsFor kept board → StandsFor (written kept (a.cycle - kept.cycle) a.rule (Some a)) (stored kept.opening board a)
   store_stands board st =
       let n = near_is kept a near in
       let this : kept.cycle + (a.cycle - kept.cycle) ≡ a.cycle = omega (arith, n.0) in
@@ -105,8 +157,9 @@ module _ (kept : Kept) (blanks : List Blank) (room : ℕ) (s : IsSound kept blan
         place = st.place;
         rows = st.rows;
         slots = λ c r.
-            slots_set kept.cycle kept.slots (a.cycle - kept.cycle) a.rule (Some a) store_inside (has_slot kept blanks room s (a.cycle - kept.cycle) a.rule store_inside rule_within) c r
-            ∙ ap₂ (λ (k : ℕ) (old : Option Attempted). if (c == k) && (r == a.rule) then Some a else old) this (st.slots c r);
+            ap (home kept) (slots_set kept.cycle kept.slots (a.cycle - kept.cycle) a.rule (Some a) store_inside (has_slot kept blanks room s (a.cycle - kept.cycle) a.rule store_inside rule_within) c r)
+            ∙ home_if kept ((c == kept.cycle + (a.cycle - kept.cycle)) && (r == a.rule)) (Some a) (slots_from kept.cycle kept.slots c r)
+            ∙ ap₂ (λ (k : ℕ) (old : Option Attempted). if (c == k) && (r == a.rule) then Some (at_design kept.opening.design a) else old) this (st.slots c r);
       }
 
   pub store_sound : IsSound (written kept (a.cycle - kept.cycle) a.rule (Some a)) blanks room
@@ -116,12 +169,13 @@ module _ (kept : Kept) (blanks : List Blank) (room : ℕ) (s : IsSound kept blan
         last = s.last;
         window = s.window;
         few_ahead = s.few_ahead;
-        board = stored s.board a;
+        board = stored kept.opening s.board a;
         stands = store_stands s.board s.stands;
-        plain = stored_plain kept.opening s.opening s.board a (record { attempt = is; is_for = for }) s.plain;
+        plain = stored_plain kept.opening s.opening s.board a (record { attempt = is; is_for = for })
+            (sym (late_same kept s.board s.stands a rule_within) ∙ near.in_time) (sym (ahead_same kept s.board s.stands a) ∙ near.in_window) s.plain;
         place = s.place;
         cycles = length-set kept.slots (a.cycle - kept.cycle) (slice_set (slice_index_or kept.slots (a.cycle - kept.cycle) []) a.rule (Some a)) ∙ s.cycles;
-        slots = slots_written kept blanks room s (a.cycle - kept.cycle) a.rule (Some a) store_inside;
+        slots = slots_written kept blanks room s (a.cycle - kept.cycle) a.rule (Some a) store_inside for.design;
         rooms = s.rooms;
         left = s.left;
         room = s.room;
@@ -145,6 +199,11 @@ judged_slots board node a Commit = refl
 judged_slots board node a (Skip cause) = refl
 judged_slots board node a (Stale read) = refl
 
+pub judged_home : (board : Board) (node : Node) (design : Parts) (a : Attempted) (v : Verdict) → judged board node (at_design design a) v ≡ judged board node a v
+judged_home board node design a Commit = refl
+judged_home board node design a (Skip cause) = refl
+judged_home board node design a (Stale read) = refl
+
 judged_cycle : (board : Board) (node : Node) (a : Attempted) (v : Verdict) → (judged board node a v).board.cycle ≡ board.cycle
 judged_cycle board node a Commit = refl
 judged_cycle board node a (Skip cause) = refl
@@ -160,10 +219,10 @@ module _ (kept : Kept) (blanks : List Blank) (room : ℕ) (s : IsSound kept blan
   pub some_slots : 0 < length kept.slots
   some_slots = omega (arith, s.window, s.cycles)
 
-  pub first_slot : (board : Board) → StandsFor kept board → (rule : ℕ) → slice_index_or (slice_index_or kept.slots 0 []) rule None ≡ board.slots board.cycle rule
+  pub first_slot : (board : Board) → StandsFor kept board → (rule : ℕ) → home kept (slice_index_or (slice_index_or kept.slots 0 []) rule None) ≡ board.slots board.cycle rule
   first_slot board st rule =
       let none : kept.cycle - kept.cycle ≡ 0 = omega arith in
-      sym (from_on kept.cycle kept.slots kept.cycle rule (omega arith) ∙ ap (λ (n : ℕ). slice_index_or (slice_index_or kept.slots n []) rule None) none)
+      sym (ap (home kept) (from_on kept.cycle kept.slots kept.cycle rule (omega arith) ∙ ap (λ (n : ℕ). slice_index_or (slice_index_or kept.slots n []) rule None) none))
       ∙ st.slots kept.cycle rule ∙ ap (λ (c : ℕ). board.slots c rule) st.cycle
 
   head_same : (board : Board) → StandsFor kept board → node_at kept.opening.design.nodes kept.place.at ≡ head kept.opening board
@@ -185,18 +244,24 @@ module _ (kept : Kept) (blanks : List Blank) (room : ℕ) (s : IsSound kept blan
         ∙ ap (λ (rules : List ℕ). is_among rules node.rule) s.plain.settled
         ∙ next_is_new (system_of o.design) (scheduled o s.opening) (inputs_of o.stimulus s.board.cycle) (last_registers o.regs s.board.rows) s.plain.visits node position'
 
-    pub head_right : (a : Attempted) → slice_index_or (slice_index_or kept.slots 0 []) node.rule None ≡ Some a → StandsRight kept.opening s.board.cycle node.rule a
+    pub head_right : (a : Attempted) → slice_index_or (slice_index_or kept.slots 0 []) node.rule None ≡ Some a → StandsRight kept.opening s.board.cycle node.rule (at_design kept.opening.design a)
     head_right a is =
-        held_slot (StandsRight kept.opening s.board.cycle node.rule) (s.board.slots s.board.cycle node.rule) a (sym (first_slot s.board s.stands node.rule) ∙ is) (s.plain.slots s.board.cycle node.rule)
+        held_slot (StandsRight kept.opening s.board.cycle node.rule) (s.board.slots s.board.cycle node.rule) (at_design kept.opening.design a) (sym (first_slot s.board s.stands node.rule) ∙ ap (home kept) is)
+        (s.plain.slots s.board.cycle node.rule)
+
+    pub head_same_design : (a : Attempted) → slice_index_or (slice_index_or kept.slots 0 []) node.rule None ≡ Some a → SameDesign a.design kept.opening.design
+    head_same_design a is =
+        subst (HoldsSame kept.opening.design) is ((s.slots 0 [] some_slots).same node.rule None (has_slot kept blanks room s 0 node.rule some_slots head_rule))
 
     -- the first list without the rule's attempt
     abbrev pub taken : Place → Kept
     taken place = record (written kept 0 node.rule None) { place = place }
 
-    taken_slots : (board : Board) → StandsFor kept board → (c r : ℕ) → slots_from kept.cycle (taken kept.place).slots c r ≡ replaced board.slots board.cycle node.rule None c r
+    taken_slots : (board : Board) → StandsFor kept board → (c r : ℕ) → home kept (slots_from kept.cycle (taken kept.place).slots c r) ≡ replaced board.slots board.cycle node.rule None c r
     taken_slots board st c r =
         let this : kept.cycle + 0 ≡ board.cycle = omega (arith, st.cycle) in
-        slots_set kept.cycle kept.slots 0 node.rule None some_slots (has_slot kept blanks room s 0 node.rule some_slots head_rule) c r
+        ap (home kept) (slots_set kept.cycle kept.slots 0 node.rule None some_slots (has_slot kept blanks room s 0 node.rule some_slots head_rule) c r)
+        ∙ home_if kept ((c == kept.cycle + 0) && (r == node.rule)) None (slots_from kept.cycle kept.slots c r)
         ∙ ap₂ (λ (k : ℕ) (old : Option Attempted). if (c == k) && (r == node.rule) then None else old) this (st.slots c r)
 
     module _ (place : Place) (shape : IsShaped kept.opening.design place) where
@@ -212,7 +277,7 @@ module _ (kept : Kept) (blanks : List Blank) (room : ℕ) (s : IsSound kept blan
             plain = plain;
             place = shape;
             cycles = length-set kept.slots 0 (slice_set (slice_index_or kept.slots 0 []) node.rule None) ∙ s.cycles;
-            slots = slots_written kept blanks room s 0 node.rule None some_slots;
+            slots = slots_written kept blanks room s 0 node.rule None some_slots tt;
             rooms = s.rooms;
             left = s.left;
             room = s.room;
@@ -221,7 +286,7 @@ module _ (kept : Kept) (blanks : List Blank) (room : ℕ) (s : IsSound kept blan
     -- nothing waits
     pub waits : slice_index_or (slice_index_or kept.slots 0 []) node.rule None ≡ None → kept.cycle ≤ kept.opening.to → Does settle kept (answer.Settle (settled.Waiting kept.cycle node.rule)) (taken kept.place)
     waits none less board st =
-        let slot : board.slots board.cycle node.rule ≡ None = sym (first_slot board st node.rule) ∙ none in
+        let slot : board.slots board.cycle node.rule ≡ None = sym (first_slot board st node.rule) ∙ ap (home kept) none in
         steps_so (taken kept.place) (answer.Settle (settled.Waiting kept.cycle node.rule)) (settle kept.opening board) (settle_with board node None)
         (settle_node kept.opening board (omega (arith, less, st.cycle)) node None (sym (head_same board st) ∙ here) slot)
         (ap (λ (c : ℕ). answer.Settle (settled.Waiting c node.rule)) st.cycle)
@@ -235,15 +300,25 @@ module _ (kept : Kept) (blanks : List Blank) (room : ℕ) (s : IsSound kept blan
             by true false e f = refl
             by false d e f = refl
 
+    -- and nothing is changed
+    pub waits_still : slice_index_or (slice_index_or kept.slots 0 []) node.rule None ≡ None → taken kept.place ≡ kept
+    waits_still none =
+        let row = slice_index_or kept.slots 0 [] in
+        ap (λ (slots : List (List (Option Attempted))). let k : Kept = record kept { slots = slots } in k)
+        (ap (λ (held : Option Attempted). slice_set kept.slots 0 (slice_set row node.rule held)) (sym none)
+        ∙ ap (slice_set kept.slots 0) (set-get_or row node.rule None)
+        ∙ set-get_or kept.slots 0 [])
+
     -- an attempt is judged
     pub judges : (a : Attempted) (v : Verdict) (place : Place) (told : BoardAnswer) → slice_index_or (slice_index_or kept.slots 0 []) node.rule None ≡ Some a → kept.cycle ≤ kept.opening.to
-        → ((board : Board) → StandsFor kept board → v ≡ verdict board.walk.state.regs (committed board.walk.state.past) a.run)
+        → ((board : Board) → StandsFor kept board → v ≡ verdict board.walk.state.regs board.walk.state.past a.run)
         → ((board : Board) → StandsFor kept board → told ≡ (judged board node a v).answer)
         → ((board : Board) → StandsFor kept board → IsAt kept.opening.design place (judged board node a v).board.walk (judged board node a v).board.settled)
         → Does settle kept told (taken place)
     judges a v place told some less is_verdict is_told at board st =
         steps_so (taken place) told (settle kept.opening board) (judged board node a v)
-        (settle_node kept.opening board (omega (arith, less, st.cycle)) node (Some a) (sym (head_same board st) ∙ here) (sym (first_slot board st node.rule) ∙ some) ∙ ap (judged board node a) (sym (is_verdict board st)))
+        (settle_node kept.opening board (omega (arith, less, st.cycle)) node (Some (at_design kept.opening.design a)) (sym (head_same board st) ∙ here) (sym (first_slot board st node.rule) ∙ ap (home kept) some)
+        ∙ ap (judged board node (at_design kept.opening.design a)) (sym (is_verdict board st)) ∙ judged_home board node kept.opening.design a v)
         (is_told board st)
         (record {
           cycle = st.cycle ∙ sym (judged_cycle board node a v);
@@ -286,7 +361,8 @@ module _ (kept : Kept) (blanks : List Blank) (room : ℕ) (s : IsSound kept blan
           cycle = ap (λ (c : ℕ). c + 1) st.cycle;
           place = begins board.walk board.settled st.place;
           rows = ap₂ (λ (rows : List Row) (r : Row). rows ++ r ∷ []) st.rows (made ∙ ap₂ (λ (regs : List BitVector) (fired : List Bool). let r : Row = record { regs = regs; fired = fired } in r) st.place.registers st.place.fired);
-          slots = λ c r. slots_next kept.cycle (length kept.opening.design.rules) kept.slots (omega (arith, some_slots)) c r
+          slots = λ c r. ap (home kept) (slots_next kept.cycle (length kept.opening.design.rules) kept.slots (omega (arith, some_slots)) c r)
+              ∙ home_if kept (c == kept.cycle) None (slots_from kept.cycle kept.slots c r)
               ∙ ap₂ (λ (k : ℕ) (old : Option Attempted). if c == k then None else old) st.cycle (st.slots c r);
         }
 
@@ -316,7 +392,7 @@ module _ (kept : Kept) (blanks : List Blank) (room : ℕ) (s : IsSound kept blan
           plain = plain;
           place = shape;
           cycles = length-moved_up (length kept.opening.design.rules) kept.slots ∙ s.cycles;
-          slots = All-moved_up (HasSlots kept.opening.design) (length kept.opening.design.rules) kept.slots s.slots (length-replicate (length kept.opening.design.rules) (let o : Option Attempted = None in o));
+          slots = All-moved_up (HasSlots kept.opening.design) (length kept.opening.design.rules) kept.slots s.slots (no_slots kept.opening.design);
           rooms = (All-pop (IsBlank kept.opening.design) blanks fewer (Some last') popped s.rooms).0;
           left = omega (arith, count, s.left);
           room = omega (arith, count, s.room, length_push kept.rows row);
@@ -349,7 +425,7 @@ module _ (o : Opening) (sure : IsOpening o) (place : Place) (at : IsAt o.design 
       }
 
   pub begun_stands : StandsFor begun (opened o)
-  begun_stands = record { cycle = refl; place = at; rows = refl; slots = λ c r. none_stands (o.from + 1) o.window (length o.design.rules) c r }
+  begun_stands = record { cycle = refl; place = at; rows = refl; slots = λ c r. ap (option_map (at_design o.design)) (none_stands (o.from + 1) o.window (length o.design.rules) c r) }
 
   pub begun_sound : (blanks : List Blank) (room : ℕ) → o.to ≤ MAX_CYCLES → 1 ≤ o.window → o.window ≤ MAX_WINDOW → IsShaped o.design place → All (IsBlank o.design) blanks → length blanks + (o.from + 1) ≡ o.to + 1 → 1 + length blanks ≤ room → IsSound begun blanks room
   begun_sound blanks room last some few shape all count fits =
@@ -364,7 +440,7 @@ module _ (o : Opening) (sure : IsOpening o) (place : Place) (at : IsAt o.design 
         place = shape;
         cycles = length-replicate o.window (replicate (length o.design.rules) (let none : Option Attempted = None in none));
         slots = λ k d inside. let empty : List (Option Attempted) = replicate (length o.design.rules) None in
-            ap length (get_or-replicate o.window k empty d (omega (arith, inside, length-replicate o.window empty))) ∙ length-replicate (length o.design.rules) (let none : Option Attempted = None in none);
+            subst (HasSlots o.design) (sym (get_or-replicate o.window k empty d (omega (arith, inside, length-replicate o.window empty)))) (no_slots o.design);
         rooms = all;
         left = count;
         room = omega (arith, fits);

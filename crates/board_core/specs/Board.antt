@@ -1,7 +1,7 @@
 -- The board: it takes attempts at rules in any order, and settles them one at a time in scheduler order, as rules of
 -- Kôika run one at a time (Bourgeat et al., PLDI 2020), each after a validation (Kung and Robinson, TODS 1981). It says
 -- nothing of who makes attempts, nor of how they are kept.
-use Rattle.std.specs.Prelude.{ℕ, ◌+◌, Bool, ◌==◌, ◌&&◌, ◌||◌, nat_le, nat_lt, List, [], ◌∷◌, ◌++◌, length, map, Option, Some, None, slice_get, if◌then◌else◌}
+use Rattle.std.specs.Prelude.{ℕ, ◌+◌, Bool, ◌==◌, ◌&&◌, ◌||◌, nat_le, nat_lt, List, [], ◌∷◌, ◌++◌, length, Option, Some, None, slice_get, if◌then◌else◌, is_some}
 use Rattle.kw_bits.specs.BitVector.{BitVector}
 use Rattle.typed_core.specs.declared.design.Next.{Next}
 use Rattle.typed_core.specs.declared.design.Next.TheVariants as next
@@ -11,12 +11,11 @@ use Rattle.one_rule.specs.Cycle.{begin, flags, is_among, join, numbers}
 use Rattle.one_rule.specs.Run.{opening}
 use Rattle.one_rule.specs.Stimulus.{InputVectors}
 use Rattle.one_rule.specs.Walk.{Walk, start}
-use Rattle.one_rule.specs.declared.cycle.Fired.{Fired}
 use Rattle.one_rule.specs.declared.cycle.State.{State}
 use Rattle.one_rule.specs.declared.rows.Row.{Row}
 use Rattle.attempt_log.specs.Attempt.{Attempted}
-use Rattle.attempt_log.specs.Firsts.{is_some}
-use Rattle.attempt_log.specs.Verdict.{Committed, verdict}
+use Rattle.attempt_log.specs.Setting.{Setting, at_design}
+use Rattle.attempt_log.specs.Verdict.{verdict}
 use Rattle.attempt_log.specs.declared.cause.Verdict.{Verdict}
 use Rattle.attempt_log.specs.declared.cause.Verdict.TheVariants.{Commit, Skip, Stale}
 use Rattle.attempt_log.specs.declared.entry.Settled.TheVariants as settled
@@ -36,6 +35,10 @@ pub record Opening : Type 0 where
   pub from : ℕ
   pub to : ℕ
   pub window : ℕ
+
+-- the design and the stimulus
+abbrev pub setting_of : Opening → Setting
+setting_of o = record { design = o.design; stimulus = o.stimulus }
 
 -- the attempts that stand, by cycle and rule
 abbrev pub Slots : Type 0
@@ -93,17 +96,25 @@ pub record Step : Type 0 where
 abbrev pub stays : Board → BoardAnswer → Step
 stays board answer = record { answer = answer; board = board }
 
--- the attempt's cycle is closed, or its rule is settled in it
+-- the cycle is closed, or the rule is settled in it
+abbrev pub is_past : Board → ℕ → ℕ → Bool
+is_past board cycle rule = nat_lt cycle board.cycle || ((cycle == board.cycle) && is_among board.settled rule)
+
+-- the cycle is past the window, or past the last one
+abbrev pub is_beyond : Opening → Board → ℕ → Bool
+is_beyond o board cycle = nat_le (board.cycle + o.window) cycle || nat_lt o.to cycle
+
+-- the attempt comes when its rule is done with
 abbrev pub is_late : Board → Attempted → Bool
-is_late board a = nat_lt a.cycle board.cycle || ((a.cycle == board.cycle) && is_among board.settled a.rule)
+is_late board a = is_past board a.cycle a.rule
 
--- the attempt's cycle is past the window, or past the last one
+-- it comes too early
 abbrev pub is_ahead : Opening → Board → Attempted → Bool
-is_ahead o board a = nat_le (board.cycle + o.window) a.cycle || nat_lt o.to a.cycle
+is_ahead o board a = is_beyond o board a.cycle
 
--- the attempt stands
-abbrev pub stored : Board → Attempted → Board
-stored board a = record board { slots = replaced board.slots a.cycle a.rule (Some a) }
+-- the attempt stands, as one at the board's own design
+abbrev pub stored : Opening → Board → Attempted → Board
+stored o board a = record board { slots = replaced board.slots a.cycle a.rule (Some (at_design o.design a)) }
 
 -- an attempt is submitted
 abbrev pub submit : Opening → Board → Attempted → Step
@@ -111,11 +122,7 @@ submit o board a =
     if is_late board a then stays board (answer.Submit (submitted.Late a))
     else if is_ahead o board a then stays board (answer.Submit (submitted.Ahead a))
     else if stands board a.cycle a.rule then stays board (answer.Submit (submitted.Twice a))
-    else record { answer = answer.Submit submitted.Stored; board = stored board a }
-
--- what is committed in the cycle, as verdicts take it
-abbrev pub committed : List Fired → List Committed
-committed past = map (λ (f : Fired). record { rule = f.rule; events = f.events }) past
+    else record { answer = answer.Submit submitted.Stored; board = stored o board a }
 
 -- the row that the cycle leaves
 abbrev pub row_of : Opening → Board → Row
@@ -158,7 +165,7 @@ judged board node a (Stale read) =
 -- the rule of the head is settled with the attempt that stands for it, if one does
 abbrev pub settle_with : Board → Node → Option Attempted → Step
 settle_with board node None = stays board (answer.Settle (settled.Waiting board.cycle node.rule))
-settle_with board node (Some a) = judged board node a (verdict board.walk.state.regs (committed board.walk.state.past) a.run)
+settle_with board node (Some a) = judged board node a (verdict board.walk.state.regs board.walk.state.past a.run)
 
 -- the head is settled; at the end the cycle is closed
 abbrev pub settle_at : Opening → Board → Option Node → Step

@@ -1,11 +1,8 @@
--- Candidates: the rules and cycles that a board has work for, in order, and the job that it gives. A job's registers are the
--- board's present ones, a guess for all but the head. Which worker takes it isn't said.
+-- Candidates: the rules and cycles that a board has work for, in order, and the job that it gives. A job's registers
+-- are the board's present ones, a guess for all but the head. Which worker takes it isn't said.
 use Rattle.std.specs.Prelude.{◌≡◌, ℕ, ◌+◌, ◌-◌, ◌<◌, ◌≤◌, ◌%◌, Bool, not, ◌==◌, ◌&&◌, List, [], ◌∷◌, ◌++◌, length, map, flat_map, filter, Option, Some, None, slice_get, min}
 use Rattle.std.specs.List.{enumerate_from, range_with_len}
 use Rattle.std.specs.Arc.{arc_value}
-use Rattle.kw_bits.specs.BitVector.{BitVector}
-use Rattle.typed_core.specs.Evaluation as core
-use Rattle.typed_core.specs.declared.design.Parts.{Parts}
 use Rattle.typed_core.specs.Valid.{externs_of}
 use Rattle.typed_core.specs.declared.design.Next.{Next}
 use Rattle.typed_core.specs.declared.design.Next.TheVariants as next
@@ -14,7 +11,6 @@ use Rattle.one_rule.specs.Cycle.{is_among}
 use Rattle.one_rule.specs.Externs.{kept}
 use Rattle.one_rule.specs.Stimulus.{inputs_of}
 use Rattle.one_rule.specs.Walk.{is_at}
-use Rattle.attempt_log.specs.Attempt.{FitDesign}
 use Rattle.attempt_log.specs.declared.job.Job.{Job}
 use Rattle.attempt_log.specs.declared.job.JobAnswer.{JobAnswer}
 use Rattle.attempt_log.specs.declared.job.JobAnswer.TheVariants as answer
@@ -55,7 +51,7 @@ first o board = filter (λ (c : Candidate). not (stands board c.cycle c.rule)) (
 abbrev pub further : Opening → Board → ℕ → List Candidate
 further o board cycle = filter (is_further board) (pairs o.design.nodes cycle)
 
--- the current cycle and those behind it, up to the window's end and the last one
+-- the current cycle and those after it, up to the window's end and the last one
 abbrev pub cycles : Opening → Board → List ℕ
 cycles o board = range_with_len board.cycle (min o.window (o.to + 1 - board.cycle))
 
@@ -68,33 +64,18 @@ abbrev pub Picks : List Candidate → ℕ → Option Candidate → Type 0
 Picks all pick None = all ≡ []
 Picks all pick (Some c) = (0 < length all) × (slice_get all (pick % length all) ≡ Some c)
 
--- the job of a candidate: what it is for, and what it is done on
-pub record IsJob (o : Opening) (board : Board) (c : Candidate) (of : Parts) (asked : core.Externs) (in_cycle number : ℕ) (given on : List BitVector) : Type 0 where
-  pub design : of ≡ o.design
-  pub externs : asked ≡ externs_of o.design
-  pub cycle : in_cycle ≡ c.cycle
-  pub rule : number ≡ c.rule
-  pub inputs : given ≡ inputs_of o.stimulus c.cycle
-  pub registers : on ≡ board.walk.state.regs
-
--- the same of a job; the arguments in braces stand for the functions that its externs can hold
-abbrev pub IsJobOf : {X Y : Type 0} {one : _} {two : _} → Opening → Board → Candidate → Job X Y one two → Type 0
-IsJobOf o board c job = IsJob o board c (arc_value job.design) (kept (arc_value job.externs)) job.cycle job.rule job.inputs job.regs
+-- the job of a candidate: it is for the board's design, the candidate's cycle and rule and the stimulus's inputs, on
+-- the registers as they are
+pub record IsJobOf (o : Opening) (board : Board) (c : Candidate) (job : Job) : Type 0 where
+  pub design : arc_value job.design ≡ o.design
+  pub externs : kept (arc_value job.externs) ≡ externs_of o.design
+  pub cycle : job.cycle ≡ c.cycle
+  pub rule : job.rule ≡ c.rule
+  pub inputs : job.inputs ≡ inputs_of o.stimulus c.cycle
+  pub registers : job.regs ≡ board.walk.state.regs
 
 -- what a board answers to a pick, by the choice of candidates
-abbrev pub Chooses : {X Y : Type 0} {one : _} {two : _} → Opening → Board → ℕ → JobAnswer X Y one two → Type 0
+abbrev pub Chooses : Opening → Board → ℕ → JobAnswer → Type 0
 Chooses o board pick answer.Finished = o.to < board.cycle
 Chooses o board pick answer.Idle = (board.cycle ≤ o.to) × Picks (candidates o board) pick None
 Chooses o board pick (answer.Job job) = (board.cycle ≤ o.to) × (c : Candidate) × Picks (candidates o board) pick (Some c) × IsJobOf o board c job
-
--- a job may be done, and its attempt is for the board
-abbrev pub Fits : {X Y : Type 0} {one : _} {two : _} → Opening → Job X Y one two → Type 0
-Fits o job =
-    FitDesign (arc_value job.design) (kept (arc_value job.externs)) job.rule job.inputs job.regs
-    × (arc_value job.design ≡ o.design) × (job.inputs ≡ inputs_of o.stimulus job.cycle)
-
--- the same of a job that is given
-abbrev pub JobFits : {X Y : Type 0} {one : _} {two : _} → Opening → JobAnswer X Y one two → Type 0
-JobFits o answer.Finished = Unit {0}
-JobFits o answer.Idle = Unit {0}
-JobFits o (answer.Job job) = Fits o job

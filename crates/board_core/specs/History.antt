@@ -4,15 +4,13 @@ use Rattle.std.specs.Prelude.{◌≡◌, List, map}
 use Rattle.std.specs.List.{AllByRecursion}
 use Rattle.typed_core.specs.declared.design.Parts.{Parts}
 use Rattle.attempt_log.specs.Attempt.{Attempted, IsAttempt}
+use Rattle.attempt_log.specs.Entries.{taken_of}
+use Rattle.attempt_log.specs.Setting.{IsFor}
 use Rattle.attempt_log.specs.declared.entry.Entry.{Entry}
 use Rattle.attempt_log.specs.declared.entry.Entry.TheVariants as entry
 use Rattle.attempt_log.specs.declared.entry.Settled.{Settled}
-use Rattle.attempt_log.specs.declared.entry.Submitted.{Submitted}
-use Rattle.attempt_log.specs.declared.entry.Submitted.TheVariants as submitted
 use Rattle.attempt_log.specs.declared.entry.Taken.{Taken}
-use Rattle.attempt_log.specs.declared.entry.Taken.TheVariants as taken
-use Rattle.board_core.specs.Board.{Opening, opened, run_events}
-use Rattle.board_core.specs.Position.{IsFor}
+use Rattle.board_core.specs.Board.{Board, Opening, opened, run_events, setting_of, step}
 use Rattle.board_core.specs.declared.event.BoardAnswer.{BoardAnswer}
 use Rattle.board_core.specs.declared.event.BoardAnswer.TheVariants as answer
 use Rattle.board_core.specs.declared.event.BoardEvent.{BoardEvent}
@@ -22,12 +20,6 @@ use Rattle.board_core.specs.declared.event.BoardEvent.TheVariants as event
 pub data Told : Type 0 where
   Submit : (taken : Taken) → Told
   Settle : (settled : Settled) → Told
-
-abbrev pub taken_of : Submitted → Taken
-taken_of submitted.Stored = taken.Stored
-taken_of (submitted.Late a) = taken.Late
-taken_of (submitted.Ahead a) = taken.Ahead
-taken_of (submitted.Twice a) = taken.Twice
 
 abbrev pub told_of : BoardAnswer → Told
 told_of (answer.Submit s) = Submit (taken_of s)
@@ -46,13 +38,28 @@ told_by (entry.Settle worker answer) = Settle answer
 -- an attempt that is submitted is one for the board
 pub record IsAttemptFor (o : Opening) (a : Attempted) : Type 0 where
   pub attempt : IsAttempt a
-  pub is_for : IsFor o a
+  pub is_for : IsFor (setting_of o) a
 
 abbrev pub SubmitsFor : Opening → BoardEvent → Type 0
 SubmitsFor o (event.Submit a) = IsAttemptFor o a
 SubmitsFor o event.Settle = Unit {0}
 
+-- the events of a history, the answers of the board of this opening to them, and the board after them
+abbrev pub events_of : Opening → List Entry → List BoardEvent
+events_of o entries = map (event_of o.design) entries
+
+abbrev pub answers_after : Opening → List Entry → List BoardAnswer
+answers_after o entries = (run_events o (opened o) (events_of o entries)).answers
+
+abbrev pub board_after : Opening → List Entry → Board
+board_after o entries = (run_events o (opened o) (events_of o entries)).board
+
 -- a legal history of the board of this opening
 pub record IsLegal (o : Opening) (entries : List Entry) : Type 0 where
-  pub attempts : AllByRecursion (SubmitsFor o) (map (event_of o.design) entries)
-  pub answers : map told_by entries ≡ map told_of (run_events o (opened o) (map (event_of o.design) entries)).answers
+  pub attempts : AllByRecursion (SubmitsFor o) (events_of o entries)
+  pub answers : map told_by entries ≡ map told_of (answers_after o entries)
+
+-- an entry goes on from a history: its attempt is for the board, and its answer is that of the board after the history
+pub record GoesOn (o : Opening) (entries : List Entry) (e : Entry) : Type 0 where
+  pub attempt : SubmitsFor o (event_of o.design e)
+  pub answer : told_by e ≡ told_of (step o (board_after o entries) (event_of o.design e)).answer

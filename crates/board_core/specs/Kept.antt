@@ -1,8 +1,9 @@
 -- What a core keeps, and which board it stands for. Of the rules that fired in the cycle it keeps what decides of clashes,
 -- and of the slots those of the window, a list for each cycle from the current one on.
-use Rattle.std.specs.Prelude.{◌≡◌, ℕ, ◌+◌, ◌-◌, ◌≤◌, All, nat_le, nat_lt, Bool, false, ◌==◌, ◌&&◌, ◌||◌, List, [], ◌∷◌, length, Option, None, slice_index_or, if◌then◌else◌}
+use Rattle.std.specs.Prelude.{◌≡◌, ℕ, ◌+◌, ◌-◌, ◌≤◌, All, nat_le, nat_lt, Bool, true, false, ◌==◌, ◌&&◌, ◌||◌, List, [], ◌∷◌, length, Option, None, IfSome, option_map, slice_index_or, if◌then◌else◌}
 use Rattle.std.specs.List.{count_by}
 use Rattle.kw_bits.specs.BitVector.{BitVector}
+use Rattle.typed_core.specs.Same.{SameDesign}
 use Rattle.typed_core.specs.Widths.{HaveWidths, register_widths}
 use Rattle.typed_core.specs.declared.design.Parts.{Parts}
 use Rattle.one_rule.specs.Cycle.{flags, numbers}
@@ -12,9 +13,14 @@ use Rattle.one_rule.specs.declared.cycle.State.{State}
 use Rattle.one_rule.specs.declared.rows.Row.{Row}
 use Rattle.attempt_log.specs.Attempt.{Attempted}
 use Rattle.attempt_log.specs.Past as past
-use Rattle.board_core.specs.Board.{Board, Opening, Slots, Step, committed, run_events}
-use Rattle.board_core.specs.Position.{IsFor, IsOpening, IsPlain}
+use Rattle.attempt_log.specs.Setting.{IsFor, at_design}
+use Rattle.attempt_log.specs.declared.entry.Settled.{Settled}
+use Rattle.attempt_log.specs.declared.entry.Settled.TheVariants as settled
+use Rattle.attempt_log.specs.declared.entry.Submitted.TheVariants as submitted
+use Rattle.board_core.specs.Board.{Board, Opening, Slots, Step, run_events, setting_of}
+use Rattle.board_core.specs.Position.{IsOpening, IsPlain, steps_left}
 use Rattle.board_core.specs.declared.event.BoardAnswer.{BoardAnswer}
+use Rattle.board_core.specs.declared.event.BoardAnswer.TheVariants as answer
 use Rattle.board_core.specs.declared.event.BoardEvent.{BoardEvent}
 use Rattle.board_core.specs.declared.event.BoardEvent.TheVariants as event
 use Rattle.board_core.specs.declared.blank.Blank.{Blank}
@@ -55,7 +61,7 @@ pub record IsAt (design : Parts) (place : Place) (walk : Walk State) (done : Lis
   pub at : place.at ≡ walk.at
   pub registers : place.regs ≡ walk.state.regs
   pub fired : place.fired.items ≡ flags (length design.rules) (numbers walk.state.past)
-  pub past : past.StandsFor (register_widths design) place.past (committed walk.state.past)
+  pub past : past.StandsFor (register_widths design) place.past walk.state.past
   pub settled : place.settled.items ≡ flags (length design.rules) done
 
 -- the registers fit the design, there is a flag for each rule, and not more rules are committed than are settled; this is
@@ -72,7 +78,7 @@ pub record StandsFor (kept : Kept) (board : Board) : Type 0 where
   pub cycle : kept.cycle ≡ board.cycle
   pub place : IsAt kept.opening.design kept.place board.walk board.settled
   pub rows : kept.rows ≡ board.rows
-  pub slots : (cycle rule : ℕ) → slots_from kept.cycle kept.slots cycle rule ≡ board.slots cycle rule
+  pub slots : (cycle rule : ℕ) → option_map (at_design kept.opening.design) (slots_from kept.cycle kept.slots cycle rule) ≡ board.slots cycle rule
 
 -- from an old core to a new one: it is answered what the board step answers, and the new one stands for the board after it
 abbrev pub Does : (Opening → Board → Step) → Kept → BoardAnswer → Kept → Type 0
@@ -84,13 +90,38 @@ abbrev pub Runs : List BoardEvent → Kept → List BoardAnswer → Kept → Typ
 Runs events old answers new =
     (board : Board) → StandsFor old board → let run = run_events old.opening board events in (answers ≡ run.answers) × StandsFor new run.board
 
--- the core stands for a board at a plain position
-abbrev pub AtPlain : Kept → Type 0
-AtPlain kept = (board : Board) × StandsFor kept board × IsPlain kept.opening board
+-- the core stands for a board at a plain position, and was begun on parts that fit
+pub record AtPlain (kept : Kept) : Type 0 where
+  pub opening : IsOpening kept.opening
+  pub window : 1 ≤ kept.opening.window
+  pub board : Board
+  pub stands : StandsFor kept board
+  pub plain : IsPlain kept.opening board
+
+-- the answer is given where nothing could be done
+abbrev pub is_still : Settled → Bool
+is_still (settled.Committed cycle rule) = false
+is_still (settled.Skipped cycle rule cause) = false
+is_still (settled.Stale cycle rule read) = false
+is_still (settled.CycleClosed cycle) = false
+is_still (settled.Waiting cycle rule) = true
+is_still settled.Finished = true
+
+-- the answer is that the board stays as it is
+abbrev pub leaves : BoardAnswer → Bool
+leaves (answer.Submit submitted.Stored) = false
+leaves (answer.Submit (submitted.Late a)) = true
+leaves (answer.Submit (submitted.Ahead a)) = true
+leaves (answer.Submit (submitted.Twice a)) = true
+leaves (answer.Settle s) = is_still s
+
+-- the core's measure of what is left to do
+abbrev pub left : Kept → ℕ
+left kept = steps_left kept.opening kept.cycle kept.place.at
 
 -- what is asked of an event: an attempt has to be for the board
 abbrev pub EventFits : Opening → BoardEvent → Type 0
-EventFits o (event.Submit a) = IsFor o a
+EventFits o (event.Submit a) = IsFor (setting_of o) a
 EventFits o event.Settle = Unit {0}
 
 -- ---- what a core keeps for itself, for private functions alone
@@ -100,9 +131,14 @@ pub record IsBlank (design : Parts) (blank : Blank) : Type 0 where
   pub registers : blank.regs ≡ record { items = []; capacity = length design.regs }
   pub flags : blank.fired ≡ record { items = []; capacity = length design.rules }
 
--- a slot for each rule
-abbrev pub HasSlots : Parts → List (Option Attempted) → Type 0
-HasSlots design slots = length slots ≡ length design.rules
+-- what a slot holds is an attempt at a design of equal value
+abbrev pub HoldsSame : Parts → Option Attempted → Type 0
+HoldsSame design held = IfSome held (λ (a : Attempted). SameDesign a.design design)
+
+-- there is a slot for each rule
+pub record HasSlots (design : Parts) (slots : List (Option Attempted)) : Type 0 where
+  pub count : length slots ≡ length design.rules
+  pub same : All (HoldsSame design) slots
 
 -- the core stands for a board at a plain position, and has room for the rows that are to come
 pub record IsSound (kept : Kept) (blanks : List Blank) (capacity : ℕ) : Type 0 where

@@ -1,9 +1,8 @@
--- A search for the candidate of a number, for private functions alone: over the candidates so far, it has found it, or so many
--- are left to go past.
-use Rattle.std.specs.Prelude.{◌≡◌, ℕ, ◌+◌, ◌<◌, Bool, not, ◌==◌, ◌&&◌, false, List, length, Some, slice_get, slice_index_or}
+-- A search for the candidate of a number, for private functions alone: over the candidates so far, it has found it,
+-- or that many are left to go past.
+use Rattle.std.specs.Prelude.{◌≡◌, ℕ, ◌+◌, ◌<◌, Bool, not, ◌==◌, ◌&&◌, false, List, length, Some, slice_get, slice_index_or, is_some}
 use Rattle.typed_core.specs.declared.design.Rule.{Rule}
 use Rattle.one_rule.specs.Walk.{is_at}
-use Rattle.attempt_log.specs.Firsts.{is_some}
 use Rattle.board_core.specs.Board.{Board}
 use Rattle.board_core.specs.Kept.{Kept, StandsFor, slots_from}
 use Rattle.board_core.specs.declared.candidate.Candidate.{Candidate}

@@ -1,3 +1,5 @@
+//! Engines: rows whose memory is allocated when a board begins.
+
 ghost use Rattle.std.specs.Prelude.{◌≡◌, [], length, IfOk};
 ghost use Rattle.board_core.specs.Kept.{IsBlank};
 

@@ -1,3 +1,5 @@
+//! Engines: the events of a board, and what it returns.
+
 use attempt_log::{Attempt, Settled, Submitted};
 
 /// What may be done to a board, one at a time.

@@ -1,18 +1,20 @@
-ghost use Rattle.std.specs.Prelude.{◌≡◌, ◌+◌, ◌<◌, ◌≤◌, ◌⊎◌, ℕ, List, [], ◌∷◌, ◌++◌, All, IfOk, IfSome, Some, None, nat_lt, length, replicate, slice_get};
+//! Engines: a board's state, and its step.
+
+ghost use Rattle.std.specs.Prelude.{◌≡◌, ◌+◌, ◌<◌, ◌≤◌, ◌⊎◌, ℕ, List, [], ◌∷◌, ◌++◌, All, IfOk, IfSome, Some, None, true, false, nat_lt, length, replicate, slice_get, is_some};
 ghost use Rattle.std.specs.Arc.{arc_value};
 ghost use Rattle.typed_core.specs.Widths.{HaveWidths, register_widths};
 ghost use Rattle.one_rule.specs.Stimulus.{AlwaysFits, StimulusFits};
 ghost use Rattle.typed_core.specs.declared.design.Next.TheVariants as next;
 ghost use Rattle.typed_core.specs.declared.design.Node.{Node};
 ghost use Rattle.attempt_log.specs.Attempt.{Attempted, IsAttempt};
-ghost use Rattle.attempt_log.specs.Firsts.{is_some};
+ghost use Rattle.attempt_log.specs.Seats.{HandsBack};
+ghost use Rattle.attempt_log.specs.Setting.{FitsItself, IsFor, attempt_of};
 ghost use Rattle.one_rule.specs.Externs.{kept};
 ghost use Rattle.typed_core.specs.Valid.{externs_of};
 ghost use Rattle.attempt_log.specs.declared.entry.Submitted.TheVariants as submitted;
-ghost use Rattle.board_core.specs.Board.{Board, judged, node_at, opened, settle, stored, submit};
-ghost use Rattle.board_core.specs.Kept.{AtPlain, Does, IsBlank, IsNear, StandsFor, comes_ahead, comes_late, slots_from};
-ghost use Rattle.board_core.specs.Candidates.{Fits, IsJobOf, Picks, candidates, first, further, pair_at, pairs};
-ghost use Rattle.board_core.specs.Position.{IsFor, IsOpening};
+ghost use Rattle.board_core.specs.Board.{Board, judged, node_at, opened, setting_of, settle, stored, submit};
+ghost use Rattle.board_core.specs.Kept.{AtPlain, Does, IsBlank, IsNear, StandsFor, comes_ahead, comes_late, is_still, slots_from};
+ghost use Rattle.board_core.specs.Candidates.{IsJobOf, Picks, candidates, first, further, pair_at, pairs};
 ghost use Rattle.board_core.specs.Search.{FindsIn, HasRule, comes_further};
 ghost use Rattle.board_core.specs.declared.candidate.Candidate.{Candidate};
 ghost use Rattle.one_rule.specs.Walk.{is_at};
@@ -36,7 +38,8 @@ pub const MAX_CYCLES: u32 = 16_777_216;
 /// A board takes attempts for at most this many cycles at a time.
 pub const MAX_WINDOW: u32 = 16;
 
-// A board without its externs: the rows of the cycles that are closed, the place in the current one, and the attempts that stand.
+// A board without its externs: the rows of the cycles that are closed, the place in the current one, and the attempts
+// that stand.
 #[derive(Drop)]
 pub(crate) struct KeptBoard {
     design: Arc<Design>,
@@ -109,10 +112,11 @@ impl KeptBoard {
 
     // Takes an attempt, or hands it back and changes nothing.
     pub(crate) fn submit(&mut self, attempt: Attempt) -> Submitted
-        requires { IsFor self.old.opening attempt }
+        requires { IsFor (setting_of self.old.opening) attempt }
         ensures step { Does (λ o board. submit o board attempt) self.old (answer.Submit result) self.new }
         ensures opening { self.new.opening ≡ self.old.opening }
         ensures refused { (result ≡ submitted.Stored) ⊎ (self.new ≡ self.old) }
+        ensures handed_back { HandsBack attempt result }
     {
         is_attempt(&attempt);
         if self.is_late(&attempt) {
@@ -132,6 +136,7 @@ impl KeptBoard {
     pub(crate) fn settle(&mut self) -> Settled
         ensures step { Does settle self.old (answer.Settle result) self.new }
         ensures opening { self.new.opening ≡ self.old.opening }
+        ensures unchanged { is_still result ≡ true → self.new ≡ self.old }
     {
         if self.last < self.cycle {
             return Settled::Finished;
@@ -147,8 +152,7 @@ impl KeptBoard {
 
     // The core stands for a board at a plain position.
     pub(crate) fn is_plain(&self)
-        ensures plain { AtPlain self.now }
-        ensures opening { IsOpening self.now.opening }
+        ensures { AtPlain self.now }
     {
         let _ = &self.design;
     }
@@ -197,7 +201,7 @@ impl KeptBoard {
 
     // Whether the attempt's cycle is closed, or its rule settled in it.
     fn is_late(&self, attempt: &Attempt) -> bool
-        requires { attempt.now.design ≡ self.now.opening.design }
+        requires { attempt.now.rule < length self.now.opening.design.rules }
         ensures { result ≡ comes_late self.now attempt.now }
     {
         let (cycle, rule) = (attempt.cycle(), attempt.rule());
@@ -214,7 +218,7 @@ impl KeptBoard {
 
     // Whether an attempt stands for the same cycle and rule.
     fn stands(&self, attempt: &Attempt) -> bool
-        requires design { attempt.now.design ≡ self.now.opening.design }
+        requires rule { attempt.now.rule < length self.now.opening.design.rules }
         requires near { IsNear self.now attempt.now }
         ensures { result ≡ is_some (slots_from self.now.cycle self.now.slots attempt.now.cycle attempt.now.rule) }
     {
@@ -248,7 +252,8 @@ impl KeptBoard {
         requires externs { kept (arc_value externs) ≡ externs_of self.now.opening.design }
         requires rule { candidate.rule < length self.now.opening.design.rules }
         ensures job { IfOk result (λ job. (board : Board) → StandsFor self.now board → IsJobOf self.now.opening board candidate job) }
-        ensures fits { IfOk result (Fits self.now.opening) }
+        ensures fits { IfOk result FitsItself }
+        ensures is_for { IfOk result (λ job. IsFor (setting_of self.now.opening) (attempt_of job)) }
     {
         let alloc = *self.place.fired.allocator();
         Ok(Job {
@@ -353,9 +358,9 @@ impl KeptBoard {
 
     // Puts an attempt in its slot.
     fn store(&mut self, attempt: Attempt)
-        requires fits { IsFor self.old.opening attempt }
+        requires fits { IsFor (setting_of self.old.opening) attempt }
         requires near { IsNear self.old attempt }
-        ensures stored { (board : Board) → StandsFor self.old board → StandsFor self.new (stored board attempt) }
+        ensures stored { (board : Board) → StandsFor self.old board → StandsFor self.new (stored self.old.opening board attempt) }
         ensures opening { self.new.opening ≡ self.old.opening }
     {
         is_attempt(&attempt);
@@ -370,6 +375,7 @@ impl KeptBoard {
         requires head { node_at self.old.opening.design.nodes self.old.place.at ≡ Some node }
         ensures step { Does settle self.old (answer.Settle result) self.new }
         ensures opening { self.new.opening ≡ self.old.opening }
+        ensures unchanged { is_still result ≡ true → self.new ≡ self.old }
     {
         let (cycle, rule) = (self.cycle, node.rule);
         match self.slots[0].take(rule as usize) {
@@ -384,6 +390,7 @@ impl KeptBoard {
         requires end { self.old.place.at ≡ next.End }
         ensures step { Does settle self.old (answer.Settle result) self.new }
         ensures opening { self.new.opening ≡ self.old.opening }
+        ensures closed { is_still result ≡ false }
     {
         let cycle = self.cycle;
         match self.blanks.pop() {
@@ -410,7 +417,7 @@ fn is_at(number: u32, at: Next) -> bool
     }
 }
 
-// Room for so many rows of the design.
+// Room for that many rows of the design.
 fn room(alloc: Global, design: &Design, count: usize) -> Result<Vec<Blank>, NoMemory>
     ensures blank { IfOk result (λ blanks. All (IsBlank design.now) blanks.items) }
     ensures count { IfOk result (λ blanks. length blanks.items ≡ count) }
@@ -422,7 +429,7 @@ fn room(alloc: Global, design: &Design, count: usize) -> Result<Vec<Blank>, NoMe
     Ok(blanks)
 }
 
-// Empty slots for so many cycles.
+// Empty slots for that many cycles.
 fn empty_slots(alloc: Global, rules: usize, cycles: usize) -> Result<Vec<Waiting>, NoMemory>
     ensures { IfOk result (λ slots. slots.items ≡ replicate cycles (replicate rules None)) }
 {
@@ -451,7 +458,8 @@ fn is_attempt(attempt: &Attempt)
 
 // The answer to the attempt at the head's rule.
 fn told(cycle: u32, rule: u32, verdict: Verdict) -> Settled
-    ensures { (board : Board) (node : Node) (a : Attempted) → board.cycle ≡ cycle → node.rule ≡ rule → answer.Settle result ≡ (judged board node a verdict).answer }
+    ensures answer { (board : Board) (node : Node) (a : Attempted) → board.cycle ≡ cycle → node.rule ≡ rule → answer.Settle result ≡ (judged board node a verdict).answer }
+    ensures moves { is_still result ≡ false }
 {
     match verdict {
         Verdict::Commit => Settled::Committed { cycle, rule },

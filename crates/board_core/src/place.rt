@@ -1,3 +1,5 @@
+//! Engines: where a board is in the walk of its current cycle.
+
 ghost use Rattle.std.specs.Prelude.{◌≡◌, ◌<◌, ℕ, List, [], ◌∷◌, ◌++◌, length, slice_index_or, IfOk, false, true};
 ghost use Rattle.typed_core.specs.Alone.{after, after_one};
 ghost use Rattle.typed_core.specs.Fits.{EventsFit};
@@ -7,7 +9,7 @@ ghost use Rattle.one_rule.specs.Cycle.{begin, join};
 ghost use Rattle.one_rule.specs.Walk.{Walk, root, start};
 ghost use Rattle.one_rule.specs.declared.cycle.State.{State};
 ghost use Rattle.attempt_log.specs.Verdict.{verdict};
-ghost use Rattle.board_core.specs.Board.{Board, committed, judged};
+ghost use Rattle.board_core.specs.Board.{Board, judged};
 ghost use Rattle.board_core.specs.Kept.{IsAt, IsShaped};
 
 use attempt_log::{Attempt, Past, Verdict, verdict};
@@ -51,7 +53,7 @@ impl Place {
         requires new { slice_index_or self.old.settled.items node.now.rule true ≡ false }
         ensures shape { IsShaped attempt.now.design self.new }
         ensures verdict { (walk : Walk State) (done : List ℕ) → IsAt attempt.now.design self.old walk done
-            → result ≡ verdict walk.state.regs (committed walk.state.past) attempt.now.run }
+            → result ≡ verdict walk.state.regs walk.state.past attempt.now.run }
         ensures at { (board : Board) → IsAt attempt.now.design self.old board.walk board.settled
             → let next = (judged board node.now attempt.now result).board in IsAt attempt.now.design self.new next.walk next.settled }
     {

@@ -1,12 +1,13 @@
-ghost use Rattle.std.specs.Prelude.{◌≡◌, ◌<◌, length, replicate, slice_index_or, slice_set, None, Some, IfOk};
-ghost use Rattle.attempt_log.specs.Firsts.{is_some};
+//! Engines: the attempts that wait for their turn.
+
+ghost use Rattle.std.specs.Prelude.{◌≡◌, ◌<◌, length, replicate, slice_index_or, slice_set, None, Some, IfOk, is_some};
 
 use attempt_log::Attempt;
 use kw_bits::NoMemory;
 use std::alloc::Global;
 use std::marker::Model;
 
-// The slots of a cycle, one for each rule: the attempts that wait until the cycle comes to their rules.
+// The slots of a cycle, one for each rule: the attempts that wait until the cycle reaches their rules.
 #[derive(Drop)]
 pub(crate) struct Waiting {
     attempts: Vec<Option<Attempt>>,
@@ -26,7 +27,7 @@ impl Model for Waiting {
 }
 
 impl Waiting {
-    // Empty slots for so many rules.
+    // Empty slots for that many rules.
     pub(crate) fn new(alloc: Global, rules: usize) -> Result<Waiting, NoMemory>
         ensures { IfOk result (λ slots. slots ≡ replicate rules None) }
     {
@@ -37,7 +38,7 @@ impl Waiting {
         Ok(Waiting { attempts })
     }
 
-    // Whether an attempt stands at the rule.
+    // Whether an attempt is at the rule.
     pub(crate) fn stands(&self, rule: usize) -> bool
         requires { rule < length self.now }
         ensures { result ≡ is_some (slice_index_or self.now rule None) }
@@ -53,7 +54,7 @@ impl Waiting {
         self.attempts[rule] = Some(attempt);
     }
 
-    // Takes away what stands at the rule.
+    // Takes away what is at the rule.
     pub(crate) fn take(&mut self, rule: usize) -> Option<Attempt>
         requires { rule < length self.old }
         ensures taken { result ≡ slice_index_or self.old rule None }

@@ -7,13 +7,13 @@ use Rattle.board_core.proofs.board.Core.run_events.Given as goal
 
 -- the events that are left, from their end, go on to the run of all
 abbrev pub invariant-loop-event : goal.invariant-loop-event
-invariant-loop-event g l =
+invariant-loop-event l =
     record {
-      goes : Goes l.fn.self.board l.fn.events.items l.self.board l.answers.items (reverse l.events.items);
-      fits : AllByRecursion (EventFits l.fn.self.board.opening) (reverse l.events.items);
-      opening : l.self.board.opening ≡ l.fn.self.board.opening;
+      goes : Goes l.fn.self l.fn.events.items l.self l.answers.items (reverse l.events.items);
+      fits : AllByRecursion (EventFits l.fn.self.opening) (reverse l.events.items);
+      opening : l.self.opening ≡ l.fn.self.opening;
       room : length l.answers.items + length l.events.items ≡ vec_capacity l.answers;
     }
 
 abbrev pub decreases-loop-event : goal.decreases-loop-event
-decreases-loop-event g l = length l.events.items
+decreases-loop-event l = length l.events.items

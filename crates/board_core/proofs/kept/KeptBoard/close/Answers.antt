@@ -39,7 +39,7 @@ invariant_of-self c =
     subst (λ (d : Parts). IsAt d place (start d.nodes (begin walk.state.regs)) []) c.deref-2.ensures (c.begin_next.ensures.at walk done (subst (λ (d : Parts). IsAt d kept.place walk done) (sym c.deref-2.ensures) at)) in
     let n = length design.rules in
     let first = c.index_mut.ensures.value ∙ get_or_default i.slots.items 0 c.index_mut.result.now [] (sound.some_slots kept blanks room sure) in
-    let count : length c.index_mut.result.now ≡ n = ap (λ (w : List (Option Attempted)). length w) first ∙ sure.slots 0 [] (sound.some_slots kept blanks room sure) in
+    let count : length c.index_mut.result.now ≡ n = ap (λ (w : List (Option Attempted)). length w) first ∙ (sure.slots 0 [] (sound.some_slots kept blanks room sure)).count in
     let cleared : c.clear.new.self ≡ replicate n None = c.clear.ensures ∙ ap (λ (k : ℕ). replicate k None) count in
     let slots : c.rotate_left.new.self.items ≡ moved_up n i.slots.items = c.rotate_left.ensures.items ∙ ap (λ (w : List (Option Attempted)). let all : List (List (Option Attempted)) = slice_set i.slots.items 0 w in drop 1 all ++ take 1 all) cleared in
     let rows : c.push.new.self.items ≡ i.rows.items ++ row ∷ [] = ap (λ (r : ReservedList Row). r.items) c.push.ensures in
@@ -70,7 +70,7 @@ returns-clause-step c =
     subst (λ (d : Parts). IsAt d place (start d.nodes (begin walk.state.regs)) []) c.deref-2.ensures (c.begin_next.ensures.at walk done (subst (λ (d : Parts). IsAt d kept.place walk done) (sym c.deref-2.ensures) at)) in
     let n = length design.rules in
     let first = c.index_mut.ensures.value ∙ get_or_default i.slots.items 0 c.index_mut.result.now [] (sound.some_slots kept blanks room sure) in
-    let count : length c.index_mut.result.now ≡ n = ap (λ (w : List (Option Attempted)). length w) first ∙ sure.slots 0 [] (sound.some_slots kept blanks room sure) in
+    let count : length c.index_mut.result.now ≡ n = ap (λ (w : List (Option Attempted)). length w) first ∙ (sure.slots 0 [] (sound.some_slots kept blanks room sure)).count in
     let cleared : c.clear.new.self ≡ replicate n None = c.clear.ensures ∙ ap (λ (k : ℕ). replicate k None) count in
     let slots : c.rotate_left.new.self.items ≡ moved_up n i.slots.items = c.rotate_left.ensures.items ∙ ap (λ (w : List (Option Attempted)). let all : List (List (Option Attempted)) = slice_set i.slots.items 0 w in drop 1 all ++ take 1 all) cleared in
     let rows : c.push.new.self.items ≡ i.rows.items ++ row ∷ [] = ap (λ (r : ReservedList Row). r.items) c.push.ensures in

@@ -1,6 +1,5 @@
-use Rattle.std.specs.Prelude.{slice_get}
+use Rattle.std.specs.Prelude.{slice_get, is_some}
 use Rattle.typed_core.specs.declared.design.Next.TheVariants as next
-use Rattle.attempt_log.specs.Firsts.{is_some}
 use Rattle.std.proofs.Common.{◌≡◌, ◌+◌, [], ℕ, length, List, not, sym, ap, ◌∙◌, subst, arith}
 use Rattle.std.specs.Arc.{arc_value}
 use Rattle.typed_core.specs.declared.design.Next.{Next}

@@ -3,7 +3,6 @@ use Rattle.std.specs.Vec.{vec_len}
 use Rattle.typed_core.specs.declared.design.Parts.{Parts}
 use Rattle.typed_core.specs.Widths.{register_widths}
 use Rattle.one_rule.specs.Walk.{root}
-use Rattle.board_core.specs.Board.{committed}
 use Rattle.board_core.proofs.Flags.{flags_none}
 use Rattle.board_core.proofs.place.Place.begin_next.Goals as goal
 
@@ -17,6 +16,6 @@ returns-clause-at c walk done h =
       at = c.root-self.ensures ∙ ap root c.as_slice.ensures ∙ ap (λ (d : Parts). root d.nodes) c.design.view_is;
       registers = h.registers;
       fired = c.fill.ensures.items (λ y e. e) ∙ ap (λ (k : ℕ). replicate k false) fired ∙ flags_none n;
-      past = c.clear.ensures.stands (register_widths c.args.design.now) (committed walk.state.past) h.past;
+      past = c.clear.ensures.stands (register_widths c.args.design.now) walk.state.past h.past;
       settled = c.fill-2.ensures.items (λ y e. e) ∙ ap (λ (k : ℕ). replicate k false) settled ∙ flags_none n;
     }

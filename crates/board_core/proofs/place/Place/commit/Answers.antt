@@ -7,9 +7,8 @@ use Rattle.typed_core.specs.Widths.{HaveWidths, register_widths}
 use Rattle.typed_core.proofs.Events.{after_fits}
 use Rattle.one_rule.specs.Cycle.{flags, numbers}
 use Rattle.attempt_log.specs.Past.{StandsFor}
-use Rattle.attempt_log.specs.Verdict.{Committed}
-use Rattle.board_core.specs.Board.{committed}
-use Rattle.board_core.proofs.Flags.{committed-push, flags_more, numbers-push, one_left, one_set}
+use Rattle.one_rule.specs.declared.cycle.Fired.{Fired}
+use Rattle.board_core.proofs.Flags.{flags_more, numbers-push, one_left, one_set}
 use Rattle.board_core.proofs.place.Place.commit.Goals as goal
 
 pub take-requires-clause-few : goal.take-requires-clause-few
@@ -42,8 +41,8 @@ returns-clause-at c walk done h =
       at = refl;
       registers = c.apply.ensures ∙ ap₂ after c.events.ensures.events h.registers;
       fired = ap (λ (fs : List Bool). slice_set fs rule true) h.fired ∙ flags_more n (numbers past) rule ∙ ap (flags n) (sym (numbers-push past rule a.run.events));
-      past = subst (λ (fired : List Committed). StandsFor (register_widths a.design) c.take.new.self fired)
-          (ap (λ (r : ℕ). let f : Committed = record { rule = r; events = a.run.events } in committed past ++ f ∷ []) c.requires.rule ∙ sym (committed-push past rule a.run.events))
-          (c.take.ensures.stands (committed past) h.past);
+      past = subst (λ (fired : List Fired). StandsFor (register_widths a.design) c.take.new.self fired)
+          (ap (λ (r : ℕ). let f : Fired = record { rule = r; events = a.run.events } in past ++ f ∷ []) c.requires.rule)
+          (c.take.ensures.stands past h.past);
       settled = ap (λ (fs : List Bool). slice_set fs rule true) h.settled ∙ flags_more n done rule;
     }
