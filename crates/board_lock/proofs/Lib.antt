@@ -1,0 +1,15 @@
+pub mod Histories
+pub mod Sums
+pub mod Own
+pub mod Since
+pub mod Keeps
+pub mod Seats
+pub mod Ends
+pub mod Turns
+pub mod Calls
+pub mod Endings
+pub mod Crossing
+pub mod Works
+pub mod Ranges
+pub mod Nexts
+pub mod Noting

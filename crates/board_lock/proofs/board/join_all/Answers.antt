@@ -1,0 +1,42 @@
+use Rattle.std.proofs.Common.{rules, ◌≡◌, ℕ, ◌+◌, List, [], ◌∷◌, ◌++◌, length, reverse, get_or, sym, refl, ap, ◌∙◌, subst, arith, length-append}
+use Rattle.std.proofs.lemmas.List.{get_or_push, get_or_append_left, reverse-append}
+use Rattle.attempt_log.specs.declared.report.Report.{Report}
+use Rattle.spec_worker.specs.declared.Working.{Working}
+use Rattle.board_lock.specs.declared.seat.LockSeat.{LockSeat}
+use Rattle.board_lock.specs.declared.view.View.{View}
+use Rattle.board_lock.specs.Work.{JoinedFrom}
+use Rattle.board_lock.specs.Work.{HasWorked}
+use Rattle.board_lock.proofs.Works.{join_more, reports_of}
+use Rattle.board_lock.proofs.board.join_all.Goals as goal
+
+pub loop-seat-preserved : goal.loop-seat-preserved
+loop-seat-preserved g c =
+    let W : Type 0 = Working (LockSeat g.row.R.Denot) in
+    let T = c.args.place.now.table_id in
+    let v : View = c.args.place.now.me.0 in
+    let old : List W = c.loop-seat.seats.items in
+    let new : List W = c.pop.new.self.items in
+    let x : W = c.in-Some.field-0 in
+    let k : ℕ = length new in
+    let is : old ≡ new ++ x ∷ [] = c.in-Some.ensures.items in
+    let long : length old ≡ k + 1 = ap (λ (l : List W). length l) is ∙ length-append new (x ∷ []) in
+    let Good : ℕ → W → Type 0 = λ i w. HasWorked c.args.turns T v.part.was v.opened i w.seat.number w.seat.counts.ended w.seat.place.table_id w.seat.place.me.0 w.report in
+    let mine : Good k x = subst (Good k) (ap (λ (l : List W). get_or l k x) is ∙ get_or_push new x x k refl) (c.loop-seat.invariant.each k x (omega (arith, long))) in
+    let place = c.into_place.ensures.place in
+    let rs : List Report = reverse c.loop-seat.reports.items in
+    let w : View = c.loop-seat.place.me.0 in
+    let more : JoinedFrom c.args.turns k (length c.args.seats.items) v _ (x.report ∷ rs) =
+    join_more c.args.turns k (length c.args.seats.items) v w c.into_place.result.me.0 x.report rs (subst (λ (n : ℕ). JoinedFrom c.args.turns n (length c.args.seats.items) v w rs) long c.loop-seat.invariant.joined)
+    (c.into_place.ensures.number ∙ mine.number)
+    (ap (λ p. p.me.0.part.base) place ∙ mine.begun)
+    (reports_of c.args.turns _ _ v.opened k _ _ _ x.seat.place.me.0 c.into_place.result.me.0 x.report mine x.seat.finished (ap (λ p. p.me.0) place))
+    mine.worker in
+    let listed : reverse c.push_reserved.new.self.items ≡ x.report ∷ rs = ap (λ (l : List Report). reverse l) c.push_reserved.ensures.items ∙ reverse-append c.loop-seat.reports.items (x.report ∷ []) in
+    record {
+      table = search rules;
+      carried = search rules;
+      count = search rules;
+      room = search rules;
+      joined = subst (λ (z : View × List Report). JoinedFrom c.args.turns k (length c.args.seats.items) v z.0 z.1) (λ i. ((sym c.join.ensures.joined i).0, sym listed i)) more;
+      each = λ i d in_new. subst (Good i) (ap (λ (l : List W). get_or l i d) is ∙ get_or_append_left new (x ∷ []) d i in_new) (c.loop-seat.invariant.each i d (omega (arith, long, in_new)));
+    }

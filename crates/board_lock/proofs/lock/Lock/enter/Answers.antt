@@ -1,0 +1,12 @@
+use Rattle.std.proofs.Common.{rules, subst}
+use Rattle.board_lock.specs.Plays.{Served}
+use Rattle.board_lock.proofs.Turns.{Sat, holds_board, slot_out}
+use Rattle.board_lock.proofs.lock.Lock.enter.Goals as goal
+
+pub exchange-requires : goal.exchange-requires
+exchange-requires g c = (search rules, slot_out c.draw-ticket.new.place.me c.wait_turn.new.place.me c.wait_turn.ensures.served)
+
+pub returns-clause-holds : goal.returns-clause-holds
+returns-clause-holds g c =
+    let n = c.wait_turn.new.place.me in
+    holds_board c.args.place.now.me n c.exchange.new.seat.me c.exchange.result c.unwrap.result (subst (λ (x : Sat). Served x n) c.draw-ticket.ensures.waits.2 c.wait_turn.ensures.served) c.exchange.ensures.2 c.exchange.ensures.3 c.unwrap.ensures

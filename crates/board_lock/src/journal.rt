@@ -1,0 +1,354 @@
+//! Workers that note their entries, so that the whole history comes out of them.
+ghost use Rattle.std.specs.Prelude.{◌≡◌, ◌∷◌, ◌++◌, ◌≤◌, ◌<◌, ◌^◌, ℕ, true, [], None, Some, IfOk, OnOk, OnErr, length, slice_index_or};
+ghost use Rattle.std.specs.Vec.{vec_capacity};
+ghost use Rattle.kw_bits.specs.Faults.{one_more};
+ghost use Rattle.attempt_log.specs.Attempt.{Attempted};
+ghost use Rattle.attempt_log.specs.Entries.{settle_entry, submit_entry, taken_of, worker_of};
+ghost use Rattle.attempt_log.specs.Seats.{IfJob, gives_job, has_finished, last_task, one_more_if};
+ghost use Rattle.attempt_log.specs.Setting.{FitsItself, IsFor, attempt_of};
+ghost use Rattle.attempt_log.specs.declared.seat.Task.{Task};
+ghost use Rattle.board_core.specs.Board.{setting_of};
+ghost use Rattle.board_core.specs.Candidates.{Chooses};
+ghost use Rattle.board_core.specs.History.{board_after};
+ghost use Rattle.board_lock.specs.Histories.{Each, InRun, IsCycle, StartsWith};
+ghost use Rattle.board_lock.specs.Plays.{IsOutside, IsOwner};
+ghost use Rattle.board_lock.specs.Receipts.{IsCopy, Noting, receipts};
+ghost use Rattle.board_lock.specs.Work.{HasWorked, IsReady, JoinedFrom, SplitBy, Told};
+
+use crate::board::{LockBoard, work_seats};
+use crate::call::{Receipt, taken_of};
+use crate::lock::{Lock, Place};
+use crate::notes::{Note, Notes, merged};
+use crate::seat::LockSeat;
+use attempt_log::{Attempt, BoardSeat, Entry, Gate, JobAnswer, Report, Settled, Submitted};
+use kw_bits::{NoMemory, Sequence};
+use one_rule::Inputs;
+use spec_worker::Working;
+use std::alloc::Global;
+use std::marker::Brand;
+use std::sync::Wait;
+use std::thread::Threads;
+use typed_core::{Events, Outcome};
+
+/// A worker's seat that notes its entries.
+#[derive(Drop)]
+pub struct NotingSeat<'a, R> {
+    seat: LockSeat<'a, R>,
+    pub(crate) notes: Vec<Note>,
+    // Whether there was memory for each note.
+    whole: bool,
+    ghost noted: { whole ≡ true → notes.items ≡ receipts seat.number seat.place.me.0.seen },
+    ghost tasked: { (t : Task) → seat.counts.task ≡ Some t → IsCycle seat.place.me.0.opened t.cycle },
+    ghost in_run: { Each (InRun seat.place.me.0.opened) seat.place.me.0.part.own },
+}
+
+impl<'a, R: Wait> NotingSeat<'a, R> {
+    // A seat that has seen nothing.
+    fn new(alloc: Global, seat: LockSeat<'a, R>) -> NotingSeat<'a, R>
+        requires seen { seat.place.me.0.seen ≡ [] }
+        requires own { seat.place.me.0.part.own ≡ [] }
+        requires task { seat.counts.task ≡ None }
+        ensures place { result.seat.place ≡ seat.entry.place }
+        ensures number { result.seat.number ≡ seat.entry.number }
+    {
+        NotingSeat {
+            seat,
+            notes: Vec::new(alloc),
+            whole: true,
+        }
+    }
+
+    // A job of the board, where there is memory for the notes of a turn.
+    fn ask(&mut self, pick: u64) -> Result<JobAnswer, NoMemory>
+        ensures number { self.new.seat.number ≡ self.old.seat.number }
+        ensures same { self.new.seat.place.table_id ≡ self.old.seat.place.table_id }
+        ensures part { self.new.seat.place.me.0.part ≡ self.old.seat.place.me.0.part }
+        ensures opened { self.new.seat.place.me.0.opened ≡ self.old.seat.place.me.0.opened }
+        ensures task { IfOk result (λ told. self.new.seat.counts.task ≡ last_task self.old.seat.counts.task told) }
+        ensures same_task { OnErr result (self.new.seat.counts.task ≡ self.old.seat.counts.task) }
+        ensures asked { self.new.seat.counts.asked ≡ one_more self.old.seat.counts.asked }
+        ensures given { IfOk result (λ told. self.new.seat.counts.given ≡ one_more_if (gives_job told) self.old.seat.counts.given) }
+        ensures none_given { OnErr result (self.new.seat.counts.given ≡ self.old.seat.counts.given) }
+        ensures ended { IfOk result (λ told. self.new.seat.counts.ended ≡ one_more_if (has_finished told) self.old.seat.counts.ended) }
+        ensures none_ended { OnErr result (self.new.seat.counts.ended ≡ self.old.seat.counts.ended) }
+        ensures answer { let v = self.new.seat.place.me.0 in IfOk result (Chooses v.opened (board_after v.opened v.seen) pick) }
+        ensures fits { IfOk result (λ told. IfJob told FitsItself) }
+        ensures is_for { IfOk result (λ told. IfJob told (λ job. IsFor (setting_of self.old.seat.place.me.0.opened) (attempt_of job))) }
+        ensures seen { StartsWith self.new.seat.place.me.0.seen self.old.seat.place.me.0.seen }
+    {
+        if self.notes.reserve(2).is_err() {
+            self.seat.count_none();
+            return Err(NoMemory);
+        }
+        self.seat.ask(pick)
+    }
+}
+
+impl<'a, R: Wait> BoardSeat for NotingSeat<'a, R> {
+    ghost use Rattle.std.specs.Prelude.{Some, List};
+    ghost use Rattle.atomic_table.specs.Seated.{TableId};
+    ghost use Rattle.attempt_log.specs.declared.entry.Entry.{Entry};
+    ghost use Rattle.board_core.specs.Board.{Opening, setting_of};
+
+    ghost Origin = { TableId × List Entry × Opening };
+
+    ghost origin = { λ s. (s.seat.place.table_id, s.seat.place.me.0.part.base, s.seat.place.me.0.opened) };
+
+    ghost setting = { λ s. Some (setting_of s.seat.place.me.0.opened) };
+
+    ghost seen = { λ s. Some s.seat.place.me.0.seen };
+
+    ghost number = { λ s. s.seat.number };
+
+    ghost task = { λ s. s.seat.counts.task };
+
+    ghost asked = { λ s. s.seat.counts.asked };
+
+    ghost given = { λ s. s.seat.counts.given };
+
+    ghost ended = { λ s. s.seat.counts.ended };
+
+    ghost own = { λ s. Some s.seat.place.me.0.part.own };
+
+    fn job(&mut self, pick: u64) -> Result<JobAnswer, NoMemory> {
+        self.ask(pick)
+    }
+
+    fn submit(&mut self, attempt: Attempt) -> Submitted {
+        let copy = Copied::of(*self.notes.allocator(), &attempt);
+        let (answer, receipt) = self.seat.submit(attempt);
+        self.whole = note_submit(&mut self.notes, self.whole, receipt, copy, &answer);
+        answer
+    }
+
+    fn settle(&mut self) -> Settled {
+        let (answer, receipt) = self.seat.settle();
+        self.whole = note_settle(&mut self.notes, self.whole, receipt, &answer);
+        answer
+    }
+
+    fn worker(&self) -> u32 {
+        self.seat.worker()
+    }
+}
+
+// What an entry keeps of an attempt.
+#[derive(Drop)]
+pub(crate) struct Copied {
+    pub(crate) cycle: u32,
+    pub(crate) rule: u32,
+    pub(crate) inputs: Inputs,
+    pub(crate) events: Events,
+    pub(crate) outcome: Outcome,
+}
+
+impl Copied {
+    fn of(alloc: Global, attempt: &Attempt) -> Result<Copied, NoMemory>
+        ensures { IfOk result (IsCopy attempt.now) }
+    {
+        Ok(Copied {
+            cycle: attempt.cycle(),
+            rule: attempt.rule(),
+            inputs: Sequence::from_slice(alloc, attempt.inputs().as_slice())?,
+            events: Sequence::from_slice(alloc, attempt.events().as_slice())?,
+            outcome: *attempt.outcome(),
+        })
+    }
+}
+
+// Notes a submit after the others, and returns whether all were noted.
+fn note_submit(
+    notes: &mut Vec<Note>,
+    whole: bool,
+    receipt: Receipt,
+    copy: Result<Copied, NoMemory>,
+    answer: &Submitted,
+) -> bool
+    ensures { (a : Attempted) → IfOk copy (IsCopy a) → result ≡ true → (whole ≡ true) × (notes.new.items ≡ notes.old.items ++ record { place = receipt.place; entry = submit_entry receipt.worker a answer.now } ∷ []) }
+{
+    match copy {
+        Err(NoMemory) => false,
+        Ok(
+            Copied {
+                cycle,
+                rule,
+                inputs,
+                events,
+                outcome,
+            },
+        ) => {
+            let entry = Entry::Submit {
+                worker: receipt.worker,
+                cycle,
+                rule,
+                inputs,
+                events,
+                outcome,
+                answer: taken_of(answer),
+            };
+            note(notes, whole, receipt.place, entry)
+        }
+    }
+}
+
+// Notes a settle after the others, and returns whether all were noted.
+fn note_settle(notes: &mut Vec<Note>, whole: bool, receipt: Receipt, answer: &Settled) -> bool
+    ensures { result ≡ true → (whole ≡ true) × (notes.new.items ≡ notes.old.items ++ record { place = receipt.place; entry = settle_entry receipt.worker answer.now } ∷ []) }
+{
+    let entry = Entry::Settle {
+        worker: receipt.worker,
+        answer: *answer,
+    };
+    note(notes, whole, receipt.place, entry)
+}
+
+// Notes an entry after the others, and returns whether all were noted.
+fn note(notes: &mut Vec<Note>, whole: bool, place: u64, entry: Entry) -> bool
+    ensures { result ≡ true → (whole ≡ true) × (notes.new.items ≡ notes.old.items ++ record { place = place; entry = entry } ∷ []) }
+{
+    notes.push(Note { place, entry }).is_ok() && whole
+}
+
+/// What was done, and the entries of the history.
+#[derive(Drop)]
+pub struct Noted {
+    pub reports: Sequence<Report>,
+    pub entries: Sequence<Entry>,
+}
+
+impl LockBoard {
+    /// Has the workers take their turns at a board that has seen nothing, and returns the history that is then seen.
+    pub fn journal_all<R: Threads + Wait + Sync, G: Gate + Sync>(
+        &mut self,
+        rt: &R,
+        alloc: Global,
+        gate: &G,
+        turns: u64,
+    ) -> Result<Noted, NoMemory>
+        requires empty { self.old.place.me.0.seen ≡ [] }
+        requires few { turns ≤ 2 ^ 56 }
+        ensures entries { IfOk result (λ noted. noted.entries ≡ self.new.place.me.0.seen) }
+        ensures workers { IfOk result (λ noted. Each (λ e. worker_of e < self.old.workers) noted.entries) }
+        ensures in_run { IfOk result (λ noted. Each (InRun self.old.place.me.0.opened) noted.entries) }
+        ensures told { IfOk result (λ noted. Told turns self.old.workers self.old.place.me.0 self.new.place.me.0 noted.reports × (length noted.reports ≡ self.old.workers)) }
+        ensures opened { self.new.place.me.0.opened ≡ self.old.place.me.0.opened }
+        ensures same { self.new.workers ≡ self.old.workers }
+    {
+        let count = self.workers as usize;
+        let Ok(mut reports) = Vec::with_capacity(alloc, count) else {
+            return Err(NoMemory);
+        };
+        let Ok(mut lists) = Vec::with_capacity(alloc, count) else {
+            return Err(NoMemory);
+        };
+        let LockBoard {
+            lock,
+            place,
+            workers,
+        } = self;
+        let mut seats = split_noting(rt, alloc, &*lock, place, *workers)?;
+        work_seats(rt, alloc, &mut seats, gate, turns);
+        let whole = join_noting(&*lock, place, seats, &mut reports, &mut lists, turns);
+        lock.learn(place);
+        if !whole {
+            return Err(NoMemory);
+        }
+        let entries = merged(alloc, lists)?;
+        let reports = Sequence::from_vec(reports);
+        Ok(Noted { reports, entries })
+    }
+}
+
+// A seat for each worker, in order of their numbers.
+pub(crate) fn split_noting<'a, R: Wait>(
+    rt: &'a R,
+    alloc: Global,
+    lock: &'a Lock,
+    place: &mut Place,
+    workers: u32,
+) -> Result<Vec<Working<NotingSeat<'a, R>>>, NoMemory>
+    requires table { place.old.table_id ≡ lock.now.table.shared.table_id }
+    requires outside { IsOutside place.old.me }
+    requires own { IsOwner place.old.me.0.part }
+    requires none { place.old.me.0.part.out ≡ 0 }
+    requires few { workers ≤ 64 }
+    requires empty { place.old.me.0.seen ≡ [] }
+    ensures same { place.new.table_id ≡ place.old.table_id }
+    ensures err { OnErr result (place.new.me ≡ place.old.me) }
+    ensures carried { place.new.me.1 ≡ [] }
+    ensures split { OnOk result (SplitBy workers place.old.me.0 place.new.me.0) }
+    ensures count { IfOk result (λ seats. length seats.items ≡ workers) }
+    ensures each { IfOk result (λ seats. (i : ℕ) (d : _) → i < workers → IsReady place.old.table_id place.old.me.0.seen place.old.me.0.opened i (slice_index_or seats.items i d).seat.seat.number (slice_index_or seats.items i d).seat.seat.place.table_id (slice_index_or seats.items i d).seat.seat.place.me.0) }
+{
+    let Ok(mut seats) = Vec::with_capacity(alloc, workers as usize) else {
+        return Err(NoMemory);
+    };
+    for number in 0..workers {
+        let part = lock.split(place);
+        let seat = NotingSeat::new(alloc, LockSeat::new(rt, lock, part, number));
+        seats.push_reserved(Working {
+            seat,
+            report: Report::new(number),
+        });
+    }
+    Ok(seats)
+}
+
+// Takes the seats back, puts their reports and notes in order, and returns whether the notes are whole.
+fn join_noting<R: Wait>(
+    lock: &Lock,
+    place: &mut Place,
+    mut seats: Vec<Working<NotingSeat<'_, R>>>,
+    reports: &mut Vec<Report>,
+    lists: &mut Vec<Notes>,
+    turns: u64,
+) -> bool
+    requires table { place.old.table_id ≡ lock.now.table.shared.table_id }
+    requires carried { place.old.me.1 ≡ [] }
+    requires outside { IsOutside place.old.me }
+    requires own { IsOwner place.old.me.0.part }
+    requires out { place.old.me.0.part.out ≡ length seats.items }
+    requires top { place.old.me.0.part.top ≡ length seats.items }
+    requires none { place.old.me.0.part.dones ≡ [] }
+    requires each { (i : ℕ) (d : _) → i < length seats.items → HasWorked turns place.old.table_id place.old.me.0.part.was place.old.me.0.opened i (slice_index_or seats.items i d).seat.seat.number (slice_index_or seats.items i d).seat.seat.counts.ended (slice_index_or seats.items i d).seat.seat.place.table_id (slice_index_or seats.items i d).seat.seat.place.me.0 (slice_index_or seats.items i d).report }
+    requires empty { reports.old.items ≡ [] }
+    requires room { length seats.items ≤ vec_capacity reports.old }
+    requires no_list { lists.old.items ≡ [] }
+    requires lists_room { length seats.items ≤ vec_capacity lists.old }
+    ensures same { place.new.table_id ≡ place.old.table_id }
+    ensures carried { place.new.me.1 ≡ [] }
+    ensures count { length reports.new.items ≡ length seats.entry.items }
+    ensures lists_count { length lists.new.items ≡ length seats.entry.items }
+    ensures joined { JoinedFrom turns 0 (length seats.entry.items) place.old.me.0 place.new.me.0 reports.new.items }
+    ensures noting { result ≡ true → Noting place.old.me.0.opened 0 lists.new.items place.new.me.0.part.dones }
+{
+    let _turns = turns;
+    let mut whole = true;
+    while let Some(
+        Working {
+            seat: noting,
+            report,
+        },
+    ) = seats.pop()
+    {
+        let NotingSeat {
+            seat,
+            notes,
+            whole: noted,
+        } = noting;
+        whole = is_whole(whole, noted);
+        lock.join::<Brand>(place, seat.into_place());
+        reports.push_reserved(report);
+        lists.push_reserved(Notes::from_vec(notes));
+    }
+    reports.reverse();
+    lists.reverse();
+    whole
+}
+
+// Whether all notes so far are there, and these too.
+fn is_whole(so_far: bool, noted: bool) -> bool
+    ensures { result ≡ true → (so_far ≡ true) × (noted ≡ true) }
+{
+    so_far && noted
+}

@@ -1,0 +1,27 @@
+//! A board behind a lock of atomic words, with a receipt for each event.
+//!
+//! The lock has three words, the ticket, the number that is served and the count, and one slot with the board.
+//! `specs/Rule.antt` says what always holds of it: there is one legal history, and the board that is at home is the one
+//! that it leaves. `specs/Plays.antt` says what each step shows, `specs/Work.antt` what is known after workers have
+//! worked. `specs/Notes.antt` and `specs/Receipts.antt` say what workers note of a history.
+#![tactic(auto)]
+
+mod board;
+mod call;
+mod journal;
+mod lock;
+mod notes;
+mod plays;
+mod seat;
+mod view;
+
+pub use board::LockBoard;
+pub use call::Receipt;
+pub use journal::Noted;
+pub use lock::Lock;
+pub use notes::Note;
+pub use seat::LockSeat;
+pub use view::{Done, Opened, Part, Stage, View};
+
+#[cfg(test)]
+mod tests;
