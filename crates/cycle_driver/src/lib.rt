@@ -1,0 +1,11 @@
+//! Runs that workers make: the driver begins a core, hands it to a board that workers share, and finishes by itself
+//! what they left.
+//!
+//! Its contracts cite the run of `one_rule` (specs/Run.antt). `specs/Heads.antt` says at which boards it does the job
+//! of the head itself. No command calls it yet.
+#![tactic(auto)]
+
+mod finish;
+mod runs;
+
+pub use runs::{run_batch, run_threaded};
