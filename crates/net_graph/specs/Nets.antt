@@ -1,5 +1,5 @@
--- Nets: lists of operators on nodes, each node the number of an earlier operator. What an operator may stand on, and the
--- widths that nodes have one after another.
+-- Nets: lists of operators on nodes, each node the number of an earlier operator. What operands an operator may have,
+-- and the widths that nodes have one after another.
 use Rattle.std.specs.Prelude.{◌≡◌, ◌≢◌, ℕ, ◌+◌, ◌-◌, ◌<◌, ◌≤◌, List, [], ◌∷◌, ◌++◌, length, Some, slice_get, slice_index_or, All, AllPairs, Contains}
 use Rattle.kw_bits.specs.BitVector.{IsBits}
 use Rattle.net_graph.specs.Operators.{one_width, two_width, TakesTwo}
@@ -22,7 +22,7 @@ op_width widths (Uext a added) = width_at widths a + added
 op_width widths (Sext a added) = width_at widths a + added
 op_width widths (Ite condition a b) = width_at widths a
 
--- whether an operator may stand over nodes of these widths: its operands are among them, and widths and bounds are right
+-- whether an operator may be over nodes of these widths: its operands are among them, and widths and bounds are right
 abbrev pub Stands : List ℕ → NetOp → Type 0
 Stands widths (Const value) = Unit {0}
 Stands widths (Input number width) = (1 ≤ width) × (width ≤ 128)
@@ -43,7 +43,7 @@ one_by_one item before (op ∷ ops) = one_by_one item (before ++ item before op 
 abbrev pub widths_of : List NetOp → List ℕ
 widths_of ops = one_by_one op_width [] ops
 
--- each operator stands over the nodes before it, after nodes of these widths
+-- each operator is over the nodes before it, after nodes of these widths
 abbrev pub AllStand : List ℕ → List NetOp → Type 0
 AllStand before [] = Unit {0}
 AllStand before (op ∷ ops) = Stands before op × AllStand (before ++ op_width before op ∷ []) ops
@@ -53,7 +53,7 @@ abbrev pub HoldsBits : NetOp → Type 0
 HoldsBits (Const value) = IsBits value
 HoldsBits _ = Unit {0}
 
--- a net's operators stand one after another, and no two of them are equal
+-- a net's operators come one after another, and no two of them are equal
 pub record IsNet (ops : List NetOp) : Type 0 where
   pub stand : AllStand [] ops
   pub constants : All HoldsBits ops

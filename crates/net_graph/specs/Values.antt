@@ -13,7 +13,7 @@ pub record Sources : Type 0 where
   pub inputs : List BitVector
   pub states : List BitVector
 
--- what stands where there is no node: no bits at all
+-- what is used where there is no node: no bits at all
 abbrev pub no_bits : BitVector
 no_bits = record { width = 0; number = 0 }
 

@@ -1,3 +1,5 @@
+//! Circuits: the values of a net's nodes for given inputs and states.
+
 ghost use Rattle.std.specs.Prelude.{◌≡◌, length};
 ghost use Rattle.net_graph.specs.Nets.{Stands};
 ghost use Rattle.net_graph.specs.Laws.{Feeds};

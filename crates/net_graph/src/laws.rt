@@ -1,3 +1,5 @@
+//! Circuits: the laws of every net. They are proved, and compute nothing.
+
 // Each law of the values of nodes is the contract of a function that does nothing.
 ghost use Rattle.net_graph.specs.Laws as law;
 

@@ -1,9 +1,9 @@
 //! Nets: nodes that are shared, each an operator on nodes before it, and their values.
 //!
 //! Contracts see a `Net` as the list of its operators. They cite the operators' formulas in `specs/Operators.antt`,
-//! where an operator may stand in `specs/Nets.antt`, and the values of a net's nodes in `specs/Values.antt`. What holds
-//! of every net is in `specs/Laws.antt`. `net_action` and `net_sched` make nets of rules and designs, `net_simplify` and `btor2_net`
-//! of circuits and texts, and `circuit_eval` evaluates them.
+//! where an operator may be in `specs/Nets.antt`, and the values of a net's nodes in `specs/Values.antt`. What holds
+//! of every net is in `specs/Laws.antt`. `net_action` and `net_sched` make nets of rules and designs, `net_simplify`
+//! and `btor2_net` of circuits and texts, and `circuit_eval` evaluates them.
 #![tactic(auto)]
 
 mod evaluation;

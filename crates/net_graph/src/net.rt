@@ -1,3 +1,5 @@
+//! Circuits: nets, to which an operator is added once.
+
 ghost use Rattle.std.specs.Prelude.{◌≡◌, ◌<◌, ◌≤◌, ◌↔◌, length, [], IfOk, IsTrue, OnErr};
 ghost use Rattle.net_graph.specs.Nets.{Adds, IsNet, Stands, width_at, widths_of};
 
@@ -28,7 +30,7 @@ impl Model for Net {
 }
 
 impl Net {
-    /// No nodes, which takes no memory.
+    /// No nodes, which allocates nothing.
     pub fn new(alloc: Global) -> Net
         ensures { result ≡ [] }
     {
@@ -38,7 +40,7 @@ impl Net {
         }
     }
 
-    /// The node of an operator, which goes last unless it stands already. An `Err` leaves the net as it was.
+    /// The node of an operator, which goes last unless it is there already. An `Err` leaves the net as it was.
     pub fn add(&mut self, op: NetOp) -> Result<NetId, NoMemory>
         requires { Stands (widths_of self.old) op }
         ensures net { IsNet self.new }
@@ -59,7 +61,7 @@ impl Net {
         }
     }
 
-    /// Whether an operator may be added: its operands stand, and widths and bounds are right.
+    /// Whether an operator may be added: its operands exist, and widths and bounds are right.
     pub fn can_add(&self, op: &NetOp) -> bool
         ensures { IsTrue result ↔ Stands (widths_of self.now) op.now }
     {

@@ -1,6 +1,8 @@
+//! Circuits: the operators of nodes.
+
 use kw_bits::{Bits, Same};
 
-/// A node's number: how many nodes stand before it.
+/// A node's number: how many nodes come before it.
 pub type NetId = u64;
 
 /// An operator on one node.

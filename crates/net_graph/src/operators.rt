@@ -1,3 +1,5 @@
+//! Circuits: the operators of nodes on values.
+
 // The value of each operator, by those of bit vectors.
 ghost use Rattle.std.specs.Prelude.{◌≡◌, ◌+◌, ◌≤◌};
 ghost use Rattle.net_graph.specs.Operators.{one_at, one_value, two_value, uext_value, sext_value, ite_value, TakesTwo};

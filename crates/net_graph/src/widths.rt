@@ -1,4 +1,5 @@
-// The widths of operators over nodes of known widths, and whether they may stand there.
+//! Circuits: the widths of operators over nodes of known widths, and whether they may be there.
+
 ghost use Rattle.std.specs.Prelude.{◌≡◌, ◌<◌, ◌↔◌, IsTrue, length};
 ghost use Rattle.net_graph.specs.Nets.{HoldsBits, op_width, Stands};
 ghost use Rattle.net_graph.specs.Operators.{one_width, two_width, TakesTwo};
@@ -55,7 +56,7 @@ fn two_width(operator: NetTwo, a: u32, b: u32) -> u32
     }
 }
 
-// Whether an operator may stand after nodes of these widths.
+// Whether an operator may come after nodes of these widths.
 pub(crate) fn stands(op: &NetOp, widths: &[u32]) -> bool
     ensures { IsTrue result ↔ Stands widths.now op.now }
 {
