@@ -1,5 +1,5 @@
 -- A circuit at a moment between two steps, and its rows from there on.
-use Rattle.std.specs.Prelude.{ℕ, zero, suc, ◌+◌, ◌-◌, List, ◌∷◌}
+use Rattle.std.specs.Prelude.{◌≡◌, ◌≤◌, ℕ, zero, suc, ◌+◌, ◌-◌, List, ◌∷◌}
 use Rattle.kw_bits.specs.BitVector.{BitVector}
 use Rattle.net_graph.specs.Nets.{widths_of}
 use Rattle.circuit_eval.specs.declared.circuit.Wires.{Wires}
@@ -23,12 +23,16 @@ after_step s inputs =
     let values : List BitVector = values_in s.circuit inputs s.states in
     record { circuit = s.circuit; states = next_states s.circuit.states values; outputs = outputs_in s.circuit.outputs values }
 
--- after so many steps more, behind the last cycle so far
+-- after that many steps more, after the last cycle so far
 unfoldable pub after_steps : InputsByCycle → (count last : ℕ) → Simulation → Simulation
 after_steps inputs zero last s = s
 after_steps inputs (suc count) last s = after_steps inputs count (last + 1) (after_step s (inputs (last + 1)))
 
--- the row of a moment, and those of the cycles from one to another behind it
+-- some of that many steps were made, from the first on
+abbrev pub MadeSome : InputsByCycle → (count last : ℕ) → Simulation → Simulation → Type 0
+MadeSome inputs count last old new = (made : ℕ) × (made ≤ count) × (new ≡ after_steps inputs made last old)
+
+-- the row of a moment, and those of the cycles from one to another after it
 abbrev pub row_at : Simulation → Row
 row_at s = record { regs = s.states; fired = flags s.outputs }
 

@@ -1,3 +1,5 @@
+//! Circuits: states, inputs and outputs over a net, valid by their type.
+
 ghost use Rattle.std.specs.Prelude.{◌≡◌, ◌↔◌, IsSome, IfSome};
 
 use crate::validity::is_circuit;

@@ -1,8 +1,10 @@
-ghost use Rattle.std.specs.Prelude.{◌≡◌, ◌≤◌, ◌-◌, IfOk, OnOk};
+//! Circuits: the rows of a circuit's run.
+
+ghost use Rattle.std.specs.Prelude.{◌≡◌, ◌≤◌, ◌-◌, IfOk, OnErr, OnOk};
 ghost use Rattle.one_rule.specs.Stimulus.{inputs_of};
 ghost use Rattle.circuit_eval.specs.Circuits.{input_widths};
 ghost use Rattle.circuit_eval.specs.Run.{flags, run_of};
-ghost use Rattle.circuit_eval.specs.Simulations.{after_steps, row_at, rows_from};
+ghost use Rattle.circuit_eval.specs.Simulations.{MadeSome, after_steps, row_at, rows_from};
 
 use crate::circuit::Circuit;
 use crate::sim::Sim;
@@ -24,8 +26,9 @@ pub fn run_circuit(
     run_on(alloc, &mut sim, stimulus, 0, n)
 }
 
-/// The row of a moment behind cycle `from` of a run, and those of the cycles from there to `to`. The simulator then stands
-/// behind the last of them, so a run can be made in parts. The stimulus is for the circuit's inputs.
+/// The row of a moment after cycle `from` of a run, and those of the cycles from there to `to`. The simulator is then after
+/// the last of them, so a run can be made in parts. On an error it has made some of the steps, from the first on. The stimulus
+/// is for the circuit's inputs.
 pub fn run_on(
     alloc: Global,
     sim: &mut Sim,
@@ -37,6 +40,7 @@ pub fn run_on(
     requires widths { stimulus.now.widths ≡ input_widths sim.old.circuit.inputs }
     ensures rows { IfOk result (λ rows. rows ≡ rows_from sim.old (inputs_of stimulus.now) from to) }
     ensures sim { OnOk result (sim.new ≡ after_steps (inputs_of stimulus.now) (to - from) from sim.old) }
+    ensures short { OnErr result (MadeSome (inputs_of stimulus.now) (to - from) from sim.old sim.new) }
 {
     let mut rows = Rows::new(alloc);
     rows.push(row_of(alloc, sim)?)?;

@@ -1,3 +1,5 @@
+//! Circuits: a simulator that goes step by step.
+
 ghost use Rattle.std.specs.Prelude.{◌≡◌, ◌<◌, IfOk, length, All};
 ghost use Rattle.net_graph.specs.Nets.{widths_of};
 ghost use Rattle.circuit_eval.specs.Circuits.{AreBits, input_widths, IsOutput, state_widths};

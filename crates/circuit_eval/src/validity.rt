@@ -1,3 +1,5 @@
+//! Circuits: the check that wires make a circuit.
+
 // Whether wires make a circuit.
 ghost use Rattle.std.specs.Prelude.{◌↔◌, All, IsTrue};
 ghost use Rattle.circuit_eval.specs.Circuits.{input_widths, IsCircuit, IsInput, IsOutput, IsState, state_widths};
