@@ -15,7 +15,7 @@ use Rattle.typed_core.specs.declared.limits.TheConstants.{PORTS}
 use Rattle.typed_core.specs.declared.outcome.Stopped.{Stopped}
 use Rattle.typed_core.specs.declared.outcome.Stopped.TheVariants.{Refused}
 use Rattle.rule_log.specs.StandsFor.{Tells, is_access}
-use Rattle.rule_log.proofs.Telling.{no_reads, no_writes, seen_more, tells_both, tells_one, unrefused}
+use Rattle.rule_log.proofs.Telling.{NoneSet, read_refused, refused_by_flags, seen_more, tells_both, tells_one}
 use Rattle.one_rule.specs.PortRun.{read_behind, write_behind}
 use Rattle.net_graph.specs.Values.{value_at}
 use Rattle.net_graph.specs.declared.node.NetOp.{NetOp}
@@ -37,12 +37,6 @@ and_true false b e = refl
 and_false : (a b : Bool) → b ≡ false → (a && b) ≡ false
 and_false true b e = e
 and_false false b e = refl
-
-pub same_by_false : (a b : Bool) → (a ≡ false → b ≡ false) → (b ≡ false → a ≡ false) → a ≡ b
-same_by_false true true f g = refl
-same_by_false false false f g = refl
-same_by_false true false f g = g refl
-same_by_false false true f g = sym (f refl)
 
 -- ---- a wire in the place of another
 
@@ -113,29 +107,13 @@ write_put net widths log port register width writes kept flag value p declared a
 -- ---- what is refused, and what is seen
 
 module _ (widths : List ℕ) (set : Bool → ℕ → ℕ → Bool) (wr : ℕ → ℕ → BitVector) (events : List Event) (tells : Tells widths set wr events) (register : ℕ) (within : register < length widths) where
-  abbrev pub NoneSet : Bool → (ℕ → Type 0) → Type 0
-  NoneSet write At = (at : ℕ) → At at → IsPort at → set write at register ≡ false
+  pub read_up : (port : ℕ) (up : Bool) → ((up ≡ false) ↔ NoneSet (λ write at. set write at register) true (λ at. port ≤ at)) → up ≡ is_refused events (record { write = false; port = port; register = register })
+  read_up port up is = read_refused widths set wr events tells port register within (λ write at. set write at register) (λ write at. refl) up is
 
-  pub read_refused : (port : ℕ) (up : Bool) → ((up ≡ false) ↔ NoneSet true (λ at. port ≤ at)) → up ≡ is_refused events (record { write = false; port = port; register = register })
-  read_refused port up is =
-      let a : Access = record { write = false; port = port; register = register } in
-      same_by_false up (is_refused events a)
-      (λ h. unrefused widths a events tells.fit (λ at above p. sym (tells.flags true at register p within) ∙ is.0 h at above p) (λ w. absurd cc))
-      (λ h. is.1 (λ at above p. tells.flags true at register p within ∙ no_writes a events h at above p))
-
-  pub write_refused : (port : ℕ) (up writes reads : Bool) → up ≡ (writes || reads) → ((writes ≡ false) ↔ NoneSet true (λ at. port ≤ at)) → ((reads ≡ false) ↔ NoneSet false (λ at. port < at))
-      → up ≡ is_refused events (record { write = true; port = port; register = register })
-  write_refused port up writes reads e w r =
-      let a : Access = record { write = true; port = port; register = register } in
-      same_by_false up (is_refused events a)
-      (λ h.
-      let parts = or_parts writes reads (sym e ∙ h) in
-      unrefused widths a events tells.fit
-      (λ at above p. sym (tells.flags true at register p within) ∙ w.0 parts.0 at above p)
-      (λ is at above p. sym (tells.flags false at register p within) ∙ r.0 parts.1 at above p))
-      (λ h. e ∙ or_from writes reads
-      (w.1 (λ at above p. tells.flags true at register p within ∙ no_writes a events h at above p))
-      (r.1 (λ at above p. tells.flags false at register p within ∙ no_reads a events refl h at above p)))
+  pub write_up : (port : ℕ) (up writes reads : Bool) → up ≡ (writes || reads) → ((writes ≡ false) ↔ NoneSet (λ write at. set write at register) true (λ at. port ≤ at))
+      → ((reads ≡ false) ↔ NoneSet (λ write at. set write at register) false (λ at. port < at)) → up ≡ is_refused events (record { write = true; port = port; register = register })
+  write_up port up writes reads e w r =
+      e ∙ refused_by_flags widths set wr events tells (record { write = true; port = port; register = register }) within (λ write at. set write at register) (λ write at. refl) writes reads w (λ h. r)
 
   pub seen_next : (port next : ℕ) (start : BitVector) → next ≡ suc port → IsPort port → seen next register events start ≡ (if set true port register then wr port register else seen port register events start)
   seen_next port next start e p =

@@ -5,7 +5,7 @@ use Rattle.net_graph.specs.Values.{AllRead, Sources, value_at}
 use Rattle.net_graph.specs.declared.node.NetOp.{NetOp}
 use Rattle.net_action.specs.Wires.{AreValues, is_up}
 
--- nodes were added behind those of a net, which read only inputs of these widths and no states
+-- nodes were added after those of a net, which read only inputs of these widths and no states
 pub record Grows (inputs : List ℕ) (old new : List NetOp) : Type 0 where
   pub more : (nodes : List NetOp) × (new ≡ old ++ nodes)
   pub reads : (states : List ℕ) → AllRead inputs states old → AllRead inputs states new

@@ -59,13 +59,13 @@ pub record SameLog (widths : List ℕ) (values : List BitVector) (old new : LogW
   pub flags : (write : Bool) (port register : ℕ) → IsPort port → register < length widths → is_set values new write port register ≡ is_set values old write port register
   pub value : (port register : ℕ) → IsPort port → register < length widths → written values new port register ≡ written values old port register
 
--- where the rule runs on, it came to the value of the wire, and the wires stand for the events
+-- where the rule runs on, it evaluated to the value of the wire, and the wires stand for the events
 abbrev pub ComesTo : List ℕ → List BitVector → RuleNet → Option ℕ → List Event → Ending BitVector Stopped → Type 0
 ComesTo widths values run wire events (Value value) = (is_up values run.fires ≡ true) × LogStandsFor widths values run.log events × (value ≡ wire_value values wire)
 ComesTo widths values run wire events (Stop cause) = is_up values run.fires ≡ false
 
--- The wires of a part: where the rule runs before it, they have what the part comes to, and where it doesn't run, it
--- doesn't run afterwards and the log stays.
+-- The wires of a part: where the rule runs before it, they have what the part evaluates to, and where it doesn't run,
+-- it doesn't run afterwards and the log stays.
 pub record Means (widths : List ℕ) (values : List BitVector) (old new : RuleNet) (wire : Option ℕ) (part : Part BitVector Stopped) : Type 0 where
   pub runs : (events : List Event) → is_up values old.fires ≡ true → LogStandsFor widths values old.log events
       → ComesTo widths values new wire (part events).events (part events).ending
@@ -79,11 +79,11 @@ environment_in d s = record { externs = d.externs; inputs = s.inputs }
 abbrev pub CanBe : (List ℕ → ℕ → Type 0) → List NetOp → List ℕ → Type 0
 CanBe has_width net locals = (widths : List ℕ) × (width : ℕ) × HaveWires net widths locals × has_width widths width
 
--- the same of an operand, which comes to a value
+-- the same of an operand, which has a value
 abbrev pub CanBeOperand : Declarations → List NetOp → Action → List ℕ → Type 0
 CanBeOperand d net part locals = (widths : List ℕ) × (width : ℕ) × HaveWires net widths locals × ActionHasWidth d part widths width × (1 ≤ width)
 
--- what something comes to, by what it is evaluated in
+-- what something evaluates to, by what it is evaluated in
 abbrev pub Meaning : Type 0
 Meaning = Environment → Ports Stopped → List BitVector → Part BitVector Stopped
 

@@ -1,5 +1,6 @@
--- What the wires of a net stand for: logs, what a rule runs behind, and a rule, after the checks of Kôika's logs
--- (Bourgeat et al., PLDI 2020). Under some inputs and states each wire has a value; a wire of one bit is up where it is 1.
+-- What the wires of a net stand for: logs, what a rule runs after, and a rule, after the checks of Kôika's logs
+-- (Bourgeat et al., PLDI 2020). Under some inputs and states each wire has a value; a wire of one bit is up where it
+-- is 1.
 use Rattle.std.specs.Prelude.{◌≡◌, ℕ, ◌+◌, ◌*◌, ◌≤◌, ◌<◌, Bool, true, false, List, length, Some, nat_eq, slice_get, slice_index_or}
 use Rattle.kw_bits.specs.BitVector.{BitVector}
 use Rattle.kw_bits.specs.Laws.{HasWidth}
@@ -52,7 +53,7 @@ pub record PortsStandFor (widths : List ℕ) (values : List BitVector) (ports : 
   pub start : (register : ℕ) → register < length widths → value_at values (slice_index_or ports.start register 0) ≡ slice_index_or regs register unit
   pub log : LogStandsFor widths values ports.log events
 
--- the rule fires exactly where it comes to its end, and then its wires stand for its events
+-- the rule fires exactly where it reaches its end, and then its wires stand for its events
 abbrev pub EndsAs : List ℕ → List BitVector → RuleNet → List Event → Ending BitVector Stopped → Type 0
 EndsAs widths values rule events (Value value) = (is_up values rule.fires ≡ true) × LogStandsFor widths values rule.log events
 EndsAs widths values rule events (Stop cause) = is_up values rule.fires ≡ false

@@ -1,3 +1,5 @@
+//! Circuits: gates of one bit, and choices.
+
 // Gates: operators on single bits, and the choice between two wires of one width.
 ghost use Rattle.std.specs.Prelude.{◌≡◌, ◌&&◌, ◌||◌, ℕ, List, IfOk, Some, not, slice_get, if◌then◌else◌};
 ghost use Rattle.net_graph.specs.Nets.{Stands, op_width, widths_of};

@@ -1,3 +1,5 @@
+//! Circuits: a law of the values of nets.
+
 // A law of values of nets is the contract of a function that does nothing.
 ghost use Rattle.std.specs.Prelude.{◌++◌, List};
 ghost use Rattle.net_graph.specs.Laws.{Feeds};

@@ -1,3 +1,5 @@
+//! Circuits: tables and host functions as trees of choices.
+
 // What a table or a host function answers, as a balanced tree of choices by the bits of its input.
 ghost use Rattle.std.specs.Prelude.{◌≡◌, ◌+◌, ◌*◌, ◌/◌, ◌^◌, ◌<◌, ◌≤◌, ℕ, List, IfOk, All};
 ghost use Rattle.typed_core.specs.Valid.{IsHost, IsTable};
@@ -14,7 +16,7 @@ use net_graph::{Net, NetId};
 use one_rule::Outside;
 
 /// A table or a host function, by its number.
-#[derive(Clone, Copy, Debug)]
+#[derive(Clone, Copy)]
 pub(crate) enum Asked {
     Table(u32),
     Host(u32),

@@ -1,3 +1,5 @@
+//! Circuits: operations with one operand.
+
 // Operations on one operand.
 ghost use Rattle.std.specs.Prelude.{◌≡◌, ℕ, List, IfOk};
 ghost use Rattle.net_graph.specs.Values.{value_at};
@@ -14,7 +16,7 @@ use one_rule::Outside;
 use typed_core::{Design, OneOp};
 
 /// What an action does with one operand.
-#[derive(Clone, Copy, Debug)]
+#[derive(Clone, Copy)]
 pub(crate) enum Operation {
     One(OneOp),
     /// The upper bound and the lower.

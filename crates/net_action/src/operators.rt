@@ -1,3 +1,5 @@
+//! Circuits: the operators of actions on wires.
+
 // The operators of actions on wires.
 ghost use Rattle.std.specs.Prelude.{◌≡◌, ◌≤◌, ◌<◌, ◌-◌, ◌+◌, ℕ, List, IfOk, Some, slice_get};
 ghost use Rattle.kw_bits.specs.BitVector.{BitVector};

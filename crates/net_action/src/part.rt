@@ -1,3 +1,5 @@
+//! Circuits: the parts of a rule's body as wires.
+
 // The parts of a rule's body as wires.
 ghost use Rattle.std.specs.Prelude.{◌≡◌, ℕ, List, IfOk, None, Some, if◌then◌else◌};
 ghost use Rattle.kw_bits.specs.BitVector.{BitVector};
@@ -27,7 +29,7 @@ pub(crate) struct Context<'a, E> {
     pub(crate) ports: &'a PortWires,
 }
 
-/// A wire with what an action comes to, if it comes to a value, where the rule still runs and the names that are bound
+/// A wire with what an action evaluates to, if it has a value, where the rule still runs and the names that are bound
 /// round it have the values of these wires.
 #[cycle(part)]
 pub(crate) fn part<E: Outside>(
@@ -57,61 +59,38 @@ pub(crate) fn part<E: Outside>(
             Ok(Some(given))
         }
         Action::One(operator, a) => {
-            let one = unary(context, net, run, Operation::One(*operator), a, locals)?;
-            Ok(one)
+            unary(context, net, run, Operation::One(*operator), a, locals)
         }
-        Action::Two(operator, a, b) => {
-            let joined = binary(context, net, run, *operator, a, b, locals)?;
-            Ok(joined)
-        }
-        Action::Slice(a, upper, lower) => {
-            let cut = unary(
-                context,
-                net,
-                run,
-                Operation::Slice(*upper, *lower),
-                a,
-                locals,
-            )?;
-            Ok(cut)
-        }
-        Action::Zext(a, width) => {
-            let wide = unary(context, net, run, Operation::Zext(*width), a, locals)?;
-            Ok(wide)
-        }
-        Action::Sext(a, width) => {
-            let signed = unary(context, net, run, Operation::Sext(*width), a, locals)?;
-            Ok(signed)
-        }
+        Action::Two(operator, a, b) => binary(context, net, run, *operator, a, b, locals),
+        Action::Slice(a, upper, lower) => unary(
+            context,
+            net,
+            run,
+            Operation::Slice(*upper, *lower),
+            a,
+            locals,
+        ),
+        Action::Zext(a, width) => unary(context, net, run, Operation::Zext(*width), a, locals),
+        Action::Sext(a, width) => unary(context, net, run, Operation::Sext(*width), a, locals),
         Action::Table(table, a) => {
             let asked = Asked::Table(*table);
-            let entry = unary(context, net, run, Operation::Ask(asked), a, locals)?;
-            Ok(entry)
+            unary(context, net, run, Operation::Ask(asked), a, locals)
         }
         Action::Host(host, a) => {
             let asked = Asked::Host(*host);
-            let told = unary(context, net, run, Operation::Ask(asked), a, locals)?;
-            Ok(told)
+            unary(context, net, run, Operation::Ask(asked), a, locals)
         }
-        Action::Let(value, body) => {
-            let inside = bound(context, net, run, value, body, locals)?;
-            Ok(inside)
-        }
+        Action::Let(value, body) => bound(context, net, run, value, body, locals),
         Action::If(condition, first, second) => {
-            let taken = conditional(context, net, run, condition, first, second, locals)?;
-            Ok(taken)
+            conditional(context, net, run, condition, first, second, locals)
         }
-        Action::Seq(first, second) => {
-            let last = sequence(context, net, run, first, second, locals)?;
-            Ok(last)
-        }
+        Action::Seq(first, second) => sequence(context, net, run, first, second, locals),
         Action::Read(port, register) => {
             let seen = read(context.design, context.ports, net, run, *port, *register)?;
             Ok(Some(seen))
         }
         Action::Write(port, register, a) => {
-            let none = written(context, net, run, *port, *register, a, locals)?;
-            Ok(none)
+            written(context, net, run, *port, *register, a, locals)
         }
         Action::Abort => {
             let never = constant(net, Bits::zero(1))?;
@@ -121,7 +100,7 @@ pub(crate) fn part<E: Outside>(
     }
 }
 
-// A wire with the value of an action that comes to one.
+// A wire with the value of an action that has one.
 #[cycle(part)]
 fn operand<E: Outside>(
     context: &Context<E>,
@@ -213,8 +192,7 @@ fn bound<E: Outside>(
 {
     let x = operand(context, net, run, value, locals)?;
     let inner = Scope::bind(x, &*locals);
-    let wire = part(context, net, run, body, &inner)?;
-    Ok(wire)
+    part(context, net, run, body, &inner)
 }
 
 // One action after another.
@@ -236,8 +214,7 @@ fn sequence<E: Outside>(
     ensures part { IfOk result (λ wire. IsMade (declarations context.now.design.now) context.now.ports.now net.old run.old (SequenceHasWidth (declarations context.now.design.now) first.now second.now) (sequence_of first.now second.now) locals.now net.new run.new wire) }
 {
     let _dropped = part(context, net, run, first, locals)?;
-    let wire = part(context, net, run, second, locals)?;
-    Ok(wire)
+    part(context, net, run, second, locals)
 }
 
 // A write of a value.
@@ -306,7 +283,7 @@ fn conditional<E: Outside>(
     Ok(wire)
 }
 
-// A wire with the value of the arm that is taken, where the arms come to values.
+// A wire with the value of the arm that is taken, where the arms have values.
 fn chosen(
     net: &mut Net,
     condition: NetId,

@@ -1,3 +1,5 @@
+//! Circuits: reads and writes at ports as wires.
+
 // Reads and writes at ports as wires. What isn't refused is noted where the rule still runs.
 ghost use Rattle.std.specs.Prelude.{◌≡◌, ◌+◌, ◌*◌, ◌||◌, ◌<◌, ◌≤◌, ◌↔◌, ℕ, List, false, true, IfOk, Some, length, slice_get, slice_index_or, None, if◌then◌else◌};
 ghost use Rattle.kw_bits.specs.BitVector.{BitVector};
@@ -21,7 +23,7 @@ use net_graph::{Net, NetId};
 use typed_core::Design;
 use typed_core::limits::PORTS;
 
-/// A wire with what a read of a register at a port comes to. The rule runs on where it isn't refused.
+/// A wire with what a read of a register at a port evaluates to. The rule runs on where it isn't refused.
 pub(crate) fn read(
     design: &Design,
     ports: &PortWires,
@@ -174,7 +176,7 @@ fn refuses_write(
     Ok(refused)
 }
 
-// A wire with what a read sees behind the scheduler log and the rule log.
+// A wire with what a read sees after the scheduler log and the rule log.
 fn seen(
     design: &Design,
     net: &mut Net,

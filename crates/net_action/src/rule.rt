@@ -1,3 +1,5 @@
+//! Circuits: a whole rule as wires.
+
 ghost use Rattle.std.specs.Prelude.{◌≡◌, ◌<◌, ℕ, List, true, [], IfOk, length, replicate, slice_get};
 ghost use Rattle.kw_bits.specs.BitVector.{BitVector};
 ghost use Rattle.net_graph.specs.Values.{Sources};
@@ -20,7 +22,7 @@ use one_rule::Externs;
 use std::alloc::Global;
 use typed_core::{Design, Scope};
 
-/// The wires of a rule that runs behind these ports.
+/// The wires of a rule that runs after these ports.
 pub fn rule_net(
     alloc: Global,
     net: &mut Net,
@@ -82,7 +84,7 @@ fn one() -> Bits
     Bits::new(1, 1).unwrap()
 }
 
-// A list of so many wires, all the same.
+// A list of that many wires, all the same.
 fn filled(alloc: Global, wire: NetId, count: usize) -> Result<Sequence<NetId>, NoMemory>
     ensures { IfOk result (λ wires. wires ≡ replicate count wire) }
 {

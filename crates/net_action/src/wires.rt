@@ -1,9 +1,11 @@
+//! Circuits: logs as wires.
+
 use kw_bits::Sequence;
 use net_graph::NetId;
 
 /// A log as wires: which ports of each register were read and written, and with what. Each list has `PORTS` wires of
 /// each register, by port.
-#[derive(Debug, Drop)]
+#[derive(Drop)]
 pub struct LogWires {
     /// Whether the register was read at the port.
     pub was_read: Sequence<NetId>,
@@ -13,8 +15,8 @@ pub struct LogWires {
     pub values: Sequence<NetId>,
 }
 
-/// What a rule runs behind: the registers at the start of the cycle, and the scheduler log.
-#[derive(Debug, Drop)]
+/// What a rule runs after: the registers at the start of the cycle, and the scheduler log.
+#[derive(Drop)]
 pub struct PortWires {
     /// The value of each register at the start of the cycle.
     pub start: Sequence<NetId>,
@@ -22,9 +24,9 @@ pub struct PortWires {
 }
 
 /// A rule as wires. Its log counts where it fires.
-#[derive(Debug, Drop)]
+#[derive(Drop)]
 pub struct RuleNet {
-    /// Whether the rule comes to its end.
+    /// Whether the rule reaches its end.
     pub fires: NetId,
     pub log: LogWires,
 }

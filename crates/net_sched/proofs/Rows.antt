@@ -33,8 +33,8 @@ use Rattle.circuit_eval.proofs.Fitting.{step_feeds}
 use Rattle.circuit_eval.proofs.Stimuli.{HaveWidths-AreBits}
 use Rattle.net_action.specs.Wires.{AreValues, is_up}
 use Rattle.net_action.proofs.Growth.{values_of_beginnings}
-use Rattle.net_sched.specs.Cycles.{nth}
 use Rattle.net_sched.specs.Designs.{HasParts, RunsAs}
+use Rattle.net_sched.specs.Made.{Leaves}
 
 -- ---- flags
 
@@ -55,11 +55,6 @@ none_up [] = refl
 none_up (wire ∷ outputs) = ap (λ (bs : List Bool). false ∷ bs) (none_up outputs)
 
 -- ---- rows
-
--- what the wires of the next values and of the flags say of a cycle
-pub record Leaves (d : Parts) (net : List NetOp) (nexts fired : List ℕ) (s : Sources) (values : List BitVector) : Type 0 where
-  pub regs : length s.states ≡ length (register_widths d) → (register : ℕ) → register < length (register_widths d) → value_at values (nth nexts register) ≡ slice_index_or (after (port_walk d s.inputs s.states).log s.states) register unit
-  pub flags : (rule : ℕ) → rule < length d.rules → is_up values (nth fired rule) ≡ whole.is_among (port_walk d s.inputs s.states).fired rule
 
 module _ (d : Parts) (valid : IsValid d) (c : Wires) (is : IsCircuit c) (parts : HasParts d c) (nexts fired : List ℕ)
     (next : map (λ (wire : StateWire). wire.next) c.states ≡ nexts) (ids : map (λ (wire : OutputWire). wire.id) c.outputs ≡ fired)

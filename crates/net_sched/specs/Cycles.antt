@@ -18,7 +18,7 @@ use Rattle.net_sched.specs.declared.visit.NodeWires.{NodeWires}
 abbrev pub nth : List ℕ → ℕ → ℕ
 nth wires number = slice_index_or wires number 0
 
--- so many wires of one bit
+-- that many wires of one bit
 pub record AreFlags (net : List NetOp) (places : ℕ) (wires : List ℕ) : Type 0 where
   pub count : length wires ≡ places
   pub each : (number : ℕ) → number < places → HasWire net (nth wires number) 1
@@ -41,25 +41,25 @@ pub record Joins (widths : List ℕ) (values : List BitVector) (sched rule : Log
   pub value : (port register : ℕ) → IsPort port → register < length widths
       → written values log port register ≡ (if fires && is_set values rule true port register then written values rule port register else written values sched port register)
 
--- What is made of a node, visited or not, where its rule makes this of the log, or nothing: which way the walk goes on, and
--- the log behind it.
+-- What is made of a node, visited or not, where its rule makes this of the log, or nothing: which way the walk goes
+-- on, and the log after it.
 abbrev pub IsVisit : List ℕ → List BitVector → NodeWires → Bool → PortState → Option PortState → Type 0
 IsVisit widths values visit false state after = (is_up values visit.fires ≡ false) × (is_up values visit.fails ≡ false) × LogStandsFor widths values visit.log state.log
 IsVisit widths values visit true state None = (is_up values visit.fires ≡ false) × (is_up values visit.fails ≡ true) × LogStandsFor widths values visit.log state.log
 IsVisit widths values visit true state (Some after) = (is_up values visit.fires ≡ true) × (is_up values visit.fails ≡ false) × LogStandsFor widths values visit.log after.log
 
--- a continuation is the end, or one of so many nodes
+-- a continuation is the end, or one of that many nodes
 abbrev pub IsWithin : ℕ → Next → Type 0
 IsWithin nodes (next.Node to) = to < nodes
 IsWithin nodes next.End = Unit {0}
 
--- the net has the wires of a cycle: what a rule runs behind, and a flag for each node and each rule
+-- the net has the wires of a cycle: what a rule runs after, and a flag for each node and each rule
 pub record AreCycleWires (net : List NetOp) (widths : List ℕ) (nodes rules : ℕ) (cycle : CycleWires) : Type 0 where
   pub ports : ArePortWires net widths cycle.ports
   pub visited : AreFlags net nodes cycle.visited
   pub fired : AreFlags net rules cycle.fired
 
--- the wires of a cycle that began on these registers stand for a walk that has come to this place past the first nodes
+-- the wires of a cycle that began on these registers stand for a walk that has reached this place past the first nodes
 pub record CycleStandsFor (widths : List ℕ) (nodes rules : ℕ) (values regs : List BitVector) (cycle : CycleWires) (passed : ℕ) (walk : Walk PortState) : Type 0 where
   pub ports : PortsStandFor widths values cycle.ports walk.state.log regs
   pub visited : (node : ℕ) → passed ≤ node → node < nodes → is_up values (nth cycle.visited node) ≡ is_at node walk.at

@@ -1,2 +1,3 @@
 pub mod Designs
+pub mod Made
 pub mod Cycles

@@ -1,6 +1,11 @@
-ghost use Rattle.std.specs.Prelude.{◌≡◌, All, IfOk, length, map};
+//! Circuits: the circuit of a design.
+
+ghost use Rattle.std.specs.Prelude.{◌≡◌, [], All, IfOk, OnOk, length, map};
 ghost use Rattle.kw_bits.specs.Laws.{HasWidth};
-ghost use Rattle.typed_core.specs.Valid.{IsRegister, IsWidth, externs_of};
+ghost use Rattle.net_graph.specs.Nets.{IsNet};
+ghost use Rattle.net_graph.specs.Values.{AllRead};
+ghost use Rattle.typed_core.specs.Valid.{IsRegister, IsValid, IsWidth, externs_of};
+ghost use Rattle.typed_core.specs.Widths as design_widths;
 ghost use Rattle.typed_core.specs.declared.design.InputDecl.{InputDecl};
 ghost use Rattle.typed_core.specs.declared.design.RegDecl.{RegDecl};
 ghost use Rattle.typed_core.specs.declared.design.Rule.{Rule};
@@ -11,6 +16,7 @@ ghost use Rattle.circuit_eval.specs.declared.circuit.InputWire.{InputWire};
 ghost use Rattle.circuit_eval.specs.declared.circuit.OutputWire.{OutputWire};
 ghost use Rattle.circuit_eval.specs.declared.circuit.StateWire.{StateWire};
 ghost use Rattle.net_sched.specs.Designs.{AreWiresOf, HasParts, RunsAs};
+ghost use Rattle.net_sched.specs.Made.{AreEnds, AreNamed};
 
 use crate::cycle::cycle_wires;
 use crate::flags::nth;
@@ -38,14 +44,58 @@ fn design_wires(alloc: Global, design: &Design, externs: &Externs) -> Result<Wir
     ensures { IfOk result (AreWiresOf design.now) }
 {
     let mut net = Net::new(alloc);
-    let start = state_wires(alloc, &mut net, design.regs.as_slice())?;
-    let cycle = cycle_wires(alloc, &mut net, design, externs, start)?;
-    let next = next_values(alloc, &mut net, design, &cycle.ports)?;
+    let ends = cycle_ends(alloc, &mut net, design, externs)?;
+    let wires = named(alloc, design, net, &ends)?;
+    Ok(wires)
+}
+
+// The wires of a cycle's end.
+#[derive(Drop)]
+struct Ends {
+    // The value of each register after the cycle.
+    next: Sequence<NetId>,
+    // Whether each rule fired.
+    fired: Sequence<NetId>,
+}
+
+// The cycle of a design as wires, in an empty net.
+fn cycle_ends(
+    alloc: Global,
+    net: &mut Net,
+    design: &Design,
+    externs: &Externs,
+) -> Result<Ends, NoMemory>
+    requires externs { kept externs.now ≡ externs_of design.now }
+    requires net { net.old ≡ [] }
+    ensures valid { OnOk result (IsValid design.now) }
+    ensures reads { OnOk result (AllRead (design_widths.input_widths design.now) (design_widths.register_widths design.now) net.new) }
+    ensures ends { IfOk result (λ ends. AreEnds design.now net.new ends.next ends.fired) }
+{
+    let start = state_wires(alloc, net, design.regs.as_slice())?;
+    let cycle = cycle_wires(alloc, net, design, externs, start)?;
+    let next = next_values(alloc, net, design, &cycle.ports)?;
+    Ok(Ends {
+        next,
+        fired: cycle.fired,
+    })
+}
+
+// The wires of a cycle's end with the names of the design's parts.
+fn named(alloc: Global, design: &Design, net: Net, ends: &Ends) -> Result<Wires, NoMemory>
+    requires next { length ends.now.next ≡ length (design_widths.register_widths design.now) }
+    requires fired { length ends.now.fired ≡ length design.now.rules }
+    ensures net { IfOk result (λ wires. wires.net ≡ net) }
+    ensures is_net { IfOk result (λ wires. IsNet wires.net) }
+    ensures named { IfOk result (AreNamed design.now ends.now.next ends.now.fired) }
+{
+    let states = states(alloc, design.regs.as_slice(), &ends.next)?;
+    let inputs = inputs(alloc, design.inputs.as_slice())?;
+    let outputs = outputs(alloc, design.rules.as_slice(), &ends.fired)?;
     Ok(Wires {
         net,
-        states: states(alloc, design.regs.as_slice(), &next)?,
-        inputs: inputs(alloc, design.inputs.as_slice())?,
-        outputs: outputs(alloc, design.rules.as_slice(), &cycle.fired)?,
+        states,
+        inputs,
+        outputs,
     })
 }
 

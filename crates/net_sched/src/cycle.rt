@@ -1,5 +1,7 @@
-// The walk of a cycle as wires. Nodes are passed in order of their numbers, as the walk visits them, so one scheduler log
-// serves them all: what a rule does joins it where the walk visits the rule's node and the rule fires.
+//! Circuits: the walk of a cycle as wires.
+
+// The walk of a cycle as wires. Nodes are passed in order of their numbers, as the walk visits them, so one scheduler
+// log serves them all: what a rule does joins it where the walk visits the rule's node and the rule fires.
 ghost use Rattle.std.specs.Prelude.{◌≡◌, ◌+◌, ◌*◌, ◌<◌, ◌≤◌, ℕ, List, IfOk, length, replicate, slice_set};
 ghost use Rattle.kw_bits.specs.BitVector.{BitVector};
 ghost use Rattle.net_graph.specs.Values.{Sources};
@@ -28,7 +30,7 @@ use typed_core::{Design, Node};
 #[derive(Drop)]
 pub(crate) struct CycleWires {
     pub(crate) ports: PortWires,
-    /// Whether the walk comes to each node, as far as the nodes that were passed lead there.
+    /// Whether the walk reaches each node, as far as the nodes that were passed lead there.
     pub(crate) visited: Sequence<NetId>,
     /// Whether each rule fired.
     pub(crate) fired: Sequence<NetId>,
@@ -71,15 +73,32 @@ fn beginning(
 {
     let down = constant(net, Bits::zero(1))?;
     let up = constant(net, one())?;
-    let log = LogWires {
-        was_read: filled(alloc, down, PORTS as usize * design.regs.len())?,
-        was_written: filled(alloc, down, PORTS as usize * design.regs.len())?,
-        values: of_each_port(alloc, &start)?,
-    };
+    let visited = at_first(alloc, design.nodes.len(), up, down)?;
+    let log = no_access(alloc, &start, down)?;
+    let fired = filled(alloc, down, design.rules.len())?;
     Ok(CycleWires {
         ports: PortWires { start, log },
-        visited: at_first(alloc, design.nodes.len(), up, down)?,
-        fired: filled(alloc, down, design.rules.len())?,
+        visited,
+        fired,
+    })
+}
+
+// A log of no access, of registers that begin on these wires.
+fn no_access(alloc: Global, start: &Sequence<NetId>, down: NetId) -> Result<LogWires, NoMemory>
+    requires { length start.now ≤ MAX_REGISTERS }
+    ensures was_read { IfOk result (λ log. log.was_read ≡ replicate (PORTS * length start.now) down) }
+    ensures was_written { IfOk result (λ log. log.was_written ≡ replicate (PORTS * length start.now) down) }
+    ensures count { IfOk result (λ log. length log.values ≡ PORTS * length start.now) }
+    ensures values { IfOk result (λ log. (port register : ℕ) → IsPort port → register < length start.now → wire_at log.values port register ≡ nth start.now register) }
+{
+    let places = PORTS as usize * start.len();
+    let was_read = filled(alloc, down, places)?;
+    let was_written = filled(alloc, down, places)?;
+    let values = of_each_port(alloc, start)?;
+    Ok(LogWires {
+        was_read,
+        was_written,
+        values,
     })
 }
 
@@ -90,7 +109,7 @@ fn one() -> Bits
     Bits::new(1, 1).unwrap()
 }
 
-// So many wires, the first of them up.
+// That many wires, the first of them up.
 fn at_first(
     alloc: Global,
     count: usize,

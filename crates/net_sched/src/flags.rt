@@ -1,3 +1,5 @@
+//! Circuits: lists of wires of one bit.
+
 // Lists of wires of one bit.
 ghost use Rattle.std.specs.Prelude.{◌≡◌, ◌<◌, ◌==◌, ◌&&◌, ◌||◌, ℕ, List, IfOk, length, replicate};
 ghost use Rattle.kw_bits.specs.BitVector.{BitVector};
@@ -21,7 +23,7 @@ pub(crate) fn nth(wires: &Sequence<NetId>, number: usize) -> NetId
     *wires.get(number)
 }
 
-/// So many wires, all the same.
+/// That many wires, all the same.
 pub(crate) fn filled(alloc: Global, wire: NetId, count: usize) -> Result<Sequence<NetId>, NoMemory>
     ensures { IfOk result (λ wires. wires ≡ replicate count wire) }
 {

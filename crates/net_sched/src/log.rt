@@ -1,3 +1,5 @@
+//! Circuits: the scheduler log as wires.
+
 // What a rule's log leaves in the scheduler log. Where the rule makes no access at a port, nothing is added.
 ghost use Rattle.std.specs.Prelude.{◌≡◌, ◌*◌, ◌<◌, ◌&&◌, ◌||◌, ℕ, List, false, IfOk, IsTrue, length, if◌then◌else◌};
 ghost use Rattle.kw_bits.specs.BitVector.{BitVector};

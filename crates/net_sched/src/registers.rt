@@ -1,3 +1,5 @@
+//! Circuits: registers as wires, at the start and at the end of a cycle.
+
 // The wires of registers: their values at the start of a cycle, and those at its end.
 ghost use Rattle.std.specs.Prelude.{◌≡◌, ◌+◌, ◌*◌, ◌<◌, ◌^◌, ℕ, List, [], All, IfOk, length, map, slice_index_or, if◌then◌else◌};
 ghost use Rattle.kw_bits.specs.BitVector.{BitVector};

@@ -1,3 +1,5 @@
+//! Circuits: one scheduler node as wires.
+
 // One node of the scheduler as wires.
 ghost use Rattle.std.specs.Prelude.{◌≡◌, ◌<◌, List, IfOk, length};
 ghost use Rattle.kw_bits.specs.BitVector.{BitVector};
@@ -25,11 +27,11 @@ pub(crate) struct NodeWires {
     pub(crate) fires: NetId,
     /// Whether it is visited and its rule doesn't fire.
     pub(crate) fails: NetId,
-    /// The scheduler log behind it.
+    /// The scheduler log after it.
     pub(crate) log: LogWires,
 }
 
-/// Tries a rule behind the scheduler log where the wire is 1.
+/// Tries a rule after the scheduler log where the wire is 1.
 pub(crate) fn visit(
     alloc: Global,
     net: &mut Net,

@@ -1,5 +1,6 @@
 use Rattle.std.proofs.Common.{ℕ, List, ◌∷◌, Option, ap, sym, subst, ◌∙◌, rules}
 use Rattle.std.specs.Prelude.{nat_eq}
+use Rattle.std.proofs.lemmas.Result.{IfOk-weaker}
 use Rattle.kw_bits.specs.BitVector.{BitVector}
 use Rattle.typed_core.specs.Valid.{ActionHasWidth, declarations}
 use Rattle.typed_core.specs.Widths.{input_widths, register_widths}
@@ -74,16 +75,14 @@ bound-part-requires g t c κs within =
     let running : IsRunning c.operand.new.net (register_widths c.args.context.now.design.now) c.operand.new.run = c.in_ok-x.ensures.part.running in
     search (rules, the_lemmas)
 
-pub bound-returns-in_err-wire-clause-grows : goal.bound-returns-in_err-wire-clause-grows
-bound-returns-in_err-wire-clause-grows g t c = grows_on (input_widths c.args.context.now.design.now) c.args.net.now c.operand.new.net c.part.new.net c.operand.ensures.grows c.part.ensures.grows
-
 pub bound-returns-clause-grows : goal.bound-returns-clause-grows
 bound-returns-clause-grows g t c = grows_on (input_widths c.args.context.now.design.now) c.args.net.now c.operand.new.net c.part.new.net c.operand.ensures.grows c.part.ensures.grows
 
 pub bound-returns-clause-part : goal.bound-returns-clause-part
 bound-returns-clause-part g t c =
-    let made : IsPart (declarations c.args.context.now.design.now) c.args.context.now.ports.now c.operand.new.net c.operand.new.run c.args.body.now (c.in_ok-x.x ∷ c.args.locals.now) c.part.new.net c.part.new.run c.in_ok-wire.wire = subst (λ (names : List ℕ). IsPart (declarations c.args.context.now.design.now) c.args.context.now.ports.now c.operand.new.net c.operand.new.run c.args.body.now names c.part.new.net c.part.new.run c.in_ok-wire.wire) c.bind-inner.ensures c.in_ok-wire.ensures.part in
-    let_made (declarations c.args.context.now.design.now) c.args.context.now.ports.now c.args.net.now c.operand.new.net c.part.new.net c.args.run.now c.operand.new.run c.part.new.run c.args.value.now c.args.body.now c.args.locals.now c.in_ok-x.x c.in_ok-wire.wire c.operand.ensures.grows c.part.ensures.grows c.in_ok-x.ensures.part made
+    IfOk-weaker c.part.result _ _ (λ wire made_inside.
+    let made : IsPart (declarations c.args.context.now.design.now) c.args.context.now.ports.now c.operand.new.net c.operand.new.run c.args.body.now (c.in_ok-x.x ∷ c.args.locals.now) c.part.new.net c.part.new.run wire = subst (λ (names : List ℕ). IsPart (declarations c.args.context.now.design.now) c.args.context.now.ports.now c.operand.new.net c.operand.new.run c.args.body.now names c.part.new.net c.part.new.run wire) c.bind-inner.ensures made_inside in
+    let_made (declarations c.args.context.now.design.now) c.args.context.now.ports.now c.args.net.now c.operand.new.net c.part.new.net c.args.run.now c.operand.new.run c.part.new.run c.args.value.now c.args.body.now c.args.locals.now c.in_ok-x.x wire c.operand.ensures.grows c.part.ensures.grows c.in_ok-x.ensures.part made) c.part.ensures.part
 
 -- ---- one action after another
 
@@ -99,14 +98,12 @@ sequence-part-requires-2 g t c κs within =
     let running : IsRunning c.part.new.net (register_widths c.args.context.now.design.now) c.part.new.run = c.in_ok-_dropped.ensures.part.running in
     search (rules, the_lemmas)
 
-pub sequence-returns-in_err-wire-clause-grows : goal.sequence-returns-in_err-wire-clause-grows
-sequence-returns-in_err-wire-clause-grows g t c = grows_on (input_widths c.args.context.now.design.now) c.args.net.now c.part.new.net c.part-2.new.net c.part.ensures.grows c.part-2.ensures.grows
-
 pub sequence-returns-clause-grows : goal.sequence-returns-clause-grows
 sequence-returns-clause-grows g t c = grows_on (input_widths c.args.context.now.design.now) c.args.net.now c.part.new.net c.part-2.new.net c.part.ensures.grows c.part-2.ensures.grows
 
 pub sequence-returns-clause-part : goal.sequence-returns-clause-part
-sequence-returns-clause-part g t c = sequence_made (declarations c.args.context.now.design.now) c.args.context.now.ports.now c.args.net.now c.part.new.net c.part-2.new.net c.args.run.now c.part.new.run c.part-2.new.run c.args.first.now c.args.second.now c.args.locals.now c.in_ok-_dropped._dropped c.in_ok-wire.wire c.part.ensures.grows c.part-2.ensures.grows c.in_ok-_dropped.ensures.part c.in_ok-wire.ensures.part
+sequence-returns-clause-part g t c =
+    IfOk-weaker c.part-2.result _ _ (λ wire made. sequence_made (declarations c.args.context.now.design.now) c.args.context.now.ports.now c.args.net.now c.part.new.net c.part-2.new.net c.args.run.now c.part.new.run c.part-2.new.run c.args.first.now c.args.second.now c.args.locals.now c.in_ok-_dropped._dropped wire c.part.ensures.grows c.part-2.ensures.grows c.in_ok-_dropped.ensures.part made) c.part-2.ensures.part
 
 -- ---- a write
 
@@ -270,46 +267,46 @@ part-returns-in_ok-never-in-Abort-clause-part g t c =
     (rw c.zero.ensures at c.in_ok-never-in-Abort.ensures.wire)
     (λ s values are. ap (λ (v : BitVector). nat_eq v.number 1) (c.in_ok-never-in-Abort.ensures.value s values are ∙ c.zero.ensures)))
 
-pub part-returns-in_ok-one-in-One-clause-part : goal.part-returns-in_ok-one-in-One-clause-part
-part-returns-in_ok-one-in-One-clause-part g t c =
-    one_form (declarations c.args.context.now.design.now) c.args.context.now.ports.now _ _ _ _ c.args.action.now _ _ c.in-One.operator _ c.args.locals.now _ c.in-One.is c.deref.ensures c.in_ok-one-in-One.ensures.part
+pub part-returns-in-One-clause-part : goal.part-returns-in-One-clause-part
+part-returns-in-One-clause-part g t c =
+    IfOk-weaker c.unary.result _ _ (λ wire made. one_form (declarations c.args.context.now.design.now) c.args.context.now.ports.now _ _ _ _ c.args.action.now _ _ c.in-One.operator _ c.args.locals.now wire c.in-One.is c.deref.ensures made) c.unary.ensures.part
 
-pub part-returns-in_ok-joined-in-Two-clause-part : goal.part-returns-in_ok-joined-in-Two-clause-part
-part-returns-in_ok-joined-in-Two-clause-part g t c =
-    two_form (declarations c.args.context.now.design.now) c.args.context.now.ports.now _ _ _ _ c.args.action.now _ _ _ _ c.in-Two.operator _ _ c.args.locals.now _ c.in-Two.is c.deref-in-Two.ensures c.deref-in-Two-2.ensures c.in_ok-joined-in-Two.ensures.part
+pub part-returns-in-Two-clause-part : goal.part-returns-in-Two-clause-part
+part-returns-in-Two-clause-part g t c =
+    IfOk-weaker c.binary.result _ _ (λ wire made. two_form (declarations c.args.context.now.design.now) c.args.context.now.ports.now _ _ _ _ c.args.action.now _ _ _ _ c.in-Two.operator _ _ c.args.locals.now wire c.in-Two.is c.deref-in-Two.ensures c.deref-in-Two-2.ensures made) c.binary.ensures.part
 
-pub part-returns-in_ok-cut-in-Slice-clause-part : goal.part-returns-in_ok-cut-in-Slice-clause-part
-part-returns-in_ok-cut-in-Slice-clause-part g t c =
-    slice_form (declarations c.args.context.now.design.now) c.args.context.now.ports.now _ _ _ _ c.args.action.now _ _ c.in-Slice.upper c.in-Slice.lower _ c.args.locals.now _ c.in-Slice.is c.deref-in-Slice.ensures c.in_ok-cut-in-Slice.ensures.part
+pub part-returns-in-Slice-clause-part : goal.part-returns-in-Slice-clause-part
+part-returns-in-Slice-clause-part g t c =
+    IfOk-weaker c.unary-in-Slice.result _ _ (λ wire made. slice_form (declarations c.args.context.now.design.now) c.args.context.now.ports.now _ _ _ _ c.args.action.now _ _ c.in-Slice.upper c.in-Slice.lower _ c.args.locals.now wire c.in-Slice.is c.deref-in-Slice.ensures made) c.unary-in-Slice.ensures.part
 
-pub part-returns-in_ok-wide-in-Zext-clause-part : goal.part-returns-in_ok-wide-in-Zext-clause-part
-part-returns-in_ok-wide-in-Zext-clause-part g t c =
-    zext_form (declarations c.args.context.now.design.now) c.args.context.now.ports.now _ _ _ _ c.args.action.now _ _ c.in-Zext.width _ c.args.locals.now _ c.in-Zext.is c.deref-in-Zext.ensures c.in_ok-wide-in-Zext.ensures.part
+pub part-returns-in-Zext-clause-part : goal.part-returns-in-Zext-clause-part
+part-returns-in-Zext-clause-part g t c =
+    IfOk-weaker c.unary-in-Zext.result _ _ (λ wire made. zext_form (declarations c.args.context.now.design.now) c.args.context.now.ports.now _ _ _ _ c.args.action.now _ _ c.in-Zext.width _ c.args.locals.now wire c.in-Zext.is c.deref-in-Zext.ensures made) c.unary-in-Zext.ensures.part
 
-pub part-returns-in_ok-signed-in-Sext-clause-part : goal.part-returns-in_ok-signed-in-Sext-clause-part
-part-returns-in_ok-signed-in-Sext-clause-part g t c =
-    sext_form (declarations c.args.context.now.design.now) c.args.context.now.ports.now _ _ _ _ c.args.action.now _ _ c.in-Sext.width _ c.args.locals.now _ c.in-Sext.is c.deref-in-Sext.ensures c.in_ok-signed-in-Sext.ensures.part
+pub part-returns-in-Sext-clause-part : goal.part-returns-in-Sext-clause-part
+part-returns-in-Sext-clause-part g t c =
+    IfOk-weaker c.unary-in-Sext.result _ _ (λ wire made. sext_form (declarations c.args.context.now.design.now) c.args.context.now.ports.now _ _ _ _ c.args.action.now _ _ c.in-Sext.width _ c.args.locals.now wire c.in-Sext.is c.deref-in-Sext.ensures made) c.unary-in-Sext.ensures.part
 
-pub part-returns-in_ok-entry-in-Table-clause-part : goal.part-returns-in_ok-entry-in-Table-clause-part
-part-returns-in_ok-entry-in-Table-clause-part g t c =
-    table_form (declarations c.args.context.now.design.now) c.args.context.now.ports.now _ _ _ _ c.args.action.now _ _ c.in-Table.table _ c.args.locals.now _ c.in-Table.is c.deref-in-Table.ensures c.in_ok-entry-in-Table.ensures.part
+pub part-returns-in-Table-clause-part : goal.part-returns-in-Table-clause-part
+part-returns-in-Table-clause-part g t c =
+    IfOk-weaker c.unary-in-Table.result _ _ (λ wire made. table_form (declarations c.args.context.now.design.now) c.args.context.now.ports.now _ _ _ _ c.args.action.now _ _ c.in-Table.table _ c.args.locals.now wire c.in-Table.is c.deref-in-Table.ensures made) c.unary-in-Table.ensures.part
 
-pub part-returns-in_ok-told-in-Host-clause-part : goal.part-returns-in_ok-told-in-Host-clause-part
-part-returns-in_ok-told-in-Host-clause-part g t c =
-    host_form (declarations c.args.context.now.design.now) c.args.context.now.ports.now _ _ _ _ c.args.action.now _ _ c.in-Host.host _ c.args.locals.now _ c.in-Host.is c.deref-in-Host.ensures c.in_ok-told-in-Host.ensures.part
+pub part-returns-in-Host-clause-part : goal.part-returns-in-Host-clause-part
+part-returns-in-Host-clause-part g t c =
+    IfOk-weaker c.unary-in-Host.result _ _ (λ wire made. host_form (declarations c.args.context.now.design.now) c.args.context.now.ports.now _ _ _ _ c.args.action.now _ _ c.in-Host.host _ c.args.locals.now wire c.in-Host.is c.deref-in-Host.ensures made) c.unary-in-Host.ensures.part
 
-pub part-returns-in_ok-inside-in-Let-clause-part : goal.part-returns-in_ok-inside-in-Let-clause-part
-part-returns-in_ok-inside-in-Let-clause-part g t c =
-    let_form (declarations c.args.context.now.design.now) c.args.context.now.ports.now _ _ _ _ c.args.action.now _ _ _ _ _ _ c.args.locals.now _ c.in-Let.is c.deref-in-Let.ensures c.deref-in-Let-2.ensures c.in_ok-inside-in-Let.ensures.part
+pub part-returns-in-Let-clause-part : goal.part-returns-in-Let-clause-part
+part-returns-in-Let-clause-part g t c =
+    IfOk-weaker c.bound.result _ _ (λ wire made. let_form (declarations c.args.context.now.design.now) c.args.context.now.ports.now _ _ _ _ c.args.action.now _ _ _ _ _ _ c.args.locals.now wire c.in-Let.is c.deref-in-Let.ensures c.deref-in-Let-2.ensures made) c.bound.ensures.part
 
-pub part-returns-in_ok-taken-in-If-clause-part : goal.part-returns-in_ok-taken-in-If-clause-part
-part-returns-in_ok-taken-in-If-clause-part g t c =
-    if_form (declarations c.args.context.now.design.now) c.args.context.now.ports.now _ _ _ _ c.args.action.now _ _ _ _ _ _ _ _ _ c.args.locals.now _ c.in-If.is c.deref-in-If.ensures c.deref-in-If-2.ensures c.deref-in-If-3.ensures c.in_ok-taken-in-If.ensures.part
+pub part-returns-in-If-clause-part : goal.part-returns-in-If-clause-part
+part-returns-in-If-clause-part g t c =
+    IfOk-weaker c.conditional.result _ _ (λ wire made. if_form (declarations c.args.context.now.design.now) c.args.context.now.ports.now _ _ _ _ c.args.action.now _ _ _ _ _ _ _ _ _ c.args.locals.now wire c.in-If.is c.deref-in-If.ensures c.deref-in-If-2.ensures c.deref-in-If-3.ensures made) c.conditional.ensures.part
 
-pub part-returns-in_ok-last-in-Seq-clause-part : goal.part-returns-in_ok-last-in-Seq-clause-part
-part-returns-in_ok-last-in-Seq-clause-part g t c =
-    sequence_form (declarations c.args.context.now.design.now) c.args.context.now.ports.now _ _ _ _ c.args.action.now _ _ _ _ _ _ c.args.locals.now _ c.in-Seq.is c.deref-in-Seq.ensures c.deref-in-Seq-2.ensures c.in_ok-last-in-Seq.ensures.part
+pub part-returns-in-Seq-clause-part : goal.part-returns-in-Seq-clause-part
+part-returns-in-Seq-clause-part g t c =
+    IfOk-weaker c.sequence.result _ _ (λ wire made. sequence_form (declarations c.args.context.now.design.now) c.args.context.now.ports.now _ _ _ _ c.args.action.now _ _ _ _ _ _ c.args.locals.now wire c.in-Seq.is c.deref-in-Seq.ensures c.deref-in-Seq-2.ensures made) c.sequence.ensures.part
 
-pub part-returns-in_ok-none-in-Write-clause-part : goal.part-returns-in_ok-none-in-Write-clause-part
-part-returns-in_ok-none-in-Write-clause-part g t c =
-    write_form (declarations c.args.context.now.design.now) c.args.context.now.ports.now _ _ _ _ c.args.action.now _ _ c.in-Write.port c.in-Write.register _ c.args.locals.now _ c.in-Write.is c.deref-in-Write.ensures c.in_ok-none-in-Write.ensures.part
+pub part-returns-in-Write-clause-part : goal.part-returns-in-Write-clause-part
+part-returns-in-Write-clause-part g t c =
+    IfOk-weaker c.written.result _ _ (λ wire made. write_form (declarations c.args.context.now.design.now) c.args.context.now.ports.now _ _ _ _ c.args.action.now _ _ c.in-Write.port c.in-Write.register _ c.args.locals.now wire c.in-Write.is c.deref-in-Write.ensures made) c.written.ensures.part

@@ -18,35 +18,35 @@ found : (rules : List Rule) (number : ℕ) (rule : Rule) → number < length rul
 found rules number rule within is = slice_get_read rules (length rules) number rule refl within is
 
 pub part-requires-clause-valid : goal.part-requires-clause-valid
-part-requires-clause-valid g c = subst IsValid c.design.view_is c.design.invariant
+part-requires-clause-valid c = subst IsValid c.design.view_is c.design.invariant
 
 pub part-requires-clause-ports : goal.part-requires-clause-ports
-part-requires-clause-ports g c = ports_kept (input_widths c.args.design.now) c.args.net.now c.beginning.new.net (register_widths c.args.design.now) c.args.ports.now (c.beginning.ensures.grows (input_widths c.args.design.now)) c.requires.ports
+part-requires-clause-ports c = ports_kept (input_widths c.args.design.now) c.args.net.now c.beginning.new.net (register_widths c.args.design.now) c.args.ports.now (c.beginning.ensures.grows (input_widths c.args.design.now)) c.requires.ports
 
 pub part-requires-clause-run : goal.part-requires-clause-run
-part-requires-clause-run g c = c.in_ok-run.ensures.running
+part-requires-clause-run c = c.in_ok-run.ensures.running
 
 pub part-requires-clause-ready : goal.part-requires-clause-ready
-part-requires-clause-ready g c =
+part-requires-clause-ready c =
     let valid = subst IsValid c.design.view_is c.design.invariant in
     let at = subst (λ (d : Parts). slice_get d.rules c.args.rule ≡ Some c.get.result.now) c.design.view_is (found c.design.inside.rules c.args.rule c.get.result.now (subst (λ (d : Parts). c.args.rule < length d.rules) (sym c.design.view_is) c.requires.rule) c.get.ensures) in
     let typed = found_holds (λ (rule : Rule). ActionHasWidth (declarations c.args.design.now) rule.body [] 0) c.args.design.now.rules c.args.rule c.get.result.now valid.rules at in
     subst (λ (names : List ℕ). CanBe (ActionHasWidth (declarations c.args.design.now) c.get.result.now.body) c.beginning.new.net names) (sym c.empty.ensures) ([], 0, tt, typed)
 
 pub returns-in_err-_unit-clause-grows : goal.returns-in_err-_unit-clause-grows
-returns-in_err-_unit-clause-grows g c = grows_on (input_widths c.args.design.now) c.args.net.now c.beginning.new.net c.part.new.net (c.beginning.ensures.grows (input_widths c.args.design.now)) c.part.ensures.grows
+returns-in_err-_unit-clause-grows c = grows_on (input_widths c.args.design.now) c.args.net.now c.beginning.new.net c.part.new.net (c.beginning.ensures.grows (input_widths c.args.design.now)) c.part.ensures.grows
 
 pub returns-clause-grows : goal.returns-clause-grows
-returns-clause-grows g c = grows_on (input_widths c.args.design.now) c.args.net.now c.beginning.new.net c.part.new.net (c.beginning.ensures.grows (input_widths c.args.design.now)) c.part.ensures.grows
+returns-clause-grows c = grows_on (input_widths c.args.design.now) c.args.net.now c.beginning.new.net c.part.new.net (c.beginning.ensures.grows (input_widths c.args.design.now)) c.part.ensures.grows
 
 pub returns-clause-fires : goal.returns-clause-fires
-returns-clause-fires g c = c.in_ok-_unit.ensures.part.running.fires
+returns-clause-fires c = c.in_ok-_unit.ensures.part.running.fires
 
 pub returns-clause-log : goal.returns-clause-log
-returns-clause-log g c = c.in_ok-_unit.ensures.part.running.log
+returns-clause-log c = c.in_ok-_unit.ensures.part.running.log
 
 pub returns-clause-run : goal.returns-clause-run
-returns-clause-run g c s values events regs are st =
+returns-clause-run c s values events regs are st =
     let at = subst (λ (d : Parts). slice_get d.rules c.args.rule ≡ Some c.get.result.now) c.design.view_is (found c.design.inside.rules c.args.rule c.get.result.now (subst (λ (d : Parts). c.args.rule < length d.rules) (sym c.design.view_is) c.requires.rule) c.get.ensures) in
     let first = values_before s (input_widths c.args.design.now) c.beginning.new.net c.part.new.net values c.part.ensures.grows are in
     let stands = rule_stands (declarations c.args.design.now) c.args.ports.now c.beginning.new.net c.part.new.net _ c.part.new.run c.get.result.now.body c.empty.result c.in_ok-_unit._unit s values events regs c.empty.ensures c.in_ok-_unit.ensures.part are st
@@ -54,4 +54,4 @@ returns-clause-run g c s values events regs are st =
     subst (λ (o : Option Rule). RuleStandsFor (register_widths c.args.design.now) values c.part.new.run (port_run_if (environment c.args.design.now s.inputs) events regs o)) (sym at) stands
 
 pub returns-in_err-run-clause-grows : goal.returns-in_err-run-clause-grows
-returns-in_err-run-clause-grows g c = c.beginning.ensures.grows (input_widths c.args.design.now)
+returns-in_err-run-clause-grows c = c.beginning.ensures.grows (input_widths c.args.design.now)

@@ -4,10 +4,10 @@ use Rattle.net_sched.proofs.Circuits.{same_wires}
 use Rattle.net_sched.proofs.circuit.build.Goals as goal
 
 pub unwrap-requires : goal.unwrap-requires
-unwrap-requires g c = c.new.ensures.some.1 c.in_ok-wires.ensures.circuit
+unwrap-requires c = c.new.ensures.some.1 c.in_ok-wires.ensures.circuit
 
 pub returns-clause-parts : goal.returns-clause-parts
-returns-clause-parts g c = subst (HasParts c.args.design.now) (sym (same_wires c.new.result c.in_ok-wires.wires c.unwrap.result c.new.ensures.wires c.unwrap.ensures)) c.in_ok-wires.ensures.parts
+returns-clause-parts c = subst (HasParts c.args.design.now) (sym (same_wires c.new.result c.in_ok-wires.wires c.unwrap.result c.new.ensures.wires c.unwrap.ensures)) c.in_ok-wires.ensures.parts
 
 pub returns-clause-run : goal.returns-clause-run
-returns-clause-run g c = subst (RunsAs c.args.design.now) (sym (same_wires c.new.result c.in_ok-wires.wires c.unwrap.result c.new.ensures.wires c.unwrap.ensures)) c.in_ok-wires.ensures.run
+returns-clause-run c = subst (RunsAs c.args.design.now) (sym (same_wires c.new.result c.in_ok-wires.wires c.unwrap.result c.new.ensures.wires c.unwrap.ensures)) c.in_ok-wires.ensures.run

@@ -18,17 +18,17 @@ abbrev no_node : Node
 no_node = record { rule = 0; yes = next.Node 0; no = next.Node 0 }
 
 pub returns-in_err-cycle-clause-grows : goal.returns-in_err-cycle-clause-grows
-returns-in_err-cycle-clause-grows g c = c.beginning.ensures.grows (input_widths c.args.design.now)
+returns-in_err-cycle-clause-grows c = c.beginning.ensures.grows (input_widths c.args.design.now)
 
 pub loop-number-init : goal.loop-number-init
-loop-number-init g c = record {
+loop-number-init c = record {
   grows = c.beginning.ensures.grows (input_widths c.args.design.now);
   wires = c.in_ok-cycle.ensures.wires;
   walk = λ s values are. c.in_ok-cycle.ensures.walk s values are;
 }
 
 pub pass-requires-clause-node : goal.pass-requires-clause-node
-pass-requires-clause-node g c =
+pass-requires-clause-node c =
     let design = c.args.design.now in
     let i = c.loop-number.number in
     let items = c.as_slice-node-items.result.now in
@@ -40,10 +40,10 @@ pass-requires-clause-node g c =
     valid.nodes i (slice_index_or items i no_node) found
 
 pub returns-in_err-pass-clause-grows : goal.returns-in_err-pass-clause-grows
-returns-in_err-pass-clause-grows g c = grows_on (input_widths c.args.design.now) c.args.net.now c.loop-number.net c.pass.new.net c.loop-number.invariant.grows c.pass.ensures.grows
+returns-in_err-pass-clause-grows c = grows_on (input_widths c.args.design.now) c.args.net.now c.loop-number.net c.pass.new.net c.loop-number.invariant.grows c.pass.ensures.grows
 
 pub loop-number-preserved : goal.loop-number-preserved
-loop-number-preserved g c =
+loop-number-preserved c =
     let design = c.args.design.now in
     let widths = input_widths design in
     let i = c.loop-number.number in
@@ -63,7 +63,7 @@ loop-number-preserved g c =
     }
 
 pub returns-clause-walk : goal.returns-clause-walk
-returns-clause-walk g c s values are =
+returns-clause-walk c s values are =
     let design = c.args.design.now in
     let i = c.loop-number.number in
     let items = c.as_slice-node-items.result.now in

@@ -10,7 +10,7 @@ use Rattle.net_sched.specs.Cycles.{AreCycleWires, CycleStandsFor, nothing}
 use Rattle.net_sched.proofs.cycle.cycle_wires.Given as goal
 
 abbrev pub invariant-loop-number : goal.invariant-loop-number
-invariant-loop-number g l = record {
+invariant-loop-number l = record {
   grows : Grows (input_widths l.design) l.fn.net l.net;
   wires : AreCycleWires l.net (register_widths l.design) (length l.design.nodes) (length l.design.rules) l.cycle;
   walk : (s : Sources) (values : List BitVector) → AreValues s l.net values

@@ -14,64 +14,64 @@ use Rattle.net_sched.proofs.Pushing.{flags_kept}
 use Rattle.net_sched.proofs.cycle.pass.Goals as goal
 
 pub visit-requires-clause-rule : goal.visit-requires-clause-rule
-visit-requires-clause-rule g c = c.requires.node.rule
+visit-requires-clause-rule c = c.requires.node.rule
 
 pub visit-requires-clause-is_visited : goal.visit-requires-clause-is_visited
-visit-requires-clause-is_visited g c = subst (λ (w : ℕ). HasWire c.args.net.now w 1) (sym c.nth-is_visited.ensures) (c.requires.wires.visited.each c.args.number c.requires.number)
+visit-requires-clause-is_visited c = subst (λ (w : ℕ). HasWire c.args.net.now w 1) (sym c.nth-is_visited.ensures) (c.requires.wires.visited.each c.args.number c.requires.number)
 
 pub lead-requires-clause-next : goal.lead-requires-clause-next
-lead-requires-clause-next g c =
+lead-requires-clause-next c =
     subst (λ (n : ℕ). IsWithin n c.args.node.now.yes) (sym c.requires.wires.visited.count) (is_within (length c.args.design.now.nodes) c.args.number c.args.node.now.yes c.requires.node.yes)
 
 pub lead-requires-clause-visited : goal.lead-requires-clause-visited
-lead-requires-clause-visited g c =
+lead-requires-clause-visited c =
     let visited = c.args.cycle.now.visited in
     subst (λ (n : ℕ). AreFlags c.visit.new.net n visited) (sym c.requires.wires.visited.count)
     (flags_kept (input_widths c.args.design.now) c.args.net.now c.visit.new.net visited (length c.args.design.now.nodes) c.visit.ensures.grows c.requires.wires.visited)
 
 pub returns-in_err-lead-clause-grows : goal.returns-in_err-lead-clause-grows
-returns-in_err-lead-clause-grows g c = grows_on (input_widths c.args.design.now) c.args.net.now c.visit.new.net c.lead.new.net c.visit.ensures.grows (c.lead.ensures.grows (input_widths c.args.design.now))
+returns-in_err-lead-clause-grows c = grows_on (input_widths c.args.design.now) c.args.net.now c.visit.new.net c.lead.new.net c.visit.ensures.grows (c.lead.ensures.grows (input_widths c.args.design.now))
 
 pub lead-requires-2-clause-next : goal.lead-requires-2-clause-next
-lead-requires-2-clause-next g c =
+lead-requires-2-clause-next c =
     subst (λ (n : ℕ). IsWithin n c.args.node.now.no) (sym (c.in_ok-lead.ensures.flags.count ∙ c.requires.wires.visited.count)) (is_within (length c.args.design.now.nodes) c.args.number c.args.node.now.no c.requires.node.no)
 
 pub lead-requires-2-clause-goes : goal.lead-requires-2-clause-goes
-lead-requires-2-clause-goes g c = wire_kept [] c.visit.new.net c.lead.new.net c.in_ok-tried.tried.fails 1 (c.lead.ensures.grows []) c.in_ok-tried.ensures.fails
+lead-requires-2-clause-goes c = wire_kept [] c.visit.new.net c.lead.new.net c.in_ok-tried.tried.fails 1 (c.lead.ensures.grows []) c.in_ok-tried.ensures.fails
 
 pub returns-in_err-lead-2-clause-grows : goal.returns-in_err-lead-2-clause-grows
-returns-in_err-lead-2-clause-grows g c =
+returns-in_err-lead-2-clause-grows c =
     let widths = input_widths c.args.design.now in
     grows_on widths c.args.net.now c.visit.new.net c.lead-2.new.net c.visit.ensures.grows (grows_on widths c.visit.new.net c.lead.new.net c.lead-2.new.net (c.lead.ensures.grows widths) (c.lead-2.ensures.grows widths))
 
 pub mark-requires-clause-place : goal.mark-requires-clause-place
-mark-requires-clause-place g c = omega (arith, c.requires.node.rule, c.requires.wires.fired.count)
+mark-requires-clause-place c = omega (arith, c.requires.node.rule, c.requires.wires.fired.count)
 
 pub mark-requires-clause-flags : goal.mark-requires-clause-flags
-mark-requires-clause-flags g c =
+mark-requires-clause-flags c =
     let widths = input_widths c.args.design.now in
     let fired = c.args.cycle.now.fired in
     let grows = grows_on widths c.args.net.now c.visit.new.net c.lead-2.new.net c.visit.ensures.grows (grows_on widths c.visit.new.net c.lead.new.net c.lead-2.new.net (c.lead.ensures.grows widths) (c.lead-2.ensures.grows widths)) in
     subst (λ (n : ℕ). AreFlags c.lead-2.new.net n fired) (sym c.requires.wires.fired.count) (flags_kept widths c.args.net.now c.lead-2.new.net fired (length c.args.design.now.rules) grows c.requires.wires.fired)
 
 pub mark-requires-clause-is_set : goal.mark-requires-clause-is_set
-mark-requires-clause-is_set g c =
+mark-requires-clause-is_set c =
     wire_kept [] c.visit.new.net c.lead-2.new.net c.in_ok-tried.tried.fires 1 (grows_on [] c.visit.new.net c.lead.new.net c.lead-2.new.net (c.lead.ensures.grows []) (c.lead-2.ensures.grows [])) c.in_ok-tried.ensures.fires
 
 pub returns-in_err-mark-clause-grows : goal.returns-in_err-mark-clause-grows
-returns-in_err-mark-clause-grows g c =
+returns-in_err-mark-clause-grows c =
     let widths = input_widths c.args.design.now in
     grows_on widths c.args.net.now c.visit.new.net c.mark.new.net c.visit.ensures.grows
     (grows_on widths c.visit.new.net c.lead-2.new.net c.mark.new.net (grows_on widths c.visit.new.net c.lead.new.net c.lead-2.new.net (c.lead.ensures.grows widths) (c.lead-2.ensures.grows widths)) (c.mark.ensures.grows widths))
 
 pub returns-clause-grows : goal.returns-clause-grows
-returns-clause-grows g c =
+returns-clause-grows c =
     let widths = input_widths c.args.design.now in
     grows_on widths c.args.net.now c.visit.new.net c.mark.new.net c.visit.ensures.grows
     (grows_on widths c.visit.new.net c.lead-2.new.net c.mark.new.net (grows_on widths c.visit.new.net c.lead.new.net c.lead-2.new.net (c.lead.ensures.grows widths) (c.lead-2.ensures.grows widths)) (c.mark.ensures.grows widths))
 
 pub returns-clause-wires : goal.returns-clause-wires
-returns-clause-wires g c =
+returns-clause-wires c =
     let widths = input_widths c.args.design.now in
     let registers = register_widths c.args.design.now in
     let old = c.args.cycle.now in
@@ -92,7 +92,7 @@ returns-clause-wires g c =
     }
 
 pub returns-clause-walk : goal.returns-clause-walk
-returns-clause-walk g c s values regs now are stands =
+returns-clause-walk c s values regs now are stands =
     let third = values_before s [] c.lead-2.new.net c.mark.new.net values (c.mark.ensures.grows []) are in
     let second = values_before s [] c.lead.new.net c.lead-2.new.net values (c.lead-2.ensures.grows []) third in
     let first = values_before s [] c.visit.new.net c.lead.new.net values (c.lead.ensures.grows []) second in
