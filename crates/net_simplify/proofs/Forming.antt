@@ -8,7 +8,7 @@ use Rattle.kw_bits.specs.BitVector.{BitVector, IsBits, zero_at}
 use Rattle.kw_bits.specs.Laws.{HasWidth}
 use Rattle.kw_bits.specs.Operators as op
 use Rattle.net_graph.specs.Laws.{Feeds}
-use Rattle.net_graph.specs.Nets.{op_width, Stands, width_at, widths_of}
+use Rattle.net_graph.specs.Nets.{IsNet, op_width, Stands, width_at, widths_of}
 use Rattle.net_graph.specs.Operators.{one_value, one_width, two_value, two_width, TakesTwo}
 use Rattle.net_graph.specs.Values.{node_value, Sources}
 use Rattle.net_graph.specs.declared.node.NetOne.TheVariants.{Not}
@@ -25,7 +25,7 @@ use Rattle.net_simplify.specs.declared.form.Form.TheVariants.{Node, Constant, Op
 use Rattle.net_simplify.specs.declared.identities.Identity.{Identity}
 use Rattle.net_simplify.specs.declared.identities.Identity.TheVariants as identities
 use Rattle.net_simplify.specs.declared.known.Known.{Known}
-use Rattle.net_simplify.proofs.Standing.{bits_node, stands_node, value_node, width_node}
+use Rattle.net_simplify.proofs.Standing.{bits_node, stands_node, value_node, width_node, within_node}
 use Rattle.net_simplify.proofs.Units.{same_parts}
 
 -- what holds of all operators of a net holds of a node's
@@ -68,6 +68,24 @@ module _ (net : List NetOp) where
     };
   }
 
+module _ (net : List NetOp) (is : IsNet net) where
+  -- the opposite comparison of a node's operands has the node's value with its bits turned
+  comparison_turned : (a x y : ℕ) (operator other : NetTwo) → slice_get net a ≡ Some (Two operator x y) → IsOpposite operator other
+      → (s : Sources) → Feeds s net → two_value other (node_value s net x) (node_value s net y) ≡ op.not (node_value s net a)
+  comparison_turned a x y operator other at opposite s feeds =
+      let stands = stands_node net is a (Two operator x y) at in
+      let first = bits_node net is s x feeds (within_node net is x stands.0) in
+      let second = bits_node net is s y feeds (within_node net is y stands.1) in
+      let takes : TakesTwo operator (node_value s net x).width (node_value s net y).width =
+      subst (λ w. TakesTwo operator w (node_value s net y).width) (sym first.1) (subst (λ w. TakesTwo operator (width_at (widths_of net) x) w) (sym second.1) stands.2) in
+      opposite.value (node_value s net x) (node_value s net y) first.0 second.0 takes ∙ ap op.not (sym (value_node net is s a (Two operator x y) at))
+
+  -- so do the nodes of opposite comparisons
+  pub nodes_turned : (a b : ℕ) (one other : NetOp) → slice_get net a ≡ Some one → slice_get net b ≡ Some other → Turns one other
+      → (s : Sources) → Feeds s net → node_value s net b ≡ op.not (node_value s net a)
+  nodes_turned a b one other p q t s feeds =
+      value_node net is s b (Two t.other t.first t.second) (q ∙ ap Some t.turned_is) ∙ comparison_turned a t.first t.second t.operator t.other (p ∙ ap Some t.is) t.opposite s feeds
+
 module _ (net : List NetOp) (lean : IsLean net) where
   within : (id : ℕ) → id < length (widths_of net) → id < length net
   within id h = omega (arith, length-one_by_one op_width [] net)
@@ -91,9 +109,6 @@ module _ (net : List NetOp) (lean : IsLean net) where
   unfolding one_value one_width
   opposite_form a x y operator other at opposite =
       let stands = stands_node net lean.is_net a (Two operator x y) at in
-      let takes : (s : Sources) → Feeds s net → TakesTwo operator (node_value s net x).width (node_value s net y).width = λ s feeds.
-      subst (λ w. TakesTwo operator w (node_value s net y).width) (sym (bits_node net lean.is_net s x feeds (within x stands.0)).1)
-      (subst (λ w. TakesTwo operator (width_at (widths_of net) x) w) (sym (bits_node net lean.is_net s y feeds (within y stands.1)).1) stands.2) in
       record {
         stands = (
           (stands.0, stands.1, opposite.takes (width_at (widths_of net) x) (width_at (widths_of net) y) stands.2),
@@ -102,8 +117,7 @@ module _ (net : List NetOp) (lean : IsLean net) where
         );
         equals = record {
           width = opposite.width (width_at (widths_of net) x) (width_at (widths_of net) y) ∙ sym (width_node net lean.is_net a (Two operator x y) at);
-          value = λ s feeds. opposite.value (node_value s net x) (node_value s net y) (bits_node net lean.is_net s x feeds (within x stands.0)).0 (bits_node net lean.is_net s y feeds (within y stands.1)).0 (takes s feeds)
-              ∙ ap op.not (sym (value_node net lean.is_net s a (Two operator x y) at));
+          value = λ s feeds. comparison_turned net lean.is_net a x y operator other at opposite s feeds;
           reads = λ inputs states h. tt;
         };
       }

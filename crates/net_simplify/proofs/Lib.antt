@@ -1,9 +1,11 @@
 pub mod ChoiceForms
 pub mod Choosing
 pub mod Comparing
+pub mod Factoring
 pub mod Folding
 pub mod Forming
 pub mod Growing
+pub mod Implying
 pub mod Laying
 pub mod Marking
 pub mod Opposing

@@ -70,7 +70,7 @@ sgte-slt = record { takes = λ a b h. h; width = λ a b. refl; value = λ x y p 
 
 -- ---- a value and the turned one
 
-nothing_common : (w n : ℕ) → n < 2 ^ w → bit_and n (2 ^ w - 1 - n) ≡ 0
+pub nothing_common : (w n : ℕ) → n < 2 ^ w → bit_and n (2 ^ w - 1 - n) ≡ 0
 nothing_common w n h =
     let both = and-not w n n h h in
     and_comm n (2 ^ w - 1 - n) ∙ omega (arith, both, and_self n)

@@ -1,6 +1,6 @@
--- What a node can be in place of an operator: a node that stands already, a constant, or a simpler operator. It serves
--- private functions alone.
-use Rattle.std.specs.Prelude.{◌≡◌, ℕ, ◌<◌, List, length, All}
+-- What a node can be in place of an operator: a node that is there already, a constant, or a simpler operator. It
+-- serves private functions alone.
+use Rattle.std.specs.Prelude.{◌≡◌, ℕ, ◌<◌, Bool, true, false, List, length, All, IfSome, Option}
 use Rattle.kw_bits.specs.BitVector.{BitVector, IsBits}
 use Rattle.kw_bits.specs.Operators as op
 use Rattle.net_graph.specs.Laws.{Feeds}
@@ -12,6 +12,7 @@ use Rattle.net_graph.specs.declared.node.NetOp.TheVariants.{Two}
 use Rattle.net_graph.specs.declared.node.NetOne.{NetOne}
 use Rattle.net_graph.specs.declared.node.NetOne.TheVariants.{RedAnd, RedOr, RedXor}
 use Rattle.net_graph.specs.declared.node.NetTwo.{NetTwo}
+use Rattle.net_graph.specs.declared.node.NetTwo.TheVariants.{And, Or}
 use Rattle.circuit_eval.specs.Tidy.{IsNeeded, IsOpen}
 use Rattle.net_simplify.specs.Identities.{IsDistinguishing}
 use Rattle.net_simplify.specs.declared.form.Form.{Form}
@@ -56,7 +57,7 @@ pub record IsForm (net : List NetOp) (op : NetOp) (form : Form) : Type 0 where
   pub stands : FormStands net form
   pub equals : Equals net op form
 
--- an operator that tells what another doesn't, on the same operands
+-- an operator that says what another doesn't, on the same operands
 pub record IsOpposite (operator other : NetTwo) : Type 0 where
   pub takes : (a b : ℕ) → TakesTwo operator a b → TakesTwo other a b
   pub width : (a b : ℕ) → two_width other a b ≡ two_width operator a b
@@ -86,7 +87,36 @@ pub record IsNodeIf (net : List NetOp) (holds : BitVector → Type 0) (condition
   pub width : width_at (widths_of net) other ≡ width_at (widths_of net) id
   pub value : (s : Sources) → Feeds s net → holds (node_value s net condition) → node_value s net other ≡ node_value s net id
 
--- what an operator comes to on a bit vector of this width and the same with its bits turned
+-- the value of an operator on a bit vector of this width and the same with its bits turned
 pub record IsOfOpposites (operator : NetTwo) (width : ℕ) (result : BitVector) : Type 0 where
   pub as_wide : (b : ℕ) → TakesTwo operator width b → result.width ≡ two_width operator width b
   pub value : (x : BitVector) → IsBits x → x.width ≡ width → two_value operator x (op.not x) ≡ result
+
+-- two nodes of one width
+pub record Alike (net : List NetOp) (p q : ℕ) : Type 0 where
+  pub first : p < length net
+  pub second : q < length net
+  pub width : width_at (widths_of net) p ≡ width_at (widths_of net) q
+
+-- a node that is all that is left of an operator on two others: of an `or` of two `and`s, and of an `and` of two `or`s
+pub record IsCommon (net : List NetOp) (p q r t id : ℕ) : Type 0 where
+  pub stands : id < length net
+  pub width : width_at (widths_of net) id ≡ width_at (widths_of net) p
+  pub of_ands : (s : Sources) → Feeds s net → op.or (op.and (node_value s net p) (node_value s net q)) (op.and (node_value s net r) (node_value s net t)) ≡ node_value s net id
+  pub of_ors : (s : Sources) → Feeds s net → op.and (op.or (node_value s net p) (node_value s net q)) (op.or (node_value s net r) (node_value s net t)) ≡ node_value s net id
+
+-- ---- bits that decide others
+
+-- a bit vector is the one bit that is known, if one is
+abbrev pub IsKnownBit : Option Bool → BitVector → Type 0
+IsKnownBit known x = IfSome known (λ (b : Bool). x ≡ op.flag b)
+
+-- wherever the first node's value is this bit, this is known of the second's
+abbrev pub Tells : List NetOp → ℕ → Bool → ℕ → Option Bool → Type 0
+Tells net bit value id known = (s : Sources) → Feeds s net → node_value s net bit ≡ op.flag value → IsKnownBit known (node_value s net id)
+
+-- the bit that leaves the other operand of an operator as it is
+abbrev pub IsUnit : NetTwo → Bool → Type 0
+IsUnit And unit = unit ≡ true
+IsUnit Or unit = unit ≡ false
+IsUnit _ unit = ⊥

@@ -1,4 +1,4 @@
--- What operators on values come to where something is known of them. It serves private functions alone.
+-- The values of operators where something is known of them. It serves private functions alone.
 use Rattle.std.specs.Prelude.{◌≡◌, ◌≢◌, ℕ, ◌-◌, ◌^◌, Bool, true, false, nat_lt}
 use Rattle.kw_bits.specs.BitVector.{BitVector, IsBits}
 use Rattle.kw_bits.specs.Laws.{HasWidth}
@@ -37,7 +37,7 @@ pub record Agree (a b : Known) (same : Bool) (x y : BitVector) : Type 0 where
   pub second_known : IsKnown b y
   pub equal : same ≡ true → x ≡ y
 
--- the number of the first is at least that of the second, whatever they are
+-- the number of the first is at least that of the second, for all values
 abbrev pub IsNeverBelow : Known → Known → Bool → Type 0
 IsNeverBelow a b same = (x y : BitVector) → x.width ≡ y.width → Agree a b same x y → nat_lt x.number y.number ≡ false
 
@@ -80,7 +80,8 @@ LeavesOnly operator same identity = Unit {0}
 
 -- ---- a choice
 
--- a condition and what is chosen from are as is known, where they are chosen, and equal where they are said to be the same
+-- a condition and what is chosen from are as is known, where they are chosen, and equal where they are said to be the
+-- same
 pub record Suit (condition a b : Known) (one_bit same : Bool) (c x y : BitVector) : Type 0 where
   pub is_bit : HasWidth c 1
   pub first : IsBits x
@@ -92,7 +93,7 @@ pub record Suit (condition a b : Known) (one_bit same : Bool) (c x y : BitVector
   pub second_known : c.number ≢ 1 → IsKnown b y
   pub equal : same ≡ true → x ≡ y
 
--- what a choice comes to
+-- the value of a choice
 abbrev pub choice_value : Choice → BitVector → BitVector → BitVector → BitVector
 choice_value choices.Itself c x y = ite_value c x y
 choice_value choices.First c x y = x
@@ -102,19 +103,19 @@ choice_value choices.NotCondition c x y = op.not c
 choice_value choices.ConditionOrSecond c x y = op.or c y
 choice_value choices.ConditionAndFirst c x y = op.and c x
 
--- it comes to this, whatever suits
+-- its value is this, in all cases
 abbrev pub ComesTo : Known → Known → Known → Bool → Bool → Choice → Type 0
 ComesTo condition a b one_bit same choice =
     (c x y : BitVector) → Suit condition a b one_bit same c x y → ite_value c x y ≡ choice_value choice c x y
 
--- it is left as a choice only between two nodes, and comes to one bit only where there is one
+-- it is left as a choice only between two nodes, and is one bit only where there is one
 abbrev pub LeavesChoice : Bool → Bool → Choice → Type 0
 LeavesChoice one_bit same choices.Itself = same ≡ false
 LeavesChoice one_bit same choices.First = Unit {0}
 LeavesChoice one_bit same choices.Second = Unit {0}
 LeavesChoice one_bit same _ = one_bit ≡ true
 
--- an operator that tells something of equal operands: neither `and` nor `or`
+-- an operator that says something of equal operands: neither `and` nor `or`
 abbrev pub IsDistinguishing : NetTwo → Type 0
 IsDistinguishing And = ⊥
 IsDistinguishing Or = ⊥

@@ -1,5 +1,5 @@
--- What a circuit that was simplified has of the one before: names, widths, first values and the run, which is after BTOR2
--- (Niemetz et al., CAV 2018).
+-- What a circuit that was simplified has of the one before: names, widths, first values and the run, which is after
+-- BTOR2 (Niemetz et al., CAV 2018).
 use Rattle.std.specs.Prelude.{◌≡◌, ℕ, List, map}
 use Rattle.net_graph.specs.Nets.{width_at, widths_of}
 use Rattle.one_rule.specs.Stimulus.{AlwaysFits, InputVectors, inputs_of}

@@ -1,4 +1,5 @@
-// What a choice comes to by what is known of its condition and of what is chosen from, whatever the net.
+//! Circuits: what the value of a choice is, by what is known of its condition and of what is chosen from.
+
 ghost use Rattle.std.specs.Prelude.{true, false};
 ghost use Rattle.net_simplify.specs.Identities.{ComesTo, LeavesChoice};
 ghost use Rattle.net_simplify.specs.declared.known.Known.TheVariants.{Nothing};
@@ -18,7 +19,7 @@ pub(crate) enum Choice {
     ConditionAndFirst,
 }
 
-/// What a choice comes to where this is known of its condition, of what it gives where that is 1, and else.
+/// The value of a choice where this is known of its condition, of what it gives where that is 1, and else.
 pub(crate) fn choice_of(condition: Known, a: Known, b: Known, one_bit: bool, same: bool) -> Choice
     ensures comes_to { ComesTo condition a b one_bit same result }
     ensures leaves { LeavesChoice one_bit same result }

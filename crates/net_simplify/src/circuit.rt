@@ -1,3 +1,5 @@
+//! Circuits: a whole circuit made simpler.
+
 ghost use Rattle.std.specs.Prelude.{IfOk};
 ghost use Rattle.circuit_eval.specs.Circuits.{IsCircuit};
 ghost use Rattle.circuit_eval.specs.Tidy.{IsTidy};
@@ -13,8 +15,8 @@ use circuit_eval::{Circuit, Wires};
 use kw_bits::NoMemory;
 use std::alloc::Global;
 
-/// The circuit made simpler: it runs the same and is tidy. Inputs, states and outputs keep their names, widths and first
-/// values, in order.
+/// The circuit made simpler: it runs the same and is tidy. Inputs, states and outputs keep their names, widths and
+/// first values, in order.
 pub fn simplify(alloc: Global, circuit: &Circuit) -> Result<Circuit, NoMemory>
     ensures run { IfOk result (RunsAs circuit.now) }
     ensures kept { IfOk result (Keeps circuit.now) }

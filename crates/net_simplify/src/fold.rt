@@ -1,3 +1,5 @@
+//! Circuits: operators on constants alone, computed.
+
 // The values of operators on constants alone.
 ghost use Rattle.std.specs.Prelude.{IfNone, IfSome};
 ghost use Rattle.net_graph.specs.Nets.{IsNet, Stands, widths_of};
@@ -9,7 +11,7 @@ use crate::nodes::constant_at;
 use kw_bits::Bits;
 use net_graph::{Net, NetOp, value_of};
 
-/// The value of an operator, if it stands on constants alone.
+/// The value of an operator, if its operands are constants alone.
 pub(crate) fn folded(net: &Net, op: &NetOp) -> Option<Bits>
     requires stands { Stands (widths_of net.now) op.now }
     requires net { IsNet net.now }

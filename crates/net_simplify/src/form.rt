@@ -1,15 +1,20 @@
+//! Circuits: the simplest form of an operator over nodes that are simplified already.
+
 // The simplest form of an operator in a net whose operators are simplified.
-ghost use Rattle.std.specs.Prelude.{◌<◌, length, IfSome, IsTrue};
+ghost use Rattle.std.specs.Prelude.{◌≡◌, ◌≢◌, ◌<◌, length, IfSome, IsTrue};
+ghost use Rattle.kw_bits.specs.Operators as op;
 ghost use Rattle.net_graph.specs.Nets.{IsNet, Stands, widths_of};
 ghost use Rattle.net_graph.specs.declared.node.NetOne.TheVariants.{Not};
 ghost use Rattle.net_graph.specs.declared.node.NetOp.TheVariants.{Ite, One, Two};
 ghost use Rattle.circuit_eval.specs.Tidy.{IsNeeded};
-ghost use Rattle.net_simplify.specs.Forms.{Equals, IsForm, IsLean, IsReduction};
+ghost use Rattle.net_simplify.specs.Forms.{Equals, IsForm, IsLean, IsReduction, IsUnit};
 ghost use Rattle.net_simplify.specs.declared.form.Form.TheVariants.{Constant, Node};
 
 use crate::choices::{Choice, choice_of};
+use crate::factors::factor_of;
 use crate::fold::folded;
 use crate::identities::{Identity, identity_of};
+use crate::implied::value_where;
 use crate::nodes::{
     are_opposite, known_at, known_if_clear, known_if_set, node_if_clear, node_if_set, not_of, op_at,
 };
@@ -17,7 +22,7 @@ use crate::opposites::{of_opposites, opposite_of};
 use kw_bits::Bits;
 use net_graph::{Net, NetId, NetOne, NetOp, NetTwo};
 
-/// What a node can be in place of an operator: a node that stands already, a constant, or an operator.
+/// What a node can be in place of an operator: a node that is there already, a constant, or an operator.
 #[derive(Clone, Copy)]
 pub(crate) enum Form {
     Node(NetId),
@@ -82,6 +87,12 @@ fn two_form(net: &Net, operator: NetTwo, a: NetId, b: NetId) -> Form
     if let Some(value) = opposites_value(net, operator, a, b) {
         return Form::Constant(value);
     }
+    if let Some(id) = factor_of(net, operator, a, b) {
+        return Form::Node(id);
+    }
+    if let Some(form) = decided_form(net, operator, a, b) {
+        return form;
+    }
     match identity_of(operator, known_at(net, a), known_at(net, b), a == b) {
         Identity::Itself => Form::Operator(op),
         Identity::First => Form::Node(a),
@@ -105,6 +116,56 @@ fn opposites_value(net: &Net, operator: NetTwo, a: NetId, b: NetId) -> Option<Bi
     } else {
         None
     }
+}
+
+// The form of an `and` or an `or` of two bits of which one decides the other.
+fn decided_form(net: &Net, operator: NetTwo, a: NetId, b: NetId) -> Option<Form>
+    requires stands { Stands (widths_of net.now) (Two operator a b) }
+    requires lean { IsLean net.now }
+    ensures { IfSome result (IsForm net.now (Two operator a b)) }
+{
+    let unit = unit_of(operator)?;
+    if net.width(a) != 1 {
+        return None;
+    }
+    if let Some(known) = value_where(net, a, unit, b) {
+        return Some(decided(a, unit, known));
+    }
+    if let Some(known) = value_where(net, b, unit, a) {
+        return Some(decided(b, unit, known));
+    }
+    None
+}
+
+// The bit that leaves the other operand of an operator as it is.
+fn unit_of(operator: NetTwo) -> Option<bool>
+    ensures { IfSome result (IsUnit operator) }
+{
+    match operator {
+        NetTwo::And => Some(true),
+        NetTwo::Or => Some(false),
+        _ => None,
+    }
+}
+
+// The form of an operator on a bit and another that is known wherever the first is the operator's unit.
+fn decided(id: NetId, unit: bool, known: bool) -> Form
+    ensures same { known ≡ unit → result ≡ Node id }
+    ensures other { known ≢ unit → result ≡ Constant (op.flag known) }
+{
+    if known == unit {
+        Form::Node(id)
+    } else {
+        Form::Constant(bit(known))
+    }
+}
+
+// One bit.
+fn bit(value: bool) -> Bits
+    ensures { result ≡ op.flag value }
+{
+    let clear = Bits::zero(1);
+    if value { clear.not() } else { clear }
 }
 
 // A choice by a `not` is the other choice.
@@ -153,7 +214,7 @@ fn choice_form(net: &Net, condition: NetId, a: NetId, b: NetId) -> Form
     }
 }
 
-// An operator that is needed on whatever operands.
+// An operator that is needed on all operands.
 fn other_form(net: &Net, op: NetOp) -> Form
     requires stands { Stands (widths_of net.now) op }
     requires net { IsNet net.now }

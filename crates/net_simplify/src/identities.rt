@@ -1,4 +1,5 @@
-// What an operator on two nodes comes to by what is known of them, whatever the net.
+//! Circuits: what the value of an operator on two nodes is, by what is known of them, in every net.
+
 ghost use Rattle.std.specs.Prelude.{IsTrue};
 ghost use Rattle.net_simplify.specs.Identities.{HoldsOf, IsAsWide, IsNeverBelow, LeavesOnly};
 ghost use Rattle.net_graph.specs.declared.node.NetTwo.TheVariants.{And, Or, Xor, Add, Sub, Mul, EqBits, Neq};
@@ -20,7 +21,7 @@ pub(crate) enum Identity {
     True,
 }
 
-/// What an operator comes to on operands of which this is known, and which are the same node or not.
+/// The value of an operator on operands of which this is known, and which are the same node or not.
 pub(crate) fn identity_of(operator: NetTwo, a: Known, b: Known, same: bool) -> Identity
     ensures holds { HoldsOf operator a b same result }
     ensures width { IsAsWide operator result }
@@ -37,7 +38,7 @@ pub(crate) fn identity_of(operator: NetTwo, a: Known, b: Known, same: bool) -> I
     }
 }
 
-// What a comparison comes to.
+// The value of a comparison.
 #[tactic(auto, unfolding(net_graph::specs::Operators::two_width, net_graph::specs::Operators::TakesTwo))]
 fn comparison(operator: NetTwo, a: Known, b: Known, same: bool) -> Identity
     ensures holds { HoldsOf operator a b same result }
@@ -143,7 +144,7 @@ fn product(a: Known, b: Known, same: bool) -> Identity
     }
 }
 
-// Whether the first number is at least the second, whatever they are.
+// Whether the first number is at least the second, for all values.
 fn is_never_below(a: Known, b: Known, same: bool) -> bool
     ensures { IsTrue result → IsNeverBelow a b same }
 {

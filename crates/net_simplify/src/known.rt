@@ -1,4 +1,6 @@
-// What is known of a value whatever the inputs and states are.
+//! Circuits: what is known of a value for all inputs and states.
+
+ghost use Rattle.net_simplify.specs.Forms.{IsKnownBit};
 ghost use Rattle.net_simplify.specs.Identities.{IsKnown};
 
 use kw_bits::Bits;
@@ -24,5 +26,16 @@ pub(crate) fn known_of(value: Bits) -> Known
         Known::One
     } else {
         Known::Nothing
+    }
+}
+
+/// The bit that a constant of one bit is.
+pub(crate) fn bit_of(value: Bits) -> Option<bool>
+    ensures { IsKnownBit result value }
+{
+    if value.width() == 1 {
+        Some(value.number() == 1)
+    } else {
+        None
     }
 }

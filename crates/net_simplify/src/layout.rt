@@ -1,3 +1,5 @@
+//! Circuits: the nodes in use, laid out in a net of their own.
+
 // The net of those nodes alone that serve.
 ghost use Rattle.std.specs.Prelude.{◌≡◌, ℕ, length, IfOk, Some, slice_get, true};
 ghost use Rattle.net_graph.specs.Nets.{IsNet};

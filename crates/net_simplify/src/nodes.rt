@@ -1,3 +1,5 @@
+//! Circuits: a node's operator, and its value if it is a constant.
+
 // What single nodes of a net are.
 ghost use Rattle.std.specs.Prelude.{◌≡◌, ◌≢◌, ◌<◌, ℕ, length, IfNone, IfSome, IsTrue, Some, slice_get};
 ghost use Rattle.kw_bits.specs.BitVector.{BitVector};
@@ -6,14 +8,16 @@ ghost use Rattle.net_graph.specs.Laws.{Feeds};
 ghost use Rattle.net_graph.specs.Nets.{IsNet, width_at, widths_of};
 ghost use Rattle.net_graph.specs.Values.{node_value, Sources};
 ghost use Rattle.net_graph.specs.declared.node.NetOne.TheVariants.{Not};
-ghost use Rattle.net_graph.specs.declared.node.NetOp.TheVariants.{Const, One};
+ghost use Rattle.net_graph.specs.declared.node.NetOp.TheVariants.{Const, One, Two};
+ghost use Rattle.net_graph.specs.declared.node.NetTwo.TheVariants.{And, Or};
 ghost use Rattle.circuit_eval.specs.Tidy.{IsConstant};
-ghost use Rattle.net_simplify.specs.Forms.{IsNodeIf};
+ghost use Rattle.net_simplify.specs.Forms.{IsKnownBit, IsNodeIf};
 ghost use Rattle.net_simplify.specs.Identities.{IsKnown};
 
-use crate::known::{Known, known_of};
+use crate::known::{Known, bit_of, known_of};
+use crate::opposites::is_opposite;
 use kw_bits::Bits;
-use net_graph::{Net, NetId, NetOne, NetOp};
+use net_graph::{Net, NetId, NetOne, NetOp, NetTwo};
 
 /// The operator of a node.
 pub(crate) fn op_at(net: &Net, id: NetId) -> NetOp
@@ -46,6 +50,33 @@ pub(crate) fn not_of(op: &NetOp) -> Option<NetId>
     }
 }
 
+/// Two nodes.
+#[derive(Clone, Copy)]
+pub(crate) struct Pair {
+    pub(crate) first: NetId,
+    pub(crate) second: NetId,
+}
+
+/// The operands of an `and`.
+pub(crate) fn and_of(op: &NetOp) -> Option<Pair>
+    ensures { IfSome result (λ pair. op.now ≡ Two And pair.first pair.second) }
+{
+    match *op {
+        NetOp::Two(NetTwo::And, first, second) => Some(Pair { first, second }),
+        _ => None,
+    }
+}
+
+/// The operands of an `or`.
+pub(crate) fn or_of(op: &NetOp) -> Option<Pair>
+    ensures { IfSome result (λ pair. op.now ≡ Two Or pair.first pair.second) }
+{
+    match *op {
+        NetOp::Two(NetTwo::Or, first, second) => Some(Pair { first, second }),
+        _ => None,
+    }
+}
+
 /// What is known of a node's value.
 pub(crate) fn known_at(net: &Net, id: NetId) -> Known
     requires node { id < length net.now }
@@ -55,6 +86,18 @@ pub(crate) fn known_at(net: &Net, id: NetId) -> Known
     match constant_at(net, id) {
         Some(value) => known_of(value),
         None => Known::Nothing,
+    }
+}
+
+/// The value of a node, if it is a constant of one bit.
+pub(crate) fn bit_at(net: &Net, id: NetId) -> Option<bool>
+    requires node { id < length net.now }
+    requires net { IsNet net.now }
+    ensures { (s : Sources) → Feeds s net.now → IsKnownBit result (node_value s net.now id) }
+{
+    match constant_at(net, id) {
+        Some(value) => bit_of(value),
+        None => None,
     }
 }
 
@@ -114,7 +157,7 @@ pub(crate) fn node_if_clear(net: &Net, condition: NetId, id: NetId) -> NetId
     }
 }
 
-/// Whether one of two nodes is a `not` of the other.
+/// Whether one of two nodes is a `not` of the other, or both are comparisons that say the opposite.
 pub(crate) fn are_opposite(net: &Net, a: NetId, b: NetId) -> bool
     requires a { a < length net.now }
     requires b { b < length net.now }
@@ -124,7 +167,10 @@ pub(crate) fn are_opposite(net: &Net, a: NetId, b: NetId) -> bool
     if is_not_of(net, b, a) {
         return true;
     }
-    is_not_of(net, a, b)
+    if is_not_of(net, a, b) {
+        return true;
+    }
+    is_opposite_of(net, b, a)
 }
 
 // Whether a node is a `not` of another.
@@ -136,4 +182,16 @@ fn is_not_of(net: &Net, id: NetId, a: NetId) -> bool
         Some(turned) => turned == a,
         None => false,
     }
+}
+
+/// Whether a node is the opposite comparison of another.
+pub(crate) fn is_opposite_of(net: &Net, id: NetId, a: NetId) -> bool
+    requires node { id < length net.now }
+    requires other { a < length net.now }
+    requires net { IsNet net.now }
+    ensures { IsTrue result → (s : Sources) → Feeds s net.now → node_value s net.now id ≡ op.not (node_value s net.now a) }
+{
+    let first = op_at(net, a);
+    let second = op_at(net, id);
+    is_opposite(&first, &second)
 }

@@ -1,5 +1,6 @@
-// Operators on opposite values, and comparisons that tell what others don't.
-ghost use Rattle.std.specs.Prelude.{◌≤◌, IfSome};
+//! Circuits: operators on opposite values, and comparisons that say what others don't.
+
+ghost use Rattle.std.specs.Prelude.{◌≤◌, IfSome, IsTrue};
 ghost use Rattle.net_simplify.specs.Forms.{IsOfOpposites, IsOpposite, Turns};
 
 use kw_bits::Bits;
@@ -18,7 +19,17 @@ pub(crate) fn opposite_of(op: &NetOp) -> Option<NetOp>
     }
 }
 
-// The comparison that tells what another doesn't.
+/// Whether an operator has the turned value of another, for all values: both are comparisons of the same nodes.
+pub(crate) fn is_opposite(op: &NetOp, other: &NetOp) -> bool
+    ensures { IsTrue result → Turns op.now other.now }
+{
+    match opposite_of(op) {
+        Some(turned) => turned == *other,
+        None => false,
+    }
+}
+
+// The comparison that says what another doesn't.
 fn opposite(operator: NetTwo) -> Option<NetTwo>
     ensures { IfSome result (IsOpposite operator) }
 {
@@ -37,7 +48,7 @@ fn opposite(operator: NetTwo) -> Option<NetTwo>
     }
 }
 
-/// What an operator comes to on a node of this width and one whose bits are the turned ones.
+/// The value of an operator on a node of this width and one whose bits are the turned ones.
 pub(crate) fn of_opposites(operator: NetTwo, width: u32) -> Option<Bits>
     requires some { 1 ≤ width }
     requires most { width ≤ 128 }

@@ -1,3 +1,5 @@
+//! Circuits: which nodes are in use.
+
 // Which nodes of a circuit's net serve a next value or an output.
 ghost use Rattle.std.specs.Prelude.{◌≡◌, ◌<◌, false, length, map, replicate, All, IfOk};
 ghost use Rattle.net_graph.specs.Nets.{IsNet};
@@ -50,7 +52,7 @@ fn mark_outputs(outputs: &[OutputWire], serves: &mut [bool])
     }
 }
 
-// From the last node to the first, what a node that serves stands on.
+// From the last node to the first, the operands of a node that serves.
 fn mark_operands(ops: &[NetOp], serves: &mut [bool])
     requires count { length ops.now ≡ length serves.old }
     requires net { IsNet ops.now }
@@ -61,7 +63,7 @@ fn mark_operands(ops: &[NetOp], serves: &mut [bool])
     }
 }
 
-// Marks what a node stands on, if it serves.
+// Marks the operands of a node, if it serves.
 fn mark_below(ops: &[NetOp], id: usize, serves: &mut [bool])
     requires node { id < length ops.now }
     requires count { length ops.now ≡ length serves.old }
@@ -73,7 +75,7 @@ fn mark_below(ops: &[NetOp], id: usize, serves: &mut [bool])
     }
 }
 
-// Marks what an operator stands on.
+// Marks an operator's operands.
 fn mark(op: &NetOp, serves: &mut [bool])
     requires { All (λ a. a < length serves.old) (operands op.now) }
     ensures { serves.new ≡ marked (operands op.now) serves.old }

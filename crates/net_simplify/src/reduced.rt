@@ -1,3 +1,5 @@
+//! Circuits: a net of simplest forms, and where each node of the first net is in it.
+
 // The net of the simplest forms of a net's nodes.
 ghost use Rattle.std.specs.Prelude.{IfOk, length};
 ghost use Rattle.net_graph.specs.Nets.{IsNet, Stands, widths_of};

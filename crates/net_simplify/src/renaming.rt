@@ -1,3 +1,5 @@
+//! Circuits: operators over other nodes.
+
 // Operators on other nodes.
 ghost use Rattle.std.specs.Prelude.{◌≡◌, ◌<◌, length, All};
 ghost use Rattle.circuit_eval.specs.Tidy.{operands};

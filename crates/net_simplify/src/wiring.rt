@@ -1,3 +1,5 @@
+//! Circuits: the wires of a circuit over another net.
+
 // States, inputs and outputs over another net.
 ghost use Rattle.std.specs.Prelude.{◌≡◌, ◌<◌, length, map, All, IfOk};
 ghost use Rattle.net_simplify.specs.Passes.{moved_output, moved_state};

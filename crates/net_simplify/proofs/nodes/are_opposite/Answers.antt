@@ -12,8 +12,8 @@ pub returns-then-is_not_of : goal.returns-then-is_not_of
 unfolding one_value
 returns-then-is_not_of c = λ t s feeds. value_node c.args.net.now c.requires.net s c.args.b (One Not c.args.a) (c.if-is_not_of.ensures refl)
 
-pub returns : goal.returns
+pub returns-then-is_not_of-2 : goal.returns-then-is_not_of-2
 unfolding one_value
-returns c = λ t s feeds.
-    let turned : node_value s c.args.net.now c.args.a ≡ op.not (node_value s c.args.net.now c.args.b) = value_node c.args.net.now c.requires.net s c.args.a (One Not c.args.b) (c.is_not_of-2.ensures t) in
+returns-then-is_not_of-2 c = λ t s feeds.
+    let turned : node_value s c.args.net.now c.args.a ≡ op.not (node_value s c.args.net.now c.args.b) = value_node c.args.net.now c.requires.net s c.args.a (One Not c.args.b) (c.if-is_not_of-2.ensures refl) in
     sym (ap op.not turned ∙ turned_twice (node_value s c.args.net.now c.args.b) (bits_node c.args.net.now c.requires.net s c.args.b feeds c.requires.b).0)
