@@ -1,4 +1,4 @@
--- How a circuit text is cut: into lines at its line feeds; and what stands in a line before its first `;`, at
+-- How a BTOR2 file is cut: into lines at its line feeds; and what a line has before its first `;`, at
 -- spaces, tabs and carriage returns, into tokens. BTOR2 (Niemetz et al., CAV 2018).
 use Rattle.std.specs.Prelude.{ℕ, ◌+◌, ◌==◌, Bool, true, false, ◌||◌, List, [], ◌∷◌}
 use Rattle.std.specs.List.{filter, slice_split, before_first}
@@ -20,7 +20,7 @@ is_blank b = ((b == 32) || (b == 9)) || (b == 13)
 unfoldable pub lines_of : List ℕ → List (List ℕ)
 lines_of text = slice_split ends_line text
 
--- the number of the line behind the line of a number: one more, as far as places go
+-- the number of the line after the line of a number: one more, as far as places go
 abbrev pub number_after : ℕ → ℕ
 number_after number = capped (number + 1)
 

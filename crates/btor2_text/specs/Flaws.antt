@@ -1,4 +1,4 @@
--- What the calls that read a part of a line answer.
+-- What the calls that read a part of a line return.
 use Rattle.std.specs.Prelude.{◌≡◌, ℕ, List, Option, Result, Ok, Err}
 use Rattle.kw_base.specs.Fault.{fault_at}
 use Rattle.kw_base.specs.declared.fault.Refusal.{Refusal}
@@ -30,6 +30,6 @@ IsRefusal flaws.NoMemory number refusal = refusal ≡ refusals.NoMemory
 abbrev pub GivesLine : ℕ → List (List ℕ) → Result (Option Line) Flaw → Type 0
 GivesLine number tokens r = MatchRead r (λ read. Gives number tokens (Ok read)) (IsMalformed tokens) (IsOutside tokens)
 
--- the tokens behind an id and a keyword, with them, are this line
+-- the tokens after an id and a keyword, with them, are this line
 abbrev pub GivesForm : ℕ → List (List ℕ) → Result Line Flaw → Type 0
 GivesForm number tokens r = MatchRead r (IsLine number tokens) (IsMalformed tokens) (IsOutside tokens)

@@ -1,4 +1,4 @@
--- The forms of lines: each keyword with its bytes, and what the tokens behind it are. BTOR2 (Niemetz et al.,
+-- The forms of lines: each keyword with its bytes, and what the tokens after it are. BTOR2 (Niemetz et al.,
 -- "Btor2, BtorMC and Boolector 3.0", CAV 2018), without arrays, division and remainder, overflow operators,
 -- rotations, and the constraints on traces.
 use Rattle.std.specs.Prelude.{ℕ, Bool, true, false, List, [], ◌∷◌, codes}
@@ -61,7 +61,7 @@ keyword_text keywords.Next = codes "next"
 keyword_text keywords.Output = codes "output"
 keyword_text keywords.Bad = codes "bad"
 
--- the kinds of the tokens behind a keyword, in order
+-- the kinds of the tokens after a keyword, in order
 abbrev pub kinds_of : Keyword → List Kind
 kinds_of keywords.Sort = kinds.Bitvec ∷ kinds.Number ∷ []
 kinds_of keywords.Input = kinds.Sort ∷ []

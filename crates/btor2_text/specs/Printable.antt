@@ -1,4 +1,5 @@
--- Which lines can be printed and read again: one argument of its kind for each of the form's, and a symbol that is a token.
+-- Which lines can be printed and read again: one argument of its kind for each of the form's, and a symbol that is a
+-- token.
 use Rattle.std.specs.Prelude.{◌≡◌, ℕ, ◌<◌, ◌≤◌, ◌^◌, Bool, not, ◌||◌, IsTrue, List, [], ◌∷◌, length}
 use Rattle.std.specs.List.{list_all}
 use Rattle.std.specs.Option.{option_to_list}

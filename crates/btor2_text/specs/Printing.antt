@@ -14,11 +14,11 @@ argument_text (arguments.Id id) = decimal id
 argument_text (arguments.Number number) = decimal number
 argument_text (arguments.Numeral digits) = digits
 
--- a token behind a space
+-- a token after a space
 abbrev pub spaced : List ℕ → List ℕ
 spaced token = 32 ∷ token
 
--- the token of an argument behind a space
+-- the token of an argument after a space
 abbrev pub spaced_argument : Argument → List ℕ
 spaced_argument argument = spaced (argument_text argument)
 

@@ -1,4 +1,4 @@
--- What reading a circuit text line by line gives: its lines, or the fault of the first line that has one, 54 where
+-- What reading a BTOR2 file line by line gives: its lines, or the fault of the first line that has one, 54 where
 -- it is of a form of BTOR2 that is left out, 50 where it is malformed. Lines without a token are skipped.
 use Rattle.std.specs.Prelude.{◌≡◌, ℕ, ◌⊎◌, List, [], ◌∷◌, ◌++◌, Option, None, Some, Result, Ok, Err}
 use Rattle.std.specs.Option.{option_to_list}

@@ -1,4 +1,4 @@
--- What the calls that cut bytes answer: runs of bytes of a class, and what stands behind a line.
+-- What the calls that cut bytes return: runs of bytes of a class, and what comes after a line.
 use Rattle.std.specs.Prelude.{◌≡◌, ℕ, Bool, false, not, List, [], ◌∷◌, Option, None, Some}
 use Rattle.btor2_text.specs.Cut.{is_blank, begins_comment, ends_line, lines_of}
 use Rattle.btor2_text.specs.declared.cut.Class.{Class}
@@ -17,7 +17,7 @@ abbrev pub StopsAt : (ℕ → Bool) → List ℕ → Type 0
 StopsAt passes [] = Unit {0}
 StopsAt passes (b ∷ bytes) = passes b ≡ false
 
--- the lines behind a line feed; no line stands behind the end of the text
+-- the lines after a line feed; no line comes after the end of the text
 abbrev pub lines_behind : Option (Bor (List ℕ)) → List (List ℕ)
 lines_behind None = []
 lines_behind (Some rest) = lines_of rest.now

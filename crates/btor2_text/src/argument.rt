@@ -1,3 +1,5 @@
+//! Circuits: the arguments of a line of BTOR2, token by token.
+
 ghost use Rattle.std.specs.Prelude.{◌≡◌, ◌≤◌, ◌<◌, ◌↔◌, IsTrue, IfSome, IfNone, length, List, ℕ, drop};
 ghost use Rattle.std.specs.Option.{option_to_list};
 ghost use Rattle.btor2_text.specs.Cut.{words_of};
@@ -93,7 +95,7 @@ pub(crate) fn has_minus(kinds: &[Kind], bytes: &[u8]) -> bool
     false
 }
 
-/// What stands behind so many tokens, if there are as many.
+/// What comes after this many tokens, if there are that many.
 pub(crate) fn skip_tokens(count: usize, bytes: &[u8]) -> Option<&[u8]>
     ensures found { IfSome result (λ rest. (count ≤ length (words_of bytes.now)) × (words_of rest.now ≡ drop count (words_of bytes.now))) }
     ensures absent { IfNone result (length (words_of bytes.now) < count) }

@@ -1,18 +1,20 @@
+//! Circuits: a BTOR2 file cut into lines and tokens.
+
 ghost use Rattle.std.specs.Prelude.{◌≡◌, ◌++◌, ◌∷◌, [], IfSome, IfNone};
 ghost use Rattle.std.specs.List.{AllPass, before_first};
 ghost use Rattle.btor2_text.specs.Cut.{begins_comment, lines_of, words_of};
 ghost use Rattle.btor2_text.specs.Runs.{is_of, lines_behind, StopsAt};
 
-/// A class of bytes that stand in a row.
+/// A class of bytes that follow one another.
 #[derive(Clone, Copy, Debug, PartialEq, Eq)]
 enum Class {
     /// Spaces, tabs and carriage returns.
     Blank,
     /// What a token consists of.
     Token,
-    /// What stands before a comment.
+    /// What comes before a comment.
     Code,
-    /// What stands on a line.
+    /// What is on a line.
     Line,
 }
 
@@ -40,7 +42,7 @@ impl Class {
     }
 }
 
-/// A token, and the bytes behind it.
+/// A token, and the bytes after it.
 #[derive(Clone, Copy)]
 pub(crate) struct Token<'a> {
     pub(crate) bytes: &'a [u8],
@@ -60,14 +62,14 @@ pub(crate) fn next_token(bytes: &[u8]) -> Option<Token<'_>>
     Some(Token { bytes, rest })
 }
 
-/// What stands before a line's comment.
+/// What comes before a line's comment.
 pub(crate) fn without_comment(line: &[u8]) -> &[u8]
     ensures { result.now ≡ before_first begins_comment line.now }
 {
     Class::Code.split(line).0
 }
 
-/// The first line of a text, and what stands behind its line feed, if it has one.
+/// The first line of a text, and what comes after its line feed, if it has one.
 pub(crate) fn split_line(text: &[u8]) -> (&[u8], Option<&[u8]>)
     ensures { lines_of text.now ≡ result.0.now ∷ lines_behind result.1 }
 {

@@ -1,3 +1,5 @@
+//! Circuits: the keywords of BTOR2, with their bytes and the kinds of their arguments.
+
 ghost use Rattle.std.specs.Prelude.{◌≡◌, ◌≢◌, ◌↔◌, IsTrue, IfSome, IfNone, Contains};
 ghost use Rattle.btor2_text.specs.Forms.{keyword_text, kinds_of, left_out};
 
@@ -191,7 +193,7 @@ impl Keyword {
         }
     }
 
-    /// What the tokens behind the keyword are, in order.
+    /// What the tokens after the keyword are, in order.
     pub fn kinds(self) -> &'static [Kind]
         ensures { result.now ≡ kinds_of self }
     {

@@ -1,3 +1,5 @@
+//! Circuits: the kinds of arguments and the bases of numerals.
+
 ghost use Rattle.std.specs.Prelude.{◌≡◌};
 ghost use Rattle.btor2_text.specs.Forms as forms;
 
@@ -22,7 +24,7 @@ impl Base {
     }
 }
 
-/// What a token behind a keyword is.
+/// What a token after a keyword is.
 #[derive(Clone, Copy, Debug, PartialEq, Eq)]
 pub enum Kind {
     /// The word `bitvec`.

@@ -1,7 +1,9 @@
+//! Circuits: a line of BTOR2 and its arguments.
+
 use crate::Keyword;
 use kw_bits::{Sequence, Text};
 
-/// What stands behind a line's keyword.
+/// What comes after a line's keyword.
 #[derive(Debug, Drop)]
 pub enum Argument {
     /// The word `bitvec`.
@@ -15,7 +17,7 @@ pub enum Argument {
 }
 
 /// A line: its id, its form, what it names, its symbol, and its number in the text, from 1 to 4,294,967,295, which all
-/// lines behind keep.
+/// lines after keep.
 #[derive(Debug, Drop)]
 pub struct Line {
     pub id: u64,

@@ -1,3 +1,5 @@
+//! Circuits: numbers and numerals in tokens.
+
 ghost use Rattle.std.specs.Prelude.{◌*◌, ◌+◌, ◌<◌, ◌^◌, ◌↔◌, IsTrue};
 ghost use Rattle.std.specs.Char.{is_digit};
 ghost use Rattle.std.specs.List.{AllPass};
@@ -45,7 +47,7 @@ fn value_of(digits: &[u8]) -> Option<u64>
     Some(value)
 }
 
-// The number with one more decimal digit behind it, if it is below 2^64.
+// The number with one more decimal digit after it, if it is below 2^64.
 fn with_digit(value: u64, digit: u32) -> Option<u64>
     ensures { SomeIff result (value * 10 + digit < 2 ^ 64) (value * 10 + digit) }
 {

@@ -1,3 +1,5 @@
+//! Circuits: lines of BTOR2 as text.
+
 ghost use Rattle.std.specs.Prelude.{◌≡◌, ◌++◌, ◌∷◌, [], IfOk, OnOk};
 ghost use Rattle.std.specs.List.{flat_map};
 ghost use Rattle.std.specs.Option.{option_to_list};
@@ -34,7 +36,7 @@ fn push_line(text: &mut Text, line: &Line) -> Result<(), NoMemory>
     text.push(b'\n')
 }
 
-// Adds the tokens of arguments, each behind a space.
+// Adds the tokens of arguments, each after a space.
 fn push_arguments(text: &mut Text, arguments: &[Argument]) -> Result<(), NoMemory>
     ensures { OnOk result (text.new ≡ text.old ++ flat_map spaced_argument arguments.now) }
 {
@@ -44,7 +46,7 @@ fn push_arguments(text: &mut Text, arguments: &[Argument]) -> Result<(), NoMemor
     Ok(())
 }
 
-// Adds a symbol behind a space, if there is one.
+// Adds a symbol after a space, if there is one.
 fn push_symbol(text: &mut Text, symbol: &Option<Text>) -> Result<(), NoMemory>
     ensures { OnOk result (text.new ≡ text.old ++ flat_map spaced (option_to_list symbol.now)) }
 {

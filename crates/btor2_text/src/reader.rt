@@ -1,3 +1,5 @@
+//! Circuits: the reader of BTOR2 files, from a text to its lines or its first fault.
+
 ghost use Rattle.std.specs.Prelude.{◌≡◌, ◌∷◌, ◌↔◌, IsTrue, List, IfOk};
 ghost use Rattle.kw_base.specs.Fault.{IfFault, IsOkUnlessNoMemory, IsFaultUnlessNoMemory};
 ghost use Rattle.kw_base.specs.declared.fault.Fault.{Fault as FaultOf};
@@ -70,7 +72,7 @@ impl Flaw {
 }
 
 /// The lines of a BTOR2 text, or the fault of its first faulty line: 54 for a form of BTOR2 that is left out, 50 for
-/// any other line that is of no form. A line behind line 4,294,967,295 is given that number.
+/// any other line that is of no form. A line after line 4,294,967,295 is given that number.
 pub fn read_lines(alloc: Global, text: &[u8]) -> Result<Lines, Refusal>
     ensures lines { IfOk result (AreLinesOf text.now) }
     ensures printable { IfOk result ArePrintable }
