@@ -22,3 +22,8 @@ high-at {V} low before after id q value past is = ⊎_elim
 pub high-insert : {V : Type 0} (low : List (Option V)) (before after : ℕ → Option V) (id : ℕ) (value : V) → length low ≤ id → after ≡ update nat_eq before id (Some value)
     → (λ q. at_place (slice_get low q) (after q)) ≡ update nat_eq (λ q. at_place (slice_get low q) (before q)) id (Some value)
 high-insert {V} low before after id value past is = fun_ext (λ q. high-at low before after id q value past is)
+
+-- a map that is unchanged leaves each id what it stands for
+pub high-same : {V : Type 0} (low : List (Option V)) (before after : ℕ → Option V) → after ≡ before
+    → ◌≡◌ {A = ℕ → Option V} (λ q. at_place (slice_get low q) (after q)) (λ q. at_place (slice_get low q) (before q))
+high-same {V} low before after same = fun_ext (λ q. ap (at_place (slice_get low q)) (ap (λ (f : ℕ → Option V). f q) same))

@@ -1,6 +1,6 @@
--- Which lines are accepted behind earlier ones, which fault the others have, and which texts are accepted. BTOR2 (Niemetz
--- et al., CAV 2018); that the value of an `init` depends on no input and no state, and that each state has a `next`, are
--- this project's own conditions.
+-- Which lines are accepted after earlier ones, which fault the others have, and which texts are accepted. BTOR2
+-- (Niemetz et al., CAV 2018); that the value of an `init` depends on no input and no state, and that each state has a
+-- `next`, are this project's own conditions.
 use Rattle.std.specs.Prelude.{◌≡◌, ℕ, ◌^◌, nat_lt, Bool, true, false, not, ◌&&◌, List, [], ◌∷◌, Option, None, Some, option_map, is_some, slice_get}
 use Rattle.std.specs.List.{find, list_all}
 use Rattle.std.specs.Option.{option_or}
@@ -27,7 +27,7 @@ use Rattle.btor2_model.specs.declared.rule.Rule.TheVariants as forms
 abbrev pub is_fresh : Scope → ℕ → Bool
 is_fresh scope id = not (is_some (scope.meanings id))
 
--- an id that an argument is stands on an earlier line
+-- an id that an argument is, is on an earlier line
 abbrev pub is_known : Scope → Argument → Bool
 is_known scope (arguments.Id id) = is_some (scope.meanings id)
 is_known scope other = true
@@ -52,7 +52,7 @@ abbrev pub passes : (Rule → Measures → Bool) → Rule → Option Measures �
 passes test rule None = false
 passes test rule (Some m) = test rule m
 
--- sorts stand where sorts are wanted and values where values are, and widths are as the form asks
+-- sorts are where sorts are wanted and values where values are, and widths are as the form asks
 abbrev pub agree : Scope → Keyword → List Argument → Bool
 agree scope keyword given = names_state (rule_of keyword) scope given && passes widths_agree (rule_of keyword) (measures scope (kinds_of keyword) given)
 
@@ -77,7 +77,7 @@ abbrev pub init_is_fixed : Rule → Scope → List Argument → Bool
 init_is_fixed forms.Init scope given = not (meaning_depends (scope.meanings (id_at given 2)))
 init_is_fixed other scope given = true
 
--- what is asked of a line behind what is declared, each with the number of its fault
+-- what is asked of a line after what is declared, each with the number of its fault
 abbrev pub conditions : Scope → Line → List (ℕ × Bool)
 conditions scope line =
     let rule : Rule = rule_of line.keyword in
@@ -98,7 +98,7 @@ line_fault scope line = option_map (λ c. c.0) (find (λ c. not c.1) (conditions
 abbrev pub fault_in : Line → ℕ → Fault
 fault_in line number = fault_at number (line_place line.number)
 
--- the fault of the first line that has one, behind what is declared
+-- the fault of the first line that has one, after what is declared
 abbrev pub lines_fault : Scope → List Line → Option Fault
 lines_fault scope [] = None
 lines_fault scope (line ∷ lines) = option_or (option_map (fault_in line) (line_fault scope line)) (lines_fault (behind scope line) lines)

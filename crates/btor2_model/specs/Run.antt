@@ -1,5 +1,5 @@
--- The run of an accepted text: the values of its lines at a step, and its states step by step. BTOR2 (Niemetz et al., CAV
--- 2018); that a state without `init` starts at 0 is this project's own.
+-- The run of an accepted text: the values of its lines at a step, and its states step by step. BTOR2 (Niemetz et al.,
+-- CAV 2018); that a state without `init` starts at 0 is this project's own.
 use Rattle.std.specs.Prelude.{ℕ, zero, suc, ◌+◌, ◌-◌, ◌^◌, ◌==◌, nat_eq, Bool, false, if◌then◌else◌, List, [], ◌∷◌, ◌++◌, Option, map, filter, option_map, unwrap_or}
 use Rattle.std.specs.List.{find, zip}
 use Rattle.std.specs.Map.{lookup}
@@ -26,7 +26,7 @@ use Rattle.btor2_model.specs.declared.rule.Rule.TheVariants as forms
 abbrev pub Values : Type 0
 Values = ℕ → BitVector
 
--- no bits: what stands for a value where there is none
+-- no bits: used as a value where there is none
 abbrev pub no_bits : BitVector
 no_bits = zero_at 0
 
@@ -83,12 +83,12 @@ base_of keywords.Const = bases.Binary
 base_of keywords.Consth = bases.Hexadecimal
 base_of other = bases.Decimal
 
--- an operand with so many bits more
+-- an operand with this many bits more
 abbrev pub extended : Keyword → BitVector → ℕ → BitVector
 extended keywords.Sext a more = vector.sext a (a.width + more)
 extended other a more = vector.zext a (a.width + more)
 
--- the value that an operator or a constant gives, behind what is declared, by the values of earlier lines
+-- the value that an operator or a constant gives, after what is declared, by the values of earlier lines
 abbrev pub operator_value : Scope → Values → Keyword → List Argument → BitVector
 operator_value scope values keyword (arguments.Id sort ∷ []) = constant keyword (sort_width_in scope sort)
 operator_value scope values keyword (arguments.Id sort ∷ arguments.Numeral digits ∷ []) =
@@ -112,7 +112,7 @@ value_by forms.Input step scope values line = step.inputs line.id
 value_by forms.State step scope values line = step.states line.id
 value_by other step scope values line = operator_value scope values line.keyword line.arguments
 
--- the values at a step, behind what is declared and has a value so far
+-- the values at a step, after what is declared and has a value so far
 abbrev pub values_behind : Step → Scope → Values → List Line → Values
 values_behind step scope values [] = values
 values_behind step scope values (line ∷ lines) =
@@ -147,7 +147,7 @@ abbrev pub first_values : List Line → Values
 first_values lines state =
     unwrap_or (value_set is_init lines (values_at lines (record { inputs = λ _. no_bits; states = λ _. no_bits })) state) (zero_at (width_in lines state))
 
--- the values of states behind a step: what their `next` has in it
+-- the values of states after a step: what their `next` has in it
 abbrev pub next_values : List Line → Values → Values
 next_values lines values state = unwrap_or (value_set is_next lines values state) no_bits
 
@@ -172,7 +172,7 @@ flag_ids lines = filter (λ id. width_in lines id == 1) (map (λ line. id_at lin
 abbrev pub first_row : List Line → Row
 first_row lines = record { regs = map (first_values lines) (ids_of is_state lines); fired = map (λ _. false) (flag_ids lines) }
 
--- the row behind a step: the states then, and the flags in it
+-- the row after a step: the states then, and the flags in it
 abbrev pub row_behind : List Line → InputsByCycle → ℕ → Row
 row_behind lines inputs step =
     record {

@@ -1,4 +1,4 @@
--- What lines declare for those behind them: what each id stands for, and which states have an `init` and a `next`. BTOR2
+-- What lines declare for those after them: what each id stands for, and which states have an `init` and a `next`. BTOR2
 -- (Niemetz et al., CAV 2018).
 use Rattle.std.specs.Prelude.{ℕ, nat_eq, Bool, true, false, cond, ◌&&◌, ◌||◌, List, [], ◌∷◌, Option, None, Some, slice_get, unwrap_or}
 use Rattle.std.specs.List.{list_any}
@@ -55,7 +55,8 @@ width_wanted kind None = None
 width_wanted kinds.Sort (Some meaning) = sort_width meaning.role meaning.width
 width_wanted other (Some meaning) = value_width meaning.role meaning.width
 
--- an argument as a number: the width of what it names, or the number that it is; 0 for all else, and where there is none
+-- an argument as a number: the width of what it names, or the number that it is; 0 for all else, and where there is
+-- none
 abbrev pub measure : Scope → Option Kind → Option Argument → Option ℕ
 measure scope (Some kind) (Some (arguments.Id id)) = width_wanted kind (scope.meanings id)
 measure scope (Some kinds.Number) (Some (arguments.Number number)) = Some number
@@ -109,7 +110,7 @@ meaning_of scope line =
 abbrev pub set_now : Bool → (ℕ → Bool) → ℕ → ℕ → Bool
 set_now now states state id = cond (now && nat_eq state id) true (states id)
 
--- what is declared behind a line
+-- what is declared after a line
 abbrev pub behind : Scope → Line → Scope
 behind scope line =
     record {
@@ -118,7 +119,7 @@ behind scope line =
       continued = set_now (is_next (rule_of line.keyword)) scope.continued (id_at line.arguments 1);
     }
 
--- and behind some
+-- and after some
 abbrev pub behind_all : Scope → List Line → Scope
 behind_all scope [] = scope
 behind_all scope (line ∷ lines) = behind_all (behind scope line) lines

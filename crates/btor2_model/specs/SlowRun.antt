@@ -38,7 +38,7 @@ step_with ids inputs states = record { inputs = λ id. unwrap_or (lookup (nat_eq
 abbrev pub sets : (Rule → Bool) → ℕ → Line → Bool
 sets test state line = test (rule_of line.keyword) && nat_eq state (id_at line.arguments 1)
 
--- the line is an output of one bit, behind what is declared
+-- the line is an output of one bit, after what is declared
 abbrev pub is_flag : Scope → Line → Bool
 is_flag scope line =
     is_output (rule_of line.keyword) && (unwrap_or (option_map (λ (meaning : Meaning). meaning.width) (scope.meanings (id_at line.arguments 0))) 0 == 1)

@@ -4,7 +4,7 @@ use Rattle.std.specs.Ordering.{nat_cmp}
 use Rattle.std.specs.Prelude.{ℕ, Option, None, Some, slice_get}
 use Rattle.btor2_model.specs.declared.table.Table.{Table}
 
--- what stands at a place, if there is such a place, or else the other
+-- what is at a place, if there is such a place, or else the other
 abbrev pub at_place : {V : Type 0} → Option (Option V) → Option V → Option V
 at_place None other = other
 at_place (Some value) other = value

@@ -1,3 +1,5 @@
+//! Circuits: which lines of BTOR2 are accepted as a circuit, and the first fault of the others.
+
 ghost use Rattle.std.specs.Prelude.{◌≡◌, IfOk, OnOk, None, Some};
 ghost use Rattle.kw_base.specs.Fault.{IfFault, IsOkUnlessNoMemory, IsFaultUnlessNoMemory};
 ghost use Rattle.kw_base.specs.declared.fault.Fault.{Fault as FaultOf};
@@ -13,8 +15,8 @@ use btor2_text::{Line, Lines};
 use kw_base::{Refusal, fault_number};
 use std::alloc::Global;
 
-/// The lines, if they are accepted. Otherwise the fault of the first line that isn't, of 51, 52, 53, 55, 57, 58 and 59 the
-/// smallest; and if there is none, 56 at the first state without a `next`.
+/// The lines, if they are accepted. Otherwise the fault of the first line that isn't, of 51, 52, 53, 55, 57, 58 and 59
+/// the smallest; and if there is none, 56 at the first state without a `next`.
 pub fn accept(alloc: Global, lines: Lines) -> Result<Btor, Refusal>
     requires { ArePrintable lines }
     ensures lines { IfOk result (λ text. text ≡ lines) }

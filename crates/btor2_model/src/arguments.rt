@@ -1,3 +1,5 @@
+//! Circuits: the arguments of a line by their places.
+
 ghost use Rattle.std.specs.Prelude.{◌≡◌, slice_get};
 ghost use Rattle.btor2_model.specs.Acceptance.{digits_of};
 ghost use Rattle.btor2_model.specs.Scope.{id_at, number_of};

@@ -1,3 +1,5 @@
+//! Circuits: lines that are accepted, by their type.
+
 ghost use Rattle.std.specs.Prelude.{◌≡◌};
 ghost use Rattle.btor2_model.specs.Acceptance.{IsAccepted};
 

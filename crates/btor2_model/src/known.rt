@@ -1,3 +1,5 @@
+//! Circuits: what the lines so far declare, and the conditions on the next line.
+
 ghost use Rattle.std.specs.Prelude.{◌≡◌, ◌≤◌, is_some, IfOk, IfErr, IfSome, OnOk, None, Some, option_map, slice_get, unwrap_or};
 ghost use Rattle.std.specs.BTreeSet as set;
 ghost use Rattle.std.specs.List.{list_all, list_any};
@@ -32,7 +34,7 @@ pub(crate) struct Known {
 }
 
 impl Known {
-    /// Nothing yet, with places for so many low ids.
+    /// Nothing yet, with places for this many low ids.
     pub(crate) fn new(alloc: Global, places: usize) -> Result<Known, NoMemory>
         ensures { IfOk result (λ known. scope_of known ≡ scope.no_lines) }
     {
@@ -43,8 +45,8 @@ impl Known {
         })
     }
 
-    /// Takes the next line, if it meets all conditions behind the others; otherwise the fault of the first that it doesn't
-    /// meet.
+    /// Takes the next line, if it meets all conditions after the others; otherwise the fault of the first that it
+    /// doesn't meet.
     pub(crate) fn add(&mut self, line: &Line) -> Result<(), Refusal>
         requires { AreNarrow (scope_of self.old) }
         ensures accepted { OnOk result (acceptance.line_fault (scope_of self.old) line.now ≡ None) }
@@ -147,7 +149,7 @@ impl Known {
         }
     }
 
-    // The widths and numbers of a line, where sorts and values stand where they are wanted.
+    // The widths and numbers of a line, where sorts and values are where they are wanted.
     fn measures(&self, keyword: Keyword, arguments: &[Argument]) -> Option<Measures>
         ensures { result ≡ scope.measures (scope_of self.now) (kinds_of keyword) arguments.now }
     {
@@ -170,7 +172,7 @@ impl Known {
         }
     }
 
-    // Whether all ids that a line names stand on earlier lines.
+    // Whether all ids that a line names are on earlier lines.
     fn are_known(&self, arguments: &[Argument]) -> bool
         ensures { result ≡ list_all (acceptance.is_known (scope_of self.now)) arguments.now }
     {

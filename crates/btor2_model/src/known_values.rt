@@ -1,3 +1,5 @@
+//! Circuits: the values of ids within a step.
+
 ghost use Rattle.std.specs.Prelude.{◌≡◌, OnOk, None, nat_eq};
 ghost use Rattle.std.specs.Map.{update};
 ghost use Rattle.btor2_model.specs.SlowRun.{known_value};
@@ -13,7 +15,7 @@ pub(crate) struct KnownValues {
 }
 
 impl KnownValues {
-    /// No value, which takes no memory.
+    /// No value, which allocates nothing.
     pub(crate) fn new(alloc: Global) -> KnownValues
         ensures { known_value result ≡ (λ _. None) }
     {

@@ -1,8 +1,9 @@
-//! Accepted circuit texts, and their run.
+//! Accepted BTOR2 files, and their run.
 //!
-//! Contracts cite what each form asks for in `specs/Rules.antt`, what lines declare for later ones in `specs/Scope.antt`,
-//! and which texts are accepted, with the first fault of the others, in `specs/Acceptance.antt`. The run of an accepted
-//! text is `specs/Run.antt`. `koika_top` and `koika_assert` call `accept`; `btor2_net` makes circuits of accepted texts.
+//! Contracts cite what each form asks for in `specs/Rules.antt`, what lines declare for later ones in
+//! `specs/Scope.antt`, and which texts are accepted, with the first fault of the others, in `specs/Acceptance.antt`.
+//! The run of an accepted text is `specs/Run.antt`. `koika_top` and `koika_assert` call `accept`; `btor2_net` makes
+//! circuits of accepted texts.
 #![tactic(auto)]
 
 mod acceptance;

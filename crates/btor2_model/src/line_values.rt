@@ -1,3 +1,5 @@
+//! Circuits: the values of all lines in a step, for the slow run.
+
 // The values of lines in a step.
 ghost use Rattle.std.specs.Prelude.{◌≡◌, ℕ, Bool, true, None, Some, nat_eq, IfOk, IfSome, OnOk};
 ghost use Rattle.std.specs.List.{zip};
@@ -71,7 +73,7 @@ fn input_ids(alloc: Global, lines: &[Line]) -> Result<Vec<u64>, NoMemory>
     Ok(ids)
 }
 
-// The value of a line behind others.
+// The value of a line after others.
 fn line_value(
     known: &Known,
     values: &KnownValues,

@@ -1,3 +1,5 @@
+//! Circuits: what an id stands for: its kind, its width, and whether it depends on inputs or states.
+
 ghost use Rattle.std.specs.Prelude.{◌≡◌, Some};
 ghost use Rattle.btor2_model.specs.Scope.{width_wanted};
 

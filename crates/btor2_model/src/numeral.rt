@@ -1,3 +1,5 @@
+//! Circuits: the numbers of constants' numerals.
+
 ghost use Rattle.std.specs.Prelude.{◌≡◌, ◌*◌, ◌+◌, ◌<◌, ◌≤◌, ◌^◌, ◌↔◌, IsTrue};
 ghost use Rattle.std.specs.Char.{digit_value};
 ghost use Rattle.std.specs.Option.{SomeIff};
@@ -29,7 +31,7 @@ fn value_of(byte: u8) -> u32
     char::from(byte).to_digit(36).unwrap_or(36)
 }
 
-// The number with one more digit behind it, if it is below 2^128.
+// The number with one more digit after it, if it is below 2^128.
 fn with_digit(value: u128, radix: u32, digit: u32) -> Option<u128>
     ensures { SomeIff result (value * radix + digit < 2 ^ 128) (value * radix + digit) }
 {

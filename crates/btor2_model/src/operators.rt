@@ -1,3 +1,5 @@
+//! Circuits: the operators of BTOR2 on values, for the slow run.
+
 // The values that operators and constants give. Where operands are of no width that an operator takes there is none.
 ghost use Rattle.std.specs.Prelude.{◌≡◌, ◌≤◌, ◌<◌, ◌+◌, ◌-◌, ◌^◌, IfSome, nat_eq, true, if◌then◌else◌};
 ghost use Rattle.std.specs.Str.Parse.{digits_value};
@@ -137,7 +139,7 @@ fn base_of(keyword: Keyword) -> Base
     }
 }
 
-/// An operand with so many bits more.
+/// An operand with this many bits more.
 #[tactic(auto, unfolding(kw_bits::specs::Operators::zext, kw_bits::specs::Operators::sext))]
 pub(crate) fn extended(keyword: Keyword, a: Bits, more: u32) -> Option<Bits>
     ensures some { a.width + more ≤ 128 → HasValue result (a.width + more) }

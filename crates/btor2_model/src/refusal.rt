@@ -1,3 +1,5 @@
+//! Circuits: the refusal of a line.
+
 ghost use Rattle.std.specs.Prelude.{◌≡◌};
 ghost use Rattle.kw_base.specs.declared.fault.Refusal.TheVariants as refusals;
 ghost use Rattle.btor2_model.specs.Acceptance.{fault_in};

@@ -1,3 +1,5 @@
+//! Circuits: the slow run of an accepted file, the plain program of its definition.
+
 // The run of a text, step by step.
 ghost use Rattle.std.specs.Prelude.{◌≡◌, ◌==◌, ℕ, false, None, Some, map, IfOk, IfSome};
 ghost use Rattle.kw_bits.specs.BitVector.{BitVector};
@@ -23,10 +25,10 @@ use kw_bits::{Bits, NoMemory};
 use one_rule::{FiredSet, Regs, Row, Rows, Stimulus};
 use std::alloc::{AllocError, Global};
 
-/// The rows of a text's run of n cycles, each line evaluated anew in each step. There are none where a value is missing, as
-/// where the stimulus gives an input one of another width. Where the inputs and the states have values of their widths, each
-/// line of a step has one; that the states still do behind a step, and so that there always are rows for a stimulus of the
-/// inputs' widths, isn't proved.
+/// The rows of a text's run of n cycles, each line evaluated anew in each step. There are none where a value is
+/// missing, as where the stimulus gives an input one of another width. Where the inputs and the states have values of
+/// their widths, each line of a step has one; that the states still do after a step, and so that there always are rows
+/// for a stimulus of the inputs' widths, isn't proved.
 pub fn slow_run(
     alloc: Global,
     text: &Btor,
@@ -88,7 +90,7 @@ fn first_row(
     }))
 }
 
-// The row behind a step, by the values of lines in it and those of the states behind it.
+// The row after a step, by the values of lines in it and those of the states after it.
 fn row_behind(
     alloc: Global,
     known: &Known,

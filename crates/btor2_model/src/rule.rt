@@ -1,3 +1,5 @@
+//! Circuits: what each form asks of widths and numbers.
+
 ghost use Rattle.std.specs.Prelude.{◌≡◌};
 ghost use Rattle.btor2_model.specs.Rules as form;
 
@@ -31,7 +33,7 @@ pub enum Rule {
     Joined,
     /// The sort is as wide as the bits between two bounds.
     Sliced,
-    /// The sort is so many bits wider than the operand.
+    /// The sort is this many bits wider than the operand.
     Extended,
     /// The first operand is 1, the others are of the sort.
     Chosen,

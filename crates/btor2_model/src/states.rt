@@ -1,4 +1,6 @@
-// The values of states, before all steps and behind one.
+//! Circuits: the states of the slow run, before the first step and after each.
+
+// The values of states, before all steps and after one.
 ghost use Rattle.std.specs.Prelude.{◌≡◌, ℕ, None, Some, IfOk, IfSome, option_map, unwrap_or};
 ghost use Rattle.kw_bits.specs.BitVector.{BitVector, zero_at};
 ghost use Rattle.btor2_model.specs.Acceptance as acceptance;
@@ -79,7 +81,7 @@ fn is_init_of(line: &Line, state: u64) -> bool
     Rule::of(line.keyword).is_init() && state == id_at(line.arguments.as_slice(), 1)
 }
 
-/// The values of the states behind a step in which lines have these values.
+/// The values of the states after a step in which lines have these values.
 pub(crate) fn next_values(
     alloc: Global,
     lines: &[Line],
@@ -95,7 +97,7 @@ pub(crate) fn next_values(
     Ok(states)
 }
 
-// The value of a state behind such a step: what its `next` has in it.
+// The value of a state after such a step: what its `next` has in it.
 fn next_value(values: &KnownValues, lines: &[Line], state: u64) -> Option<Bits>
     ensures { (all : ℕ → BitVector) → Knows values.now all → IfSome result (λ value. run.next_values lines.now all state ≡ value) }
 {
