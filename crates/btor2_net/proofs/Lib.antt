@@ -7,6 +7,7 @@ pub mod FirstSettings
 pub mod Growth
 pub mod Independent
 pub mod Keeping
+pub mod LaidOut
 pub mod Made
 pub mod Operands
 pub mod OperatorKeywords

@@ -155,7 +155,7 @@ module _ (c : Wires) (is : IsCircuit c) (tokens : HasTokens c) where
   pub distinct : AreDistinct s.ids
   distinct = subst AreDistinct has-s.ids (ids-distinct is_state s.page.lines no_lines has-s.good.sound.fine)
 
-  states-count : length s.ids ≡ length c.states
+  pub states-count : length s.ids ≡ length c.states
   states-count = pairs-count (IsStateOn s.page) s.ids c.states has-s.states
 
   may : (j : ℕ) (wire : StateWire) → slice_get c.states j ≡ Some wire → ends.MayGoOn n.ids s.ids distinct n.page j wire
@@ -175,10 +175,13 @@ module _ (c : Wires) (is : IsCircuit c) (tokens : HasTokens c) where
   no-next : NoState is_next
   no-next = record { sort = refl; numeral = refl; state = refl; init = refl }
 
+  pub nexts-before : text.lines_of is_next n.page.lines ≡ []
+  nexts-before = has-n.same is_next quiet-next ∙ has-i.same is_next refl refl ∙ has-s.none is_next no-next
+
   pub has-x : ends.HasNexts n.ids s.ids distinct c.states n.page x (0 + length c.states)
   has-x =
       ends.has-nexts n.ids s.ids distinct c.states n.page n.page 0 c.states
-      (ends.no-nexts n.ids s.ids distinct c.states n.page has-n.good (has-n.same is_next quiet-next ∙ has-i.same is_next refl refl ∙ has-s.none is_next no-next))
+      (ends.no-nexts n.ids s.ids distinct c.states n.page has-n.good nexts-before)
       (λ j wire at. let same : j ≡ 0 + j = omega arith in subst (λ (k : ℕ). slice_get c.states k ≡ Some wire) same at) may
 
   -- the outputs

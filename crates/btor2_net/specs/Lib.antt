@@ -1,4 +1,5 @@
 pub mod Laws
+pub mod Layout
 pub mod Nodes
 pub mod PageFields
 pub mod Pages

@@ -89,7 +89,7 @@ number_at given place = number_of (slice_get given place)
 abbrev pub numeral_at : Keyword → List Argument → ℕ
 numeral_at keyword given = digits_value (radix_of (base_of keyword)) (digits_of (slice_get given 1))
 
--- a node with so many bits more
+-- a node with that many bits more
 abbrev pub extension : Keyword → ℕ → ℕ → NetOp
 extension keywords.Sext a more = Sext a more
 extension other a more = Uext a more
@@ -125,11 +125,11 @@ pub record IsFew (n : Numbering) (line : Line) : Type 0 where
   pub inputs : is_input (rule_of line.keyword) ≡ true → n.inputs + 1 < 2 ^ 32
   pub states : is_state (rule_of line.keyword) ≡ true → n.states + 1 < 2 ^ 32
 
--- the node of a line, in a net before it and behind it
+-- the node of a line, in a net before it and after it
 abbrev pub AddsNode : Line → Numbering → (ℕ → Option ℕ) → (old new : List NetOp) → Type 0
 AddsNode line n nodes old new = MatchOption (op_of n line) ((new ≡ old) × (nodes ≡ n.nodes)) (λ op. (id : ℕ) × Adds old op id new × (nodes ≡ update nat_eq n.nodes line.id (Some id)))
 
--- a net and its numbering, before a line and behind it
+-- a net and its numbering, before a line and after it
 pub record AddsLine (line : Line) (n m : Numbering) (old new : List NetOp) : Type 0 where
   pub inputs : m.inputs ≡ cond (is_input (rule_of line.keyword)) (n.inputs + 1) n.inputs
   pub states : m.states ≡ cond (is_state (rule_of line.keyword)) (n.states + 1) n.states

@@ -1,6 +1,6 @@
--- The lines that a circuit is written as. Ids are 1, 2, 3 and so on. A sort stands before the first line that has its width. Each
--- state is a constant that has its first value, the state and its `init`; then come the inputs, a line for each node that is a
--- constant or an operator, each state's `next`, and the outputs.
+-- The lines that a circuit is written as. Ids are 1, 2, 3 and so on. A sort is before the first line that has its
+-- width. Each state is a constant that has its first value, the state and its `init`; then come the inputs, a line
+-- for each node that is a constant or an operator, each state's `next`, and the outputs.
 use Rattle.std.specs.Prelude.{ℕ, ◌+◌, nat_eq, List, [], ◌∷◌, ◌++◌, Option, None, Some, length, map, slice_index_or, unwrap_or, decimal}
 use Rattle.std.specs.Map.{update}
 use Rattle.kw_base.specs.Place.{capped}
@@ -130,7 +130,7 @@ with_state d wire =
 abbrev pub with_input : Draft → InputWire → Draft
 with_input d wire = record { page = with_line d.page wire.width keywords.Input [] [] (Some wire.name); ids = d.ids ++ id_of_line d.page wire.width ∷ [] }
 
--- a line behind others, which is the next node
+-- a line after others, which is the next node
 abbrev pub with_node_line : Draft → ℕ → Keyword → List ℕ → List ℕ → Draft
 with_node_line d width keyword ids numbers = record { page = with_line d.page width keyword ids numbers None; ids = d.ids ++ id_of_line d.page width ∷ [] }
 

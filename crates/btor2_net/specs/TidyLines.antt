@@ -1,5 +1,5 @@
--- When lines are tidy: no line of an operator can be left out or done without at a glance. BTOR2 (Niemetz et al., CAV 2018)
--- has the lines; what is tidy is this project's own.
+-- When lines are tidy: no line of an operator can be left out or done without at a glance. BTOR2 (Niemetz et al., CAV
+-- 2018) has the lines; what is tidy is this project's own.
 use Rattle.std.specs.Prelude.{◌≡◌, ◌≢◌, ℕ, Bool, true, false, List, [], ◌∷◌, All, AllPairs, Contains, Option, None, Some}
 use Rattle.std.specs.List.{filter_map}
 use Rattle.btor2_text.specs.declared.keyword.Keyword.{Keyword}
@@ -32,7 +32,7 @@ is_any_constant forms.Constant = true
 is_any_constant (forms.Numeral base) = true
 is_any_constant other = false
 
--- the ids among the arguments of an operator's line that stand behind its sort
+-- the ids among the arguments of an operator's line that are after its sort
 abbrev pub id_given : Argument → Option ℕ
 id_given (arguments.Id id) = Some id
 id_given other = None
@@ -66,8 +66,8 @@ IsNeededBy lines other given = Unit {0}
 abbrev pub IsNeededLine : List Line → Line → Type 0
 IsNeededLine lines line = IsNeededBy lines line.keyword line.arguments
 
--- lines are tidy: no two lines of operators agree in all but their ids, each serves, none has constants alone as operands, and
--- each is needed
+-- lines are tidy: no two lines of operators agree in all but their ids, each serves, none has constants alone as
+-- operands, and each is needed
 pub record AreTidy (lines : List Line) : Type 0 where
   pub distinct : AllPairs Differ (lines_of is_operator lines)
   pub serve : All (λ (line : Line). IdServes lines line.id) (lines_of is_operator lines)

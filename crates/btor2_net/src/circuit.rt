@@ -1,3 +1,5 @@
+//! Circuits: the circuit of an accepted BTOR2 file.
+
 ghost use Rattle.std.specs.Prelude.{◌<◌, ◌^◌, IfOk, length};
 ghost use Rattle.btor2_model.specs.Acceptance.{IsAccepted};
 ghost use Rattle.btor2_model.specs.Rules.{is_input, is_state};

@@ -1,3 +1,5 @@
+//! Circuits: the lines that one pass over a file looks at.
+
 ghost use Rattle.std.specs.Prelude.{◌≡◌};
 ghost use Rattle.btor2_model.specs.Rules.{rule_of};
 ghost use Rattle.btor2_net.specs.Wires.{is_form};

@@ -1,3 +1,5 @@
+//! Circuits: the keywords of operators.
+
 // The keywords of the operators on nodes.
 ghost use Rattle.std.specs.Prelude.{◌≡◌};
 ghost use Rattle.btor2_net.specs.Pages as pages;

@@ -1,3 +1,5 @@
+//! Circuits: laws of files and circuits.
+
 // Each law of texts is the contract of a function that does nothing.
 ghost use Rattle.btor2_net.specs.Laws as law;
 

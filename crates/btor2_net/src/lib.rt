@@ -1,8 +1,9 @@
 //! Circuit texts as circuits, and circuits as circuit texts.
 //!
 //! Contracts cite `specs/Translations.antt`, which says when a circuit is that of a text: names and widths in order, and one
-//! run, `specs/Pages.antt`, which lines a circuit is written as, and `specs/TidyLines.antt`, when lines are tidy. `koika_top`
-//! calls `to_lines` for the text that a design is compiled to, and `to_circuit` for the circuit of a text that it runs.
+//! run, `specs/Layout.antt`, how the lines of a circuit are laid out, `specs/TidyLines.antt`, when lines are tidy, and
+//! `specs/Pages.antt`, which lines a circuit is written as. `koika_top` calls `to_lines` for the text that a design is
+//! compiled to, and `to_circuit` for the circuit of a text that it runs.
 #![tactic(auto)]
 
 mod circuit;

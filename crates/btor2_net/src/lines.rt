@@ -1,8 +1,11 @@
+//! Circuits: the lines of a circuit.
+
 ghost use Rattle.std.specs.Prelude.{◌≡◌, ◌∷◌, ◌++◌, ◌<◌, ◌^◌, [], ℕ, List, IfOk, OnOk, length};
 ghost use Rattle.net_graph.specs.Nets.{widths_of};
 ghost use Rattle.circuit_eval.specs.Tidy.{IsTidy};
 ghost use Rattle.btor2_model.specs.Acceptance.{IsAccepted};
 ghost use Rattle.btor2_net.specs.PageFields.{page_of};
+ghost use Rattle.btor2_net.specs.Layout.{AreLaidOut};
 ghost use Rattle.btor2_net.specs.Pages as pages;
 ghost use Rattle.btor2_net.specs.TidyLines.{AreTidy};
 ghost use Rattle.btor2_net.specs.Translations.{AreCounted, HasLines, HasTokens, RunsAs};
@@ -15,7 +18,8 @@ use kw_bits::{NoMemory, Sequence, Text};
 use net_graph::{Net, NetId, NetOp};
 use std::alloc::Global;
 
-/// The lines that a circuit is written as: an accepted text that has the circuit's names, widths and run, and is as tidy as the circuit.
+/// The lines that a circuit is written as: an accepted text, laid out, that has the circuit's names, widths and run, and is
+/// as tidy as the circuit.
 pub fn to_lines(alloc: Global, circuit: &Circuit) -> Result<Lines, NoMemory>
     requires names { HasTokens circuit.now }
     ensures lines { IfOk result (λ lines. lines ≡ pages.lines_of circuit.now) }
@@ -23,6 +27,7 @@ pub fn to_lines(alloc: Global, circuit: &Circuit) -> Result<Lines, NoMemory>
     ensures names { IfOk result (λ lines. HasLines lines circuit.now) }
     ensures run { IfOk result (λ lines. RunsAs lines circuit.now) }
     ensures ids { IfOk result AreCounted }
+    ensures layout { IfOk result AreLaidOut }
     ensures tidy { IfOk result (λ lines. IsTidy circuit.now → AreTidy lines) }
 {
     let states = circuit.states.as_slice();
@@ -107,7 +112,7 @@ fn add_nodes(
     Ok(ids)
 }
 
-// The id of a node behind nodes of these ids. A constant or an operator is a line, which is added.
+// The id of a node after nodes of these ids. A constant or an operator is a line, which is added.
 fn add_node(
     alloc: Global,
     page: &mut Page,

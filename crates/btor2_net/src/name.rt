@@ -1,3 +1,5 @@
+//! Circuits: the names of lines.
+
 ghost use Rattle.std.specs.Prelude.{◌≡◌, ◌∷◌, IfOk, decimal};
 ghost use Rattle.btor2_net.specs.Translations.{name_of};
 

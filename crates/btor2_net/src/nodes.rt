@@ -1,3 +1,5 @@
+//! Circuits: the nodes of a file's lines.
+
 // The nodes of a text's lines.
 ghost use Rattle.std.specs.Prelude.{◌≡◌, [], cond, nat_eq, length, ◌+◌, ◌<◌, ◌≤◌, ◌^◌, IfOk, IfSome, OnOk, None, Some, true};
 ghost use Rattle.std.specs.Map.{update};
@@ -48,7 +50,7 @@ pub(crate) struct Nodes {
 }
 
 impl Nodes {
-    /// No lines, with places for so many low ids.
+    /// No lines, with places for that many low ids.
     fn new(alloc: Global, places: usize) -> Result<Nodes, NoMemory>
         ensures nodes { IfOk result (λ n. value_in n.nodes ≡ (λ _. None)) }
         ensures sorts { IfOk result (λ n. value_in n.sorts ≡ (λ _. None)) }
@@ -194,7 +196,7 @@ fn written(keyword: Keyword, width: u32, given: &[Argument]) -> Bits
     written_constant(keyword, width, digits_at(given, 1)).unwrap()
 }
 
-// A node with so many bits more.
+// A node with that many bits more.
 fn extension(keyword: Keyword, node: NetId, more: u32) -> NetOp
     ensures { result ≡ numbering.extension keyword node more }
 {

@@ -1,3 +1,5 @@
+//! Circuits: the operators that keywords name.
+
 // The operators on nodes that keywords name.
 ghost use Rattle.std.specs.Prelude.{◌≡◌};
 ghost use Rattle.btor2_net.specs.Nodes as nodes;

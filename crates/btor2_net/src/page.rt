@@ -1,3 +1,5 @@
+//! Circuits: the lines of a circuit, as far as they are made.
+
 ghost use Rattle.std.specs.Prelude.{◌≡◌, ◌∷◌, ◌++◌, ◌<◌, ◌^◌, [], IfOk, OnOk, None, length, map};
 ghost use Rattle.btor2_text.specs.declared.line.Argument.TheVariants as arguments;
 ghost use Rattle.btor2_net.specs.PageFields.{page_of};
@@ -83,7 +85,7 @@ impl Page {
         Ok(id)
     }
 
-    /// Adds a line of a width with these ids and numbers behind its sort.
+    /// Adds a line of a width with these ids and numbers after its sort.
     pub(crate) fn add(
         &mut self,
         alloc: Global,

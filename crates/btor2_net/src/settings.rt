@@ -1,3 +1,5 @@
+//! Circuits: the first and next values of a file's states.
+
 // Which values the states of a text are set to.
 ghost use Rattle.std.specs.Prelude.{◌≡◌, ◌∷◌, [], ℕ, IfOk, OnOk};
 ghost use Rattle.std.specs.Option.{option_or};

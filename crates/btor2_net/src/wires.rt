@@ -1,3 +1,5 @@
+//! Circuits: the inputs, states and outputs of a file.
+
 // The wires of a text's inputs, states and outputs.
 ghost use Rattle.std.specs.Prelude.{◌≡◌, ◌<◌, IfOk, Some, length, map, ℕ};
 ghost use Rattle.net_graph.specs.Laws.{Feeds};

@@ -4,6 +4,7 @@ use Rattle.circuit_eval.specs.declared.circuit.InputWire.{InputWire}
 use Rattle.circuit_eval.specs.declared.circuit.OutputWire.{OutputWire}
 use Rattle.circuit_eval.specs.declared.circuit.StateWire.{StateWire}
 use Rattle.circuit_eval.specs.declared.circuit.Wires.{Wires}
+use Rattle.btor2_net.proofs.LaidOut.{are-laid-out}
 use Rattle.btor2_net.proofs.TidyWritten.{are-tidy}
 use Rattle.btor2_net.proofs.Written.{are-written}
 use Rattle.btor2_net.proofs.lines.to_lines.Goals as goal
@@ -18,4 +19,4 @@ returns c =
     ∙ c.circuit.view_is in
     let circuit : IsCircuit c.args.circuit.now = subst IsCircuit c.circuit.view_is c.circuit.invariant in
     let all = are-written c.wires_lines.result given c.args.circuit.now same circuit c.requires.names c.wires_lines.ensures.lines c.wires_lines.ensures.few in
-    record { lines = all.lines; accepted = all.accepted; names = all.names; run = all.run; ids = all.ids; tidy = are-tidy c.wires_lines.result c.args.circuit.now circuit c.requires.names all.lines }
+    record { lines = all.lines; accepted = all.accepted; names = all.names; run = all.run; ids = all.ids; layout = are-laid-out c.wires_lines.result c.args.circuit.now circuit c.requires.names all.lines; tidy = are-tidy c.wires_lines.result c.args.circuit.now circuit c.requires.names all.lines }

@@ -11,4 +11,4 @@ returns-in_ok-insert c = λ state.
     let given = c.as_slice-given.ensures in
     let absent : is_none (old c.id_at-state.result) ≡ true = search rules in
     set-at c.args.form c.args.line.now old c.id_at-state.result c.id_at.result state (c.id_at-state.ensures ∙ ap (λ (args : List Argument). id_at args 1) given) (c.id_at.ensures ∙ ap (λ (args : List Argument). id_at args 2) given)
-    (sym c.is_of.ensures ∙ c.if-is_of.true) (no-value (old c.id_at-state.result) absent) (ap (λ (f : ℕ → Option ℕ). f state) c.in_ok-insert.ensures)
+    (sym c.is_of.ensures ∙ c.if-is_of.true) (no-value (old c.id_at-state.result) absent) (ap (λ (f : ℕ → Option ℕ). f state) c.in_ok-insert.ensures.ok)
