@@ -1,0 +1,8 @@
+use Rattle.aig_blast.specs.declared.aig.InputWord.{InputWord}
+use Rattle.aig_blast.proofs.Rooms.{room-step}
+use Rattle.aig_blast.proofs.sim.add_input_room.Goals as goal
+
+pub loop-word-preserved : goal.loop-word-preserved
+loop-word-preserved c =
+    room-step (λ (word : InputWord). word.width) c.args.words.now c.loop-word.word-index c.word-item.result c.args.values.now.items c.loop-word.values.items c.add_room.new.values.items c.loop-word-test.true c.word-item.is c.loop-word.invariant
+    c.in_ok-add_room.ensures

@@ -1,0 +1,56 @@
+-- A bit-level circuit at a moment between two steps, and its rows from there on.
+use Rattle.std.specs.Prelude.{ℕ, zero, suc, ◌+◌, ◌-◌, ◌/◌, ◌<◌, ◌≤◌, List, ◌∷◌, [], length, Bool, map, All}
+use Rattle.kw_bits.specs.BitVector.{BitVector, zero_at}
+use Rattle.circuit_eval.specs.Run.{is_one}
+use Rattle.aig_blast.specs.AigRun.{first_words, next_words, rows_after, values_in}
+use Rattle.aig_blast.specs.Aigs.{AigParts}
+use Rattle.aig_blast.specs.BitLists.{as_bits}
+use Rattle.aig_blast.specs.Graphs.{lit_value}
+use Rattle.aig_blast.specs.declared.aig.LatchWord.{LatchWord}
+use Rattle.aig_blast.specs.declared.aig.OutputBit.{OutputBit}
+use Rattle.one_rule.specs.Run.{InputsByCycle}
+use Rattle.one_rule.specs.declared.rows.Row.{Row}
+
+-- the circuit, the words of its latches now and its outputs in the last step
+pub record Simulation : Type 0 where
+  pub aig : AigParts
+  pub states : List BitVector
+  pub outputs : List BitVector
+
+-- a truth value as a bit vector of one bit, and those of outputs
+abbrev pub flag_bits : Bool → BitVector
+flag_bits flag = as_bits (flag ∷ [])
+
+abbrev pub flags_in : List OutputBit → List Bool → List BitVector
+flags_in outputs values = map (λ (output : OutputBit). flag_bits (lit_value values output.lit)) outputs
+
+abbrev pub no_flags : List OutputBit → List BitVector
+no_flags outputs = map (λ (output : OutputBit). zero_at 1) outputs
+
+-- the next literals of a word of latches can be read from values of variables
+pub record IsReadable (values : List Bool) (word : LatchWord) : Type 0 where
+  pub some : 1 ≤ length word.nexts
+  pub most : length word.nexts ≤ 128
+  pub nexts : All (λ lit. lit / 2 < length values) word.nexts
+
+-- before all steps
+abbrev pub beginning : AigParts → Simulation
+beginning a = record { aig = a; states = first_words a.latches; outputs = no_flags a.outputs }
+
+-- after one step more
+abbrev pub after_step : Simulation → List BitVector → Simulation
+after_step s inputs =
+    let values : List Bool = values_in s.aig inputs s.states in
+    record { aig = s.aig; states = next_words s.aig.latches values; outputs = flags_in s.aig.outputs values }
+
+-- after that many steps more, the last cycle so far being this one
+unfoldable pub after_steps : InputsByCycle → (count last : ℕ) → Simulation → Simulation
+after_steps inputs zero last s = s
+after_steps inputs (suc count) last s = after_steps inputs count (last + 1) (after_step s (inputs (last + 1)))
+
+-- the row of a moment, and those of the cycles from one to another after it
+abbrev pub row_at : Simulation → Row
+row_at s = record { regs = s.states; fired = map is_one s.outputs }
+
+abbrev pub rows_from : Simulation → InputsByCycle → (from to : ℕ) → List Row
+rows_from s inputs from to = row_at s ∷ rows_after s.aig inputs (to - from) from s.states

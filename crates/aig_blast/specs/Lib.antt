@@ -1,0 +1,10 @@
+pub mod AigRun
+pub mod AigSims
+pub mod Aigs
+pub mod BitLists
+pub mod Blasted
+pub mod Graphs
+pub mod Nodes
+pub mod Sources
+pub mod Steps
+pub mod Words

@@ -1,0 +1,67 @@
+//! Runs of a graph: one row a cycle.
+
+ghost use Rattle.std.specs.Prelude.{◌≡◌, ◌≤◌, ◌-◌, IfOk, OnOk, map};
+ghost use Rattle.one_rule.specs.Stimulus.{inputs_of};
+ghost use Rattle.circuit_eval.specs.Run.{is_one};
+ghost use Rattle.aig_blast.specs.Aigs.{input_widths};
+ghost use Rattle.aig_blast.specs.AigRun.{run_of};
+ghost use Rattle.aig_blast.specs.AigSims.{after_steps, row_at, rows_from};
+
+use crate::aig::Aig;
+use crate::sim::AigSim;
+use kw_bits::{Bits, NoMemory};
+use one_rule::{FiredSet, Regs, Row, Rows, Stimulus};
+use std::alloc::{AllocError, Global};
+
+/// The rows of a bit-level circuit's run of n cycles, whose flags are the outputs. The stimulus is for its words of inputs.
+pub fn run_aig(alloc: Global, aig: &Aig, stimulus: &Stimulus, n: u32) -> Result<Rows, NoMemory>
+    requires { stimulus.now.widths ≡ input_widths aig.now.inputs }
+    ensures { IfOk result (λ rows. rows ≡ run_of aig.now (inputs_of stimulus.now) n) }
+{
+    let mut sim = AigSim::begin(alloc, aig)?;
+    let rows = run_on(alloc, &mut sim, stimulus, 0, n)?;
+    Ok(rows)
+}
+
+/// The row after cycle `from` of a run, and those of the cycles from there to `to`. The simulator is then after the last of
+/// them, so a run can be made in parts. The stimulus is for the circuit's words of inputs.
+pub fn run_on(
+    alloc: Global,
+    sim: &mut AigSim,
+    stimulus: &Stimulus,
+    from: u32,
+    to: u32,
+) -> Result<Rows, NoMemory>
+    requires order { from ≤ to }
+    requires widths { stimulus.now.widths ≡ input_widths sim.old.aig.inputs }
+    ensures rows { IfOk result (λ rows. rows ≡ rows_from sim.old (inputs_of stimulus.now) from to) }
+    ensures sim { OnOk result (sim.new ≡ after_steps (inputs_of stimulus.now) (to - from) from sim.old) }
+{
+    let mut rows = Rows::new(alloc);
+    rows.push(row_of(alloc, sim)?)?;
+    for last in from..to {
+        sim.step(&stimulus.inputs(last + 1)?);
+        rows.push(row_of(alloc, sim)?)?;
+    }
+    Ok(rows)
+}
+
+// The row of a moment: the states now and the flags of the last step.
+fn row_of(alloc: Global, sim: &AigSim) -> Result<Row, NoMemory>
+    ensures { IfOk result (λ row. row ≡ row_at sim.now) }
+{
+    Ok(Row {
+        regs: Regs::from_slice(alloc, sim.states().as_slice())?,
+        fired: FiredSet::from_vec(flags(alloc, sim.outputs())?),
+    })
+}
+
+// Whether each output is 1.
+fn flags(alloc: Global, outputs: &[Bits]) -> Result<Vec<bool>, AllocError>
+    ensures { IfOk result (λ fired. fired.items ≡ map is_one outputs.now) }
+{
+    outputs
+        .iter()
+        .map(|output| output.number() == 1)
+        .collect(alloc)
+}

@@ -1,0 +1,247 @@
+//! The simulator of a graph: the value of each literal, cycle by cycle.
+
+ghost use Rattle.std.specs.Prelude.{◌≡◌, ◌+◌, ◌*◌, ◌/◌, ◌^◌, ◌<◌, ◌≤◌, ◌++◌, ◌∷◌, [], false, IfOk, OnOk, length, map, replicate, sum, take, All};
+ghost use Rattle.circuit_eval.specs.Circuits.{AreBits};
+ghost use Rattle.aig_blast.specs.Aigs.{input_widths, latch_widths, variables};
+ghost use Rattle.aig_blast.specs.AigRun.{bits_of, first_words as first_words_lem, next_words, values_in};
+ghost use Rattle.aig_blast.specs.AigSims.{flags_in, IsReadable, no_flags as no_flags_lem};
+ghost use Rattle.aig_blast.specs.BitLists.{as_bits, bit};
+ghost use Rattle.aig_blast.specs.Graphs.{AllStand, gate_value as gate_value_lem, lit_value as lit_value_lem, values_after};
+ghost use Rattle.aig_blast.specs.Steps.{digits};
+
+use crate::aig::{Aig, InputWord, LatchWord, OutputBit};
+use crate::gate::{Gate, Lit};
+use kw_bits::{Bits, NoMemory};
+use one_rule::{Inputs, Regs};
+use std::alloc::{AllocError, Global};
+use std::marker::Model;
+
+/// A bit-level circuit that runs step by step, seen by contracts as the words of its latches now and its outputs in the last step.
+#[derive(Drop)]
+pub struct AigSim<'a> {
+    aig: &'a Aig,
+    states: Regs,
+    outputs: Vec<Bits>,
+    // The values of the variables, written anew in each step.
+    values: Vec<bool>,
+}
+
+impl<'a> Model for AigSim<'a> {
+    ghost use Rattle.std.specs.Prelude.{◌≡◌, ◌+◌, length, take, ◌∷◌, [], false};
+    ghost use Rattle.circuit_eval.specs.Circuits.{AreBits};
+    ghost use Rattle.aig_blast.specs.Aigs.{latch_widths, variables};
+    ghost use Rattle.aig_blast.specs.AigSims.{Simulation};
+
+    ghost Value = { Simulation };
+
+    ghost view = { λ s. record { aig = s.aig.now; states = s.states; outputs = s.outputs.items } };
+
+    ghost invariant = { λ s. AreBits s.states (latch_widths s.aig.now.latches) × (length s.outputs.items ≡ length s.aig.now.outputs) × (length s.values.items ≡ 1 + variables s.aig.now) × (take 1 s.values.items ≡ false ∷ []) };
+}
+
+impl<'a> AigSim<'a> {
+    ghost use Rattle.aig_blast.specs.AigSims.{after_step, beginning};
+
+    /// A bit-level circuit before its first step. It takes all the memory that steps need.
+    pub fn begin(alloc: Global, aig: &'a Aig) -> Result<AigSim<'a>, NoMemory>
+        ensures { IfOk result (λ sim. sim ≡ beginning aig.now) }
+    {
+        Ok(AigSim {
+            aig,
+            states: Regs::from_vec(first_words(alloc, aig.latches.as_slice())?),
+            outputs: no_flags(alloc, aig.outputs.as_slice())?,
+            values: room_for(alloc, aig)?,
+        })
+    }
+
+    /// One step with a value of its width for each word of inputs. It takes no memory.
+    pub fn step(&mut self, inputs: &Inputs)
+        requires { AreBits inputs.now (input_widths self.old.aig.inputs) }
+        ensures { self.new ≡ after_step self.old inputs.now }
+    {
+        let aig: &Aig = self.aig;
+        let states = self.states.as_slice();
+        put_values(aig, inputs.as_slice(), states, &mut self.values);
+        take_next(aig.latches.as_slice(), &self.values, &mut self.states);
+        take_outputs(aig.outputs.as_slice(), &self.values, &mut self.outputs);
+    }
+
+    /// The words of the latches now.
+    pub fn states(&self) -> &Regs
+        ensures states { result.now ≡ self.now.states }
+        ensures fit { AreBits self.now.states (latch_widths self.now.aig.latches) }
+    {
+        &self.states
+    }
+
+    /// The outputs in the last step, zeros before the first.
+    pub fn outputs(&self) -> &[Bits]
+        ensures { result.now ≡ self.now.outputs }
+    {
+        self.outputs.as_slice()
+    }
+}
+
+fn first_words(alloc: Global, latches: &[LatchWord]) -> Result<Vec<Bits>, AllocError>
+    ensures { IfOk result (λ values. values.items ≡ first_words_lem latches.now) }
+{
+    latches.iter().map(|word| word.first).collect(alloc)
+}
+
+fn no_flags(alloc: Global, outputs: &[OutputBit]) -> Result<Vec<Bits>, AllocError>
+    ensures { IfOk result (λ values. values.items ≡ no_flags_lem outputs.now) }
+{
+    outputs.iter().map(|_output| Bits::zero(1)).collect(alloc)
+}
+
+// A value for each variable. That of variable 0 is false, the others are written in a step.
+fn room_for(alloc: Global, aig: &Aig) -> Result<Vec<bool>, NoMemory>
+    ensures len { IfOk result (λ values. length values.items ≡ 1 + variables aig.now) }
+    ensures first { IfOk result (λ values. take 1 values.items ≡ false ∷ []) }
+{
+    let mut values = Vec::new(alloc);
+    add_room(&mut values, 1)?;
+    add_input_room(&mut values, aig.inputs.as_slice())?;
+    add_latch_room(&mut values, aig.latches.as_slice())?;
+    add_room(&mut values, aig.gates.len())?;
+    Ok(values)
+}
+
+fn add_input_room(values: &mut Vec<bool>, words: &[InputWord]) -> Result<(), NoMemory>
+    ensures { OnOk result (values.new.items ≡ values.old.items ++ replicate (sum (input_widths words.now)) false) }
+{
+    for word in words {
+        add_room(values, word.width as usize)?;
+    }
+    Ok(())
+}
+
+fn add_latch_room(values: &mut Vec<bool>, words: &[LatchWord]) -> Result<(), NoMemory>
+    ensures { OnOk result (values.new.items ≡ values.old.items ++ replicate (sum (latch_widths words.now)) false) }
+{
+    for word in words {
+        add_room(values, word.first.width() as usize)?;
+    }
+    Ok(())
+}
+
+fn add_room(values: &mut Vec<bool>, count: usize) -> Result<(), NoMemory>
+    ensures { OnOk result (values.new.items ≡ values.old.items ++ replicate count false) }
+{
+    for _place in 0..count {
+        values.push(false)?;
+    }
+    Ok(())
+}
+
+// Writes the values of the variables in a step that begins with these words in the latches.
+fn put_values(aig: &Aig, inputs: &[Bits], states: &[Bits], values: &mut [bool])
+    requires inputs { AreBits inputs.now (input_widths aig.now.inputs) }
+    requires states { AreBits states.now (latch_widths aig.now.latches) }
+    requires room { length values.old ≡ 1 + variables aig.now }
+    requires first { take 1 values.old ≡ false ∷ [] }
+    ensures { values.new ≡ values_in aig.now inputs.now states.now }
+{
+    let before = put_words(inputs, 0, values);
+    let sources = put_words(states, before, values);
+    put_gates(aig.gates.as_slice(), sources, values);
+}
+
+// Writes the bits of words after those of other sources, and gives how many sources are written then.
+fn put_words(words: &[Bits], before: usize, values: &mut [bool]) -> usize
+    requires { 1 + before + length (bits_of words.now) ≤ length values.old }
+    ensures count { result ≡ before + length (bits_of words.now) }
+    ensures values { take (1 + result) values.new ≡ take (1 + before) values.old ++ bits_of words.now }
+{
+    let mut count = before;
+    for word in words {
+        put_word(*word, count, values);
+        count += word.width() as usize;
+    }
+    count
+}
+
+fn put_word(word: Bits, before: usize, values: &mut [bool])
+    requires { 1 + before + word.width ≤ length values.old }
+    ensures { take (1 + (before + word.width)) values.new ≡ take (1 + before) values.old ++ digits word.number word.width }
+{
+    let number = word.number();
+    for k in 0..word.width() {
+        values[1 + before + k as usize] = (number >> k) % 2 == 1;
+    }
+}
+
+// Writes the values of gates after this many sources.
+fn put_gates(gates: &[Gate], sources: usize, values: &mut [bool])
+    requires room { length values.old ≡ 1 + sources + length gates.now }
+    requires stand { AllStand sources gates.now }
+    ensures { values.new ≡ values_after (take (1 + sources) values.old) gates.now }
+{
+    for (k, gate) in gates.iter().enumerate() {
+        let value = gate_value(&values[..1 + sources + k], gate);
+        values[1 + sources + k] = value;
+    }
+}
+
+#[inline]
+fn gate_value(values: &[bool], gate: &Gate) -> bool
+    requires left { gate.now.left / 2 < length values.now }
+    requires right { gate.now.right / 2 < length values.now }
+    ensures { result ≡ gate_value_lem values.now gate.now }
+{
+    lit_value(values, gate.left) && lit_value(values, gate.right)
+}
+
+#[inline]
+fn lit_value(values: &[bool], lit: Lit) -> bool
+    requires { lit / 2 < length values.now }
+    ensures { result ≡ lit_value_lem values.now lit }
+{
+    values[(lit / 2) as usize] != (lit % 2 == 1)
+}
+
+// The word of the values of literals.
+fn word_value(values: &[bool], lits: &[Lit]) -> Bits
+    requires some { 1 ≤ length lits.now }
+    requires most { length lits.now ≤ 128 }
+    requires below { All (λ lit. lit / 2 < length values.now) lits.now }
+    ensures { result ≡ as_bits (map (lit_value_lem values.now) lits.now) }
+{
+    let mut number: u128 = 0;
+    for (k, lit) in lits.iter().enumerate() {
+        number = with_bit(number, k as u32, lit_value(values, *lit));
+    }
+    Bits::new(lits.len() as u32, number).unwrap()
+}
+
+// A number of this many bits with one bit more above.
+#[inline]
+fn with_bit(number: u128, width: u32, top: bool) -> u128
+    requires width { width < 128 }
+    requires number { number < 2 ^ width }
+    ensures { result ≡ number + 2 ^ width * bit top }
+{
+    if top { number + (1 << width) } else { number }
+}
+
+// Each word of latches takes its next value.
+fn take_next(latches: &[LatchWord], values: &[bool], states: &mut Regs)
+    requires stand { All (λ word. IsReadable values.now word) latches.now }
+    requires room { length states.old ≡ length latches.now }
+    ensures { states.new ≡ next_words latches.now values.now }
+{
+    for (state, word) in latches.iter().enumerate() {
+        states.set(state, word_value(values, word.nexts.as_slice()));
+    }
+}
+
+// Each output takes the value of its literal.
+fn take_outputs(wires: &[OutputBit], values: &[bool], outputs: &mut [Bits])
+    requires stand { All (λ wire. wire.lit / 2 < length values.now) wires.now }
+    requires room { length outputs.old ≡ length wires.now }
+    ensures { outputs.new ≡ flags_in wires.now values.now }
+{
+    for (output, wire) in wires.iter().enumerate() {
+        outputs[output] = word_value(values, &[wire.lit]);
+    }
+}
