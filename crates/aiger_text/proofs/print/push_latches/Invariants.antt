@@ -1,0 +1,11 @@
+use Rattle.std.proofs.Common.{◌≡◌, ◌+◌, ◌++◌, take}
+use Rattle.std.specs.Prelude.{sum}
+use Rattle.aig_blast.specs.Aigs.{latch_widths}
+use Rattle.aiger_text.specs.Printing.{laid, latch_width_of, latch_word_text}
+use Rattle.aiger_text.proofs.print.push_latches.Given as goal
+
+abbrev pub invariant-loop-word : goal.invariant-loop-word
+invariant-loop-word l = record {
+  variable : l.variable ≡ l.first + sum (latch_widths (take l.word-index l.words));
+  text : l.text ≡ l.fn.text ++ laid latch_width_of latch_word_text l.first (take l.word-index l.words);
+}

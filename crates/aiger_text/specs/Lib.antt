@@ -1,0 +1,2 @@
+pub mod AigShapes
+pub mod Printing

@@ -1,0 +1,103 @@
+-- The AIGER text of a bit-level circuit, in AIGER ASCII (Biere, Heljanko and Wieringa, 2011): a header, a line for each input,
+-- latch, output and gate, in order, and a symbol for each input, latch and output. Bit k of the word `x` has the symbol `x[k]`.
+use Rattle.std.specs.Prelude.{◌≡◌, ℕ, Bool, zero, suc, ◌+◌, ◌*◌, ◌/◌, ◌%◌, ◌^◌, nat_eq, if◌then◌else◌, List, [], ◌∷◌, ◌++◌, codes, decimal, length, slice_index_or}
+use Rattle.std.specs.List.{flat_map}
+use Rattle.aig_blast.specs.Aigs.{AigParts, input_widths, latch_widths, sources, variables}
+use Rattle.std.specs.Prelude.{sum}
+use Rattle.kw_bits.specs.BitVector.{BitVector}
+use Rattle.aig_blast.specs.declared.aig.InputWord.{InputWord}
+use Rattle.aig_blast.specs.declared.aig.LatchWord.{LatchWord}
+use Rattle.aig_blast.specs.declared.aig.OutputBit.{OutputBit}
+use Rattle.aig_blast.specs.declared.gate.Gate.{Gate}
+
+-- a number after a space, and the rest of a line
+abbrev pub spaced : ℕ → List ℕ
+spaced number = 32 ∷ decimal number
+
+abbrev pub rest_text : List ℕ → List ℕ
+rest_text numbers = flat_map spaced numbers ++ 10 ∷ []
+
+-- a line of numbers with one space between two
+abbrev pub line_text : ℕ → List ℕ → List ℕ
+line_text first others = decimal first ++ rest_text others
+
+-- the texts for 0, 1 and so on, that many
+abbrev pub texts_below : (ℕ → List ℕ) → ℕ → List ℕ
+texts_below f zero = []
+texts_below f (suc k) = texts_below f k ++ f k
+
+-- the texts of items that count for as many numbers as they are wide, from a number on
+abbrev pub laid : {X : Type 0} → (X → ℕ) → (ℕ → X → List ℕ) → ℕ → List X → List ℕ
+laid width f number [] = []
+laid width f number (x ∷ xs) = f number x ++ laid width f (number + width x) xs
+
+-- the lines of a word of inputs, and of latches, whose first variable is this one
+abbrev pub input_lines : ℕ → ℕ → List ℕ
+input_lines variable width = texts_below (λ k. line_text (2 * (variable + k)) []) width
+
+abbrev pub input_word_text : ℕ → InputWord → List ℕ
+input_word_text variable word = input_lines variable word.width
+
+-- a reset is written where it is 1
+abbrev pub reset_text : Bool → List ℕ
+reset_text reset = if reset then 1 ∷ [] else []
+
+abbrev pub latch_line : ℕ → ℕ → List ℕ → ℕ → List ℕ
+latch_line variable resets nexts k = line_text (2 * (variable + k)) (slice_index_or nexts k 0 ∷ reset_text (nat_eq (resets / 2 ^ k % 2) 1))
+
+abbrev pub latch_lines : ℕ → BitVector → List ℕ → List ℕ
+latch_lines variable first nexts = texts_below (latch_line variable first.number nexts) first.width
+
+abbrev pub latch_word_text : ℕ → LatchWord → List ℕ
+latch_word_text variable word = latch_lines variable word.first word.nexts
+
+abbrev pub output_text : OutputBit → List ℕ
+output_text output = line_text output.lit []
+
+abbrev pub gate_text : ℕ → Gate → List ℕ
+gate_text variable gate = line_text (2 * variable) (gate.left ∷ gate.right ∷ [])
+
+-- a symbol: a kind and an index, and a name
+abbrev pub symbol_text : ℕ → ℕ → List ℕ → List ℕ
+symbol_text kind index name = kind ∷ decimal index ++ 32 ∷ name ++ 10 ∷ []
+
+-- the name of a bit of a word
+abbrev pub bit_name : List ℕ → ℕ → List ℕ
+bit_name name k = name ++ 91 ∷ decimal k ++ 93 ∷ []
+
+-- the symbols of a word's bits, the first with this index
+abbrev pub word_symbols : ℕ → ℕ → List ℕ → ℕ → List ℕ
+word_symbols kind index name width = texts_below (λ k. symbol_text kind (index + k) (bit_name name k)) width
+
+abbrev pub width_of : InputWord → ℕ
+width_of word = word.width
+
+abbrev pub latch_width_of : LatchWord → ℕ
+latch_width_of word = word.first.width
+
+abbrev pub one_of : {X : Type 0} → X → ℕ
+one_of x = 1
+
+abbrev pub input_symbols : ℕ → InputWord → List ℕ
+input_symbols index word = word_symbols 105 index word.name word.width
+
+abbrev pub latch_symbols : ℕ → LatchWord → List ℕ
+latch_symbols index word = word_symbols 108 index word.name word.first.width
+
+abbrev pub output_symbol : ℕ → OutputBit → List ℕ
+output_symbol index output = symbol_text 111 index output.name
+
+-- a word of latches has a next literal for each
+abbrev pub HasNexts : LatchWord → Type 0
+HasNexts word = length word.nexts ≡ word.first.width
+
+-- the text of a bit-level circuit
+abbrev pub text_of : AigParts → List ℕ
+text_of a =
+    let inputs : ℕ = sum (input_widths a.inputs) in
+    codes "aag" ++ rest_text (variables a ∷ inputs ∷ sum (latch_widths a.latches) ∷ length a.outputs ∷ length a.gates ∷ [])
+    ++ laid width_of input_word_text 1 a.inputs ++ laid latch_width_of latch_word_text (1 + inputs) a.latches ++ flat_map output_text a.outputs
+    ++ laid one_of gate_text (1 + sources a) a.gates
+    ++ laid width_of input_symbols 0 a.inputs
+    ++ laid latch_width_of latch_symbols 0 a.latches
+    ++ laid one_of output_symbol 0 a.outputs
