@@ -1,4 +1,4 @@
--- The assignments of a stimulus: `name=value`, the value a number in decimal, or behind `0x` in hexadecimal. This
+-- The assignments of a stimulus: `name=value`, the value a number in decimal, or after `0x` in hexadecimal. This
 -- project's own text form.
 use Rattle.std.specs.Prelude.{ℕ, ◌+◌, ◌-◌, ◌^◌, ◌==◌, ◌&&◌, not, nat_eq, nat_lt, if◌then◌else◌, Bool, false, Option, None, Some, option_and_then, option_map, Result, Ok, Err, List, [], ◌∷◌, length, take, drop, slice_index, position, bytes_eq}
 use Rattle.std.specs.Char.{digit_value}
@@ -27,11 +27,11 @@ is_hexadecimal (first ∷ second ∷ bytes) = (first == 48) && (second == 120)
 unfoldable pub number_of : List ℕ → Option ℕ
 number_of value = if is_hexadecimal value then numeral 16 (drop 2 value) else numeral 10 value
 
--- how many bytes stand behind the last `=`
+-- how many bytes come after the last `=`
 abbrev pub behind_equals : List ℕ → ℕ
 behind_equals word = suffix_len (λ b. not (b == 61)) word
 
--- a name and a value: what stands before the last `=`, if anything does, and what stands behind it
+-- a name and a value: what comes before the last `=`, if anything does, and what comes after it
 unfoldable pub name_and_value : List ℕ → Option (List ℕ × List ℕ)
 name_and_value word =
     if nat_lt (behind_equals word + 1) (length word)
@@ -66,6 +66,6 @@ abbrev pub assigned_by : List NameWidth → List Assignment → Option (List ℕ
 assigned_by inputs line None = Err 30
 assigned_by inputs line (Some parts) = assigned_to inputs line (input_of inputs parts.0) parts.1
 
--- what a word of a line gives behind what the line assigns before: an assignment, or the number of a fault
+-- what a word of a line gives after what the line assigns before: an assignment, or the number of a fault
 unfoldable pub assignment_of : List NameWidth → List Assignment → List ℕ → Result Assignment ℕ
 assignment_of inputs line word = assigned_by inputs line (name_and_number word)

@@ -14,7 +14,7 @@ joined (row ∷ rows) batch = (row ∷ rows) ++ drop 1 batch
 abbrev pub last_cycle : List Row → ℕ
 last_cycle rows = length rows - 1
 
--- the report of the rows so far, and that of a batch behind them, are the report of both
+-- the report of the rows so far, and that of a batch after them, are the report of both
 abbrev pub PartsJoin : Shape → Type 0
 PartsJoin shape = (rows batch : List Row) → length rows ≢ 1 → report shape rows ++ report_part shape batch (last_cycle rows) ≡ report shape (joined rows batch)
 

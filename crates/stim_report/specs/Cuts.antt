@@ -20,7 +20,7 @@ has_bytes (b ∷ bytes) = true
 abbrev pub without_return : List ℕ → List ℕ
 without_return line = if slice_index line (length line - 1) == 13 then take (length line - 1) line else line
 
--- nothing behind the last line feed is no line
+-- nothing after the last line feed is no line
 abbrev pub but_empty_last : List (List ℕ) → List (List ℕ)
 but_empty_last [] = []
 but_empty_last ([] ∷ []) = []
@@ -34,7 +34,7 @@ lines_of text = map without_return (but_empty_last (slice_split ends_line text))
 abbrev pub is_mark : List ℕ → Bool
 is_mark line = bytes_eq (without_return line) (codes "%%")
 
--- a source: the bytes before the mark, those behind its line, and the number of the line that they begin with
+-- a source: the bytes before the mark, those after its line, and the number of the line that they begin with
 pub record Parts : Type 0 where
   pub design : List ℕ
   pub stimulus : List ℕ
@@ -56,11 +56,11 @@ cut_at lines (Some mark) bytes =
 unfoldable pub parts_of : List ℕ → Parts
 parts_of bytes = let lines = slice_split ends_line bytes in cut_at lines (position is_mark lines) bytes
 
--- pieces, the first at this column and each behind one byte more, with their columns
+-- pieces, the first at this column and each after one byte more, with their columns
 abbrev pub placed : ℕ → List (List ℕ) → List (ℕ × List ℕ)
 placed column [] = []
 placed column (piece ∷ pieces) = (column, piece) ∷ placed (column + length piece + 1) pieces
 
--- the words of bytes that begin at a column: what stands between blanks, with the column of its first byte
+-- the words of bytes that begin at a column: what is between blanks, with the column of its first byte
 unfoldable pub words_from : ℕ → List ℕ → List (ℕ × List ℕ)
 words_from column bytes = filter (λ (word : ℕ × List ℕ). has_bytes word.1) (placed column (slice_split is_blank bytes))

@@ -1,4 +1,4 @@
--- What the calls that read a stimulus answer.
+-- What the calls that read a stimulus return.
 use Rattle.std.specs.Prelude.{◌≡◌, List, [], ◌∷◌, ◌++◌, Result, Ok, Err}
 use Rattle.kw_base.specs.declared.fault.Fault.{Fault}
 use Rattle.kw_base.specs.declared.fault.Refusal.{Refusal}

@@ -1,4 +1,4 @@
--- The report of a run: a line for each cycle from 0 on, with the rules that fired in it and the registers behind it.
+-- The report of a run: a line for each cycle from 0 on, with the rules that fired in it and the registers after it.
 -- This project's own text form.
 use Rattle.std.specs.Prelude.{ℕ, zero, suc, ◌+◌, ◌/◌, ◌%◌, ◌^◌, nat_lt, if◌then◌else◌, Bool, true, false, List, [], ◌∷◌, ◌++◌, codes, decimal}
 use Rattle.std.specs.List.{flat_map}
@@ -16,7 +16,7 @@ abbrev pub hex_digits : ℕ → ℕ → List ℕ
 hex_digits zero number = []
 hex_digits (suc count) number = hex_digit (number / 16 ^ count % 16) ∷ hex_digits count number
 
--- a number of so many bits has a digit for each four of them, and for what is left
+-- a number of this many bits has a digit for each four of them, and for what is left
 abbrev pub hex : ℕ → ℕ → List ℕ
 hex width number = hex_digits ((width + 3) / 4) number
 
@@ -27,7 +27,7 @@ fired_names (name ∷ names) [] = []
 fired_names (name ∷ names) (true ∷ flags) = name ∷ fired_names names flags
 fired_names (name ∷ names) (false ∷ flags) = fired_names names flags
 
--- each name behind a comma
+-- each name after a comma
 abbrev pub more_names : List (List ℕ) → List ℕ
 more_names names = flat_map (λ name. 44 ∷ name) names
 
@@ -40,7 +40,7 @@ listed (name ∷ names) = name ++ more_names names
 abbrev pub value_text : NameWidth → BitVector → List ℕ
 value_text register value = register.name ++ 61 ∷ hex register.width value.number
 
--- the same of each register, behind a space
+-- the same of each register, after a space
 abbrev pub registers_text : List NameWidth → List BitVector → List ℕ
 registers_text [] values = []
 registers_text (register ∷ registers) [] = []
@@ -60,7 +60,8 @@ lines_from shape cycle (row ∷ rows) = line_of shape cycle row ++ lines_from sh
 abbrev pub report : Shape → List Row → List ℕ
 report shape rows = lines_from shape 0 rows
 
--- the report of a run's part that begins behind this cycle: its first row is the last of what came before, if anything did
+-- the report of a run's part that begins after this cycle: its first row is the last of what came before, if anything
+-- did
 abbrev pub report_part : Shape → List Row → ℕ → List ℕ
 report_part shape rows zero = report shape rows
 report_part shape [] (suc before) = []

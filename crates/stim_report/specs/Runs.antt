@@ -1,4 +1,4 @@
--- What the calls that cut bytes answer: runs of bytes of a class, and what stands behind a line.
+-- What the calls that cut bytes return: runs of bytes of a class, and what comes after a line.
 use Rattle.std.specs.Prelude.{◌≡◌, ℕ, Bool, false, not, List, [], ◌∷◌, Option, None, Some}
 use Rattle.std.specs.List.{slice_split}
 use Rattle.stim_report.specs.Cuts.{ends_line, is_blank}
@@ -17,7 +17,7 @@ abbrev pub StopsAt : (ℕ → Bool) → List ℕ → Type 0
 StopsAt passes [] = Unit {0}
 StopsAt passes (b ∷ bytes) = passes b ≡ false
 
--- what stands behind a line: a line feed and more, or nothing; and the pieces of what is left
+-- what comes after a line: a line feed and more, or nothing; and the pieces of what is left
 abbrev pub bytes_behind : Option (Bor (List ℕ)) → List ℕ
 bytes_behind None = []
 bytes_behind (Some rest) = 10 ∷ rest.now

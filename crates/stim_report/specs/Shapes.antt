@@ -1,4 +1,4 @@
--- What texts tell of a system, its shape, and which rows of a run fit it.
+-- What texts show of a system, its shape, and which rows of a run fit it.
 use Rattle.std.specs.Prelude.{◌≡◌, ℕ, List, length, map}
 use Rattle.std.specs.List.{AllByRecursion}
 use Rattle.typed_core.specs.Widths.{HaveWidths}

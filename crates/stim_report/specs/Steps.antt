@@ -2,7 +2,7 @@
 use Rattle.std.specs.Prelude.{ℕ, Bool, if◌then◌else◌, List, [], ◌∷◌}
 use Rattle.stim_report.specs.Report.{listed, more_names}
 
--- a name behind a comma, unless it is the first
+-- a name after a comma, unless it is the first
 abbrev pub separated : Bool → List ℕ → List ℕ
 separated is_first name = if is_first then name else 44 ∷ name
 

@@ -26,7 +26,7 @@ abbrev pub at_place : {X : Type 0} → Place → Result X ℕ → Result X Fault
 at_place place (Ok x) = Ok x
 at_place place (Err number) = Err (fault_at number place)
 
--- the assignments of words of the line of this number, behind those that it assigns before
+-- the assignments of words of the line of this number, after those that it assigns before
 abbrev pub line_from : List NameWidth → ℕ → List Assignment → List (ℕ × List ℕ) → Result (List Assignment) Fault
 line_from inputs number line [] = Ok line
 line_from inputs number line (word ∷ words) =

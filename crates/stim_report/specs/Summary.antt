@@ -21,7 +21,7 @@ fired_count rows rule = count_by (has_fired rule) (drop 1 rows)
 abbrev pub last_values : List Row → List BitVector
 last_values rows = fold (λ (values : List BitVector) (row : Row). row.regs) [] rows
 
--- what a summary tells
+-- what a summary shows
 pub record Totals : Type 0 where
   pub registers : List NameWidth
   pub rules : List (List ℕ)

@@ -1,3 +1,5 @@
+//! Reports: a stimulus cut into lines and words.
+
 // How bytes are cut into lines and words.
 ghost use Rattle.std.specs.Prelude.{◌≡◌, ◌+◌, ◌<◌, ◌++◌, ◌∷◌, [], ℕ, length, IfSome, IfNone};
 ghost use Rattle.std.specs.List.{AllPass, slice_split};
@@ -5,14 +7,14 @@ ghost use Rattle.stim_report.specs.Cuts as cuts;
 ghost use Rattle.stim_report.specs.Cuts.{ends_line, lines_of, words_from};
 ghost use Rattle.stim_report.specs.Runs.{bytes_behind, is_of, pieces_of, StopsAt};
 
-/// A class of bytes that stand in a row.
+/// A class of bytes that follow one another.
 #[derive(Clone, Copy, Debug, PartialEq, Eq)]
 enum Class {
     /// Spaces and tabs.
     Blank,
     /// What a word consists of.
     Word,
-    /// What stands on a line.
+    /// What is on a line.
     Line,
 }
 
@@ -39,7 +41,7 @@ impl Class {
     }
 }
 
-/// The first piece of a text before a line feed, and what stands behind that, if there is one.
+/// The first piece of a text before a line feed, and what comes after that, if there is one.
 pub(crate) fn split_line(text: &[u8]) -> (&[u8], Option<&[u8]>)
     ensures bytes { text.now ≡ result.0.now ++ bytes_behind result.1 }
     ensures pieces { slice_split ends_line text.now ≡ result.0.now ∷ pieces_of result.1 }
@@ -61,7 +63,7 @@ pub(crate) fn without_return(line: &[u8]) -> &[u8]
     }
 }
 
-/// A line of a text, and the bytes behind it.
+/// A line of a text, and the bytes after it.
 #[derive(Clone, Copy)]
 pub(crate) struct Line<'a> {
     pub(crate) bytes: &'a [u8],
@@ -85,7 +87,7 @@ pub(crate) fn next_line(text: &[u8]) -> Option<Line<'_>>
     Some(Line { bytes, rest })
 }
 
-/// A word, how many blanks stand before it, and the bytes behind it.
+/// A word, how many blanks come before it, and the bytes after it.
 #[derive(Clone, Copy)]
 pub(crate) struct Word<'a> {
     pub(crate) blanks: usize,

@@ -1,3 +1,5 @@
+//! Reports: the rules that fired, as text.
+
 // The rules that fired.
 ghost use Rattle.std.specs.Prelude.{◌≡◌, ◌≤◌, ◌&&◌, not, length};
 ghost use Rattle.stim_report.specs.Pages.{Gains, HasRoom};
@@ -35,7 +37,7 @@ fn push_if_fired(page: &mut Reserved<u8>, is_first: bool, rule: &Text, fired: bo
     false
 }
 
-// A name, behind a comma unless it is the first.
+// A name, after a comma unless it is the first.
 fn push_name(page: &mut Reserved<u8>, is_first: bool, name: &Text)
     requires { HasRoom page.old (separated is_first name.now) }
     ensures { Gains page.old page.new (separated is_first name.now) }

@@ -1,3 +1,5 @@
+//! Reports: which inputs a line of a stimulus has assigned so far.
+
 // Which inputs a line assigns.
 ghost use Rattle.std.specs.Prelude.{◌≡◌, ◌<◌, IfOk, [], length};
 ghost use Rattle.stim_report.specs.Given.{AreGiven};

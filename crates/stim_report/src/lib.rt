@@ -1,9 +1,9 @@
 //! What users read and write: stimuli, reports and summaries.
 //!
-//! `specs/Cuts.antt`, `specs/Assignments.antt` and `specs/Stimuli.antt` say how a source is cut and which stimulus, or which
-//! first fault, a text gives. `specs/Report.antt` and `specs/Summary.antt` say which bytes tell the rows of a run, and
-//! `specs/Batches.antt` that the report of a run is those of its batches joined. Whoever runs a system hands its rows to
-//! `report_part` and to a `Tally`, batch by batch.
+//! `specs/Cuts.antt`, `specs/Assignments.antt` and `specs/Stimuli.antt` say how a source is cut and which stimulus, or
+//! which first fault, a text gives. `specs/Report.antt` and `specs/Summary.antt` say which bytes show the rows of a
+//! run, and `specs/Batches.antt` that the report of a run is those of its batches joined. Whoever runs a system passes
+//! its rows to `report_part` and to a `Tally`, batch by batch.
 #![tactic(auto, using(crate::proofs::Pages::pages))]
 
 mod cuts;

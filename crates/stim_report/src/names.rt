@@ -1,3 +1,5 @@
+//! Reports: the inputs of a stimulus, found by name.
+
 // The inputs by their names.
 ghost use Rattle.std.specs.Prelude.{◌≡◌, ◌≤◌, ◌<◌, ◌+◌, ◌^◌, ◌++◌, ◌∷◌, [], List, IfOk, OnOk, length};
 ghost use Rattle.kw_base.specs.Names.{AreNumbered, number_of};
@@ -41,7 +43,8 @@ impl InputNames {
     }
 }
 
-// The number of a name. That of the expected one is told without a hash, which costs more than the rest of a short assignment.
+// The number of a name. That of the expected one is found without a hash, which costs more than the rest of a short
+// assignment.
 fn find_near(names: &Names, name: &[u8], expected: u32) -> Option<u32>
     requires { AreNumbered names.now }
     ensures number { result ≡ number_of names.now name.now }

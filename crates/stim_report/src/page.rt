@@ -1,3 +1,5 @@
+//! Reports: text added to memory that was allocated before.
+
 // A text that has its memory beforehand.
 ghost use Rattle.std.specs.Prelude.{◌∷◌, [], decimal};
 ghost use Rattle.stim_report.specs.Pages.{Gains, HasRoom};

@@ -1,3 +1,5 @@
+//! Reports: the registers of a row, as text.
+
 // The values of registers.
 ghost use Rattle.std.specs.Prelude.{◌≡◌, ◌<◌, ◌≤◌, ◌/◌, ◌%◌, ◌^◌, ◌∷◌};
 ghost use Rattle.kw_bits.specs.Laws.{HasWidth};

@@ -1,4 +1,6 @@
-// How much room lines need. There is no answer where it is more than memory can have.
+//! Reports: how much memory lines need.
+
+// How much room lines need. There is none where it is more than memory can have.
 ghost use Rattle.std.specs.Prelude.{◌≡◌, ◌+◌, ◌/◌, ◌≤◌, ◌<◌, ◌^◌, ℕ, List, length, IfSome, false};
 ghost use Rattle.kw_bits.specs.BitVector.{BitVector};
 ghost use Rattle.stim_report.specs.Report.{fired_names, lines_from, listed, registers_text};
@@ -9,7 +11,7 @@ use crate::{NameWidth, Shape};
 use kw_bits::Text;
 use one_rule::Row;
 
-// Room for the values of registers, whatever they are.
+// Room for the values of registers, for all values.
 pub(crate) fn room_of_registers(registers: &[NameWidth]) -> Option<usize>
     ensures { IfSome result (λ room. (values : List BitVector) → length (registers_text registers.now values) ≤ room) }
 {

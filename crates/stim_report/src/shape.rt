@@ -1,3 +1,5 @@
+//! Reports: the names and widths by which texts are read and written.
+
 ghost use Rattle.std.specs.Prelude.{◌≡◌, List, IfOk, map};
 ghost use Rattle.one_rule.specs.Rows as rows;
 ghost use Rattle.one_rule.specs.declared.rows.Row.{Row};
@@ -14,7 +16,7 @@ pub struct NameWidth {
     pub width: u32,
 }
 
-/// What texts tell of a system: its inputs, its registers and the names of its rules.
+/// What texts show of a system: its inputs, its registers and the names of its rules.
 #[derive(Debug, Drop)]
 pub struct Shape {
     pub inputs: Sequence<NameWidth>,

@@ -1,3 +1,5 @@
+//! Reports: a source cut at its line `%%`.
+
 ghost use Rattle.std.specs.Prelude.{◌≡◌, ◌≤◌, ◌+◌, length};
 ghost use Rattle.kw_base.specs.Place.{capped};
 ghost use Rattle.stim_report.specs.Cuts as cuts;
@@ -11,7 +13,7 @@ use crate::cuts::{split_line, without_return};
 pub struct SourceParts<'a> {
     /// The bytes before the line `%%`, or all where there is no such line.
     pub design: &'a [u8],
-    /// The bytes behind that line.
+    /// The bytes after that line.
     pub stimulus: &'a [u8],
     /// The number of the line that they begin with, counted from 1 in the source.
     pub first_line: u32,
@@ -48,7 +50,7 @@ pub fn source_parts(bytes: &[u8]) -> SourceParts<'_>
     }
 }
 
-// What stands behind a line feed, if there is one.
+// What comes after a line feed, if there is one.
 fn text_behind(behind: Option<&[u8]>) -> &[u8]
     ensures { result.now ≡ text_behind behind.entry }
 {
@@ -64,7 +66,7 @@ fn is_mark(line: &[u8]) -> bool
     without_return(line) == b"%%".as_slice()
 }
 
-// The number of a line so many behind some lines.
+// The number of a line this many after some lines.
 fn line_number(lines: usize, behind: u32) -> u32
     ensures { result ≡ capped (lines + behind) }
 {

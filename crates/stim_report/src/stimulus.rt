@@ -1,3 +1,5 @@
+//! Reports: the reader of stimuli.
+
 ghost use Rattle.std.specs.Prelude.{◌≡◌, ◌+◌, ◌<◌, ◌^◌, List, [], All, IfOk, IfSome, IfNone, OnOk, length, slice_index_or, false, Some, None, Ok, Err};
 ghost use Rattle.kw_base.specs.Fault.{IfFault};
 ghost use Rattle.one_rule.specs.Stimulus.{Assignment as AssignmentOf, Assigns, IsLine};
@@ -21,9 +23,9 @@ use kw_bits::{Bits, NoMemory};
 use one_rule::Stimulus;
 use std::alloc::Global;
 
-/// The stimulus of a text whose first line has this number in its source, for the inputs of a shape, or the fault of the
-/// first assignment that has one: 30 where it is malformed or assigns an input for the second time in its line, 31 where
-/// no input has its name, 32 where its value is too wide. Its place is that of the assignment's first byte.
+/// The stimulus of a text whose first line has this number in its source, for the inputs of a shape, or the fault of
+/// the first assignment that has one: 30 where it is malformed or assigns an input for the second time in its line, 31
+/// where no input has its name, 32 where its value is too wide. Its place is that of the assignment's first byte.
 pub fn read_stimulus(
     alloc: Global,
     bytes: &[u8],
@@ -61,7 +63,7 @@ fn widths(alloc: Global, inputs: &[NameWidth]) -> Result<Vec<u32>, NoMemory>
     Ok(widths)
 }
 
-// The assignments of the line of this number. No input is given before it, and none behind it.
+// The assignments of the line of this number. No input is given before it, and none after it.
 fn read_line(
     alloc: Global,
     inputs: &[NameWidth],
@@ -140,8 +142,8 @@ fn place(line: u32, column: usize) -> Place
     }
 }
 
-// What a word assigns, where these inputs are given before it in its line, or the number of its fault. Most lines assign
-// the inputs in their order, so one is expected, and any may come.
+// What a word assigns, where these inputs are given before it in its line, or the number of its fault. Most lines
+// assign the inputs in their order, so one is expected, and any may come.
 fn read_assignment(
     inputs: &[NameWidth],
     names: &InputNames,
@@ -181,7 +183,7 @@ struct Parts<'a> {
     value: &'a [u8],
 }
 
-// What stands before the last `=` of a word, if anything does, and what stands behind it.
+// What comes before the last `=` of a word, if anything does, and what comes after it.
 fn name_and_value(word: &[u8]) -> Option<Parts<'_>>
     ensures found { IfSome result (λ parts. name_and_value word.now ≡ Some (parts.name.now, parts.value.now)) }
     ensures absent { IfNone result (name_and_value word.now ≡ None) }
@@ -195,7 +197,7 @@ fn name_and_value(word: &[u8]) -> Option<Parts<'_>>
     Some(Parts { name, value })
 }
 
-// Where the bytes begin that have no `=` behind them.
+// Where the bytes begin that have no `=` after them.
 #[tactic(auto, using(crate::proofs::Equals::equals))]
 fn start_of_value(word: &[u8]) -> usize
     ensures { result + behind_equals word.now ≡ length word.now }

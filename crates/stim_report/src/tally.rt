@@ -1,3 +1,5 @@
+//! Reports: the totals of a summary.
+
 ghost use Rattle.std.specs.Prelude.{◌≡◌, ◌≤◌, ◌<◌, ◌+◌, ◌++◌, ◌^◌, ℕ, List, [], IfOk, OnOk, length, replicate, slice_index, count_by, decimal};
 ghost use Rattle.std.specs.List.{AllByRecursion};
 ghost use Rattle.kw_bits.specs.Laws.{HasWidth};
@@ -19,7 +21,7 @@ use one_rule::{Row, Rows};
 use std::alloc::Global;
 use std::marker::Model;
 
-/// What a summary tells of the rows so far of a run that is made in batches.
+/// What a summary shows of the rows so far of a run that is made in batches.
 #[derive(Debug, Drop)]
 pub struct Tally {
     registers: Sequence<NameWidth>,
@@ -54,7 +56,7 @@ impl Tally {
         })
     }
 
-    /// Adds the rows of a batch, which goes on from the cycle that the rows so far end with. It takes no memory.
+    /// Adds the rows of a batch, which goes on from the cycle that the rows so far end with. It allocates nothing.
     pub fn add(&mut self, rows: &Rows, from: u32)
         requires fit { AllByRecursion (RowFits self.old.registers self.old.rules) rows.now }
         requires some { 0 < length rows.now }

@@ -1,3 +1,5 @@
+//! Reports: the values of assignments, read digit by digit.
+
 // The values of assignments.
 ghost use Rattle.std.specs.Prelude.{◌≡◌, ◌*◌, ◌+◌, ◌<◌, ◌^◌, nat_lt, if◌then◌else◌, IfSome, IfNone, Some, None};
 ghost use Rattle.std.specs.Char.{is_digit};
@@ -32,7 +34,7 @@ pub(crate) fn numeral_of(value: &[u8]) -> Option<Numeral<'_>>
     Some(numeral)
 }
 
-// The bytes of a value behind its base.
+// The bytes of a value after its base.
 fn in_base(value: &[u8]) -> Numeral<'_>
     ensures base { IsBase result.radix }
     ensures number { texts.number_of value.now ≡ texts.numeral result.radix result.digits.now }
@@ -92,7 +94,7 @@ fn number_of(radix: u32, digits: &[u8]) -> Option<u128>
     Some(number)
 }
 
-// The number with one more digit behind it, if it is below 2^128. Most numbers are small, and then 64 bits are faster.
+// The number with one more digit after it, if it is below 2^128. Most numbers are small, and then 64 bits are faster.
 fn with_digit(radix: u32, number: u128, digit: u32) -> Option<u128>
     requires { IsBase radix }
     ensures { SomeIff result (number * radix + digit < 2 ^ 128) (number * radix + digit) }
