@@ -1,5 +1,6 @@
 pub mod AddedBads
 pub mod FirstsJoined
+pub mod LaidOutBads
 pub mod MarkedRuns
 pub mod MoreBads
 pub mod NarrowOutputs

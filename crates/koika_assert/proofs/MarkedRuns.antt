@@ -75,7 +75,7 @@ passing P test (first ∷ lines) all k line at = by (test first) refl (λ j l fo
     by false is rest j found = rest j line (sym (ap (λ (b : Bool). slice_get (cond b (first ∷ filter test lines) (filter test lines)) j) is) ∙ found)
 
 -- what holds of all items holds of those that are picked
-picked-out : {A : Type 0} (P : A → Type 0) (items : List A) (numbers : List ℕ) → ((k : ℕ) (x : A) → slice_get items k ≡ Some x → P x) → (k : ℕ) (x : A) → slice_get (filter_map (slice_get items) numbers) k ≡ Some x → P x
+pub picked-out : {A : Type 0} (P : A → Type 0) (items : List A) (numbers : List ℕ) → ((k : ℕ) (x : A) → slice_get items k ≡ Some x → P x) → (k : ℕ) (x : A) → slice_get (filter_map (slice_get items) numbers) k ≡ Some x → P x
 picked-out {A} P items [] all k x at = absurd (cc)
 picked-out {A} P items (number ∷ numbers) all k x at = by (slice_get items number) refl (λ j found. picked-out P items numbers all j x found) k at
   where

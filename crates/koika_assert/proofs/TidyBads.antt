@@ -32,7 +32,7 @@ module _ (lines : List Line) (first : ℕ) (outputs : List Line) where
   all = lines ++ bad_lines first outputs
 
   -- lines of other rules are the same
-  same : (test : Rule → Bool) → test forms.Bad ≡ false → lines_of test all ≡ lines_of test lines
+  pub same : (test : Rule → Bool) → test forms.Bad ≡ false → lines_of test all ≡ lines_of test lines
   same test never =
       filter-append (λ (l : Line). test (rule_of l.keyword)) lines (bad_lines first outputs) ∙ ap (λ (ls : List Line). lines_of test lines ++ ls) (no-others test first outputs never)
       ∙ append-nil (lines_of test lines)

@@ -1,5 +1,5 @@
--- The `bad` lines of a circuit text (BTOR2; Niemetz et al., CAV 2018): each marks a value of one bit, and is violated in a cycle in
--- which that value is 1. The text that shows them is this project's own.
+-- The `bad` lines of a BTOR2 file (Niemetz et al., CAV 2018): each marks a value of one bit, and is violated
+-- in a cycle in which that value is 1. The text that shows them is this project's own.
 use Rattle.std.specs.Prelude.{◌≡◌, ◌==◌, ℕ, ◌+◌, not, Bool, false, List, [], ◌∷◌, ◌++◌, length, map, filter, slice_get, slice_index_or}
 use Rattle.std.specs.List.{filter_map}
 use Rattle.kw_base.specs.Place.{capped}
@@ -28,8 +28,8 @@ bads_as_outputs lines = map turned (filter (λ line. not (is_output (rule_of lin
 abbrev pub is_violated : List Line → InputsByCycle → ℕ → Line → Bool
 is_violated lines inputs step line = (values_in lines inputs step (id_at line.arguments 0)).number == 1
 
--- the flags of one text are the violations of the other's bad lines, in order, and none before all steps; both have inputs of the
--- same widths
+-- the flags of one text are the violations of the other's bad lines, in order, and none before all steps; both have
+-- inputs of the same widths
 pub record ShowsViolations (lines shown : List Line) : Type 0 where
   pub inputs : map (width_in shown) (ids_of is_input shown) ≡ map (width_in lines) (ids_of is_input lines)
   pub names : lines_of is_output shown ≡ map turned (lines_of is_bad lines)
@@ -53,7 +53,7 @@ bad_lines id (output ∷ outputs) = bad_line id output ∷ bad_lines (id + 1) ou
 abbrev pub marked : List Line → List ℕ → List Line
 marked lines marks = filter_map (slice_get (flag_lines lines)) marks
 
--- the lines, and a bad line behind them for each mark
+-- the lines, and a bad line after them for each mark
 abbrev pub with_bads : List Line → List ℕ → List Line
 with_bads lines marks = lines ++ bad_lines (length lines + 1) (marked lines marks)
 
@@ -70,8 +70,8 @@ pub record HasSameParts (lines other : List Line) : Type 0 where
 abbrev pub RunsAlike : List Line → List Line → Type 0
 RunsAlike lines other = (inputs : InputsByCycle) (n : ℕ) → run_of other inputs n ≡ run_of lines inputs n
 
--- behind the violations of a text's own bad lines come those of further ones: each is violated in the cycles in which the flag
--- of its mark is 1
+-- after the violations of a text's own bad lines come those of further ones: each is violated in the cycles in which
+-- the flag of its mark is 1
 abbrev pub ShowsMarks : List Line → List ℕ → List Line → Type 0
 ShowsMarks lines marks other =
     (inputs : InputsByCycle) (step : ℕ)

@@ -1,5 +1,5 @@
--- Violations of assertions: a rule may be marked, and a cycle in which a marked rule fires violates its assertion. The text of
--- violations is this project's own.
+-- Violations of assertions: a rule may be marked, and a cycle in which a marked rule fires violates its assertion. The
+-- text of violations is this project's own.
 use Rattle.std.specs.Prelude.{ℕ, Option, None, Some, List, [], ◌∷◌, ◌++◌, map, drop, codes, decimal}
 use Rattle.std.specs.List.{position_from}
 use Rattle.one_rule.specs.declared.rows.Row.{Row}
@@ -17,7 +17,7 @@ pub record Watched : Type 0 where
   pub cycles : ℕ
   pub firsts : List (Option ℕ)
 
--- what rows tell of marks
+-- what rows say of marks
 unfoldable pub watched : List (List ℕ) → List ℕ → List Row → Watched
 watched names marks rows = record { names = names; marks = marks; cycles = last_cycle rows; firsts = map (first_violated rows) marks }
 
@@ -36,6 +36,6 @@ violated_lines (name ∷ names) (first ∷ firsts) = violated_line name first ++
 abbrev pub watched_text : Watched → List ℕ
 watched_text known = violated_lines known.names known.firsts
 
--- what stands behind the report, or the summary, of a run with these marks
+-- what comes after the report, or the summary, of a run with these marks
 abbrev pub violations : List (List ℕ) → List ℕ → List Row → List ℕ
 violations names marks rows = watched_text (watched names marks rows)

@@ -1,4 +1,5 @@
--- Widths in lines whose ids are 1, 2, 3 and so on, by the sorts that lines name. Contracts of private functions alone cite it.
+-- Widths in lines whose ids are 1, 2, 3 and so on, by the sorts that lines name. Contracts of private functions alone
+-- cite it.
 use Rattle.std.specs.Prelude.{◌==◌, ℕ, zero, suc, Bool, ◌&&◌, List, [], slice_get}
 use Rattle.std.specs.Option.{option_map_or}
 use Rattle.btor2_text.specs.declared.line.Argument.{Argument}

@@ -1,4 +1,6 @@
-// The `bad` lines of a circuit text.
+//! Reports: a BTOR2 file whose outputs are the `bad` lines of another.
+
+// The `bad` lines of a BTOR2 file.
 ghost use Rattle.std.specs.Prelude.{◌≡◌, IfOk, None};
 ghost use Rattle.btor2_text.specs.Printable.{ArePrintable};
 ghost use Rattle.btor2_model.specs.Acceptance.{first_fault};

@@ -1,3 +1,5 @@
+//! Reports: copies of lines.
+
 // Copies of lines.
 ghost use Rattle.std.specs.Prelude.{◌≡◌, IfOk};
 

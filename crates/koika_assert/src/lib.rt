@@ -1,9 +1,9 @@
 //! Which assertions of a run are violated.
 //!
-//! `specs/Violations.antt` says in which cycle a marked rule is violated first, and which bytes tell it. `koika_top` hands
-//! the rows of a run with marks to a `Watch`, batch by batch, and writes its text behind the report or the summary. `specs/Bads.antt`
-//! says which text shows the violations of a circuit text's `bad` lines as flags, which `koika_top` runs, and which `bad` lines show
-//! marked flags, which it adds to the text that it compiles a design to.
+//! `specs/Violations.antt` says in which cycle a marked rule is violated first, and which bytes say so. `koika_top`
+//! passes the rows of a run with marks to a `Watch`, batch by batch, and writes its text after the report or the
+//! summary. `specs/Bads.antt` says which text shows the violations of a BTOR2 file's `bad` lines as flags, which
+//! `koika_top` runs, and which `bad` lines show marked flags, which it adds to the text that it compiles a design to.
 #![tactic(auto)]
 
 mod bads;

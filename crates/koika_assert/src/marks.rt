@@ -1,6 +1,9 @@
+//! Reports: lines with a `bad` line for each marked output.
+
 // The `bad` lines that marks of outputs are written as.
 ghost use Rattle.std.specs.Prelude.{◌≡◌, ◌+◌, ◌<◌, ◌^◌, ◌∷◌, ◌++◌, [], IfOk, OnOk, All, length, filter};
 ghost use Rattle.btor2_model.specs.Acceptance.{IsAccepted};
+ghost use Rattle.btor2_net.specs.Layout.{AreLaidOut};
 ghost use Rattle.btor2_net.specs.TidyLines.{AreTidy};
 ghost use Rattle.btor2_net.specs.Translations.{AreCounted};
 ghost use Rattle.koika_assert.specs.Bads as bads;
@@ -12,7 +15,7 @@ use btor2_text::{Argument, Keyword, Line, Lines};
 use kw_bits::NoMemory;
 use std::alloc::Global;
 
-/// The lines, and behind them for each mark a bad line of the output of one bit that has this number, with its symbol.
+/// The lines, and after them for each mark a bad line of the output of one bit that has this number, with its symbol.
 pub fn add_bads(alloc: Global, lines: &Lines, marks: &[u32]) -> Result<Lines, NoMemory>
     requires accepted { IsAccepted lines.now }
     requires ids { AreCounted lines.now }
@@ -24,11 +27,12 @@ pub fn add_bads(alloc: Global, lines: &Lines, marks: &[u32]) -> Result<Lines, No
     ensures run { IfOk result (bads.RunsAlike lines.now) }
     ensures violations { IfOk result (bads.ShowsMarks lines.now marks.now) }
     ensures tidy { IfOk result (λ all. AreTidy lines.now → AreTidy all) }
+    ensures layout { IfOk result (λ all. AreLaidOut lines.now → AreLaidOut all) }
 {
     marked_lines(alloc, lines.as_slice(), marks)
 }
 
-// The lines, and a bad line behind them for each mark.
+// The lines, and a bad line after them for each mark.
 fn marked_lines(alloc: Global, lines: &[Line], marks: &[u32]) -> Result<Lines, NoMemory>
     requires accepted { IsAccepted lines.now }
     requires ids { AreCounted lines.now }

@@ -1,3 +1,5 @@
+//! Reports: the first violated cycle of each marked rule, in the batches of a run.
+
 ghost use Rattle.std.specs.Prelude.{◌≡◌, ◌+◌, ◌<◌, ◌++◌, ◌^◌, ℕ, List, [], IfOk, OnOk, None, Some, length, replicate};
 ghost use Rattle.std.specs.List.{position_from};
 ghost use Rattle.koika_assert.specs.Marks.{AddsFirsts};
@@ -52,7 +54,7 @@ impl Watch {
         })
     }
 
-    /// Adds the rows of a batch, which goes on from the cycle that the rows so far end with. It takes no memory.
+    /// Adds the rows of a batch, which goes on from the cycle that the rows so far end with. It allocates nothing.
     pub fn add(&mut self, rows: &Rows, from: u32)
         requires some { 0 < length rows.now }
         requires goes_on { from ≡ self.old.cycles }
