@@ -6,7 +6,7 @@ use Rattle.std.proofs.lemmas.List.Elements.{All-push, All-weaker}
 use Rattle.kw_base.specs.Names.{number_of}
 use Rattle.kw_bits.specs.Host.{TakesWidth}
 use Rattle.koika_types.specs.declared.declarations.Member.{Member}
-use Rattle.typed_core.specs.declared.design.HostSpec.{HostSpec}
+use Rattle.kw_bits.specs.declared.host.HostSpec.{HostSpec}
 use Rattle.koika_check.specs.Checking.{AreTypes, AreWidths, IsChecker, IsDeclared, IsSignature, IsType, IsWidth, Stands, arrays_of}
 use Rattle.koika_check.specs.Composites.{field_named, fields_of, members_of}
 use Rattle.koika_check.specs.Locals.{AreLocals, shapes_of}

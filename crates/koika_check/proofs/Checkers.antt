@@ -8,7 +8,7 @@ use Rattle.kw_bits.specs.Host.{TakesWidth}
 use Rattle.kw_base.specs.declared.fault_number.TheConstants.{UNKNOWN_NAME, WRONG_WIDTH}
 use Rattle.koika_syntax.specs.declared.tree.Name.{Name}
 use Rattle.koika_syntax.specs.declared.tree.TypeExpression.{TypeExpression}
-use Rattle.typed_core.specs.declared.design.HostSpec.{HostSpec}
+use Rattle.kw_bits.specs.declared.host.HostSpec.{HostSpec}
 use Rattle.koika_types.specs.declared.declarations.EnumDecl.{EnumDecl}
 use Rattle.koika_check.specs.Checking.{AreTypes, AreWidths, Grows, IsChecker, IsDeclared, IsNamed, IsWidth, arrays_of, enum_by, shape_of, struct_by, type_by_thing}
 use Rattle.koika_check.specs.Locals.{AreLocals}

@@ -10,7 +10,7 @@ use Rattle.koika_syntax.specs.declared.tree.Block.{Block}
 use Rattle.koika_syntax.specs.declared.tree.Field.{Field}
 use Rattle.koika_syntax.specs.declared.tree.Name.{Name}
 use Rattle.koika_syntax.specs.declared.tree.TypeExpression.{TypeExpression}
-use Rattle.typed_core.specs.declared.design.HostSpec.{HostSpec}
+use Rattle.kw_bits.specs.declared.host.HostSpec.{HostSpec}
 use Rattle.koika_check.specs.Checking.{AreTypes, Grows, IsChecker, IsPart, IsSignature, IsType, IsTypeIf, Stands, arrays_of, scope_of}
 use Rattle.koika_check.specs.Constructs.{Typing}
 use Rattle.koika_check.specs.Declarations.{add_parameter, function_body, function_of, function_result, function_typed, function_with, names_of_locals, new_name, other_name, result_of, rule_of, rule_typed, rule_with, types_in_order}

@@ -24,7 +24,7 @@ use Rattle.koika_syntax.specs.declared.tree.Width.{Width}
 use Rattle.koika_types.specs.declared.declarations.EnumDecl.{EnumDecl}
 use Rattle.koika_types.specs.declared.declarations.Member.{Member}
 use Rattle.typed_core.specs.Valid.{IsHost, IsTable, IsWidth}
-use Rattle.typed_core.specs.declared.design.HostSpec.{HostSpec}
+use Rattle.kw_bits.specs.declared.host.HostSpec.{HostSpec}
 use Rattle.typed_core.specs.declared.limits.TheConstants.{MAX_TABLE_IN_WIDTH}
 use Rattle.koika_check.specs.Composites.{field_named}
 use Rattle.koika_check.specs.Constants.{constant_of}

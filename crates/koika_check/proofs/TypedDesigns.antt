@@ -12,7 +12,7 @@ use Rattle.koika_syntax.specs.declared.tree.Declaration.TheVariants as declarati
 use Rattle.koika_syntax.specs.declared.tree.Name.{Name}
 use Rattle.koika_types.specs.declared.declarations.EnumDecl.{EnumDecl}
 use Rattle.typed_core.specs.Valid.{IsHost, IsTable, IsWidth}
-use Rattle.typed_core.specs.declared.design.HostSpec.{HostSpec}
+use Rattle.kw_bits.specs.declared.host.HostSpec.{HostSpec}
 use Rattle.typed_core.specs.declared.design.Node.{Node}
 use Rattle.koika_check.specs.Declarations.{assert_of, assert_with, declare, enum_with, function_with, host_with, input_with, nothing, register_with, rule_with, struct_with, table_with}
 use Rattle.koika_check.specs.Outcomes.{Gives, found, holds, one_by_one, wrong}

@@ -8,7 +8,7 @@ use Rattle.kw_base.specs.declared.fault_number.TheConstants.{TOO_DEEP, TOO_HEAVY
 use Rattle.koika_syntax.specs.declared.tree.Declaration.{Declaration}
 use Rattle.koika_syntax.specs.declared.tree.Declaration.TheVariants as declarations
 use Rattle.koika_syntax.specs.declared.tree.Tree.{Tree}
-use Rattle.typed_core.specs.declared.design.HostSpec.{HostSpec}
+use Rattle.kw_bits.specs.declared.host.HostSpec.{HostSpec}
 use Rattle.typed_core.specs.declared.limits.TheConstants.{MAX_INPUTS, MAX_NODES, MAX_REGISTERS, MAX_RULES}
 use Rattle.koika_check.specs.Checks.{at_most, counts_within, input_place, limits, register_place, rule_place, scheduler_places, size_within, surplus}
 use Rattle.koika_check.specs.Declarations.{assert_with, declare, enum_with, function_with, host_with, input_with, nothing, register_with, rule_with, struct_with, table_with}

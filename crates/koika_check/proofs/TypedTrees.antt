@@ -6,7 +6,7 @@ use Rattle.kw_bits.specs.Host.{TakesWidth}
 use Rattle.koika_syntax.specs.Grammar.{IsDesign}
 use Rattle.koika_syntax.specs.declared.tree.Tree.{Tree}
 use Rattle.typed_core.specs.Valid.{AreNodes, TriesNoneTwice}
-use Rattle.typed_core.specs.declared.design.HostSpec.{HostSpec}
+use Rattle.kw_bits.specs.declared.host.HostSpec.{HostSpec}
 use Rattle.typed_core.specs.declared.design.Node.{Node}
 use Rattle.typed_core.specs.declared.limits.TheConstants.{MAX_INPUTS, MAX_NODES, MAX_REGISTERS, MAX_RULES}
 use Rattle.koika_check.specs.Checks.{checked, limits, scheduled, within_limits}

@@ -6,7 +6,7 @@ use Rattle.kw_base.specs.declared.fault_number.TheConstants.{TOO_HEAVY}
 use Rattle.kw_base.specs.declared.place.Place.{Place}
 use Rattle.koika_syntax.specs.declared.tree.Declaration.{Declaration}
 use Rattle.koika_syntax.specs.declared.tree.Tree.{Tree}
-use Rattle.typed_core.specs.declared.design.HostSpec.{HostSpec}
+use Rattle.kw_bits.specs.declared.host.HostSpec.{HostSpec}
 use Rattle.typed_core.specs.declared.design.Node.{Node}
 use Rattle.koika_check.specs.Checks.{checked, counts_within, limits, scheduled, size_within, within_limits}
 use Rattle.koika_check.specs.Declarations.{declare, nothing}

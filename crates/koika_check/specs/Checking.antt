@@ -1,12 +1,12 @@
--- What holds of a checker between any two of its steps, and what a step of it comes to. All of it serves private functions
--- alone.
+-- What holds of a checker between any two of its steps, and what a step of it returns. All of it serves private
+-- functions alone.
 use Rattle.std.specs.Prelude.{◌≡◌, ℕ, ◌<◌, ◌≤◌, ◌∷◌, ◌++◌, ⊤, Bool, map, min, sum_by, List, [], drop, length, All, Option, Some, None, IfSome, Result, Ok, Err, false, nat_eq, slice_get, slice_index_or}
 use Rattle.std.specs.Str.{bytes_eq}
 use Rattle.std.specs.List.{list_any}
 use Rattle.kw_base.specs.Names.{number_of}
 use Rattle.kw_bits.specs.Host.{TakesWidth}
 use Rattle.koika_types.specs.declared.declarations.Member.{Member}
-use Rattle.typed_core.specs.declared.design.HostSpec.{HostSpec}
+use Rattle.kw_bits.specs.declared.host.HostSpec.{HostSpec}
 use Rattle.koika_check.specs.Composites.{field_named, fields_of, members_of, type_at}
 use Rattle.koika_check.specs.Composites as composites
 use Rattle.koika_check.specs.Constants as constants
@@ -107,7 +107,7 @@ shape_of (base.Bits width) = shape.Bits width
 shape_of (base.Enum number) = shape.Enum number
 shape_of (base.Struct number) = shape.Struct number
 
--- values of so many bits
+-- values of that many bits
 pub record IsWidth (width : ℕ) : Type 0 where
   pub some : 1 ≤ width
   pub most : width ≤ 128

@@ -1,5 +1,5 @@
--- What a whole tree comes to: the design with every name resolved, or the first fault. Declarations in order of the text,
--- then the schedule, then the limits in their order. This project's own rules.
+-- What checking a whole tree returns: the design with every name resolved, or the first fault. Declarations in order
+-- of the text, then the schedule, then the limits in their order. This project's own rules.
 use Rattle.std.specs.Prelude.{ℕ, nat_le, List, [], ◌∷◌, ◌++◌, map, Option, Some, None, slice_get}
 use Rattle.std.specs.List.{flat_map}
 use Rattle.std.specs.Option.{option_map}
@@ -11,7 +11,7 @@ use Rattle.koika_syntax.specs.declared.tree.Name.{Name}
 use Rattle.koika_syntax.specs.declared.tree.Scheduler.{Scheduler, Scheduler-F, fold-Scheduler}
 use Rattle.koika_syntax.specs.declared.tree.Tree.{Tree}
 use Rattle.typed_core.specs.declared.limits.TheConstants.{MAX_REGISTERS, MAX_RULES, MAX_INPUTS, MAX_NODES}
-use Rattle.typed_core.specs.declared.design.HostSpec.{HostSpec}
+use Rattle.kw_bits.specs.declared.host.HostSpec.{HostSpec}
 use Rattle.koika_check.specs.Declarations.{declare, nothing}
 use Rattle.koika_check.specs.Outcomes.{Condition, Outcome, ◌>>=◌, earlier, first, holds, one_by_one, unless, wrong}
 use Rattle.koika_check.specs.Schedule.{scheduler_nodes}
@@ -34,7 +34,7 @@ abbrev pub input_place : Declaration → List ℕ
 input_place (declarations.Input n of) = n.place ∷ []
 input_place declaration = []
 
--- where the names of rules stand in a scheduler, in order of the text
+-- where the names of rules are in a scheduler, in order of the text
 abbrev pub places_of : List Name → List ℕ
 places_of = map (λ (n : Name). n.place)
 
@@ -54,7 +54,7 @@ scheduler_places = fold-Scheduler (List ℕ) (List ℕ) choice_step scheduler_st
 unfoldable pub choice_places : Choice → List ℕ
 choice_places = fold-Choice (List ℕ) (List ℕ) choice_step scheduler_step
 
--- there are at most so many places, or the fault is at the first one too many
+-- there are at most that many places, or the fault is at the first one too many
 abbrev pub surplus : (number : ℕ) → Option ℕ → Condition
 surplus number None = None
 surplus number (Some place) = Some (wrong number place)
@@ -89,6 +89,6 @@ within_limits tree d = unless (limits tree (design_size d)) (record d { weight =
 abbrev pub scheduled : Tree → Checked → Outcome Checked
 scheduled tree d = scheduler_nodes tree.scheduler d [] 0 >>= λ nodes. within_limits tree (record d { nodes = nodes })
 
--- what a tree comes to, given the host functions that are handed in
+-- what checking a tree returns, given the host functions that are handed in
 abbrev pub checked : List HostSpec → Tree → Outcome Checked
 checked hosts tree = one_by_one (declare hosts) tree.declarations nothing >>= scheduled tree

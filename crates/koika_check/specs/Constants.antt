@@ -1,4 +1,4 @@
--- What a constant comes to: its value and its type, or its first fault. The conditions are those of expressions.
+-- What a constant evaluates to: its value and its type, or its first fault. The conditions are those of expressions.
 use Rattle.std.specs.Prelude.{ℕ, map, List, Some}
 use Rattle.kw_base.specs.declared.fault_number.TheConstants.{UNKNOWN_NAME}
 use Rattle.koika_syntax.specs.declared.tree.Name.{Name}
@@ -54,7 +54,7 @@ constant_step (constant.Array place elements) d = in_turn (λ (element : Meaning
 abbrev pub constant_field_step : ConstantField-F Meaning FieldMeaning → FieldMeaning
 constant_field_step field d = field.value d >>= λ known. Gives (record { name = field.name; known = known })
 
--- what a constant comes to where this much is declared
+-- what a constant evaluates to where this much is declared
 unfoldable pub constant_of : Constant → Checked → Outcome Known
 constant_of = fold-Constant Meaning FieldMeaning constant_step constant_field_step
 

@@ -1,6 +1,6 @@
--- What a construct comes to behind its parts: its type, and the expression with its names resolved, or the fault of its own
--- conditions. One definition for each construct. This project's own rules, after the typing of Kôika (Bourgeat et al.,
--- PLDI 2020).
+-- What a construct evaluates to after its parts: its type, and the expression with its names resolved, or the fault
+-- of its own conditions. One definition for each construct. This project's own rules, after the typing of Kôika
+-- (Bourgeat et al., PLDI 2020).
 use Rattle.std.specs.Prelude.{ℕ, ◌&&◌, nat_le, nat_eq, map, List, [], ◌∷◌, ◌++◌, length, Option, Some, None}
 use Rattle.kw_base.specs.declared.fault_number.TheConstants.{WRONG_ARGUMENT_COUNT, WRONG_WIDTH}
 use Rattle.koika_syntax.specs.declared.operator.BinaryOperator.{BinaryOperator}
@@ -109,7 +109,7 @@ join operator right before = operated operator before.left right.part >>= λ of.
 abbrev pub chained : Joined → Typing
 chained all = applied all.left.of all.left.place (operation.Chain all.operators) all.operands
 
--- a part of a value, and what was taken to come to it
+-- a part of a value, and what was taken to reach it
 pub record Taken : Type 0 where
   pub whole : Part
   pub selections : List Selection
@@ -118,7 +118,7 @@ abbrev pub take_part : Checked → Suffix → Taken → Outcome Taken
 take_part d suffix before = select d before.whole suffix >>= λ one.
     Gives (record { whole = part (Some one.of) before.whole.place; selections = before.selections ++ one.selection ∷ [] })
 
--- suffixes behind a value
+-- suffixes after a value
 abbrev pub postfix : Checked → List Suffix → Typing → Outcome Typing
 postfix d suffixes primary = one_by_one (take_part d) suffixes (record { whole = primary.part; selections = [] }) >>= λ all.
     Gives (applied all.whole.of all.whole.place (operation.Select all.selections) (primary ∷ []))

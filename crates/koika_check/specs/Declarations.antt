@@ -1,5 +1,5 @@
--- What a declaration adds to a design, or its first fault. Declarations are looked at in order of the text, and each name
--- can be used behind its declaration. The names of all kinds are one set. This project's own rules.
+-- What a declaration adds to a design, or its first fault. Declarations are looked at in order of the text, and each
+-- name can be used after its declaration. The names of all kinds are one set. This project's own rules.
 use Rattle.std.specs.Prelude.{ℕ, ◌^◌, ◌&&◌, ◌||◌, not, nat_eq, nat_le, Bool, map, min, List, [], ◌∷◌, ◌++◌, length, Option, Some, None, is_some, find, sum_by, codes}
 use Rattle.std.specs.List.{list_any}
 use Rattle.std.specs.Str.{bytes_eq}
@@ -20,7 +20,7 @@ use Rattle.koika_syntax.specs.declared.tree.TypeExpression.{TypeExpression}
 use Rattle.koika_syntax.specs.declared.tree.Width.{Width}
 use Rattle.koika_types.specs.declared.declarations.EnumDecl.{EnumDecl}
 use Rattle.koika_types.specs.declared.declarations.Member.{Member}
-use Rattle.typed_core.specs.declared.design.HostSpec.{HostSpec}
+use Rattle.kw_bits.specs.declared.host.HostSpec.{HostSpec}
 use Rattle.typed_core.specs.declared.limits.TheConstants.{MAX_TABLE_IN_WIDTH}
 use Rattle.koika_check.specs.Outcomes.{Outcome, ◌>>=◌, Gives, Condition, holds, one_by_one, where_all, found, wrong}
 use Rattle.koika_check.specs.Types.{agrees, each, enum_named, is_width, struct_named, type_of, width_of}
@@ -128,7 +128,8 @@ input_with d n written = new_name d n >>= input_of d written
 
 -- ---- tables and host functions
 
--- `table`: input width 1 to 12, output width 1 to 128, each entry of the output width, else 23; then 2^input entries, else 28
+-- `table`: input width 1 to 12, output width 1 to 128, each entry of the output width, else 23; then 2^input entries,
+-- else 28
 abbrev pub table_conditions : Name → (input output : Width) → List Literal → List Condition
 table_conditions n input output entries =
     holds (nat_le 1 input.number.value && nat_le input.number.value MAX_TABLE_IN_WIDTH) (wrong WRONG_WIDTH input.place)

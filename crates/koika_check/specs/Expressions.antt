@@ -1,5 +1,5 @@
--- What an expression comes to where names stand for what a scope says: its type, and the expression with its names
--- resolved, or its first fault. One case for each construct: its parts from left to right, and its own conditions behind
+-- What an expression evaluates to where names stand for what a scope says: its type, and the expression with its names
+-- resolved, or its first fault. One case for each construct: its parts from left to right, and its own conditions after
 -- them. This project's own rules, after the typing of Kôika (Bourgeat et al., PLDI 2020).
 use Rattle.std.specs.Prelude.{ℕ, List, [], ◌∷◌, ◌++◌, Option, Some, None}
 use Rattle.kw_base.specs.declared.fault_number.TheConstants.{UNKNOWN_NAME}
@@ -19,14 +19,14 @@ use Rattle.koika_check.specs.declared.typed.Step.{Step}
 use Rattle.koika_check.specs.declared.typed.Step.TheVariants as step
 use Rattle.koika_check.specs.declared.typed.Typed.TheVariants as typed
 
--- ---- what the parts of an expression come to
+-- ---- what the parts of an expression evaluate to
 
--- a statement that is well typed, and what names stand for behind it
+-- a statement that is well typed, and what names stand for after it
 pub record Stepping : Type 0 where
   pub step : Step
   pub behind : Scope
 
--- what each of them comes to in a scope
+-- what each of them evaluates to in a scope
 abbrev pub Meaning : Type 0
 Meaning = Scope → Outcome Typing
 
@@ -39,7 +39,7 @@ Armed = Scope → Outcome ArmTyping
 abbrev pub Fielded : Type 0
 Fielded = Scope → Outcome FieldTyping
 
--- an operator, and what its right operand comes to
+-- an operator, and what its right operand evaluates to
 pub record Joining : Type 0 where
   pub operator : BinaryOperator
   pub operand : Meaning
@@ -108,7 +108,7 @@ expression_step (expression.Extend place extension value width) scope = value.va
 expression_step (expression.Compare place o left right) scope = left.value scope >>= λ one. right.value scope >>= comparison place o one
 expression_step (expression.Update place whole part value) scope = whole.value scope >>= λ old. value.value scope >>= updated scope.design place part old
 
--- `let`: the value isn't unit (22); it is bound in all statements behind
+-- `let`: the value isn't unit (22); it is bound in all statements after
 abbrev pub statement_step : Statement-F Meaning Stepped Armed Meaning Fielded Joining → Stepped
 statement_step (expression.Let n value) scope = value scope >>= λ inner.
     found inner.part.of (wrong_type inner.part) >>= λ of.
@@ -128,7 +128,7 @@ field_value_step field scope = field.value scope >>= λ inner. Gives (record { n
 abbrev pub operand_step : Operand-F Meaning Stepped Armed Meaning Fielded Joining → Joining
 operand_step operand = record { operator = operand.operator; operand = operand.operand }
 
--- ---- what whole expressions come to
+-- ---- what whole expressions evaluate to
 
 unfoldable pub expression_in : Expression → Meaning
 expression_in = fold-Expression Meaning Stepped Armed Meaning Fielded Joining expression_step statement_step arm_step block_step field_value_step operand_step

@@ -7,7 +7,6 @@ pub mod Constructs
 pub mod Counts
 pub mod Declarations
 pub mod Expressions
-pub mod Hosts
 pub mod Listed
 pub mod Locals
 pub mod Meaning

@@ -1,6 +1,7 @@
--- What a rule of a typed tree does, over source values, after Kôika's semantics (Bourgeat et al., PLDI 2020): operands from
--- left to right, a write's value before the write, of an `if` one arm. What is read is unpacked and what is written is
--- packed, so events hold bits. Given what ports answer, it says nothing of registers or of a scheduler.
+-- What a rule of a typed tree does, over source values, after Kôika's semantics (Bourgeat et al., PLDI 2020):
+-- operands from left to right, a write's value before the write, of an `if` one arm. What is read is unpacked and
+-- what is written is packed, so events hold bits. Given what ports answer, it says nothing of registers or of a
+-- scheduler.
 use Rattle.std.specs.Prelude.{ℕ, zero, suc, ◌+◌, ◌-◌, ◌*◌, ◌/◌, map, reverse, nat_eq, if◌then◌else◌, List, [], ◌∷◌, ◌++◌, length, Option, Some, None, slice_get, slice_index_or, slice_set}
 use Rattle.kw_bits.specs.BitVector.{BitVector}
 use Rattle.kw_bits.specs.Operators as op
@@ -18,8 +19,8 @@ use Rattle.koika_types.specs.declared.value.Value.TheVariants as value
 use Rattle.koika_types.specs.declared.value.Value.TheOpen.{Value-F}
 use Rattle.koika_types.specs.declared.value.Value.TheViews.{out-Value}
 use Rattle.typed_core.specs.Evaluation.{Part, ◌>>=◌, comes_to, stops, Ports, answer_of, entry_of}
-use Rattle.typed_core.specs.declared.design.HostSpec.{HostSpec}
-use Rattle.typed_core.specs.declared.design.TableSpec.{TableSpec}
+use Rattle.kw_bits.specs.declared.host.HostSpec.{HostSpec}
+use Rattle.kw_bits.specs.declared.table.TableSpec.{TableSpec}
 use Rattle.koika_check.specs.Composites.{fields_of}
 use Rattle.koika_check.specs.Types.{width_of}
 use Rattle.koika_check.specs.declared.checked.Checked.{Checked}
@@ -54,8 +55,8 @@ from_the_top d look (f ∷ fields) bits =
     look f.of (op.slice bits (bits.width - 1) (bits.width - width_of d f.of)) ∷
     from_the_top d look fields (op.slice bits (bits.width - width_of d f.of - 1) 0)
 
--- The value of a type that has these bits, where only so many structs, the first ones, may be named. An array's item 0 has
--- the least significant bits.
+-- The value of a type that has these bits, where only that many structs, the first ones, may be named. An array's
+-- item 0 has the least significant bits.
 abbrev pub unpacked_among : Checked → ℕ → BaseType → List ℕ → BitVector → Value
 unpacked_among d structs b (n ∷ lengths) bits =
     value.Items (map (λ i. unpacked_among d structs b lengths (op.slice bits ((i + 1) * (bits.width / n) - 1) (i * (bits.width / n)))) (below n))
@@ -143,12 +144,12 @@ replaced v (selection.Bits high low) new = v
 
 -- ---- operations
 
--- what an expression comes to, with values of the names that are bound round it, the innermost first: a value, or none
--- where it is unit
+-- what an expression evaluates to, with values of the names that are bound round it, the innermost first: a value, or
+-- none where it is unit
 abbrev pub Meaning : Type 0 → Type 0
 Meaning S = List Value → Part (Option Value) S
 
--- what a rule is evaluated in: the design, the inputs' bits, the ports, and what the functions' bodies come to
+-- what a rule is evaluated in: the design, the inputs' bits, the ports, and what the functions' bodies evaluate to
 pub record Setting (S : Type 0) : Type 0 where
   pub design : Checked
   pub inputs : List BitVector
@@ -188,7 +189,7 @@ abbrev pub read_as : {S : Type 0} → Checked → Option Register → BitVector 
 read_as d None bits = comes_to None
 read_as d (Some register) bits = gives (unpacked d register.of bits)
 
--- what an operation on values comes to
+-- what an operation on values evaluates to
 abbrev pub apply : {S : Type 0} → Setting S → Operation → List Value → Part (Option Value) S
 apply s (operation.Unary operators) values = gives (value.Number (prefixed operators (bits_of_first values)))
 apply s (operation.Chain operators) [] = comes_to None
@@ -226,14 +227,14 @@ abbrev pub number_by : Option Value → ℕ
 number_by None = 0
 number_by (Some v) = (packed v).number
 
--- the body of the first condition that is 1; else the body behind them all, if there is one
+-- the body of the first condition that is 1; else the body after them all, if there is one
 abbrev pub choose : {S : Type 0} → (conditions bodies : List (Meaning S)) → Meaning S
 choose (condition ∷ conditions) (body ∷ bodies) locals = condition locals >>= λ v.
     if nat_eq (number_by v) 1 then body locals else choose conditions bodies locals
 choose [] (last ∷ rest) locals = last locals
 choose conditions bodies locals = comes_to None
 
--- a step of a block, and what comes behind it
+-- a step of a block, and what comes after it
 abbrev pub Stepped : Type 0 → Type 0
 Stepped S = Meaning S → Meaning S
 
@@ -258,11 +259,11 @@ typed_step s (typed.Apply o operands) locals = in_turn operands locals >>= λ va
 typed_step s (typed.If conditions bodies) locals = choose conditions bodies locals
 typed_step s (typed.Block steps) locals = steps_in_turn steps locals
 
--- what an expression comes to
+-- what an expression evaluates to
 unfoldable pub meaning : {S : Type 0} → Setting S → Typed → Meaning S
 meaning {S} s = fold-Typed (Stepped S) (Meaning S) step_step (typed_step s)
 
--- what the bodies of functions come to, each of which calls those before it
+-- what the bodies of functions evaluate to, each of which calls those before it
 abbrev pub bodies_behind : {S : Type 0} → Setting S → List Function → Setting S
 bodies_behind s [] = s
 bodies_behind s (f ∷ functions) = bodies_behind (record s { bodies = s.bodies ++ meaning s f.body ∷ [] }) functions
@@ -271,6 +272,6 @@ bodies_behind s (f ∷ functions) = bodies_behind (record s { bodies = s.bodies 
 abbrev pub setting : {S : Type 0} → Checked → List BitVector → Ports S → Setting S
 setting d inputs ports = bodies_behind (record { design = d; inputs = inputs; ports = ports; bodies = [] }) d.functions
 
--- what the body of a rule comes to
+-- what the body of a rule evaluates to
 abbrev pub rule_body : {S : Type 0} → Checked → List BitVector → Ports S → Typed → Part (Option Value) S
 rule_body d inputs ports body = meaning (setting d inputs ports) body []

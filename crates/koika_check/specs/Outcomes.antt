@@ -1,4 +1,4 @@
--- What checking comes to: a result, or the first fault. Parts are looked at from left to right; of the conditions of one
+-- What checking returns: a result, or the first fault. Parts are looked at from left to right; of the conditions of one
 -- construct that don't hold, the smallest number counts, and of equal ones the first. This project's own rule.
 use Rattle.std.specs.Prelude.{◌≡◌, ℕ, ⊤, Result, Ok, Err, nat_lt, Bool, if◌then◌else◌, Option, Some, None, List, [], ◌∷◌}
 use Rattle.koika_check.specs.declared.stop.Stop.{Stop}
@@ -14,7 +14,7 @@ pub data Outcome (X : Type 0) : Type 0 where
   Gives : (value : X) → Outcome X
   Fails : (fault : Wrong) → Outcome X
 
--- one part, and what comes behind it
+-- one part, and what comes after it
 infixl 10 ◌>>=◌
 abbrev pub ◌>>=◌ : {X Y : Type 0} → Outcome X → (X → Outcome Y) → Outcome Y
 Gives value >>= next = next value
@@ -66,13 +66,13 @@ abbrev pub in_turn : {X Y : Type 0} → (X → Outcome Y) → List X → Outcome
 in_turn look [] = Gives []
 in_turn look (x ∷ xs) = look x >>= λ y. in_turn look xs >>= λ ys. Gives (y ∷ ys)
 
--- parts of which each is looked at behind what those before it leave
+-- parts of which each is looked at after what those before it leave
 abbrev pub one_by_one : {X S : Type 0} → (X → S → Outcome S) → List X → S → Outcome S
 one_by_one look [] s = Gives s
 one_by_one look (x ∷ xs) s = look x s >>= λ next. one_by_one look xs next
 
--- A call answers what an outcome says, where its values stand for those of outcomes as `is` says: a value for a result, the
--- fault for a fault. Want of memory is free.
+-- A call answers what an outcome says, where its values stand for those of outcomes as `is` says: a value for a
+-- result, the fault for a fault. Being out of memory is free.
 abbrev pub Tells : {X Y : Type 0} → (Y → X → Type 0) → Outcome X → Result Y Stop → Type 0
 Tells is outcome (Err stops.NoMemory) = ⊤
 Tells is (Gives value) (Ok y) = is y value
@@ -86,7 +86,7 @@ Passes None (Ok x) = ⊤
 Passes (Some fault) (Err (stops.Wrong found)) = found ≡ fault
 Passes condition answer = ⊥
 
--- an outcome is this fault; want of memory is free
+-- an outcome is this fault; being out of memory is free
 abbrev pub Ends : {X : Type 0} → Outcome X → Stop → Type 0
 Ends outcome stops.NoMemory = ⊤
 Ends outcome (stops.Wrong fault) = outcome ≡ Fails fault

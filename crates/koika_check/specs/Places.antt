@@ -11,7 +11,7 @@ place_of_kind kind.Register = register_place
 place_of_kind kind.Rule = rule_place
 place_of_kind kind.Input = input_place
 
--- a place that is found, or the one that is found behind so many others
+-- a place that is found, or the one that is found after that many others
 abbrev pub or_further : Option ℕ → (behind : List ℕ) → (left : ℕ) → Option ℕ
 or_further (Some place) behind left = Some place
 or_further None behind left = slice_get behind left

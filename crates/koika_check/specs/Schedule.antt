@@ -1,6 +1,6 @@
--- The scheduler's nodes, numbered in order of the text: a rule, and where the scheduler goes on where it fires and where it
--- doesn't. A name that is no rule is 20, and a rule that stands twice on a path from the root is 27, each where it stands.
--- After the scheduler of Kôika (Bourgeat et al., PLDI 2020).
+-- The scheduler's nodes, numbered in order of the text: a rule, and where the scheduler goes on where it fires and
+-- where it doesn't. A name that is no rule is 20, and a rule that occurs twice on a path from the root is 27, each at
+-- its name. After the scheduler of Kôika (Bourgeat et al., PLDI 2020).
 use Rattle.std.specs.Prelude.{ℕ, ◌+◌, not, nat_eq, Bool, List, [], ◌∷◌, ◌++◌, length, drop, Option, Some, None}
 use Rattle.std.specs.List.{list_any}
 use Rattle.std.specs.Option.{option_map}
@@ -21,12 +21,12 @@ use Rattle.koika_check.specs.declared.checked.Checked.{Checked}
 abbrev pub is_on : ℕ → (path : List ℕ) → Bool
 is_on rule path = list_any (nat_eq rule) path
 
--- a name behind a path: a rule (20) that isn't on the path (27)
+-- a name after a path: a rule (20) that isn't on the path (27)
 abbrev pub tried : Checked → (path : List ℕ) → Name → Outcome ℕ
 tried d path n = found (rule_named d n.text) (wrong UNKNOWN_NAME n.place) >>= λ rule.
     where_all (holds (not (is_on rule path)) (wrong RULE_TWICE_ON_A_PATH n.place) ∷ []) rule
 
--- the path behind names that stand one after another
+-- the path after names that stand one after another
 abbrev pub longer : Checked → Name → (path : List ℕ) → Outcome (List ℕ)
 longer d n path = tried d path n >>= λ rule. Gives (path ++ rule ∷ [])
 
@@ -35,7 +35,7 @@ path_behind d = one_by_one (longer d)
 
 -- ---- nodes
 
--- a scheduler's nodes behind a path, where the first of them has this number
+-- a scheduler's nodes after a path, where the first of them has this number
 abbrev pub Nodes : Type 0
 Nodes = Checked → (path : List ℕ) → (number : ℕ) → Outcome (List Node)
 
@@ -53,19 +53,19 @@ abbrev pub in_a_row : (number : ℕ) → (rules : List ℕ) → (behind : List N
 in_a_row number [] behind = behind
 in_a_row number (rule ∷ rules) behind = in_front number rule (in_a_row (number + 1) rules behind)
 
--- a rule with one scheduler behind it where it fires, and one where it doesn't
+-- a rule with one scheduler after it where it fires, and one where it doesn't
 abbrev pub choice_step : Choice-F Nodes Nodes → Nodes
 choice_step choice d path number = tried d path choice.rule >>= λ rule.
     choice.then d (path ++ rule ∷ []) (number + 1) >>= λ taken.
     choice.otherwise d (path ++ rule ∷ []) (number + 1 + length taken) >>= λ other.
     Gives (record { rule = rule; yes = first_of taken (number + 1); no = first_of other (number + 1 + length taken) } ∷ taken ++ other)
 
--- what stands at the end of a scheduler, if anything does
+-- what is at the end of a scheduler, if anything is
 abbrev pub at_the_end : Option Nodes → Nodes
 at_the_end None d path number = Gives []
 at_the_end (Some last) d path number = last d path number
 
--- rules one after another, and what stands behind them
+-- rules one after another, and what is after them
 abbrev pub scheduler_step : Scheduler-F Nodes Nodes → Nodes
 scheduler_step scheduler d path number = path_behind d scheduler.rules path >>= λ behind.
     at_the_end (option_map (λ last. last.value) scheduler.last) d behind (number + length scheduler.rules) >>= λ nodes.

@@ -1,4 +1,4 @@
--- The shapes by which the checker compares types in one step: an array's type is told by its number. All of it serves
+-- The shapes by which the checker compares types in one step: an array's type is known by its number. All of it serves
 -- private functions alone.
 use Rattle.std.specs.Prelude.{◌≡◌, ℕ, ◌<◌, ◌^◌, ◌⊎◌, ⊤, List, [], ◌∷◌, ◌++◌, length, map, Option, Some, IfSome, option_map, slice_index_or}
 use Rattle.std.specs.Int.{to_le_bytes, w32}
@@ -18,7 +18,7 @@ type_of_shape arrays (shape.Enum number) = of_base (base.Enum number)
 type_of_shape arrays (shape.Struct number) = of_base (base.Struct number)
 type_of_shape arrays (shape.Array number) = slice_index_or arrays number (bits 0)
 
--- a shape that is one of so many arrays, if it is an array
+-- a shape that is one of that many arrays, if it is an array
 abbrev pub IsShape : (arrays : ℕ) → Shape → Type 0
 IsShape arrays (shape.Array number) = number < arrays
 IsShape arrays s = ⊤
@@ -50,7 +50,7 @@ Denotes arrays s of = (of ≡ Some (type_of_shape arrays s)) × IsShape (length 
 
 -- ---- the numbers of array types
 
--- behind these types the types of arrays of items that are known before
+-- after these types the types of arrays of items that are known before
 abbrev pub array_types : (before : List ValueType) → List ArrayShape → List ValueType
 array_types before [] = before
 array_types before (a ∷ later) = array_types (before ++ array a.length (type_of_shape before a.element) ∷ []) later

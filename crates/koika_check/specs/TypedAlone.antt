@@ -1,5 +1,5 @@
--- What a rule of a typed tree does when it runs alone, after Kôika's semantics with an empty scheduler log (Bourgeat et al.,
--- PLDI 2020): its events and how it ends. The registers that it leaves are those behind its events.
+-- What a rule of a typed tree does when it runs alone, after Kôika's semantics with an empty scheduler log (Bourgeat
+-- et al., PLDI 2020): its events and how it ends. The registers that it leaves are those after its events.
 use Rattle.std.specs.Prelude.{List, [], Option}
 use Rattle.kw_bits.specs.BitVector.{BitVector}
 use Rattle.koika_types.specs.declared.value.Value.{Value}
@@ -14,7 +14,7 @@ use Rattle.koika_check.specs.Meaning.{rule_body}
 use Rattle.koika_check.specs.declared.checked.Checked.{Checked}
 use Rattle.koika_check.specs.declared.typed.Typed.{Typed}
 
--- a body that comes to its end, and one that is stopped
+-- a body that reaches its end, and one that is stopped
 abbrev pub outcome_of : Ending (Option Value) Stopped → Outcome
 outcome_of (Reached value) = ends.Done
 outcome_of (Stop stopped.Abort) = ends.Abort

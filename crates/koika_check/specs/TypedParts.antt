@@ -1,5 +1,5 @@
--- What the parts of an expression that are looked at in order come to: operands, fields, arms, statements. All of it serves
--- private functions alone.
+-- What the parts of an expression that are looked at in order evaluate to: operands, fields, arms, statements. All of
+-- it serves private functions alone.
 use Rattle.std.specs.Prelude.{◌≡◌, ℕ, ◌++◌, map, List, [], ◌∷◌, Option, Some, None, IfSome}
 use Rattle.koika_syntax.specs.declared.operator.BinaryOperator.{BinaryOperator}
 use Rattle.koika_syntax.specs.declared.tree.Name.{Name}
@@ -59,7 +59,7 @@ pub record AreArms (c : Checker) (y : Arms) (xs : List constructs.ArmTyping) : T
   pub conditions : AreTyped c y.conditions (map (λ (x : constructs.ArmTyping). x.condition) xs)
   pub bodies : AreTyped c y.bodies (map (λ (x : constructs.ArmTyping). x.body) xs)
 
--- the body behind `else`, if there is one
+-- the body after `else`, if there is one
 abbrev pub typings_of : Checker → Option Typing → List constructs.Typing
 typings_of c None = []
 typings_of c (Some y) = typing_of c y ∷ []
@@ -70,11 +70,11 @@ pub record IsLast (c : Checker) (y : Option Typing) (xs : List constructs.Typing
 
 -- ---- statements
 
--- what `let` comes to behind its value
+-- what `let` does after its value
 abbrev pub bound_step : Name → Scope → constructs.Typing → Outcome Stepping
 bound_step n scope inner = found inner.part.of (wrong_type inner.part) >>= λ of. Gives (record { step = step.Let inner.typed; behind = bound n.text of scope })
 
--- a step, behind which names stand for what it leaves: locals were bound inside
+-- a step, after which names stand for what it leaves: locals were bound inside
 pub record IsStep (scope : Scope) (c : Checker) (y : Step) (x : Stepping) : Type 0 where
   pub step : x.step ≡ y
   pub behind : scope_of c ≡ x.behind

@@ -1,6 +1,6 @@
--- Types of values as the checker sees them: a base and the lengths of the arrays round it, the outermost first; what a type
--- expression comes to, and when a part is of a wanted type. Packed types with 1 to 128 bits, as IEEE 1800-2017 has them
--- (7.2.1, 7.4.1).
+-- Types of values as the checker sees them: a base and the lengths of the arrays round it, the outermost first; what
+-- a type expression evaluates to, and when a part is of a wanted type. Packed types with 1 to 128 bits, as IEEE
+-- 1800-2017 has them (7.2.1, 7.4.1).
 use Rattle.std.specs.Prelude.{ℕ, ◌*◌, nat_eq, nat_le, Bool, true, false, ◌&&◌, map, List, [], ◌∷◌, Option, Some, None, slice_index, is_some}
 use Rattle.std.specs.Str.{bytes_eq}
 use Rattle.kw_base.specs.Names.{number_of}
@@ -18,7 +18,7 @@ use Rattle.koika_check.specs.declared.typed.ValueType.{ValueType}
 
 -- ---- types
 
--- values of a base, bits of a width, and so many items of a type
+-- values of a base, bits of a width, and that many items of a type
 abbrev pub of_base : BaseType → ValueType
 of_base b = record { base = b; lengths = [] }
 
@@ -82,7 +82,7 @@ abbrev pub array_type : Checked → (length place : ℕ) → ValueType → Outco
 array_type d length place item =
     where_all (holds (is_width length && is_width (width_of d (array length item))) (wrong WRONG_WIDTH place) ∷ []) (array length item)
 
--- what a type expression comes to
+-- what a type expression evaluates to
 abbrev pub type_of : Checked → TypeExpression → Outcome ValueType
 type_of d (Bits width) =
     where_all (holds (is_width width.number.value) (wrong WRONG_WIDTH width.place) ∷ []) (bits width.number.value)

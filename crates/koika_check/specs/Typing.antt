@@ -1,5 +1,6 @@
--- Which typed trees are well typed: each expression by its construct, after the typing of Kôika (Bourgeat et al., PLDI 2020)
--- over packed types (IEEE 1800-2017, 7.2.1 and 7.4.1); and what holds of a whole design. It says nothing of names.
+-- Which typed trees are well typed: each expression by its construct, after the typing of Kôika (Bourgeat et al.,
+-- PLDI 2020) over packed types (IEEE 1800-2017, 7.2.1 and 7.4.1); and what holds of a whole design. It says nothing
+-- of names.
 use Rattle.std.specs.List.{AllByRecursion}
 use Rattle.std.specs.Prelude.{◌≡◌, ℕ, ◌+◌, ◌-◌, ◌/◌, ◌<◌, ◌≤◌, ◌⊎◌, min, map, sum_by, replicate, reverse, drop, List, [], ◌∷◌, length, All, Option, Some, None, IfSome, slice_get}
 use Rattle.kw_bits.specs.BitVector.{IsBits}
@@ -97,7 +98,7 @@ Operates binary.Add = Calculates
 Operates binary.Subtract = Calculates
 Operates binary.Multiply = Calculates
 
--- operators behind a first operand, grouped to the left
+-- operators after a first operand, grouped to the left
 abbrev pub Chains : List BinaryOperator → (left : ValueType) → List ValueType → (of : ValueType) → Type 0
 Chains [] left [] of = of ≡ left
 Chains (o ∷ operators) left (right ∷ rest) of = (next : ValueType) × Operates o left right next × Chains operators next rest of
@@ -135,8 +136,8 @@ Replaces d (selection.Field number lowest width) whole new = TakesField d number
 Replaces d (selection.Item index width) whole new = TakesItem d index width whole new
 Replaces d (selection.Bits high low) whole new = ⊥
 
--- An operation on operands of these types has a result of this type, none where it is unit. So many functions, the first
--- ones, may be called.
+-- An operation on operands of these types has a result of this type, none where it is unit. That many functions, the
+-- first ones, may be called.
 abbrev pub Applies : Checked → (functions : ℕ) → Operation → List ValueType → Option ValueType → Type 0
 Applies d functions (operation.Unary operators) (t ∷ []) of = (width : ℕ) × (t ≡ bits width) × (of ≡ Some t)
 Applies d functions (operation.Chain operators) (t ∷ rest) of = (1 ≤ length operators) × (whole : ValueType) × Chains operators t rest whole × (of ≡ Some whole)
@@ -171,7 +172,7 @@ pub data Doing : Type 0 where
   Runs : Doing
   Gives : (of : Option ValueType) → Doing
 
--- nothing stands behind
+-- nothing is after
 abbrev pub IsEnd : {X : Type 0} → List X → Type 0
 IsEnd [] = Unit {0}
 IsEnd (x ∷ rest) = ⊥
@@ -205,8 +206,8 @@ StepDoes is (typed.Do v) locals Runs = (of : Option ValueType) × is v locals of
 StepDoes is (typed.Give v) locals (Gives of) = is v locals of
 StepDoes is step locals doing = ⊥
 
--- The expression has the type, none where it is unit, with names of these types bound round it, the innermost first. So many
--- functions, the first ones, may be called.
+-- The expression has the type, none where it is unit, with names of these types bound round it, the innermost first.
+-- That many functions, the first ones, may be called.
 abbrev pub HasType : Checked → (functions : ℕ) → Typed → List ValueType → Option ValueType → Type 0
 HasType d functions =
     rec-Typed (List ValueType → Doing → Type 0) (List ValueType → Option ValueType → Type 0)
@@ -223,13 +224,13 @@ StepHasType d functions =
 abbrev pub IsEnum : EnumDecl → Type 0
 IsEnum e = IsWidth e.width
 
--- a base that names one of so many structs, the first ones, if it names a struct
+-- a base that names one of that many structs, the first ones, if it names a struct
 abbrev pub IsAmong : (structs : ℕ) → BaseType → Type 0
 IsAmong structs (base.Struct number) = number < structs
 IsAmong structs b = Unit {0}
 
--- a struct has fields of types that name earlier structs, and its width is that of its fields together, where 129 stands for
--- more than 128
+-- a struct has fields of types that name earlier structs, and its width is that of its fields together, where 129
+-- stands for more than 128
 pub record IsStruct (d : Checked) (number : ℕ) (s : Struct) : Type 0 where
   pub fields : All (λ (f : Field). IsType d f.of × IsAmong number f.of.base) s.fields
   pub width : s.width ≡ min (sum_by (λ (f : Field). width_of d f.of) s.fields) 129
@@ -250,8 +251,8 @@ pub record IsFunction (d : Checked) (number : ℕ) (f : Function) : Type 0 where
   pub result : IfSome f.result (IsType d)
   pub body : HasType d number f.body (reverse f.parameters) f.result
 
--- A design is well typed. Each rule's body is unit, the scheduler's nodes try rules that there are, none twice on a path, and
--- the limits are kept.
+-- A design is well typed. Each rule's body is unit, the scheduler's nodes try rules that there are, none twice on a
+-- path, and the limits are kept.
 pub record IsTypedDesign (d : Checked) : Type 0 where
   pub enums : All IsEnum d.enums
   pub structs : (number : ℕ) (s : Struct) → slice_get d.structs number ≡ Some s → IsStruct d number s

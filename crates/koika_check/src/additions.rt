@@ -1,3 +1,5 @@
+//! Checker: adds a declaration to the tables of what is declared.
+
 ghost use Rattle.std.specs.Prelude.{◌≡◌, ◌<◌, ◌^◌, ◌++◌, ◌∷◌, [], None, OnOk, IfOk};
 ghost use Rattle.kw_bits.specs.Host.{TakesWidth};
 ghost use Rattle.koika_check.specs.Checking.{IsSignature, IsWidth, Stands};
@@ -133,7 +135,7 @@ impl Checker {
     }
 }
 
-/// The number behind so many. Numbers run out as memory does.
+/// The number after that many. Numbers run out as memory does.
 pub(crate) fn next_number(count: usize) -> Result<u32, NoMemory>
     ensures number { IfOk result (λ number. number ≡ count) }
     ensures small { IfOk result (λ number. number < 2 ^ 32) }

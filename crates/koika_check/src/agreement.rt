@@ -1,3 +1,5 @@
+//! Checker: whether types agree, and which fault comes where they don't.
+
 ghost use Rattle.std.specs.Prelude.{◌≡◌, List, map, All, Some, None, IfSome};
 ghost use Rattle.koika_check.specs.Outcomes.{wrong};
 ghost use Rattle.koika_check.specs.Selections as selections;

@@ -1,17 +1,19 @@
+//! Checker: the typed tree of a tree, or its first fault.
+
 ghost use Rattle.std.specs.Prelude.{◌≡◌, [], All, Contains, IfOk, OnOk, map};
 ghost use Rattle.kw_base.specs.Fault.{IfFault, fault_at};
 ghost use Rattle.kw_base.specs.Place.{place_at};
 ghost use Rattle.kw_bits.specs.Host.{TakesWidth};
 ghost use Rattle.koika_check.specs.Checks as checks;
 ghost use Rattle.koika_check.specs.Declarations as declarations;
-ghost use Rattle.koika_check.specs.Hosts.{host_spec};
+ghost use Rattle.host_fn.specs.Stored.{spec_of};
 ghost use Rattle.koika_check.specs.Outcomes.{Answers, Fails, Gives, one_by_one};
 ghost use Rattle.koika_check.specs.Settled.{IsSettled};
 ghost use Rattle.koika_check.specs.Typing.{IsTypedDesign};
 ghost use Rattle.koika_check.specs.declared.checked.Host.{Host};
 ghost use Rattle.koika_check.specs.declared.stop.Wrong.{Wrong as SpecWrong};
 ghost use Rattle.koika_syntax.specs.Grammar.{IsDesign};
-ghost use Rattle.typed_core.specs.declared.design.HostSpec.{HostSpec as Spec};
+ghost use Rattle.kw_bits.specs.declared.host.HostSpec.{HostSpec as Spec};
 
 use crate::checked::Checked;
 use crate::checker::Checker;
@@ -30,10 +32,10 @@ use typed_core::HostSpec;
 /// then the limits 41, 42, 47, 43, 44 and 46.
 pub fn check(alloc: Global, text: &[u8], tree: &Tree, hosts: &[HostFn]) -> Result<Checked, Refusal>
     requires { IsDesign tree.now }
-    ensures gives { IfOk result (λ d. checks.checked (map host_spec hosts.now) tree.now ≡ Gives d) }
+    ensures gives { IfOk result (λ d. checks.checked (map spec_of hosts.now) tree.now ≡ Gives d) }
     ensures typed { IfOk result IsTypedDesign }
-    ensures offered { IfOk result (λ d. All (λ (h : Host). Contains (map host_spec hosts.now) h.spec) d.hosts) }
-    ensures fault { IfFault result (λ fault. (wrong : SpecWrong) × (checks.checked (map host_spec hosts.now) tree.now ≡ Fails wrong) × (fault ≡ fault_at wrong.number (place_at text.now wrong.place))) }
+    ensures offered { IfOk result (λ d. All (λ (h : Host). Contains (map spec_of hosts.now) h.spec) d.hosts) }
+    ensures fault { IfFault result (λ fault. (wrong : SpecWrong) × (checks.checked (map spec_of hosts.now) tree.now ≡ Fails wrong) × (fault ≡ fault_at wrong.number (place_at text.now wrong.place))) }
 {
     match checked(alloc, text, tree, hosts) {
         Ok(design) => Ok(design),
@@ -45,9 +47,9 @@ pub fn check(alloc: Global, text: &[u8], tree: &Tree, hosts: &[HostFn]) -> Resul
 // The typed tree, or why there is none. The names are those of the text.
 fn checked(alloc: Global, text: &[u8], tree: &Tree, hosts: &[HostFn]) -> Result<Checked, Stop>
     requires { IsDesign tree.now }
-    ensures answers { Answers (λ design found. design ≡ found) (checks.checked (map host_spec hosts.now) tree.now) result }
+    ensures answers { Answers (λ design found. design ≡ found) (checks.checked (map spec_of hosts.now) tree.now) result }
     ensures typed { IfOk result IsTypedDesign }
-    ensures offered { IfOk result (λ d. All (λ (h : Host). Contains (map host_spec hosts.now) h.spec) d.hosts) }
+    ensures offered { IfOk result (λ d. All (λ (h : Host). Contains (map spec_of hosts.now) h.spec) d.hosts) }
 {
     let specs = specs_of(alloc, hosts)?;
     let mut checker = Checker::new(alloc, text, specs);
@@ -69,7 +71,7 @@ fn within_limits(alloc: Global, tree: &Tree, mut design: Checked) -> Result<Chec
 }
 
 impl Checker {
-    // Adds declarations, each behind those before it.
+    // Adds declarations, each after those before it.
     fn declarations(&mut self, all: &[Declaration]) -> Result<(), Stop>
         requires { IsSettled self.old }
         ensures kept { OnOk result (IsSettled self.new) }
@@ -122,7 +124,7 @@ impl Checker {
 
 // The host functions that are handed in, as designs declare them.
 fn specs_of(alloc: Global, hosts: &[HostFn]) -> Result<Sequence<HostSpec>, NoMemory>
-    ensures specs { IfOk result (λ specs. specs ≡ map host_spec hosts.now) }
+    ensures specs { IfOk result (λ specs. specs ≡ map spec_of hosts.now) }
     ensures widths { IfOk result (λ specs. All (λ (h : Spec). TakesWidth h.kind h.in_width) specs) }
 {
     let mut specs = Sequence::new(alloc);

@@ -1,3 +1,5 @@
+//! Checker: calls.
+
 ghost use Rattle.std.specs.Prelude.{◌≡◌, ◌<◌, All, List, Some, length, map, nat_eq, replicate, slice_get, IfOk};
 ghost use Rattle.kw_base.specs.declared.fault_number.TheConstants.{WRONG_ARGUMENT_COUNT};
 ghost use Rattle.koika_check.specs.Checking.{AreTyped, IsCalled, IsChecker, TypedAs};
@@ -110,7 +112,7 @@ impl Checker {
     }
 }
 
-// The same type so many times.
+// The same type that many times.
 fn repeated(alloc: Global, of: Shape, count: u32) -> Result<Sequence<Shape>, NoMemory>
     ensures { IfOk result (λ shapes. shapes ≡ replicate count of) }
 {

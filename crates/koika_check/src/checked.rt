@@ -1,3 +1,5 @@
+//! Checker: the typed tree, well typed by its type.
+
 use crate::typed::{Typed, ValueType};
 use koika_types::{EnumDecl, Value};
 use kw_bits::{Sequence, Text};

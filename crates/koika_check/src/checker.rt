@@ -1,3 +1,5 @@
+//! Checker: what is known while a design is checked.
+
 ghost use Rattle.std.specs.Prelude.{◌≡◌, [], All, length};
 ghost use Rattle.kw_bits.specs.Host.{TakesWidth};
 ghost use Rattle.koika_check.specs.Checking.{IsChecker, IsNamed, arrays_of};
@@ -5,7 +7,7 @@ ghost use Rattle.koika_check.specs.Declarations.{nothing};
 ghost use Rattle.koika_check.specs.Settled.{IsSettled};
 ghost use Rattle.koika_check.specs.Shapes.{IsShape, type_of_shape};
 ghost use Rattle.koika_check.specs.Types.{width_of};
-ghost use Rattle.typed_core.specs.declared.design.HostSpec.{HostSpec as Spec};
+ghost use Rattle.kw_bits.specs.declared.host.HostSpec.{HostSpec as Spec};
 
 use crate::agreement::Part;
 use crate::checked::Checked;

@@ -1,3 +1,5 @@
+//! Checker: struct and array literals.
+
 ghost use Rattle.std.specs.Prelude.{◌≡◌, ◌∷◌, [], ◌<◌, ◌≤◌, All, List, Some, drop, length, map, IfOk};
 ghost use Rattle.kw_base.specs.declared.fault_number.TheConstants.{WRONG_FIELD, WRONG_TYPE};
 ghost use Rattle.koika_check.specs.Checking.{AreGiven, Checks, IsChecker, IsGiven, IsPart, IsPartIn, IsType, IsTypeOrUnit, StandsFor, arrays_of, is_next, of_first, scope_of};
@@ -18,8 +20,8 @@ use koika_syntax::Name;
 use kw_base::fault_number;
 use kw_bits::{Bits, NoMemory};
 
-/// A field that is given: where its name stands, whether this is the declared name at its place, the type of the field of
-/// this name, and the value.
+/// A field that is given: where its name stands, whether this is the declared name at its place, the type of the
+/// field of this name, and the value.
 #[derive(Clone, Copy)]
 pub(crate) struct Given {
     pub place: u32,
@@ -57,7 +59,7 @@ impl Checker {
         })
     }
 
-    /// A value that the field of this name is given, behind so many others.
+    /// A value that the field of this name is given, after that many others.
     pub(crate) fn given(
         &self,
         number: u32,
@@ -78,7 +80,7 @@ impl Checker {
         })
     }
 
-    // Whether the field behind so many others has this name.
+    // Whether the field after that many others has this name.
     fn is_next(&self, number: u32, name: &Name, index: usize) -> bool
         requires declared { number < length self.now.design.structs }
         ensures { result ≡ is_next (drop index (types.fields_of self.now.design number)) name.now.text }
@@ -102,7 +104,7 @@ impl Checker {
         }
     }
 
-    /// The array of these elements, whose opening bracket stands at this place.
+    /// The array of these elements, whose opening bracket is at this place.
     pub(crate) fn array_of(&mut self, place: u32, parts: &[Part]) -> Result<Part, Stop>
         requires checker { IsChecker self.old }
         requires each { All (IsPart self.old) parts.now }
@@ -179,7 +181,7 @@ fn field_value(given: Given) -> Option<Wrong>
     }
 }
 
-// What is wrong with the names of the given fields, of which there are to be so many.
+// What is wrong with the names of the given fields, of which there are to be that many.
 fn wrong_name(given: &[Given], declared: usize, close: u32) -> Option<Wrong>
     ensures { result ≡ earlier (each (λ (g : Giving). holds g.is_in_order (wrong WRONG_FIELD g.place)) given.now) (holds (nat_le declared (length given.now)) (wrong WRONG_FIELD close)) }
 {

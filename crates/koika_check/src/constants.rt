@@ -1,3 +1,5 @@
+//! Checker: constants.
+
 ghost use Rattle.std.specs.Prelude.{◌≡◌, ◌<◌, length};
 ghost use Rattle.koika_check.specs.Checking.{AreKnown, AreKnownFields, Checks, IsChecker, IsKnown, IsMember, IsReady, StandsFor, scope_of};
 ghost use Rattle.koika_check.specs.Composites as types;

@@ -1,3 +1,5 @@
+//! Checker: names, members, reads and writes.
+
 ghost use Rattle.std.specs.Prelude.{◌≡◌, ◌∷◌, ◌<◌, [], length};
 ghost use Rattle.koika_check.specs.Checking.{IsChecker, IsPart, Stands, Takes, TypedAs, arrays_of, scope_of, typing_of};
 ghost use Rattle.koika_check.specs.Constructs as types;
@@ -91,7 +93,7 @@ impl Checker {
         )
     }
 
-    /// Suffixes behind a value.
+    /// Suffixes after a value.
     pub(crate) fn postfix(&self, suffixes: &[Suffix], primary: Typing) -> Result<Typing, Stop>
         requires checker { IsChecker self.now }
         requires part { IsPart self.now primary.part }
@@ -279,7 +281,7 @@ pub(crate) fn literal(literal: Literal) -> Typing
     }
 }
 
-/// An expression of this type whose first token stands at this place.
+/// An expression of this type whose first token is at this place.
 pub(crate) fn at(place: u32, of: Option<Shape>, typed: Typed) -> Typing
     ensures { result ≡ record { part = record { of = of; place = place }; typed = typed } }
 {

@@ -1,3 +1,5 @@
+//! Checker: how large a design is.
+
 ghost use Rattle.std.specs.Prelude.{◌≡◌};
 ghost use Rattle.koika_check.specs.Counts.{counts_of};
 ghost use Rattle.koika_check.specs.Typing.{IsTypedDesign};

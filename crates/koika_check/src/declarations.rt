@@ -1,3 +1,5 @@
+//! Checker: declarations.
+
 ghost use Rattle.std.specs.Prelude.{◌≡◌, ◌++◌, ◌∷◌, ◌^◌, [], nat_eq, map, None, IfOk, OnOk};
 ghost use Rattle.std.specs.List.{find};
 ghost use Rattle.kw_base.specs.declared.fault_number.TheConstants.{REPEATED_NAME, UNKNOWN_HOST_FUNCTION};

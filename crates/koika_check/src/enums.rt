@@ -1,3 +1,5 @@
+//! Checker: enums.
+
 ghost use Rattle.std.specs.Prelude.{◌≡◌, ◌++◌, ◌∷◌, [], ℕ, List, length, map, None, OnOk};
 ghost use Rattle.koika_syntax.specs.declared.tree.Member.{Member as Written};
 ghost use Rattle.koika_check.specs.Declarations as declarations;
@@ -79,7 +81,7 @@ fn members_of(
     Ok(kept)
 }
 
-/// Adds the next part of a declaration, behind so many, under a name that none of them has.
+/// Adds the next part of a declaration, after that many, under a name that none of them has.
 pub(crate) fn add_part(
     alloc: Global,
     parts: &mut Parts,

@@ -1,3 +1,5 @@
+//! Checker: expressions and blocks.
+
 ghost use Rattle.std.specs.Prelude.{◌≡◌, ◌∷◌, ◌++◌, ◌<◌, [], All, List, OnOk, Some, length, map};
 ghost use Rattle.std.specs.Option.{option_map};
 ghost use Rattle.kw_base.specs.declared.fault_number.TheConstants.{UNKNOWN_NAME};
@@ -130,7 +132,7 @@ impl Checker {
         self.unary(prefixes, operand)
     }
 
-    // Suffixes behind this value.
+    // Suffixes after this value.
     #[cycle(expression)]
     fn suffixed(&mut self, primary: &Expression, suffixes: &[Suffix]) -> Result<Typing, Stop>
         requires { IsReady self.old }
@@ -285,7 +287,7 @@ impl Checker {
         self.written(place, port, register, value)
     }
 
-    // Operands behind the first, operator by operator.
+    // Operands after the first, operator by operator.
     #[cycle(expression)]
     fn chain(&mut self, rest: &[Operand], first: Typing) -> Result<Typing, Stop>
         requires checker { IsReady self.old }
@@ -345,7 +347,7 @@ impl Checker {
         Ok(TypedFields { given, typed })
     }
 
-    // An `if` of these arms, and of the block behind `else`, if there is one.
+    // An `if` of these arms, and of the block after `else`, if there is one.
     #[cycle(expression)]
     fn choice(&mut self, otherwise: &Option<Block>, arms: Arms) -> Result<Typing, Stop>
         requires { IsReady self.old }
@@ -377,7 +379,7 @@ impl Checker {
         })
     }
 
-    // The block behind `else`, if there is one.
+    // The block after `else`, if there is one.
     #[cycle(expression)]
     fn otherwise(&mut self, otherwise: &Option<Block>) -> Result<Option<Typing>, Stop>
         requires { IsReady self.old }
@@ -389,7 +391,7 @@ impl Checker {
         }
     }
 
-    /// A block, whose locals are unbound behind it.
+    /// A block, whose locals are unbound after it.
     #[cycle(expression)]
     pub(crate) fn block(&mut self, block: &Block) -> Result<Typing, Stop>
         requires { IsReady self.old }
@@ -466,7 +468,7 @@ impl Checker {
         }
     }
 
-    // An `if` of these arms, and of the body behind `else`, if there is one.
+    // An `if` of these arms, and of the body after `else`, if there is one.
     fn conditional(&self, arms: Arms, last: Option<Typing>) -> Result<Typing, Stop>
         requires { IsChecker self.now }
         ensures { (xs : List types.ArmTyping) (ys : List types.Typing) → AreArms self.now arms xs → IsLast self.now last ys → Tells (TypedAs self.now) (types.conditional xs ys) result }

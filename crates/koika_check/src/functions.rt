@@ -1,3 +1,5 @@
+//! Checker: functions and rules.
+
 ghost use Rattle.std.specs.Prelude.{◌≡◌, ◌++◌, ◌∷◌, [], OnOk};
 ghost use Rattle.koika_check.specs.Checking.{Grows, IsChecker, IsTypeIf, scope_of};
 ghost use Rattle.koika_check.specs.Declarations as declarations;

@@ -1,8 +1,9 @@
-//! Designs whose names are resolved: `check` makes the typed tree of a design's tree, or answers its first fault of names,
-//! types and limits.
+//! Designs whose names are resolved: `check` makes the typed tree of a design's tree, or answers its first fault of
+//! names, types and limits.
 //!
-//! `specs/Checks.antt` says what a whole tree comes to, after `Declarations.antt`, `Constants.antt`, `Expressions.antt` and
-//! `Schedule.antt`; `specs/Sizes.antt` what the weight and the depth of a typed tree are. The lowering takes a `Checked`.
+//! `specs/Checks.antt` says what checking a whole tree returns, after `Declarations.antt`, `Constants.antt`,
+//! `Expressions.antt` and `Schedule.antt`; `specs/Sizes.antt` what the weight and the depth of a typed tree are. The
+//! lowering takes a `Checked`.
 #![tactic(auto)]
 
 mod additions;

@@ -1,3 +1,5 @@
+//! Checker: limits of designs.
+
 ghost use Rattle.std.specs.Prelude.{◌≡◌, ◌++◌, List, ℕ, slice_get};
 ghost use Rattle.std.specs.List.{flat_map};
 ghost use Rattle.std.specs.Option.{option_map, option_to_list};
@@ -13,7 +15,7 @@ use koika_syntax::{Choice, Declaration, Name, Scheduler, Tree};
 use kw_base::fault_number;
 use typed_core::limits::{MAX_INPUTS, MAX_NODES, MAX_REGISTERS, MAX_RULES};
 
-/// What is declared at most so many times.
+/// What is declared at most that many times.
 #[derive(Clone, Copy)]
 pub(crate) enum Kind {
     Register,
@@ -86,7 +88,7 @@ fn surplus(number: u32, place: Option<u32>) -> Option<Wrong>
     }
 }
 
-// Where the name of a declaration of this kind stands, behind so many others.
+// Where the name of a declaration of this kind stands, after that many others.
 fn nth_of_kind(declarations: &[Declaration], kind: Kind, count: usize) -> Option<u32>
     ensures { result ≡ slice_get (flat_map (place_of_kind kind) declarations.now) count }
 {
@@ -114,7 +116,7 @@ fn place_of_kind(of: &Declaration, kind: Kind) -> Option<u32>
     }
 }
 
-// Where the name of a rule stands in a scheduler, behind so many others.
+// Where the name of a rule is in a scheduler, after that many others.
 fn nth_node(of: &Scheduler, count: usize) -> Option<u32>
     ensures { result ≡ slice_get (checks.scheduler_places of.now) count }
 {
@@ -122,7 +124,7 @@ fn nth_node(of: &Scheduler, count: usize) -> Option<u32>
     in_scheduler(of, &mut left)
 }
 
-// The same, or how many names are left to be found behind it.
+// The same, or how many names are left to be found after it.
 #[cycle(places)]
 fn in_scheduler(of: &Scheduler, left: &mut usize) -> Option<u32>
     ensures { (behind : List ℕ) → slice_get (checks.scheduler_places of.now ++ behind) left.old ≡ or_further result behind left.new }

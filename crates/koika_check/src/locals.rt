@@ -1,3 +1,5 @@
+//! Checker: local names.
+
 ghost use Rattle.std.specs.Prelude.{◌≡◌, ◌+◌, ◌-◌, ◌<◌, ◌≤◌, List, [], ◌∷◌, ◌++◌, Contains, drop, take, length, None, Some, MatchOption, IfSome, IfOk, OnOk, slice_get};
 ghost use Rattle.kw_base.specs.Names.{number_of};
 ghost use Rattle.koika_check.specs.Locals.{AreLocals, locals_of, shapes_of};
@@ -93,7 +95,7 @@ impl Locals {
         self.bound.len()
     }
 
-    /// Unbinds the innermost names but for so many.
+    /// Unbinds the innermost names but for that many.
     pub(crate) fn leave(&mut self, bound: usize)
         requires kept { AreLocals self.old }
         requires bound { bound ≤ length self.old.bound }

@@ -1,3 +1,5 @@
+//! Checker: weight and depth.
+
 ghost use Rattle.std.specs.Prelude.{◌≡◌, ◌+◌, ◌^◌, ◌≤◌, List, map, min, slice_get, IfOk};
 ghost use Rattle.koika_check.specs.Capped as counts;
 ghost use Rattle.koika_check.specs.Sizes as sizes;
@@ -236,7 +238,7 @@ fn weigh_conditions(design: &Checked, bodies: &[Measure], operands: &[Typed]) ->
     all
 }
 
-// Bodies each of which is one deeper than the one before, up to so many.
+// Bodies each of which is one deeper than the one before, up to that many.
 #[cycle(measure)]
 fn weigh_bodies(design: &Checked, bodies: &[Measure], arms: usize, operands: &[Typed]) -> Measure
     ensures { (parts : List sizes.Size) → bodies.now ≡ map counts.capped parts → result ≡ counts.capped (sizes.arms_size arms (map (sizes.size_of (record { design = design.now; bodies = parts })) operands.now)) }
@@ -249,7 +251,7 @@ fn weigh_bodies(design: &Checked, bodies: &[Measure], arms: usize, operands: &[T
     all
 }
 
-// Operands of a chain: the first is below all its operators, each other below its own and those behind it.
+// Operands of a chain: the first is below all its operators, each other below its own and those after it.
 #[cycle(measure)]
 fn weigh_chain(
     design: &Checked,
@@ -267,8 +269,8 @@ fn weigh_chain(
     all
 }
 
-// Steps of a block: each is one deeper than the statement before, the first by one. Where no last expression stands, its
-// place is as deep.
+// Steps of a block: each is one deeper than the statement before, the first by one. Where no last expression stands,
+// its place is as deep.
 #[cycle(measure)]
 fn weigh_steps(design: &Checked, bodies: &[Measure], steps: &[Step]) -> Measure
     ensures { (parts : List sizes.Size) → bodies.now ≡ map counts.capped parts → result ≡ counts.capped (sizes.steps_size (map (sizes.size_of_step (record { design = design.now; bodies = parts })) steps.now)) }

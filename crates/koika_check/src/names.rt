@@ -1,3 +1,5 @@
+//! Checker: the numbers of names.
+
 ghost use Rattle.std.specs.Prelude.{◌≡◌, ◌<◌, length, IfOk};
 ghost use Rattle.kw_base.specs.declared.fault_number.TheConstants.{UNKNOWN_NAME};
 ghost use Rattle.koika_check.specs.Checking as checking;

@@ -1,3 +1,5 @@
+//! Checker: the types of operators.
+
 ghost use Rattle.std.specs.Prelude.{◌≡◌, List, [], ◌∷◌, Some};
 ghost use Rattle.koika_check.specs.Operators as types;
 ghost use Rattle.koika_check.specs.Outcomes.{Tells, found};

@@ -1,3 +1,5 @@
+//! Checker: members of enums and fields of structs.
+
 ghost use Rattle.std.specs.Prelude.{◌≡◌, List, ℕ, None, Some, IfOk, OnOk, IsTrue, ◌↔◌, if◌then◌else◌};
 ghost use Rattle.std.specs.Str.{bytes_eq};
 ghost use Rattle.koika_check.specs.Things.{AreParts, key_of_part, position_of};

@@ -1,3 +1,5 @@
+//! Checker: the rules on a path of the scheduler.
+
 ghost use Rattle.std.specs.Prelude.{◌≡◌, ◌<◌, ◌++◌, ◌∷◌, [], false, length, take, IfOk, OnOk};
 ghost use Rattle.koika_check.specs.Paths.{IsPath};
 ghost use Rattle.koika_check.specs.Schedule.{is_on};
@@ -14,7 +16,7 @@ pub(crate) struct Path {
 }
 
 impl Path {
-    /// No rule, of a design with so many.
+    /// No rule, of a design with that many.
     pub(crate) fn new(alloc: Global, rules: usize) -> Result<Path, NoMemory>
         ensures kept { IfOk result IsPath }
         ensures empty { IfOk result (λ path. path.rules ≡ []) }

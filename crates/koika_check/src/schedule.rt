@@ -1,3 +1,5 @@
+//! Checker: the scheduler.
+
 ghost use Rattle.std.specs.Prelude.{◌≡◌, ◌++◌, ◌∷◌, [], ◌+◌, ◌<◌, ◌&&◌, nat_eq, List, length, IfOk, OnOk};
 ghost use Rattle.std.specs.Option.{option_map};
 ghost use Rattle.koika_check.specs.Checking.{IsChecker};
@@ -35,7 +37,7 @@ pub(crate) fn nodes_of(checker: &Checker, of: &Scheduler) -> Result<Sequence<Nod
 }
 
 impl Nodes {
-    // Makes the nodes of a scheduler behind the path.
+    // Makes the nodes of a scheduler after the path.
     #[cycle(scheduler)]
     fn scheduler(&mut self, checker: &Checker, of: &Scheduler) -> Result<(), Stop>
         requires checker { IsChecker checker.now }
@@ -56,7 +58,7 @@ impl Nodes {
         Ok(())
     }
 
-    // Makes the nodes of what stands at the end of a scheduler.
+    // Makes the nodes of what is at the end of a scheduler.
     #[cycle(scheduler)]
     fn last(&mut self, checker: &Checker, of: &Option<Box<Choice>>) -> Result<(), Stop>
         requires checker { IsChecker checker.now }
@@ -71,7 +73,7 @@ impl Nodes {
         }
     }
 
-    // Makes the nodes of a choice behind the path.
+    // Makes the nodes of a choice after the path.
     #[cycle(scheduler)]
     fn choice(&mut self, checker: &Checker, of: &Choice) -> Result<(), Stop>
         requires checker { IsChecker checker.now }
@@ -132,7 +134,7 @@ impl Nodes {
     }
 }
 
-// Adds the nodes of rules one after another. Nothing stands behind them where they are last.
+// Adds the nodes of rules one after another. Nothing is after them where they are last.
 fn push_row(made: &mut Sequence<Node>, rules: &[u32], is_last: bool) -> Result<(), NoMemory>
     ensures made { OnOk result ((behind : List SpecNode) → is_end behind ≡ is_last → made.new ++ behind ≡ made.old ++ nodes.in_a_row (length made.old) rules.now behind) }
     ensures count { OnOk result (length made.new ≡ length made.old + length rules.now) }
@@ -153,7 +155,7 @@ fn push_row(made: &mut Sequence<Node>, rules: &[u32], is_last: bool) -> Result<(
     Ok(())
 }
 
-// Whether nothing stands behind a rule at this index of so many, where nothing stands behind the last.
+// Whether nothing is after a rule at this index of that many, where nothing is after the last.
 fn is_end_of(is_last: bool, index: usize, count: usize) -> bool
     requires { index < count }
     ensures { result ≡ (is_last && nat_eq (index + 1) count) }

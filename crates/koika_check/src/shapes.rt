@@ -1,3 +1,5 @@
+//! Checker: types as numbers.
+
 ghost use Rattle.std.specs.Prelude.{◌≡◌, ◌<◌, ◌^◌, length, [], slice_index_or, IfOk, OnOk, Some};
 ghost use Rattle.koika_check.specs.Shapes.{AreShapes, Denotes, Grows, IsShape, array_types, key_of, number_in, type_of_shape};
 ghost use Rattle.koika_check.specs.Types as types;
@@ -32,7 +34,7 @@ pub(crate) struct Shapes {
 }
 
 impl Shapes {
-    /// No array types. Those to come stand in this text.
+    /// No array types. Those to come are in this text.
     pub(crate) fn new(alloc: Global, text: &[u8]) -> Shapes
         ensures kept { AreShapes result }
         ensures none { result.arrays ≡ [] }

@@ -1,3 +1,5 @@
+//! Checker: why checking ends.
+
 ghost use Rattle.std.specs.Prelude.{◌≡◌};
 ghost use Rattle.koika_check.specs.Outcomes.{Passes, holds, smaller, wrong};
 ghost use Rattle.koika_check.specs.declared.stop.Stop.TheVariants as stops;

@@ -1,3 +1,5 @@
+//! Checker: structs.
+
 ghost use Rattle.std.specs.Prelude.{◌≡◌, ◌≤◌, ◌++◌, ◌∷◌, [], ℕ, List, length, None, OnOk};
 ghost use Rattle.koika_check.specs.Checking.{IsChecker};
 ghost use Rattle.koika_check.specs.Declarations as declarations;

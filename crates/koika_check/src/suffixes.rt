@@ -1,3 +1,5 @@
+//! Checker: suffixes, which select a part of a value.
+
 ghost use Rattle.std.specs.Prelude.{◌≡◌, ◌+◌, ◌^◌, ◌<◌, ◌≤◌, length, All, drop, sum_by, IfOk, Some, None};
 ghost use Rattle.koika_check.specs.Checking.{IsChecker, IsPart, IsType, Takes, arrays_of};
 ghost use Rattle.koika_check.specs.Composites.{field_named, fields_of, type_at};
@@ -131,7 +133,7 @@ impl Checker {
         }
     }
 
-    // The widths of the types behind one of them together.
+    // The widths of the types after one of them together.
     fn widths_behind(&self, shapes: &[Shape], number: usize) -> u32
         requires checker { IsChecker self.now }
         requires each { All (IsType self.now) shapes.now }
@@ -201,7 +203,7 @@ fn bits_at(high: u32, low: u32) -> Selected
     }
 }
 
-/// What is wrong with an index into so many.
+/// What is wrong with an index into that many.
 pub(crate) fn in_range(index: Number, length: u32) -> Option<Wrong>
     ensures { result ≡ types.in_range index length }
 {

@@ -1,3 +1,5 @@
+//! Checker: what names are declared as.
+
 ghost use Rattle.std.specs.Prelude.{◌≡◌, List, ℕ, None, Some, OnOk, if◌then◌else◌};
 ghost use Rattle.std.specs.Str.{bytes_eq};
 ghost use Rattle.koika_check.specs.Things.{AreThings, thing_named};

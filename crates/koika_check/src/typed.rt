@@ -1,3 +1,5 @@
+//! Checker: parts of the typed tree.
+
 use koika_syntax::{BinaryOperator, Extension, SignedComparison, UnaryOperator};
 use koika_types::Value;
 use kw_bits::Sequence;

@@ -1,3 +1,5 @@
+//! Checker: types as a text names them.
+
 ghost use Rattle.std.specs.Prelude.{◌≡◌, ◌++◌, ◌∷◌, [], ◌&&◌, OnOk};
 ghost use Rattle.kw_base.specs.declared.fault_number.TheConstants.{WRONG_WIDTH};
 ghost use Rattle.koika_check.specs.Checking.{Grows, IsChecker, IsType, Stands, arrays_of, shape_of, type_by_thing};
@@ -51,7 +53,7 @@ impl Checker {
         })
     }
 
-    // The same, whose lengths are put behind those of the arrays round it.
+    // The same, whose lengths are put after those of the arrays round it.
     fn inner(&mut self, of: &TypeExpression, lengths: &mut Sequence<u32>) -> Result<Inner, Stop>
         requires { IsChecker self.old }
         ensures kept { OnOk result (IsChecker self.new) }
@@ -159,7 +161,7 @@ fn shape_of(base: BaseType) -> Shape
     }
 }
 
-/// Whether values may have so many bits.
+/// Whether values may have that many bits.
 pub(crate) fn is_width(width: u32) -> bool
     ensures { result ≡ types.is_width width }
 {

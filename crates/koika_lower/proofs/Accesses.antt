@@ -10,7 +10,7 @@ use Rattle.typed_core.specs.Fits.{EventsFit, ProgressFits, ValueFits, EndingFits
 use Rattle.typed_core.specs.Valid.{ActionHasWidth, IsTable, IsWidth}
 use Rattle.typed_core.specs.declared.access.Event.{Event}
 use Rattle.typed_core.specs.declared.action.Action.TheVariants as action
-use Rattle.typed_core.specs.declared.design.TableSpec.{TableSpec}
+use Rattle.kw_bits.specs.declared.table.TableSpec.{TableSpec}
 use Rattle.typed_core.specs.declared.outcome.Stopped.{Stopped}
 use Rattle.koika_check.specs.Meaning.{read_as, table_by, unpacked}
 use Rattle.koika_check.specs.Types.{bits, width_of}

@@ -14,13 +14,13 @@ use Rattle.typed_core.specs.Alone.{alone, alone_ports, outcome_of}
 use Rattle.typed_core.specs.Evaluation.{Ending, Value as Reached, Stop, Progress, Ports, evaluate}
 use Rattle.typed_core.specs.Valid.{ActionHasWidth, AreNodes, Declarations, IsHost, IsRegister as IsCoreRegister, IsTable, IsValid, IsWidth, TriesNoneTwice, declarations, externs_of}
 use Rattle.typed_core.specs.Widths.{HaveWidths}
-use Rattle.typed_core.specs.declared.design.HostSpec.{HostSpec}
+use Rattle.kw_bits.specs.declared.host.HostSpec.{HostSpec}
 use Rattle.typed_core.specs.declared.design.InputDecl.{InputDecl}
 use Rattle.typed_core.specs.declared.design.Node.{Node}
 use Rattle.typed_core.specs.declared.design.Parts.{Parts}
 use Rattle.typed_core.specs.declared.design.RegDecl.{RegDecl}
 use Rattle.typed_core.specs.declared.design.Rule.{Rule as CoreRule}
-use Rattle.typed_core.specs.declared.design.TableSpec.{TableSpec}
+use Rattle.kw_bits.specs.declared.table.TableSpec.{TableSpec}
 use Rattle.typed_core.specs.declared.outcome.Alone.{Alone}
 use Rattle.typed_core.specs.declared.outcome.Outcome.{Outcome}
 use Rattle.typed_core.specs.declared.outcome.Outcome.TheVariants as ends

@@ -17,7 +17,7 @@ use Rattle.koika_types.specs.Values.{packed}
 use Rattle.koika_types.specs.declared.value.Value.{Value}
 use Rattle.typed_core.specs.Evaluation.{Part, ◌>>=◌, answer_of, comes_to, evaluate}
 use Rattle.typed_core.specs.Valid.{ActionHasWidth, IsHost, IsWidth, TwoHasWidth}
-use Rattle.typed_core.specs.declared.design.HostSpec.{HostSpec}
+use Rattle.kw_bits.specs.declared.host.HostSpec.{HostSpec}
 use Rattle.typed_core.specs.declared.outcome.Stopped.{Stopped}
 use Rattle.koika_check.specs.Meaning.{all_joined, apply, comparison_value, host_by, in_turn, joined}
 use Rattle.koika_check.specs.Types.{bits, width_of}

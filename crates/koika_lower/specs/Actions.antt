@@ -1,5 +1,5 @@
--- What actions that are made of others come to and what widths they have, wherever their parts lie in memory. All of it serves
--- private functions alone.
+-- What actions that are made of others evaluate to and what widths they have, wherever their parts lie in memory. All
+-- of it serves private functions alone.
 use Rattle.std.specs.Prelude.{◌≡◌, ℕ, ◌+◌, ◌-◌, ◌<◌, ◌≤◌, List, ◌∷◌}
 use Rattle.kw_bits.specs.BitVector.{BitVector}
 use Rattle.kw_bits.specs.Operators as op
@@ -10,11 +10,11 @@ use Rattle.typed_core.specs.declared.action.OneOp.{OneOp}
 use Rattle.typed_core.specs.declared.action.TwoOp.{TwoOp}
 use Rattle.typed_core.specs.declared.outcome.Stopped.{Stopped}
 
--- what an action comes to, by the values of the names that are bound round it
+-- what an action evaluates to, by the values of the names that are bound round it
 abbrev pub Value : Type 0
 Value = List BitVector → Part BitVector Stopped
 
--- the action comes to this, wherever it is evaluated
+-- the action evaluates to this, wherever it is evaluated
 abbrev pub ComesTo : Action → (Environment → Ports Stopped → Value) → Type 0
 ComesTo action value = (env : Environment) (ports : Ports Stopped) (locals : List BitVector) → evaluate env ports action locals ≡ value env ports locals
 

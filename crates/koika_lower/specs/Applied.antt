@@ -1,4 +1,4 @@
--- What the actions of operations on lowered operands come to. All of it serves private functions alone.
+-- What the actions of operations on lowered operands evaluate to. All of it serves private functions alone.
 use Rattle.std.specs.List.{AllByRecursion}
 use Rattle.std.specs.Prelude.{◌≡◌, ◌≢◌, ℕ, ◌+◌, ◌-◌, ◌*◌, ◌≤◌, ◌<◌, ◌⊎◌, ◌++◌, nat_lt, if◌then◌else◌, zero, suc, map, List, [], ◌∷◌, length, Some, slice_get, slice_index_or}
 use Rattle.kw_bits.specs.BitVector.{BitVector}
@@ -62,7 +62,7 @@ pub record IsWritten (port register : ℕ) (value l : Lowered) : Type 0 where
   pub typed : (d : Declarations) (widths : List ℕ) (held : ℕ) → ActionHasWidth d value.action widths held → IsPort port →
       slice_get d.regs register ≡ Some held → ActionHasWidth d l.action widths 0
 
--- the bits of a selected part, and of a part of a part, of a value of so many bits
+-- the bits of a selected part, and of a part of a part, of a value of that many bits
 abbrev pub lowest_bit : Selection → ℕ
 lowest_bit (selection.Field number lowest width) = lowest
 lowest_bit (selection.Item index width) = index * width
@@ -98,7 +98,7 @@ pub record IsSelected (selections : List Selection) (whole l : Lowered) : Type 0
   pub part : width_of_all selections whole.width ≢ whole.width →
       IsSlice whole.action (lowest_of_all selections + width_of_all selections whole.width - 1) (lowest_of_all selections) l.action
 
--- what comes of actions of which each binds its value round those behind it and a last one
+-- what comes of actions of which each binds its value round those after it and a last one
 abbrev pub lets : List (List BitVector → Part BitVector Stopped) → (List BitVector → Part BitVector Stopped) → List BitVector → Part BitVector Stopped
 lets [] body locals = body locals
 lets (value ∷ rest) body locals = value locals >>= λ x. lets rest body (x ∷ locals)
@@ -114,12 +114,12 @@ pub record IsBound (operands : List Lowered) (body action : Action) : Type 0 whe
   pub means : ComesTo action (λ env ports locals. lets (values_of env ports operands) (evaluate env ports body) locals)
   pub typed : (d : Declarations) (widths : List ℕ) (width : ℕ) → LetsTyped d operands body widths width → ActionHasWidth d action widths width
 
--- the innermost names one above the other, so many and one, the innermost the most significant
+-- the innermost names one above the other, that many and one, the innermost the most significant
 abbrev pub names_stacked : ℕ → List BitVector → BitVector
 names_stacked zero locals = slice_index_or locals 0 unit
 names_stacked (suc n) locals = op.concat (names_stacked n locals) (slice_index_or locals (suc n) unit)
 
--- an operand behind operators: all that comes behind the value so far
+-- an operand after operators: all that comes after the value so far
 abbrev pub behind : List BinaryOperator → List (List BitVector → Part BitVector Stopped) → BitVector → List BitVector → Part BitVector Stopped
 behind (o ∷ operators) (value ∷ values) x locals = value locals >>= λ y. behind operators values (binary_value o x y) locals
 behind operators values x locals = comes_to x
@@ -138,7 +138,7 @@ pub record IsChain (operators : List BinaryOperator) (operands : List Lowered) (
       (l.width ≡ width_of d of) × IsType d of ×
       ((ds : Declarations) (widths : List ℕ) → AllByRecursion (λ (o : Lowered). ActionHasWidth ds o.action widths o.width) operands → ActionHasWidth ds l.action widths l.width)
 
--- what comes of conditions with a body each, and of what stands behind them
+-- what comes of conditions with a body each, and of what is after them
 abbrev pub arms_part : (conditions bodies : List (List BitVector → Part BitVector Stopped)) → (List BitVector → Part BitVector Stopped) → List BitVector → Part BitVector Stopped
 arms_part (condition ∷ conditions) (body ∷ bodies) behind locals = condition locals >>= λ x. choose x (body locals) (arms_part conditions bodies behind locals)
 arms_part conditions bodies behind locals = behind locals
@@ -165,7 +165,7 @@ IsAfter first second l =
     ((first.width ≡ 0) × (second.width ≡ 0) × (second.action ≡ action.Unit) × (l ≡ first)) ⊎
     (IsSeq first.action second.action l.action × (l.width ≡ second.width))
 
--- a vector of so many bits, of which some are replaced by others: those above them, the others, those below them
+-- a vector of that many bits, of which some are replaced by others: those above them, the others, those below them
 abbrev pub with_high : (above width : ℕ) → (whole z : BitVector) → BitVector
 with_high above width whole z = if nat_lt above width then op.concat (op.slice whole (width - 1) above) z else z
 
@@ -175,7 +175,7 @@ with_low lowest whole z = if nat_lt 0 lowest then op.concat z (op.slice whole (l
 abbrev pub with_part : Range → (width : ℕ) → (whole new : BitVector) → BitVector
 with_part range width whole new = with_low range.lowest whole (with_high (range.lowest + range.width) width whole new)
 
--- what an action comes to where two names are bound, by their values
+-- what an action evaluates to where two names are bound, by their values
 abbrev pub OfTwo : Action → (BitVector → BitVector → BitVector) → Type 0
 OfTwo action value = (env : Environment) (ports : Ports Stopped) (new whole : BitVector) (locals : List BitVector) → evaluate env ports action (new ∷ whole ∷ locals) ≡ comes_to (value new whole)
 
@@ -190,12 +190,12 @@ pub record IsWithLow (lowest : ℕ) (part action : Action) : Type 0 where
   pub typed : (d : Declarations) (widths : List ℕ) (new width w : ℕ) → ActionHasWidth d part (new ∷ width ∷ widths) w → 1 ≤ w → lowest ≤ width → w + lowest ≤ 128 →
       ActionHasWidth d action (new ∷ width ∷ widths) (w + lowest)
 
--- the innermost name but one, of so many bits, with some replaced by the innermost
+-- the innermost name but one, of that many bits, with some replaced by the innermost
 pub record IsReplaced (range : Range) (width : ℕ) (action : Action) : Type 0 where
   pub means : (env : Environment) (ports : Ports Stopped) (new whole : BitVector) (locals : List BitVector) → evaluate env ports action (new ∷ whole ∷ locals) ≡ comes_to (with_part range width whole new)
   pub typed : (d : Declarations) (widths : List ℕ) → 1 ≤ range.width → ActionHasWidth d action (range.width ∷ width ∷ widths) width
 
--- so many names of one width, one above the other
+-- that many names of one width, one above the other
 abbrev pub StackFits : (names : ℕ) → Action → Type 0
 StackFits names action = (d : Declarations) (width : ℕ) (widths : List ℕ) → 1 ≤ width → names * width ≤ 128 →
     ((i : ℕ) → i < names → slice_get widths i ≡ Some width) → ActionHasWidth d action widths (names * width)

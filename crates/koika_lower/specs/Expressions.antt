@@ -11,7 +11,7 @@ use Rattle.koika_lower.specs.Simulation.{AreNames, Lowers, LowersAll, Sense}
 use Rattle.koika_lower.specs.declared.lowered.Bound.{Bound}
 use Rattle.koika_lower.specs.declared.lowered.Lowered.{Lowered}
 
--- what an expression, a step and the steps of a block come to, in a setting
+-- what an expression, a step and the steps of a block evaluate to, in a setting
 abbrev pub sense_of : Typed → Sense
 sense_of e s = meaning s e
 

@@ -1,5 +1,5 @@
--- Operators between two operands as the core has them: one of its operators, behind which all bits may be turned. All of it
--- serves private functions alone.
+-- Operators between two operands as the core has them: one of its operators, after which all bits may be turned. All
+-- of it serves private functions alone.
 use Rattle.std.specs.Prelude.{◌≡◌, ℕ, ◌≤◌, List, if◌then◌else◌}
 use Rattle.kw_bits.specs.BitVector.{BitVector}
 use Rattle.kw_bits.specs.Operators as op
@@ -20,7 +20,7 @@ form_value form x y = if form.is_turned then op.not (apply_two form.operator x y
 abbrev pub FormFits : (operates : ValueType → ValueType → ValueType → Type 0) → Form → Type 0
 FormFits operates form = (d : Checked) (left right of : ValueType) → operates left right of → TwoHasWidth form.operator (width_of d left) (width_of d right) (width_of d of)
 
--- the action comes to the form's value on its operands' values, the left operand first, and has its width
+-- the action evaluates to the form's value on its operands' values, the left operand first, and has its width
 pub record IsFormed (form : Form) (left right l : Lowered) : Type 0 where
   pub width : (width : ℕ) → TwoHasWidth form.operator left.width right.width width → width ≤ 128 → l.width ≡ width
   pub means : ComesTo l.action (λ env ports locals. evaluate env ports left.action locals >>= λ x. evaluate env ports right.action locals >>= λ y. comes_to (form_value form x y))

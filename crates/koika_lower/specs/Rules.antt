@@ -7,7 +7,7 @@ use Rattle.koika_check.specs.declared.checked.Checked.{Checked}
 use Rattle.koika_check.specs.declared.checked.Rule.{Rule}
 use Rattle.koika_lower.specs.Simulation.{Lowers}
 
--- the rule has the name, and its action comes to what the body comes to, where all functions may be called
+-- the rule has the name, and its action evaluates to what the body evaluates to, where all functions may be called
 pub record IsRule (d : Checked) (r : Rule) (c : CoreRule) : Type 0 where
   pub name : c.name ≡ r.name
   pub body : Lowers d (length d.functions) 0 [] [] None (λ s. meaning s r.body) (record { action = c.body; width = 0 })

@@ -1,5 +1,6 @@
--- What an action stands for, where an expression of the typed tree is lowered to it: at all ports that fit it notes the same
--- events and comes to the packed value, or is stopped by the same cause. All of it serves private functions alone.
+-- What an action stands for, where an expression of the typed tree is lowered to it: at all ports that fit it notes
+-- the same events and evaluates to the packed value, or is stopped by the same cause. All of it serves private
+-- functions alone.
 use Rattle.std.specs.Prelude.{◌≡◌, ℕ, ◌+◌, ◌-◌, ◌<◌, map, reverse, take, length, List, [], ◌∷◌, Bool, true, false, if◌then◌else◌, Option, Some, None, IfSome, slice_get, slice_index_or}
 use Rattle.std.specs.List.{AllByRecursion}
 use Rattle.kw_bits.specs.BitVector.{BitVector}
@@ -26,7 +27,7 @@ use Rattle.koika_lower.specs.Lowering.{input_widths, register_widths}
 use Rattle.koika_lower.specs.declared.lowered.Bound.{Bound}
 use Rattle.koika_lower.specs.declared.lowered.Lowered.{Lowered}
 
--- ---- parts that come to related values
+-- ---- parts that evaluate to related values
 
 -- two endings: of related values, or of one cause
 abbrev pub EndAlike : {V W : Type 0} → (V → W → Type 0) → Ending V Stopped → Ending W Stopped → Type 0
@@ -38,7 +39,7 @@ EndAlike R e e' = ⊥
 abbrev pub Alike : {V W : Type 0} → List ℕ → (V → W → Type 0) → Progress V Stopped → Progress W Stopped → Type 0
 Alike regs R p q = (q.events ≡ p.events) × EventsFit regs p.events × EndAlike R p.ending q.ending
 
--- behind the same events that fit
+-- after the same events that fit
 abbrev pub Simulates : {V W : Type 0} → List ℕ → (V → W → Type 0) → Part V Stopped → Part W Stopped → Type 0
 Simulates regs R m a = (events : List Event) → EventsFit regs events → Alike regs R (m events) (a events)
 
@@ -56,7 +57,7 @@ StandAll d [] [] [] = Unit {0}
 StandAll d (t ∷ types) (v ∷ values) (x ∷ xs) = Stands d (Some t) (Some v) x × StandAll d types values xs
 StandAll d types values xs = ⊥
 
--- the width of an action that comes to a value of the type, 0 where it is unit
+-- the width of an action that has a value of the type, 0 where it is unit
 abbrev pub width_if : Checked → Option ValueType → ℕ
 width_if d None = 0
 width_if d (Some t) = width_of d t
@@ -67,7 +68,7 @@ width_if d (Some t) = width_of d t
 abbrev pub place_of : (depth : ℕ) → Bound → ℕ
 place_of depth b = depth - b.level - 1
 
--- names that are bound inside so many lets, of valid types
+-- names that are bound inside that many lets, of valid types
 abbrev pub IsName : Checked → (depth : ℕ) → Bound → ValueType → Type 0
 IsName d depth b t = (b.level < depth) × (b.width ≡ width_of d t) × IsType d t
 
@@ -97,18 +98,18 @@ declared_by d = record { regs = register_widths d; inputs = input_widths d; exte
 abbrev pub environment : Checked → List BitVector → Environment
 environment d inputs = record { externs = externs_of d; inputs = inputs }
 
--- the setting in which so many functions, the first ones, may be called
+-- the setting in which that many functions, the first ones, may be called
 abbrev pub world : Checked → (functions : ℕ) → List BitVector → Ports Stopped → Setting Stopped
 world d functions inputs ports = bodies_behind (record { design = d; inputs = inputs; ports = ports; bodies = [] }) (take functions d.functions)
 
 -- ---- lowered expressions
 
--- what an expression comes to, in a setting
+-- what an expression evaluates to, in a setting
 abbrev pub Sense : Type 0
 Sense = Setting Stopped → Meaning Stopped
 
--- The action comes to what the expression comes to, where so many functions may be called, so many lets stand round it and
--- these names, of these types, are bound by some of them. It has the width of the expression's type.
+-- The action evaluates to what the expression evaluates to, where that many functions may be called, that many lets
+-- stand round it and these names, of these types, are bound by some of them. It has the width of the expression's type.
 pub record Lowers (d : Checked) (functions depth : ℕ) (names : List Bound) (types : List ValueType) (of : Option ValueType) (sense : Sense) (l : Lowered) : Type 0 where
   pub valid : IfSome of (IsType d)
   pub width : l.width ≡ width_if d of
@@ -133,7 +134,7 @@ rises operation.Array = true
 rises (operation.Call number) = true
 rises o = false
 
--- what an operation on operands comes to
+-- what an operation on operands evaluates to
 abbrev pub apply_sense : Operation → List Sense → Sense
 apply_sense o senses s values = in_turn (map (λ (m : Sense). m s) senses) values >>= apply s o
 
@@ -146,7 +147,7 @@ pub record IsApplied (d : Checked) (functions depth : ℕ) (names : List Bound) 
 
 -- ---- bodies of functions
 
--- the names of parameters behind others, where so many lets stand round the first of them
+-- the names of parameters after others, where that many lets stand round the first of them
 abbrev pub parameter_names : Checked → (level : ℕ) → List ValueType → List Bound → List Bound
 parameter_names d level [] names = names
 parameter_names d level (t ∷ types) names = parameter_names d (level + 1) types (record { level = level; width = width_of d t } ∷ names)
@@ -156,7 +157,7 @@ abbrev pub IsBody : Checked → (number : ℕ) → Function → Lowered → Type
 IsBody d number f l =
     Lowers d number (length f.parameters) (parameter_names d 0 f.parameters []) (reverse f.parameters) f.result (λ s. meaning s f.body) l
 
--- the body of the function that an operation calls, which is one of the first so many
+-- the body of the function that an operation calls, which is one of the first that many
 abbrev pub IsCallee : Checked → (functions : ℕ) → Operation → Lowered → Type 0
 IsCallee d functions (operation.Call number) l = (f : Function) → number < functions → slice_get d.functions number ≡ Some f → IsBody d number f l
 IsCallee d functions o l = Unit {0}

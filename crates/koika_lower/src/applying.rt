@@ -1,3 +1,5 @@
+//! Lowering: operations on operands, and calls.
+
 ghost use Rattle.std.specs.Prelude.{◌≡◌, ◌∷◌, ◌*◌, ◌≤◌, ℕ, List, Option, length, IfOk};
 ghost use Rattle.kw_bits.specs.BitVector.{BitVector};
 ghost use Rattle.koika_check.specs.Meaning.{prefix_value};
@@ -131,7 +133,7 @@ fn first_width(operands: &[Lowered]) -> u32
     }
 }
 
-// The width of so many values of a width.
+// The width of that many values of a width.
 fn times(width: u32, count: u32) -> u32
     ensures { count * width ≤ 128 → result ≡ count * width }
 {

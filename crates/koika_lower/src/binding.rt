@@ -1,3 +1,5 @@
+//! Lowering: bodies in which operands are bound.
+
 ghost use Rattle.std.specs.Prelude.{◌-◌, ◌≤◌, IfOk};
 ghost use Rattle.koika_lower.specs.Actions.{ComesTo};
 ghost use Rattle.koika_lower.specs.Applied.{IsBound, StackFits, names_stacked};
@@ -26,7 +28,7 @@ pub(crate) fn all_bound(
     }
 }
 
-/// So many innermost names one above the other, the innermost in the most significant bits.
+/// That many innermost names one above the other, the innermost in the most significant bits.
 pub(crate) fn stacked(alloc: Global, names: u32) -> Result<Action, NoMemory>
     ensures means { IfOk result (λ action. 1 ≤ names → ComesTo action (λ env ports locals. comes_to (names_stacked (names - 1) locals))) }
     ensures typed { IfOk result (λ action. 1 ≤ names → StackFits names action) }

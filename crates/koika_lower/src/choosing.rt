@@ -1,3 +1,5 @@
+//! Lowering: conditions with a body each, and one action after another.
+
 ghost use Rattle.std.specs.Prelude.{IfOk};
 ghost use Rattle.koika_lower.specs.Applied.{IsAfter, IsChoice, IsChosen};
 
@@ -24,7 +26,7 @@ pub(crate) fn chosen(
     chosen_before(alloc, conditions, bodies, last)
 }
 
-// The body of the first condition that is 1, or else what comes behind them all.
+// The body of the first condition that is 1, or else what comes after them all.
 fn chosen_before(
     alloc: Global,
     conditions: Sequence<Lowered>,
@@ -46,7 +48,7 @@ fn chosen_before(
     }
 }
 
-/// One action after another. A unit that does nothing stands neither in front of an action nor behind a unit.
+/// One action after another. A unit that does nothing stands neither in front of an action nor after a unit.
 pub(crate) fn one_after_another(
     alloc: Global,
     first: Lowered,

@@ -1,3 +1,5 @@
+//! Lowering: registers, inputs, tables and host functions.
+
 ghost use Rattle.std.specs.Prelude.{◌≡◌, map, IfOk};
 ghost use Rattle.koika_check.specs.Typing.{IsRegister, IsTypedDesign};
 ghost use Rattle.koika_check.specs.declared.checked.Checked.{Checked as CheckedDesign};

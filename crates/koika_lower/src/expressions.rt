@@ -1,3 +1,5 @@
+//! Lowering: expressions and blocks.
+
 ghost use Rattle.std.specs.Prelude.{◌≡◌, ◌≤◌, ◌∷◌, [], List, Option, Some, drop, length, slice_get, IfOk};
 ghost use Rattle.koika_check.specs.Meaning.{meaning};
 ghost use Rattle.koika_check.specs.Typing.{HasType, IsTypedDesign};
@@ -16,8 +18,8 @@ use kw_bits::{NoMemory, Sequence};
 use std::alloc::Global;
 use typed_core::Scope;
 
-/// An expression. It may call the first so many functions, the names are those that are bound round it, and so many `Let`s stand
-/// round it.
+/// An expression. It may call the first that many functions, the names are those that are bound round it, and that
+/// many `Let`s stand round it.
 #[cycle(lower)]
 pub(crate) fn lower_expression(
     alloc: Global,
@@ -110,7 +112,7 @@ fn lower_steps(
     }
 }
 
-// A value that is bound in the steps behind it.
+// A value that is bound in the steps after it.
 #[cycle(lower)]
 fn lower_let(
     alloc: Global,

@@ -1,3 +1,5 @@
+//! Lowering: operators between two operands as the core has them.
+
 ghost use Rattle.std.specs.Prelude.{◌≡◌, ◌≤◌, ℕ, IfOk, false, true};
 ghost use Rattle.kw_bits.specs.BitVector.{BitVector};
 ghost use Rattle.koika_check.specs.Meaning.{binary_value, comparison_value};
@@ -11,8 +13,8 @@ use kw_bits::NoMemory;
 use std::alloc::Global;
 use typed_core::{OneOp, TwoOp};
 
-/// An operator of the core between two operands, whose bits may be turned behind it. So a comparison that the core lacks is
-/// the contrary of one that it has, and the operands stay in their order.
+/// An operator of the core between two operands, whose bits may be turned after it. So a comparison that the core
+/// lacks is the contrary of one that it has, and the operands stay in their order.
 #[derive(Clone, Copy)]
 pub(crate) struct Form {
     pub operator: TwoOp,

@@ -1,3 +1,5 @@
+//! Lowering: chains of operators.
+
 ghost use Rattle.std.specs.Prelude.{◌≡◌, ◌-◌, ◌++◌, ◌⊎◌, [], ◌∷◌, length, replicate, IfOk};
 ghost use Rattle.koika_lower.specs.Applied.{IsChain};
 ghost use Rattle.koika_syntax.specs.declared.operator.BinaryOperator.TheVariants as binary;

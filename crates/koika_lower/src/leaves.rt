@@ -1,3 +1,5 @@
+//! Lowering: values and names.
+
 ghost use Rattle.std.specs.Prelude.{◌≡◌, ◌-◌, slice_get};
 ghost use Rattle.koika_types.specs.Values.{packed};
 ghost use Rattle.koika_check.specs.Typing.{IsOf, IsType, IsTypedDesign};
@@ -27,7 +29,7 @@ pub(crate) fn constant(value: &Value) -> Lowered
     }
 }
 
-/// A name is its number from the inside, where so many `Let`s stand round it.
+/// A name is its number from the inside, where that many `Let`s stand round it.
 pub(crate) fn local(names: &Scope<Bound>, depth: u32, index: u32) -> Lowered
     ensures { (b : Bound) → slice_get names.now index ≡ Some b → result ≡ record { action = action.Local (depth - b.level - 1); width = b.width } }
 {

@@ -1,3 +1,5 @@
+//! Lowering: an action with the width of its value.
+
 ghost use Rattle.std.specs.Prelude.{◌≡◌, ◌+◌, if◌then◌else◌, IfOk};
 ghost use Rattle.koika_lower.specs.Actions.{IsIf, IsLet, IsOne, IsSeq, IsSlice, IsTwo};
 ghost use Rattle.typed_core.specs.declared.action.Action.TheVariants as action;
@@ -6,7 +8,7 @@ use kw_bits::NoMemory;
 use std::alloc::Global;
 use typed_core::{Action, OneOp, TwoOp};
 
-/// An action, and the width of its value, 0 where it comes to none.
+/// An action, and the width of its value, 0 where it has none.
 #[derive(Drop)]
 pub(crate) struct Lowered {
     pub action: Action,
@@ -32,7 +34,8 @@ impl Lowered {
     }
 }
 
-/// Inside one more `Let`. Their number stays far below what 32 bits hold in a well typed design, in whose weight each one's value is.
+/// Inside one more `Let`. Their number stays far below what 32 bits hold in a well typed design, in whose weight each
+/// one's value is.
 pub(crate) fn deeper(depth: u32) -> Result<u32, NoMemory>
     ensures { IfOk result (λ deep. deep ≡ depth + 1) }
 {
@@ -42,7 +45,7 @@ pub(crate) fn deeper(depth: u32) -> Result<u32, NoMemory>
     }
 }
 
-/// Where the operand behind one stands.
+/// Where the operand after one is.
 pub(crate) fn behind(depth: u32, rises: bool) -> Result<u32, NoMemory>
     ensures { IfOk result (λ at. at ≡ (if rises then depth + 1 else depth)) }
 {

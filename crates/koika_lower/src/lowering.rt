@@ -1,3 +1,5 @@
+//! Lowering: the core design of a typed design.
+
 ghost use Rattle.std.specs.Prelude.{IfOk};
 ghost use Rattle.koika_check.specs.Typing.{IsTypedDesign};
 ghost use Rattle.koika_lower.specs.Lowering.{IsLowered};

@@ -1,3 +1,5 @@
+//! Lowering: values as their bits.
+
 ghost use Rattle.std.specs.Prelude.{◌≡◌, ◌+◌, ◌≤◌, List, Some, map};
 ghost use Rattle.kw_bits.specs.Operators as op;
 ghost use Rattle.koika_types.specs.Values.{packed, stacked, stacked_up};

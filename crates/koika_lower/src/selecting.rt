@@ -1,3 +1,5 @@
+//! Lowering: parts of values, and their replacement.
+
 ghost use Rattle.std.specs.Prelude.{◌≡◌, ◌+◌, ◌≤◌, IfOk};
 ghost use Rattle.koika_lower.specs.Applied.{AllFit, IsReplaced, IsSelected, IsWithHigh, IsWithLow, SelectionFits, lowest_bit, lowest_of_all, part_width, range_at, width_of_all};
 
@@ -31,7 +33,7 @@ pub(crate) fn range_of(selection: Selection) -> Range
     }
 }
 
-/// The bits of a part, of a part of that, and so on, of a value of so many bits.
+/// The bits of a part, of a part of that, and so on, of a value of that many bits.
 pub(crate) fn range_of_all(selections: &[Selection], width: u32) -> Range
     ensures { AllFit selections.now width → result ≡ range_at (lowest_of_all selections.now) (width_of_all selections.now width) }
 {
@@ -68,7 +70,7 @@ pub(crate) fn selected(
     })
 }
 
-/// The innermost name but one, of so many bits, with a range of its bits replaced by the innermost name.
+/// The innermost name but one, of that many bits, with a range of its bits replaced by the innermost name.
 pub(crate) fn replaced(alloc: Global, range: Range, width: u32) -> Result<Action, NoMemory>
     ensures { IfOk result (λ action. range.lowest + range.width ≤ width → width ≤ 128 → IsReplaced range width action) }
 {

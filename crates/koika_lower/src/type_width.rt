@@ -1,3 +1,5 @@
+//! Lowering: the width of a type.
+
 ghost use Rattle.std.specs.Prelude.{◌≡◌};
 ghost use Rattle.koika_check.specs.Types as types;
 ghost use Rattle.koika_check.specs.Typing.{IsType};

@@ -1,4 +1,4 @@
--- How many brackets are open behind tokens, where so many are open in front of them. At most 64 are open at
+-- How many brackets are open after tokens, where that many are open in front of them. At most 64 are open at
 -- once; this project's own limit.
 use Rattle.std.specs.Prelude.{ℕ, suc, ◌-◌, ◌≤◌, ⊤, List, [], ◌∷◌}
 use Rattle.koika_syntax.specs.Tree.{Leaf, Terminal, symbol}
@@ -25,12 +25,12 @@ abbrev pub open_behind_kind : ℕ → TokenKind → ℕ
 open_behind_kind depth (kinds.Symbol s) = open_behind_symbol depth s
 open_behind_kind depth _ = depth
 
--- how many are open behind all of the tokens
+-- how many are open after all of the tokens
 abbrev pub open_behind_all : ℕ → List Leaf → ℕ
 open_behind_all depth [] = depth
 open_behind_all depth (leaf ∷ leaves) = open_behind_all (open_behind depth leaf.terminal) leaves
 
--- no more than 64 are open behind any of the tokens
+-- no more than 64 are open after any of the tokens
 abbrev pub AreFewOpen : ℕ → List Leaf → Type 0
 AreFewOpen depth [] = ⊤
 AreFewOpen depth (leaf ∷ leaves) = (open_behind depth leaf.terminal ≤ 64) × AreFewOpen (open_behind depth leaf.terminal) leaves

@@ -1,5 +1,5 @@
--- What readers of parts leave of a word of the grammar: a reader that stands at the front of a word of its language
--- takes that word and leaves what is behind it, and reading ends unexpectedly nowhere where some word goes on. Where it
+-- What readers of parts leave of a word of the grammar: a reader that is at the front of a word of its language
+-- takes that word and leaves what is after it, and reading ends unexpectedly nowhere where some word goes on. Where it
 -- ends, some word goes on with what has been read.
 -- This serves private functions alone.
 use Rattle.std.specs.Prelude.{◌≡◌, ℕ, ◌<◌, ◌≤◌, ◌^◌, Option, None, Some, IfSome, Result, Ok, Err, Bool, true, false, ⊤, List, [], ◌∷◌, ◌++◌, length, map, All, drop}
@@ -49,7 +49,7 @@ pub record Leaves (old new : Cursor) (w before behind : List Leaf) : Type 0 wher
   pub rest : drop new.at w ≡ behind
   pub few : AreFewOpen old.depth before → AreFewOpen new.depth behind
 
--- how reading ends: it leaves what is behind; it cannot be unexpected; brackets are too many
+-- how reading ends: it leaves what is after; it cannot be unexpected; brackets are too many
 abbrev pub Ends : {X : Type 0} → Result X Stop → (few left : Type 0) → Type 0
 Ends (Ok x) few left = left
 Ends (Err stops.Unexpected) few left = ⊥

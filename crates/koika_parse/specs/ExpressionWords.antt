@@ -1,5 +1,6 @@
 -- The words of expressions, as the words of `specs/Words.antt` are: a chain by its level, a primary by its first token,
--- and what may stand behind an expression of a level. They are the grammar's, as the clauses of private functions cite them.
+-- and what may be after an expression of a level. They are the grammar's, as the clauses of private functions cite
+-- them.
 use Rattle.std.specs.Prelude.{◌≡◌, ◌⊎◌, ℕ, ◌+◌, ◌<◌, ◌≤◌, Option, None, Some, IfSome, ⊤, List, [], ◌++◌, length, map, All}
 use Rattle.std.specs.List.{flat_map}
 use Rattle.koika_syntax.specs.Grammar.{IsName, IsNumber, IsLiteral, IsType, IsExpression, IsBlock, IsPart, IsSuffix, type_leaves, expression_leaves, statement_leaves, arm_leaves, block_leaves, operand_leaves, field_value_leaves, part_leaves, prefix_leaves, suffix_leaves, last_leaves, level, level_of}
@@ -24,7 +25,8 @@ use Rattle.koika_parse.specs.Reading.{next}
 use Rattle.koika_parse.specs.declared.cursor.Cursor.{Cursor}
 use Rattle.koika_parse.specs.declared.source.Source.{Source}
 
--- how tightly a token holds to an expression in front of it: an operator by its level, a suffix, and what makes more of a name
+-- how tightly a token holds to an expression in front of it: an operator by its level, a suffix, and what makes more
+-- of a name
 abbrev pub holds : Symbol → Option ℕ
 holds symbols.Bar = Some 1
 holds symbols.Caret = Some 2
@@ -61,7 +63,7 @@ LevelWord k = Part (λ e. IsExpression e × (k ≤ level e)) expression_leaves
 abbrev pub OperatorWord : ℕ → List Leaf → Type 0
 OperatorWord k u = (operator : BinaryOperator) × (level_of operator ≡ k) × One (symbol (binary_symbol operator)) u
 
--- operands where a vector has room for so many more behind others
+-- operands where a vector has room for that many more after others
 abbrev pub OperandsWord : (before k : ℕ) → List Leaf → Type 0
 OperandsWord before k = Part (λ operands. All (IsOperandIn k) operands × InVector (length operands + before)) (λ operands. flat_map operand_leaves operands)
 
@@ -75,7 +77,7 @@ IsAtOperator source cursor k = (operator : BinaryOperator) × (level_of operator
 abbrev pub IsAtPrefix : Source → Cursor → Type 0
 IsAtPrefix source cursor = (operator : UnaryOperator) × (next source cursor ≡ Some (symbol (unary_symbol operator)))
 
--- operators in front of an operand, and suffixes behind it, at least one
+-- operators in front of an operand, and suffixes after it, at least one
 abbrev pub PrefixWord : List Leaf → Type 0
 PrefixWord = Part (λ prefix. ⊤) prefix_leaves
 
@@ -134,7 +136,7 @@ CompareWord comparison = Then (One (keyword (comparison_word comparison))) (Then
 abbrev pub UpdateWord : List Leaf → Type 0
 UpdateWord = Then (One (keyword keywords.Update)) (Then (One (symbol symbols.LeftParenthesis)) (Then (Part IsExpression expression_leaves) (Then (One (symbol symbols.Comma)) (Then (Part IsPart part_leaves) (Then (One (symbol symbols.Comma)) (Then (Part IsExpression expression_leaves) (One (symbol symbols.RightParenthesis))))))))
 
--- what stands behind a name
+-- what is after a name
 abbrev pub ArgumentsWord : List Leaf → Type 0
 ArgumentsWord = Part (λ arguments. All IsExpression arguments × InVector (length arguments)) (λ arguments. commas (map expression_leaves arguments))
 
@@ -185,7 +187,7 @@ SymbolWord _ = λ u. ⊥
 abbrev pub LetWord : List Leaf → Type 0
 LetWord = Then (One (keyword keywords.Let)) (Then (Part IsName name_leaves) (Then (One (symbol symbols.Equals)) (Then (Part IsExpression expression_leaves) (One (symbol symbols.Semicolon)))))
 
--- an `if` behind so many arms, and a block between its brackets behind so many statements
+-- an `if` after that many arms, and a block between its brackets after that many statements
 abbrev pub ElseWord : ℕ → List Leaf → Type 0
 ElseWord before u = (arms : List Arm) × (otherwise : Option Block) × (All IsArm arms × InVector (length arms + before)) × IfSome otherwise IsBlock × (u ≡ each_after (word keywords.Else) (map arm_leaves arms) ++ last_leaves otherwise (λ block. word keywords.Else ++ block_leaves block))
 

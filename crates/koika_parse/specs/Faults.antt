@@ -1,5 +1,6 @@
--- Where the parser's faults stand: 11 at the first token that no design goes on with, or at the end of the text where no
--- design ends there, and 12 at a 65th open bracket that some design goes on with. Some design begins with the tokens before it.
+-- Where the parser's faults stand: 11 at the first token that no design goes on with, or at the end of the text where
+-- no design ends there, and 12 at a 65th open bracket that some design goes on with. Some design begins with the
+-- tokens before it.
 use Rattle.std.specs.Prelude.{◌≡◌, ◌⊎◌, ℕ, ◌<◌, None, List, [], ◌∷◌, ◌++◌, length, map}
 use Rattle.kw_base.specs.Fault.{fault_at}
 use Rattle.kw_base.specs.Place.{place_at}
@@ -25,17 +26,17 @@ pub record BeginsWith (text : List ℕ) (tokens : List Token) (tree : Tree) : Ty
 abbrev pub Begins : List ℕ → List Token → Type 0
 Begins text tokens = (tree : Tree) × BeginsWith text tokens tree
 
--- some design goes on with the first token behind
+-- some design goes on with the first token after
 abbrev pub GoesOn : List ℕ → (before behind : List Token) → Type 0
 GoesOn text before [] = ⊥
 GoesOn text before (token ∷ behind) = Begins text (before ++ token ∷ [])
 
--- no design has the tokens up to the first one behind; where none is behind, no design is these tokens
+-- no design has the tokens up to the first one after; where none is after, no design is these tokens
 abbrev pub NoneGoesOn : List ℕ → (before behind : List Token) → Type 0
 NoneGoesOn text before [] = (tree : Tree) → IsDesign tree → design_terminals tree ≡ map (terminal_of text) before → ⊥
 NoneGoesOn text before (token ∷ behind) = (tree : Tree) → BeginsWith text (before ++ token ∷ []) tree → ⊥
 
--- the place of the first token behind, or of the end of the text
+-- the place of the first token after, or of the end of the text
 abbrev pub place_behind : List ℕ → List Token → Place
 place_behind text [] = place_at text (length text)
 place_behind text (token ∷ behind) = place_at text token.start
@@ -44,12 +45,12 @@ place_behind text (token ∷ behind) = place_at text token.start
 abbrev pub seen : List ℕ → List Token → List Leaf
 seen text tokens = map (λ token. record { terminal = terminal_of text token; place = None }) tokens
 
--- the first token behind opens a bracket too many
+-- the first token after opens a bracket too many
 abbrev pub OpensTooMany : List ℕ → (before behind : List Token) → Type 0
 OpensTooMany text before [] = ⊥
 OpensTooMany text before (token ∷ behind) = 64 < open_behind (open_behind_all 0 (seen text before)) (terminal_of text token)
 
--- the tokens are those before the fault and those behind it; some design begins with those before it, few brackets are
+-- the tokens are those before the fault and those after it; some design begins with those before it, few brackets are
 -- open there, and the fault says why reading ends: no design goes on so, or some does, with a 65th open bracket
 pub record StandsBetween (text : List ℕ) (tokens : List Token) (fault : Fault) : Type 0 where
   pub before : List Token

@@ -1,4 +1,4 @@
--- That the names among the tokens of a text stand in it, as a fact that a value can carry.
+-- That the names among the tokens of a text are in it, as a fact that a value can carry.
 use Rattle.std.specs.Prelude.{◌≡◌, ◌≢◌, ℕ, ◌≤◌, Bool, false, ◌&&◌, IsTrue, List, [], ◌∷◌, All, length, slice_range}
 use Rattle.std.specs.List.{list_all}
 use Rattle.koika_syntax.specs.Keywords.{keyword_text}

@@ -1,7 +1,7 @@
 -- The outline of a tree: its parts in the order of the text, as lists in lists (McCarthy, CACM 1960), each list with
 -- the name of its production in front. Two trees of the grammar are the same design where their outlines are the
--- same: an outline leaves out the memory that a tree takes, and nothing else. Ports stand in their keywords, of which there
--- are four.
+-- same: an outline leaves out the memory that a tree takes, and nothing else. Ports are in their keywords, of which
+-- there are four.
 use Rattle.std.specs.Prelude.{◌≡◌, ℕ, Option, None, Some, List, [], ◌∷◌, ◌++◌, map, codes}
 use Rattle.koika_syntax.specs.Tree.{Terminal, name, number, literal, keyword, symbol, unary_symbol, binary_symbol, comparison_word, extension_word, read_word, write_word}
 use Rattle.koika_syntax.specs.declared.keyword.Keyword.TheVariants as keywords

@@ -23,7 +23,7 @@ next source cursor = option_map (terminal_of source.text.now) (token_at source c
 abbrev pub tokens_left : Source → Cursor → ℕ
 tokens_left source cursor = length source.tokens.now - cursor.at
 
--- from the old cursor to the new one stand these tokens, and no more than 64 brackets are open behind any of them
+-- from the old cursor to the new one stand these tokens, and no more than 64 brackets are open after any of them
 pub record Reads (source : Source) (old new : Cursor) (leaves : List Leaf) : Type 0 where
   pub tokens : List Token
   pub split : drop old.at source.tokens.now ≡ tokens ++ drop new.at source.tokens.now

@@ -76,7 +76,7 @@ DesignWord = Part IsDesign tree_leaves
 abbrev pub end_follows : Option Terminal → Type 0
 end_follows next = next ≡ None
 
--- a constant: what stands behind its `::`, and what it is by its first token
+-- a constant: what is after its `::`, and what it is by its first token
 abbrev pub ConstantTailWord : List Leaf → Type 0
 ConstantTailWord = Then (One (symbol symbols.LeftBrace)) (Then (Commas InVector IsConstantField constant_field_leaves) (One (symbol symbols.RightBrace)))
 

@@ -1,3 +1,5 @@
+//! Trees: the reader of constants.
+
 ghost use Rattle.std.specs.Prelude.{All, IfOk, map};
 ghost use Rattle.koika_syntax.specs.Grammar.{IsConstant, IsLiteral, IsNonempty, constant_field_leaves, constant_leaves};
 ghost use Rattle.koika_syntax.specs.Tree.{commas, literal_leaves, sign};

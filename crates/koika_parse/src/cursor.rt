@@ -1,3 +1,5 @@
+//! Trees: how far the tokens have been read.
+
 /// How far the tokens of a text have been read.
 #[derive(Clone, Copy, Debug)]
 pub(crate) struct Cursor {

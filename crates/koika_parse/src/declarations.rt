@@ -1,3 +1,5 @@
+//! Trees: the reader of declarations.
+
 ghost use Rattle.std.specs.Prelude.{◌≡◌, ◌<◌, ◌++◌, All, IfOk, OnOk, IfSome, Some, map};
 ghost use Rattle.koika_syntax.specs.Grammar.{IsDeclaration, IsField, IsLiteral, IsMember, IsName, IsNonempty, IsType, declaration_leaves, field_leaves, member_leaves, result_leaves};
 ghost use Rattle.koika_syntax.specs.Tree.{commas, keyword, literal_leaves, name_leaves, word};
@@ -50,7 +52,7 @@ impl<'a> Source<'a> {
         }
     }
 
-    // Reads the word of a declaration and the name behind it.
+    // Reads the word of a declaration and the name after it.
     fn declared(&self, cursor: &mut Cursor, begin: Keyword) -> Result<Name, Stop>
         ensures read { IfOk result (λ found. Reads self.now cursor.old cursor.new (word begin ++ name_leaves found)) }
         ensures is { IfOk result IsName }

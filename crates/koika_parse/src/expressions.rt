@@ -1,3 +1,5 @@
+//! Trees: the reader of expressions and blocks.
+
 ghost use Rattle.std.specs.Prelude.{◌+◌, ◌≡◌, ◌≢◌, ◌<◌, ◌≤◌, ◌↔◌, ◌++◌, All, IfNone, IfOk, IsTrue, OnOk, IfSome, Some, map};
 ghost use Rattle.koika_syntax.specs.Grammar.{IsBlock, IsExpression, IsNonempty, arm_leaves, block_leaves, expression_leaves, last_leaves, level, level_of, operand_leaves, statement_leaves};
 ghost use Rattle.koika_syntax.specs.Tree.{all_of, binary_symbol, sign, symbol};
@@ -110,7 +112,7 @@ impl<'a> Source<'a> {
         })
     }
 
-    // Reads what stands between the brackets of a block.
+    // Reads what is between the brackets of a block.
     #[cycle(expression)]
     fn inside(&self, cursor: &mut Cursor) -> Result<Inside, Stop>
         ensures read { IfOk result (λ found. Reads self.now cursor.old cursor.new
@@ -181,7 +183,7 @@ impl<'a> Source<'a> {
         Ok(Expression::Chain { first, rest })
     }
 
-    // Reads operators of a level, each with the operand behind it, at least one.
+    // Reads operators of a level, each with the operand after it, at least one.
     #[cycle(expression)]
     fn operands(&self, cursor: &mut Cursor, wanted: u32) -> Result<Vec<Operand>, Stop>
         requires low { 0 < wanted }

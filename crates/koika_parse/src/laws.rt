@@ -20,17 +20,17 @@ pub fn what_is_printed_is_read_again()
     ensures { law.ReadAgain }
 {}
 
-/// Two faults that stand between the tokens of one text are the same.
+/// Two faults that are between the tokens of one text are the same.
 pub fn a_text_has_one_fault()
     ensures { law.OneFault }
 {}
 
-/// Where a tree derives the tokens with few open brackets, no fault stands between them.
+/// Where a tree derives the tokens with few open brackets, no fault is between them.
 pub fn a_design_has_no_fault()
     ensures { law.NoFault }
 {}
 
-/// The tokens of a text are a tree's with few open brackets, or a fault stands between them.
+/// The tokens of a text are a tree's with few open brackets, or a fault is between them.
 pub fn each_text_is_parsed()
     ensures { law.EachTextIsParsed }
 {}

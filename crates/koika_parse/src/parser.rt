@@ -1,3 +1,5 @@
+//! Trees: the tree of a text, or its first fault.
+
 ghost use Rattle.std.specs.Prelude.{◌≡◌, ◌≤◌, All, Err, IfOk, drop, length};
 ghost use Rattle.kw_base.specs.Fault.{IfFault, fault_at};
 ghost use Rattle.kw_base.specs.Place.{place_at};
@@ -21,10 +23,10 @@ use kw_base::{Fault, Refusal, fault_number, place_of};
 use kw_bits::Sequence;
 use std::alloc::Global;
 
-/// The tree of a text, whose tokens these are, or the first fault: 11 at a token that no design goes on with, or behind
-/// the text where no design ends there, and 12 at a 65th open bracket. A tree is answered exactly where one with at most
-/// 64 open brackets derives the tokens, unless memory ran out. Where the tokens are a tree's, as in a printed text, that
-/// tree is answered up to places.
+/// The tree of a text, whose tokens these are, or the first fault: 11 at a token that no design goes on with, or after
+/// the text where no design ends there, and 12 at a 65th open bracket. A tree is answered exactly where one with at
+/// most 64 open brackets derives the tokens, unless memory ran out. Where the tokens are a tree's, as in a printed
+/// text, that tree is answered up to places.
 pub fn parse(alloc: Global, text: &[u8], tokens: &[Token]) -> Result<Tree, Refusal>
     requires stands { All (StandsIn text.now) tokens.now }
     ensures derived { IfOk result (λ tree. Derives text.now tree tokens.now) }

@@ -1,3 +1,5 @@
+//! Trees: the reader of operands, with the operators before and the suffixes after them.
+
 ghost use Rattle.std.specs.Prelude.{◌≡◌, ◌≢◌, ◌<◌, ◌↔◌, All, IfNone, IfOk, IfSome, IsTrue, OnOk, Some, map};
 ghost use Rattle.std.specs.List.{flat_map};
 ghost use Rattle.koika_syntax.specs.Grammar.{IsExpression, IsNonempty, IsPart, IsSuffix, expression_leaves, field_value_leaves, level, part_leaves, prefix_leaves, suffix_leaves};
@@ -67,14 +69,14 @@ impl<'a> Source<'a> {
         }
     }
 
-    // Whether the next token is an operator that stands in front of its operand.
+    // Whether the next token is an operator that is in front of its operand.
     fn is_at_prefix(&self, cursor: &Cursor) -> bool
         ensures { IsTrue result ↔ IsAtPrefix self.now cursor.now }
     {
         self.prefix_at(cursor).is_some()
     }
 
-    // The next token, if it is an operator that stands in front of its operand.
+    // The next token, if it is an operator that is in front of its operand.
     fn prefix_at(&self, cursor: &Cursor) -> Option<UnaryOperator>
         ensures at { IfSome result (λ operator. next self.now cursor.now ≡ Some (symbol (unary_symbol operator))) }
         ensures none { IfNone result (IsAtPrefix self.now cursor.now → ⊥) }
@@ -82,7 +84,7 @@ impl<'a> Source<'a> {
         prefix_of(self.symbol_at(cursor)?)
     }
 
-    // Reads a primary and what stands behind it.
+    // Reads a primary and what is after it.
     #[cycle(expression)]
     fn postfix(&self, cursor: &mut Cursor) -> Result<Expression, Stop>
         ensures read { IfOk result (λ found. Reads self.now cursor.old cursor.new (expression_leaves found)) }

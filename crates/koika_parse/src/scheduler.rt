@@ -1,3 +1,5 @@
+//! Trees: the reader of the scheduler.
+
 ghost use Rattle.std.specs.Prelude.{All, IfOk, IfSome};
 ghost use Rattle.std.specs.List.{flat_map};
 ghost use Rattle.koika_syntax.specs.Grammar.{IsName, IsScheduler, choice_leaves, last_leaves, rule_leaves, scheduler_leaves};
@@ -28,7 +30,7 @@ impl<'a> Source<'a> {
         Ok(Scheduler { rules, last })
     }
 
-    // Reads rules, each with a semicolon behind it.
+    // Reads rules, each with a semicolon after it.
     fn rules(&self, cursor: &mut Cursor) -> Result<Sequence<Name>, Stop>
         ensures read { IfOk result (λ found. Reads self.now cursor.old cursor.new (flat_map rule_leaves found)) }
         ensures is { IfOk result (λ found. All IsName found) }

@@ -1,3 +1,5 @@
+//! Trees: a text with its tokens.
+
 ghost use Rattle.std.specs.Prelude.{◌<◌, ◌≤◌, ◌^◌, All, length};
 ghost use Rattle.std.proofs.Props.{props};
 ghost use Rattle.koika_parse.specs.Names.{AreNamesIn};

@@ -1,3 +1,5 @@
+//! Trees: why reading ends.
+
 ghost use Rattle.std.specs.Prelude.{◌≡◌};
 ghost use Rattle.koika_parse.specs.declared.stop.Stop.TheVariants as stops;
 

@@ -1,3 +1,5 @@
+//! Trees: the next token, and the count of open brackets.
+
 ghost use Rattle.std.specs.Prelude.{ℕ, ◌≡◌, ◌≢◌, ◌<◌, ◌≤◌, ◌^◌, Some, None, IfOk, IfNone, IfErr, IfSome, OnOk, IsTrue, ◌↔◌, length};
 ghost use Rattle.koika_syntax.specs.Grammar.{IsLiteral, IsName, IsNumber, IsWidth};
 ghost use Rattle.kw_bits.specs.BitVector.{BitVector, IsBits};
@@ -36,9 +38,9 @@ impl<'a> Source<'a> {
     pub(crate) fn is_at_sign(&self, cursor: &Cursor, wanted: Symbol) -> bool
         ensures { IsTrue result ↔ (next self.now cursor.now ≡ Some (symbol wanted)) }
     {
-        match self.peek(cursor) {
-            Some(TokenKind::Symbol(found)) => found == wanted,
-            _ => false,
+        match self.symbol_at(cursor) {
+            Some(found) => found == wanted,
+            None => false,
         }
     }
 
@@ -46,9 +48,9 @@ impl<'a> Source<'a> {
     pub(crate) fn is_at_word(&self, cursor: &Cursor, wanted: Keyword) -> bool
         ensures { IsTrue result ↔ (next self.now cursor.now ≡ Some (keyword wanted)) }
     {
-        match self.peek(cursor) {
-            Some(TokenKind::Keyword(found)) => found == wanted,
-            _ => false,
+        match self.keyword_at(cursor) {
+            Some(found) => found == wanted,
+            None => false,
         }
     }
 
@@ -292,7 +294,7 @@ fn literal_at(bits: Bits, place: u32) -> Literal
     Literal { bits, place }
 }
 
-// How many brackets are open behind a token, where so many are open in front of it.
+// How many brackets are open after a token, where that many are open in front of it.
 fn depth_behind(before: u32, kind: TokenKind) -> Result<u32, Stop>
     ensures behind { IfOk result (λ behind. behind ≡ open_behind_kind before kind) }
     ensures deep { IfErr result (λ stop. (stop ≡ stops.TooDeep) × (64 < open_behind_kind before kind)) }

@@ -1,3 +1,5 @@
+//! Trees: the reader of types.
+
 ghost use Rattle.std.specs.Prelude.{IfOk};
 ghost use Rattle.koika_syntax.specs.Grammar.{IsName, IsType, IsWidth, type_leaves};
 ghost use Rattle.koika_syntax.specs.Tree.{name_leaves, width_leaves};

@@ -1,4 +1,4 @@
--- The text that a tree is printed as: its tokens in order, each in its one written form and with a blank behind
+-- The text that a tree is printed as: its tokens in order, each in its one written form and with a blank after
 -- it. This project's own text form.
 use Rattle.std.specs.Prelude.{◌≡◌, ℕ, zero, suc, ◌<◌, ◌^◌, ⊤, map, List, [], ◌∷◌, ◌++◌, codes, decimal}
 use Rattle.std.specs.List.{flat_map, AllByRecursion}
@@ -21,7 +21,7 @@ written (literal bits) = decimal bits.width ++ (codes "'d" ++ decimal bits.numbe
 written (keyword k) = keyword_text k
 written (symbol s) = symbol_text s
 
--- a line feed behind `;`, `{` and `}`, and a space behind every other token
+-- a line feed after `;`, `{` and `}`, and a space after every other token
 abbrev pub blank_after_symbol : Symbol → ℕ
 blank_after_symbol symbols.Semicolon = 10
 blank_after_symbol symbols.LeftBrace = 10
@@ -39,11 +39,11 @@ leaf_text leaf = written leaf.terminal ++ blank_after leaf.terminal ∷ []
 abbrev pub printed : List Leaf → List ℕ
 printed leaves = flat_map leaf_text leaves
 
--- the new text is the old one with these tokens behind it
+-- the new text is the old one with these tokens after it
 pub record Prints (old new : List ℕ) (leaves : List Leaf) : Type 0 where
   pub text : new ≡ old ++ printed leaves
 
--- a comma behind items, and `else` behind arms, if there are any
+-- a comma after items, and `else` after arms, if there are any
 abbrev pub comma_behind : ℕ → List Leaf
 comma_behind zero = []
 comma_behind (suc items) = sign symbols.Comma

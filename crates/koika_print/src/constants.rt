@@ -1,3 +1,5 @@
+//! Trees: constants as text.
+
 ghost use Rattle.std.specs.Prelude.{OnOk, map};
 ghost use Rattle.koika_syntax.specs.Grammar.{constant_field_leaves, constant_leaves};
 ghost use Rattle.koika_syntax.specs.Tree.{commas};

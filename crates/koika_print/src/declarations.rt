@@ -1,3 +1,5 @@
+//! Trees: declarations as text.
+
 ghost use Rattle.std.specs.Prelude.{OnOk, ◌++◌, map};
 ghost use Rattle.koika_syntax.specs.Grammar.{block_leaves, constant_leaves, declaration_leaves, field_leaves, map_leaves, member_leaves, result_leaves, type_leaves};
 ghost use Rattle.koika_syntax.specs.Tree.{commas, in_braces, in_parentheses, literal_leaves, name_leaves, sign, width_leaves, word};
@@ -164,7 +166,7 @@ fn assertion(out: &mut Text, rule: &Name) -> Result<(), NoMemory>
     sign(out, Symbol::Semicolon)
 }
 
-// The word of a declaration and the name behind it.
+// The word of a declaration and the name after it.
 fn begin(out: &mut Text, keyword: Keyword, declared: &Name) -> Result<(), NoMemory>
     ensures { OnOk result (Prints out.old out.new (word keyword ++ name_leaves declared.now)) }
 {

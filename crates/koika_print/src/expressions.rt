@@ -1,3 +1,5 @@
+//! Trees: expressions, blocks and statements as text.
+
 ghost use Rattle.std.specs.Prelude.{ℕ, OnOk, ◌++◌, map};
 ghost use Rattle.koika_syntax.specs.Grammar.{arm_leaves, block_leaves, call_leaves, expression_leaves, field_value_leaves, last_leaves, operand_leaves, statement_leaves, struct_leaves};
 ghost use Rattle.koika_syntax.specs.Tree.{all_of, commas, in_parentheses, joined, name_leaves, sign, word};
@@ -212,7 +214,7 @@ fn array(out: &mut Text, elements: &[Expression]) -> Result<(), NoMemory>
     sign(out, Symbol::RightBracket)
 }
 
-// Writes a word, and its first argument with the comma behind it.
+// Writes a word, and its first argument with the comma after it.
 #[cycle(expression)]
 fn first_argument(out: &mut Text, called: Keyword, value: &Expression) -> Result<(), NoMemory>
     ensures { OnOk result (Prints out.old out.new

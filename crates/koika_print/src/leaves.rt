@@ -1,3 +1,5 @@
+//! Trees: single tokens as text, in their one written form.
+
 ghost use Rattle.std.specs.Prelude.{◌≡◌, OnOk};
 ghost use Rattle.koika_syntax.specs.Tree.{literal_leaves, name_leaves, number_leaves, sign, width_leaves, word};
 ghost use Rattle.koika_print.specs.Printed.{Prints, blank_after_symbol, comma_behind, else_behind};
@@ -14,7 +16,7 @@ pub(crate) fn word(out: &mut Text, keyword: Keyword) -> Result<(), NoMemory>
     out.push(b' ')
 }
 
-/// Writes a comma behind items, if there are any.
+/// Writes a comma after items, if there are any.
 pub(crate) fn comma_behind(out: &mut Text, items: usize) -> Result<(), NoMemory>
     ensures { OnOk result (Prints out.old out.new (comma_behind items)) }
 {
@@ -24,7 +26,7 @@ pub(crate) fn comma_behind(out: &mut Text, items: usize) -> Result<(), NoMemory>
     Ok(())
 }
 
-/// Writes `else` behind arms, if there are any.
+/// Writes `else` after arms, if there are any.
 pub(crate) fn else_behind(out: &mut Text, arms: usize) -> Result<(), NoMemory>
     ensures { OnOk result (Prints out.old out.new (else_behind arms)) }
 {
@@ -42,7 +44,7 @@ pub(crate) fn sign(out: &mut Text, symbol: Symbol) -> Result<(), NoMemory>
     out.push(separator(symbol))
 }
 
-// What stands behind a symbol.
+// What comes after a symbol.
 fn separator(symbol: Symbol) -> u8
     ensures { result ≡ blank_after_symbol symbol }
 {

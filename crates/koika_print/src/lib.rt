@@ -1,6 +1,6 @@
 //! From the tree of a design to its text.
 //!
-//! `specs/Printed.antt` says how each token is written and what stands behind it; the tokens of a tree are
+//! `specs/Printed.antt` says how each token is written and what comes after it; the tokens of a tree are
 //! those of the grammar in `koika_syntax`. `koika_top` calls `print` for the command `print`.
 #![tactic(auto, using(crate::proofs::Printing::printing))]
 

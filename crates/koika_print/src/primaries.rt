@@ -1,3 +1,5 @@
+//! Trees: prefixes, primaries and suffixes of expressions as text.
+
 ghost use Rattle.std.specs.Prelude.{◌≡◌, OnOk, [], ◌∷◌, ◌++◌};
 ghost use Rattle.std.specs.List.{flat_map};
 ghost use Rattle.koika_syntax.specs.Grammar.{call_leaves, expression_leaves, part_leaves, prefix_leaves, suffix_leaves, type_leaves};
@@ -162,7 +164,7 @@ pub(crate) fn extend(
     sign(out, Symbol::RightParenthesis)
 }
 
-// Writes the part that an update replaces, with the comma behind it.
+// Writes the part that an update replaces, with the comma after it.
 pub(crate) fn replaced(out: &mut Text, part: &Part) -> Result<(), NoMemory>
     ensures { OnOk result (Prints out.old out.new (part_leaves part.now ++ sign symbols.Comma)) }
 {

@@ -1,3 +1,5 @@
+//! Trees: a whole tree as text.
+
 ghost use Rattle.std.specs.Prelude.{OnOk, ◌≡◌, IfOk};
 ghost use Rattle.std.specs.List.{flat_map};
 ghost use Rattle.koika_syntax.specs.Grammar.{IsDesign, declaration_leaves, tree_leaves};
@@ -10,12 +12,13 @@ use koika_syntax::{Declaration, Keyword, Tree};
 use kw_bits::{NoMemory, Text};
 use std::alloc::Global;
 
-/// The text of a tree: its tokens in order, a line feed behind each `;`, `{` and `}` and a space behind every
+/// The text of a tree: its tokens in order, a line feed after each `;`, `{` and `}` and a space after every
 /// other one. Literals and numbers are decimal, without leading zeros.
 pub fn print(alloc: Global, tree: &Tree) -> Result<Text, NoMemory>
     ensures text { IfOk result (λ text. text ≡ printed (tree_leaves tree.now)) }
 
-    // What is printed is lexed as the tree's tokens, for each tree of the grammar and for each whose tokens can be written.
+    // What is printed is lexed as the tree's tokens, for each tree of the grammar and for each whose tokens can be
+    // written.
     ensures tokens { AreWritable (tree_leaves tree.now) → IfOk result (λ text. IsLexedAs text (tree_leaves tree.now)) }
     ensures derived { IsDesign tree.now → IfOk result (λ text. IsLexedAs text (tree_leaves tree.now)) }
 {

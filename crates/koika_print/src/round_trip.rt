@@ -1,3 +1,5 @@
+//! Trees: a tree printed and read again.
+
 ghost use Rattle.std.specs.Prelude.{◌≤◌, length};
 ghost use Rattle.kw_base.specs.Fault.{IsOkUnlessNoMemory};
 ghost use Rattle.koika_syntax.specs.Grammar.{IsDesign, tree_leaves};

@@ -1,3 +1,5 @@
+//! Trees: the schedule as text.
+
 ghost use Rattle.std.specs.Prelude.{OnOk};
 ghost use Rattle.std.specs.List.{flat_map};
 ghost use Rattle.koika_syntax.specs.Grammar.{choice_leaves, last_leaves, rule_leaves, scheduler_leaves};

@@ -1,3 +1,5 @@
+//! Trees: types as text.
+
 ghost use Rattle.std.specs.Prelude.{OnOk};
 ghost use Rattle.koika_syntax.specs.Grammar.{type_leaves};
 ghost use Rattle.koika_print.specs.Printed.{Prints};

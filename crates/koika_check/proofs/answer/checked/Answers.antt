@@ -2,7 +2,7 @@ use Rattle.std.proofs.Common.{◌≡◌, ◌∙◌, subst, sym}
 use Rattle.std.specs.List.{All}
 use Rattle.std.proofs.lemmas.Result.{err_from_is_err_and}
 use Rattle.kw_bits.specs.Host.{TakesWidth}
-use Rattle.typed_core.specs.declared.design.HostSpec.{HostSpec}
+use Rattle.kw_bits.specs.declared.host.HostSpec.{HostSpec}
 use Rattle.koika_check.specs.Checks.{checked}
 use Rattle.koika_check.specs.Outcomes.{Answers}
 use Rattle.koika_check.specs.declared.checked.Checked.{Checked}

@@ -1,6 +1,6 @@
 use Rattle.std.proofs.Common.{List, ◌∙◌, ap, sym}
 use Rattle.std.proofs.lemmas.Result.{err_from_is_err_and}
-use Rattle.typed_core.specs.declared.design.HostSpec.{HostSpec}
+use Rattle.kw_bits.specs.declared.host.HostSpec.{HostSpec}
 use Rattle.koika_check.specs.Declarations.{declare}
 use Rattle.koika_check.specs.Outcomes.{Gives}
 use Rattle.koika_check.proofs.Answering.{ends-same, step-err, step-ok}

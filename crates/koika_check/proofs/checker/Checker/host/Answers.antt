@@ -2,7 +2,7 @@ use Rattle.std.proofs.Common.{ap, sym, subst, ◌∙◌}
 use Rattle.std.specs.List.{find}
 use Rattle.kw_base.specs.declared.fault_number.TheConstants.{UNKNOWN_HOST_FUNCTION}
 use Rattle.kw_bits.specs.Host.{TakesWidth}
-use Rattle.typed_core.specs.declared.design.HostSpec.{HostSpec}
+use Rattle.kw_bits.specs.declared.host.HostSpec.{HostSpec}
 use Rattle.koika_check.specs.Declarations.{is_host}
 use Rattle.koika_check.specs.Outcomes.{found, wrong}
 use Rattle.koika_check.proofs.Answering.{found-some}
