@@ -4,10 +4,8 @@
 //! It stands on no definition of its own: what it answers is the contract of `run_here`. Nothing calls it.
 #![tactic(auto)]
 
-mod hosts;
-
-use crate::hosts::{BITS_OF_ONE, BITS_OF_TWO};
-use host_fn::HostFn;
+use host_fn::offered::{BITS_OF_ONE, BITS_OF_TWO};
+use host_fn::{HostFn, offered};
 use koika_top::{Status, run_here};
 use kw_bits::HostKind;
 use kw_io::{Sink, Source, StdSink, StdSource};
@@ -45,14 +43,14 @@ fn run_with_hosts<S: Source, K: Sink>(
     sink: &mut K,
 ) -> Status {
     let hosts = [
-        HostFn::new(HostKind::Popcount, BITS_OF_ONE, hosts::popcount).unwrap(),
-        HostFn::new(HostKind::Parity, BITS_OF_ONE, hosts::parity).unwrap(),
-        HostFn::new(HostKind::Reverse, BITS_OF_ONE, hosts::reverse).unwrap(),
-        HostFn::new(HostKind::LeadingZeros, BITS_OF_ONE, hosts::leading_zeros).unwrap(),
-        HostFn::new(HostKind::Gray, BITS_OF_ONE, hosts::gray).unwrap(),
-        HostFn::new_two(HostKind::Hamming, BITS_OF_TWO, hosts::hamming).unwrap(),
-        HostFn::new_two(HostKind::Morton, BITS_OF_TWO, hosts::morton).unwrap(),
-        HostFn::new_two(HostKind::SatAdd, BITS_OF_TWO, hosts::sat_add).unwrap(),
+        HostFn::new(HostKind::Popcount, BITS_OF_ONE, offered::popcount).unwrap(),
+        HostFn::new(HostKind::Parity, BITS_OF_ONE, offered::parity).unwrap(),
+        HostFn::new(HostKind::Reverse, BITS_OF_ONE, offered::reverse).unwrap(),
+        HostFn::new(HostKind::LeadingZeros, BITS_OF_ONE, offered::leading_zeros).unwrap(),
+        HostFn::new(HostKind::Gray, BITS_OF_ONE, offered::gray).unwrap(),
+        HostFn::new_two(HostKind::Hamming, BITS_OF_TWO, offered::hamming).unwrap(),
+        HostFn::new_two(HostKind::Morton, BITS_OF_TWO, offered::morton).unwrap(),
+        HostFn::new_two(HostKind::SatAdd, BITS_OF_TWO, offered::sat_add).unwrap(),
     ];
     run_here(alloc, words, &hosts, source, sink)
 }

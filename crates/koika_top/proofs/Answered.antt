@@ -22,7 +22,7 @@ use Rattle.koika_check.specs.declared.stop.Wrong.{Wrong}
 use Rattle.koika_print.specs.Printed.{printed}
 use Rattle.one_rule.specs.Stimulus.{InputVectors, inputs_of}
 use Rattle.stim_report.specs.Cuts.{cut_at, ends_line, is_mark, parts_of, with_line_feed}
-use Rattle.typed_core.specs.declared.design.HostSpec.{HostSpec}
+use Rattle.kw_bits.specs.declared.host.HostSpec.{HostSpec}
 use Rattle.koika_top.specs.Answer.{Answers, IsAnswer, has_one_text}
 use Rattle.koika_top.specs.Compile.{AnswersCompile}
 use Rattle.koika_top.specs.Generator.{pipeline}

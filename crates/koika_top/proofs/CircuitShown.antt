@@ -1,6 +1,5 @@
 -- What was written of a circuit and of its violations is what is shown of its circuit text.
-use Rattle.std.proofs.Common.{◌≡◌, ℕ, List, [], ◌++◌, length, Option, ap, subst, ◌∙◌, append-nil}
-use Rattle.std.specs.Io.KnownBytes.{Appends}
+use Rattle.std.proofs.Common.{◌≡◌, ℕ, List, ◌++◌, length, Option, Result, Ok, Err, ap, ◌∙◌}
 use Rattle.std.specs.List.{range_with_len}
 use Rattle.btor2_model.specs.Run.{run_of}
 use Rattle.btor2_text.specs.declared.line.Line.{Line}
@@ -10,16 +9,18 @@ use Rattle.circuit_eval.specs.declared.circuit.Wires.{Wires}
 use Rattle.koika_assert.specs.Violations as marked
 use Rattle.one_rule.specs.Stimulus.{AlwaysFits, InputVectors, inputs_of}
 use Rattle.stim_report.specs.declared.shape.Shape.{Shape}
-use Rattle.koika_top.specs.Answer.{AppendsFront}
 use Rattle.koika_top.specs.Btorsim as text
 use Rattle.koika_top.specs.Btorsim.{shown_run}
 use Rattle.koika_top.specs.CircuitRuns.{AreCircuitsOf}
 use Rattle.koika_top.specs.CircuitShapes as circuit
 use Rattle.koika_top.specs.Sim.{rows_text}
+use Rattle.koika_top.specs.Streams.{Stream}
+use Rattle.koika_top.specs.Told.{Told}
 use Rattle.koika_top.specs.declared.shown.Shown.{Shown}
-use Rattle.koika_top.proofs.Batches.{appends-twice, front-behind, front-of, front-of-first, front-so-far}
+use Rattle.koika_top.specs.declared.untold.Untold.{Untold}
 use Rattle.koika_top.proofs.CircuitViolations.{violations-told}
 use Rattle.koika_top.proofs.Shapes.{shape-of-text}
+use Rattle.koika_top.proofs.Told.{at, told-as, told-cut, told-then}
 
 module _
     (lines : List Line) (c bads : Wires) (names : List (List ℕ)) (are : AreCircuitsOf lines c bads names) (shape : Shape) (is : shape ≡ circuit.shape_of c)
@@ -41,20 +42,11 @@ module _
         ap (λ (l : List ℕ). l ++ violated) rows-told
         ∙ ap (λ (l : List ℕ). rows_text shown (text.shape_of lines) (run_of lines (inputs_of stimulus) n) ++ l) (violations-told lines bads names stimulus n are.shows are.named bads_fit always)
 
-    module _ (old mid : Option (List ℕ)) where
-      -- the front of the rows
-      pub front-of-rows : AppendsFront old mid rows → AppendsFront old mid (shown_run shown lines (inputs_of stimulus) n)
-      front-of-rows front = front-of old mid _ _ whole (front-of-first old mid rows violated front)
+    -- some of the rows
+    pub rows-cut : (st : Stream) (e : Untold) → Told rows st (Err e) → Told (shown_run shown lines (inputs_of stimulus) n) st (Err e)
+    rows-cut st e told = told-as _ _ st (Err e) whole (told-cut rows violated st e told)
 
-      -- all rows and nothing behind them
-      pub front-rows-alone : Appends old mid rows → AppendsFront old mid (shown_run shown lines (inputs_of stimulus) n)
-      front-rows-alone all = front-of old mid _ _ whole (front-so-far old mid rows violated all)
-
-      -- all rows and the front of what stands behind them
-      pub front-of-both : (new : Option (List ℕ)) (written : List ℕ) → written ≡ violated → Appends old mid rows → AppendsFront mid new written → AppendsFront old new (shown_run shown lines (inputs_of stimulus) n)
-      front-of-both new written same all front =
-          front-of old new _ _ (ap (λ (l : List ℕ). rows ++ l) (append-nil written ∙ same) ∙ whole) (front-behind old mid new rows written [] all front)
-
-      -- all of it
-      pub appends-both : (new : Option (List ℕ)) (written : List ℕ) → written ≡ violated → Appends old mid rows → Appends mid new written → Appends old new (shown_run shown lines (inputs_of stimulus) n)
-      appends-both new written same all more = subst (Appends old new) (ap (λ (l : List ℕ). rows ++ l) same ∙ whole) (appends-twice old mid new rows written all more)
+    -- all rows, and what comes after them
+    pub rows-then : (a b c : Option (List ℕ)) (l m k : ℕ) (u : Unit {0}) (r : Result (Unit {0}) Untold) → Told rows (at a b l m) (Ok u) → Told violated (at b c m k) r
+        → Told (shown_run shown lines (inputs_of stimulus) n) (at a c l k) r
+    rows-then a b c l m k u r one two = told-as _ _ (at a c l k) r whole (told-then rows violated a b c l m k u r one two)

@@ -123,12 +123,11 @@ stimulus-fits c shape line bytes stimulus is e =
     stimulus-widths shape line bytes stimulus e ∙ ap (λ (s : Shape). widths_of s.inputs) is ∙ widths-told c.inputs
 
 -- what a source gives what has this shape is what it gives the text
-pub given-to : (source : List ℕ) (lines : List Line) (shape : Shape) (r : Result InputVectors Fault) → shape ≡ text.shape_of lines
-    → stimulus_of shape (cuts.parts_of source).first_line (cuts.parts_of source).stimulus ≡ r → text.stimulus_in source lines ≡ r
-given-to source lines shape r is given =
-    sym (ap (λ (s : Shape). stimulus_of s (cuts.parts_of source).first_line (cuts.parts_of source).stimulus) is) ∙ given
+pub given-to : (source : List ℕ) (lines : List Line) (shape : Shape) (line : ℕ) (bytes : List ℕ) (r : Result InputVectors Fault) → shape ≡ text.shape_of lines → line ≡ (cuts.parts_of source).first_line → bytes ≡ (cuts.parts_of source).stimulus
+    → stimulus_of shape line bytes ≡ r → text.stimulus_in source lines ≡ r
+given-to source lines shape line bytes r is first rest given = sym (λ i. stimulus_of (is i) (first i) (rest i)) ∙ given
 
--- a fault behind the text is one of the whole
+-- a fault after the text is one of the whole
 pub refused-later : {X : Type 0} (cycles : ℕ) (source : List ℕ) (r : Result X Refusal) → IfFault r (λ fault. HasNoStimulus source fault ⊎ RunsTooLong cycles source fault) → IfFault r (IsRefusal cycles source)
 refused-later cycles source (Ok x) h = tt
 refused-later cycles source (Err (refusals.Fault fault)) h = ⊎_elim (λ a. inr (inr (inr (inl a)))) (λ b. inr (inr (inr (inr b)))) h
@@ -141,10 +140,10 @@ or-left true c e = e
 or-left false c e = refl
 
 -- a run that isn't too long has few cycles
-pub within-few : (cycles : ℕ) (lines : List Line) → is_too_long cycles lines ≡ false → cycles ≤ 16777216
-within-few cycles lines e =
-    let states = nat_lt 4194304 (min cycles 256 * length (lines_of is_state lines)) in
-    let flags = nat_lt 4194304 (min cycles 256 * length (text.flag_lines lines)) in
+pub few-cycles : (cycles registers rules : ℕ) → lengths.is_too_long cycles registers rules ≡ false → cycles ≤ 16777216
+few-cycles cycles registers rules e =
+    let states = nat_lt 4194304 (min cycles 256 * registers) in
+    let flags = nat_lt 4194304 (min cycles 256 * rules) in
     ltb-false 16777216 cycles (or-left (nat_lt 16777216 cycles) states (or-left (nat_lt 16777216 cycles || states) flags e))
 
 -- a run of the shape is too long, or isn't, where one of the text is

@@ -1,13 +1,11 @@
--- What a teller and a watch know before all rows and behind some, and what is told of no marks.
-use Rattle.std.proofs.Common.{◌≡◌, ℕ, zero, suc, ◌+◌, ◌∷◌, ◌++◌, List, [], Result, Ok, Err, sym, ap, ap₂, ◌∙◌, append-nil, arith}
+-- What a teller and a watch know before all rows, and what is told of no marks and of nothing else.
+use Rattle.std.proofs.Common.{◌≡◌, ℕ, zero, suc, ◌+◌, ◌∷◌, ◌++◌, List, [], Option, Some, None, sym, ap, ap₂, ◌∙◌, append-nil, arith}
 use Rattle.std.specs.List.{range_with_len}
-use Rattle.std.specs.Prelude.{IfOk}
 use Rattle.one_rule.specs.declared.rows.Row.{Row}
-use Rattle.stim_report.specs.Batches.{last_cycle}
 use Rattle.stim_report.specs.declared.shape.Shape.{Shape}
 use Rattle.koika_assert.specs.Violations.{Watched, violations, watched}
-use Rattle.koika_top.specs.Sim.{Marks, rows_text, text_of_rows}
-use Rattle.koika_top.specs.Telling.{HasRows, marks_in, shown_by}
+use Rattle.koika_top.specs.Sim.{Marks, rows_text}
+use Rattle.koika_top.specs.Telling.{HasRows, all_told, marks_in, shown_by}
 use Rattle.koika_top.specs.declared.shown.Shown.{Shown}
 use Rattle.koika_top.specs.declared.teller.Teller.{Teller}
 
@@ -20,11 +18,6 @@ pub range-next : (from n to : ℕ) → from + n ≡ to → range_with_len from (
 range-next from n to e = let on : n + 1 ≡ suc n = omega arith in ap (range_with_len from) on ∙ range-more from n to e
 
 -- ---- watches
-
--- a watch goes on from the last cycle of its rows
-pub watched-cycles : (w : Watched) (names : List (List ℕ)) (marks : List ℕ) (rows : List Row) (cycle : ℕ) → w ≡ watched names marks rows → last_cycle rows ≡ cycle → cycle ≡ w.cycles
-unfolding watched
-watched-cycles w names marks rows cycle h e = sym (ap (λ (k : Watched). k.cycles) h ∙ e)
 
 -- a watch has the names and marks that it was made of
 pub watched-names : (w : Watched) (names : List (List ℕ)) (marks : List ℕ) (rows : List Row) → w ≡ watched names marks rows → w.names ≡ names
@@ -44,21 +37,29 @@ pub none-told : (names : List (List ℕ)) (marks : List ℕ) (rows : List Row) �
 unfolding watched
 none-told names marks rows none = ap (λ (ns : List (List ℕ)). violations ns marks rows) none
 
--- a text that is another one by its bytes
-pub if-ok-as : {E : Type 0} (r : Result (List ℕ) E) (x y : List ℕ) → x ≡ y → IfOk r (λ text. text ≡ x) → IfOk r (λ text. text ≡ y)
-if-ok-as (Ok text) x y e h = h ∙ e
-if-ok-as (Err error) x y e h = tt
-
 -- ---- tellers
 
 -- a teller has no rows of its own marks where it has none of the marks that it was made of
 pub has-own : (teller : Teller) (shape : Shape) (marks : Marks) → HasRows teller shape marks [] → HasRows teller shape (marks_in teller) []
 has-own teller shape marks h = (h.0, watched-own teller.watch marks.names marks.rules [] h.1)
 
--- and of no marks it tells nothing behind the rows
-pub nothing-behind : (teller : Teller) (shape : Shape) (marks : Marks) (shown : Shown) (rows : List Row) → marks.names ≡ [] → HasRows teller shape marks [] → shown_by teller ≡ shown
-    → text_of_rows (shown_by teller) shape (marks_in teller) rows ≡ rows_text shown shape rows
-nothing-behind teller shape marks shown rows none h is =
-    ap (λ (l : List ℕ). rows_text (shown_by teller) shape rows ++ l) (none-told teller.watch.names teller.watch.marks rows (watched-names teller.watch marks.names marks.rules [] h.1 ∙ none))
-    ∙ append-nil (rows_text (shown_by teller) shape rows)
-    ∙ ap (λ (s : Shown). rows_text s shape rows) is
+-- and watches the marks that it was made of
+pub marks-same : (teller : Teller) (shape : Shape) (marks : Marks) → HasRows teller shape marks [] → marks_in teller ≡ marks
+marks-same teller shape marks none =
+    ap₂ (λ (names : List (List ℕ)) (rules : List ℕ). record { names = names; rules = rules })
+    (watched-names teller.watch marks.names marks.rules [] none.1) (watched-marks teller.watch marks.names marks.rules [] none.1)
+
+-- of no marks it tells nothing after the rows
+pub nothing-after : (teller : Teller) (shape : Shape) (marks : Marks) (shown : Shown) (rows : List Row) → marks.names ≡ [] → HasRows teller shape marks [] → shown_by teller ≡ Some shown
+    → all_told (shown_by teller) shape (marks_in teller) rows ≡ rows_text shown shape rows
+nothing-after teller shape marks shown rows none h is =
+    ap (λ (s : Option Shown). all_told s shape (marks_in teller) rows) is
+    ∙ ap (λ (l : List ℕ). rows_text shown shape rows ++ l) (none-told teller.watch.names teller.watch.marks rows (watched-names teller.watch marks.names marks.rules [] h.1 ∙ none))
+    ∙ append-nil (rows_text shown shape rows)
+
+-- and of nothing but marks it tells their violations
+pub marks-alone : (teller : Teller) (shape : Shape) (marks : Marks) (rows : List Row) → HasRows teller shape marks [] → shown_by teller ≡ None
+    → all_told (shown_by teller) shape (marks_in teller) rows ≡ violations marks.names marks.rules rows
+marks-alone teller shape marks rows h is =
+    ap (λ (s : Option Shown). all_told s shape (marks_in teller) rows) is
+    ∙ ap (λ (m : Marks). violations m.names m.rules rows) (marks-same teller shape marks h)

@@ -1,4 +1,4 @@
--- Where a circuit stands that runs on a stimulus, and the rows of its batches.
+-- Up to which cycle a circuit has run on a stimulus, and the rows of its batches.
 use Rattle.std.proofs.Common.{◌≡◌, ℕ, ◌-◌, ◌≤◌, List, drop, sym, ap, ◌∙◌}
 use Rattle.one_rule.specs.Run.{InputsByCycle}
 use Rattle.one_rule.specs.Stimulus.{InputVectors, inputs_of}
@@ -7,18 +7,18 @@ use Rattle.circuit_eval.specs.Circuits.{input_widths}
 use Rattle.circuit_eval.specs.Run.{run_of}
 use Rattle.circuit_eval.specs.Simulations.{Simulation, after_steps, beginning, rows_from}
 use Rattle.circuit_eval.specs.declared.circuit.Wires.{Wires}
-use Rattle.koika_top.specs.Engines.{StandsBehind}
+use Rattle.koika_top.specs.Engines.{StandsAfter}
 use Rattle.koika_top.proofs.CircuitRows.{rows-of-batch, steps-circuit, steps-on}
 
--- a circuit that begins stands before all cycles
-pub stands-first : (sim : Simulation) (c : Wires) (stimulus : InputVectors) → sim ≡ beginning c → stimulus.widths ≡ input_widths c.inputs → StandsBehind sim stimulus 0
+-- a circuit that begins has run no cycle
+pub stands-first : (sim : Simulation) (c : Wires) (stimulus : InputVectors) → sim ≡ beginning c → stimulus.widths ≡ input_widths c.inputs → StandsAfter sim stimulus 0
 unfolding after_steps
 stands-first sim c stimulus is widths =
     let same : sim.circuit ≡ c = ap (λ (s : Simulation). s.circuit) is in
     record { steps = is ∙ ap beginning (sym same); widths = widths ∙ ap (λ (k : Wires). input_widths k.inputs) (sym same) }
 
 -- the rows of a batch
-pub rows-in-batch : (sim : Simulation) (stimulus : InputVectors) (at to : ℕ) → StandsBehind sim stimulus at → at ≤ to
+pub rows-in-batch : (sim : Simulation) (stimulus : InputVectors) (at to : ℕ) → StandsAfter sim stimulus at → at ≤ to
     → rows_from sim (inputs_of stimulus) at to ≡ drop at (run_of sim.circuit (inputs_of stimulus) to)
 rows-in-batch sim stimulus at to stands up =
     ap (λ (s : Simulation). rows_from s (inputs_of stimulus) at to) stands.steps ∙ rows-of-batch sim.circuit (inputs_of stimulus) at to up
@@ -34,8 +34,8 @@ run-kept sim new stimulus count at is =
     let all : Wires → ℕ → List Row = λ c n. run_of c (inputs_of stimulus) n in
     ap all (circuit-kept sim new (inputs_of stimulus) count at is)
 
--- and behind it the circuit stands behind its last cycle
-pub stands-next : (sim new : Simulation) (stimulus : InputVectors) (at to : ℕ) → StandsBehind sim stimulus at → at ≤ to → new ≡ after_steps (inputs_of stimulus) (to - at) at sim → StandsBehind new stimulus to
+-- and after it the circuit has run up to its last cycle
+pub stands-next : (sim new : Simulation) (stimulus : InputVectors) (at to : ℕ) → StandsAfter sim stimulus at → at ≤ to → new ≡ after_steps (inputs_of stimulus) (to - at) at sim → StandsAfter new stimulus to
 stands-next sim new stimulus at to stands up is =
     let inputs : InputsByCycle = inputs_of stimulus in
     let kept = circuit-kept sim new inputs (to - at) at is in

@@ -20,7 +20,7 @@ use Rattle.koika_check.specs.Outcomes.{Outcome, Fails, Gives}
 use Rattle.koika_check.specs.declared.checked.Checked.{Checked}
 use Rattle.koika_check.specs.declared.stop.Wrong.{Wrong}
 use Rattle.one_rule.specs.Stimulus.{InputVectors, inputs_of}
-use Rattle.typed_core.specs.declared.design.HostSpec.{HostSpec}
+use Rattle.kw_bits.specs.declared.host.HostSpec.{HostSpec}
 use Rattle.koika_top.specs.Answer.{Answers, IsAnswer, IsLikeAnswer, IsSameAnswer, has_one_text, status_of, text_of}
 use Rattle.koika_top.specs.Compile.{AnswersCompile, ShowsCircuit}
 use Rattle.koika_top.specs.Reads.{AnswersCheck, AnswersPrint, ShowsTree, TellsCounts, counts_line}
@@ -114,7 +114,7 @@ module _ (hosts : List HostSpec) (source : List ℕ) where
   same_outcome : (t u : Tree) → SpellsTree source t → SpellsTree source u → checked hosts t ≡ checked hosts u
   same_outcome t u h k = same_checked hosts t u h.derived.design k.derived.design (same_tree source t u h k)
 
-  same_design : (d e : Checked) → SpellsDesign hosts source d → SpellsDesign hosts source e → d ≡ e
+  pub same_design : (d e : Checked) → SpellsDesign hosts source d → SpellsDesign hosts source e → d ≡ e
   same_design d e h k = gives-same d e (checked hosts k.tree) (sym (same_outcome h.tree k.tree h.spelled k.spelled) ∙ h.typed) k.typed
 
   ill-short : (f : Fault) → IsIllTyped hosts source f → length source ≤ longest_source
@@ -148,7 +148,7 @@ module _ (hosts : List HostSpec) (source : List ℕ) where
   unspelled-same f g (inr a) (inl b) = absurd (typed_or_not g a.0 b a.1)
   unspelled-same f g (inr a) (inr b) = err-same f g (stimulus_in source b.0) (sym (stimulus-same a.0 b.0 a.1 b.1) ∙ a.2) b.2
 
-  spelled_or_not : (f : Fault) (d : Checked) (s : InputVectors) → IsUnspelled hosts source f → Spells hosts source d s → ⊥
+  pub spelled_or_not : (f : Fault) (d : Checked) (s : InputVectors) → IsUnspelled hosts source f → Spells hosts source d s → ⊥
   spelled_or_not f d s (inl a) h = typed_or_not f d a h.spelled
   spelled_or_not f d s (inr a) h = ok_or_err s f (stimulus_in source d) h.given (sym (stimulus-same a.0 d a.1 h.spelled) ∙ a.2)
 
@@ -160,7 +160,7 @@ module _ (hosts : List HostSpec) (source : List ℕ) where
   long_or_unspelled : (f g : Fault) → IsTooLong source f → IsUnspelled hosts source g → ⊥
   long_or_unspelled f g a b = not_both_lengths (length source) a.1 (unspelled-short g b)
 
-  long_or_spelled : (f : Fault) (d : Checked) → IsTooLong source f → SpellsDesign hosts source d → ⊥
+  pub long_or_spelled : (f : Fault) (d : Checked) → IsTooLong source f → SpellsDesign hosts source d → ⊥
   long_or_spelled f d a h = not_both_lengths (length source) a.1 h.spelled.short
 
   check-same : (a b : Answer) → AnswersCheck hosts source a → AnswersCheck hosts source b → IsSameAnswer a b
@@ -183,6 +183,11 @@ module _ (hosts : List HostSpec) (source : List ℕ) where
   -- a source that has a circuit has counts
   counted : (text : List ℕ) (h : ShowsCircuit hosts source text) → TellsCounts hosts source (counts_line (counts_of h.design))
   counted text h = record { design = h.design; stimulus = h.stimulus; spelled = h.spelled; told = refl }
+
+  -- no source both spells a design and a stimulus and is refused
+  pub spelled_or_refused : (f : Fault) (d : Checked) (s : InputVectors) → Spells hosts source d s → AnswersCompile hosts source (Refused f) → ⊥
+  spelled_or_refused f d s spelled (inl long) = long_or_spelled f d long spelled.spelled
+  spelled_or_refused f d s spelled (inr fault) = spelled_or_not f d s fault spelled
 
   compile-like : (a b : Answer) → AnswersCompile hosts source a → AnswersCompile hosts source b → IsLikeAnswer a b
   compile-like Usage b h k = absurd h

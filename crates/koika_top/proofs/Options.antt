@@ -2,8 +2,7 @@
 use Rattle.std.proofs.Common.{◌≡◌, ℕ, ◌+◌, ◌<◌, ◌≤◌, Bool, true, false, List, [], ◌∷◌, length, Option, Some, None, refl, arith, take, drop}
 use Rattle.std.specs.Prelude.{codes, if◌then◌else◌}
 use Rattle.std.specs.Str.{bytes_eq}
-use Rattle.koika_top.specs.Words.{engine_of, number_of, no_options, options_of, put_cycles, put_engine, put_named, put_number, put_summary, with_cycles, with_engine, with_summary, with_word}
-use Rattle.koika_top.specs.declared.engine_kind.EngineKind.{EngineKind}
+use Rattle.koika_top.specs.Words.{asked_for, engine_of, given_once, number_of, no_options, options_of, with_cycles, with_engine, with_summary, with_word}
 use Rattle.koika_top.specs.declared.shown.Shown.{Shown}
 use Rattle.koika_top.specs.declared.shown.Shown.TheVariants.{Report, Summary}
 use Rattle.koika_top.specs.declared.words.Options.{Options}
@@ -33,38 +32,29 @@ abbrev pub Takes : ℕ → Option Options → Type 0
 Takes n None = Unit {0}
 Takes n (Some o) = n ≤ words_of o
 
-module _ (c : Option ℕ) (e : Option EngineKind) (s : Shown) (m : ℕ) (h : m ≤ value_words c + value_words e + shown_words s) where
-  put_cycles-takes : (c' : Option ℕ) (n : ℕ) → c ≡ c' → Takes (m + 2) (put_cycles c' n (record { cycles = c; engine = e; shown = s }))
-  put_cycles-takes None n is = let few : m ≤ 0 + value_words e + shown_words s = rw is at h in omega (arith, few)
-  put_cycles-takes (Some k) n is = tt
-
-  put_number-takes : (number : Option ℕ) → Takes (m + 2) (put_number number (record { cycles = c; engine = e; shown = s }))
-  put_number-takes None = tt
-  put_number-takes (Some n) = put_cycles-takes c n refl
-
-  put_engine-takes : (e' : Option EngineKind) (kind : EngineKind) → e ≡ e' → Takes (m + 2) (put_engine e' kind (record { cycles = c; engine = e; shown = s }))
-  put_engine-takes None kind is = let few : m ≤ value_words c + 0 + shown_words s = rw is at h in omega (arith, few)
-  put_engine-takes (Some k) kind is = tt
-
-  put_named-takes : (kind : Option EngineKind) → Takes (m + 2) (put_named kind (record { cycles = c; engine = e; shown = s }))
-  put_named-takes None = tt
-  put_named-takes (Some kind) = put_engine-takes e kind refl
-
-  put_summary-takes : (s' : Shown) → s ≡ s' → Takes (m + 1) (put_summary s' (record { cycles = c; engine = e; shown = s }))
-  put_summary-takes Report is = let few : m ≤ value_words c + value_words e + 0 = rw is at h in omega (arith, few)
-  put_summary-takes Summary is = tt
+-- a value that is given once is one more
+once-takes : {X : Type 0} (earlier : Option X) (put : X → Options) (value : Option X) (n : ℕ) → ((v : X) → earlier ≡ None → n ≤ words_of (put v)) → Takes n (given_once earlier put value)
+once-takes None put None n f = tt
+once-takes None put (Some v) n f = f v refl
+once-takes (Some x) put value n f = tt
 
 with_cycles-takes : (word : List ℕ) (others : Option Options) (m : ℕ) → Takes m others → Takes (m + 2) (with_cycles word others)
 with_cycles-takes word None m h = tt
-with_cycles-takes word (Some o) m h = put_number-takes o.cycles o.engine o.shown m h (number_of word)
+with_cycles-takes word (Some o) m h =
+    once-takes o.cycles _ (number_of word) (m + 2) (λ n none. let few : m ≤ 0 + value_words o.engine + shown_words o.shown = rw none at h in omega (arith, few))
 
 with_engine-takes : (word : List ℕ) (others : Option Options) (m : ℕ) → Takes m others → Takes (m + 2) (with_engine word others)
 with_engine-takes word None m h = tt
-with_engine-takes word (Some o) m h = put_named-takes o.cycles o.engine o.shown m h (engine_of word)
+with_engine-takes word (Some o) m h =
+    once-takes o.engine _ (engine_of word) (m + 2) (λ kind none. let few : m ≤ value_words o.cycles + 0 + shown_words o.shown = rw none at h in omega (arith, few))
 
 with_summary-takes : (others : Option Options) (m : ℕ) → Takes m others → Takes (m + 1) (with_summary others)
 with_summary-takes None m h = tt
-with_summary-takes (Some o) m h = put_summary-takes o.cycles o.engine o.shown m h o.shown refl
+with_summary-takes (Some o) m h = of o.shown refl
+  where
+    of : (s : Shown) → o.shown ≡ s → Takes (m + 1) (given_once (asked_for s) (λ shown. record o { shown = shown }) (Some Summary))
+    of Report is = let few : m ≤ value_words o.cycles + value_words o.engine + 0 = rw is at h in omega (arith, few)
+    of Summary is = tt
 
 fewer : (others : Option Options) (m n : ℕ) → n ≤ m → Takes m others → Takes n others
 fewer None m n h t = tt

@@ -20,7 +20,7 @@ use Rattle.clap.specs.declared.builder.value_parser.Reading.{Reading}
 use Rattle.clap.specs.Takes.{is_given, settle_passes, takes, turn_passes, walk_passes}
 use Rattle.clap.proofs.OnLiterals.{clap_on_literals}
 use Rattle.koika_top.specs.Given.{Give, bare, cycles_rule, engine_rule, flag_of, gen_app, number_in, run_app, stages_rule, summary_rule}
-use Rattle.koika_top.specs.Words.{engine_of, gen_by, gen_of, no_options, number_of, options_of, put_cycles, put_engine, put_named, put_number, put_summary, sim_by, sim_of, value_of, with_cycles, with_engine, with_summary, with_word}
+use Rattle.koika_top.specs.Words.{asked_for, engine_of, gen_by, gen_of, given_once, no_options, number_of, options_of, sim_by, sim_of, value_of, with_cycles, with_engine, with_summary, with_word}
 use Rattle.koika_top.specs.declared.engine_kind.EngineKind.{EngineKind}
 use Rattle.koika_top.specs.declared.engine_kind.EngineKind.TheVariants.{Plain, Circuit}
 use Rattle.koika_top.specs.declared.shown.Shown.{Shown}
@@ -90,27 +90,11 @@ Gives (next key v ∷ steps) o = (rest : Options) × Gives steps rest × Puts ke
 Gives (equals key v ∷ steps) o = (rest : Options) × Gives steps rest × Puts key v rest o
 Gives (summary ∷ steps) o = (rest : Options) × Gives steps rest × IsShown rest o
 
-module _ (v : Text) (c : Option ℕ) (e : Option EngineKind) (s : Shown) (o : Options) where
-  abbrev mine : Options
-  mine = record { cycles = c; engine = e; shown = s }
-
-  puts_cycles : (n : ℕ) → number_of v ≡ Some n → (c' : Option ℕ) → c ≡ c' → put_cycles c' n mine ≡ Some o → PutsCycles v mine o
-  puts_cycles n number None none e =
-      let is = sym (some_is _ o e) in
-      record { n = n; number = number; fresh = none; cycles = ap (λ (p : Options). p.cycles) is; engine = ap (λ (p : Options). p.engine) is; shown = ap (λ (p : Options). p.shown) is }
-  puts_cycles n number (Some m) none e = absurd (none-some o e)
-
-  puts_engine : (kind : EngineKind) → engine_of v ≡ Some kind → (e' : Option EngineKind) → e ≡ e' → put_engine e' kind mine ≡ Some o → PutsEngine v mine o
-  puts_engine kind named None none put =
-      let is = sym (some_is _ o put) in
-      record { kind = kind; named = named; fresh = none; cycles = ap (λ (p : Options). p.cycles) is; engine = ap (λ (p : Options). p.engine) is; shown = ap (λ (p : Options). p.shown) is }
-  puts_engine kind named (Some k) none put = absurd (none-some o put)
-
-  puts_summary : (s' : Shown) → s ≡ s' → put_summary s' mine ≡ Some o → IsShown mine o
-  puts_summary Report fresh put =
-      let is = sym (some_is _ o put) in
-      record { fresh = fresh; cycles = ap (λ (p : Options). p.cycles) is; engine = ap (λ (p : Options). p.engine) is; shown = ap (λ (p : Options). p.shown) is }
-  puts_summary Summary fresh put = absurd (none-some o put)
+-- a value that was given once
+once-is : {X : Type 0} (earlier : Option X) (put : X → Options) (value : Option X) (o : Options) → given_once earlier put value ≡ Some o → (v : X) × (earlier ≡ None) × (value ≡ Some v) × (put v ≡ o)
+once-is None put None o e = absurd (none-some o e)
+once-is None put (Some v) o e = (v, refl, refl, some_is _ o e)
+once-is (Some x) put value o e = absurd (none-some o e)
 
 -- options with one more, if they are valid
 abbrev with_key : Key → Text → Option Options → Option Options
@@ -119,21 +103,40 @@ with_key of_engine v others = with_engine v others
 
 with_key-is : (key : Key) (v : Text) (others : Option Options) (o : Options) → with_key key v others ≡ Some o → (rest : Options) × (others ≡ Some rest) × Puts key v rest o
 with_key-is of_cycles v None o e = absurd (none-some o e)
-with_key-is of_cycles v (Some rest) o e = (rest, refl, go (number_of v) refl e)
-  where
-    go : (m : Option ℕ) → number_of v ≡ m → put_number m rest ≡ Some o → PutsCycles v rest o
-    go None is e = absurd (none-some o e)
-    go (Some n) is e = puts_cycles v rest.cycles rest.engine rest.shown o n is rest.cycles refl e
+with_key-is of_cycles v (Some rest) o e =
+    let found = once-is rest.cycles (λ n. record rest { cycles = Some n }) (number_of v) o e in
+    let put = sym found.3 in (
+      rest,
+      refl,
+      record { n = found.0; number = found.2; fresh = found.1; cycles = ap (λ (p : Options). p.cycles) put; engine = ap (λ (p : Options). p.engine) put; shown = ap (λ (p : Options). p.shown) put },
+    )
 with_key-is of_engine v None o e = absurd (none-some o e)
-with_key-is of_engine v (Some rest) o e = (rest, refl, go (engine_of v) refl e)
-  where
-    go : (m : Option EngineKind) → engine_of v ≡ m → put_named m rest ≡ Some o → PutsEngine v rest o
-    go None is e = absurd (none-some o e)
-    go (Some kind) is e = puts_engine v rest.cycles rest.engine rest.shown o kind is rest.engine refl e
+with_key-is of_engine v (Some rest) o e =
+    let found = once-is rest.engine (λ kind. record rest { engine = Some kind }) (engine_of v) o e in
+    let put = sym found.3 in (
+      rest,
+      refl,
+      record { kind = found.0; named = found.2; fresh = found.1; cycles = ap (λ (p : Options). p.cycles) put; engine = ap (λ (p : Options). p.engine) put; shown = ap (λ (p : Options). p.shown) put },
+    )
+
+asked-none : (s : Shown) → asked_for s ≡ None → s ≡ Report
+asked-none Report e = refl
+asked-none Summary e = absurd cc
 
 with_summary-is : (others : Option Options) (o : Options) → with_summary others ≡ Some o → (rest : Options) × (others ≡ Some rest) × IsShown rest o
 with_summary-is None o e = absurd (none-some o e)
-with_summary-is (Some rest) o e = (rest, refl, puts_summary [] rest.cycles rest.engine rest.shown o rest.shown refl e)
+with_summary-is (Some rest) o e =
+    let found = once-is (asked_for rest.shown) (λ shown. record rest { shown = shown }) (Some Summary) o e in
+    let put = sym found.3 in (
+      rest,
+      refl,
+      record {
+        fresh = asked-none rest.shown found.1;
+        cycles = ap (λ (p : Options). p.cycles) put;
+        engine = ap (λ (p : Options). p.engine) put;
+        shown = ap (λ (p : Options). p.shown) put ∙ sym (some_is _ _ found.2);
+      },
+    )
 
 abbrev Found : List Text → Options → Type 0
 Found words o = (steps : List Step) × (words ≡ words_of steps) × Gives steps o

@@ -19,7 +19,7 @@ use Rattle.koika_top.specs.Sources.{IsIllTyped, IsUnread, IsUnspelled, SpellsDes
 use Rattle.koika_top.specs.Steps.{Makes}
 use Rattle.koika_top.specs.Compile.{AnswersCompile, ShowsCircuit}
 use Rattle.koika_top.specs.Reads.{AnswersCheck, AnswersPrint, ShowsTree, TellsCounts}
-use Rattle.typed_core.specs.declared.design.HostSpec.{HostSpec}
+use Rattle.kw_bits.specs.declared.host.HostSpec.{HostSpec}
 use Rattle.koika_syntax.specs.Grammar.{Derives, tree_leaves}
 use Rattle.koika_syntax.specs.Tokens.{AreTokensOf}
 use Rattle.koika_syntax.specs.declared.token.Token.{Token}

@@ -1,6 +1,6 @@
 -- A result is a value or an error, and one of them.
 use Rattle.std.proofs.Common.{◌≡◌, Option, Some, None, Result, Ok, Err, sym, subst, ◌∙◌}
-use Rattle.std.specs.Prelude.{IfOk}
+use Rattle.std.specs.Prelude.{IfOk, OnOk}
 use Rattle.kw_base.specs.Fault.{IfFault, IsOkUnlessNoMemory}
 use Rattle.kw_base.specs.declared.fault.Refusal.{Refusal}
 use Rattle.kw_base.specs.declared.fault.Refusal.TheVariants as refusals
@@ -34,3 +34,8 @@ value-is {X} r P x h is = subst (λ (read : Result X Refusal). IsOkUnlessNoMemor
 pub both-ok : {X E : Type 0} (r : Result X E) (P Q R : X → Type 0) → ((x : X) → P x → Q x → R x) → IfOk r P → IfOk r Q → IfOk r R
 both-ok (Ok x) P Q R f h k = f x h k
 both-ok (Err e) P Q R f h k = tt
+
+-- what holds holds where there is a value
+pub on-ok-any : {E : Type 0} (r : Result (Unit {0}) E) (P : Type 0) → P → OnOk r P
+on-ok-any (Ok u) P p = p
+on-ok-any (Err e) P p = tt

@@ -6,7 +6,7 @@ use Rattle.std.specs.Str.{bytes_eq}
 use Rattle.std.proofs.lemmas.List.Elements.{recursion_from_All}
 use Rattle.kw_base.specs.declared.fault_number.TheConstants.{TOO_MANY_REGISTERS, TOO_MANY_RULES, TOO_MANY_INPUTS, TOO_MANY_NODES}
 use Rattle.typed_core.specs.declared.limits.TheConstants.{MAX_REGISTERS, MAX_RULES, MAX_INPUTS, MAX_NODES}
-use Rattle.typed_core.specs.declared.design.HostSpec.{HostSpec}
+use Rattle.kw_bits.specs.declared.host.HostSpec.{HostSpec}
 use Rattle.koika_syntax.specs.Grammar.{IsBlock, IsDeclaration, IsDesign}
 use Rattle.koika_syntax.specs.Tree.{Terminal}
 use Rattle.koika_syntax.specs.declared.tree.Block.{Block}

@@ -8,11 +8,11 @@ use Rattle.koika_syntax.specs.declared.tree.Tree.{Tree}
 use Rattle.koika_print.specs.Printed.{blank_after, printed, written}
 
 -- the text of what the grammar sees of tokens
-terminals_text : List Terminal → List ℕ
+unfoldable pub terminals_text : List Terminal → List ℕ
 terminals_text [] = []
 terminals_text (t ∷ ts) = (written t ++ blank_after t ∷ []) ++ terminals_text ts
 
-printed-of : (text : List ℕ) (leaves : List Leaf) (tokens : List Token) → AllZip (IsLeafAt text) leaves tokens → printed leaves ≡ terminals_text (map (terminal_of text) tokens)
+pub printed-of : (text : List ℕ) (leaves : List Leaf) (tokens : List Token) → AllZip (IsLeafAt text) leaves tokens → printed leaves ≡ terminals_text (map (terminal_of text) tokens)
 unfolding terminals_text
 printed-of text [] [] each = refl
 printed-of text [] (token ∷ tokens) each = absurd each

@@ -26,7 +26,7 @@ abbrev named : List ℕ → ℕ → NameWidth
 named name width = record { name = name; width = width }
 
 -- what agrees in names and in widths agrees in both
-both-agree : {A B : Type 0} (f : A → List ℕ) (g : A → ℕ) (f' : B → List ℕ) (g' : B → ℕ) (xs : List A) (ys : List B) → map f xs ≡ map f' ys → map g xs ≡ map g' ys
+pub both-agree : {A B : Type 0} (f : A → List ℕ) (g : A → ℕ) (f' : B → List ℕ) (g' : B → ℕ) (xs : List A) (ys : List B) → map f xs ≡ map f' ys → map g xs ≡ map g' ys
     → map (λ x. named (f x) (g x)) xs ≡ map (λ y. named (f' y) (g' y)) ys
 both-agree f g f' g' [] [] names widths = refl
 both-agree f g f' g' [] (y ∷ ys) names widths = absurd cc

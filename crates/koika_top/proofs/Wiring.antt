@@ -13,7 +13,6 @@ use Rattle.typed_core.specs.declared.design.RegDecl.{RegDecl}
 use Rattle.one_rule.specs.Stimulus.{InputVectors, inputs_of}
 use Rattle.one_rule.specs.declared.rows.Row.{Row}
 use Rattle.circuit_eval.specs.Circuits as circuit
-use Rattle.circuit_eval.specs.Tidy.{IsTidy}
 use Rattle.circuit_eval.specs.declared.circuit.InputWire.{InputWire}
 use Rattle.circuit_eval.specs.declared.circuit.OutputWire.{OutputWire}
 use Rattle.circuit_eval.specs.declared.circuit.StateWire.{StateWire}
@@ -25,10 +24,11 @@ use Rattle.btor2_text.specs.declared.line.Line.{Line}
 use Rattle.btor2_model.specs.Acceptance.{IsAccepted}
 use Rattle.btor2_model.specs.Rules.{is_bad, is_output}
 use Rattle.btor2_model.specs.Run as text
+use Rattle.btor2_net.specs.Layout.{AreLaidOut}
 use Rattle.btor2_net.specs.Pages.{lines_of}
 use Rattle.btor2_net.specs.TidyLines.{AreTidy}
 use Rattle.btor2_net.specs.Translations as translation
-use Rattle.btor2_net.specs.Translations.{AreCounted, HasLines, HasTokens, name_of, output_widths}
+use Rattle.btor2_net.specs.Translations.{HasLines, HasTokens, name_of, output_widths}
 use Rattle.koika_assert.specs.Bads.{HasSameParts, RunsAlike, ShowsMarks, flag_lines, is_violated, with_bads}
 use Rattle.stim_report.specs.Summary.{has_fired}
 use Rattle.koika_check.specs.Typing.{IsTypedDesign}
@@ -37,7 +37,7 @@ use Rattle.koika_check.specs.declared.checked.Input.{Input}
 use Rattle.koika_check.specs.declared.checked.Register.{Register}
 use Rattle.koika_check.specs.declared.checked.Rule.{Rule}
 use Rattle.koika_lower.specs.Lowering.{IsLowered, input_of, register_of}
-use Rattle.koika_top.specs.Compile.{AreCircuitOf, HasPartsOf, IsStimulusFor, RunsAs, input_widths}
+use Rattle.koika_top.specs.Compile.{AreCircuitOf, HasPartsOf, IsStimulusFor}
 use Rattle.koika_top.specs.PlainNames.{HasPlainNames}
 use Rattle.koika_top.specs.Sim.{marks_of}
 use Rattle.koika_top.specs.Sources as sources
@@ -45,7 +45,7 @@ use Rattle.koika_top.specs.Systems as typed
 use Rattle.koika_top.specs.Wired.{IsWiredAs}
 use Rattle.koika_top.proofs.BadLines.{bads-have-names, flags-all, row-of-run, with-bads-numbered}
 use Rattle.koika_top.proofs.CircuitLines.{AreNumbered, HasSymbol, lines-numbered, no-bads, numbered-anew, outputs-named}
-use Rattle.koika_top.proofs.Lowered.{inputs-wide, registers-wide, run-same, twice}
+use Rattle.koika_top.proofs.LoweredRuns.{inputs-wide, registers-wide, run-same, twice}
 
 abbrev one : {Z : Type 0} → Z → ℕ
 one z = 1
@@ -157,12 +157,11 @@ module _ (d : Checked) (c : Wires) (is : IsWiredAs d c) (lines : List Line) (are
     }
 
     -- the lines with the bad ones behind them are the design's circuit
-    pub are-circuit : IsAccepted all → AreCounted all → circuit.IsCircuit c → IsTidy c → AreTidy all → AreCircuitOf d all
-    are-circuit accepted ids stands tidy tidy_lines = record {
+    pub are-circuit : IsAccepted all → AreLaidOut all → AreTidy all → AreCircuitOf d all
+    are-circuit accepted layout tidy = record {
       accepted = accepted;
-      ids = ids;
-      layout = record { wires = c; circuit = stands; tidy = tidy; lines_are = marked ∙ ap (λ (ls : List Line). with_bads ls d.asserts) are };
-      tidy = tidy_lines;
+      layout = layout;
+      tidy = tidy;
       parts = has-parts;
       run = λ stimulus n fits. alike (inputs_of stimulus) n ∙ lines-run stimulus n fits;
       violated = violated;

@@ -1,9 +1,8 @@
--- What the program answers to the words of its command line and to the bytes of its source, and the text of an answer. A
--- command's own answers stand in the file of its name; later commands are further cases of these definitions.
+-- What the program answers to the words of its command line and to the bytes of its source, and the text of an
+-- answer. A command's own answers are in the file of its name; later commands are further cases of these definitions.
 use Rattle.std.specs.Prelude.{◌≡◌, ℕ, ◌⊎◌, Bool, false, true, List, [], ◌∷◌, ◌++◌, codes, MatchOption, Option, None, Some, if◌then◌else◌}
-use Rattle.std.specs.Io.KnownBytes.{Appends, Keeps}
 use Rattle.kw_base.specs.FaultLine.{line_of_fault}
-use Rattle.typed_core.specs.declared.design.HostSpec.{HostSpec}
+use Rattle.kw_bits.specs.declared.host.HostSpec.{HostSpec}
 use Rattle.koika_top.specs.Btorsim.{AnswersBtorsim, longest_circuit}
 use Rattle.koika_top.specs.Compile.{AnswersCompile}
 use Rattle.koika_top.specs.Generator.{pipeline}
@@ -66,15 +65,6 @@ status_of (Written text) = status.Done
 -- reading or writing failed, or memory ran out
 abbrev pub IsFailure : Status → Type 0
 IsFailure result = (result ≡ status.ReadFault) ⊎ ((result ≡ status.WriteFault) ⊎ (result ≡ status.NoMemory))
-
--- known bytes grow by the first bytes of a text, by all of them or fewer
-abbrev pub AppendsFront : Option (List ℕ) → Option (List ℕ) → List ℕ → Type 0
-AppendsFront old new text = (front : List ℕ) × (rest : List ℕ) × (front ++ rest ≡ text) × Appends old new front
-
--- there is such an answer, and its first bytes were written; or nothing was, since reading failed or memory ran out
-abbrev pub TellsSome : (Answer → Type 0) → Option (List ℕ) → Option (List ℕ) → Status → Type 0
-TellsSome Is old new result =
-    ((answer : Answer) × Is answer × AppendsFront old new (text_of answer)) ⊎ (Keeps old new × ((result ≡ status.ReadFault) ⊎ (result ≡ status.NoMemory)))
 
 -- whether there is one text at most that is written: a design has several circuits
 abbrev pub has_one_text : Option Command → Bool

@@ -1,5 +1,6 @@
--- What a source is that holds a circuit text, in front of its mark, and a stimulus behind it, and what is shown of the text's run.
--- Texts and runs are those of BTOR2 (Niemetz et al., CAV 2018); the order of refusals is this project's own.
+-- What a source is that holds a circuit text, in front of its mark, and a stimulus after it, and what is shown of the
+-- text's run. Texts and runs are those of BTOR2 (Niemetz et al., CAV 2018); the order of refusals is this project's
+-- own.
 use Rattle.std.specs.Prelude.{◌≡◌, ℕ, ◌<◌, ◌≤◌, ◌⊎◌, ◌==◌, Bool, true, false, List, ◌++◌, length, map, filter, Option, None, Some, Result, Ok, Err}
 use Rattle.std.specs.List.{flat_map, position_from, range_with_len}
 use Rattle.kw_base.specs.declared.fault.Fault.{Fault}
@@ -67,13 +68,14 @@ pub record HoldsText (source : List ℕ) (lines : List Line) : Type 0 where
   pub holds : HoldsLines source lines
   pub no_fault : first_fault lines ≡ None
 
--- and this is the stimulus behind it
+-- and this is the stimulus after it
 pub record HoldsRun (source : List ℕ) (lines : List Line) (stimulus : InputVectors) : Type 0 where
   pub text : HoldsText source lines
   pub given : stimulus_in source lines ≡ Ok stimulus
 
--- The fault with which a source is refused: 40 where it is too long, else that of the first line that is of no form, else that of
--- the first line that isn't accepted or of a state without `next`, else that of its stimulus, else 45 where its run is too long.
+-- The fault with which a source is refused: 40 where it is too long, else that of the first line that is of no form,
+-- else that of the first line that isn't accepted or of a state without `next`, else that of its stimulus, else 45
+-- where its run is too long.
 abbrev pub IsTooLong : List ℕ → Fault → Type 0
 IsTooLong source fault = (fault ≡ fault_of_source 40) × (longest_circuit < length source)
 
@@ -96,7 +98,7 @@ IsRefusal cycles source fault =
 
 -- ---- what is shown
 
--- the first cycle up to this one in which a bad line is violated: the cycle behind a step
+-- the first cycle up to this one in which a bad line is violated: the cycle after a step
 abbrev pub first_violated : List Line → InputsByCycle → ℕ → Line → Option ℕ
 first_violated lines inputs cycles bad = position_from (λ step. is_violated lines inputs step bad) 1 (range_with_len 0 cycles)
 
@@ -104,7 +106,7 @@ first_violated lines inputs cycles bad = position_from (λ step. is_violated lin
 abbrev pub violations : List Line → InputsByCycle → ℕ → List ℕ
 violations lines inputs cycles = flat_map (λ bad. violated_line (name_of bad) (first_violated lines inputs cycles bad)) (lines_of is_bad lines)
 
--- what is shown of a text's run for these cycles: a report or a summary, and behind it the violations
+-- what is shown of a text's run for these cycles: a report or a summary, and after it the violations
 abbrev pub shown_run : Shown → List Line → InputsByCycle → ℕ → List ℕ
 shown_run shown lines inputs cycles = rows_text shown (shape_of lines) (run_of lines inputs cycles) ++ violations lines inputs cycles
 

@@ -1,28 +1,27 @@
--- What `compile` answers to a source: a circuit text (BTOR2; Niemetz et al., CAV 2018) that is accepted and whose own run is that
--- of the source's design, for every stimulus. It is tidy, and its lines are laid out as those of a circuit; which one is left open:
--- any that is tidy and runs so.
-use Rattle.std.specs.Prelude.{◌≡◌, ℕ, ◌+◌, ◌⊎◌, List, map, Some, slice_get}
+-- What `compile` answers to a source: a circuit text (BTOR2; Niemetz et al., CAV 2018) that is accepted and whose own
+-- run is that of the source's design, for every stimulus. It is tidy and laid out; which one is left open: any that is so
+-- and runs so.
+use Rattle.std.specs.Prelude.{◌≡◌, ℕ, ◌+◌, ◌≤◌, ◌⊎◌, List, length, map, Some, slice_get}
 use Rattle.btor2_model.specs.Acceptance.{IsAccepted}
 use Rattle.btor2_model.specs.Rules.{is_bad, is_input, is_output, is_state}
 use Rattle.btor2_model.specs.Run as circuit
-use Rattle.btor2_net.specs.Pages as pages
+use Rattle.btor2_net.specs.Layout.{AreLaidOut}
 use Rattle.btor2_net.specs.TidyLines.{AreTidy}
-use Rattle.btor2_net.specs.Translations.{AreCounted, names_of, output_widths, widths_in}
+use Rattle.btor2_net.specs.Translations.{names_of, output_widths, widths_in}
 use Rattle.btor2_text.specs.Printing.{text_of}
 use Rattle.btor2_text.specs.Reading.{AreLinesOf}
 use Rattle.btor2_text.specs.declared.line.Line.{Line}
-use Rattle.circuit_eval.specs.Circuits.{IsCircuit}
-use Rattle.circuit_eval.specs.Tidy.{IsTidy}
-use Rattle.circuit_eval.specs.declared.circuit.Wires.{Wires}
-use Rattle.koika_assert.specs.Bads.{is_violated, with_bads}
+use Rattle.koika_assert.specs.Bads.{is_violated}
 use Rattle.koika_check.specs.declared.checked.Checked.{Checked}
 use Rattle.koika_check.specs.declared.checked.Input.{Input}
 use Rattle.koika_check.specs.declared.checked.Register.{Register}
 use Rattle.koika_check.specs.declared.checked.Rule.{Rule}
 use Rattle.one_rule.specs.Stimulus.{AlwaysFits, InputVectors, inputs_of}
 use Rattle.one_rule.specs.declared.rows.Row.{Row}
+use Rattle.stim_report.specs.Cuts as cuts
 use Rattle.stim_report.specs.Summary.{has_fired}
-use Rattle.typed_core.specs.declared.design.HostSpec.{HostSpec}
+use Rattle.kw_bits.specs.declared.host.HostSpec.{HostSpec}
+use Rattle.koika_top.specs.Btorsim.{longest_circuit}
 use Rattle.koika_top.specs.Sim.{marks_of}
 use Rattle.koika_top.specs.Sources.{IsTooLong, IsUnspelled, Spells, name_of}
 use Rattle.koika_top.specs.Systems as typed
@@ -37,8 +36,8 @@ pub record IsStimulusFor (d : Checked) (stimulus : InputVectors) : Type 0 where
   pub widths : stimulus.widths ≡ input_widths d
   pub fits : AlwaysFits stimulus
 
--- The text has an input for each of the design's, a state for each register, an output of one bit for each rule and a bad line for
--- each mark, in order and of the same names and widths.
+-- The text has an input for each of the design's, a state for each register, an output of one bit for each rule and a
+-- bad line for each mark, in order and of the same names and widths.
 pub record HasPartsOf (d : Checked) (lines : List Line) : Type 0 where
   pub inputs : names_of is_input lines ≡ map (λ (i : Input). i.name) d.inputs
   pub input_widths : widths_in is_input lines ≡ input_widths d
@@ -59,18 +58,10 @@ IsViolatedAs d lines = (stimulus : InputVectors) (n step : ℕ) (row : Row) → 
     → slice_get (typed.run_of d (inputs_of stimulus) n) (step + 1) ≡ Some row
     → map (is_violated lines (inputs_of stimulus) step) (circuit.lines_of is_bad lines) ≡ map (λ rule. has_fired rule row) d.asserts
 
--- the lines are those that a tidy circuit is written as, and behind them a bad line for each mark
-pub record AreLaidOut (d : Checked) (lines : List Line) : Type 0 where
-  pub wires : Wires
-  pub circuit : IsCircuit wires
-  pub tidy : IsTidy wires
-  pub lines_are : lines ≡ with_bads (pages.lines_of wires) d.asserts
-
 -- the lines are a circuit of the design
 pub record AreCircuitOf (d : Checked) (lines : List Line) : Type 0 where
   pub accepted : IsAccepted lines
-  pub ids : AreCounted lines
-  pub layout : AreLaidOut d lines
+  pub layout : AreLaidOut lines
   pub tidy : AreTidy lines
   pub parts : HasPartsOf d lines
   pub run : RunsAs d lines
@@ -91,3 +82,12 @@ abbrev pub AnswersCompile : List HostSpec → List ℕ → Answer → Type 0
 AnswersCompile hosts source Usage = ⊥
 AnswersCompile hosts source (Refused fault) = IsTooLong source fault ⊎ IsUnspelled hosts source fault
 AnswersCompile hosts source (Written text) = ShowsCircuit hosts source text
+
+-- a source of `btorsim` has the BTOR2 text of another source before its mark, that source's stimulus after it, and
+-- isn't too long
+pub record IsCompiledOf (hosts : List HostSpec) (source other : List ℕ) : Type 0 where
+  pub text : List ℕ
+  pub shows : ShowsCircuit hosts source text
+  pub front : (cuts.parts_of other).design ≡ text
+  pub stimulus : (cuts.parts_of other).stimulus ≡ (cuts.parts_of source).stimulus
+  pub short : length other ≤ longest_circuit

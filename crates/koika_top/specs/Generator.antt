@@ -1,10 +1,10 @@
--- The pipeline design of so many stages, in the form that designs are printed in: a design of any size to measure and to
--- compare engines on. Stage i is a flag v and a word d; `drain` empties the last stage, `move` i hands a word on to the
--- next one, and `fill` feeds the first.
+-- The pipeline design of that many stages, in the form that designs are printed in: a design of any size to measure
+-- and to compare engines on. Stage i is a flag v and a word d; `drain` empties the last stage, `move` i hands a word
+-- on to the next one, and `fill` feeds the first.
 use Rattle.std.specs.Prelude.{ℕ, zero, suc, ◌+◌, ◌==◌, if◌then◌else◌, List, [], ◌∷◌, ◌++◌, codes, decimal}
 use Rattle.std.specs.List.{flat_map}
 
--- what a byte of a template stands for: `#` is a stage's number, `@` that of the stage behind it, and `/` a line feed
+-- what a byte of a template stands for: `#` is a stage's number, `@` that of the stage after it, and `/` a line feed
 abbrev pub filled_byte : ℕ → ℕ → List ℕ
 filled_byte stage byte =
     if byte == 35 then decimal stage

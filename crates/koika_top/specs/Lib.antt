@@ -13,6 +13,10 @@ pub mod Engines
 pub mod Compile
 pub mod PlainNames
 pub mod Wired
+pub mod Streams
 pub mod Answer
+pub mod Calls
+pub mod Told
 pub mod Steps
 pub mod Telling
+pub mod Numbers

@@ -7,7 +7,7 @@ use Rattle.koika_check.specs.declared.checked.Checked.{Checked}
 use Rattle.koika_check.specs.declared.counts.Counts.{Counts}
 use Rattle.koika_print.specs.Printed.{printed}
 use Rattle.one_rule.specs.Stimulus.{InputVectors}
-use Rattle.typed_core.specs.declared.design.HostSpec.{HostSpec}
+use Rattle.kw_bits.specs.declared.host.HostSpec.{HostSpec}
 use Rattle.koika_top.specs.Sources.{IsTooLong, IsUnread, IsUnspelled, Spells, SpellsTree}
 use Rattle.koika_top.specs.declared.answer.Answer.{Answer}
 use Rattle.koika_top.specs.declared.answer.Answer.TheVariants.{Usage, Refused, Written}
@@ -31,7 +31,7 @@ AnswersCheck hosts source Usage = ⊥
 AnswersCheck hosts source (Refused fault) = IsTooLong source fault ⊎ IsUnspelled hosts source fault
 AnswersCheck hosts source (Written text) = TellsCounts hosts source text
 
--- the text is the source's tree, printed; nothing behind the mark is looked at
+-- the text is the source's tree, printed; nothing after the mark is looked at
 pub record ShowsTree (source text : List ℕ) : Type 0 where
   pub tree : Tree
   pub spelled : SpellsTree source tree

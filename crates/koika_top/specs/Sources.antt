@@ -1,5 +1,5 @@
--- What a source spells: the tokens in front of its line `%%` are a design, its design is well typed, and the lines behind it
--- are a stimulus for the design's inputs; and the faults with which a source is refused, in their order.
+-- What a source spells: the tokens in front of its line `%%` are a design, its design is well typed, and the lines
+-- after it are a stimulus for the design's inputs; and the faults with which a source is refused, in their order.
 use Rattle.std.specs.Prelude.{◌≡◌, ℕ, ◌<◌, ◌≤◌, ◌⊎◌, List, length, map, Result, Ok, Err}
 use Rattle.kw_base.specs.Fault.{fault_at}
 use Rattle.kw_base.specs.Place.{place_at}
@@ -23,7 +23,7 @@ use Rattle.stim_report.specs.Cuts as cuts
 use Rattle.stim_report.specs.Stimuli.{stimulus_of}
 use Rattle.stim_report.specs.declared.shape.NameWidth.{NameWidth}
 use Rattle.stim_report.specs.declared.shape.Shape.{Shape}
-use Rattle.typed_core.specs.declared.design.HostSpec.{HostSpec}
+use Rattle.kw_bits.specs.declared.host.HostSpec.{HostSpec}
 
 -- a source may have this many bytes
 abbrev pub longest_source : ℕ
@@ -68,7 +68,7 @@ shape_of d = record { inputs = map of_input d.inputs; registers = map of_registe
 abbrev pub stimulus_in : List ℕ → Checked → Result InputVectors Fault
 stimulus_in source design = let parts = cuts.parts_of source in stimulus_of (shape_of design) parts.first_line parts.stimulus
 
--- the source spells this design, and this stimulus behind it
+-- the source spells this design, and this stimulus after it
 pub record Spells (hosts : List HostSpec) (source : List ℕ) (design : Checked) (stimulus : InputVectors) : Type 0 where
   pub spelled : SpellsDesign hosts source design
   pub given : stimulus_in source design ≡ Ok stimulus

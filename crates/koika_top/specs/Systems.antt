@@ -1,5 +1,5 @@
--- The system that a typed design is: its rules, each of which does alone what its typed body does, and its scheduler. It says
--- nothing of the core or of a log.
+-- The system that a typed design is: its rules, each of which does alone what its typed body does, and its scheduler.
+-- It says nothing of the core or of a log.
 use Rattle.std.specs.Prelude.{ℕ, List, [], length, map, Option, Some, None, slice_get}
 use Rattle.kw_bits.specs.BitVector.{BitVector}
 use Rattle.koika_types.specs.Values.{packed}
@@ -30,6 +30,6 @@ system_of d =
 abbrev pub first_values : Checked → List BitVector
 first_values d = map (λ (r : Register). packed r.first) d.registers
 
--- the run of a typed design for so many cycles, from its first values
+-- the run of a typed design for that many cycles, from its first values
 abbrev pub run_of : Checked → InputsByCycle → ℕ → List Row
 run_of d inputs cycles = run (system_of d) inputs (first_values d) 0 cycles

@@ -31,45 +31,31 @@ engine_of word = if bytes_eq word (codes "plain") then Some Plain else if bytes_
 abbrev pub no_options : Options
 no_options = record { cycles = None; engine = None; shown = Report }
 
--- options with a number of cycles, which isn't given yet
-abbrev pub put_cycles : Option ℕ → ℕ → Options → Option Options
-put_cycles None n options = Some (record options { cycles = Some n })
-put_cycles (Some m) n options = None
-
--- the same, where the value is a number
-abbrev pub put_number : Option ℕ → Options → Option Options
-put_number None options = None
-put_number (Some n) options = put_cycles options.cycles n options
+-- options with a value that is given once, and is valid: there is no earlier one, and there is this one
+abbrev pub given_once : {X : Type 0} → Option X → (X → Options) → Option X → Option Options
+given_once None put None = None
+given_once None put (Some value) = Some (put value)
+given_once (Some earlier) put value = None
 
 -- options, if they are valid, with a value of `--cycles`
 abbrev pub with_cycles : List ℕ → Option Options → Option Options
 with_cycles word None = None
-with_cycles word (Some options) = put_number (number_of word) options
-
--- options with an engine, which isn't given yet
-abbrev pub put_engine : Option EngineKind → EngineKind → Options → Option Options
-put_engine None kind options = Some (record options { engine = Some kind })
-put_engine (Some other) kind options = None
-
--- the same, where the value names one
-abbrev pub put_named : Option EngineKind → Options → Option Options
-put_named None options = None
-put_named (Some kind) options = put_engine options.engine kind options
+with_cycles word (Some options) = given_once options.cycles (λ n. record options { cycles = Some n }) (number_of word)
 
 -- options, if they are valid, with a value of `--engine`
 abbrev pub with_engine : List ℕ → Option Options → Option Options
 with_engine word None = None
-with_engine word (Some options) = put_named (engine_of word) options
+with_engine word (Some options) = given_once options.engine (λ kind. record options { engine = Some kind }) (engine_of word)
 
--- options with a summary, which isn't asked for yet
-abbrev pub put_summary : Shown → Options → Option Options
-put_summary Report options = Some (record options { shown = Summary })
-put_summary Summary options = None
+-- a report is shown where nothing is asked for
+abbrev pub asked_for : Shown → Option Shown
+asked_for Report = None
+asked_for Summary = Some Summary
 
--- the same, if they are valid
+-- options, if they are valid, with a summary
 abbrev pub with_summary : Option Options → Option Options
 with_summary None = None
-with_summary (Some options) = put_summary options.shown options
+with_summary (Some options) = given_once (asked_for options.shown) (λ shown. record options { shown = shown }) (Some Summary)
 
 -- the other options, if they are valid, with one that is a word of its own
 abbrev pub with_word : List ℕ → Option Options → Option Options
@@ -79,7 +65,7 @@ with_word word others =
     else if bytes_eq (take 9 word) (codes "--engine=") then with_engine (drop 9 word) others
     else None
 
--- what options ask for: each stands at most once, in any order, and a value stands behind its option or behind `=`
+-- what options ask for: each is given at most once, in any order, and a value follows its option or `=`
 abbrev pub options_of : List (List ℕ) → Option Options
 options_of [] = Some no_options
 options_of (word ∷ []) = with_word word (Some no_options)

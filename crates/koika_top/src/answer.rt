@@ -1,15 +1,16 @@
-ghost use Rattle.std.specs.Prelude.{◌≡◌, ◌≢◌, ◌⊎◌, ◌≤◌, OnOk, OnErr};
-ghost use Rattle.std.specs.Io.KnownBytes.{Appends};
-ghost use Rattle.kw_io.specs.Faults.{Rose};
-ghost use Rattle.kw_base.specs.FaultLine.{line_of_fault};
-ghost use Rattle.kw_base.specs.declared.fault.Fault.{Fault as FaultRecord};
-ghost use Rattle.koika_top.specs.Answer.{AppendsFront, status_of, text_of};
-ghost use Rattle.koika_top.specs.Steps.{TellsMade, TellsOne};
+//! Answers: what the program answers, and the calls that write a text to a sink.
+
+ghost use Rattle.std.specs.Prelude.{◌≡◌};
+ghost use Rattle.koika_top.specs.Answer.{status_of, text_of};
+ghost use Rattle.koika_top.specs.Steps.{IsMade, Says};
+ghost use Rattle.koika_top.specs.Streams.{stream};
+ghost use Rattle.koika_top.specs.Told.{Tells, TellsOne, Told};
 
 use crate::status::Status;
+use crate::untold::{Untold, status_by};
 use kw_base::{Fault, Refusal, fault_line};
-use kw_bits::{NoMemory, Text};
-use kw_io::{Sink, WriteFault, write_all};
+use kw_bits::Text;
+use kw_io::{Sink, write_all};
 use std::alloc::Global;
 
 // How to call the program.
@@ -37,6 +38,20 @@ impl Answer {
             Answer::Written(_) => Status::Done,
         }
     }
+
+    // Writes the text of the answer.
+    fn write<K: Sink>(&self, alloc: Global, sink: &mut K) -> Result<(), Untold>
+        ensures { Told (text_of self.now) (stream K.written K.faults sink.old sink.new) result }
+    {
+        match self {
+            Answer::Usage => write_text(sink, USAGE_LINE),
+            Answer::Refused(fault) => {
+                let line = fault_line(alloc, *fault)?;
+                write_text(sink, line.as_slice())
+            }
+            Answer::Written(text) => write_text(sink, text.as_slice()),
+        }
+    }
 }
 
 /// Writes a text, or the line of the fault that it has in its place.
@@ -45,56 +60,37 @@ pub(crate) fn write_made<K: Sink>(
     made: Result<Text, Refusal>,
     sink: &mut K,
 ) -> Status
-    ensures tells { TellsMade made (K.written sink.old) (K.written sink.new) result }
-    ensures refused_line { result ≡ Status.Refused → (fault : FaultRecord)
-        × Appends (K.written sink.old) (K.written sink.new) (line_of_fault fault) }
-    ensures kinds { (result ≢ Status.Usage) × (result ≢ Status.ReadFault) }
-    ensures cause { result ≡ Status.WriteFault → Rose (K.faults sink.old) (K.faults sink.new) }
+    ensures { Tells (IsMade made) (stream K.written K.faults sink.old sink.new) result }
 {
     match made {
         Ok(text) => write_answer(alloc, &Answer::Written(text), sink),
-        Err(Refusal::Fault(fault)) => write_answer(alloc, &Answer::Refused(fault), sink),
-        Err(Refusal::NoMemory) => Status::NoMemory,
+        Err(refusal) => write_refusal(alloc, refusal, sink),
     }
 }
 
-/// Writes the text that tells an answer.
+/// Writes the line of a fault.
+pub(crate) fn write_refusal<K: Sink>(alloc: Global, refusal: Refusal, sink: &mut K) -> Status
+    ensures { Tells (Says refusal) (stream K.written K.faults sink.old sink.new) result }
+{
+    match refusal {
+        Refusal::Fault(fault) => write_answer(alloc, &Answer::Refused(fault), sink),
+        Refusal::NoMemory => Status::NoMemory,
+    }
+}
+
+/// Writes the text of an answer.
 pub(crate) fn write_answer<K: Sink>(alloc: Global, answer: &Answer, sink: &mut K) -> Status
-    ensures cause { result ≡ Status.WriteFault → Rose (K.faults sink.old) (K.faults sink.new) }
-    ensures reads_nothing { result ≢ Status.ReadFault }
-    ensures tells { TellsOne answer.now (K.written sink.old) (K.written sink.new) result }
+    ensures { TellsOne answer.now (stream K.written K.faults sink.old sink.new) result }
 {
-    write_text_of(alloc, answer, sink)
-}
-
-// The same, clause by clause.
-fn write_text_of<K: Sink>(alloc: Global, answer: &Answer, sink: &mut K) -> Status
-    ensures cause { result ≡ Status.WriteFault → Rose (K.faults sink.old) (K.faults sink.new) }
-    ensures reads_nothing { result ≢ Status.ReadFault }
-    ensures status { (result ≡ status_of answer.now) ⊎ ((result ≡ Status.WriteFault) ⊎ (result ≡ Status.NoMemory)) }
-    ensures all { result ≡ status_of answer.now → Appends (K.written sink.old) (K.written sink.new) (text_of answer.now) }
-    ensures front { AppendsFront (K.written sink.old) (K.written sink.new) (text_of answer.now) }
-{
-    let written = match answer {
-        Answer::Usage => write_text(sink, USAGE_LINE),
-        Answer::Refused(fault) => match fault_line(alloc, *fault) {
-            Ok(line) => write_text(sink, line.as_slice()),
-            Err(NoMemory) => return Status::NoMemory,
-        },
-        Answer::Written(text) => write_text(sink, text.as_slice()),
-    };
-    match written {
-        Ok(()) => answer.status(),
-        Err(_) => Status::WriteFault,
-    }
+    status_by(answer.write(alloc, sink), answer.status())
 }
 
 /// Writes a text, or its first bytes where a write fails.
-pub(crate) fn write_text<K: Sink>(sink: &mut K, text: &[u8]) -> Result<(), WriteFault>
-    ensures all { OnOk result (Appends (K.written sink.old) (K.written sink.new) text.now) }
-    ensures front { AppendsFront (K.written sink.old) (K.written sink.new) text.now }
-    ensures cause { OnErr result (Rose (K.faults sink.old) (K.faults sink.new)) }
-    ensures never_falls { K.faults sink.old ≤ K.faults sink.new }
+pub(crate) fn write_text<K: Sink>(sink: &mut K, text: &[u8]) -> Result<(), Untold>
+    ensures { Told text.now (stream K.written K.faults sink.old sink.new) result }
 {
-    write_all(sink, text)
+    match write_all(sink, text) {
+        Ok(()) => Ok(()),
+        Err(_) => Err(Untold::WriteFault),
+    }
 }

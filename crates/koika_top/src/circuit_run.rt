@@ -1,8 +1,8 @@
-ghost use Rattle.std.specs.Prelude.{◌≡◌, ◌≤◌, ◌<◌, ◌^◌, ◌⊎◌, [], All, IfOk, IsErrOf, OnOk, List, Ok, Err, false, true, length, map};
-ghost use Rattle.std.specs.Io.KnownBytes.{Appends};
+//! Engines: the run of a BTOR2 text that `btorsim` asks for.
+
+ghost use Rattle.std.specs.Prelude.{◌≡◌, ◌≤◌, ◌<◌, ◌^◌, ◌⊎◌, [], IfOk, OnOk, List, false, true, length, map};
 ghost use Rattle.std.specs.List.{range_with_len};
 ghost use Rattle.kw_base.specs.Fault.{IfFault};
-ghost use Rattle.kw_io.specs.Faults.{Rose};
 ghost use Rattle.btor2_text.specs.declared.line.Line.{Line as LineOf};
 ghost use Rattle.circuit_eval.specs.Circuits.{input_widths};
 ghost use Rattle.circuit_eval.specs.Run as wired;
@@ -11,26 +11,25 @@ ghost use Rattle.koika_assert.specs.Violations.{watched};
 ghost use Rattle.koika_assert.specs.Violations as marked;
 ghost use Rattle.one_rule.specs.Stimulus.{inputs_of};
 ghost use Rattle.stim_report.specs.Cuts.{parts_of};
-ghost use Rattle.stim_report.specs.Shapes.{widths_of};
-ghost use Rattle.stim_report.specs.Stimuli as stimuli;
-ghost use Rattle.typed_core.specs.Valid.{IsWidth};
-ghost use Rattle.koika_top.specs.Answer.{AppendsFront};
 ghost use Rattle.koika_top.specs.Btorsim.{HasNoLines, HasNoStimulus, HasNoText, HoldsRun, HoldsText, IsRefusal, RunsTooLong, is_too_long, longest_circuit, shown_run};
 ghost use Rattle.koika_top.specs.CircuitRuns.{AreCircuitsOf, HasFewLines, ShowsBads};
 ghost use Rattle.koika_top.specs.CircuitShapes as circuits;
 ghost use Rattle.koika_top.specs.Lengths as lengths;
 ghost use Rattle.koika_top.specs.Sim.{rows_text};
 ghost use Rattle.koika_top.specs.Sources.{fault_of_source};
+ghost use Rattle.koika_top.specs.Streams.{stream};
+ghost use Rattle.koika_top.specs.Telling.{HasRows, all_told, marks_in, shown_by};
+ghost use Rattle.koika_top.specs.Told.{Told};
 
-use crate::answer::write_text;
+use crate::circuit_engine::CircuitEngine;
 use crate::circuit_shapes::circuit_shape;
-use crate::engine::{CircuitEngine, always_fits, is_valid, rows_fit};
 use crate::lengths::is_too_long;
-use crate::run::Untold;
+use crate::recall::{always_fits, has_valid_wires};
 use crate::shown::Shown;
 use crate::source::fault_of_source;
-use crate::tell::{tell, watch_rows};
+use crate::tell::tell;
 use crate::teller::Teller;
+use crate::untold::Untold;
 use btor2_model::{Btor, accept};
 use btor2_net::to_circuit;
 use btor2_text::read_lines;
@@ -41,9 +40,10 @@ use kw_bits::{NoMemory, Sequence, Text};
 use kw_io::Sink;
 use one_rule::Stimulus;
 use std::alloc::Global;
-use stim_report::{Shape, read_stimulus, source_parts};
+use stim_report::{Shape, SourceParts, read_stimulus, source_parts};
 
-/// The circuit of a circuit text that is ready to run on a stimulus, and the one that shows the violations of its bad lines.
+/// The run of a BTOR2 text that is asked for: its circuit, the one that shows the violations of its bad lines, the
+/// stimulus, for how many cycles, and what is shown of it.
 #[derive(Drop)]
 pub(crate) struct CircuitRun {
     pub(crate) circuit: Circuit,
@@ -51,97 +51,138 @@ pub(crate) struct CircuitRun {
     pub(crate) bad_names: Sequence<Text>,
     pub(crate) stimulus: Stimulus,
     pub(crate) shape: Shape,
+    pub(crate) cycles: u32,
+    pub(crate) shown: Shown,
     ghost shape_fits: { shape ≡ circuits.shape_of circuit },
     ghost stimulus_fits: { stimulus.widths ≡ input_widths circuit.inputs },
     ghost bads_fit: { stimulus.widths ≡ input_widths bads.inputs },
     ghost few_bads: { length bad_names < 2 ^ 32 },
+    ghost few_cycles: { cycles ≤ 16777216 },
 }
 
 impl CircuitRun {
-    /// The run for these cycles of the text that a source holds, or the fault with which the source is refused.
-    pub(crate) fn read(alloc: Global, cycles: u32, source: &[u8]) -> Result<CircuitRun, Refusal>
+    /// The run of the text that a source holds, or the fault with which the source is refused.
+    pub(crate) fn read(
+        alloc: Global,
+        cycles: u32,
+        shown: Shown,
+        source: &[u8],
+    ) -> Result<CircuitRun, Refusal>
         requires { length source.now ≤ longest_circuit }
         ensures run { IfOk result (λ run. (lines : List LineOf) × HoldsRun source.now lines run.stimulus
             × AreCircuitsOf lines run.circuit run.bads run.bad_names × (is_too_long cycles lines ≡ false)) }
+        ensures cycles { IfOk result (λ run. run.cycles ≡ cycles) }
+        ensures shown { IfOk result (λ run. run.shown ≡ shown) }
         ensures refused { IfFault result (IsRefusal cycles source.now) }
     {
-        let text = read_text(alloc, source)?;
-        run_of(alloc, cycles, source, &text)
+        let parts = source_parts(source);
+        let text = read_text(alloc, source, parts.design)?;
+        run_of(alloc, cycles, shown, source, parts, &text)
     }
 
-    /// Runs the circuit and writes what is shown of its rows, batch by batch, and behind them the violations.
-    pub(crate) fn write<K: Sink>(
-        &self,
-        alloc: Global,
-        cycles: u32,
-        shown: Shown,
-        sink: &mut K,
-    ) -> Result<(), Untold>
-        requires few { cycles ≤ 16777216 }
-        ensures all { (lines : List LineOf) → AreCircuitsOf lines self.now.circuit self.now.bads self.now.bad_names
-            → OnOk result (Appends (K.written sink.old) (K.written sink.new) (shown_run shown lines (inputs_of self.now.stimulus) cycles)) }
-        ensures front { (lines : List LineOf) → AreCircuitsOf lines self.now.circuit self.now.bads self.now.bad_names
-            → AppendsFront (K.written sink.old) (K.written sink.new) (shown_run shown lines (inputs_of self.now.stimulus) cycles) }
-        ensures cause { IsErrOf result Untold.WriteFault → Rose (K.faults sink.old) (K.faults sink.new) }
-        ensures never_falls { K.faults sink.old ≤ K.faults sink.new }
+    /// Runs the circuit and writes what is shown of its rows, batch by batch, and after them the violations.
+    pub(crate) fn write<K: Sink>(&self, alloc: Global, sink: &mut K) -> Result<(), Untold>
+        ensures { (lines : List LineOf) → AreCircuitsOf lines self.now.circuit self.now.bads self.now.bad_names
+            → Told (shown_run self.now.shown lines (inputs_of self.now.stimulus) self.now.cycles)
+            (stream K.written K.faults sink.old sink.new) result }
     {
         always_fits(alloc, &self.stimulus);
-        self.write_rows(alloc, cycles, shown, sink)?;
-        let violations = self.violations(alloc, cycles)?;
-        Ok(write_text(sink, violations.as_slice())?)
+        self.write_rows(alloc, sink)?;
+        self.write_violations(alloc, sink)
     }
 
     // Runs the circuit and writes what is shown of its rows.
-    fn write_rows<K: Sink>(
-        &self,
-        alloc: Global,
-        cycles: u32,
-        shown: Shown,
-        sink: &mut K,
-    ) -> Result<(), Untold>
-        requires few { cycles ≤ 16777216 }
-        ensures all { OnOk result (Appends (K.written sink.old) (K.written sink.new)
-            (rows_text shown self.now.shape (wired.run_of self.now.circuit (inputs_of self.now.stimulus) cycles))) }
-        ensures front { AppendsFront (K.written sink.old) (K.written sink.new)
-            (rows_text shown self.now.shape (wired.run_of self.now.circuit (inputs_of self.now.stimulus) cycles)) }
-        ensures cause { IsErrOf result Untold.WriteFault → Rose (K.faults sink.old) (K.faults sink.new) }
-        ensures never_falls { K.faults sink.old ≤ K.faults sink.new }
+    fn write_rows<K: Sink>(&self, alloc: Global, sink: &mut K) -> Result<(), Untold>
+        ensures { Told (rows_text self.now.shown self.now.shape
+            (wired.run_of self.now.circuit (inputs_of self.now.stimulus) self.now.cycles))
+            (stream K.written K.faults sink.old sink.new) result }
     {
-        rows_fit(alloc, &self.circuit, &self.stimulus);
         let none = Watch::new(alloc, Sequence::new(alloc), Sequence::new(alloc))?;
-        let teller = Teller::new(alloc, &self.shape, shown, none)?;
-        let mut engine = CircuitEngine::begin(alloc, &self.circuit, &self.stimulus)?;
-        tell(alloc, &mut engine, cycles, &self.shape, teller, sink)
+        let teller = Teller::new(alloc, &self.shape, Some(self.shown), none)?;
+        tell_circuit(
+            alloc,
+            &self.circuit,
+            &self.stimulus,
+            self.cycles,
+            &self.shape,
+            teller,
+            sink,
+        )
     }
 
-    // The lines of the violations of bad lines.
-    fn violations(&self, alloc: Global, cycles: u32) -> Result<Text, NoMemory>
-        requires few { cycles ≤ 16777216 }
-        ensures { IfOk result (λ text. text ≡ marked.violations self.now.bad_names (range_with_len 0 (length self.now.bad_names))
-            (wired.run_of self.now.bads (inputs_of self.now.stimulus) cycles)) }
+    // Runs the circuit that shows violations, if there are bad lines, and writes these.
+    fn write_violations<K: Sink>(&self, alloc: Global, sink: &mut K) -> Result<(), Untold>
+        ensures { Told (marked.violations self.now.bad_names (range_with_len 0 (length self.now.bad_names))
+            (wired.run_of self.now.bads (inputs_of self.now.stimulus) self.now.cycles))
+            (stream K.written K.faults sink.old sink.new) result }
     {
         if self.bad_names.is_empty() {
-            return Ok(Text::new(alloc));
+            return Ok(());
         }
+        let shape = circuit_shape(alloc, &self.bads)?;
         let watch = bad_watch(alloc, self.bad_names.as_slice())?;
-        let mut engine = CircuitEngine::begin(alloc, &self.bads, &self.stimulus)?;
-        watch_rows(alloc, &mut engine, cycles, watch)?.text()
+        let teller = Teller::new(alloc, &shape, None, watch)?;
+        tell_circuit(
+            alloc,
+            &self.bads,
+            &self.stimulus,
+            self.cycles,
+            &shape,
+            teller,
+            sink,
+        )
     }
 }
 
-// The run for these cycles of a source's text, or the fault of its stimulus or of its length.
-fn run_of(alloc: Global, cycles: u32, source: &[u8], text: &Btor) -> Result<CircuitRun, Refusal>
+// Runs a circuit for these cycles, and writes what a teller that has no rows yet tells of its rows.
+fn tell_circuit<K: Sink>(
+    alloc: Global,
+    circuit: &Circuit,
+    stimulus: &Stimulus,
+    cycles: u32,
+    shape: &Shape,
+    teller: Teller,
+    sink: &mut K,
+) -> Result<(), Untold>
+    requires few { cycles ≤ 16777216 }
+    requires widths { stimulus.now.widths ≡ input_widths circuit.now.inputs }
+    requires shape { shape.now ≡ circuits.shape_of circuit.now }
+    requires none { HasRows teller shape.now (marks_in teller) [] }
+    ensures { Told (all_told (shown_by teller) shape.now (marks_in teller)
+        (wired.run_of circuit.now (inputs_of stimulus.now) cycles))
+        (stream K.written K.faults sink.old sink.new) result }
+{
+    has_valid_wires(circuit);
+    always_fits(alloc, stimulus);
+    let mut engine = CircuitEngine::begin(alloc, circuit, stimulus)?;
+    tell(alloc, &mut engine, cycles, shape, teller, sink)
+}
+
+// The run of a source's text, or the fault of its stimulus or of its length.
+fn run_of(
+    alloc: Global,
+    cycles: u32,
+    shown: Shown,
+    source: &[u8],
+    parts: SourceParts<'_>,
+    text: &Btor,
+) -> Result<CircuitRun, Refusal>
+    requires stimulus { parts.stimulus.now ≡ (parts_of source.now).stimulus }
+    requires first_line { parts.first_line ≡ (parts_of source.now).first_line }
     requires text { HoldsText source.now text.now }
     requires few { HasFewLines text.now }
     ensures run { IfOk result (λ run. HoldsRun source.now text.now run.stimulus) }
     ensures circuits { IfOk result (λ run. AreCircuitsOf text.now run.circuit run.bads run.bad_names) }
     ensures within { OnOk result (is_too_long cycles text.now ≡ false) }
-    ensures refused { IfFault result (λ fault. HasNoStimulus source.now fault ⊎ RunsTooLong cycles source.now fault) }
+    ensures cycles { IfOk result (λ run. run.cycles ≡ cycles) }
+    ensures shown { IfOk result (λ run. run.shown ≡ shown) }
+    ensures refused { IfFault result (λ fault.
+        HasNoStimulus source.now fault ⊎ RunsTooLong cycles source.now fault) }
 {
     let circuit = to_circuit(alloc, text)?;
-    is_valid(&circuit);
+    has_valid_wires(&circuit);
     let shape = circuit_shape(alloc, &circuit)?;
-    let stimulus = stimulus_of(alloc, source, &shape)?;
+    let stimulus = read_stimulus(alloc, parts.stimulus, parts.first_line, &shape)?;
     fits(cycles, &shape)?;
     let bads = violations_of(alloc, text)?;
     let bad_names = names_of(alloc, bads.outputs.as_slice())?;
@@ -151,19 +192,9 @@ fn run_of(alloc: Global, cycles: u32, source: &[u8], text: &Btor) -> Result<Circ
         bad_names,
         stimulus,
         shape,
+        cycles,
+        shown,
     })
-}
-
-// The stimulus of a source for what has this shape.
-fn stimulus_of(alloc: Global, source: &[u8], shape: &Shape) -> Result<Stimulus, Refusal>
-    requires short { length source.now ≤ longest_circuit }
-    requires few { length shape.now.inputs < 2 ^ 32 }
-    requires widths { All IsWidth (widths_of shape.now.inputs) }
-    ensures given { IfOk result (λ stimulus. stimuli.stimulus_of shape.now (parts_of source.now).first_line (parts_of source.now).stimulus ≡ Ok stimulus) }
-    ensures refused { IfFault result (λ fault. stimuli.stimulus_of shape.now (parts_of source.now).first_line (parts_of source.now).stimulus ≡ Err fault) }
-{
-    let parts = source_parts(source);
-    read_stimulus(alloc, parts.stimulus, parts.first_line, shape)
 }
 
 // The fault of a run that is longer than runs may be.
@@ -180,14 +211,16 @@ fn fits(cycles: u32, shape: &Shape) -> Result<(), Refusal>
     Ok(())
 }
 
-// The text that a source holds, or the fault of its lines.
-fn read_text(alloc: Global, source: &[u8]) -> Result<Btor, Refusal>
-    requires { length source.now ≤ longest_circuit }
+// The text that a source holds with its design part, or the fault of its lines.
+fn read_text(alloc: Global, source: &[u8], design: &[u8]) -> Result<Btor, Refusal>
+    requires short { length source.now ≤ longest_circuit }
+    requires cut { design.now ≡ (parts_of source.now).design }
+    requires within { length design.now ≤ length source.now }
     ensures text { IfOk result (HoldsText source.now) }
     ensures few { IfOk result HasFewLines }
     ensures refused { IfFault result (λ fault. HasNoLines source.now fault ⊎ HasNoText source.now fault) }
 {
-    let lines = read_lines(alloc, source_parts(source).design)?;
+    let lines = read_lines(alloc, design)?;
     accept(alloc, lines)
 }
 
@@ -211,7 +244,7 @@ fn names_of(alloc: Global, wires: &[OutputWire]) -> Result<Sequence<Text>, NoMem
     Ok(names)
 }
 
-// A watch on as many flags as there are names.
+// A watch on that many flags, with these names.
 fn bad_watch(alloc: Global, names: &[Text]) -> Result<Watch, NoMemory>
     requires { length names.now < 2 ^ 32 }
     ensures { IfOk result (λ watch. watch ≡ watched names.now (range_with_len 0 (length names.now)) []) }

@@ -1,3 +1,5 @@
+//! Program: what reports show of a circuit.
+
 ghost use Rattle.std.specs.Prelude.{◌≡◌, ◌<◌, ◌==◌, All, IfOk, map};
 ghost use Rattle.circuit_eval.specs.Circuits.{IsOutput};
 ghost use Rattle.koika_top.specs.CircuitShapes as shapes;

@@ -1,3 +1,5 @@
+//! Program: how the run of a design is made.
+
 /// How the run of a design is made.
 #[derive(Clone, Copy, Debug, PartialEq, Eq)]
 pub enum EngineKind {

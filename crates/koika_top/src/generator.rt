@@ -1,3 +1,5 @@
+//! Program: the pipeline design of `gen`.
+
 ghost use Rattle.std.specs.Prelude.{◌≡◌, ◌≤◌, ◌<◌, ◌+◌, ◌++◌, ◌^◌, IfOk, OnOk};
 ghost use Rattle.koika_top.specs.Generator.{ascending, descending, filled, filled_byte, pipeline};
 
@@ -5,7 +7,7 @@ use itoa::Buffer;
 use kw_bits::{NoMemory, Text};
 use std::alloc::Global;
 
-// Templates, in which `#` stands for a stage's number, `@` for that of the stage behind it, and `/` for a line feed.
+// Templates, in which `#` stands for a stage's number, `@` for that of the stage after it, and `/` for a line feed.
 const STAGE_REGISTERS: &[u8] = b"reg v# : bits 1 = 1'd0 ;/reg d# : bits 32 = 32'd0 ;/";
 
 const OTHER_REGISTERS: &[u8] = b"reg total : bits 32 = 32'd0 ;/reg feed : bits 32 = 32'd0 ;/";
@@ -25,7 +27,7 @@ const SCHEDULED_MOVE: &[u8] = b"move# ;/";
 
 const SCHEDULE_END: &[u8] = b"fill ;/}/";
 
-/// The pipeline design of so many stages, as it is printed.
+/// The pipeline design of that many stages, as it is printed.
 pub(crate) fn pipeline(alloc: Global, stages: u32) -> Result<Text, NoMemory>
     requires { stages ≤ 100 }
     ensures { IfOk result (λ text. text ≡ pipeline stages) }

@@ -1,3 +1,5 @@
+//! Program: the options of valid arguments.
+
 ghost use Rattle.std.specs.Prelude.{◌≡◌, true, map, string_bytes, IfOk, is_some, Some};
 ghost use Rattle.clap.specs.Words.{app_of, found_of, kind_of, rows_of};
 ghost use Rattle.koika_top.specs.Given.{Give, bare, engine_in, number_in};

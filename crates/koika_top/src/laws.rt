@@ -1,20 +1,32 @@
 //! The laws of what the program answers. Each is proved, and computes nothing.
 
-ghost use Rattle.std.specs.Prelude.{◌≡◌, ◌⊎◌, ℕ, List, true};
-ghost use Rattle.typed_core.specs.declared.design.HostSpec.{HostSpec};
+ghost use Rattle.std.specs.Prelude.{◌≡◌, ◌≤◌, ◌⊎◌, All, ℕ, List, true};
+ghost use Rattle.kw_bits.specs.Host.{TakesWidth};
+ghost use Rattle.kw_bits.specs.declared.host.HostSpec.{HostSpec};
 ghost use Rattle.kw_base.specs.declared.fault.Fault.{Fault};
 ghost use Rattle.koika_check.specs.declared.checked.Checked.{Checked};
+ghost use Rattle.koika_print.specs.Printed.{printed};
+ghost use Rattle.koika_syntax.specs.Grammar.{Derives, tree_leaves};
+ghost use Rattle.koika_syntax.specs.Tokens.{AreTokensOf};
+ghost use Rattle.koika_syntax.specs.declared.token.Token.{Token};
+ghost use Rattle.koika_syntax.specs.declared.tree.Tree.{Tree};
 ghost use Rattle.one_rule.specs.Stimulus.{InputVectors};
 ghost use Rattle.koika_top.specs.declared.answer.Answer.{Answer};
 ghost use Rattle.koika_top.specs.declared.answer.Answer.TheVariants.{Refused};
+ghost use Rattle.koika_top.specs.declared.shown.Shown.{Shown};
 ghost use Rattle.koika_top.specs.Answer.{IsAnswer, IsLikeAnswer, IsSameAnswer, has_one_text};
-ghost use Rattle.koika_top.specs.Compile.{AnswersCompile};
+ghost use Rattle.koika_top.specs.Btorsim.{AnswersBtorsim};
+ghost use Rattle.koika_top.specs.Compile.{AnswersCompile, IsCompiledOf};
+ghost use Rattle.koika_top.specs.Generator.{pipeline};
+ghost use Rattle.koika_top.specs.Numbers.{AreFaultNumbers, AreLimits};
+ghost use Rattle.koika_top.specs.Sim.{AnswersSim};
 ghost use Rattle.koika_top.specs.Sources.{Spells};
 ghost use Rattle.koika_top.specs.Words.{command_of};
 
 /// Arguments and a source have one answer at most, where the same host functions are handed in, but for `compile`.
 pub fn one_answer()
-    ensures { (hosts : List HostSpec) (words : List (List ℕ)) (source : List ℕ) (a b : Answer) → has_one_text (command_of words) ≡ true →
+    ensures { (hosts : List HostSpec) (words : List (List ℕ)) (source : List ℕ) (a b : Answer) →
+        has_one_text (command_of words) ≡ true →
         IsAnswer hosts words source a → IsAnswer hosts words source b → IsSameAnswer a b }
 {}
 
@@ -26,7 +38,8 @@ pub fn one_status()
 
 /// Arguments and a source have an answer, but for `compile`.
 pub fn some_answer()
-    ensures { (hosts : List HostSpec) (words : List (List ℕ)) (source : List ℕ) → has_one_text (command_of words) ≡ true →
+    ensures { (hosts : List HostSpec) (words : List (List ℕ)) (source : List ℕ) →
+        has_one_text (command_of words) ≡ true →
         (answer : Answer) × IsAnswer hosts words source answer }
 {}
 
@@ -35,4 +48,32 @@ pub fn some_circuit()
     ensures { (hosts : List HostSpec) (source : List ℕ) →
         ((fault : Fault) × AnswersCompile hosts source (Refused fault))
         ⊎ ((design : Checked) × (stimulus : InputVectors) × Spells hosts source design stimulus) }
+{}
+
+/// No source both spells a design with a stimulus and is refused by `compile`.
+pub fn spelled_or_refused()
+    ensures { (hosts : List HostSpec) (source : List ℕ) (design : Checked) (stimulus : InputVectors)
+        (fault : Fault) →
+        Spells hosts source design stimulus → AnswersCompile hosts source (Refused fault) → ⊥ }
+{}
+
+/// `btorsim` answers to what `compile` writes of a source, with the source's stimulus, what `sim` answers to the
+/// source. Host functions that are offered take operands of their width, as each `HostFn` does.
+pub fn compiled_runs_the_same()
+    ensures { (hosts : List HostSpec) (source other : List ℕ) (cycles : ℕ) (shown : Shown) (answer : Answer) →
+        All (λ (host : HostSpec). TakesWidth host.kind host.in_width) hosts → IsCompiledOf hosts source other →
+        AnswersSim hosts cycles shown source answer → AnswersBtorsim cycles shown other answer }
+{}
+
+/// The text of `gen` is the printed text of each tree that derives its tokens.
+pub fn generated_as_printed()
+    ensures { (stages : ℕ) (tokens : List Token) (tree : Tree) →
+        stages ≤ 100 → AreTokensOf tokens (pipeline stages) → Derives (pipeline stages) tree tokens →
+        pipeline stages ≡ printed (tree_leaves tree) }
+{}
+
+/// Faults and limits have these numbers.
+pub fn numbers()
+    ensures faults { AreFaultNumbers }
+    ensures limits { AreLimits }
 {}

@@ -1,3 +1,5 @@
+//! Program: the limits on runs.
+
 ghost use Rattle.std.specs.Prelude.{◌≡◌, ◌<◌, ◌^◌};
 ghost use Rattle.koika_top.specs.Lengths.{is_too_long};
 
@@ -6,10 +8,10 @@ const MOST_CYCLES: u32 = 16_777_216;
 
 const MOST_VALUES: usize = 4_194_304;
 
-/// The rows of so many cycles are told together, and then given up.
+/// The rows of that many cycles are written together, and then dropped.
 pub(crate) const BATCH: u32 = 256;
 
-/// Whether a run for these cycles, of a system with so many registers and rules, is longer than runs may be.
+/// Whether a run for these cycles, of a system with that many registers and rules, is longer than runs may be.
 pub(crate) fn is_too_long(cycles: u32, registers: usize, rules: usize) -> bool
     requires registers { registers < 2 ^ 32 }
     requires rules { rules < 2 ^ 32 }

@@ -1,28 +1,29 @@
-ghost use Rattle.std.specs.Prelude.{◌≡◌, ◌≢◌, ◌⊎◌, ◌≤◌, List, ℕ, None, Some, false, true, IfSome, map, string_bytes, length};
-ghost use Rattle.std.specs.Io.KnownBytes.{Appends, IsAtEnd, Keeps};
-ghost use Rattle.kw_io.specs.Faults.{Rose};
-ghost use Rattle.koika_top.specs.Words.{command_of};
-ghost use Rattle.one_rule.specs.Externs.{host_specs};
-ghost use Rattle.koika_top.specs.Answer.{Answers, AppendsFront, IsAnswer, IsFailure, TellsSome, has_one_text, is_of_source, known_source, longest_of, reads_source, status_of, text_of, usage_line};
+//! Commands: the call of the program, and what each command does.
+
+ghost use Rattle.std.specs.Prelude.{◌≡◌, ◌≤◌, List, [], ℕ, Some, true, IfSome, map, string_bytes, length};
+ghost use Rattle.kw_bits.specs.Faults.{Rose};
+ghost use Rattle.one_rule.specs.Hosts.{host_specs};
+ghost use Rattle.koika_top.specs.Answer.{Answers, is_of_source, longest_of};
 ghost use Rattle.koika_top.specs.Btorsim.{AnswersBtorsim, longest_circuit};
+ghost use Rattle.koika_top.specs.Calls.{CompilesSpelled, CountsReadFault, CountsWriteFault, HasStatusOfAnswer, IsKept, LeavesUnread, ReadsAll, RejectsWords, WritesFaultLine, WritesFront, WritesNothing, WritesRefusal, WritesSomeFront, WritesText, WritesUsage, WritesUsageFront, call};
 ghost use Rattle.koika_top.specs.Generator.{pipeline};
 ghost use Rattle.koika_top.specs.Sim.{AnswersSim};
 ghost use Rattle.koika_top.specs.Sources.{longest_source};
-ghost use Rattle.koika_top.specs.Steps.{HasFewStages, Makes, Tells, status_by};
-ghost use Rattle.kw_base.specs.declared.fault.Fault.{Fault as FaultRecord};
-ghost use Rattle.kw_base.specs.FaultLine.{line_of_fault};
-ghost use Rattle.koika_top.specs.declared.answer.Answer.{Answer as AnyAnswer};
+ghost use Rattle.koika_top.specs.Steps.{HasFewStages, IsReply, Makes, TellsRead};
+ghost use Rattle.koika_top.specs.Streams.{stream};
+ghost use Rattle.koika_top.specs.Told.{Tells};
 
-use crate::answer::{Answer, write_answer, write_made};
+use crate::answer::{Answer, write_answer, write_made, write_refusal};
 use crate::circuit_run::CircuitRun;
 use crate::compile::compile_source;
 use crate::engine_kind::EngineKind;
 use crate::generator::pipeline;
 use crate::reads::{check_source, print_source};
-use crate::run::{Run, Untold};
+use crate::run::Run;
 use crate::shown::Shown;
 use crate::source::fault_of_source;
 use crate::status::Status;
+use crate::untold::status_by;
 use crate::words::{Command, command_of};
 use host_fn::HostFn;
 use kw_base::{Refusal, fault_number};
@@ -31,8 +32,9 @@ use kw_io::{ReadAll, Sink, Source, read_all};
 use std::alloc::Global;
 
 /// Runs the program on its arguments, without the program's own name: reads the source if the arguments ask for
-/// it, and writes the answer to the sink. The clauses on content hold where the source tells
-/// which bytes it has left, or isn't read, and the sink which were written. Designs may declare the host functions.
+/// it, and writes the answer to the sink. Designs may declare the host functions. The clauses on content hold where
+/// the bytes that the source has left, or that were written to the sink, are known; `specs/Calls.antt` has each clause
+/// in words.
 pub fn run_here<S: Source, K: Sink>(
     alloc: Global,
     words: &[String],
@@ -40,48 +42,45 @@ pub fn run_here<S: Source, K: Sink>(
     source: &mut S,
     sink: &mut K,
 ) -> Status
-    // The text that is asked for was written, and nothing else; the source was read to its end unless a pipeline was asked for.
-    ensures done { result ≡ Status.Done → IfSome (known_source (command_of (map string_bytes words.now)) (S.left source.old)) (λ bytes. (text : List ℕ)
-        × IsAnswer (host_specs hosts.now) (map string_bytes words.now) bytes (Answer.Written text)
-        × Appends (K.written sink.old) (K.written sink.new) text) }
-    ensures whole { result ≡ Status.Done → (reads_source (command_of (map string_bytes words.now)) ≡ false)
-        ⊎ IfSome (S.left source.old) (λ _. IsAtEnd (S.left source.new)) }
+    // Status 0.
+    ensures done { WritesText (call (map string_bytes words.now) (host_specs hosts.now)
+        (stream S.left S.faults source.old source.new) (stream K.written K.faults sink.old sink.new) result) }
+    ensures whole { ReadsAll (call (map string_bytes words.now) (host_specs hosts.now)
+        (stream S.left S.faults source.old source.new) (stream K.written K.faults sink.old sink.new) result) }
 
-    // The usage line, where the arguments are invalid.
-    ensures usage { result ≡ Status.Usage → (command_of (map string_bytes words.now) ≡ None)
-        × Appends (K.written sink.old) (K.written sink.new) usage_line }
-    ensures usage_only { command_of (map string_bytes words.now) ≡ None →
-        (result ≡ Status.Usage) ⊎ ((result ≡ Status.WriteFault) ⊎ (result ≡ Status.NoMemory)) }
-    ensures usage_front { command_of (map string_bytes words.now) ≡ None →
-        AppendsFront (K.written sink.old) (K.written sink.new) usage_line }
+    // Status 1.
+    ensures usage { WritesUsage (call (map string_bytes words.now) (host_specs hosts.now)
+        (stream S.left S.faults source.old source.new) (stream K.written K.faults sink.old sink.new) result) }
+    ensures usage_only { RejectsWords (call (map string_bytes words.now) (host_specs hosts.now)
+        (stream S.left S.faults source.old source.new) (stream K.written K.faults sink.old sink.new) result) }
+    ensures usage_front { WritesUsageFront (call (map string_bytes words.now) (host_specs hosts.now)
+        (stream S.left S.faults source.old source.new) (stream K.written K.faults sink.old sink.new) result) }
+    ensures unread { LeavesUnread (source.new ≡ source.old) (call (map string_bytes words.now) (host_specs hosts.now)
+        (stream S.left S.faults source.old source.new) (stream K.written K.faults sink.old sink.new) result) }
 
-    // The source isn't touched where the arguments are invalid or don't ask for it.
-    ensures unread { reads_source (command_of (map string_bytes words.now)) ≡ false → (source.new ≡ source.old) × (result ≢ Status.ReadFault) }
+    // Status 2.
+    ensures refused { WritesRefusal (call (map string_bytes words.now) (host_specs hosts.now)
+        (stream S.left S.faults source.old source.new) (stream K.written K.faults sink.old sink.new) result) }
+    ensures refused_line { WritesFaultLine (call (map string_bytes words.now) (host_specs hosts.now)
+        (stream S.left S.faults source.old source.new) (stream K.written K.faults sink.old sink.new) result) }
 
-    // The line of a fault, where the source is refused, whether the source tells its bytes or not.
-    ensures refused { result ≡ Status.Refused → IfSome (known_source (command_of (map string_bytes words.now)) (S.left source.old)) (λ bytes. (fault : FaultRecord)
-        × IsAnswer (host_specs hosts.now) (map string_bytes words.now) bytes (Answer.Refused fault)
-        × Appends (K.written sink.old) (K.written sink.new) (line_of_fault fault)) }
-    ensures refused_line { result ≡ Status.Refused → (fault : FaultRecord)
-        × Appends (K.written sink.old) (K.written sink.new) (line_of_fault fault) }
+    // Every status.
+    ensures exact { HasStatusOfAnswer (call (map string_bytes words.now) (host_specs hosts.now)
+        (stream S.left S.faults source.old source.new) (stream K.written K.faults sink.old sink.new) result) }
+    ensures compiles { CompilesSpelled (call (map string_bytes words.now) (host_specs hosts.now)
+        (stream S.left S.faults source.old source.new) (stream K.written K.faults sink.old sink.new) result) }
+    ensures front { WritesFront (call (map string_bytes words.now) (host_specs hosts.now)
+        (stream S.left S.faults source.old source.new) (stream K.written K.faults sink.old sink.new) result) }
+    ensures some { WritesSomeFront (call (map string_bytes words.now) (host_specs hosts.now)
+        (stream S.left S.faults source.old source.new) (stream K.written K.faults sink.old sink.new) result) }
 
-    // What the answer is decides the status, unless reading or writing fails or memory runs out; and what was
-    // written is the answer's text or its first bytes, where there is one text.
-    ensures exact { IfSome (known_source (command_of (map string_bytes words.now)) (S.left source.old)) (λ bytes. (answer : AnyAnswer) →
-        IsAnswer (host_specs hosts.now) (map string_bytes words.now) bytes answer → (result ≡ status_of answer) ⊎ IsFailure result) }
-    ensures front { has_one_text (command_of (map string_bytes words.now)) ≡ true → IfSome (known_source (command_of (map string_bytes words.now)) (S.left source.old)) (λ bytes. (answer : AnyAnswer) →
-        IsAnswer (host_specs hosts.now) (map string_bytes words.now) bytes answer →
-        AppendsFront (K.written sink.old) (K.written sink.new) (text_of answer)) }
-
-    // Whatever the status, there is such an answer, and its first bytes were written; or nothing was, since reading failed
-    // or memory ran out.
-    ensures some { IfSome (known_source (command_of (map string_bytes words.now)) (S.left source.old)) (λ bytes.
-        TellsSome (IsAnswer (host_specs hosts.now) (map string_bytes words.now) bytes) (K.written sink.old) (K.written sink.new) result) }
-
-    // Reading or writing failed only where the count of faults rose.
-    ensures read_fault { result ≡ Status.ReadFault → Rose (S.faults source.old) (S.faults source.new) }
-    ensures nothing_written { result ≡ Status.ReadFault → Keeps (K.written sink.old) (K.written sink.new) }
-    ensures write_fault { result ≡ Status.WriteFault → Rose (K.faults sink.old) (K.faults sink.new) }
+    // Status 3 and status 4.
+    ensures read_fault { CountsReadFault (call (map string_bytes words.now) (host_specs hosts.now)
+        (stream S.left S.faults source.old source.new) (stream K.written K.faults sink.old sink.new) result) }
+    ensures nothing_written { WritesNothing (call (map string_bytes words.now) (host_specs hosts.now)
+        (stream S.left S.faults source.old source.new) (stream K.written K.faults sink.old sink.new) result) }
+    ensures write_fault { CountsWriteFault (call (map string_bytes words.now) (host_specs hosts.now)
+        (stream S.left S.faults source.old source.new) (stream K.written K.faults sink.old sink.new) result) }
 {
     answer_words(alloc, words, hosts, source, sink)
 }
@@ -94,27 +93,18 @@ fn answer_words<S: Source, K: Sink>(
     source: &mut S,
     sink: &mut K,
 ) -> Status
-    ensures tells { IfSome (known_source (command_of (map string_bytes words.now)) (S.left source.old)) (λ bytes.
-        Tells (IsAnswer (host_specs hosts.now) (map string_bytes words.now) bytes) (K.written sink.old) (K.written sink.new) result) }
-    ensures whole { result ≡ Status.Done → (reads_source (command_of (map string_bytes words.now)) ≡ false)
-        ⊎ IfSome (S.left source.old) (λ _. IsAtEnd (S.left source.new)) }
-    ensures usage { result ≡ Status.Usage → (command_of (map string_bytes words.now) ≡ None)
-        × Appends (K.written sink.old) (K.written sink.new) usage_line }
-    ensures usage_front { command_of (map string_bytes words.now) ≡ None →
-        AppendsFront (K.written sink.old) (K.written sink.new) usage_line }
-    ensures unread { reads_source (command_of (map string_bytes words.now)) ≡ false → (source.new ≡ source.old) × (result ≢ Status.ReadFault) }
-    ensures refused_line { result ≡ Status.Refused → (fault : FaultRecord)
-        × Appends (K.written sink.old) (K.written sink.new) (line_of_fault fault) }
-    ensures read_fault { result ≡ Status.ReadFault → Rose (S.faults source.old) (S.faults source.new) }
-    ensures nothing_written { result ≡ Status.ReadFault → Keeps (K.written sink.old) (K.written sink.new) }
-    ensures write_fault { result ≡ Status.WriteFault → Rose (K.faults sink.old) (K.faults sink.new) }
+    ensures { IsKept (source.new ≡ source.old) (call (map string_bytes words.now) (host_specs hosts.now)
+        (stream S.left S.faults source.old source.new) (stream K.written K.faults sink.old sink.new) result) }
 {
     match command_of(alloc, words) {
         Ok(None) => write_answer(alloc, &Answer::Usage, sink),
-        Ok(Some(command)) if command.reads_source() => {
-            answer_source(alloc, command, hosts, source, sink)
+        Ok(Some(command)) => {
+            if command.reads_source() {
+                answer_source(alloc, command, hosts, source, sink)
+            } else {
+                answer_bytes(alloc, command, hosts, &[], sink)
+            }
         }
-        Ok(Some(command)) => answer_bytes(alloc, command, hosts, &[], sink),
         Err(NoMemory) => Status::NoMemory,
     }
 }
@@ -129,14 +119,10 @@ fn answer_source<S: Source, K: Sink>(
 ) -> Status
     requires few { HasFewStages command }
     requires reads { is_of_source command ≡ true }
-    ensures tells { IfSome (S.left source.old) (λ bytes. Tells (Answers (host_specs hosts.now) command bytes) (K.written sink.old) (K.written sink.new) result) }
-    ensures whole { result ≡ Status.Done → IfSome (S.left source.old) (λ _. IsAtEnd (S.left source.new)) }
-    ensures refused_line { result ≡ Status.Refused → (fault : FaultRecord)
-        × Appends (K.written sink.old) (K.written sink.new) (line_of_fault fault) }
-    ensures not_usage { result ≢ Status.Usage }
+    ensures tells { TellsRead IsReply (S.left source.old) (Answers (host_specs hosts.now) command)
+        (stream K.written K.faults sink.old sink.new) result }
+    ensures whole { result ≡ Status.Done → IfSome (S.left source.old) (λ _. S.left source.new ≡ Some []) }
     ensures read_fault { result ≡ Status.ReadFault → Rose (S.faults source.old) (S.faults source.new) }
-    ensures nothing_written { result ≡ Status.ReadFault → Keeps (K.written sink.old) (K.written sink.new) }
-    ensures write_fault { result ≡ Status.WriteFault → Rose (K.faults sink.old) (K.faults sink.new) }
 {
     match read_all(alloc, source, command.longest_source()) {
         Ok(bytes) => answer_bytes(alloc, command, hosts, &bytes, sink),
@@ -149,7 +135,7 @@ fn answer_source<S: Source, K: Sink>(
     }
 }
 
-// Does what the command asks for, given the bytes of the source, if it stands on one.
+// Does what the command asks for, given the bytes of the source, if its answer rests on one.
 fn answer_bytes<K: Sink>(
     alloc: Global,
     command: Command,
@@ -159,11 +145,8 @@ fn answer_bytes<K: Sink>(
 ) -> Status
     requires short { length source.now ≤ longest_of command }
     requires few { HasFewStages command }
-    ensures tells { Tells (Answers (host_specs hosts.now) command source.now) (K.written sink.old) (K.written sink.new) result }
-    ensures refused_line { result ≡ Status.Refused → (fault : FaultRecord)
-        × Appends (K.written sink.old) (K.written sink.new) (line_of_fault fault) }
-    ensures kinds { (result ≢ Status.Usage) × (result ≢ Status.ReadFault) }
-    ensures write_fault { result ≡ Status.WriteFault → Rose (K.faults sink.old) (K.faults sink.new) }
+    ensures { Tells (Answers (host_specs hosts.now) command source.now)
+        (stream K.written K.faults sink.old sink.new) result }
 {
     match command {
         Command::Check => write_made(alloc, check_source(alloc, hosts, source), sink),
@@ -179,7 +162,7 @@ fn answer_bytes<K: Sink>(
     }
 }
 
-// The pipeline design of so many stages.
+// The pipeline design of that many stages.
 fn generate(alloc: Global, stages: u32) -> Result<Text, Refusal>
     requires { stages ≤ 100 }
     ensures { Makes (λ answer. answer ≡ Answer.Written (pipeline stages)) result }
@@ -198,20 +181,16 @@ fn simulate<K: Sink>(
     sink: &mut K,
 ) -> Status
     requires { length source.now ≤ longest_source }
-    ensures tells { Tells (AnswersSim (host_specs hosts.now) cycles shown source.now) (K.written sink.old) (K.written sink.new) result }
-    ensures refused_line { result ≡ Status.Refused → (fault : FaultRecord)
-        × Appends (K.written sink.old) (K.written sink.new) (line_of_fault fault) }
-    ensures kinds { (result ≢ Status.Usage) × (result ≢ Status.ReadFault) }
-    ensures write_fault { result ≡ Status.WriteFault → Rose (K.faults sink.old) (K.faults sink.new) }
+    ensures { Tells (AnswersSim (host_specs hosts.now) cycles shown source.now)
+        (stream K.written K.faults sink.old sink.new) result }
 {
-    match Run::read(alloc, cycles, hosts, source) {
-        Ok(run) => status_of(run.write(alloc, cycles, shown, engine, sink)),
-        Err(Refusal::Fault(fault)) => write_answer(alloc, &Answer::Refused(fault), sink),
-        Err(Refusal::NoMemory) => Status::NoMemory,
+    match Run::read(alloc, cycles, shown, engine, hosts, source) {
+        Ok(run) => status_by(run.write(alloc, sink), Status::Done),
+        Err(refusal) => write_refusal(alloc, refusal, sink),
     }
 }
 
-// Runs the circuit text of a source and writes what is shown of the run, or the line of the source's fault.
+// Runs the BTOR2 text of a source and writes what is shown of the run, or the line of the source's fault.
 fn simulate_circuit<K: Sink>(
     alloc: Global,
     cycles: u32,
@@ -220,26 +199,10 @@ fn simulate_circuit<K: Sink>(
     sink: &mut K,
 ) -> Status
     requires { length source.now ≤ longest_circuit }
-    ensures tells { Tells (AnswersBtorsim cycles shown source.now) (K.written sink.old) (K.written sink.new) result }
-    ensures refused_line { result ≡ Status.Refused → (fault : FaultRecord)
-        × Appends (K.written sink.old) (K.written sink.new) (line_of_fault fault) }
-    ensures kinds { (result ≢ Status.Usage) × (result ≢ Status.ReadFault) }
-    ensures write_fault { result ≡ Status.WriteFault → Rose (K.faults sink.old) (K.faults sink.new) }
+    ensures { Tells (AnswersBtorsim cycles shown source.now) (stream K.written K.faults sink.old sink.new) result }
 {
-    match CircuitRun::read(alloc, cycles, source) {
-        Ok(run) => status_of(run.write(alloc, cycles, shown, sink)),
-        Err(Refusal::Fault(fault)) => write_answer(alloc, &Answer::Refused(fault), sink),
-        Err(Refusal::NoMemory) => Status::NoMemory,
-    }
-}
-
-// The status of a run that was told to its end, or wasn't.
-fn status_of(told: Result<(), Untold>) -> Status
-    ensures { result ≡ status_by told }
-{
-    match told {
-        Ok(()) => Status::Done,
-        Err(Untold::WriteFault) => Status::WriteFault,
-        Err(Untold::NoMemory) => Status::NoMemory,
+    match CircuitRun::read(alloc, cycles, shown, source) {
+        Ok(run) => status_by(run.write(alloc, sink), Status::Done),
+        Err(refusal) => write_refusal(alloc, refusal, sink),
     }
 }

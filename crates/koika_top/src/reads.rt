@@ -1,6 +1,8 @@
+//! Program: the commands that only read a design.
+
 ghost use Rattle.std.specs.Prelude.{◌≡◌, ◌≤◌, ◌++◌, IfOk, OnOk, decimal, length};
 ghost use Rattle.kw_base.specs.Fault.{IfFault};
-ghost use Rattle.one_rule.specs.Externs.{host_specs};
+ghost use Rattle.one_rule.specs.Hosts.{host_specs};
 ghost use Rattle.koika_top.specs.Reads as reads;
 ghost use Rattle.koika_top.specs.Reads.{ShowsTree, TellsCounts};
 ghost use Rattle.koika_top.specs.Sources.{IsUnread, IsUnspelled, longest_source};
@@ -13,8 +15,9 @@ use koika_print::print;
 use kw_base::Refusal;
 use kw_bits::{NoMemory, Text};
 use std::alloc::Global;
+use stim_report::source_parts;
 
-/// How large the design of a source is, where a stimulus for it stands behind it, or the first fault.
+/// How large the design of a source is, where a stimulus for it follows, or the first fault.
 pub(crate) fn check_source(alloc: Global, hosts: &[HostFn], source: &[u8]) -> Result<Text, Refusal>
     requires { length source.now ≤ longest_source }
     ensures text { IfOk result (TellsCounts (host_specs hosts.now) source.now) }
@@ -31,7 +34,7 @@ pub(crate) fn print_source(alloc: Global, source: &[u8]) -> Result<Text, Refusal
     ensures text { IfOk result (ShowsTree source.now) }
     ensures refused { IfFault result (IsUnread source.now) }
 {
-    let tree = read_tree(alloc, source)?;
+    let tree = read_tree(alloc, source, source_parts(source).design)?;
     let text = print(alloc, &tree)?;
     Ok(text)
 }
@@ -49,7 +52,7 @@ fn counts_line(alloc: Global, counts: Counts) -> Result<Text, NoMemory>
     Ok(text)
 }
 
-// Adds a label and a number behind it.
+// Adds a label and a number after it.
 fn push_count(text: &mut Text, label: &[u8], count: u32) -> Result<(), NoMemory>
     ensures { OnOk result (text.new ≡ text.old ++ label.now ++ decimal count) }
 {

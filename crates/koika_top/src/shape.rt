@@ -1,3 +1,5 @@
+//! Program: what reports show of a design.
+
 ghost use Rattle.std.specs.Prelude.{◌≡◌, ◌<◌, [], IfOk, length, map};
 ghost use Rattle.koika_check.specs.Typing.{IsTypedDesign};
 ghost use Rattle.koika_assert.specs.Violations.{watched};

@@ -1,3 +1,5 @@
+//! Program: what is shown of a run.
+
 /// What is shown of a run.
 #[derive(Clone, Copy, Debug, PartialEq, Eq)]
 pub enum Shown {

@@ -1,3 +1,5 @@
+//! Program: exit statuses.
+
 /// How a run of the program ends; as a number it is the program's exit status.
 #[derive(Clone, Copy, Debug, PartialEq, Eq)]
 pub enum Status {

@@ -1,3 +1,5 @@
+//! Texts of runs: what is written of each batch of rows, and after the last one.
+
 ghost use Rattle.std.specs.Prelude.{◌≡◌, ◌<◌, [], IfOk, OnOk, length};
 ghost use Rattle.koika_assert.specs.Violations.{watched};
 ghost use Rattle.koika_top.specs.Sim.{Marks};
@@ -11,14 +13,15 @@ use one_rule::Rows;
 use std::alloc::Global;
 use stim_report::{Shape, Tally, report_part};
 
-/// A report batch by batch, or a summary behind the last one.
+/// What is written of rows: a report batch by batch, a summary after the last batch, or nothing.
 #[derive(Debug, Drop)]
 pub(crate) enum Form {
     OfReport,
     OfSummary(Tally),
+    OfNothing,
 }
 
-/// What is told of a run that is made in batches, and behind the last one which marked rules fired.
+/// What is written of a run that is made in batches, and after the last one which marked rules fired.
 #[derive(Debug, Drop)]
 pub(crate) struct Teller {
     form: Form,
@@ -30,15 +33,17 @@ impl Teller {
     pub(crate) fn new(
         alloc: Global,
         shape: &Shape,
-        shown: Shown,
+        shown: Option<Shown>,
         watch: Watch,
     ) -> Result<Teller, NoMemory>
-        ensures rows { IfOk result (λ teller. (marks : Marks) → watch ≡ watched marks.names marks.rules [] → HasRows teller shape.now marks []) }
+        ensures rows { IfOk result (λ teller. (marks : Marks) →
+            watch ≡ watched marks.names marks.rules [] → HasRows teller shape.now marks []) }
         ensures shown { IfOk result (λ teller. shown_by teller ≡ shown) }
     {
         let form = match shown {
-            Shown::Report => Form::OfReport,
-            Shown::Summary => Form::OfSummary(Tally::new(alloc, shape)?),
+            Some(Shown::Report) => Form::OfReport,
+            Some(Shown::Summary) => Form::OfSummary(Tally::new(alloc, shape)?),
+            None => Form::OfNothing,
         };
         Ok(Teller { form, watch })
     }
@@ -61,7 +66,7 @@ impl Teller {
         self.form.take(alloc, shape, rows, from)
     }
 
-    /// The text that tells what is left to tell behind the last batch.
+    /// The text that tells what is left to tell after the last batch.
     pub(crate) fn ending(&self, alloc: Global) -> Result<Text, NoMemory>
         ensures { IfOk result (λ text. text ≡ ending_of self.now) }
     {
@@ -92,6 +97,7 @@ impl Form {
                 tally.add(rows, from);
                 Ok(Text::new(alloc))
             }
+            Form::OfNothing => Ok(Text::new(alloc)),
         }
     }
 
@@ -100,7 +106,7 @@ impl Form {
         ensures { IfOk result (λ text. text ≡ ending_of_form self.now) }
     {
         match self {
-            Form::OfReport => Ok(Text::new(alloc)),
+            Form::OfReport | Form::OfNothing => Ok(Text::new(alloc)),
             Form::OfSummary(tally) => tally.text(),
         }
     }

@@ -1,3 +1,5 @@
+//! Program: the arguments, and what they ask for.
+
 ghost use Rattle.std.specs.Prelude.{◌≡◌, ◌≤◌, map, string_bytes, length, All, IfOk, IfSome, IsTrue, is_some};
 ghost use Rattle.std.specs.List.{list_all};
 ghost use Rattle.std.specs.Char.{IsAsciiDigit, is_ascii_digit};
@@ -18,20 +20,20 @@ pub enum Command {
     Check,
     /// The source's design, printed.
     Print,
-    /// A run of the source's design for so many cycles.
+    /// A run of the source's design for that many cycles.
     Sim {
         cycles: u32,
         shown: Shown,
         engine: EngineKind,
     },
-    /// A run of the source's circuit text for so many cycles.
+    /// A run of the source's circuit text for that many cycles.
     Btorsim {
         cycles: u32,
         shown: Shown,
     },
     /// The circuit of the source's design.
     Compile,
-    /// The pipeline design of so many stages.
+    /// The pipeline design of that many stages.
     Gen {
         stages: u32,
     },
@@ -69,7 +71,7 @@ pub(crate) struct Options {
     pub(crate) shown: Shown,
 }
 
-// Options are at most this many words, since each stands at most once.
+// Options are at most this many words, since each is at most once.
 const MOST_WORDS: usize = 5;
 
 // A pipeline has at most this many stages.
@@ -182,7 +184,7 @@ fn are_stages(words: &[String]) -> bool
     }
 }
 
-// The pipeline of so many stages, if there is one.
+// The pipeline of that many stages, if there is one.
 fn gen_by(stages: Option<u32>) -> Option<Command>
     ensures command { result ≡ gen_by stages }
     ensures few { IfSome result HasFewStages }

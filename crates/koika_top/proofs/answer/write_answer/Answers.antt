@@ -1,4 +1,5 @@
+use Rattle.koika_top.proofs.Told.{told-one}
 use Rattle.koika_top.proofs.answer.write_answer.Goals as goal
 
-pub returns-clause-tells : goal.returns-clause-tells
-returns-clause-tells g c = record { status = c.write_text_of.ensures.status; all = c.write_text_of.ensures.all; front = c.write_text_of.ensures.front }
+pub returns : goal.returns
+returns g c = rw (c.status_by.ensures, c.status.ensures) (told-one c.args.answer.now _ c.write.result c.write.ensures)

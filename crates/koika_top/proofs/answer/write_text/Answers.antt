@@ -1,5 +1,8 @@
-use Rattle.koika_top.proofs.Statuses.{front_of_written}
+use Rattle.koika_top.proofs.Told.{told-all, told-some}
 use Rattle.koika_top.proofs.answer.write_text.Goals as goal
 
-pub returns-clause-front : goal.returns-clause-front
-returns-clause-front g c = front_of_written _ _ c.args.text.now c.write_all.result c.write_all.ensures.all c.write_all.ensures.some
+pub returns-in-Ok : goal.returns-in-Ok
+returns-in-Ok g c = told-all c.args.text.now _ _ _ _ _ c.in-Ok.ensures.all c.write_all.ensures.never_falls
+
+pub returns-in-Err : goal.returns-in-Err
+returns-in-Err g c = told-some c.args.text.now _ _ _ _ _ c.in-Err.ensures.some c.in-Err.ensures.cause c.write_all.ensures.never_falls

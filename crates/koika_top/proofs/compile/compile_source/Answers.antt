@@ -1,18 +1,17 @@
 use Rattle.std.proofs.Common.{subst}
 use Rattle.std.proofs.lemmas.Result.{err_from_is_err_and}
 use Rattle.btor2_text.specs.Reading.{AreLinesOf}
-use Rattle.one_rule.specs.Externs.{host_specs}
-use Rattle.koika_top.proofs.PlainNames.{plain-names}
+use Rattle.koika_check.specs.declared.checked.Checked.{Checked}
+use Rattle.koika_top.specs.Compile.{AreCircuitOf}
 use Rattle.koika_top.proofs.compile.compile_source.Goals as goal
 
-pub circuit_lines-requires-clause-names : goal.circuit_lines-requires-clause-names
-circuit_lines-requires-clause-names g c =
-    let design = c.in_ok-spelled.ensures.spelled.spelled in
-    plain-names (host_specs c.args.hosts.now) design.tree c.in_ok-spelled.spelled.design design.spelled.derived.design.declarations design.typed
+pub lines-requires : goal.lines-requires
+lines-requires g c = rw c.in_ok-lowered.ensures.checked c.in_ok-spelled.ensures.typed
 
 pub returns-clause-text : goal.returns-clause-text
 returns-clause-text g c =
     let lines = c.in_ok-lines in
+    let circuit = subst (λ (d : Checked). AreCircuitOf d lines.lines) c.in_ok-lowered.ensures.checked lines.ensures.circuit in
     record {
       design = c.in_ok-spelled.spelled.design;
       stimulus = c.in_ok-spelled.spelled.stimulus;
@@ -20,8 +19,13 @@ returns-clause-text g c =
       lines = lines.lines;
       read = subst (AreLinesOf c.in_ok-text.text) lines.ensures.numbers (c.in_ok-text.ensures.read_again lines.ensures.circuit.accepted.forms);
       printed = c.in_ok-text.ensures.text;
-      circuit = lines.ensures.circuit;
+      circuit = circuit;
     }
+
+pub returns-in_err-lowered-clause-refused : goal.returns-in_err-lowered-clause-refused
+returns-in_err-lowered-clause-refused g c =
+    let p = err_from_is_err_and c.from_residual-in_err-lowered.result c.from_residual-in_err-lowered.ensures.1 in
+    rw (p.1, p.2) tt
 
 pub returns-in_err-lines-clause-refused : goal.returns-in_err-lines-clause-refused
 returns-in_err-lines-clause-refused g c =

@@ -1,12 +1,26 @@
-use Rattle.std.proofs.Common.{map, string_bytes, sym, ◌∙◌}
-use Rattle.one_rule.specs.Externs.{host_specs}
-use Rattle.koika_top.specs.Answer.{Answers}
-use Rattle.koika_top.specs.Steps.{Tells}
-use Rattle.koika_top.proofs.Commands.{read-known, tells-words}
+use Rattle.std.proofs.Common.{ap, map, refl, string_bytes, sym, ◌∙◌}
+use Rattle.one_rule.specs.Hosts.{host_specs}
+use Rattle.koika_top.specs.Answer.{reads_source}
+use Rattle.koika_top.specs.declared.answer.Answer.TheVariants.{Usage}
+use Rattle.koika_top.proofs.Promises.{kept-source, kept-unread, never-read, never-read-told, tells-alone, tells-source, tells-usage}
 use Rattle.koika_top.proofs.program.answer_words.Goals as goal
 
-pub returns-in-Ok-Some-clause-tells : goal.returns-in-Ok-Some-clause-tells
-returns-in-Ok-Some-clause-tells g c =
+pub returns-in-Ok-None : goal.returns-in-Ok-None
+returns-in-Ok-None g c =
+    let asked = rw c.in-Ok-None.field-0-is at c.in-Ok-None.ensures.command in
+    kept-unread _ _ (ap reads_source (sym asked)) refl (never-read _ _ Usage c.write_answer.ensures)
+    (tells-usage (host_specs c.args.hosts.now) (map string_bytes c.args.words.now) _ _ _ asked c.write_answer.ensures)
+
+pub returns-then-reads_source : goal.returns-then-reads_source
+returns-then-reads_source g c =
     let reads = sym c.reads_source.ensures ∙ c.if-reads_source.true in
-    tells-words (host_specs c.args.hosts.now) (map string_bytes c.args.words.now) c.in-Ok-Some.command (rw c.in-Ok-Some.field-0-is at c.in-Ok-Some.ensures.command) _ _ _ _
-    (read-known c.in-Ok-Some.command _ (λ bytes. Tells (Answers (host_specs c.args.hosts.now) c.in-Ok-Some.command bytes) _ _ _) reads c.answer_source.ensures.tells)
+    let asked = rw c.in-Ok-Some.field-0-is at c.in-Ok-Some.ensures.command in
+    kept-source _ _ (ap reads_source (sym asked) ∙ reads) c.answer_source.ensures.whole c.answer_source.ensures.read_fault
+    (tells-source (host_specs c.args.hosts.now) (map string_bytes c.args.words.now) _ _ _ c.in-Ok-Some.command asked reads c.answer_source.ensures.tells)
+
+pub returns-else-reads_source : goal.returns-else-reads_source
+returns-else-reads_source g c =
+    let reads = sym c.reads_source.ensures ∙ c.if-reads_source.false in
+    let asked = rw c.in-Ok-Some.field-0-is at c.in-Ok-Some.ensures.command in
+    kept-unread _ _ (ap reads_source (sym asked) ∙ reads) refl (never-read-told _ _ _ c.answer_bytes.ensures)
+    (tells-alone (host_specs c.args.hosts.now) (map string_bytes c.args.words.now) _ _ _ c.in-Ok-Some.command asked reads c.answer_bytes.ensures)

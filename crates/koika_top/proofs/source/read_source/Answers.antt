@@ -1,6 +1,8 @@
 use Rattle.std.proofs.Common.{inr}
 use Rattle.std.proofs.lemmas.Result.{err_from_is_err_and}
-use Rattle.koika_top.proofs.Reading.{fault-of-part, stimulus-at, widths-valid}
+use Rattle.one_rule.specs.Hosts.{host_specs}
+use Rattle.koika_top.proofs.PlainNames.{plain-names}
+use Rattle.koika_top.proofs.Reading.{fault-of-part, stimulus-at, stimulus-fits, widths-valid}
 use Rattle.koika_top.proofs.source.read_source.Goals as goal
 
 pub read_stimulus-requires-clause-widths : goal.read_stimulus-requires-clause-widths
@@ -17,3 +19,11 @@ returns-in_err-stimulus-clause-refused g c =
       stimulus-at c.args.source.now c.in_ok-design.design c.in_ok-shape.shape _ _ _ c.in_ok-shape.ensures c.source_parts-parts.ensures.first_line c.source_parts-parts.ensures.stimulus h,
     ))
     c.in_err-stimulus.ensures.fault)
+
+pub invariant_of-result-clause-plain : goal.invariant_of-result-clause-plain
+invariant_of-result-clause-plain g c =
+    let design = c.in_ok-design.ensures.spelled in
+    plain-names (host_specs c.args.hosts.now) design.tree c.in_ok-design.design design.spelled.derived.design.declarations design.typed
+
+pub invariant_of-result-clause-stimulus_fits : goal.invariant_of-result-clause-stimulus_fits
+invariant_of-result-clause-stimulus_fits g c = stimulus-fits c.in_ok-design.design c.in_ok-shape.shape _ _ _ c.in_ok-shape.ensures c.in_ok-stimulus.ensures.stimulus

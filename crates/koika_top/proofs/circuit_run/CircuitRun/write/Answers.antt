@@ -1,31 +1,16 @@
-use Rattle.std.proofs.Common.{◌∙◌}
-use Rattle.koika_top.proofs.CircuitShown.{appends-both, front-of-both, front-of-rows, front-rows-alone}
+use Rattle.std.proofs.lemmas.Result.{err_from_is_err_and}
+use Rattle.koika_top.proofs.CircuitShown.{rows-cut, rows-then}
 use Rattle.koika_top.proofs.circuit_run.CircuitRun.write.Goals as goal
 
-pub returns-in_err-write_rows-clause-front : goal.returns-in_err-write_rows-clause-front
-returns-in_err-write_rows-clause-front g c lines are =
+pub returns-in_err-write_rows : goal.returns-in_err-write_rows
+returns-in_err-write_rows g c lines are =
     let run = c.args.self.now in
-    front-of-rows lines run.circuit run.bads run.bad_names are run.shape run.shape_fits run.stimulus run.stimulus_fits run.bads_fit c.always_fits.ensures c.args.shown c.args.cycles _ _ c.write_rows.ensures.front
+    let p = err_from_is_err_and c.from_residual.result c.from_residual.ensures.1 in
+    rw (p.1, p.2)
+    (rows-cut lines run.circuit run.bads run.bad_names are run.shape run.shape_fits run.stimulus run.stimulus_fits run.bads_fit c.always_fits.ensures run.shown run.cycles _ _ c.in_err-write_rows.ensures)
 
-pub returns-in_err-violations-clause-front : goal.returns-in_err-violations-clause-front
-returns-in_err-violations-clause-front g c lines are =
+pub returns : goal.returns
+returns g c lines are =
     let run = c.args.self.now in
-    front-rows-alone lines run.circuit run.bads run.bad_names are run.shape run.shape_fits run.stimulus run.stimulus_fits run.bads_fit c.always_fits.ensures c.args.shown c.args.cycles _ _ c.in_ok-write_rows.ensures.all
-
-pub returns-in_err-write_text-clause-front : goal.returns-in_err-write_text-clause-front
-returns-in_err-write_text-clause-front g c lines are =
-    let run = c.args.self.now in
-    front-of-both lines run.circuit run.bads run.bad_names are run.shape run.shape_fits run.stimulus run.stimulus_fits run.bads_fit c.always_fits.ensures c.args.shown c.args.cycles _ _ _ _
-    (c.as_slice.ensures ∙ c.in_ok-violations.ensures) c.in_ok-write_rows.ensures.all c.write_text.ensures.front
-
-pub returns-clause-front : goal.returns-clause-front
-returns-clause-front g c lines are =
-    let run = c.args.self.now in
-    front-of-both lines run.circuit run.bads run.bad_names are run.shape run.shape_fits run.stimulus run.stimulus_fits run.bads_fit c.always_fits.ensures c.args.shown c.args.cycles _ _ _ _
-    (c.as_slice.ensures ∙ c.in_ok-violations.ensures) c.in_ok-write_rows.ensures.all c.write_text.ensures.front
-
-pub returns-clause-all : goal.returns-clause-all
-returns-clause-all g c lines are =
-    let run = c.args.self.now in
-    appends-both lines run.circuit run.bads run.bad_names are run.shape run.shape_fits run.stimulus run.stimulus_fits run.bads_fit c.always_fits.ensures c.args.shown c.args.cycles _ _ _ _
-    (c.as_slice.ensures ∙ c.in_ok-violations.ensures) c.in_ok-write_rows.ensures.all c.in_ok-write_text.ensures.all
+    rows-then lines run.circuit run.bads run.bad_names are run.shape run.shape_fits run.stimulus run.stimulus_fits run.bads_fit c.always_fits.ensures run.shown run.cycles
+    _ _ _ _ _ _ _ _ c.in_ok-write_rows.ensures c.write_violations.ensures

@@ -1,6 +1,0 @@
-use Rattle.std.proofs.Common.{sym}
-use Rattle.kw_bits.proofs.Halves.{hamming-joined}
-use Rattle.koika_cli.proofs.hosts.hamming.Goals as goal
-
-pub returns : goal.returns
-returns c = sym (hamming-joined 6 c.args.x c.args.y c.requires.second)

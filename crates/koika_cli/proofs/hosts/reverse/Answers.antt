@@ -1,8 +1,0 @@
-use Rattle.std.proofs.Common.{arith}
-use Rattle.kw_bits.specs.Host.{answer}
-use Rattle.kw_bits.proofs.Reversal.{reversed_word}
-use Rattle.koika_cli.proofs.hosts.reverse.Goals as goal
-
-pub returns : goal.returns
-unfolding answer
-returns c = rw c.reverse_bits.ensures (omega (arith, reversed_word 8 8 c.args.x (omega arith)))

@@ -1,8 +1,0 @@
-use Rattle.std.proofs.Common.{rules}
-use Rattle.kw_bits.specs.Host.{answer}
-use Rattle.kw_bits.proofs.Halves.{high_half-joined, low_half-joined}
-use Rattle.koika_cli.proofs.hosts.sat_add.Goals as goal
-
-pub returns : goal.returns
-unfolding answer
-returns c = rw (high_half-joined 6 c.args.x c.args.y c.requires.second, low_half-joined 6 c.args.x c.args.y c.requires.second) (search rules)
