@@ -1,4 +1,5 @@
-// Attempts at the rules of one design, and the verdicts on them.
+//! Attempts at the rules of one design, and the verdicts on them.
+
 ghost use Rattle.std.specs.Prelude.{◌≡◌, [], IfOk, IfSome, length};
 ghost use Rattle.std.specs.Arc.{arc_value};
 ghost use Rattle.typed_core.specs.Valid.{externs_of};

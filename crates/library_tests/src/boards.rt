@@ -1,10 +1,13 @@
-// Boards of a small design: one interleaving event by event, guesses that go stale, and lists of events drawn at random.
+//! Boards of a small design: one interleaving event by event, guesses that go stale, and lists of events drawn at
+//! random.
+
 ghost use Rattle.std.specs.Prelude.{◌≡◌, ◌<◌, ◌≤◌, [], IfOk};
 ghost use Rattle.std.specs.Arc.{arc_value};
 ghost use Rattle.typed_core.specs.Valid.{externs_of};
 ghost use Rattle.one_rule.specs.Externs.{kept};
-ghost use Rattle.one_rule.specs.Stimulus.{StimulusFits, inputs_of};
-ghost use Rattle.board_core.specs.Position.{IsFor};
+ghost use Rattle.one_rule.specs.Stimulus.{StimulusFits};
+ghost use Rattle.attempt_log.specs.Setting.{IsFor};
+ghost use Rattle.board_core.specs.Board.{setting_of};
 
 use crate::designs::{Listed, Place, Step, bits, design_of, events_of};
 use crate::slow_board::{Kept, SlowBoard, Told};
@@ -25,6 +28,19 @@ enum Move {
     // An attempt at a rule in a cycle that gave these events.
     Submit(u32, u32, &'static [Listed], Taken),
     Settle(Told),
+    // A job is asked for by this number.
+    Ask(u64, Given),
+    // The job of this number is done, and its attempt submitted.
+    HandIn(u64, Taken),
+}
+
+// What a board answers that is asked for a job.
+#[derive(Clone, Copy)]
+enum Given {
+    // A rule in a cycle, on registers of these values.
+    Job(u32, u32, [u128; 2]),
+    Idle,
+    Finished,
 }
 
 const SENDS: &[Listed] = &[(true, 0, 1, 7)];
@@ -52,6 +68,29 @@ const MOVES: [Move; 14] = [
     Move::Submit(2, 0, SENDS, Taken::Ahead),
 ];
 
+// The same by jobs. Where one candidate is left, every number is its.
+const JOBS: [Move; 19] = [
+    Move::Ask(0, Given::Job(1, 0, [1, 2])),
+    Move::Ask(1, Given::Job(1, 1, [1, 2])),
+    Move::HandIn(1, Taken::Stored),
+    Move::Ask(1, Given::Job(1, 0, [1, 2])),
+    Move::Submit(1, 1, COPIES_7, Taken::Twice),
+    Move::Settle(Told::Waiting(0)),
+    Move::HandIn(0, Taken::Stored),
+    Move::Ask(0, Given::Idle),
+    Move::Settle(Told::Committed(0)),
+    Move::Settle(Told::Stale(1, 1, 1, 2, 7)),
+    Move::Settle(Told::Waiting(1)),
+    Move::Ask(0, Given::Job(1, 1, [1, 7])),
+    Move::HandIn(0, Taken::Stored),
+    Move::Settle(Told::Committed(1)),
+    Move::Settle(Told::Closed),
+    Move::Settle(Told::Finished),
+    Move::Ask(0, Given::Finished),
+    Move::Submit(1, 0, SENDS, Taken::Late),
+    Move::Submit(2, 0, SENDS, Taken::Ahead),
+];
+
 // A board, with what it was begun with.
 #[derive(Drop)]
 struct Table {
@@ -59,12 +98,13 @@ struct Table {
     design: Arc<Design>,
     externs: Arc<Externs>,
     stimulus: Arc<Stimulus>,
-    ghost same_design: { core.board.opening.design ≡ arc_value design },
-    ghost same_stimulus: { core.board.opening.stimulus ≡ arc_value stimulus },
+    ghost same_design: { core.opening.design ≡ arc_value design },
+    ghost same_stimulus: { core.opening.stimulus ≡ arc_value stimulus },
     ghost stimulus_fits: { StimulusFits (arc_value design) (arc_value stimulus) },
     ghost externs_fit: { kept (arc_value externs) ≡ externs_of (arc_value design) },
 }
 
+#[tactic(auto, using(attempt_log::proofs::Alike::same_by_equal))]
 fn attempt_of(
     rt: &impl Abort,
     alloc: Global,
@@ -73,8 +113,7 @@ fn attempt_of(
     rule: u32,
     listed: &[Listed],
 ) -> Result<Attempt, NoMemory>
-    ensures design { IfOk result (λ a. a.design ≡ arc_value table.now.design) }
-    ensures inputs { IfOk result (λ a. a.inputs ≡ inputs_of (arc_value table.now.stimulus) a.cycle) }
+    ensures { IfOk result (IsFor (setting_of table.now.core.opening)) }
 {
     assert!(rt; (rule as usize) < table.design.rules.len());
     let events = events_of(rt, alloc, listed)?;
@@ -119,14 +158,60 @@ fn summary(answer: Settled) -> Told {
     }
 }
 
+// Submits an attempt, and expects this answer.
+fn submit(rt: &impl Abort, table: &mut Table, made: Attempt, want: Taken)
+    requires { IsFor (setting_of table.old.core.opening) made }
+{
+    let answer = table.core.submit(made);
+    assert_eq!(rt; taken(&answer), want);
+}
+
+// Asks for a job by this number.
+fn ask(rt: &impl Abort, table: &Table, pick: u64, want: Given) -> Result<(), NoMemory> {
+    let answer = table.core.job(pick)?;
+    match want {
+        Given::Job(cycle, rule, values) => match &answer {
+            JobAnswer::Job(job) => expect_job(rt, job, cycle, rule, values),
+            _ => assert!(rt; false),
+        },
+        Given::Idle => assert!(rt; matches!(&answer, JobAnswer::Idle)),
+        Given::Finished => assert!(rt; matches!(&answer, JobAnswer::Finished)),
+    }
+    Ok(())
+}
+
+fn expect_job(rt: &impl Abort, job: &Job, cycle: u32, rule: u32, values: [u128; 2]) {
+    assert_eq!(rt; (job.cycle, job.rule), (cycle, rule));
+    let regs = [bits(rt, values[0]), bits(rt, values[1])];
+    assert_eq!(rt; job.regs.as_slice(), regs.as_slice());
+}
+
+// Does the job of this number, and submits its attempt.
+fn hand_in(
+    rt: &impl Abort,
+    alloc: Global,
+    table: &mut Table,
+    pick: u64,
+    want: Taken,
+) -> Result<(), NoMemory> {
+    if let JobAnswer::Job(job) = table.core.job(pick)? {
+        let made = attempt(alloc, &job)?;
+        submit(rt, table, made, want);
+    } else {
+        assert!(rt; false);
+    }
+    Ok(())
+}
+
 fn make(rt: &impl Abort, alloc: Global, table: &mut Table, made: Move) -> Result<(), NoMemory> {
     match made {
         Move::Submit(cycle, rule, listed, want) => {
-            let attempt = attempt_of(rt, alloc, table, cycle, rule, listed)?;
-            let answer = table.core.submit(attempt);
-            assert_eq!(rt; taken(&answer), want);
+            let made = attempt_of(rt, alloc, table, cycle, rule, listed)?;
+            submit(rt, table, made, want);
         }
         Move::Settle(want) => assert_eq!(rt; summary(table.core.settle()), want),
+        Move::Ask(pick, want) => ask(rt, table, pick, want)?,
+        Move::HandIn(pick, want) => hand_in(rt, alloc, table, pick, want)?,
     }
     Ok(())
 }
@@ -162,11 +247,11 @@ fn begin(alloc: Global, design: Design, to: u32, window: u32) -> Result<Table, N
 }
 
 // Settles the head, or does its job where no attempt stands for it.
-fn settle_or_do(alloc: Global, table: &mut Table) -> Result<(), NoMemory> {
-    if let Settled::Waiting { .. } = table.core.settle() {
-        if let JobAnswer::Job(job) = table.core.job(0)? {
+fn settle_or_do(alloc: Global, core: &mut Core) -> Result<(), NoMemory> {
+    if let Settled::Waiting { .. } = core.settle() {
+        if let JobAnswer::Job(job) = core.job(0)? {
             let made = attempt(alloc, &job)?;
-            let _ = table.core.submit(made);
+            let _ = core.submit(made);
         }
     }
     Ok(())
@@ -191,6 +276,24 @@ fn assert_sevens(rt: &impl Abort, row: &Row) {
 }
 
 #[test]
+fn jobs_come_in_order_and_are_counted_round(rt: HostRuntime) -> Result<(), Fail> {
+    let mut table = sends_and_copies(&rt, rt.alloc(), 1, 1)?;
+    for made in JOBS {
+        make(&rt, rt.alloc(), &mut table, made)?;
+    }
+    Ok(())
+}
+
+#[test]
+fn later_cycles_come_after_the_current_one(rt: HostRuntime) -> Result<(), Fail> {
+    let table = sends_and_copies(&rt, rt.alloc(), 3, 2)?;
+    for (pick, cycle, rule) in [(0, 1, 0), (1, 1, 1), (2, 2, 0), (3, 2, 1), (4, 1, 0)] {
+        ask(&rt, &table, pick, Given::Job(cycle, rule, [1, 2]))?;
+    }
+    Ok(())
+}
+
+#[test]
 fn a_stale_copy_is_made_again(rt: HostRuntime) -> Result<(), Fail> {
     let mut table = sends_and_copies(&rt, rt.alloc(), 1, 1)?;
     for made in MOVES {
@@ -212,7 +315,7 @@ fn guesses_leave_the_rows_of_the_run(rt: HostRuntime) -> Result<(), Fail> {
         make(&rt, rt.alloc(), &mut table, copied)?;
     }
     for _ in 0..24 {
-        settle_or_do(rt.alloc(), &mut table)?;
+        settle_or_do(rt.alloc(), &mut table.core)?;
     }
     make(&rt, rt.alloc(), &mut table, Move::Settle(Told::Finished))?;
     let rows = table.core.rows();
@@ -250,7 +353,7 @@ const TURNS: [&[Step]; 4] = [
     &[Step::Next(1, 2, 1, 1), Step::Abort],
 ];
 
-// The node after this one by so many, or the end.
+// The node after this one by that many, or the end.
 fn next(number: u32, by: u32, nodes: u32) -> Next {
     if by < nodes && number < nodes - by {
         Next::Node(number + by)
@@ -259,7 +362,7 @@ fn next(number: u32, by: u32, nodes: u32) -> Next {
     }
 }
 
-// So many rules, each of which goes on to the next two.
+// That many rules, each of which goes on to the next two.
 fn ladder(rt: &impl Abort, alloc: Global, rules: u32) -> Result<Design, NoMemory>
     ensures inputs { IfOk result (λ design. design.inputs ≡ []) }
     ensures hosts { IfOk result (λ design. design.hosts ≡ []) }
@@ -274,6 +377,7 @@ fn ladder(rt: &impl Abort, alloc: Global, rules: u32) -> Result<Design, NoMemory
 }
 
 // The attempt at a rule in a cycle that is made on the first values.
+#[tactic(auto, using(attempt_log::proofs::Alike::same_by_equal))]
 fn guess(
     rt: &impl Abort,
     alloc: Global,
@@ -281,8 +385,7 @@ fn guess(
     cycle: u32,
     rule: u32,
 ) -> Result<Attempt, NoMemory>
-    ensures design { IfOk result (λ a. a.design ≡ arc_value table.now.design) }
-    ensures inputs { IfOk result (λ a. a.inputs ≡ inputs_of (arc_value table.now.stimulus) a.cycle) }
+    ensures { IfOk result (IsFor (setting_of table.now.core.opening)) }
 {
     assert!(rt; (rule as usize) < table.design.rules.len());
     let job = Job {
@@ -303,7 +406,7 @@ fn submit_to_both(
     slow: &mut SlowBoard,
     made: Attempt,
 ) -> Result<(), NoMemory>
-    requires { IsFor table.old.core.board.opening made }
+    requires { IsFor (setting_of table.old.core.opening) made }
 {
     let kept = Kept::of(alloc, &made)?;
     let answer = table.core.submit(made);
@@ -338,7 +441,7 @@ fn play(
     Ok(())
 }
 
-// Boards of so many rules, with a window, on so many events drawn at random.
+// Boards of that many rules, with a window, on that many events drawn at random.
 #[test]
 fn events_at_random_are_answered_as_by_lists(rt: HostRuntime) -> Result<(), Fail> {
     let mut dice = Dice { last: 1 };

@@ -1,4 +1,5 @@
-// What nets and their steps cost: `bench/libraries.sh` counts these.
+//! What nets and their steps cost: `bench/libraries.sh` counts these.
+
 ghost use Rattle.std.specs.Prelude.{◌≡◌, [], IfOk};
 
 use circuit_eval::{Circuit, StateWire, Wires, run_circuit};
@@ -76,7 +77,7 @@ fn expect_simpler(rt: &impl Abort, alloc: Global, nodes: u32) -> Result<(), Fail
     Ok(())
 }
 
-// The state of a chain of a thousand nodes after so many steps.
+// The state of a chain of a thousand nodes after that many steps.
 fn expect_growth(rt: &impl Abort, alloc: Global, width: u32, steps: u32) -> Result<(), Fail> {
     let circuit = chain(rt, alloc, width, 1_000)?;
     let stimulus = Stimulus::new(alloc, Vec::new(alloc));

@@ -1,4 +1,5 @@
-// Circuit texts, run line by line, and what long ones cost, which `bench/btor2.sh` counts.
+//! Circuit texts, run line by line, and what long ones cost, which `bench/btor2.sh` counts.
+
 ghost use Rattle.std.specs.Prelude.{IfOk};
 ghost use Rattle.btor2_text.specs.Printable.{ArePrintable};
 

@@ -1,4 +1,5 @@
-// Small designs, part by part. Registers and numbers have 8 bits.
+//! Small designs, part by part. Registers and numbers have 8 bits.
+
 ghost use Rattle.std.specs.Prelude.{◌≡◌, [], IfOk};
 
 use kw_bits::{Bits, NoMemory, Sequence, Text};

@@ -1,4 +1,5 @@
-// One design after another, run by whole rules and by the plain engine.
+//! One design after another, run by whole rules and by the plain engine.
+
 ghost use Rattle.std.specs.Prelude.{◌<◌, length};
 ghost use Rattle.one_rule.specs.Rows.{RowsFit};
 

@@ -1,3 +1,5 @@
+//! Host functions, one input each by hand.
+
 use kw_bits::{Bits, HostKind, NoMemory};
 use std::process::Abort;
 use std::test::Fail;

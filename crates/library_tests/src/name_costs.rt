@@ -1,10 +1,11 @@
-// What names cost: `bench/libraries.sh` counts these.
+//! What names cost: `bench/libraries.sh` counts these.
+
 use kw_base::{Added, Names};
 use std::alloc::Global;
 use std::process::Abort;
 use std::test::Fail;
 
-// Expects the numbers of so many names, when each is added and looked up.
+// Expects the numbers of that many names, when each is added and looked up.
 fn expect_names(rt: &impl Abort, alloc: Global, count: u32) -> Result<(), Fail> {
     let mut names = Names::of_text(alloc, b"text");
     for number in 0..count {

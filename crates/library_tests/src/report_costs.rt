@@ -1,4 +1,5 @@
-// What reports and stimuli cost: `bench/stim.sh` counts these.
+//! What reports and stimuli cost: `bench/stim.sh` counts these.
+
 ghost use Rattle.std.specs.Prelude.{◌≡◌, ◌∷◌, [], IfOk, length};
 ghost use Rattle.stim_report.specs.Shapes.{RowsFit, widths_of};
 

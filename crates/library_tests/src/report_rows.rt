@@ -1,4 +1,5 @@
-// Shapes and rows that are told in short.
+//! Shapes and rows that are written in short.
+
 ghost use Rattle.std.specs.Prelude.{IfOk};
 ghost use Rattle.kw_bits.specs.Laws.{HasWidth};
 ghost use Rattle.stim_report.specs.Shapes.{RowFits, widths_of};
@@ -32,7 +33,7 @@ pub(crate) fn shape_of(
     Ok(shape)
 }
 
-/// The row that is told.
+/// The row that is written in short.
 pub(crate) fn row_of(
     alloc: Global,
     shape: &Shape,

@@ -1,4 +1,5 @@
-// A rule behind an empty scheduler log.
+//! A rule after an empty scheduler log.
+
 use crate::designs::{Step, design_of};
 use crate::settings::{Setting, setting_of};
 use action_interp::{RuleEnd, RuleRun, run_rule};

@@ -1,4 +1,5 @@
-// A design with what its rules ask and what they are given.
+//! A design with what its rules ask and what they are given.
+
 ghost use Rattle.std.specs.Prelude.{◌≡◌, []};
 ghost use Rattle.typed_core.specs.Valid.{externs_of};
 ghost use Rattle.one_rule.specs.Externs.{kept};

@@ -1,4 +1,5 @@
-// A board that keeps lists of whole attempts, and looks through all of them each time.
+//! A board that keeps lists of whole attempts, and looks through all of them each time.
+
 use attempt_log::{Attempt, Taken};
 use kw_bits::{Bits, NoMemory};
 use one_rule::first_values;
@@ -153,7 +154,7 @@ impl SlowBoard {
         Ok(told)
     }
 
-    // The rule is settled, and the walk goes on, or comes behind the last node.
+    // The rule is settled, and the walk goes on, or comes after the last node.
     fn go_on(&mut self, rule: u32, next: Next) -> Result<(), NoMemory> {
         self.settled.push(rule)?;
         self.head = match next {
@@ -199,7 +200,7 @@ impl SlowBoard {
         }
     }
 
-    // What a read would see now, behind so many events of its own attempt.
+    // What a read would see now, after that many events of its own attempt.
     fn seen(&self, rt: &impl Abort, made: &Kept, before: usize, access: Access) -> Bits {
         let register = access.register as usize;
         assert!(rt; register < self.regs.len());

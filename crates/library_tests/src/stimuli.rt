@@ -1,3 +1,5 @@
+//! Lines of inputs are counted up to the last number.
+
 use kw_base::{Fault, Place, Refusal};
 use kw_bits::Sequence;
 use std::test::Fail;

@@ -1,4 +1,5 @@
-// Sources and sinks: how a call that fails is told, and readers and writers of std.
+//! Sources and sinks: how a call that fails is known, and readers and writers of std.
+
 ghost use Rattle.std.specs.Prelude.{◌≤◌, IfOk};
 
 use kw_io::{MemSink, MemSource, ReadAll, StdSink, StdSource, WriteFault, read_all, write_all};

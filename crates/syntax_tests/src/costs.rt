@@ -1,3 +1,5 @@
+//! Tests: long texts, cut, parsed and printed, to be measured.
+
 // What texts of a megabyte cost: `bench/libraries.sh` and `bench/print.sh` count these.
 use crate::printing::parsed;
 use koika_print::print;
@@ -7,7 +9,7 @@ use std::alloc::Global;
 use std::process::Abort;
 use std::test::Fail;
 
-// A text of so many lines between these.
+// A text of this many lines between these.
 fn repeated(
     alloc: Global,
     front: &[u8],
@@ -23,7 +25,7 @@ fn repeated(
     Ok(text)
 }
 
-// Expects six tokens of each of so many lines.
+// Expects six tokens of each of this many lines.
 fn expect_tokens(rt: &impl Abort, alloc: Global, lines: usize, want: usize) -> Result<(), Fail> {
     let text = repeated(alloc, b"", b"  count8 <= 8'hff >>> 12; // up\n", lines, b"")?;
     assert!(rt; text.len() <= 1048576);
@@ -31,7 +33,7 @@ fn expect_tokens(rt: &impl Abort, alloc: Global, lines: usize, want: usize) -> R
     Ok(())
 }
 
-// Reads such a text, prints it that often, and expects so many bytes of each printed text.
+// Reads such a text, prints it that often, and expects this many bytes of each printed text.
 fn expect_printed(
     rt: &impl Abort,
     alloc: Global,

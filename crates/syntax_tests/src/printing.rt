@@ -1,3 +1,5 @@
+//! Tests: printed trees.
+
 use koika_parse::parse;
 use koika_print::{print, print_and_read};
 use koika_syntax::{Tree, lex};
@@ -6,7 +8,7 @@ use std::alloc::Global;
 use std::process::Abort;
 use std::test::Fail;
 
-/// What `parse` answers of the tokens of a text that is short enough.
+/// What `parse` returns for the tokens of a text that is short enough.
 pub(crate) fn parsed(rt: &impl Abort, alloc: Global, text: &[u8]) -> Result<Tree, Refusal> {
     assert!(rt; text.len() <= 1048576);
     let tokens = lex(alloc, text)?;

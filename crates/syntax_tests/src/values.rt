@@ -1,3 +1,5 @@
+//! Tests: packed values.
+
 use koika_types::{
     EnumDecl, Field, Member, Ty, TypeTable, Value, field_place, have_valid_types, is_valid_enum,
     item_place, pack, unpack, valid_width,
@@ -53,7 +55,7 @@ fn the_first_field_stands_highest(rt: HostRuntime) -> Result<(), Fail> {
     Ok(())
 }
 
-// Whether the first field of the first struct stands above the second, of 8 bits.
+// Whether the first field of the first struct is above the second, of 8 bits.
 fn is_above(types: &TypeTable) -> bool {
     if valid_width(types, &Ty::Struct(0)).is_none() {
         return false;
