@@ -1,39 +1,91 @@
-//! Runs small sources: the examples of `FAULTS.md`, each behind its row's fault and place, and the cases of standard input,
-//! each behind its line. What the program answers follows.
+//! Runs small sources and the designs of `examples/`: the examples of `FAULTS.md`, each after its row's fault and
+//! place, and the cases of standard input, each after its line. What the program writes follows.
 //!
-//! A case is the program's words and a source. Of words with ` | ` between them each reads what the ones before answer. Behind
-//! `failing N` each read fails in turn, and then each write, where a call takes at most N bytes.
+//! A case is the program's words and a source, after `: ` the source itself and after ` < ` the name of its file. Of
+//! words with ` | ` between them each reads what the ones before wrote. After `failing N` each read fails in turn, and
+//! then each write, where a call takes at most N bytes. With `circuit` for a command it says whether the circuit of a
+//! file's design, compiled and read back, shows the same run with these options as the design. With ` is ` between
+//! commands without a source it says whether both write the same bytes. `transcript` and a file say whether the file has
+//! what the command in its first line writes.
 //!
 //! It stands on no definition of its own. The merge gate compares what it writes with `stdout`.
 #![tactic(auto)]
 
-mod hosts;
+mod circuits;
 mod runs;
 mod spelled;
 mod tables;
+mod transcripts;
 
-use crate::runs::{Ended, run};
+use crate::circuits::shows_the_same_run;
+use crate::runs::{Ended, run, words_of};
 use crate::spelled::spelled;
 use crate::tables::{cell, code};
+use crate::transcripts::run_transcript;
 use koika_top::Status;
 use std::alloc::Global;
 use std::io::Write;
 use std::{fs, io};
 
 // Reads and writes are short, so that none has a whole line.
-const PIECE: usize = 7;
+pub(crate) const PIECE: usize = 7;
 
 fn main(rt: HostRuntime) -> io::Result<()> {
     run_examples(&rt)?;
     for case in rt.lines(rt.alloc()) {
         let case = case?;
         println!(rt; "{case}")?;
-        if let Some((commands, source)) = case.as_str().split_once(": ") {
-            let source = spelled(rt.alloc(), source)?;
-            run_case(&rt, commands, source)?;
-        }
+        run_line(&rt, case.as_str())?;
     }
     Ok(())
+}
+
+// Runs the case of a line.
+fn run_line(rt: &HostRuntime, case: &str) -> io::Result<()> {
+    if let Some((commands, source)) = case.split_once(": ") {
+        let source = spelled(rt.alloc(), source)?;
+        return run_case(rt, commands, source);
+    }
+    if let Some((commands, file)) = case.split_once(" < ") {
+        return run_file(rt, commands, file);
+    }
+    if let Some((commands, others)) = case.split_once(" is ") {
+        return compare(rt, commands, others);
+    }
+    match case.strip_prefix("transcript ") {
+        Some(file) => run_transcript(rt, file),
+        None => Ok(()),
+    }
+}
+
+// Says whether commands without a source write the same bytes as others.
+fn compare(rt: &HostRuntime, commands: &str, others: &str) -> io::Result<()> {
+    let one = last_of(rt, commands, Vec::new(rt.alloc()))?;
+    let other = last_of(rt, others, Vec::new(rt.alloc()))?;
+    if one.written.as_slice() == other.written.as_slice() {
+        println!(rt; "the same bytes")
+    } else {
+        println!(rt; "other bytes")
+    }
+}
+
+// Runs commands on the source in a file.
+fn run_file(rt: &HostRuntime, commands: &str, file: &str) -> io::Result<()> {
+    let source = fs::read_to_string(rt, file)?;
+    match commands.strip_prefix("circuit ") {
+        None => run_case(
+            rt,
+            commands,
+            Vec::from_slice(rt.alloc(), source.as_bytes())?,
+        ),
+        Some(options) => {
+            if shows_the_same_run(rt.alloc(), options, source.as_str())? {
+                println!(rt; "the same run")
+            } else {
+                println!(rt; "another run")
+            }
+        }
+    }
 }
 
 // Runs the examples of the tables of faults, by the command that each table's head names.
@@ -65,9 +117,19 @@ fn run_case(rt: &HostRuntime, commands: &str, source: Vec<u8>) -> io::Result<()>
     }
 }
 
-// Runs the program by commands of which each reads what the one before answers, and writes what the last one answers, with the
-// status where the answer doesn't tell it.
+// Writes what the last of commands writes, with its status where the text doesn't say it.
 fn run_commands(rt: &HostRuntime, commands: &str, source: Vec<u8>) -> io::Result<()> {
+    let last = last_of(rt, commands, source)?;
+    let written = last.written.as_slice();
+    rt.stdout().write_all(written)?;
+    if last.status != status_told(written) {
+        println!(rt; "status {}", last.status as u8)?;
+    }
+    Ok(())
+}
+
+// Runs the program by commands, of which each reads what the one before wrote, and returns how the last one ended.
+fn last_of(rt: &HostRuntime, commands: &str, source: Vec<u8>) -> io::Result<Ended> {
     let mut last = Ended {
         status: Status::Done,
         written: source,
@@ -83,12 +145,7 @@ fn run_commands(rt: &HostRuntime, commands: &str, source: Vec<u8>) -> io::Result
             &[],
         )?;
     }
-    let written = last.written.as_slice();
-    rt.stdout().write_all(written)?;
-    if last.status != status_told(written) {
-        println!(rt; "status {}", last.status as u8)?;
-    }
-    Ok(())
+    Ok(last)
 }
 
 // The status that goes with an answer.
@@ -139,15 +196,4 @@ fn tell(rt: &HostRuntime, ended: &Ended, whole: &[u8]) -> io::Result<()> {
     } else {
         println!(rt; "status {status}, other bytes")
     }
-}
-
-// The words of a command, one space apart. A `_` in a word stands for a space.
-fn words_of(alloc: Global, command: &str) -> io::Result<Vec<String>> {
-    let mut words = Vec::new(alloc);
-    if !command.is_empty() {
-        for word in command.split(' ') {
-            words.push(word.replace(alloc, '_', " ")?)?;
-        }
-    }
-    Ok(words)
 }

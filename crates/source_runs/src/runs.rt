@@ -1,5 +1,7 @@
-use crate::hosts::{gray, popcount};
+//! One call of the program on a source, and what it returned and wrote.
+
 use host_fn::HostFn;
+use host_fn::offered::{BITS_OF_ONE, BITS_OF_TWO, gray, popcount, sat_add};
 use koika_top::{Status, run_here};
 use kw_bits::{HostKind, NoMemory};
 use kw_io::{MemSink, MemSource};
@@ -17,7 +19,8 @@ pub(crate) struct Ended {
     pub(crate) written: Vec<u8>,
 }
 
-/// Runs the program over memory, where a read gives and a write takes at most so many bytes, and these calls of both fail.
+/// Runs the program over memory, where a read gives and a write takes at most that many bytes, and these calls of both
+/// fail.
 #[tactic(auto, unfolding(kw_bits::specs::Host::arity))]
 pub(crate) fn run(
     alloc: Global,
@@ -33,8 +36,9 @@ pub(crate) fn run(
     let failing = Vec::from_slice(alloc, failing_writes)?;
     let mut sink = MemSink::new(alloc, ROOM, piece, failing).map_err(out_of_memory)?;
     let hosts = [
-        HostFn::new(HostKind::Popcount, 8, popcount).unwrap(),
-        HostFn::new(HostKind::Gray, 8, gray).unwrap(),
+        HostFn::new(HostKind::Popcount, BITS_OF_ONE, popcount).unwrap(),
+        HostFn::new(HostKind::Gray, BITS_OF_ONE, gray).unwrap(),
+        HostFn::new_two(HostKind::SatAdd, BITS_OF_TWO, sat_add).unwrap(),
     ];
     let status = run_here(alloc, words, &hosts, &mut source, &mut sink);
     Ok(Ended {
@@ -45,4 +49,15 @@ pub(crate) fn run(
 
 fn out_of_memory(_: NoMemory) -> io::Error {
     io::Error::from(ErrorKind::OutOfMemory)
+}
+
+/// The words of a command, one space apart. A `_` in a word is a space.
+pub(crate) fn words_of(alloc: Global, command: &str) -> io::Result<Vec<String>> {
+    let mut words = Vec::new(alloc);
+    if !command.is_empty() {
+        for word in command.split(' ') {
+            words.push(word.replace(alloc, '_', " ")?)?;
+        }
+    }
+    Ok(words)
 }

@@ -1,8 +1,10 @@
+//! Sources as one line of a table spells them.
+
 use std::alloc::Global;
 use std::io;
 
-/// The source that is written so: `/` ends a line, and `"20 r#; "` stands for what is behind the number, that many times,
-/// with the number of the copy, from 0, in place of `#`.
+/// The source that is written so: `/` ends a line, and `"20 r#; "` stands for what is after the number, that many
+/// times, with the number of the copy, from 0, in place of `#`.
 pub(crate) fn spelled(alloc: Global, written: &str) -> io::Result<Vec<u8>> {
     let mut source = Vec::new(alloc);
     let mut rest = written;

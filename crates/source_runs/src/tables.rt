@@ -1,3 +1,5 @@
+//! The cells of a row of a table.
+
 /// The cell of this number of a row of a table; nothing where there is none.
 pub(crate) fn cell(row: &str, number: usize) -> &str {
     cell_of(row, number).unwrap_or("")
@@ -11,7 +13,7 @@ fn cell_of(row: &str, number: usize) -> Option<&str> {
     Some(rest.split_once(" |")?.0)
 }
 
-/// What stands between the backticks of a cell; nothing where there are none.
+/// What is between the backticks of a cell; nothing where there are none.
 pub(crate) fn code(cell: &str) -> &str {
     code_of(cell).unwrap_or("")
 }
