@@ -1,6 +1,6 @@
 #!/usr/bin/env bash
-# Measures what it costs to read, to accept and to print a circuit text of ten megabytes in lines of 20 to 40 bytes, by tests
-# that make the text. It proves and builds the tests if need be, and is run by hand.
+# Measures what it costs to read, to accept and to print a circuit text of ten megabytes in lines of 20 to 40 bytes, by
+# tests that make the text. It proves and builds the tests if need be, and is run by hand.
 set -eu
 cd "$(dirname "$0")/.."
 . bench/cost.sh
@@ -36,7 +36,7 @@ for what in made read accepted printed; do
     elif [ "$what" = read ]; then
         read=$taken
     fi
-    # Printing comes behind reading, without acceptance.
+    # Printing comes after reading, without acceptance.
     [ "$what" = printed ] && start=$read
     echo "| $what | $(columns "$taken" "$start" "$bytes") | $(awk -v k="$kilobytes" -v l="$least" -v b="$bytes" 'BEGIN { printf "%.3g", (k - l) * 1024 / b }') |"
 done

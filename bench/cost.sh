@@ -1,5 +1,5 @@
-# What a command costs, for the scripts beside this one, which read it in: in instructions where perf counts them on this
-# machine, or else valgrind, and otherwise in seconds of processor time.
+# What a command costs, for the scripts beside this one, which read it in: in instructions where perf counts them on
+# this machine, or else valgrind, and otherwise in seconds of processor time.
 export LC_ALL=C
 shopt -s inherit_errexit # a run that fails ends the script
 

@@ -1,6 +1,6 @@
 #!/usr/bin/env bash
-# Measures the program: what a cycle of the counter costs, and what sources of up to a megabyte cost. It takes another program
-# than the built one as an argument, and is run by hand.
+# Measures the program: what a cycle of the counter costs, and what sources of up to a megabyte cost. It takes another
+# program than the built one as an argument, and is run by hand.
 set -eu
 cd "$(dirname "$0")/.."
 . bench/cost.sh
@@ -13,7 +13,7 @@ bytes() {
     wc -c <"$1" | awk '{ print $1 }'
 }
 
-# The counter with one byte so many times in front of a part of its first line.
+# The counter with one byte, that many times, before a part of its first line.
 longer() {
     awk -v byte="$1" -v count="$2" -v part="$3" '
         NR == 1 {

@@ -1,7 +1,8 @@
 #!/usr/bin/env bash
-# Measures what the gate costs from nothing, in seconds of processor time, for each crate that is named, or for all: its own
-# proof, its proof together with that of its tests, and its wrong bodies. It works on a copy, where what is below a crate is
-# proved first and not counted, takes about as long as the gate on one processor, and is run by hand.
+# Measures what the gate costs from nothing, in seconds of processor time, for each crate that is named, or for all: its
+# own proof, its proof together with that of its tests, and its must-fail edits, the second proof included. It works on
+# a copy, where what is below a crate is proved first and not counted. It is run by hand, on one crate or a few: on all
+# it takes about as long as the gate on one processor.
 set -eu
 cd "$(dirname "$0")/.."
 
@@ -11,7 +12,7 @@ git ls-files -z --cached --others --exclude-standard -- crates crates.txt HANDLE
     while IFS= read -r -d '' file; do [ -e "$file" ] && printf '%s\0' "$file"; done |
     tar -c --null -T - | tar -x -C "$room"
 
-# The crates of the repository that a crate stands on.
+# The crates of the repository that a crate uses, directly or not.
 below() {
     local crate
     for crate in $(sed -n "s/^$1:\(.*\)/\1/p" crates.txt); do
@@ -36,8 +37,8 @@ if [ ${#crates[@]} = 0 ]; then
     mapfile -t crates < <(sed -n 's/^\([a-z_0-9]*\):.*/\1/p' crates.txt)
 fi
 
-echo "| crate | lines | own proof | with tests | wrong bodies | together | minutes for 1,000 lines |"
-echo "|---|---|---|---|---|---|---|"
+echo "| crate | lines | own proof | with tests | edits | how many | together | minutes for 1,000 lines |"
+echo "|---|---|---|---|---|---|---|---|"
 for crate in "${crates[@]}"; do
     folder=$room/crates/$crate
     # What an earlier check kept of the crates below serves where it fits their texts.
@@ -50,7 +51,10 @@ for crate in "${crates[@]}"; do
     # What is under a test is no code of a library: a crate of tests alone counts no line.
     case $crate in
         *_tests) size=0 ;;
-        *) size=$(cd "$folder" && find src specs \( -name '*.rt' -o -name '*.antt' \) -not -path '*tests*' -exec cat {} + 2>/dev/null | wc -l) ;;
+        *)
+            size=$(cd "$folder" && find src specs \( -name '*.rt' -o -name '*.antt' \) -not -path '*tests*' \
+                -exec cat {} + 2>/dev/null | wc -l)
+            ;;
     esac
     rm -rf "$folder/out"
     own=$(cd "$folder" && seconds rt check --jobs 1)
@@ -65,6 +69,7 @@ for crate in "${crates[@]}"; do
     fi
     awk -v crate="$crate" -v size="$size" -v own="$own" -v both="$both" -v bodies="$bodies" -v edits="$edits" 'BEGIN {
         sum = own + both + bodies
-        printf "| `%s` | %d | %d | %d | %d (%d) | %d | %.1f |\n", crate, size, own, both, bodies, edits, sum, size ? sum / 60 / size * 1000 : 0
+        printf "| `%s` | %d | %d | %d | %d | %d ", crate, size, own, both, bodies, edits
+        printf "| %d | %.1f |\n", sum, size ? sum / 60 / size * 1000 : 0
     }'
 done

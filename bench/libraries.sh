@@ -1,6 +1,6 @@
 #!/usr/bin/env bash
-# Measures what libraries cost, by tests of several sizes: the tokens of a text, its tree, the numbers of names, the nodes of a net and
-# their evaluation. It proves and builds the tests if need be, and is run by hand.
+# Measures what libraries cost, by tests of several sizes: the tokens of a text, its tree, the numbers of names, the
+# nodes of a net and their evaluation. It proves and builds the tests if need be, and is run by hand.
 set -eu
 cd "$(dirname "$0")/.."
 . bench/cost.sh

@@ -1,6 +1,6 @@
 #!/usr/bin/env bash
-# Measures the plain engine: what a cycle costs of a counter, of pipelines, and of wide arithmetic with a table and a tree
-# of tries, in all and for each node of an action that it evaluates. It is run by hand.
+# Measures the plain engine: what a cycle costs of a counter, of pipelines, and of wide arithmetic with a table and a
+# tree of tries, in all and for each node of an action that it evaluates. It is run by hand.
 set -eu
 cd "$(dirname "$0")/.."
 . bench/cost.sh

@@ -1,6 +1,6 @@
 #!/usr/bin/env bash
-# Measures what it costs to print a tree, for each byte of its text, by tests of syntax_tests that print the same tree once and
-# eleven times. It proves and builds the tests if need be, and is run by hand.
+# Measures what it costs to print a tree, for each byte of its text, by tests of syntax_tests that print the same tree
+# once and eleven times. It proves and builds the tests if need be, and is run by hand.
 set -eu
 cd "$(dirname "$0")/.."
 . bench/cost.sh

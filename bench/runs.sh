@@ -1,6 +1,7 @@
 #!/usr/bin/env bash
-# Measures what the program costs on the pipelines that it makes itself and on their circuits, for each cycle; what a long run takes
-# in memory; and what it costs to write functions in. It takes another program than the built one as its argument, and is run by hand.
+# Measures what the program costs on the pipelines that it makes itself and on their circuits, for each cycle; what a
+# long run takes in memory; and what it costs to write functions in. It takes another program than the built one as its
+# argument, and is run by hand.
 set -eu
 cd "$(dirname "$0")/.."
 . bench/cost.sh
@@ -30,7 +31,7 @@ for stages in 1 10 100; do
     echo "| $stages | $(columns "$(cost /dev/null /dev/null "$program" gen "$stages")" 0 0 | sed 's/ | *$//') |"
 done
 
-# The circuit of a pipeline, and its run behind the same first cycles.
+# The circuit of a pipeline, and its run after the same first cycles.
 echo
 echo "| stages | lines | $of_run of \`compile\` | $of_part of \`btorsim\` per cycle | with a summary |"
 echo "|---|---|---|---|---|"
@@ -53,14 +54,14 @@ memory() {
 }
 
 echo
-echo "| the counter, so many cycles with a summary | kilobytes at most |"
+echo "| cycles of the counter, with a summary | kilobytes at most |"
 echo "|---|---|"
 for many in 0 256 65536 16777216; do
     echo "| $many | $(memory --cycles "$many" --summary) |"
 done
 
-# A design whose rule calls the last of so many functions. Each of the first ones but one calls the one before twice, and each behind
-# them calls the one before once.
+# A design whose rule calls the last of that many functions. Each of the first ones but one calls the one before twice,
+# and each after them calls the one before once.
 functions() {
     awk -v twice="$1" -v once="$2" 'BEGIN {
         print "reg r : bits 8 = 8'\''d0;\nfun f0(x : bits 8) : bits 8 { x + 8'\''d1 }"

@@ -1,6 +1,6 @@
 #!/usr/bin/env bash
-# Measures what it costs to write reports and to read stimuli, for each byte, by tests of library_tests that do the same once and
-# more often. It proves and builds the tests if need be, and is run by hand.
+# Measures what it costs to write reports and to read stimuli, for each byte, by tests of library_tests that do the same
+# once and more often. It proves and builds the tests if need be, and is run by hand.
 set -eu
 cd "$(dirname "$0")/.."
 . bench/cost.sh

@@ -1,7 +1,7 @@
 #!/usr/bin/env bash
-# Measures what the program costs on texts of a megabyte, for each byte, all phases together: `check`, and `print`, of which
-# it tells whether what is printed is printed the same again. It takes another program than the built one as an argument, and is run
-# by hand.
+# Measures what the program costs on texts of a megabyte, for each byte, all phases together: `check`, and `print`, of
+# which it tells whether what is printed is printed the same again. It takes another program than the built one as an
+# argument, and is run by hand.
 set -eu
 cd "$(dirname "$0")/.."
 . bench/cost.sh
@@ -17,13 +17,13 @@ text() {
             return substr(letters, int(number / 3969) + 1, 1) substr(letters, int(number / 63) % 63 + 1, 1) substr(letters, number % 63 + 1, 1)
         }
 
-        # So many copies.
+        # That many copies.
         function times(part, count) {
             return count == 0 ? "" : times(part part, int(count / 2)) (count % 2 ? part : "")
         }
         function in_rule(body) { print "input a : bits 8;\nreg r : bits 8 = 8'\''d0;\nrule x {\n" body "\n}\nschedule { x; }" }
 
-        # So many levels of a tree of tries, from the rules of these numbers on.
+        # That many levels of a tree of tries, from the rules of these numbers on.
         function tries(levels, first) {
             if (levels == 0) return ""
             return "try r" first " then {\n" tries(levels - 1, first + 1) "} else {\n" tries(levels - 1, first + 1) "}\n"

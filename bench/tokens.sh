@@ -1,7 +1,8 @@
 #!/usr/bin/env bash
-# Measures what it costs to cut a text into tokens, for each byte: what `print` costs on a text of a megabyte, one line over and
-# over, behind a `;`, with which no design begins, so that all is cut and nothing parsed; less what it costs behind a byte that begins
-# no token, so that nothing is cut. The reading of the text and its cut at a line `%%` are aside. It is run by hand.
+# Measures what it costs to cut a text into tokens, for each byte: what `print` costs on a text of a megabyte, one line
+# over and over, after a `;`, with which no design begins, so that all is cut and nothing parsed; less what it costs after
+# a byte that begins no token, so that nothing is cut. The reading of the text and its cut at a line `%%` are not counted.
+# It is run by hand.
 set -eu
 cd "$(dirname "$0")/.."
 . bench/cost.sh
@@ -11,7 +12,7 @@ program=crates/koika_cli/out/koika_cli
 
 size=1048576
 
-# So many bytes of a line over and over, up to the last whole one, and then blanks.
+# That many bytes: a line over and over, up to the last whole one, and then blanks.
 text() {
     awk -v line="$1" -v size="$2" 'BEGIN {
         for (piece = line; length(piece) < 65536; piece = piece line) {}

@@ -1,0 +1,5 @@
+" Settings for designs.
+if exists("b:did_ftplugin") | finish | endif
+let b:did_ftplugin = 1
+setlocal commentstring=//\ %s comments=:// expandtab shiftwidth=4 softtabstop=4 textwidth=140
+let b:undo_ftplugin = "setlocal commentstring< comments< expandtab< shiftwidth< softtabstop< textwidth<"
