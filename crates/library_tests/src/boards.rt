@@ -314,11 +314,17 @@ fn guesses_leave_the_rows_of_the_run(rt: HostRuntime) -> Result<(), Fail> {
         make(&rt, rt.alloc(), &mut table, sent)?;
         make(&rt, rt.alloc(), &mut table, copied)?;
     }
+    let Table {
+        mut core,
+        design: _design,
+        externs: _externs,
+        stimulus: _stimulus,
+    } = table;
     for _ in 0..24 {
-        settle_or_do(rt.alloc(), &mut table.core)?;
+        settle_or_do(rt.alloc(), &mut core)?;
     }
-    make(&rt, rt.alloc(), &mut table, Move::Settle(Told::Finished))?;
-    let rows = table.core.rows();
+    assert_eq!(&rt; summary(core.settle()), Told::Finished);
+    let rows = core.rows();
     assert_eq!(&rt; rows.len(), 4);
     for row in &rows[1..] {
         assert_sevens(&rt, row);
