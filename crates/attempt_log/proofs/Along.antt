@@ -1,4 +1,4 @@
--- Two readings of one action that agree on the events of a list come to the same where one of them gives no other events.
+-- Two readings of one action that agree on the events of a list give the same where one of them gives no other events.
 use Rattle.std.proofs.Common.{◌≡◌, ℕ, List, [], refl, sym, ap, ◌∙◌}
 use Rattle.kw_bits.specs.BitVector.{BitVector}
 use Rattle.typed_core.specs.Evaluation.{bind, evaluate, Ending, Environment, Part, Ports, Progress, Stop, Value}

@@ -1,4 +1,4 @@
--- What a table of first commits keeps to: there is room for a place that holds nothing, and a clear leaves nothing anywhere.
+-- What a table of first commits keeps to: there is room for a place that holds nothing, and a clear leaves nothing.
 use Rattle.std.proofs.Common.{◌≡◌, ◌⊎◌, ℕ, ◌+◌, ◌<◌, ◌≤◌, Bool, true, false, List, [], ◌∷◌, ◌++◌, length, replicate, Option, Some, None, is_some, All, zero, suc, refl, sym, ap, ◌∙◌, subst, inl, inr, eq-eqb, cond, sum_by, take, arith}
 use Rattle.std.specs.Prelude.{◌==◌, ◌||◌, slice_index_or, slice_set}
 use Rattle.std.specs.List.{count_by, list_any}

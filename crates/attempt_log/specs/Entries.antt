@@ -1,4 +1,4 @@
--- Histories as lists of entries: which entry a call makes, whose it is, and of which kind. Whether a history can come about
+-- Histories as lists of entries: which entry a call makes, whose it is, and of which kind. Whether a history can occur
 -- on a board is no matter of this file.
 use Rattle.std.specs.Prelude.{ℕ, Bool, true, false, ◌==◌, List}
 use Rattle.std.specs.List.{count_by, filter}

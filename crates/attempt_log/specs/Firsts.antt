@@ -1,4 +1,4 @@
--- The table of first commits, for private functions alone: what its places hold, how accesses are noted in it, and how it is
+-- The table of first commits, for private functions: what its places hold, how accesses are noted in it, and how it is
 -- searched for what an access clashes with.
 use Rattle.std.specs.Prelude.{◌≡◌, ℕ, zero, suc, ◌-◌, ◌<◌, ◌≤◌, Bool, true, ◌==◌, not, nat_lt, List, [], ◌∷◌, length, Option, Some, None, is_some, option_map, slice_index_or, slice_set, All, if◌then◌else◌}
 use Rattle.std.specs.List.{count_by, list_any}

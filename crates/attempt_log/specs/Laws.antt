@@ -1,5 +1,5 @@
--- What holds of every trace and every verdict: an attempt that is committed or skipped tells what its rule does, run whole,
--- on the registers as they are, whatever registers the attempt was made on. This is why validated attempts may stand for
+-- What holds of every trace and verdict: an attempt that is committed or skipped shows what its rule does, run whole,
+-- on the present registers, whatever registers the attempt was made on. This is why validated attempts may stand for
 -- rules that run one at a time (Kung and Robinson, TODS 1981; Bourgeat et al., PLDI 2020).
 use Rattle.std.specs.Prelude.{◌≡◌, ◌≢◌, ℕ, true, false, List}
 use Rattle.kw_bits.specs.BitVector.{BitVector}

@@ -1,4 +1,4 @@
--- What seats and attempts are for: a design with a stimulus, and in it a rule in a cycle. Designs are compared by value.
+-- What seats and attempts are for: a design with a stimulus, and a rule in a cycle. Designs are compared by value.
 use Rattle.std.specs.Prelude.{◌≡◌}
 use Rattle.std.specs.Arc.{arc_value}
 use Rattle.typed_core.specs.Same.{SameDesign}

@@ -1,4 +1,4 @@
--- Where each read of a rule's events gets its value: from the rule's own last write of the register at a port below, or from
+-- Where each read of a rule's events gets its value: from the rule's last write of the register at a lower port, or from
 -- the register's value at the rule's start. It is kept beside an attempt's events, so that a verdict needn't look back.
 use Rattle.std.specs.Prelude.{◌≡◌, ℕ, zero, suc, ◌≤◌, List, length, Option, Some, None, slice_get, slice_index_or, take}
 use Rattle.kw_bits.specs.BitVector.{BitVector}

@@ -1,5 +1,5 @@
--- Whether an attempt may be committed, given the registers as they are and the rules that fired so far in the cycle: the
--- validation of a read set, as in optimistic concurrency control (Kung and Robinson, TODS 1981), by the checks of Kôika's
+-- Whether an attempt may be committed, given the present registers and the rules that fired so far in the cycle: the
+-- validation of a read set, as in optimistic concurrency control (Kung and Robinson, TODS 1981), by checks of Kôika's
 -- scheduler log (Bourgeat et al., PLDI 2020). Which registers the attempt was made on isn't asked.
 use Rattle.std.specs.Prelude.{ℕ, Bool, true, false, ◌==◌, ◌&&◌, ◌||◌, nat_lt, List, [], ◌∷◌, ◌++◌, Option, unwrap_or, Some, None, slice_index_or, if◌then◌else◌}
 use Rattle.kw_bits.specs.BitVector.{BitVector}

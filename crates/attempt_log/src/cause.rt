@@ -10,7 +10,7 @@ pub enum Cause {
     Abort,
     /// It made a write that its own earlier events refuse.
     OwnClash(Access),
-    /// An access clashes with one that a rule committed earlier made. The rule is the earliest such, and of its accesses
+    /// An access clashes with one that a rule committed earlier made. The rule is the first such, and of its accesses
     /// reads are named before writes and lower ports before higher ones.
     Clash {
         access: Access,

@@ -1,6 +1,6 @@
 //! Engines: gates, by which a caller holds workers.
 
-/// What a caller may have each worker do before its job and after its submit, as to wait for another. Both calls only return.
+/// What a caller may have each worker do before its job and after its submit, as to wait for another. Both return.
 pub trait Gate {
     /// Before the job of this turn of the worker, from 0.
     fn before(&self, worker: u32, turn: u64);

@@ -27,7 +27,7 @@ pub fn a_stale_read_was_made_on_other_registers()
     ensures differ { law.StaleReadsDiffer }
 {}
 
-/// On whichever registers an attempt was made: where it is committed, its rule gives the same on the registers as they are,
+/// On whichever registers an attempt was made: where it is committed, its rule gives the same on the present registers,
 /// and fires; where it is skipped, its rule doesn't fire there.
 pub fn an_attempt_may_be_made_on_any_registers()
     ensures { law.MadeOnAnyRegisters }

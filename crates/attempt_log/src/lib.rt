@@ -1,9 +1,9 @@
 //! Attempts at rules on guessed registers, and whether they may be committed.
 //!
 //! `specs/Trace.antt` says which events are a trace of a rule, `specs/Verdict.antt` what is answered to an attempt, and
-//! `specs/Past.antt` which commits a `Past` stands for. An `Attempt` is a trace of its rule by its type, whoever made it.
+//! `specs/Past.antt` what commits a `Past` has. An `Attempt` is a trace of its rule by its type, whoever made it.
 //! `specs/Setting.antt` says what an attempt is for, and `specs/Seats.antt` what a worker needs of its seat at a board.
-//! `board_core` stores attempts and asks for the `verdict` on them. No command uses either yet.
+//! `board_core` stores attempts and asks for the `verdict` on them.
 #![tactic(auto)]
 
 mod cause;

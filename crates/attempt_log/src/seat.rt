@@ -97,7 +97,7 @@ fn is_count(count: u64)
     ensures { count ≤ last_count }
 {}
 
-/// A worker's place at a board. What its calls answer is for its kind to say; here is what a worker needs of any of them.
+/// A worker's place at a board. What its calls answer is for its kind to say; here is what a worker needs of each.
 pub trait BoardSeat {
     ghost use Rattle.std.specs.Prelude.{ℕ, List, Option};
     ghost use Rattle.attempt_log.specs.Setting.{Setting};

@@ -1,4 +1,4 @@
--- Legal histories are those whose attempts are traces, with the answers of the board: that inputs and events fit follows.
+-- Legal histories are those whose attempts are traces, with the board's answers: that inputs and events fit follows.
 use Rattle.std.proofs.Common.{◌≡◌, ℕ, ◌<◌, List, [], ◌∷◌, length, sym, subst}
 use Rattle.std.specs.List.{AllByRecursion}
 use Rattle.kw_bits.specs.BitVector.{BitVector}

@@ -1,4 +1,4 @@
--- The rules that were visited before a position are of nodes along a path from the root, and so other rules than the next.
+-- The rules visited before a position are of nodes along a path from the root, and so other rules than the next.
 use Rattle.std.proofs.Common.{◌≡◌, ◌⊎◌, inl, inr, ℕ, zero, suc, ◌+◌, ◌<◌, true, false, List, [], ◌∷◌, ◌++◌, length, Option, Some, None, All, refl, sym, ap, ◌∙◌, subst, eqb-true, arith, append-nil}
 use Rattle.std.specs.Prelude.{slice_get, slice_index_or, ◌==◌}
 use Rattle.std.proofs.lemmas.Bool.{cases_Bool}

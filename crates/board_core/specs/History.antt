@@ -1,4 +1,4 @@
--- Legal histories: calls of a board with their answers, as a linear history has them (Herlihy and Wing, TOPLAS 1990). It
+-- Legal histories: calls of a board with their answers, as in a linear history (Herlihy and Wing, TOPLAS 1990). It
 -- doesn't say which worker makes which call.
 use Rattle.std.specs.Prelude.{◌≡◌, List, map}
 use Rattle.std.specs.List.{AllByRecursion}

@@ -1,4 +1,4 @@
--- What a core keeps, and which board it stands for. Of the rules that fired in the cycle it keeps what decides of clashes,
+-- What a core keeps, and which board it represents. Of the rules that fired in the cycle it keeps what decides clashes,
 -- and of the slots those of the window, a list for each cycle from the current one on.
 use Rattle.std.specs.Prelude.{◌≡◌, ℕ, ◌+◌, ◌-◌, ◌≤◌, All, nat_le, nat_lt, Bool, true, false, ◌==◌, ◌&&◌, ◌||◌, List, [], ◌∷◌, length, Option, None, IfSome, option_map, slice_index_or, if◌then◌else◌}
 use Rattle.std.specs.List.{count_by}
@@ -64,7 +64,7 @@ pub record IsAt (design : Parts) (place : Place) (walk : Walk State) (done : Lis
   pub past : past.StandsFor (register_widths design) place.past walk.state.past
   pub settled : place.settled.items ≡ flags (length design.rules) done
 
--- the registers fit the design, there is a flag for each rule, and not more rules are committed than are settled; this is
+-- the registers fit the design, there is a flag for each rule, and no more rules are committed than settled; this is
 -- for private functions alone
 pub record IsShaped (design : Parts) (place : Place) : Type 0 where
   pub registers : HaveWidths (register_widths design) place.regs
@@ -80,7 +80,7 @@ pub record StandsFor (kept : Kept) (board : Board) : Type 0 where
   pub rows : kept.rows ≡ board.rows
   pub slots : (cycle rule : ℕ) → option_map (at_design kept.opening.design) (slots_from kept.cycle kept.slots cycle rule) ≡ board.slots cycle rule
 
--- from an old core to a new one: it is answered what the board step answers, and the new one stands for the board after it
+-- from an old core to a new one: the answer is the board step's, and the new one represents the board after it
 abbrev pub Does : (Opening → Board → Step) → Kept → BoardAnswer → Kept → Type 0
 Does step old told new =
     (board : Board) → StandsFor old board → let next = step old.opening board in (told ≡ next.answer) × StandsFor new next.board

@@ -116,7 +116,7 @@ abbrev pub SubmitsAlike : Type 0
 SubmitsAlike = (o : Opening) (board : Board) (a : Attempted)
     → (told_of (submit o board (at_design o.design a)).answer ≡ told_of (submit o board a).answer) × ((submit o board (at_design o.design a)).board ≡ (submit o board a).board)
 
--- What is submitted is for the board where it is a trace of a rule, at a design of equal value and on the stimulus's inputs:
+-- What is submitted is for the board where it is a trace of a rule, at an equal design and on the stimulus's inputs:
 -- that inputs and events fit follows.
 abbrev pub TracesSubmit : Type 0
 TracesSubmit = (o : Opening) (a : Attempted) → IsOpening o → IsFor (setting_of o) a → a.rule < length a.design.rules → IsTrace a.design a.rule a.inputs a.run → SubmitsFor o (event.Submit a)

@@ -30,7 +30,7 @@ pub trait Board: Drop {
         requires most { workers ≤ 64 }
         ensures { tells ≡ true → IfOk result (λ board. opening board ≡ core.opening) };
 
-    /// Has each worker take turns, side by side, and gives a report of each. Its memory is taken first: after an `Err` no
+    /// Has each worker take turns, side by side, and reports of each. Its memory is taken first: after an `Err` no
     /// worker has run. The gate is an object, since no thread can be started over a type parameter of a trait's method.
     fn work_all<R: Threads + Wait + Sync>(
         &mut self,

@@ -41,8 +41,8 @@ pub fn a_board_that_goes_on_has_less_left()
     ensures submit { law.SubmitsKeep }
 {}
 
-/// On the board of an opening an attempt that is a trace, for the board's design and stimulus, may be submitted. So a history
-/// is legal exactly where its attempts are traces of rules, with the stimulus's inputs, and its answers are the board's.
+/// On the board of an opening an attempt that is a trace, for its design and stimulus, may be submitted. So a history
+/// is legal exactly where its attempts are traces of rules, on the stimulus's inputs, and its answers the board's.
 pub fn a_history_is_legal_by_its_traces_and_answers()
     ensures submits { law.TracesSubmit }
     ensures legal { law.LegalByTraces }

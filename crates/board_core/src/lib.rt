@@ -1,8 +1,8 @@
 //! The board: attempts are taken in any order and settled one at a time, in scheduler order.
 //!
-//! `specs/Board.antt` is the board step that the contracts of `Core` cite, and `specs/Position.antt` says at which plain
-//! positions a core stands. `Board` is a kind of board that workers in threads share, round a core. No command uses a board
-//! yet: `library_tests` makes and runs them.
+//! `specs/Board.antt` is the board step that the contracts of `Core` cite, and `specs/Position.antt` says at what plain
+//! positions a core stands. `Board` is a kind of board that workers in threads share, round a core. `cycle_driver` has
+//! workers run at one, and `library_tests` tests cores by themselves.
 #![tactic(auto)]
 
 mod blank;

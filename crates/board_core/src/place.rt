@@ -18,7 +18,7 @@ use one_rule::Regs;
 use std::alloc::Global;
 use typed_core::{Design, Event, Events, Next, Node};
 
-// Where the walk of a cycle is: the head, the registers and the rules that fired so far with what clashes with them, and
+// Where the walk of a cycle is: the head, the registers, the rules that fired so far with what clashes with them, and
 // the rules that are settled.
 #[derive(Drop)]
 pub(crate) struct Place {

@@ -32,7 +32,7 @@ Did short given made new = RoseBy given made new ⊎ ((short ≡ true) × RoseBy
 
 -- ---- what is added to a seat's own entries
 
--- after the entries that are known come others, with so many of each kind. They have a submit for each job that was done
+-- after the entries that are known come others, this many of each kind. They have a submit for each job that was done
 pub record Gains (old : Option (List Entry)) (given stored settled turns : ℕ) (new : Option (List Entry)) (given_new : ℕ) (short : Bool) : Type 0 where
   pub more : List Entry
   pub grown : Grown old more new
@@ -86,7 +86,7 @@ HandsIn old stored new = (e : Entry) × Grown old (e ∷ []) new × (is_submit e
 abbrev pub Settles : Option (List Entry) → ℕ → Option (List Entry) → Type 0
 Settles old taken new = (e : Entry) × Grown old (e ∷ []) new × (is_submit e ≡ false) × (is_settle e ≡ true) × (is_stored e ≡ false) × (once (is_settled e) ≡ taken)
 
--- a report's ending: no more turns were made than were given, with Turns all of them, and with Finished the seat has answered so
+-- a report's ending: no more turns were made than given, with Turns all of them, and with Finished the seat answered so
 abbrev pub Ends : ℕ → Report → ℕ → ℕ → Type 0
 Ends turns r ended ended_new = (r.ending ≡ ending.Turns → r.turns ≡ turns) × (r.ending ≡ ending.Finished → Rose ended ended_new) × (r.turns ≤ turns)
 

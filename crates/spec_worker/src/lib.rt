@@ -1,5 +1,5 @@
-//! What a worker does: it takes turns at a seat, each with a job and a settle. `work_all` has a worker at each seat, side by
-//! side. `specs/Work.antt` says which entries that makes and how it ends. Nothing here knows what kind of board there is.
+//! What a worker does: it takes turns at a seat, each with a job and a settle. `work_all` has one at each seat, side by
+//! side. `specs/Work.antt` says which entries that makes and how it ends. Nothing here knows what kind of board it is.
 #![tactic(auto)]
 
 ghost use Rattle.std.specs.Prelude.{◌≡◌, ◌≤◌, ◌<◌, ◌+◌, ℕ, Some, true, false, IfSome, length, slice_index_or};
