@@ -1,4 +1,5 @@
--- Histories of a board behind a lock: whose entry each is, how one begins another, and which core a history leaves.
+-- Linear histories (Herlihy and Wing, TOPLAS 1990) of a board behind a lock: whose entry each is, how one begins
+-- another, and which core a history leaves.
 use Rattle.std.specs.Prelude.{◌≡◌, ◌<◌, ◌≤◌, ℕ, true, List, ◌++◌, Some, slice_get}
 use Rattle.attempt_log.specs.Entries.{entries_by, is_submit}
 use Rattle.attempt_log.specs.declared.entry.Entry.{Entry}

@@ -1,4 +1,5 @@
--- What each step of the lock tells: of the step, the seat before, the number found and the seat after.
+-- What each step of a ticket lock (Mellor-Crummey and Scott, TOCS 1991) shows: of the step, the view before, the number
+-- that was found and the view after.
 use Rattle.std.specs.Prelude.{◌≡◌, ◌≢◌, ◌⊎◌, ℕ, ◌+◌, ◌-◌, ◌%◌, ◌^◌, ◌<◌, ◌≤◌, ◌==◌, cond, true, false, List, [], ◌∷◌, ◌++◌, length, take, drop, Option, Some, None, nat_lt, if◌then◌else◌}
 use mathlib.Core.Option.{some}
 use lib.ListN.{get_elem?}

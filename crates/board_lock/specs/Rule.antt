@@ -1,4 +1,5 @@
--- The rule of a lock with three words (the ticket, the number that is served, the count) and one slot with the board.
+-- What always holds of a ticket lock (Mellor-Crummey and Scott, TOCS 1991) with a third word that counts events, and of
+-- its slot with the board: all that is seen is part of one legal history.
 use Rattle.std.specs.Prelude.{◌≡◌, ℕ, ◌+◌, ◌%◌, ◌^◌, ◌<◌, ◌≤◌, Bool, true, false, ◌==◌, cond, List, [], ◌∷◌, ◌++◌, length, slice_index, Option, Some}
 use mathlib.Core.Option.{some, none}
 use lib.ListN.{get_elem?}

@@ -37,7 +37,7 @@ pub record HasWorked (turns : ℕ) (table : TableId) (base : List Entry) (start 
   pub finished : report.ending ≡ ending.Finished → 0 < ended
   pub made : report.turns ≤ turns
 
--- so many numbers were given out since no number was out
+-- this number of seats were given out when none was out
 pub record SplitBy (count : ℕ) (v w : View) : Type 0 where
   pub seen : w.seen ≡ v.seen
   pub opened : w.opened ≡ v.opened
@@ -87,3 +87,7 @@ pub record Told (turns count : ℕ) (v w : View) (reports : List Report) : Type 
   pub seen : w.seen ≡ v.seen ++ added
   pub each : (i : ℕ) (r : Report) → get_elem? reports i ≡ some r → ReportFits turns i v.seen added w r
   pub others : (n : ℕ) → count ≤ n → by n added ≡ []
+
+-- the same of the reports of workers who have worked, where the reports themselves are lost
+abbrev pub HaveWorked : ℕ → ℕ → View → View → Type 0
+HaveWorked turns count v w = (reports : List Report) × Told turns count v w reports × (length reports ≡ count)

@@ -1,5 +1,5 @@
 //! Workers that note their entries, so that the whole history comes out of them.
-ghost use Rattle.std.specs.Prelude.{◌≡◌, ◌∷◌, ◌++◌, ◌≤◌, ◌<◌, ◌^◌, ℕ, true, [], None, Some, IfOk, OnOk, OnErr, length, slice_index_or};
+ghost use Rattle.std.specs.Prelude.{◌≡◌, ◌⊎◌, ◌∷◌, ◌++◌, ◌≤◌, ◌<◌, ◌^◌, ℕ, true, [], None, Some, IfOk, OnOk, OnErr, length, slice_index_or};
 ghost use Rattle.std.specs.Vec.{vec_capacity};
 ghost use Rattle.kw_bits.specs.Faults.{one_more};
 ghost use Rattle.attempt_log.specs.Attempt.{Attempted};
@@ -13,7 +13,7 @@ ghost use Rattle.board_core.specs.History.{board_after};
 ghost use Rattle.board_lock.specs.Histories.{Each, InRun, IsCycle, StartsWith};
 ghost use Rattle.board_lock.specs.Plays.{IsOutside, IsOwner};
 ghost use Rattle.board_lock.specs.Receipts.{IsCopy, Noting, receipts};
-ghost use Rattle.board_lock.specs.Work.{HasWorked, IsReady, JoinedFrom, SplitBy, Told};
+ghost use Rattle.board_lock.specs.Work.{HasWorked, HaveWorked, IsReady, JoinedFrom, SplitBy, Told};
 
 use crate::board::{LockBoard, work_seats};
 use crate::call::{Receipt, taken_of};
@@ -218,6 +218,8 @@ pub struct Noted {
 
 impl LockBoard {
     /// Has the workers take their turns at a board that has seen nothing, and returns the history that is then seen.
+    /// After an `Err`, either no worker has run, or all that the workers did stays done: the board's seat has then seen
+    /// a legal history with each worker's entries, and only their list is lost.
     pub fn journal_all<R: Threads + Wait + Sync, G: Gate + Sync>(
         &mut self,
         rt: &R,
@@ -231,6 +233,7 @@ impl LockBoard {
         ensures workers { IfOk result (λ noted. Each (λ e. worker_of e < self.old.workers) noted.entries) }
         ensures in_run { IfOk result (λ noted. Each (InRun self.old.place.me.0.opened) noted.entries) }
         ensures told { IfOk result (λ noted. Told turns self.old.workers self.old.place.me.0 self.new.place.me.0 noted.reports × (length noted.reports ≡ self.old.workers)) }
+        ensures kept { OnErr result ((self.new.place.me ≡ self.old.place.me) ⊎ HaveWorked turns self.old.workers self.old.place.me.0 self.new.place.me.0) }
         ensures opened { self.new.place.me.0.opened ≡ self.old.place.me.0.opened }
         ensures same { self.new.workers ≡ self.old.workers }
     {

@@ -18,8 +18,6 @@ mod view;
 pub use board::LockBoard;
 pub use call::Receipt;
 pub use journal::Noted;
-pub use lock::Lock;
-pub use notes::Note;
 pub use seat::LockSeat;
 pub use view::{Done, Opened, Part, Stage, View};
 

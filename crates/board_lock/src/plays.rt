@@ -20,6 +20,7 @@ impl Entered for Brand {
     ghost entry = { entry.Settle 0 settled.Finished };
 }
 
+/// What holds of the words, the slot and all views between any two steps.
 pub struct Law;
 
 impl TableRule<Option<Core>, View, Snapshot<Core>> for Law {
@@ -31,6 +32,7 @@ impl TableRule<Option<Core>, View, Snapshot<Core>> for Law {
     ghost first = { λ key. owning key.value.opening };
 }
 
+/// A seat takes a ticket, and notes it.
 pub struct Draw;
 
 impl Play<Option<Core>, View> for Draw {
@@ -39,6 +41,7 @@ impl Play<Option<Core>, View> for Draw {
     ghost then = { drew };
 }
 
+/// A load of the number that is served: on its turn a seat has the slot and knows the history.
 pub struct Look;
 
 impl Play<Option<Core>, View> for Look {
@@ -47,6 +50,7 @@ impl Play<Option<Core>, View> for Look {
     ghost then = { looked };
 }
 
+/// An entry is counted: it is one more of what a seat has seen and of its own.
 pub struct Add<E> {
     of: PhantomData<E>,
 }
@@ -57,6 +61,7 @@ impl<E: Entered> Play<Option<Core>, View> for Add<E> {
     ghost then = { added E.entry };
 }
 
+/// A seat ends its turn: it gives up its ticket and the slot.
 pub struct Give;
 
 impl Play<Option<Core>, View> for Give {
@@ -74,6 +79,7 @@ impl Play<Option<Core>, View> for GiveSeen {
     ghost then = { gave_seen };
 }
 
+/// A load by the board's own seat, which learns what the joined seats made.
 pub struct Learn;
 
 impl Play<Option<Core>, View> for Learn {

@@ -20,8 +20,9 @@ use std::marker::Brand;
 use std::snapshot::Snapshot;
 use std::sync::Wait;
 
-/// A worker's seat at a board. It knows a legal history of the board, which begins with what it had seen at its
-/// start. Its own entries are those of its number after that, in order, each once.
+/// A worker's seat at a board. It knows a history of the board, which begins with what it had seen at its start; after
+/// `job`, and after `submit` and `settle` of its own, that history is legal. Its own entries are those of its number
+/// after its start, in order, each once.
 #[derive(Drop)]
 pub struct LockSeat<'a, R> {
     pub(crate) rt: &'a R,

@@ -179,7 +179,7 @@ impl Plain {
         Ok(fired)
     }
 
-    // Each row of a core is that of the plain run, and there are so many.
+    // Each row of a core is that of the plain run, and there are as many.
     fn expect(
         &mut self,
         rt: &impl Abort,
@@ -285,7 +285,7 @@ fn one_worker_counts(rt: HostRuntime) -> Result<(), Fail> {
     Ok(())
 }
 
-// Worker 0 waits in its first turns until others have turned, for so many loads at most.
+// Worker 0 waits in its first turns until others have turned, but not for more than these loads.
 #[derive(Drop)]
 struct Holding {
     turned: AtomicU64,

@@ -4,7 +4,7 @@ use Rattle.std.specs.Prelude.{slice_index_or}
 use Rattle.spec_worker.specs.declared.Working.{Working}
 use Rattle.board_lock.proofs.Crossing.{noting_send}
 use Rattle.board_lock.specs.declared.journal.NotingSeat.{NotingSeat}
-use Rattle.std.proofs.Common.{rules, arith, ◌≡◌, ℕ, List, length, sym, ap, subst, ◌∙◌}
+use Rattle.std.proofs.Common.{rules, arith, ◌≡◌, ℕ, List, Result, Ok, Err, OnErr, length, sym, ap, subst, ◌∙◌, inr}
 use Rattle.std.proofs.lemmas.Grind.{common_steps}
 use Rattle.attempt_log.specs.declared.report.Report.{Report}
 use Rattle.board_lock.specs.declared.notes.Note.{Note}
@@ -20,6 +20,26 @@ use Rattle.board_core.specs.Board.{Opening}
 use Rattle.board_lock.specs.Histories.{Each, InRun}
 use Rattle.board_lock.proofs.Noting.{journaled, told_below}
 use Rattle.board_lock.proofs.board.LockBoard.journal_all.Goals as goal
+
+on_err : {T E P : Type 0} (r : Result T E) → P → OnErr r P
+on_err (Ok x) p = tt
+on_err (Err e) p = p
+
+pub returns-then-not-whole-clause-kept : goal.returns-then-not-whole-clause-kept
+returns-then-not-whole-clause-kept g c =
+    let reports : List Report = c.join_noting-whole.new.reports.items in
+    let told : Told c.args.turns c.args.self.now.workers c.args.self.now.place.me.0 c.learn.new.place.me.0 reports × (length reports ≡ c.args.self.now.workers) =
+    told_run c.args.turns c.args.self.now.workers _ c.args.self.now.place.me.0 c.split_noting.new.place.me.0 c.join_noting-whole.new.place.me.0 c.learn.new.place.me.0 reports
+    c.join_noting-whole.ensures.joined c.join_noting-whole.ensures.count (grind (arith, common_steps)) c.args.self.now.some c.in_ok-seats.ensures.split (λ i. (c.learn.ensures.kept i).0) c.learn.ensures.settled in
+    inr (reports, told.0, told.1)
+
+pub returns-in_err-entries-clause-kept : goal.returns-in_err-entries-clause-kept
+returns-in_err-entries-clause-kept g c =
+    let reports : List Report = c.join_noting-whole.new.reports.items in
+    let told : Told c.args.turns c.args.self.now.workers c.args.self.now.place.me.0 c.learn.new.place.me.0 reports × (length reports ≡ c.args.self.now.workers) =
+    told_run c.args.turns c.args.self.now.workers _ c.args.self.now.place.me.0 c.split_noting.new.place.me.0 c.join_noting-whole.new.place.me.0 c.learn.new.place.me.0 reports
+    c.join_noting-whole.ensures.joined c.join_noting-whole.ensures.count (grind (arith, common_steps)) c.args.self.now.some c.in_ok-seats.ensures.split (λ i. (c.learn.ensures.kept i).0) c.learn.ensures.settled in
+    on_err c.from_residual-in_err-entries.result (inr (reports, told.0, told.1))
 
 pub returns-clause-told : goal.returns-clause-told
 returns-clause-told g c =
