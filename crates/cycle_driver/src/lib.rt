@@ -2,10 +2,13 @@
 //! what they left.
 //!
 //! Its contracts cite the run of `one_rule` (specs/Run.antt). `specs/Heads.antt` says at which boards it does the job
-//! of the head itself. No command calls it yet.
+//! of the head itself. `sim --workers` of `koika_top` calls it for each batch.
 #![tactic(auto)]
 
 mod finish;
 mod runs;
 
 pub use runs::{run_batch, run_threaded};
+
+#[cfg(test)]
+mod tests;
