@@ -149,6 +149,9 @@ sim --cycles x|decimal digits
 sim --cycles 4294967296|too many
 sim --cycles 1 --cycles 2|twice
 sim --cycles 1 --engine quick|no engine
+sim --cycles 1 --workers 0|1 to 64
+sim --cycles 1 --workers=65|1 to 64
+sim --cycles 1 --workers 2 --engine circuit|plain engine
 sim --cycles 1 --verbose|no option
 btorsim --cycles 1 --engine plain|no option
 gen|missing

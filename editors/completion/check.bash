@@ -16,8 +16,8 @@ try() {
 }
 try "check print sim compile btorsim gen --unproved" koika ""
 try "check compile" koika c
-try "--cycles --summary --engine" koika sim "--"
-try "--summary --engine" koika sim --cycles 4 "--"
+try "--cycles --summary --engine --workers" koika sim "--"
+try "--summary --engine --workers" koika sim --cycles 4 "--"
 try "plain circuit" koika sim --engine ""
 try "--cycles --summary" koika btorsim ""
 try "" koika check ""

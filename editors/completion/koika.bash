@@ -11,10 +11,10 @@ _koika() {
                 [ "${#COMPREPLY[@]}" -gt 0 ] || mapfile -t COMPREPLY < <(compgen -f -- "$word")
                 return ;;
             --engine) words="plain circuit" ;;
-            --cycles) return ;;
+            --cycles | --workers) return ;;
             *)
                 case $command in
-                    sim) words="--cycles --summary --engine" ;;
+                    sim) words="--cycles --summary --engine --workers" ;;
                     btorsim) words="--cycles --summary" ;;
                     gen) words="1 10 100" ;;
                 esac

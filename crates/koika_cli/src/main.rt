@@ -1,12 +1,13 @@
-//! The program: its arguments, standard input and standard output and its host functions go to `koika_top::run_here`,
-//! whose status is the exit status.
+//! The program: its arguments, standard input and standard output and its host functions go to `koika_top::run`, whose
+//! status is the exit status.
 //!
-//! It stands on no definition of its own: what it answers is the contract of `run_here`. Nothing calls it.
+//! It stands on no definition of its own: what it answers is the contract of `run`. Nothing calls it.
 #![tactic(auto)]
 
+use attempt_log::NoGate;
 use host_fn::offered::{BITS_OF_ONE, BITS_OF_TWO};
 use host_fn::{HostFn, offered};
-use koika_top::{Status, run_here};
+use koika_top::{Status, run};
 use kw_bits::HostKind;
 use kw_io::{Sink, Source, StdSink, StdSource};
 use std::alloc::Global;
@@ -14,9 +15,11 @@ use std::env::{Env, args};
 use std::io;
 use std::io::ErrorKind;
 use std::process::ExitCode;
+use std::sync::Wait;
+use std::thread::Threads;
 
 // The exit status where the arguments can't be taken and memory isn't the cause, as where they aren't UTF-8.
-// `run_here` never answers it.
+// `run` never answers it.
 const NO_ARGUMENTS: u8 = 6;
 
 fn main(rt: HostRuntime) -> ExitCode {
@@ -24,7 +27,7 @@ fn main(rt: HostRuntime) -> ExitCode {
         Ok(arguments) => {
             let mut source = StdSource::new(rt.stdin());
             let mut sink = StdSink::new(rt.stdout());
-            let status = run_with_hosts(rt.alloc(), &arguments, &mut source, &mut sink);
+            let status = run_with_hosts(&rt, rt.alloc(), &arguments, &mut source, &mut sink);
             ExitCode::from(status as u8)
         }
         Err(error) if error.kind() == ErrorKind::OutOfMemory => {
@@ -34,9 +37,10 @@ fn main(rt: HostRuntime) -> ExitCode {
     }
 }
 
-// Runs the program with a host function of each kind.
+// Runs the program with a host function of each kind, and a gate that holds no worker.
 #[tactic(auto, unfolding(kw_bits::specs::Host::arity))]
-fn run_with_hosts<S: Source, K: Sink>(
+fn run_with_hosts<S: Source, K: Sink, R: Threads + Wait + Sync>(
+    rt: &R,
     alloc: Global,
     words: &[String],
     source: &mut S,
@@ -52,7 +56,7 @@ fn run_with_hosts<S: Source, K: Sink>(
         HostFn::new_two(HostKind::Morton, BITS_OF_TWO, offered::morton).unwrap(),
         HostFn::new_two(HostKind::SatAdd, BITS_OF_TWO, offered::sat_add).unwrap(),
     ];
-    run_here(alloc, words, &hosts, source, sink)
+    run(rt, alloc, words, &hosts, &NoGate, source, sink)
 }
 
 // The arguments of the command line, without the program's own name.

@@ -33,3 +33,4 @@ pub mod CircuitShown
 pub mod CircuitTold
 pub mod StimuliFit
 pub mod Compiled
+pub mod Crews

@@ -19,8 +19,8 @@ use Rattle.clap.specs.declared.parser.matches.ValueSource.TheVariants.{CommandLi
 use Rattle.clap.specs.declared.builder.value_parser.Reading.{Reading}
 use Rattle.clap.specs.Takes.{is_given, settle_passes, takes, turn_passes, walk_passes}
 use Rattle.clap.proofs.OnLiterals.{clap_on_literals}
-use Rattle.koika_top.specs.Given.{Give, bare, cycles_rule, engine_rule, flag_of, gen_app, number_in, run_app, stages_rule, summary_rule}
-use Rattle.koika_top.specs.Words.{asked_for, engine_of, gen_by, gen_of, given_once, no_options, number_of, options_of, sim_by, sim_of, value_of, with_cycles, with_engine, with_summary, with_word}
+use Rattle.koika_top.specs.Given.{Give, bare, cycles_rule, engine_rule, flag_of, gen_app, number_in, run_app, stages_rule, summary_rule, workers_rule}
+use Rattle.koika_top.specs.Words.{asked_for, engine_by, engine_of, gen_by, gen_of, given_once, no_options, number_of, options_of, sim_by, sim_of, value_of, with_cycles, with_engine, with_summary, with_word, with_workers}
 use Rattle.koika_top.specs.declared.engine_kind.EngineKind.{EngineKind}
 use Rattle.koika_top.specs.declared.engine_kind.EngineKind.TheVariants.{Plain, Circuit}
 use Rattle.koika_top.specs.declared.shown.Shown.{Shown}
@@ -36,14 +36,22 @@ some_is x y e = ap (λ o. unwrap_or o x) e
 data Key : Type 0 where
   of_cycles : Key
   of_engine : Key
+  of_workers : Key
 
 abbrev flag_word : Key → Text
 flag_word of_cycles = codes "--cycles"
 flag_word of_engine = codes "--engine"
+flag_word of_workers = codes "--workers"
 
 abbrev front_word : Key → Text
 front_word of_cycles = codes "--cycles="
 front_word of_engine = codes "--engine="
+front_word of_workers = codes "--workers="
+
+abbrev front_length : Key → ℕ
+front_length of_cycles = 9
+front_length of_engine = 9
+front_length of_workers = 10
 
 -- an option and its value, an option with its value behind `=`, and `--summary`
 data Step : Type 0 where
@@ -63,6 +71,7 @@ record PutsCycles (v : Text) (rest o : Options) : Type 0 where
   fresh : rest.cycles ≡ None
   cycles : o.cycles ≡ Some n
   engine : o.engine ≡ rest.engine
+  workers : o.workers ≡ rest.workers
   shown : o.shown ≡ rest.shown
 
 record PutsEngine (v : Text) (rest o : Options) : Type 0 where
@@ -71,16 +80,28 @@ record PutsEngine (v : Text) (rest o : Options) : Type 0 where
   fresh : rest.engine ≡ None
   cycles : o.cycles ≡ rest.cycles
   engine : o.engine ≡ Some kind
+  workers : o.workers ≡ rest.workers
+  shown : o.shown ≡ rest.shown
+
+record PutsWorkers (v : Text) (rest o : Options) : Type 0 where
+  n : ℕ
+  number : number_of v ≡ Some n
+  fresh : rest.workers ≡ None
+  cycles : o.cycles ≡ rest.cycles
+  engine : o.engine ≡ rest.engine
+  workers : o.workers ≡ Some n
   shown : o.shown ≡ rest.shown
 
 abbrev Puts : Key → Text → Options → Options → Type 0
 Puts of_cycles v rest o = PutsCycles v rest o
 Puts of_engine v rest o = PutsEngine v rest o
+Puts of_workers v rest o = PutsWorkers v rest o
 
 record IsShown (rest o : Options) : Type 0 where
   fresh : rest.shown ≡ Report
   cycles : o.cycles ≡ rest.cycles
   engine : o.engine ≡ rest.engine
+  workers : o.workers ≡ rest.workers
   shown : o.shown ≡ Summary
 
 -- steps give options
@@ -100,6 +121,7 @@ once-is (Some x) put value o e = absurd (none-some o e)
 abbrev with_key : Key → Text → Option Options → Option Options
 with_key of_cycles v others = with_cycles v others
 with_key of_engine v others = with_engine v others
+with_key of_workers v others = with_workers v others
 
 with_key-is : (key : Key) (v : Text) (others : Option Options) (o : Options) → with_key key v others ≡ Some o → (rest : Options) × (others ≡ Some rest) × Puts key v rest o
 with_key-is of_cycles v None o e = absurd (none-some o e)
@@ -108,7 +130,7 @@ with_key-is of_cycles v (Some rest) o e =
     let put = sym found.3 in (
       rest,
       refl,
-      record { n = found.0; number = found.2; fresh = found.1; cycles = ap (λ (p : Options). p.cycles) put; engine = ap (λ (p : Options). p.engine) put; shown = ap (λ (p : Options). p.shown) put },
+      record { n = found.0; number = found.2; fresh = found.1; cycles = ap (λ (p : Options). p.cycles) put; engine = ap (λ (p : Options). p.engine) put; workers = ap (λ (p : Options). p.workers) put; shown = ap (λ (p : Options). p.shown) put },
     )
 with_key-is of_engine v None o e = absurd (none-some o e)
 with_key-is of_engine v (Some rest) o e =
@@ -116,7 +138,15 @@ with_key-is of_engine v (Some rest) o e =
     let put = sym found.3 in (
       rest,
       refl,
-      record { kind = found.0; named = found.2; fresh = found.1; cycles = ap (λ (p : Options). p.cycles) put; engine = ap (λ (p : Options). p.engine) put; shown = ap (λ (p : Options). p.shown) put },
+      record { kind = found.0; named = found.2; fresh = found.1; cycles = ap (λ (p : Options). p.cycles) put; engine = ap (λ (p : Options). p.engine) put; workers = ap (λ (p : Options). p.workers) put; shown = ap (λ (p : Options). p.shown) put },
+    )
+with_key-is of_workers v None o e = absurd (none-some o e)
+with_key-is of_workers v (Some rest) o e =
+    let found = once-is rest.workers (λ n. record rest { workers = Some n }) (number_of v) o e in
+    let put = sym found.3 in (
+      rest,
+      refl,
+      record { n = found.0; number = found.2; fresh = found.1; cycles = ap (λ (p : Options). p.cycles) put; engine = ap (λ (p : Options). p.engine) put; workers = ap (λ (p : Options). p.workers) put; shown = ap (λ (p : Options). p.shown) put },
     )
 
 asked-none : (s : Shown) → asked_for s ≡ None → s ≡ Report
@@ -134,6 +164,7 @@ with_summary-is (Some rest) o e =
         fresh = asked-none rest.shown found.1;
         cycles = ap (λ (p : Options). p.cycles) put;
         engine = ap (λ (p : Options). p.engine) put;
+        workers = ap (λ (p : Options). p.workers) put;
         shown = ap (λ (p : Options). p.shown) put ∙ sym (some_is _ _ found.2);
       },
     )
@@ -143,11 +174,13 @@ Found words o = (steps : List Step) × (words ≡ words_of steps) × Gives steps
 
 module _ (word : Text) (words : List Text) (o : Options) (later : (rest : Options) → options_of words ≡ Some rest → Found words rest) where
   -- a word that is an option with its value
-  equals-is : (key : Key) → bytes_eq (take 9 word) (front_word key) ≡ true → front_word key ++ drop 9 word ≡ take 9 word ++ drop 9 word → with_key key (drop 9 word) (options_of words) ≡ Some o → Found (word ∷ words) o
-  equals-is key begins front e =
-      let put = with_key-is key (drop 9 word) (options_of words) o e in
+  equals-is : (key : Key) → bytes_eq (take (front_length key) word) (front_word key) ≡ true → with_key key (drop (front_length key) word) (options_of words) ≡ Some o → Found (word ∷ words) o
+  equals-is key begins e =
+      let n = front_length key in
+      let front : front_word key ++ drop n word ≡ take n word ++ drop n word = ap (λ front. front ++ drop n word) (sym ((bytes_eq-Decides (take n word) (front_word key)).0 begins)) in
+      let put = with_key-is key (drop n word) (options_of words) o e in
       let found = later put.0 put.1 in
-      (equals key (drop 9 word) ∷ found.0, ap₂ (λ w ws. w ∷ ws) (sym (front ∙ take-append-drop 9 word)) found.1, (put.0, found.2, put.2))
+      (equals key (drop n word) ∷ found.0, ap₂ (λ w ws. w ∷ ws) (sym (front ∙ take-append-drop n word)) found.1, (put.0, found.2, put.2))
 
   summary-is : bytes_eq word (codes "--summary") ≡ true → with_summary (options_of words) ≡ Some o → Found (word ∷ words) o
   summary-is is e =
@@ -156,15 +189,16 @@ module _ (word : Text) (words : List Text) (o : Options) (later : (rest : Option
       (summary ∷ found.0, ap₂ (λ w ws. w ∷ ws) ((bytes_eq-Decides word (codes "--summary")).0 is) found.1, (put.0, found.2, put.2))
 
   with_word-is : with_word word (options_of words) ≡ Some o → Found (word ∷ words) o
-  with_word-is e = go (bytes_eq word (codes "--summary")) (bytes_eq (take 9 word) (codes "--cycles=")) (bytes_eq (take 9 word) (codes "--engine=")) refl refl refl e
+  with_word-is e = go (bytes_eq word (codes "--summary")) (bytes_eq (take 9 word) (codes "--cycles=")) (bytes_eq (take 9 word) (codes "--engine=")) (bytes_eq (take 10 word) (codes "--workers=")) refl refl refl refl e
     where
-      go : (a b c : Bool) → bytes_eq word (codes "--summary") ≡ a → bytes_eq (take 9 word) (codes "--cycles=") ≡ b → bytes_eq (take 9 word) (codes "--engine=") ≡ c
-          → (if a then with_summary (options_of words) else if b then with_cycles (drop 9 word) (options_of words) else if c then with_engine (drop 9 word) (options_of words) else None) ≡ Some o
+      go : (a b c d : Bool) → bytes_eq word (codes "--summary") ≡ a → bytes_eq (take 9 word) (codes "--cycles=") ≡ b → bytes_eq (take 9 word) (codes "--engine=") ≡ c → bytes_eq (take 10 word) (codes "--workers=") ≡ d
+          → (if a then with_summary (options_of words) else if b then with_cycles (drop 9 word) (options_of words) else if c then with_engine (drop 9 word) (options_of words) else if d then with_workers (drop 10 word) (options_of words) else None) ≡ Some o
           → Found (word ∷ words) o
-      go true b c is first second e = summary-is is e
-      go false true c is first second e = equals-is of_cycles first (ap (λ front. front ++ drop 9 word) (sym ((bytes_eq-Decides (take 9 word) (codes "--cycles=")).0 first))) e
-      go false false true is first second e = equals-is of_engine second (ap (λ front. front ++ drop 9 word) (sym ((bytes_eq-Decides (take 9 word) (codes "--engine=")).0 second))) e
-      go false false false is first second e = absurd (none-some o e)
+      go true b c d is first second third e = summary-is is e
+      go false true c d is first second third e = equals-is of_cycles first e
+      go false false true d is first second third e = equals-is of_engine second e
+      go false false false true is first second third e = equals-is of_workers third e
+      go false false false false is first second third e = absurd (none-some o e)
 
 module _ (word value : Text) (words : List Text) (o : Options) (later : (rest : Options) → options_of words ≡ Some rest → Found words rest) where
   -- a word that is an option, and its value behind it
@@ -175,14 +209,15 @@ module _ (word value : Text) (words : List Text) (o : Options) (later : (rest : 
       (next key value ∷ found.0, ap₂ (λ w ws. w ∷ value ∷ ws) is found.1, (put.0, found.2, put.2))
 
   with_first-is : ((rest : Options) → options_of (value ∷ words) ≡ Some rest → Found (value ∷ words) rest) → options_of (word ∷ value ∷ words) ≡ Some o → Found (word ∷ value ∷ words) o
-  with_first-is behind e = go (bytes_eq word (codes "--cycles")) (bytes_eq word (codes "--engine")) refl refl e
+  with_first-is behind e = go (bytes_eq word (codes "--cycles")) (bytes_eq word (codes "--engine")) (bytes_eq word (codes "--workers")) refl refl refl e
     where
-      go : (a b : Bool) → bytes_eq word (codes "--cycles") ≡ a → bytes_eq word (codes "--engine") ≡ b
-          → (if a then with_cycles value (options_of words) else if b then with_engine value (options_of words) else with_word word (options_of (value ∷ words))) ≡ Some o
+      go : (a b c : Bool) → bytes_eq word (codes "--cycles") ≡ a → bytes_eq word (codes "--engine") ≡ b → bytes_eq word (codes "--workers") ≡ c
+          → (if a then with_cycles value (options_of words) else if b then with_engine value (options_of words) else if c then with_workers value (options_of words) else with_word word (options_of (value ∷ words))) ≡ Some o
           → Found (word ∷ value ∷ words) o
-      go true b is first e = next-is of_cycles ((bytes_eq-Decides word (codes "--cycles")).0 is) e
-      go false true is first e = next-is of_engine ((bytes_eq-Decides word (codes "--engine")).0 first) e
-      go false false is first e = with_word-is word (value ∷ words) o behind e
+      go true b c is first second e = next-is of_cycles ((bytes_eq-Decides word (codes "--cycles")).0 is) e
+      go false true c is first second e = next-is of_engine ((bytes_eq-Decides word (codes "--engine")).0 first) e
+      go false false true is first second e = next-is of_workers ((bytes_eq-Decides word (codes "--workers")).0 second) e
+      go false false false is first second e = with_word-is word (value ∷ words) o behind e
 
 steps_of : (words : List Text) (o : Options) → options_of words ≡ Some o → Found words o
 steps_of [] o e = ([], refl, sym (some_is _ o e))
@@ -227,10 +262,11 @@ engine-plain v kind e = go (bytes_eq v (codes "plain")) (bytes_eq v (codes "circ
 value-plain : (key : Key) (v : Text) (rest o : Options) → Puts key v rest o → IsPlain v
 value-plain of_cycles v rest o put = number-plain v put.n put.number
 value-plain of_engine v rest o put = engine-plain v put.kind put.named
+value-plain of_workers v rest o put = number-plain v put.n put.number
 
 -- ---- rows
 
--- what may be found: values of the two options, and that a summary is wanted
+-- what may be found: values of the three options, and that a summary is wanted
 data Slot : Type 0 where
   of_value : Key → Slot
   of_summary : Slot
@@ -238,11 +274,13 @@ data Slot : Type 0 where
 abbrev id_of : Slot → Text
 id_of (of_value of_cycles) = codes "cycles"
 id_of (of_value of_engine) = codes "engine"
+id_of (of_value of_workers) = codes "workers"
 id_of of_summary = codes "summary"
 
 abbrev reading_of_slot : Slot → Reading
 reading_of_slot (of_value of_cycles) = reading_by (filled cycles_rule)
 reading_of_slot (of_value of_engine) = reading_by (filled engine_rule)
+reading_of_slot (of_value of_workers) = reading_by (filled workers_rule)
 reading_of_slot of_summary = reading_by (filled summary_rule)
 
 abbrev row_for : Slot → List Text → Row
@@ -322,12 +360,19 @@ module _ (rows : List Row) (values : Slot → Option (List Text)) (known : Known
   known-used : (slot : Slot) (given : List Text) → values slot ≡ None → Known (used_by slot given rows) (put slot given values)
   known-used (of_value of_cycles) given fresh (of_value of_cycles) = found-own (of_value of_cycles) given fresh refl
   known-used (of_value of_cycles) given fresh (of_value of_engine) = found-other (of_value of_cycles) (of_value of_engine) given fresh refl
+  known-used (of_value of_cycles) given fresh (of_value of_workers) = found-other (of_value of_cycles) (of_value of_workers) given fresh refl
   known-used (of_value of_cycles) given fresh of_summary = found-other (of_value of_cycles) of_summary given fresh refl
   known-used (of_value of_engine) given fresh (of_value of_cycles) = found-other (of_value of_engine) (of_value of_cycles) given fresh refl
   known-used (of_value of_engine) given fresh (of_value of_engine) = found-own (of_value of_engine) given fresh refl
+  known-used (of_value of_engine) given fresh (of_value of_workers) = found-other (of_value of_engine) (of_value of_workers) given fresh refl
   known-used (of_value of_engine) given fresh of_summary = found-other (of_value of_engine) of_summary given fresh refl
+  known-used (of_value of_workers) given fresh (of_value of_cycles) = found-other (of_value of_workers) (of_value of_cycles) given fresh refl
+  known-used (of_value of_workers) given fresh (of_value of_engine) = found-other (of_value of_workers) (of_value of_engine) given fresh refl
+  known-used (of_value of_workers) given fresh (of_value of_workers) = found-own (of_value of_workers) given fresh refl
+  known-used (of_value of_workers) given fresh of_summary = found-other (of_value of_workers) of_summary given fresh refl
   known-used of_summary given fresh (of_value of_cycles) = found-other of_summary (of_value of_cycles) given fresh refl
   known-used of_summary given fresh (of_value of_engine) = found-other of_summary (of_value of_engine) given fresh refl
+  known-used of_summary given fresh (of_value of_workers) = found-other of_summary (of_value of_workers) given fresh refl
   known-used of_summary given fresh of_summary = found-own of_summary given fresh refl
 
   none-used : (slot : Slot) → values slot ≡ None → has_row (id_of slot) rows ≡ false
@@ -374,11 +419,13 @@ module _ (name : Text) (rows : List Row) (pending : Option (Text × List Text)) 
     unfolding clap_on_literals
     equals_walked of_cycles = refl
     equals_walked of_engine = refl
+    equals_walked of_workers = refl
 
     equals_passes : (key : Key) → has_row (id_of (of_value key)) so_far ≡ false → turn_passes (run_shape name) [] (between rows pending) (front_word key ++ v) ≡ true
     unfolding clap_on_literals
     equals_passes of_cycles none = simp (settles, none)
     equals_passes of_engine none = simp (settles, none)
+    equals_passes of_workers none = simp (settles, none)
 
   flag_walked : walked run_rules [] (between rows pending) (codes "--summary") ≡ between (used_by of_summary (codes "true" ∷ []) so_far) None
   unfolding clap_on_literals
@@ -393,20 +440,24 @@ module _ (name : Text) (rows : List Row) (pending : Option (Text × List Text)) 
     unfolding clap_on_literals
     next_walked of_cycles = simp dash
     next_walked of_engine = simp dash
+    next_walked of_workers = simp dash
 
     next_passes : (key : Key) → (turn_passes (run_shape name) [] (between rows pending) (flag_word key) && turn_passes (run_shape name) [] (walked run_rules [] (between rows pending) (flag_word key)) (d ∷ ds)) ≡ true
     unfolding clap_on_literals
     next_passes of_cycles = simp (settles, dash)
     next_passes of_engine = simp (settles, dash)
+    next_passes of_workers = simp (settles, dash)
 
   -- the value is used when it is settled
   next_settles : (key : Key) (v : Text) → has_row (id_of (of_value key)) so_far ≡ false → settle_passes run_rules false (held_with so_far (Some (id_of (of_value key), v ∷ []))) ≡ true
   next_settles of_cycles v none = simp none
   next_settles of_engine v none = simp none
+  next_settles of_workers v none = simp none
 
   next_used : (key : Key) (v : Text) → settled_rows run_rules (Some (id_of (of_value key), v ∷ [])) so_far ≡ used_by (of_value key) (v ∷ []) so_far
   next_used of_cycles v = refl
   next_used of_engine v = refl
+  next_used of_workers v = refl
 
 module _ (name : Text) (values : Slot → Option (List Text)) where
   -- what a word leaves, where what is pending settles
@@ -474,6 +525,7 @@ all_values (summary ∷ steps) values = all_values steps (put of_summary (codes 
 record AreFree (o : Options) (values : Slot → Option (List Text)) : Type 0 where
   cycles : is_some o.cycles ≡ true → values (of_value of_cycles) ≡ None
   engine : is_some o.engine ≡ true → values (of_value of_engine) ≡ None
+  workers : is_some o.workers ≡ true → values (of_value of_workers) ≡ None
   shown : o.shown ≡ Summary → values of_summary ≡ None
 
 report-summary : (s : Shown) → s ≡ Report → s ≡ Summary → ⊥
@@ -486,16 +538,25 @@ module _ (values : Slot → Option (List Text)) (rest o : Options) (free : AreFr
   key-fresh : (key : Key) (v : Text) → Puts key v rest o → values (of_value key) ≡ None
   key-fresh of_cycles v put = free.cycles (ap is_some put.cycles)
   key-fresh of_engine v put = free.engine (ap is_some put.engine)
+  key-fresh of_workers v put = free.workers (ap is_some put.workers)
 
   key-free : (key : Key) (v : Text) → Puts key v rest o → AreFree rest (put (of_value key) (v ∷ []) values)
   key-free of_cycles v put = record {
     cycles = λ s. absurd (none-there rest.cycles put.fresh s);
     engine = λ s. free.engine (ap is_some put.engine ∙ s);
+    workers = λ s. free.workers (ap is_some put.workers ∙ s);
     shown = λ s. free.shown (put.shown ∙ s);
   }
   key-free of_engine v put = record {
     cycles = λ s. free.cycles (ap is_some put.cycles ∙ s);
     engine = λ s. absurd (none-there rest.engine put.fresh s);
+    workers = λ s. free.workers (ap is_some put.workers ∙ s);
+    shown = λ s. free.shown (put.shown ∙ s);
+  }
+  key-free of_workers v put = record {
+    cycles = λ s. free.cycles (ap is_some put.cycles ∙ s);
+    engine = λ s. free.engine (ap is_some put.engine ∙ s);
+    workers = λ s. absurd (none-there rest.workers put.fresh s);
     shown = λ s. free.shown (put.shown ∙ s);
   }
 
@@ -503,6 +564,7 @@ module _ (values : Slot → Option (List Text)) (rest o : Options) (free : AreFr
   flag-free put = record {
     cycles = λ s. free.cycles (ap is_some put.cycles ∙ s);
     engine = λ s. free.engine (ap is_some put.engine ∙ s);
+    workers = λ s. free.workers (ap is_some put.workers ∙ s);
     shown = λ s. absurd (report-summary rest.shown put.fresh s);
   }
 
@@ -532,6 +594,7 @@ flag_values Summary given = Some (codes "true" ∷ [])
 record AreReadAs (o : Options) (before values : Slot → Option (List Text)) : Type 0 where
   cycles : first_as number_of (values (of_value of_cycles)) ≡ option_or o.cycles (first_as number_of (before (of_value of_cycles)))
   engine : first_as engine_of (values (of_value of_engine)) ≡ option_or o.engine (first_as engine_of (before (of_value of_engine)))
+  workers : first_as number_of (values (of_value of_workers)) ≡ option_or o.workers (first_as number_of (before (of_value of_workers)))
   shown : values of_summary ≡ flag_values o.shown (before of_summary)
 
 module _ (rest o : Options) (before values : Slot → Option (List Text)) where
@@ -539,11 +602,19 @@ module _ (rest o : Options) (before values : Slot → Option (List Text)) where
   key-read of_cycles v put read = record {
     cycles = read.cycles ∙ ap₂ option_or put.fresh put.number ∙ ap (λ (own : Option ℕ). option_or own (first_as number_of (before (of_value of_cycles)))) (sym put.cycles);
     engine = read.engine ∙ ap (λ (own : Option EngineKind). option_or own (first_as engine_of (before (of_value of_engine)))) (sym put.engine);
+    workers = read.workers ∙ ap (λ (own : Option ℕ). option_or own (first_as number_of (before (of_value of_workers)))) (sym put.workers);
     shown = read.shown ∙ ap (λ (own : Shown). flag_values own (before of_summary)) (sym put.shown);
   }
   key-read of_engine v put read = record {
     cycles = read.cycles ∙ ap (λ (own : Option ℕ). option_or own (first_as number_of (before (of_value of_cycles)))) (sym put.cycles);
     engine = read.engine ∙ ap₂ option_or put.fresh put.named ∙ ap (λ (own : Option EngineKind). option_or own (first_as engine_of (before (of_value of_engine)))) (sym put.engine);
+    workers = read.workers ∙ ap (λ (own : Option ℕ). option_or own (first_as number_of (before (of_value of_workers)))) (sym put.workers);
+    shown = read.shown ∙ ap (λ (own : Shown). flag_values own (before of_summary)) (sym put.shown);
+  }
+  key-read of_workers v put read = record {
+    cycles = read.cycles ∙ ap (λ (own : Option ℕ). option_or own (first_as number_of (before (of_value of_cycles)))) (sym put.cycles);
+    engine = read.engine ∙ ap (λ (own : Option EngineKind). option_or own (first_as engine_of (before (of_value of_engine)))) (sym put.engine);
+    workers = read.workers ∙ ap₂ option_or put.fresh put.number ∙ ap (λ (own : Option ℕ). option_or own (first_as number_of (before (of_value of_workers)))) (sym put.workers);
     shown = read.shown ∙ ap (λ (own : Shown). flag_values own (before of_summary)) (sym put.shown);
   }
 
@@ -551,6 +622,7 @@ module _ (rest o : Options) (before values : Slot → Option (List Text)) where
   flag-read-as put read = record {
     cycles = read.cycles ∙ ap (λ (own : Option ℕ). option_or own (first_as number_of (before (of_value of_cycles)))) (sym put.cycles);
     engine = read.engine ∙ ap (λ (own : Option EngineKind). option_or own (first_as engine_of (before (of_value of_engine)))) (sym put.engine);
+    workers = read.workers ∙ ap (λ (own : Option ℕ). option_or own (first_as number_of (before (of_value of_workers)))) (sym put.workers);
     shown = read.shown ∙ ap (λ (own : Shown). flag_values own (Some (codes "true" ∷ []))) put.fresh ∙ ap (λ (own : Shown). flag_values own (before of_summary)) (sym put.shown);
   }
 
@@ -558,6 +630,7 @@ all-read-as : (steps : List Step) (o : Options) (before : Slot → Option (List 
 all-read-as [] o before gives = record {
   cycles = ap (λ (p : Options). option_or p.cycles (first_as number_of (before (of_value of_cycles)))) (sym gives);
   engine = ap (λ (p : Options). option_or p.engine (first_as engine_of (before (of_value of_engine)))) (sym gives);
+  workers = ap (λ (p : Options). option_or p.workers (first_as number_of (before (of_value of_workers)))) (sym gives);
   shown = ap (λ (p : Options). flag_values p.shown (before of_summary)) (sym gives);
 }
 all-read-as (next key v ∷ steps) o before gives = key-read gives.0 o before _ key v gives.2 (all-read-as steps gives.0 (put (of_value key) (v ∷ []) before) gives.1)
@@ -576,10 +649,10 @@ gen_is_simple = refl
 
 -- ---- what is built
 
-pub run_app-is : (name : Text) (b first second whole : Command) (cycles engine summary : Arg) → app_of b ≡ bare name → AddsArg b cycles first → AddsArg first engine second → AddsArg second summary whole
-    → rule_of cycles ≡ cycles_rule → rule_of engine ≡ engine_rule → rule_of summary ≡ summary_rule → cycles.global ≡ false → engine.global ≡ false → summary.global ≡ false → app_of whole ≡ run_app name
-run_app-is name b first second whole cycles engine shows begun one two three cycles_is engine_is summary_is here there behind =
-    three.shape behind ∙ ap₂ with_rule (two.shape there ∙ ap₂ with_rule (one.shape here ∙ ap₂ with_rule begun cycles_is) engine_is) summary_is
+pub run_app-is : (name : Text) (b first second third whole : Command) (cycles engine workers summary : Arg) → app_of b ≡ bare name → AddsArg b cycles first → AddsArg first engine second → AddsArg second workers third → AddsArg third summary whole
+    → rule_of cycles ≡ cycles_rule → rule_of engine ≡ engine_rule → rule_of workers ≡ workers_rule → rule_of summary ≡ summary_rule → cycles.global ≡ false → engine.global ≡ false → workers.global ≡ false → summary.global ≡ false → app_of whole ≡ run_app name
+run_app-is name b first second third whole cycles engine count shows begun one two three four cycles_is engine_is workers_is summary_is here there beside behind =
+    four.shape behind ∙ ap₂ with_rule (three.shape beside ∙ ap₂ with_rule (two.shape there ∙ ap₂ with_rule (one.shape here ∙ ap₂ with_rule begun cycles_is) engine_is) workers_is) summary_is
 
 pub gen_app-is : (b whole : Command) (stages : Arg) → app_of b ≡ bare (codes "gen") → AddsArg b stages whole → rule_of stages ≡ stages_rule → stages.global ≡ false → app_of whole ≡ gen_app
 gen_app-is b whole stages begun one stages_is here = one.shape here ∙ ap₂ with_rule begun stages_is
@@ -593,8 +666,8 @@ shown_by_flag one flag Summary s e on off (inl (t, is)) = is
 shown_by_flag one flag Summary s e on off (inr (f, is)) = absurd (true≢false (sym (on e) ∙ f))
 
 -- options are what they have
-pub options_same : (a b : Options) → a.cycles ≡ b.cycles → a.engine ≡ b.engine → a.shown ≡ b.shown → a ≡ b
-options_same a b cycles engine shown = rw cycles (rw engine (rw shown refl))
+pub options_same : (a b : Options) → a.cycles ≡ b.cycles → a.engine ≡ b.engine → a.workers ≡ b.workers → a.shown ≡ b.shown → a ≡ b
+options_same a b cycles engine count shown = rw cycles (rw engine (rw count (rw shown refl)))
 
 -- ---- what is found
 
@@ -615,7 +688,7 @@ module _ (rows : List Row) where
 abbrev summary_filled : Rule
 summary_filled = filled summary_rule
 
--- the rows behind all words have the rows of both options, and whether a summary is wanted
+-- the rows after all words have the rows of these options, and whether a summary is wanted
 record IsFinished (rows final : List Row) (shown : Shown) : Type 0 where
   values : (key : Key) → row_of_id (id_of (of_value key)) final ≡ row_of_id (id_of (of_value key)) rows
   flag : one_of (codes "summary") final ≡ Some (flag_of shown)
@@ -642,6 +715,7 @@ module _ (rows : List Row) (values : Slot → Option (List Text)) (known : Known
       other-id : (key : Key) → row_of_id (id_of (of_value key)) (default_row ∷ []) ≡ None
       other-id of_cycles = refl
       other-id of_engine = refl
+      other-id of_workers = refl
   finish Summary there =
       let has : has_row (codes "summary") rows ≡ true = has-found (codes "summary") rows ∙ ap is_some (known of_summary ∙ ap (option_map (row_for of_summary)) there) in
       let is : with_default rows summary_filled ≡ rows = rw has refl in
@@ -653,8 +727,9 @@ module _ (rows : List Row) (values : Slot → Option (List Text)) (known : Known
   finished-is : (pending : Option (Text × List Text)) (before : List Row) → settled_rows run_rules pending before ≡ rows → finished run_rules (held_with before pending) ≡ with_default rows summary_filled
   finished-is pending before is =
       rw is
-      (ap (λ (first : List Row). with_default (with_default first (filled engine_rule)) summary_filled) (plain-default rows (filled cycles_rule) refl)
-      ∙ ap (λ (second : List Row). with_default second summary_filled) (plain-default rows (filled engine_rule) refl))
+      (ap (λ (first : List Row). with_default (with_default (with_default first (filled engine_rule)) (filled workers_rule)) summary_filled) (plain-default rows (filled cycles_rule) refl)
+      ∙ ap (λ (second : List Row). with_default (with_default second (filled workers_rule)) summary_filled) (plain-default rows (filled engine_rule) refl)
+      ∙ ap (λ (third : List Row). with_default third summary_filled) (plain-default rows (filled workers_rule) refl))
 
 -- what is read of a row is read of its values
 read-through : {X : Type 0} (read : Text → Option X) (slot : Slot) (found : Option (List Text)) → option_and_then read (option_and_then (λ (r : Row). slice_get r.values 0) (option_map (row_for slot) found)) ≡ first_as read found
@@ -670,11 +745,12 @@ abbrev nothing : Slot → Option (List Text)
 nothing slot = None
 
 all-free : (o : Options) → AreFree o nothing
-all-free o = record { cycles = λ s. refl; engine = λ s. refl; shown = λ s. refl }
+all-free o = record { cycles = λ s. refl; engine = λ s. refl; workers = λ s. refl; shown = λ s. refl }
 
 none-known : Known [] nothing
 none-known (of_value of_cycles) = refl
 none-known (of_value of_engine) = refl
+none-known (of_value of_workers) = refl
 none-known of_summary = refl
 
 first-stands : Stands nothing (walk_from nothing_held)
@@ -714,6 +790,7 @@ module _ (name : Text) (words : List Text) (o : Options) (values : Slot → Opti
     gives = subst (λ (rows : List Row). Give rows o) (sym end) (record {
       cycles = ap (λ found. option_and_then number_of (option_and_then (λ (r : Row). slice_get r.values 0) found)) (row-is of_cycles) ∙ read-through number_of (of_value of_cycles) (values (of_value of_cycles)) ∙ own-cycles;
       engine = ap (λ found. option_and_then engine_of (option_and_then (λ (r : Row). slice_get r.values 0) found)) (row-is of_engine) ∙ read-through engine_of (of_value of_engine) (values (of_value of_engine)) ∙ told.engine ∙ or-none o.engine;
+      workers = ap (λ found. option_and_then number_of (option_and_then (λ (r : Row). slice_get r.values 0) found)) (row-is of_workers) ∙ read-through number_of (of_value of_workers) (values (of_value of_workers)) ∙ told.workers ∙ or-none o.workers;
       shown = is-finished.flag;
     });
   }
@@ -732,7 +809,7 @@ words_are_read name words valid = go (options_of words) refl valid
     go None is valid = absurd (true≢false (sym valid))
     go (Some o) is valid =
         let found = steps_of words o is in
-        let there = cycles-there o.cycles o.shown o.engine valid in
+        let there = cycles-there o.cycles o.shown (engine_by o.engine o.workers) valid in
         let reads = all-read name found.0 o nothing (walk_from nothing_held) found.2 (all-free o) first-stands in
         (o, is, subst (λ ws. IsRead name ws o) (sym found.1) (are-read name (words_of found.0) o _ reads (all-read-as found.0 o nothing found.2) there.0 there.1))
 

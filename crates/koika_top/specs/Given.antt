@@ -20,12 +20,15 @@ cycles_rule = record (new_rule (codes "cycles")) { long = Some (codes "cycles");
 abbrev pub engine_rule : Rule
 engine_rule = record (new_rule (codes "engine")) { long = Some (codes "engine") }
 
+abbrev pub workers_rule : Rule
+workers_rule = record (new_rule (codes "workers")) { long = Some (codes "workers") }
+
 abbrev pub summary_rule : Rule
 summary_rule = record (new_rule (codes "summary")) { long = Some (codes "summary"); action = Some SetTrue }
 
 -- the options of a run
 abbrev pub run_app : Text → App
-run_app name = with_rule (with_rule (with_rule (bare name) cycles_rule) engine_rule) summary_rule
+run_app name = with_rule (with_rule (with_rule (with_rule (bare name) cycles_rule) engine_rule) workers_rule) summary_rule
 
 abbrev pub stages_rule : Rule
 stages_rule = record (new_rule (codes "stages")) { required = true }
@@ -51,4 +54,5 @@ flag_of Summary = codes "true"
 pub record Give (rows : List Row) (options : Options) : Type 0 where
   pub cycles : number_in (codes "cycles") rows ≡ options.cycles
   pub engine : engine_in (codes "engine") rows ≡ options.engine
+  pub workers : number_in (codes "workers") rows ≡ options.workers
   pub shown : one_of (codes "summary") rows ≡ Some (flag_of options.shown)

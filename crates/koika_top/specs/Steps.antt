@@ -5,12 +5,15 @@ use Rattle.kw_base.specs.declared.fault.Refusal.TheVariants as refusals
 use Rattle.koika_top.specs.Calls.{Call, IsAnswerTo, command_in, known_in}
 use Rattle.koika_top.specs.Streams.{GainsNothing, Stream}
 use Rattle.koika_top.specs.Told.{TellsOne}
+use Rattle.koika_top.specs.Words.{command_of}
 use Rattle.koika_top.specs.declared.answer.Answer.{Answer}
 use Rattle.koika_top.specs.declared.answer.Answer.TheVariants.{Usage, Refused, Written}
 use Rattle.koika_top.specs.declared.status.Status.{Status}
 use Rattle.koika_top.specs.declared.status.Status.TheVariants as status
 use Rattle.koika_top.specs.declared.words.Command.{Command}
-use Rattle.koika_top.specs.declared.words.Command.TheVariants.{Gen}
+use Rattle.koika_top.specs.declared.engine_kind.EngineKind.{EngineKind}
+use Rattle.koika_top.specs.declared.engine_kind.EngineKind.TheVariants.{Workers}
+use Rattle.koika_top.specs.declared.words.Command.TheVariants.{Gen, Sim}
 
 -- a text, or why there is none, is such an answer; out of memory is free
 abbrev pub Makes : (Answer → Type 0) → Result (List ℕ) Refusal → Type 0
@@ -48,7 +51,27 @@ TellsRead Kind known Is sink result =
 abbrev pub TellsCall : Call → Type 0
 TellsCall c = TellsRead (Replies (command_in c)) (known_in c) (IsAnswerTo c) c.sink c.status
 
--- a pipeline that is asked for has at most 100 stages
-abbrev pub HasFewStages : Command → Type 0
-HasFewStages (Gen stages) = stages ≤ 100
-HasFewStages other = ⊤
+-- 1 to 64 workers make a run, where any do
+abbrev pub HasFewWorkers : EngineKind → Type 0
+HasFewWorkers (Workers count) = (1 ≤ count) × (count ≤ 64)
+HasFewWorkers other = ⊤
+
+-- a pipeline that is asked for has at most 100 stages, and a run few workers
+abbrev pub IsInRange : Command → Type 0
+IsInRange (Gen stages) = stages ≤ 100
+IsInRange (Sim cycles shown engine) = HasFewWorkers engine
+IsInRange other = ⊤
+
+-- no workers make the run
+abbrev pub IsAlone : EngineKind → Type 0
+IsAlone (Workers count) = ⊥
+IsAlone other = ⊤
+
+-- where the command is a run, its engine is one of these
+abbrev pub RunsBy : (EngineKind → Type 0) → Command → Type 0
+RunsBy has (Sim cycles shown engine) = has engine
+RunsBy has other = ⊤
+
+-- so it is for each command that words may ask for
+abbrev pub AskFor : (EngineKind → Type 0) → List (List ℕ) → Type 0
+AskFor has words = (command : Command) → Some command ≡ command_of words → IsInRange command → RunsBy has command

@@ -1,10 +1,10 @@
 -- Which arguments are valid, as words of the command line, and what they ask for. The program's own name isn't among them.
-use Rattle.std.specs.Prelude.{ℕ, ◌+◌, ◌-◌, ◌*◌, ◌&&◌, nat_le, Bool, List, [], ◌∷◌, length, fold, codes, take, drop, Option, Some, None, unwrap_or, if◌then◌else◌}
+use Rattle.std.specs.Prelude.{ℕ, ◌+◌, ◌-◌, ◌*◌, ◌&&◌, ◌||◌, nat_le, Bool, false, List, [], ◌∷◌, length, fold, codes, take, drop, Option, Some, None, if◌then◌else◌}
 use Rattle.std.specs.List.{list_all}
 use Rattle.std.specs.Char.{is_ascii_digit}
 use Rattle.std.specs.Str.{bytes_eq}
 use Rattle.koika_top.specs.declared.engine_kind.EngineKind.{EngineKind}
-use Rattle.koika_top.specs.declared.engine_kind.EngineKind.TheVariants.{Plain, Circuit}
+use Rattle.koika_top.specs.declared.engine_kind.EngineKind.TheVariants.{Plain, Circuit, Workers}
 use Rattle.koika_top.specs.declared.shown.Shown.{Shown}
 use Rattle.koika_top.specs.declared.shown.Shown.TheVariants.{Report, Summary}
 use Rattle.koika_top.specs.declared.words.Command.{Command}
@@ -29,7 +29,7 @@ engine_of word = if bytes_eq word (codes "plain") then Some Plain else if bytes_
 
 -- no option is given
 abbrev pub no_options : Options
-no_options = record { cycles = None; engine = None; shown = Report }
+no_options = record { cycles = None; engine = None; workers = None; shown = Report }
 
 -- options with a value that is given once, and is valid: there is no earlier one, and there is this one
 abbrev pub given_once : {X : Type 0} → Option X → (X → Options) → Option X → Option Options
@@ -47,6 +47,11 @@ abbrev pub with_engine : List ℕ → Option Options → Option Options
 with_engine word None = None
 with_engine word (Some options) = given_once options.engine (λ kind. record options { engine = Some kind }) (engine_of word)
 
+-- options, if they are valid, with a value of `--workers`
+abbrev pub with_workers : List ℕ → Option Options → Option Options
+with_workers word None = None
+with_workers word (Some options) = given_once options.workers (λ count. record options { workers = Some count }) (number_of word)
+
 -- a report is shown where nothing is asked for
 abbrev pub asked_for : Shown → Option Shown
 asked_for Report = None
@@ -63,6 +68,7 @@ with_word word others =
     if bytes_eq word (codes "--summary") then with_summary others
     else if bytes_eq (take 9 word) (codes "--cycles=") then with_cycles (drop 9 word) others
     else if bytes_eq (take 9 word) (codes "--engine=") then with_engine (drop 9 word) others
+    else if bytes_eq (take 10 word) (codes "--workers=") then with_workers (drop 10 word) others
     else None
 
 -- what options ask for: each is given at most once, in any order, and a value follows its option or `=`
@@ -72,25 +78,38 @@ options_of (word ∷ []) = with_word word (Some no_options)
 options_of (word ∷ value ∷ rest) =
     if bytes_eq word (codes "--cycles") then with_cycles value (options_of rest)
     else if bytes_eq word (codes "--engine") then with_engine value (options_of rest)
+    else if bytes_eq word (codes "--workers") then with_workers value (options_of rest)
     else with_word word (options_of (value ∷ rest))
 
--- `sim` with options: the cycles have to be given, and without an engine it is the plain one
+-- 1 to 64 workers run the design rule by rule
+abbrev pub by_workers : ℕ → Option EngineKind
+by_workers count = if nat_le 1 count && nat_le count 64 then Some (Workers count) else None
+
+-- the engine of a run, by what is given of it and of the workers: without either it is the plain one, and no workers run
+-- the circuit
+abbrev pub engine_by : Option EngineKind → Option ℕ → Option EngineKind
+engine_by (Some Circuit) None = Some Circuit
+engine_by (Some Circuit) (Some count) = None
+engine_by engine None = Some Plain
+engine_by engine (Some count) = by_workers count
+
+-- `sim` with options: the cycles have to be given
 abbrev pub sim_by : Option ℕ → Shown → Option EngineKind → Option Command
-sim_by None shown engine = None
-sim_by (Some cycles) shown engine = Some (Sim cycles shown (unwrap_or engine Plain))
+sim_by (Some cycles) shown (Some engine) = Some (Sim cycles shown engine)
+sim_by cycles shown engine = None
 
 abbrev pub sim_of : Option Options → Option Command
 sim_of None = None
-sim_of (Some options) = sim_by options.cycles options.shown options.engine
+sim_of (Some options) = sim_by options.cycles options.shown (engine_by options.engine options.workers)
 
--- `btorsim` with options: the cycles have to be given, and no engine
-abbrev pub btorsim_by : Option ℕ → Shown → Option EngineKind → Option Command
-btorsim_by (Some cycles) shown None = Some (Btorsim cycles shown)
-btorsim_by cycles shown engine = None
+-- `btorsim` with options: the cycles have to be given, and neither an engine nor workers
+abbrev pub btorsim_by : Option ℕ → Shown → Option EngineKind → Option ℕ → Option Command
+btorsim_by (Some cycles) shown None None = Some (Btorsim cycles shown)
+btorsim_by cycles shown engine workers = None
 
 abbrev pub btorsim_of : Option Options → Option Command
 btorsim_of None = None
-btorsim_of (Some options) = btorsim_by options.cycles options.shown options.engine
+btorsim_of (Some options) = btorsim_by options.cycles options.shown options.engine options.workers
 
 -- `gen` with a number of stages from 1 to 100
 abbrev pub gen_by : Option ℕ → Option Command
@@ -117,3 +136,11 @@ command_of (word ∷ rest) =
     else if bytes_eq word (codes "compile") then alone_of Compile rest
     else if bytes_eq word (codes "gen") then gen_of rest
     else None
+
+-- whether a word, and whether one of the words, asks for workers
+abbrev pub is_of_workers : List ℕ → Bool
+is_of_workers word = bytes_eq word (codes "--workers") || bytes_eq (take 10 word) (codes "--workers=")
+
+abbrev pub asks_workers : List (List ℕ) → Bool
+asks_workers [] = false
+asks_workers (word ∷ words) = is_of_workers word || asks_workers words

@@ -7,6 +7,7 @@ ghost use Rattle.circuit_eval.specs.Run.{run_of};
 ghost use Rattle.koika_top.specs.Engines.{StandsAfter};
 
 use crate::engine::Engine;
+use attempt_log::Gate;
 use circuit_eval::{Circuit, Sim, run_on};
 use kw_bits::NoMemory;
 use one_rule::{Rows, Stimulus};
@@ -49,7 +50,12 @@ impl<'c> Engine for CircuitEngine<'c> {
 
     ghost stands = { λ e. StandsAfter e.sim e.stimulus.now e.at };
 
-    fn batch(&mut self, alloc: Global, to: u32) -> Result<Rows, NoMemory> {
+    fn batch(
+        &mut self,
+        alloc: Global,
+        _gate: &(dyn Gate + Sync),
+        to: u32,
+    ) -> Result<Rows, NoMemory> {
         let rows = run_on(alloc, &mut self.sim, self.stimulus, self.at, to)?;
         self.at = to;
         Ok(rows)

@@ -30,6 +30,7 @@ use crate::source::fault_of_source;
 use crate::tell::tell;
 use crate::teller::Teller;
 use crate::untold::Untold;
+use attempt_log::NoGate;
 use btor2_model::{Btor, accept};
 use btor2_net::to_circuit;
 use btor2_text::read_lines;
@@ -155,7 +156,7 @@ fn tell_circuit<K: Sink>(
     has_valid_wires(circuit);
     always_fits(alloc, stimulus);
     let mut engine = CircuitEngine::begin(alloc, circuit, stimulus)?;
-    tell(alloc, &mut engine, cycles, shape, teller, sink)
+    tell(alloc, &NoGate, &mut engine, cycles, shape, teller, sink)
 }
 
 // The run of a source's text, or the fault of its stimulus or of its length.

@@ -7,4 +7,6 @@ pub enum EngineKind {
     Plain,
     /// By the circuit that the design is compiled to.
     Circuit,
+    /// Rule by rule, by that many workers: 1 to 64.
+    Workers(u32),
 }

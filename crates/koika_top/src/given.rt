@@ -21,10 +21,15 @@ pub(crate) fn read_options(alloc: Global, name: &str, words: &[String]) -> Resul
 {
     let cycles = Arg::new(alloc, "cycles").long("cycles").required(true);
     let engine = Arg::new(alloc, "engine").long("engine");
+    let workers = Arg::new(alloc, "workers").long("workers");
     let summary = Arg::new(alloc, "summary")
         .long("summary")
         .action(ArgAction::SetTrue);
-    let command = bare(alloc, name).arg(cycles)?.arg(engine)?.arg(summary)?;
+    let command = bare(alloc, name)
+        .arg(cycles)?
+        .arg(engine)?
+        .arg(workers)?
+        .arg(summary)?;
     match command.try_get_matches_from(words) {
         Ok(matches) => Ok(options_in(&matches)),
         Err(error) => Err(want_of_memory(&error)),
@@ -65,6 +70,7 @@ fn options_in(matches: &ArgMatches<'_>) -> Options
     Options {
         cycles: number_in(matches, "cycles"),
         engine: engine_in(matches, "engine"),
+        workers: number_in(matches, "workers"),
         shown,
     }
 }

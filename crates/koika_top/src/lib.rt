@@ -1,7 +1,8 @@
 //! The commands of the program: arguments and a source's bytes in, a text or a refusal out.
 //!
 //! `specs/Answer.antt` says what the program answers, and `specs/Calls.antt` how the status, what was read and what was
-//! written are tied to it: each clause of `run_here` is a definition there. The program's `main` calls `run_here`.
+//! written are tied to it: each clause of `run` is a definition there, and of `run_here`, which is proved to return.
+//! The program's `main` calls `run`.
 #![tactic(auto)]
 
 mod answer;
@@ -10,10 +11,13 @@ mod circuit_read;
 mod circuit_run;
 mod circuit_shapes;
 mod compile;
+mod crew;
+mod design_run;
 mod engine;
 mod engine_kind;
 mod generator;
 mod given;
+mod last_row;
 mod laws;
 mod lengths;
 mod lowered;
@@ -21,7 +25,6 @@ mod plain_engine;
 mod program;
 mod reads;
 mod recall;
-mod run;
 mod shape;
 mod shown;
 mod source;
@@ -30,6 +33,7 @@ mod tell;
 mod teller;
 mod untold;
 mod words;
+mod workers_engine;
 
 pub use answer::Answer;
 pub use circuit_shapes::circuit_shape;
@@ -38,7 +42,7 @@ pub use laws::{
     compiled_runs_the_same, generated_as_printed, numbers, one_answer, one_status, some_answer,
     some_circuit, spelled_or_refused,
 };
-pub use program::run_here;
+pub use program::{run, run_here};
 pub use shown::Shown;
 pub use status::Status;
 pub use words::Command;

@@ -1,6 +1,6 @@
 //! Engines: the plain engine, which runs rule by rule.
 
-ghost use Rattle.std.specs.Prelude.{◌≡◌, ◌-◌, ◌<◌, IfOk, OnOk, length, slice_index_or, slice_set};
+ghost use Rattle.std.specs.Prelude.{◌≡◌, IfOk};
 ghost use Rattle.one_rule.specs.Externs.{kept};
 ghost use Rattle.one_rule.specs.Run.{run_of};
 ghost use Rattle.one_rule.specs.Stimulus.{StimulusFits, inputs_of};
@@ -8,9 +8,10 @@ ghost use Rattle.typed_core.specs.Valid.{externs_of};
 ghost use Rattle.koika_top.specs.Engines.{HasRun};
 
 use crate::engine::Engine;
-use crate::recall::is_valid;
+use crate::last_row::{first_row, go_on, no_row};
+use attempt_log::Gate;
 use kw_bits::NoMemory;
-use one_rule::{Externs, FiredSet, Regs, Row, Rows, Stimulus, first_values, opening};
+use one_rule::{Externs, Row, Rows, Stimulus};
 use std::alloc::Global;
 use std::mem;
 use typed_core::Design;
@@ -43,9 +44,7 @@ impl<'r> PlainEngine<'r> {
         ensures at { IfOk result (λ engine. engine.at ≡ 0) }
         ensures stands { IfOk result (λ engine. HasRun engine.design.now engine.stimulus.now engine.at engine.last) }
     {
-        is_valid(design);
-        let regs = first_values(alloc, design)?;
-        let last = opening(alloc, design, regs)?;
+        let last = first_row(alloc, design)?;
         Ok(PlainEngine {
             design,
             externs,
@@ -63,7 +62,12 @@ impl<'r> Engine for PlainEngine<'r> {
 
     ghost stands = { λ e. HasRun e.design.now e.stimulus.now e.at e.last };
 
-    fn batch(&mut self, alloc: Global, to: u32) -> Result<Rows, NoMemory> {
+    fn batch(
+        &mut self,
+        alloc: Global,
+        _gate: &(dyn Gate + Sync),
+        to: u32,
+    ) -> Result<Rows, NoMemory> {
         let mut rows = plain_run::run_from(
             alloc,
             self.design,
@@ -79,26 +83,4 @@ impl<'r> Engine for PlainEngine<'r> {
         self.at = to;
         Ok(rows)
     }
-}
-
-// A row of no registers and no rules. It takes no memory.
-fn no_row(alloc: Global) -> Row {
-    Row {
-        regs: Regs::new(alloc),
-        fired: FiredSet::new(alloc),
-    }
-}
-
-// Puts the row that a batch goes on from first, and returns a copy of the last one.
-fn go_on(alloc: Global, rows: &mut Rows, first: Row) -> Result<Row, NoMemory>
-    requires { 0 < length rows.old }
-    ensures rows { OnOk result (rows.new ≡ slice_set rows.old 0 first) }
-    ensures last { IfOk result (λ last. last ≡ slice_index_or rows.new (length rows.old - 1) last) }
-{
-    rows.set(0, first);
-    let last = rows.get(rows.len() - 1);
-    Ok(Row {
-        regs: Regs::from_slice(alloc, last.regs.as_slice())?,
-        fired: FiredSet::from_slice(alloc, last.fired.as_slice())?,
-    })
 }

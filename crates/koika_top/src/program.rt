@@ -1,6 +1,6 @@
 //! Commands: the call of the program, and what each command does.
 
-ghost use Rattle.std.specs.Prelude.{◌≡◌, ◌≤◌, List, [], ℕ, Some, true, IfSome, map, string_bytes, length};
+ghost use Rattle.std.specs.Prelude.{◌≡◌, ◌≤◌, List, [], ℕ, Some, false, true, IfSome, map, string_bytes, length};
 ghost use Rattle.kw_bits.specs.Faults.{Rose};
 ghost use Rattle.one_rule.specs.Hosts.{host_specs};
 ghost use Rattle.koika_top.specs.Answer.{Answers, is_of_source, longest_of};
@@ -9,36 +9,44 @@ ghost use Rattle.koika_top.specs.Calls.{CompilesSpelled, CountsReadFault, Counts
 ghost use Rattle.koika_top.specs.Generator.{pipeline};
 ghost use Rattle.koika_top.specs.Sim.{AnswersSim};
 ghost use Rattle.koika_top.specs.Sources.{longest_source};
-ghost use Rattle.koika_top.specs.Steps.{HasFewStages, IsReply, Makes, TellsRead};
+ghost use Rattle.koika_top.specs.Steps.{AskFor, IsInRange, IsReply, Makes, RunsBy, TellsRead};
 ghost use Rattle.koika_top.specs.Streams.{stream};
 ghost use Rattle.koika_top.specs.Told.{Tells};
+ghost use Rattle.koika_top.specs.Words.{asks_workers};
 
 use crate::answer::{Answer, write_answer, write_made, write_refusal};
 use crate::circuit_run::CircuitRun;
 use crate::compile::compile_source;
+use crate::crew::{Alone, Crew, InThreads};
+use crate::design_run::Run;
 use crate::engine_kind::EngineKind;
 use crate::generator::pipeline;
 use crate::reads::{check_source, print_source};
-use crate::run::Run;
 use crate::shown::Shown;
 use crate::source::fault_of_source;
 use crate::status::Status;
 use crate::untold::status_by;
-use crate::words::{Command, command_of};
+use crate::words::{Command, asks_workers, command_of};
+use attempt_log::{Gate, NoGate};
 use host_fn::HostFn;
 use kw_base::{Refusal, fault_number};
 use kw_bits::{NoMemory, Text};
 use kw_io::{ReadAll, Sink, Source, read_all};
 use std::alloc::Global;
+use std::sync::Wait;
+use std::thread::Threads;
 
 /// Runs the program on its arguments, without the program's own name: reads the source if the arguments ask for
 /// it, and writes the answer to the sink. Designs may declare the host functions. The clauses on content hold where
 /// the bytes that the source has left, or that were written to the sink, are known; `specs/Calls.antt` has each clause
-/// in words.
-pub fn run_here<S: Source, K: Sink>(
+/// in words. Where the arguments ask for workers, these make the run in threads, whose turns the gate may hold, and the
+/// clauses hold if they return. All other arguments are given to `run_here`, which returns.
+pub fn run<S: Source, K: Sink, R: Threads + Wait + Sync>(
+    rt: &R,
     alloc: Global,
     words: &[String],
     hosts: &[HostFn],
+    gate: &(dyn Gate + Sync),
     source: &mut S,
     sink: &mut K,
 ) -> Status
@@ -82,17 +90,77 @@ pub fn run_here<S: Source, K: Sink>(
     ensures write_fault { CountsWriteFault (call (map string_bytes words.now) (host_specs hosts.now)
         (stream S.left S.faults source.old source.new) (stream K.written K.faults sink.old sink.new) result) }
 {
-    answer_words(alloc, words, hosts, source, sink)
+    if asks_workers(words) {
+        answer_words(&InThreads { rt }, alloc, words, hosts, gate, source, sink)
+    } else {
+        run_here(alloc, words, hosts, source, sink)
+    }
 }
 
-// Does what the words ask for, and writes the answer.
-fn answer_words<S: Source, K: Sink>(
+/// The same where no argument asks for workers. It is proved to return.
+pub fn run_here<S: Source, K: Sink>(
     alloc: Global,
     words: &[String],
     hosts: &[HostFn],
     source: &mut S,
     sink: &mut K,
 ) -> Status
+    requires alone { asks_workers (map string_bytes words.now) ≡ false }
+
+    // Status 0.
+    ensures done { WritesText (call (map string_bytes words.now) (host_specs hosts.now)
+        (stream S.left S.faults source.old source.new) (stream K.written K.faults sink.old sink.new) result) }
+    ensures whole { ReadsAll (call (map string_bytes words.now) (host_specs hosts.now)
+        (stream S.left S.faults source.old source.new) (stream K.written K.faults sink.old sink.new) result) }
+
+    // Status 1.
+    ensures usage { WritesUsage (call (map string_bytes words.now) (host_specs hosts.now)
+        (stream S.left S.faults source.old source.new) (stream K.written K.faults sink.old sink.new) result) }
+    ensures usage_only { RejectsWords (call (map string_bytes words.now) (host_specs hosts.now)
+        (stream S.left S.faults source.old source.new) (stream K.written K.faults sink.old sink.new) result) }
+    ensures usage_front { WritesUsageFront (call (map string_bytes words.now) (host_specs hosts.now)
+        (stream S.left S.faults source.old source.new) (stream K.written K.faults sink.old sink.new) result) }
+    ensures unread { LeavesUnread (source.new ≡ source.old) (call (map string_bytes words.now) (host_specs hosts.now)
+        (stream S.left S.faults source.old source.new) (stream K.written K.faults sink.old sink.new) result) }
+
+    // Status 2.
+    ensures refused { WritesRefusal (call (map string_bytes words.now) (host_specs hosts.now)
+        (stream S.left S.faults source.old source.new) (stream K.written K.faults sink.old sink.new) result) }
+    ensures refused_line { WritesFaultLine (call (map string_bytes words.now) (host_specs hosts.now)
+        (stream S.left S.faults source.old source.new) (stream K.written K.faults sink.old sink.new) result) }
+
+    // Every status.
+    ensures exact { HasStatusOfAnswer (call (map string_bytes words.now) (host_specs hosts.now)
+        (stream S.left S.faults source.old source.new) (stream K.written K.faults sink.old sink.new) result) }
+    ensures compiles { CompilesSpelled (call (map string_bytes words.now) (host_specs hosts.now)
+        (stream S.left S.faults source.old source.new) (stream K.written K.faults sink.old sink.new) result) }
+    ensures front { WritesFront (call (map string_bytes words.now) (host_specs hosts.now)
+        (stream S.left S.faults source.old source.new) (stream K.written K.faults sink.old sink.new) result) }
+    ensures some { WritesSomeFront (call (map string_bytes words.now) (host_specs hosts.now)
+        (stream S.left S.faults source.old source.new) (stream K.written K.faults sink.old sink.new) result) }
+
+    // Status 3 and status 4.
+    ensures read_fault { CountsReadFault (call (map string_bytes words.now) (host_specs hosts.now)
+        (stream S.left S.faults source.old source.new) (stream K.written K.faults sink.old sink.new) result) }
+    ensures nothing_written { WritesNothing (call (map string_bytes words.now) (host_specs hosts.now)
+        (stream S.left S.faults source.old source.new) (stream K.written K.faults sink.old sink.new) result) }
+    ensures write_fault { CountsWriteFault (call (map string_bytes words.now) (host_specs hosts.now)
+        (stream S.left S.faults source.old source.new) (stream K.written K.faults sink.old sink.new) result) }
+{
+    answer_words(&Alone, alloc, words, hosts, &NoGate, source, sink)
+}
+
+// Does what the words ask for, and writes the answer. A crew makes the run, if they ask for one.
+fn answer_words<S: Source, K: Sink, C: Crew>(
+    crew: &C,
+    alloc: Global,
+    words: &[String],
+    hosts: &[HostFn],
+    gate: &(dyn Gate + Sync),
+    source: &mut S,
+    sink: &mut K,
+) -> Status
+    requires crew { AskFor (C.has crew.now) (map string_bytes words.now) }
     ensures { IsKept (source.new ≡ source.old) (call (map string_bytes words.now) (host_specs hosts.now)
         (stream S.left S.faults source.old source.new) (stream K.written K.faults sink.old sink.new) result) }
 {
@@ -100,9 +168,9 @@ fn answer_words<S: Source, K: Sink>(
         Ok(None) => write_answer(alloc, &Answer::Usage, sink),
         Ok(Some(command)) => {
             if command.reads_source() {
-                answer_source(alloc, command, hosts, source, sink)
+                answer_source(crew, alloc, command, hosts, gate, source, sink)
             } else {
-                answer_bytes(alloc, command, hosts, &[], sink)
+                answer_bytes(crew, alloc, command, hosts, gate, &[], sink)
             }
         }
         Err(NoMemory) => Status::NoMemory,
@@ -110,14 +178,17 @@ fn answer_words<S: Source, K: Sink>(
 }
 
 // Reads the source and does what the command asks for, or writes that the source is too long.
-fn answer_source<S: Source, K: Sink>(
+fn answer_source<S: Source, K: Sink, C: Crew>(
+    crew: &C,
     alloc: Global,
     command: Command,
     hosts: &[HostFn],
+    gate: &(dyn Gate + Sync),
     source: &mut S,
     sink: &mut K,
 ) -> Status
-    requires few { HasFewStages command }
+    requires few { IsInRange command }
+    requires crew { RunsBy (C.has crew.now) command }
     requires reads { is_of_source command ≡ true }
     ensures tells { TellsRead IsReply (S.left source.old) (Answers (host_specs hosts.now) command)
         (stream K.written K.faults sink.old sink.new) result }
@@ -125,7 +196,7 @@ fn answer_source<S: Source, K: Sink>(
     ensures read_fault { result ≡ Status.ReadFault → Rose (S.faults source.old) (S.faults source.new) }
 {
     match read_all(alloc, source, command.longest_source()) {
-        Ok(bytes) => answer_bytes(alloc, command, hosts, &bytes, sink),
+        Ok(bytes) => answer_bytes(crew, alloc, command, hosts, gate, &bytes, sink),
         Err(ReadAll::TooLong) => {
             let fault = fault_of_source(fault_number::SOURCE_TOO_LONG);
             write_answer(alloc, &Answer::Refused(fault), sink)
@@ -136,15 +207,18 @@ fn answer_source<S: Source, K: Sink>(
 }
 
 // Does what the command asks for, given the bytes of the source, if its answer rests on one.
-fn answer_bytes<K: Sink>(
+fn answer_bytes<K: Sink, C: Crew>(
+    crew: &C,
     alloc: Global,
     command: Command,
     hosts: &[HostFn],
+    gate: &(dyn Gate + Sync),
     source: &[u8],
     sink: &mut K,
 ) -> Status
     requires short { length source.now ≤ longest_of command }
-    requires few { HasFewStages command }
+    requires few { IsInRange command }
+    requires crew { RunsBy (C.has crew.now) command }
     ensures { Tells (Answers (host_specs hosts.now) command source.now)
         (stream K.written K.faults sink.old sink.new) result }
 {
@@ -155,7 +229,9 @@ fn answer_bytes<K: Sink>(
             cycles,
             shown,
             engine,
-        } => simulate(alloc, cycles, shown, engine, hosts, source, sink),
+        } => simulate(
+            crew, alloc, cycles, shown, engine, hosts, gate, source, sink,
+        ),
         Command::Btorsim { cycles, shown } => simulate_circuit(alloc, cycles, shown, source, sink),
         Command::Compile => write_made(alloc, compile_source(alloc, hosts, source), sink),
         Command::Gen { stages } => write_made(alloc, generate(alloc, stages), sink),
@@ -171,21 +247,24 @@ fn generate(alloc: Global, stages: u32) -> Result<Text, Refusal>
 }
 
 // Runs the design of a source by an engine and writes what is shown of the run, or the line of the source's fault.
-fn simulate<K: Sink>(
+fn simulate<K: Sink, C: Crew>(
+    crew: &C,
     alloc: Global,
     cycles: u32,
     shown: Shown,
     engine: EngineKind,
     hosts: &[HostFn],
+    gate: &(dyn Gate + Sync),
     source: &[u8],
     sink: &mut K,
 ) -> Status
-    requires { length source.now ≤ longest_source }
+    requires short { length source.now ≤ longest_source }
+    requires crew { C.has crew.now engine }
     ensures { Tells (AnswersSim (host_specs hosts.now) cycles shown source.now)
         (stream K.written K.faults sink.old sink.new) result }
 {
     match Run::read(alloc, cycles, shown, engine, hosts, source) {
-        Ok(run) => status_by(run.write(alloc, sink), Status::Done),
+        Ok(run) => status_by(crew.write(alloc, gate, &run, sink), Status::Done),
         Err(refusal) => write_refusal(alloc, refusal, sink),
     }
 }

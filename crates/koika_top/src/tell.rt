@@ -13,6 +13,7 @@ use crate::engine::Engine;
 use crate::lengths::BATCH;
 use crate::teller::Teller;
 use crate::untold::Untold;
+use attempt_log::Gate;
 use kw_io::Sink;
 use std::alloc::Global;
 use stim_report::Shape;
@@ -20,6 +21,7 @@ use stim_report::Shape;
 /// Runs an engine for these cycles, and writes what a teller that has no rows yet tells of its rows, batch by batch.
 pub(crate) fn tell<E: Engine, K: Sink>(
     alloc: Global,
+    gate: &(dyn Gate + Sync),
     engine: &mut E,
     cycles: u32,
     shape: &Shape,
@@ -36,10 +38,10 @@ pub(crate) fn tell<E: Engine, K: Sink>(
         (stream K.written K.faults sink.old sink.new) result }
 {
     let mut from = cycles.min(BATCH);
-    tell_batch(alloc, engine, 0, from, shape, &mut teller, sink)?;
+    tell_batch(alloc, gate, engine, 0, from, shape, &mut teller, sink)?;
     while from < cycles {
         let to = cycles.min(from + BATCH);
-        tell_batch(alloc, engine, from, to, shape, &mut teller, sink)?;
+        tell_batch(alloc, gate, engine, from, to, shape, &mut teller, sink)?;
         from = to;
     }
     let ending = teller.ending(alloc)?;
@@ -49,6 +51,7 @@ pub(crate) fn tell<E: Engine, K: Sink>(
 // Runs the cycles of a batch and tells its rows.
 fn tell_batch<E: Engine, K: Sink>(
     alloc: Global,
+    gate: &(dyn Gate + Sync),
     engine: &mut E,
     from: u32,
     to: u32,
@@ -59,6 +62,7 @@ fn tell_batch<E: Engine, K: Sink>(
     requires stands { E.stands engine.old }
     requires at { E.at engine.old ≡ from }
     requires order { from ≤ to }
+    requires few { to ≤ 16777216 }
     requires run { AreRows (E.rows_to engine.old) }
     requires fit { (n : ℕ) → RowsFit shape.now (E.rows_to engine.old n) }
     requires goes_on { GoesOnFrom teller.old shape.now from }
@@ -70,7 +74,7 @@ fn tell_batch<E: Engine, K: Sink>(
     ensures told { Told (part_of_batch (shown_by teller.old) shape.now (drop from (E.rows_to engine.old to)) from)
         (stream K.written K.faults sink.old sink.new) result }
 {
-    let rows = engine.batch(alloc, to)?;
+    let rows = engine.batch(alloc, gate, to)?;
     let text = teller.take(alloc, shape, &rows, from)?;
     write_text(sink, text.as_slice())
 }

@@ -3,9 +3,9 @@
 ghost use Rattle.std.specs.Prelude.{◌≡◌, ◌≤◌, map, string_bytes, length, All, IfOk, IfSome, IsTrue, is_some};
 ghost use Rattle.std.specs.List.{list_all};
 ghost use Rattle.std.specs.Char.{IsAsciiDigit, is_ascii_digit};
-ghost use Rattle.koika_top.specs.Steps.{HasFewStages};
+ghost use Rattle.koika_top.specs.Steps.{HasFewWorkers, IsInRange};
 ghost use Rattle.koika_top.specs.Answer.{is_of_source, longest_of};
-ghost use Rattle.koika_top.specs.Words.{alone_of, are_few_digits, btorsim_of, command_of, engine_of, gen_by, gen_of, number_of, options_of, sim_of, value_of, with_cycles, with_engine, with_summary, with_word};
+ghost use Rattle.koika_top.specs.Words.{alone_of, are_few_digits, asks_workers, btorsim_of, by_workers, command_of, engine_by, engine_of, gen_by, gen_of, is_of_workers, number_of, options_of, sim_of, value_of, with_cycles, with_engine, with_summary, with_word, with_workers};
 
 use crate::engine_kind::EngineKind;
 use crate::given::{read_options, read_stages};
@@ -68,11 +68,15 @@ const LONGEST_CIRCUIT: usize = 268_435_456;
 pub(crate) struct Options {
     pub(crate) cycles: Option<u32>,
     pub(crate) engine: Option<EngineKind>,
+    pub(crate) workers: Option<u32>,
     pub(crate) shown: Shown,
 }
 
 // Options are at most this many words, since each is at most once.
-const MOST_WORDS: usize = 5;
+const MOST_WORDS: usize = 7;
+
+// At most this many workers run a design.
+const MOST_WORKERS: u32 = 64;
 
 // A pipeline has at most this many stages.
 const MOST_STAGES: u32 = 100;
@@ -80,7 +84,7 @@ const MOST_STAGES: u32 = 100;
 /// The command that the words of the command line ask for, if they are understood.
 pub(crate) fn command_of(alloc: Global, words: &[String]) -> Result<Option<Command>, NoMemory>
     ensures command { IfOk result (λ command. command ≡ command_of (map string_bytes words.now)) }
-    ensures few { IfOk result (λ command. IfSome command HasFewStages) }
+    ensures few { IfOk result (λ command. IfSome command IsInRange) }
 {
     match words {
         [command, rest @ ..] if command.as_str() == "check" => Ok(alone_of(Command::Check, rest)),
@@ -108,7 +112,7 @@ fn alone_of(command: Command, words: &[String]) -> Option<Command>
 
 fn sim_of(alloc: Global, words: &[String]) -> Result<Option<Command>, NoMemory>
     ensures command { IfOk result (λ command. command ≡ sim_of (options_of (map string_bytes words.now))) }
-    ensures few { IfOk result (λ command. IfSome command HasFewStages) }
+    ensures few { IfOk result (λ command. IfSome command IsInRange) }
 {
     if sim_by(few_options_of(words)).is_none() {
         return Ok(None);
@@ -119,19 +123,43 @@ fn sim_of(alloc: Global, words: &[String]) -> Result<Option<Command>, NoMemory>
 // The run of a design with options, if they are valid.
 fn sim_by(options: Option<Options>) -> Option<Command>
     ensures command { result ≡ sim_of options }
-    ensures few { IfSome result HasFewStages }
+    ensures few { IfSome result IsInRange }
 {
     let options = options?;
     Some(Command::Sim {
         cycles: options.cycles?,
         shown: options.shown,
-        engine: options.engine.unwrap_or(EngineKind::Plain),
+        engine: engine_by(options.engine, options.workers)?,
     })
+}
+
+// The engine of a run by what is given of it and of the workers, if they go together.
+fn engine_by(engine: Option<EngineKind>, workers: Option<u32>) -> Option<EngineKind>
+    ensures engine { result ≡ engine_by engine workers }
+    ensures few { IfSome result HasFewWorkers }
+{
+    match (engine, workers) {
+        (Some(EngineKind::Circuit), None) => Some(EngineKind::Circuit),
+        (Some(EngineKind::Circuit), Some(_)) => None,
+        (_, None) => Some(EngineKind::Plain),
+        (_, Some(count)) => by_workers(count),
+    }
+}
+
+fn by_workers(count: u32) -> Option<EngineKind>
+    ensures engine { result ≡ by_workers count }
+    ensures few { IfSome result HasFewWorkers }
+{
+    if 1 <= count && count <= MOST_WORKERS {
+        Some(EngineKind::Workers(count))
+    } else {
+        None
+    }
 }
 
 fn btorsim_of(alloc: Global, words: &[String]) -> Result<Option<Command>, NoMemory>
     ensures command { IfOk result (λ command. command ≡ btorsim_of (options_of (map string_bytes words.now))) }
-    ensures few { IfOk result (λ command. IfSome command HasFewStages) }
+    ensures few { IfOk result (λ command. IfSome command IsInRange) }
 {
     if btorsim_by(few_options_of(words)).is_none() {
         return Ok(None);
@@ -139,13 +167,13 @@ fn btorsim_of(alloc: Global, words: &[String]) -> Result<Option<Command>, NoMemo
     Ok(btorsim_by(Some(read_options(alloc, "btorsim", words)?)))
 }
 
-// The run of a circuit text with options, if they are valid: it takes no engine.
+// The run of a circuit text with options, if they are valid: it takes neither an engine nor workers.
 fn btorsim_by(options: Option<Options>) -> Option<Command>
     ensures command { result ≡ btorsim_of options }
-    ensures few { IfSome result HasFewStages }
+    ensures few { IfSome result IsInRange }
 {
     let options = options?;
-    if options.engine.is_some() {
+    if options.engine.is_some() || options.workers.is_some() {
         return None;
     }
     Some(Command::Btorsim {
@@ -166,7 +194,7 @@ fn few_options_of(words: &[String]) -> Option<Options>
 
 fn gen_of(alloc: Global, words: &[String]) -> Result<Option<Command>, NoMemory>
     ensures command { IfOk result (λ command. command ≡ gen_of (map string_bytes words.now)) }
-    ensures few { IfOk result (λ command. IfSome command HasFewStages) }
+    ensures few { IfOk result (λ command. IfSome command IsInRange) }
 {
     if !are_stages(words) {
         return Ok(None);
@@ -187,7 +215,7 @@ fn are_stages(words: &[String]) -> bool
 // The pipeline of that many stages, if there is one.
 fn gen_by(stages: Option<u32>) -> Option<Command>
     ensures command { result ≡ gen_by stages }
-    ensures few { IfSome result HasFewStages }
+    ensures few { IfSome result IsInRange }
 {
     let stages = stages?;
     if 1 <= stages && stages <= MOST_STAGES {
@@ -205,6 +233,7 @@ fn options_of(words: &[String]) -> Option<Options>
         [] => Some(Options {
             cycles: None,
             engine: None,
+            workers: None,
             shown: Shown::Report,
         }),
         [word, value, rest @ ..] if word.as_str() == "--cycles" => {
@@ -212,6 +241,9 @@ fn options_of(words: &[String]) -> Option<Options>
         }
         [word, value, rest @ ..] if word.as_str() == "--engine" => {
             with_engine(value.as_bytes(), options_of(rest))
+        }
+        [word, value, rest @ ..] if word.as_str() == "--workers" => {
+            with_workers(value.as_bytes(), options_of(rest))
         }
         [word, rest @ ..] => with_word(word.as_bytes(), options_of(rest)),
     }
@@ -227,8 +259,11 @@ fn with_word(word: &[u8], others: Option<Options>) -> Option<Options>
     if let Some(value) = word.strip_prefix(b"--cycles=") {
         return with_cycles(value, others);
     }
-    match word.strip_prefix(b"--engine=") {
-        Some(value) => with_engine(value, others),
+    if let Some(value) = word.strip_prefix(b"--engine=") {
+        return with_engine(value, others);
+    }
+    match word.strip_prefix(b"--workers=") {
+        Some(value) => with_workers(value, others),
         None => None,
     }
 }
@@ -263,6 +298,21 @@ fn with_engine(value: &[u8], others: Option<Options>) -> Option<Options>
     })
 }
 
+// Other options and the number of workers, which isn't given yet.
+fn with_workers(value: &[u8], others: Option<Options>) -> Option<Options>
+    ensures { result ≡ with_workers value.now others }
+{
+    let others = others?;
+    let workers = number_of(value)?;
+    if others.workers.is_some() {
+        return None;
+    }
+    Some(Options {
+        workers: Some(workers),
+        ..others
+    })
+}
+
 // Other options and that a summary is wanted, which isn't said yet.
 fn with_summary(others: Option<Options>) -> Option<Options>
     ensures { result ≡ with_summary others }
@@ -275,6 +325,24 @@ fn with_summary(others: Option<Options>) -> Option<Options>
         }),
         Shown::Summary => None,
     }
+}
+
+/// Whether one of the words asks for workers.
+pub(crate) fn asks_workers(words: &[String]) -> bool
+    ensures { result ≡ asks_workers (map string_bytes words.now) }
+{
+    for word in words {
+        if is_of_workers(word.as_bytes()) {
+            return true;
+        }
+    }
+    false
+}
+
+fn is_of_workers(word: &[u8]) -> bool
+    ensures { result ≡ is_of_workers word.now }
+{
+    word == b"--workers".as_slice() || word.strip_prefix(b"--workers=").is_some()
 }
 
 /// The engine that a word names.

@@ -1,30 +1,59 @@
-//! Circuits of designs, compiled and read back.
+//! Runs of designs by other engines: by their circuits, compiled and read back, and by workers.
 
 use crate::PIECE;
 use crate::runs::{run, words_of};
-use std::alloc::Global;
 use std::io;
+use std::sync::Wait;
+use std::thread::Threads;
 
 /// Whether the circuit of a source's design, compiled and read back, shows the same run with these options as the
 /// design.
-pub(crate) fn shows_the_same_run(alloc: Global, options: &str, source: &str) -> io::Result<bool> {
-    let report = answer(alloc, "sim", options, source.as_bytes())?;
-    let mut circuit = answer(alloc, "compile", "", source.as_bytes())?;
+pub(crate) fn shows_the_same_run(
+    rt: &HostRuntime,
+    threads: &(impl Threads + Wait + Sync),
+    options: &str,
+    source: &str,
+) -> io::Result<bool> {
+    let report = answer(rt, threads, "sim", options, source.as_bytes())?;
+    let mut circuit = answer(rt, threads, "compile", "", source.as_bytes())?;
     if let Some((_, stimulus)) = source.split_once("\n%%") {
         circuit.extend_from_slice(b"%%")?;
         circuit.extend_from_slice(stimulus.as_bytes())?;
     }
-    let read_back = answer(alloc, "btorsim", options, circuit.as_slice())?;
+    let read_back = answer(rt, threads, "btorsim", options, circuit.as_slice())?;
     Ok(report.as_slice() == read_back.as_slice())
 }
 
+/// Whether that many workers show the same run of a source's design with these options as the plain engine.
+pub(crate) fn workers_show_the_same_run(
+    rt: &HostRuntime,
+    threads: &(impl Threads + Wait + Sync),
+    count: &str,
+    options: &str,
+    source: &str,
+) -> io::Result<bool> {
+    let report = answer(rt, threads, "sim", options, source.as_bytes())?;
+    let mut more = String::from_str(rt.alloc(), options)?;
+    more.push_str(" --workers ")?;
+    more.push_str(count)?;
+    let by_workers = answer(rt, threads, "sim", more.as_str(), source.as_bytes())?;
+    Ok(report.as_slice() == by_workers.as_slice())
+}
+
 // What the program writes on a command with these options and a source.
-fn answer(alloc: Global, command: &str, options: &str, source: &[u8]) -> io::Result<Vec<u8>> {
+fn answer(
+    rt: &HostRuntime,
+    threads: &(impl Threads + Wait + Sync),
+    command: &str,
+    options: &str,
+    source: &[u8],
+) -> io::Result<Vec<u8>> {
+    let alloc = rt.alloc();
     let mut words = Vec::new(alloc);
     words.push(String::from_str(alloc, command)?)?;
     for word in words_of(alloc, options)? {
         words.push(word)?;
     }
-    let ended = run(alloc, words.as_slice(), source, PIECE, &[], &[])?;
+    let ended = run(rt, threads, words.as_slice(), source, PIECE, &[], &[])?;
     Ok(ended.written)
 }

@@ -3,65 +3,78 @@
 //!
 //! A case is the program's words and a source, after `: ` the source itself and after ` < ` the name of its file. Of
 //! words with ` | ` between them each reads what the ones before wrote. After `failing N` each read fails in turn, and
-//! then each write, where a call takes at most N bytes. With `circuit` for a command it says whether the circuit of a
-//! file's design, compiled and read back, shows the same run with these options as the design. With ` is ` between
-//! commands without a source it says whether both write the same bytes. `transcript` and a file say whether the file has
-//! what the command in its first line writes.
+//! then each write, where a call takes at most N bytes. After `seeing` each of two workers looks for the other before
+//! its first job, and whether both saw it is said. With `circuit` for a command it says whether the circuit of a file's
+//! design, compiled and read back, shows the same run with these options as the design, and with `workers K` whether K
+//! workers show it. With ` is ` between commands without a source it says whether both write the same bytes.
+//! `transcript` and a file say whether the file has what the command in its first line writes.
 //!
 //! It stands on no definition of its own. The merge gate compares what it writes with `stdout`.
 #![tactic(auto)]
 
 mod circuits;
+mod flags;
 mod runs;
 mod spelled;
 mod tables;
 mod transcripts;
 
-use crate::circuits::shows_the_same_run;
-use crate::runs::{Ended, run, words_of};
+use crate::circuits::{shows_the_same_run, workers_show_the_same_run};
+use crate::flags::Flags;
+use crate::runs::{Ended, run, run_at_gate, words_of};
 use crate::spelled::spelled;
 use crate::tables::{cell, code};
 use crate::transcripts::run_transcript;
 use koika_top::Status;
-use std::alloc::Global;
 use std::io::Write;
+use std::sync::Wait;
+use std::thread::Threads;
 use std::{fs, io};
 
 // Reads and writes are short, so that none has a whole line.
 pub(crate) const PIECE: usize = 7;
 
 fn main(rt: HostRuntime) -> io::Result<()> {
-    run_examples(&rt)?;
+    run_examples(&rt, &rt)?;
     for case in rt.lines(rt.alloc()) {
         let case = case?;
         println!(rt; "{case}")?;
-        run_line(&rt, case.as_str())?;
+        run_line(&rt, &rt, case.as_str())?;
     }
     Ok(())
 }
 
 // Runs the case of a line.
-fn run_line(rt: &HostRuntime, case: &str) -> io::Result<()> {
+fn run_line(
+    rt: &HostRuntime,
+    threads: &(impl Threads + Wait + Sync),
+    case: &str,
+) -> io::Result<()> {
     if let Some((commands, source)) = case.split_once(": ") {
         let source = spelled(rt.alloc(), source)?;
-        return run_case(rt, commands, source);
+        return run_case(rt, threads, commands, source);
     }
     if let Some((commands, file)) = case.split_once(" < ") {
-        return run_file(rt, commands, file);
+        return run_file(rt, threads, commands, file);
     }
     if let Some((commands, others)) = case.split_once(" is ") {
-        return compare(rt, commands, others);
+        return compare(rt, threads, commands, others);
     }
     match case.strip_prefix("transcript ") {
-        Some(file) => run_transcript(rt, file),
+        Some(file) => run_transcript(rt, threads, file),
         None => Ok(()),
     }
 }
 
 // Says whether commands without a source write the same bytes as others.
-fn compare(rt: &HostRuntime, commands: &str, others: &str) -> io::Result<()> {
-    let one = last_of(rt, commands, Vec::new(rt.alloc()))?;
-    let other = last_of(rt, others, Vec::new(rt.alloc()))?;
+fn compare(
+    rt: &HostRuntime,
+    threads: &(impl Threads + Wait + Sync),
+    commands: &str,
+    others: &str,
+) -> io::Result<()> {
+    let one = last_of(rt, threads, commands, Vec::new(rt.alloc()))?;
+    let other = last_of(rt, threads, others, Vec::new(rt.alloc()))?;
     if one.written.as_slice() == other.written.as_slice() {
         println!(rt; "the same bytes")
     } else {
@@ -70,26 +83,43 @@ fn compare(rt: &HostRuntime, commands: &str, others: &str) -> io::Result<()> {
 }
 
 // Runs commands on the source in a file.
-fn run_file(rt: &HostRuntime, commands: &str, file: &str) -> io::Result<()> {
+fn run_file(
+    rt: &HostRuntime,
+    threads: &(impl Threads + Wait + Sync),
+    commands: &str,
+    file: &str,
+) -> io::Result<()> {
     let source = fs::read_to_string(rt, file)?;
-    match commands.strip_prefix("circuit ") {
-        None => run_case(
+    if let Some(options) = commands.strip_prefix("circuit ") {
+        return say_whether(
             rt,
-            commands,
-            Vec::from_slice(rt.alloc(), source.as_bytes())?,
-        ),
-        Some(options) => {
-            if shows_the_same_run(rt.alloc(), options, source.as_str())? {
-                println!(rt; "the same run")
-            } else {
-                println!(rt; "another run")
-            }
-        }
+            shows_the_same_run(rt, threads, options, source.as_str())?,
+        );
+    }
+    if let Some(counted) = commands.strip_prefix("workers ") {
+        let (count, options) = counted.split_once(' ').unwrap_or(("", ""));
+        let same = workers_show_the_same_run(rt, threads, count, options, source.as_str())?;
+        return say_whether(rt, same);
+    }
+    run_case(
+        rt,
+        threads,
+        commands,
+        Vec::from_slice(rt.alloc(), source.as_bytes())?,
+    )
+}
+
+// Says whether another engine shows the same run.
+fn say_whether(rt: &HostRuntime, is_same: bool) -> io::Result<()> {
+    if is_same {
+        println!(rt; "the same run")
+    } else {
+        println!(rt; "another run")
     }
 }
 
 // Runs the examples of the tables of faults, by the command that each table's head names.
-fn run_examples(rt: &HostRuntime) -> io::Result<()> {
+fn run_examples(rt: &HostRuntime, threads: &(impl Threads + Wait + Sync)) -> io::Result<()> {
     let document = fs::read_to_string(rt, "FAULTS.md")?;
     let mut command = String::new(rt.alloc());
     for row in document.as_str().lines() {
@@ -100,26 +130,39 @@ fn run_examples(rt: &HostRuntime) -> io::Result<()> {
         } else if !source.is_empty() {
             let place = cell(row, 4);
             print!(rt; "{fault} at {place}: ")?;
-            run_commands(rt, command.as_str(), spelled(rt.alloc(), source)?)?;
+            run_commands(rt, threads, command.as_str(), spelled(rt.alloc(), source)?)?;
         }
     }
     Ok(())
 }
 
-fn run_case(rt: &HostRuntime, commands: &str, source: Vec<u8>) -> io::Result<()> {
+fn run_case(
+    rt: &HostRuntime,
+    threads: &(impl Threads + Wait + Sync),
+    commands: &str,
+    source: Vec<u8>,
+) -> io::Result<()> {
+    if let Some(command) = commands.strip_prefix("seeing ") {
+        return run_seeing(rt, threads, command, source.as_slice());
+    }
     match commands.strip_prefix("failing ") {
-        None => run_commands(rt, commands, source),
+        None => run_commands(rt, threads, commands, source),
         Some(commands) => {
             let (piece, command) = commands.split_once(' ').unwrap_or(("", ""));
             let piece = piece.parse().unwrap_or(PIECE);
-            run_failing(rt, command, source.as_slice(), piece)
+            run_failing(rt, threads, command, source.as_slice(), piece)
         }
     }
 }
 
 // Writes what the last of commands writes, with its status where the text doesn't say it.
-fn run_commands(rt: &HostRuntime, commands: &str, source: Vec<u8>) -> io::Result<()> {
-    let last = last_of(rt, commands, source)?;
+fn run_commands(
+    rt: &HostRuntime,
+    threads: &(impl Threads + Wait + Sync),
+    commands: &str,
+    source: Vec<u8>,
+) -> io::Result<()> {
+    let last = last_of(rt, threads, commands, source)?;
     let written = last.written.as_slice();
     rt.stdout().write_all(written)?;
     if last.status != status_told(written) {
@@ -129,7 +172,12 @@ fn run_commands(rt: &HostRuntime, commands: &str, source: Vec<u8>) -> io::Result
 }
 
 // Runs the program by commands, of which each reads what the one before wrote, and returns how the last one ended.
-fn last_of(rt: &HostRuntime, commands: &str, source: Vec<u8>) -> io::Result<Ended> {
+fn last_of(
+    rt: &HostRuntime,
+    threads: &(impl Threads + Wait + Sync),
+    commands: &str,
+    source: Vec<u8>,
+) -> io::Result<Ended> {
     let mut last = Ended {
         status: Status::Done,
         written: source,
@@ -137,7 +185,8 @@ fn last_of(rt: &HostRuntime, commands: &str, source: Vec<u8>) -> io::Result<Ende
     for command in commands.split(" | ") {
         let words = words_of(rt.alloc(), command)?;
         last = run(
-            rt.alloc(),
+            rt,
+            threads,
             words.as_slice(),
             last.written.as_slice(),
             PIECE,
@@ -159,13 +208,46 @@ fn status_told(answer: &[u8]) -> Status {
     }
 }
 
+// Runs the program where each of two workers looks for the other before its first job, and says whether both saw it.
+fn run_seeing(
+    rt: &HostRuntime,
+    threads: &(impl Threads + Wait + Sync),
+    command: &str,
+    source: &[u8],
+) -> io::Result<()> {
+    let words = words_of(rt.alloc(), command)?;
+    let flags = Flags::new();
+    let ended = run_at_gate(
+        rt,
+        threads,
+        &flags,
+        words.as_slice(),
+        source,
+        PIECE,
+        &[],
+        &[],
+    )?;
+    rt.stdout().write_all(ended.written.as_slice())?;
+    if flags.both_saw() {
+        println!(rt; "both workers saw each other")
+    } else {
+        println!(rt; "a worker saw no other")
+    }
+}
+
 // Runs the program with each read failing in turn, and then with each write, until none fails.
-fn run_failing(rt: &HostRuntime, command: &str, source: &[u8], piece: usize) -> io::Result<()> {
+fn run_failing(
+    rt: &HostRuntime,
+    threads: &(impl Threads + Wait + Sync),
+    command: &str,
+    source: &[u8],
+    piece: usize,
+) -> io::Result<()> {
     let alloc = rt.alloc();
     let words = words_of(alloc, command)?;
-    let whole = run(alloc, words.as_slice(), source, piece, &[], &[])?;
+    let whole = run(rt, threads, words.as_slice(), source, piece, &[], &[])?;
     for call in 1..100 {
-        let ended = run(alloc, words.as_slice(), source, piece, &[call], &[])?;
+        let ended = run(rt, threads, words.as_slice(), source, piece, &[call], &[])?;
         print!(rt; "read {call}: ")?;
         tell(rt, &ended, whole.written.as_slice())?;
         if ended.status == whole.status {
@@ -173,7 +255,7 @@ fn run_failing(rt: &HostRuntime, command: &str, source: &[u8], piece: usize) -> 
         }
     }
     for call in 1..100 {
-        let ended = run(alloc, words.as_slice(), source, piece, &[], &[call])?;
+        let ended = run(rt, threads, words.as_slice(), source, piece, &[], &[call])?;
         print!(rt; "write {call}: ")?;
         tell(rt, &ended, whole.written.as_slice())?;
         if ended.status == whole.status {

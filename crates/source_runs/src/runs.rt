@@ -1,13 +1,16 @@
 //! One call of the program on a source, and what it returned and wrote.
 
+use attempt_log::{Gate, NoGate};
 use host_fn::HostFn;
 use host_fn::offered::{BITS_OF_ONE, BITS_OF_TWO, gray, popcount, sat_add};
-use koika_top::{Status, run_here};
+use koika_top::Status;
 use kw_bits::{HostKind, NoMemory};
 use kw_io::{MemSink, MemSource};
 use std::alloc::Global;
 use std::io;
 use std::io::ErrorKind;
+use std::sync::Wait;
+use std::thread::Threads;
 
 // How many bytes an answer may have.
 const ROOM: usize = 1_048_576;
@@ -21,15 +24,40 @@ pub(crate) struct Ended {
 
 /// Runs the program over memory, where a read gives and a write takes at most that many bytes, and these calls of both
 /// fail.
-#[tactic(auto, unfolding(kw_bits::specs::Host::arity))]
 pub(crate) fn run(
-    alloc: Global,
+    rt: &HostRuntime,
+    threads: &(impl Threads + Wait + Sync),
     words: &[String],
     source: &[u8],
     piece: usize,
     failing_reads: &[u64],
     failing_writes: &[u64],
 ) -> io::Result<Ended> {
+    run_at_gate(
+        rt,
+        threads,
+        &NoGate,
+        words,
+        source,
+        piece,
+        failing_reads,
+        failing_writes,
+    )
+}
+
+/// The same where a gate may hold the workers.
+#[tactic(auto, unfolding(kw_bits::specs::Host::arity))]
+pub(crate) fn run_at_gate(
+    rt: &HostRuntime,
+    threads: &(impl Threads + Wait + Sync),
+    gate: &(dyn Gate + Sync),
+    words: &[String],
+    source: &[u8],
+    piece: usize,
+    failing_reads: &[u64],
+    failing_writes: &[u64],
+) -> io::Result<Ended> {
+    let alloc = rt.alloc();
     let piece = piece.max(1);
     let source = Vec::from_slice(alloc, source)?;
     let mut source = MemSource::new(source, piece, Vec::from_slice(alloc, failing_reads)?);
@@ -40,7 +68,7 @@ pub(crate) fn run(
         HostFn::new(HostKind::Gray, BITS_OF_ONE, gray).unwrap(),
         HostFn::new_two(HostKind::SatAdd, BITS_OF_TWO, sat_add).unwrap(),
     ];
-    let status = run_here(alloc, words, &hosts, &mut source, &mut sink);
+    let status = koika_top::run(threads, alloc, words, &hosts, gate, &mut source, &mut sink);
     Ok(Ended {
         status,
         written: Vec::from_slice(alloc, sink.written())?,

@@ -3,10 +3,16 @@
 use crate::PIECE;
 use crate::runs::{run, words_of};
 use std::io::Write;
+use std::sync::Wait;
+use std::thread::Threads;
 use std::{fs, io};
 
 /// Says whether a transcript has what the command in its first line writes, and where it hasn't, writes that.
-pub(crate) fn run_transcript(rt: &HostRuntime, file: &str) -> io::Result<()> {
+pub(crate) fn run_transcript(
+    rt: &HostRuntime,
+    threads: &(impl Threads + Wait + Sync),
+    file: &str,
+) -> io::Result<()> {
     let transcript = fs::read_to_string(rt, file)?;
     let (line, answer) = transcript.as_str().split_once('\n').unwrap_or(("", ""));
     let (command, name) = line.split_once(" < ").unwrap_or(("", ""));
@@ -14,7 +20,8 @@ pub(crate) fn run_transcript(rt: &HostRuntime, file: &str) -> io::Result<()> {
     let source = fs::read_to_string(rt, name)?;
     let words = words_of(rt.alloc(), command)?;
     let ended = run(
-        rt.alloc(),
+        rt,
+        threads,
         words.as_slice(),
         source.as_bytes(),
         PIECE,

@@ -12,4 +12,4 @@ returns c options give =
     shown_by_flag (one_text found (codes "summary")) c.get_flag.result options.shown c.if-get_flag.shown (one_text-rows found (codes "summary") ∙ give.shown)
     c.get_flag.ensures.value c.get_flag.ensures.other
     (elim c.if-get_flag.branch [ then-get_flag w ↦ inl (w.if-get_flag.true, w.shown-is) | else-get_flag w ↦ inr (w.if-get_flag.false, w.shown-is) ]) in
-    options_same _ options (c.number_in.ensures ∙ give.cycles) (c.engine_in.ensures ∙ give.engine) shown
+    options_same _ options (c.number_in.ensures ∙ give.cycles) (c.engine_in.ensures ∙ give.engine) (c.number_in-2.ensures ∙ give.workers) shown

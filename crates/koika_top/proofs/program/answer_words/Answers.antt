@@ -11,6 +11,14 @@ returns-in-Ok-None g c =
     kept-unread _ _ (ap reads_source (sym asked)) refl (never-read _ _ Usage c.write_answer.ensures)
     (tells-usage (host_specs c.args.hosts.now) (map string_bytes c.args.words.now) _ _ _ asked c.write_answer.ensures)
 
+pub answer_source-requires-clause-crew : goal.answer_source-requires-clause-crew
+answer_source-requires-clause-crew g c =
+    c.requires.crew c.in-Ok-Some.command (rw c.in-Ok-Some.field-0-is at c.in-Ok-Some.ensures.command) (rw c.in-Ok-Some.field-0-is at c.in-Ok-Some.ensures.few)
+
+pub answer_bytes-requires-clause-crew : goal.answer_bytes-requires-clause-crew
+answer_bytes-requires-clause-crew g c =
+    c.requires.crew c.in-Ok-Some.command (rw c.in-Ok-Some.field-0-is at c.in-Ok-Some.ensures.command) (rw c.in-Ok-Some.field-0-is at c.in-Ok-Some.ensures.few)
+
 pub returns-then-reads_source : goal.returns-then-reads_source
 returns-then-reads_source g c =
     let reads = sym c.reads_source.ensures ∙ c.if-reads_source.true in

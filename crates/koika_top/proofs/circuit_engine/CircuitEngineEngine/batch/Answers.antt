@@ -3,10 +3,10 @@ use Rattle.koika_top.proofs.Engines.{rows-in-batch, run-kept, stands-next}
 use Rattle.koika_top.proofs.circuit_engine.CircuitEngineEngine.batch.Goals as goal
 
 pub returns-clause-rows : goal.returns-clause-rows
-returns-clause-rows c = c.in_ok-rows.ensures.rows ∙ rows-in-batch c.args.self.now.sim c.args.self.now.stimulus.now c.args.self.now.at c.args.to c.requires.stands c.requires.order
+returns-clause-rows g c = c.in_ok-rows.ensures.rows ∙ rows-in-batch c.args.self.now.sim c.args.self.now.stimulus.now c.args.self.now.at c.args.to c.requires.stands c.requires.order
 
 pub returns-clause-same : goal.returns-clause-same
-returns-clause-same c = run-kept c.args.self.now.sim c.run_on.new.sim c.args.self.now.stimulus.now _ _ c.in_ok-rows.ensures.sim
+returns-clause-same g c = run-kept c.args.self.now.sim c.run_on.new.sim c.args.self.now.stimulus.now _ _ c.in_ok-rows.ensures.sim
 
 pub returns-clause-stands : goal.returns-clause-stands
-returns-clause-stands c = stands-next c.args.self.now.sim c.run_on.new.sim c.args.self.now.stimulus.now c.args.self.now.at c.args.to c.requires.stands c.requires.order c.in_ok-rows.ensures.sim
+returns-clause-stands g c = stands-next c.args.self.now.sim c.run_on.new.sim c.args.self.now.stimulus.now c.args.self.now.at c.args.to c.requires.stands c.requires.order c.in_ok-rows.ensures.sim

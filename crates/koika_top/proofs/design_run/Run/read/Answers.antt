@@ -1,5 +1,5 @@
 use Rattle.std.proofs.Common.{sym, ◌∙◌}
-use Rattle.koika_top.proofs.run.Run.read.Goals as goal
+use Rattle.koika_top.proofs.design_run.Run.read.Goals as goal
 
 pub returns-clause-run : goal.returns-clause-run
 returns-clause-run g c = rw (c.in_ok-lowered.ensures.checked, c.in_ok-lowered.ensures.stimulus) c.in_ok-spelled.ensures.spelled

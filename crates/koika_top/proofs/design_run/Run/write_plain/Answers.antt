@@ -9,7 +9,7 @@ use Rattle.typed_core.specs.Widths.{input_widths}
 use Rattle.koika_top.proofs.LoweredRuns.{inputs-wide}
 use Rattle.koika_top.proofs.Told.{told-none}
 use Rattle.koika_top.proofs.TypedRows.{same-rows}
-use Rattle.koika_top.proofs.run.Run.write_plain.Goals as goal
+use Rattle.koika_top.proofs.design_run.Run.write_plain.Goals as goal
 
 pub begin-requires-clause-externs : goal.begin-requires-clause-externs
 begin-requires-clause-externs g c = ap kept c.deref-externs.ensures ∙ c.args.self.now.lowered.externs_fit ∙ sym (ap externs_of c.deref-design.ensures)

@@ -1,4 +1,4 @@
-//! Engines: the run of a design that `sim` asks for, one arm for each engine.
+//! Engines: the run of a design that `sim` asks for, one method for each engine.
 
 ghost use Rattle.std.specs.Prelude.{◌≡◌, ◌≤◌, ℕ, IfOk, false, length};
 ghost use Rattle.std.specs.Arc.{arc_value};
@@ -26,12 +26,16 @@ use crate::source::{fault_of_source, read_source};
 use crate::tell::tell;
 use crate::teller::Teller;
 use crate::untold::Untold;
+use crate::workers_engine::WorkersEngine;
+use attempt_log::{Gate, NoGate};
 use host_fn::HostFn;
 use koika_check::Checked;
 use kw_base::{Refusal, fault_number};
 use kw_io::Sink;
 use one_rule::{Externs, Stimulus};
 use std::alloc::Global;
+use std::sync::Wait;
+use std::thread::Threads;
 use typed_core::Design;
 
 /// The run of a design that is asked for: of that many cycles, by this engine, and what is shown of it.
@@ -60,6 +64,7 @@ impl Run {
         ensures typed { IfOk result (λ run. IsTypedDesign run.lowered.checked) }
         ensures cycles { IfOk result (λ run. run.cycles ≡ cycles) }
         ensures shown { IfOk result (λ run. run.shown ≡ shown) }
+        ensures engine { IfOk result (λ run. run.engine ≡ engine) }
         ensures refused { IfFault result (HasNoRun (host_specs hosts.now) cycles source.now) }
     {
         let spelled = read_source(alloc, hosts, source)?;
@@ -75,21 +80,8 @@ impl Run {
         })
     }
 
-    /// Makes the run by its engine and writes what is shown of it, batch by batch.
-    pub(crate) fn write<K: Sink>(&self, alloc: Global, sink: &mut K) -> Result<(), Untold>
-        requires { IsTypedDesign self.now.lowered.checked }
-        ensures { Told
-            (text_of_run self.now.lowered.checked (arc_value self.now.lowered.stimulus) self.now.cycles self.now.shown)
-            (stream K.written K.faults sink.old sink.new) result }
-    {
-        match self.engine {
-            EngineKind::Plain => self.write_plain(alloc, sink),
-            EngineKind::Circuit => self.write_circuit(alloc, sink),
-        }
-    }
-
-    // By the plain engine.
-    fn write_plain<K: Sink>(&self, alloc: Global, sink: &mut K) -> Result<(), Untold>
+    /// Makes the run by the plain engine and writes what is shown of it, batch by batch.
+    pub(crate) fn write_plain<K: Sink>(&self, alloc: Global, sink: &mut K) -> Result<(), Untold>
         requires { IsTypedDesign self.now.lowered.checked }
         ensures { Told
             (text_of_run self.now.lowered.checked (arc_value self.now.lowered.stimulus) self.now.cycles self.now.shown)
@@ -101,11 +93,11 @@ impl Run {
         is_valid(design);
         always_fits(alloc, stimulus);
         let mut engine = PlainEngine::begin(alloc, design, externs, stimulus)?;
-        self.write_by(alloc, &mut engine, sink)
+        self.write_by(alloc, &NoGate, &mut engine, sink)
     }
 
-    // By the circuit of the design, which is printed and read again.
-    fn write_circuit<K: Sink>(&self, alloc: Global, sink: &mut K) -> Result<(), Untold>
+    /// By the circuit of the design, which is printed and read again.
+    pub(crate) fn write_circuit<K: Sink>(&self, alloc: Global, sink: &mut K) -> Result<(), Untold>
         requires { IsTypedDesign self.now.lowered.checked }
         ensures { Told
             (text_of_run self.now.lowered.checked (arc_value self.now.lowered.stimulus) self.now.cycles self.now.shown)
@@ -116,13 +108,46 @@ impl Run {
         let lines = self.lowered.lines(alloc)?;
         let circuit = read_again(alloc, &lines)?;
         let mut engine = CircuitEngine::begin(alloc, &circuit, stimulus)?;
-        self.write_by(alloc, &mut engine, sink)
+        self.write_by(alloc, &NoGate, &mut engine, sink)
+    }
+
+    /// By that many workers in threads, which a gate may hold.
+    pub(crate) fn write_workers<R: Threads + Wait + Sync, K: Sink>(
+        &self,
+        rt: &R,
+        alloc: Global,
+        workers: u32,
+        gate: &(dyn Gate + Sync),
+        sink: &mut K,
+    ) -> Result<(), Untold>
+        requires typed { IsTypedDesign self.now.lowered.checked }
+        requires some { 1 ≤ workers }
+        requires most { workers ≤ 64 }
+        ensures { Told
+            (text_of_run self.now.lowered.checked (arc_value self.now.lowered.stimulus) self.now.cycles self.now.shown)
+            (stream K.written K.faults sink.old sink.new) result }
+    {
+        let lowered = &self.lowered;
+        let design: &Design = &lowered.design;
+        let stimulus: &Stimulus = &lowered.stimulus;
+        is_valid(design);
+        always_fits(alloc, stimulus);
+        let mut engine = WorkersEngine::begin(
+            rt,
+            alloc,
+            &lowered.design,
+            &lowered.externs,
+            &lowered.stimulus,
+            workers,
+        )?;
+        self.write_by(alloc, gate, &mut engine, sink)
     }
 
     // By any engine that makes the design's run.
     fn write_by<E: Engine, K: Sink>(
         &self,
         alloc: Global,
+        gate: &(dyn Gate + Sync),
         engine: &mut E,
         sink: &mut K,
     ) -> Result<(), Untold>
@@ -142,7 +167,15 @@ impl Run {
         always_fits(alloc, stimulus);
         let watch = watch_of(alloc, &lowered.checked)?;
         let teller = Teller::new(alloc, &lowered.shape, Some(self.shown), watch)?;
-        tell(alloc, engine, self.cycles, &lowered.shape, teller, sink)
+        tell(
+            alloc,
+            gate,
+            engine,
+            self.cycles,
+            &lowered.shape,
+            teller,
+            sink,
+        )
     }
 }
 

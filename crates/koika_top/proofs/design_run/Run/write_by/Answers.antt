@@ -13,7 +13,7 @@ use Rattle.koika_top.proofs.CircuitTexts.{few-cycles}
 use Rattle.koika_top.proofs.CircuitTold.{has-own, marks-same}
 use Rattle.koika_top.proofs.Told.{told-as, told-none}
 use Rattle.koika_top.proofs.TypedRows.{typed-fit, typed-rows}
-use Rattle.koika_top.proofs.run.Run.write_by.Goals as goal
+use Rattle.koika_top.proofs.design_run.Run.write_by.Goals as goal
 
 pub returns-in_err-watch : goal.returns-in_err-watch
 returns-in_err-watch g c =
