@@ -1,8 +1,9 @@
 //! The ASCII AIGER text of a graph.
 
-ghost use Rattle.std.specs.Prelude.{◌≡◌, ◌+◌, ◌≤◌, ◌^◌, ◌++◌, ◌∷◌, [], decimal, IfOk, OnOk, length, sum, All};
+ghost use Rattle.std.specs.Prelude.{◌≡◌, ◌+◌, ◌<◌, ◌≤◌, ◌^◌, ◌++◌, ◌∷◌, [], decimal, IfOk, Ok, OnOk, length, sum, All};
 ghost use Rattle.std.specs.List.{flat_map};
 ghost use Rattle.aig_blast.specs.Aigs.{input_widths, latch_widths};
+ghost use Rattle.aiger_text.specs.Reading.{aig_of};
 ghost use Rattle.aiger_text.specs.Printing.{bit_name, gate_text, HasNexts, input_lines, input_symbols, input_word_text, laid, latch_lines, latch_symbols, latch_width_of, latch_word_text, line_text, one_of, output_symbol, output_text, reset_text, rest_text, spaced, symbol_text, text_of, width_of, word_symbols};
 
 use aig_blast::{Aig, Gate, InputWord, LatchWord, Lit, OutputBit};
@@ -10,9 +11,11 @@ use itoa::Buffer;
 use kw_bits::{Bits, NoMemory, Text};
 use std::alloc::Global;
 
-/// The AIGER text of a bit-level circuit, in AIGER ASCII. Bit k of the word `x` has the symbol `x[k]`.
+/// The AIGER text of a bit-level circuit, in AIGER ASCII. Bit k of the word `x` has the symbol `x[k]`. The text is
+/// accepted, and read back as the same circuit.
 pub fn print_aiger(alloc: Global, aig: &Aig) -> Result<Text, NoMemory>
-    ensures { IfOk result (λ text. text ≡ text_of aig.now) }
+    ensures text { IfOk result (λ text. text ≡ text_of aig.now) }
+    ensures read_back { IfOk result (λ text. aig_of text ≡ Ok aig.now) }
 {
     let inputs = aig.inputs.as_slice();
     let latches = aig.latches.as_slice();
@@ -22,11 +25,9 @@ pub fn print_aiger(alloc: Global, aig: &Aig) -> Result<Text, NoMemory>
     let kept = count_latches(latches);
     let sources = before + kept;
     let count = gates.len() as u64;
+    let written = count_outputs(outputs);
     let mut text = Text::from_slice(alloc, b"aag")?;
-    push_rest(
-        &mut text,
-        &[sources + count, before, kept, outputs.len() as u64, count],
-    )?;
+    push_rest(&mut text, &[sources + count, before, kept, written, count])?;
     push_inputs(&mut text, inputs)?;
     push_latches(&mut text, 1 + before, latches)?;
     push_outputs(&mut text, outputs)?;
@@ -57,6 +58,14 @@ fn count_latches(words: &[LatchWord]) -> u64
         count += word.first.width() as u64;
     }
     count
+}
+
+// How many outputs there are. They take memory, so there aren't as many as 2^63.
+fn count_outputs(outputs: &[OutputBit]) -> u64
+    ensures count { result ≡ length outputs.now }
+    ensures few { length outputs.now < 2 ^ 63 }
+{
+    outputs.len() as u64
 }
 
 fn push_number(text: &mut Text, number: u64) -> Result<(), NoMemory>

@@ -1,0 +1,132 @@
+//! The numbers in a line of an AIGER text.
+
+ghost use Rattle.std.specs.Prelude.{◌≡◌, ◌*◌, ◌+◌, ◌<◌, ◌^◌, ◌∷◌, [], Some, None};
+ghost use Rattle.std.specs.Char.{is_digit};
+ghost use Rattle.std.specs.List.{list_all};
+ghost use Rattle.std.specs.Option.{SomeIff};
+ghost use Rattle.std.specs.Str.Parse.{IsNumeral, digits_value};
+ghost use Rattle.aiger_text.specs.Cuts.{joined, number_of as number_of_word, numbers_of, words_of};
+ghost use Rattle.aiger_text.specs.Cuts as cuts;
+ghost use Rattle.aiger_text.specs.Headers as headers;
+ghost use Rattle.aiger_text.specs.Headers.{numbers_by};
+ghost use Rattle.aiger_text.specs.Numerals.{GivesNumber};
+
+use crate::cuts::next_word;
+
+/// The least number that is too great for an AIGER text.
+const TOO_GREAT: u64 = 1 << 63;
+
+/// The numbers of a line: one, two or three of them, or else something other.
+#[derive(Clone, Copy, Debug, PartialEq, Eq)]
+pub(crate) enum Numbers {
+    One(u64),
+    Two(u64, u64),
+    Three(u64, u64, u64),
+    Other,
+}
+
+/// What comes next in a line: a number and the bytes after it, a word that is no number, or no word.
+#[derive(Clone, Copy)]
+pub(crate) enum Next<'a> {
+    Number(u64, &'a [u8]),
+    Malformed,
+    End,
+}
+
+/// The numbers of a line.
+pub(crate) fn numbers_in(line: &[u8]) -> Numbers
+    ensures { result ≡ headers.numbers_in line.now }
+{
+    match next_number(line) {
+        Next::Number(first, rest) => with_one(first, rest),
+        Next::Malformed => Numbers::Other,
+        Next::End => Numbers::Other,
+    }
+}
+
+fn with_one(first: u64, bytes: &[u8]) -> Numbers
+    ensures { result ≡ numbers_by (joined (Some first) (numbers_of (words_of bytes.now))) }
+{
+    match next_number(bytes) {
+        Next::Number(second, rest) => with_two(first, second, rest),
+        Next::Malformed => Numbers::Other,
+        Next::End => Numbers::One(first),
+    }
+}
+
+fn with_two(first: u64, second: u64, bytes: &[u8]) -> Numbers
+    ensures { result ≡ numbers_by (joined (Some first) (joined (Some second) (numbers_of (words_of bytes.now)))) }
+{
+    match next_number(bytes) {
+        Next::Number(third, rest) => with_three(first, second, third, rest),
+        Next::Malformed => Numbers::Other,
+        Next::End => Numbers::Two(first, second),
+    }
+}
+
+fn with_three(first: u64, second: u64, third: u64, bytes: &[u8]) -> Numbers
+    ensures { result ≡ numbers_by (joined (Some first) (joined (Some second) (joined (Some third) (numbers_of (words_of bytes.now))))) }
+{
+    match next_number(bytes) {
+        Next::Number(_, _) => Numbers::Other,
+        Next::Malformed => Numbers::Other,
+        Next::End => Numbers::Three(first, second, third),
+    }
+}
+
+/// What comes next in some bytes.
+pub(crate) fn next_number(bytes: &[u8]) -> Next<'_>
+    ensures { GivesNumber result (numbers_of (words_of bytes.now)) }
+{
+    let Some(word) = next_word(bytes) else {
+        return Next::End;
+    };
+    match number_of(word.bytes) {
+        Some(number) => Next::Number(number, word.rest),
+        None => Next::Malformed,
+    }
+}
+
+/// The number that a word writes, if it has decimal digits alone and the number is below 2^63.
+pub(crate) fn number_of(word: &[u8]) -> Option<u64>
+    ensures { result ≡ number_of_word word.now }
+{
+    if !is_numeral(word) {
+        return None;
+    }
+    value_of(word)
+}
+
+// Whether there is a byte, and each is a decimal digit.
+fn is_numeral(word: &[u8]) -> bool
+    ensures { result ≡ cuts.is_numeral word.now }
+{
+    !word.is_empty() && are_digits(word)
+}
+
+fn are_digits(bytes: &[u8]) -> bool
+    ensures { result ≡ list_all (λ b. is_digit b 10) bytes.now }
+{
+    bytes.iter().all(|byte| char::from(*byte).is_digit(10))
+}
+
+// The number that decimal digits write, if it is below 2^63.
+fn value_of(digits: &[u8]) -> Option<u64>
+    requires { IsNumeral 10 digits.now }
+    ensures { SomeIff result (digits_value 10 digits.now < 2 ^ 63) (digits_value 10 digits.now) }
+{
+    let mut value: u64 = 0;
+    for digit in digits {
+        let digit = char::from(*digit).to_digit(10).unwrap();
+        value = with_digit(value, digit)?;
+    }
+    Some(value)
+}
+
+// The number with one more decimal digit after it, if it is below 2^63.
+fn with_digit(value: u64, digit: u32) -> Option<u64>
+    ensures { SomeIff result (value * 10 + digit < 2 ^ 63) (value * 10 + digit) }
+{
+    let more = value.checked_mul(10)?.checked_add(u64::from(digit))?;
+    if more < TOO_GREAT { Some(more) } else { None }
+}
