@@ -1,0 +1,21 @@
+-- A journal as a list of lines: one for the workers, and for each batch one for its cycles and one for each of its
+-- entries.
+use Rattle.std.specs.Prelude.{ℕ, List, ◌∷◌, map}
+use Rattle.std.specs.List.{flat_map}
+use Rattle.journal_check.specs.declared.journal.Batch.{Batch}
+use Rattle.journal_check.specs.declared.journal.Journal.{Journal}
+use Rattle.journal_check.specs.declared.line.Line.{Line}
+use Rattle.journal_check.specs.declared.line.Line.TheVariants as line
+
+abbrev pub lines_of_batch : Batch → List Line
+lines_of_batch batch = line.Batch batch.from batch.to ∷ map line.Entry batch.entries
+
+abbrev pub lines_in : Journal → List Line
+lines_in journal = line.Begins journal.workers ∷ flat_map lines_of_batch journal.batches
+
+-- the numbers that these lines have in a source
+abbrev pub numbers_of_batch : Batch → List ℕ
+numbers_of_batch batch = batch.line ∷ batch.lines
+
+abbrev pub numbers_in : Journal → List ℕ
+numbers_in journal = journal.line ∷ flat_map numbers_of_batch journal.batches
