@@ -15,7 +15,7 @@ git ls-files -z --cached --others --exclude-standard -- crates crates.txt HANDLE
 # The crates of the repository that a crate uses, directly or not.
 below() {
     local crate
-    for crate in $(sed -n "s/^$1:\(.*\)/\1/p" crates.txt); do
+    for crate in $(sed -n "s/^$1\( [^:]*\)\{0,1\}:\(.*\)/\2/p" crates.txt); do
         if [ -d "crates/$crate" ]; then
             below "$crate"
             echo "$crate"
@@ -34,7 +34,7 @@ seconds() {
 
 crates=("$@")
 if [ ${#crates[@]} = 0 ]; then
-    mapfile -t crates < <(sed -n 's/^\([a-z_0-9]*\):.*/\1/p' crates.txt)
+    mapfile -t crates < <(sed -n 's/^\([a-z_0-9]*\)[ :].*/\1/p' crates.txt)
 fi
 
 echo "| crate | lines | own proof | with tests | edits | how many | together | minutes for 1,000 lines |"

@@ -31,7 +31,12 @@ library_tests:nodes of 64 bits, evaluated:1000000:circuit_costs:a_thousand_steps
 library_tests:nodes of 128 bits, evaluated:1000000:circuit_costs:a_thousand_steps_at_128_bits
 TESTS
 
-program=crates/library_tests/out/library_tests_tests
-command time -o "$room/memory" -f %M "$program" circuit_costs::two_hundred_thousand_nodes >/dev/null
+# The kilobytes that a test takes at most.
+memory() {
+    command time -o "$room/memory" -f %M crates/library_tests/out/library_tests_tests "circuit_costs::$1" >/dev/null
+    tail -n 1 "$room/memory"
+}
+
 echo
-echo "A net of 200,000 nodes takes at most $(tail -n 1 "$room/memory") KB, the program and the list that it is made of included."
+echo "A net of 200,000 nodes takes at most $(memory two_hundred_thousand_nodes) KB, the program and the list that it is made of included, and" \
+    "$(memory two_hundred_thousand_nodes_made_simpler) KB while it is simplified."

@@ -18,7 +18,7 @@ while read -r what size rules nodes cycles; do
     taken=$(cost /dev/null "$room/answer" "$program" "$what" "$size" $((first + cycles)))
     awk -v start="$start" -v taken="$taken" -v scale="$part_scale" -v what="$what $size" -v rules="$rules" -v nodes="$nodes" -v cycles="$cycles" 'BEGIN {
         each = (taken - start) * scale / cycles
-        printf "| %s | %d | %d | %d | %.4g | %.3g |\n", what, rules, nodes, cycles, each, each / nodes
+        printf "| %s | %d | %d | %d | %.0f | %.3g |\n", what, rules, nodes, cycles, each, each / nodes
     }'
 done <<'DESIGNS'
 counter 0 1 4 1000

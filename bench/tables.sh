@@ -1,11 +1,11 @@
 #!/usr/bin/env bash
 # Makes the tables of docs/measured/ again, each by the script of its name beside this one. It takes names of tables; none
-# means all but `circuits`, which is counted by hand, and `gate`, which proves all from nothing. It takes an hour or more
-# on a quiet machine.
+# means all but `riscv`, which needs packages of Debian, and `gate`, which proves all from nothing. It takes an hour or
+# more on a quiet machine.
 set -eu
 cd "$(dirname "$0")/.."
 
-[ $# = 0 ] && set -- texts counter runs plain tokens print libraries btor2 stim
+[ $# = 0 ] && set -- texts counter runs circuits workers plain tokens print libraries btor2 stim memory
 for name in "$@"; do
     page=docs/measured/$name.md
     made=$(mktemp)
