@@ -10,21 +10,11 @@ use crate::header::{Header, Section};
 use crate::numbers::{Numbers, number_of, numbers_in};
 use crate::variables::Variables;
 use aig_blast::{Gate, Lit};
+use kw_base::fault_number::{
+    MALFORMED_AIGER, NO_VARIABLE, RESET_LEFT_OUT, VARIABLE_DEFINED_TWICE, VARIABLE_TOO_GREAT,
+};
 use kw_bits::{NoMemory, Text};
 use std::alloc::{AllocError, AllocFailed, Global};
-
-/// A line that isn't of its form, or is missing; a symbol's index that is out of range.
-pub(crate) const MALFORMED: u32 = 70;
-/// A variable above the greatest.
-pub(crate) const ABOVE_GREATEST: u32 = 71;
-/// A variable that an earlier line defines.
-pub(crate) const DEFINED_TWICE: u32 = 72;
-/// A defined literal that is odd or a constant.
-pub(crate) const NO_VARIABLE: u32 = 73;
-/// A literal whose variable isn't defined, or for a gate isn't defined before.
-pub(crate) const UNDEFINED: u32 = 74;
-/// A reset that is neither 0 nor 1.
-pub(crate) const RESET_LEFT_OUT: u32 = 75;
 
 /// Why a line gives nothing: by the number of its fault, or that memory ran out.
 #[derive(Clone, Copy, Debug, PartialEq, Eq)]
@@ -136,9 +126,9 @@ impl Draft {
     {
         match numbers {
             Numbers::One(lit) => self.add_input_of(header, lit),
-            Numbers::Two(_, _) => Err(Flaw::Fault(MALFORMED)),
-            Numbers::Three(_, _, _) => Err(Flaw::Fault(MALFORMED)),
-            Numbers::Other => Err(Flaw::Fault(MALFORMED)),
+            Numbers::Two(_, _) => Err(Flaw::Fault(MALFORMED_AIGER)),
+            Numbers::Three(_, _, _) => Err(Flaw::Fault(MALFORMED_AIGER)),
+            Numbers::Other => Err(Flaw::Fault(MALFORMED_AIGER)),
         }
     }
 
@@ -158,8 +148,8 @@ impl Draft {
         match numbers {
             Numbers::Two(lit, next) => self.add_latch_of(header, lit, next, 0),
             Numbers::Three(lit, next, reset) => self.add_latch_of(header, lit, next, reset),
-            Numbers::One(_) => Err(Flaw::Fault(MALFORMED)),
-            Numbers::Other => Err(Flaw::Fault(MALFORMED)),
+            Numbers::One(_) => Err(Flaw::Fault(MALFORMED_AIGER)),
+            Numbers::Other => Err(Flaw::Fault(MALFORMED_AIGER)),
         }
     }
 
@@ -180,9 +170,9 @@ impl Draft {
     {
         match numbers {
             Numbers::One(lit) => self.add_output_of(header, lit),
-            Numbers::Two(_, _) => Err(Flaw::Fault(MALFORMED)),
-            Numbers::Three(_, _, _) => Err(Flaw::Fault(MALFORMED)),
-            Numbers::Other => Err(Flaw::Fault(MALFORMED)),
+            Numbers::Two(_, _) => Err(Flaw::Fault(MALFORMED_AIGER)),
+            Numbers::Three(_, _, _) => Err(Flaw::Fault(MALFORMED_AIGER)),
+            Numbers::Other => Err(Flaw::Fault(MALFORMED_AIGER)),
         }
     }
 
@@ -190,7 +180,7 @@ impl Draft {
         ensures { ReadsLine result (drafts.output_by header.now (parts_of self.old) lit) (parts_of self.new) }
     {
         if has_above(header.most, &[lit]) {
-            return Err(Flaw::Fault(ABOVE_GREATEST));
+            return Err(Flaw::Fault(VARIABLE_TOO_GREAT));
         }
         self.outputs.push(None)?;
         self.lits.push(lit)?;
@@ -202,9 +192,9 @@ impl Draft {
     {
         match numbers {
             Numbers::Three(lit, left, right) => self.add_gate_of(header, lit, left, right),
-            Numbers::One(_) => Err(Flaw::Fault(MALFORMED)),
-            Numbers::Two(_, _) => Err(Flaw::Fault(MALFORMED)),
-            Numbers::Other => Err(Flaw::Fault(MALFORMED)),
+            Numbers::One(_) => Err(Flaw::Fault(MALFORMED_AIGER)),
+            Numbers::Two(_, _) => Err(Flaw::Fault(MALFORMED_AIGER)),
+            Numbers::Other => Err(Flaw::Fault(MALFORMED_AIGER)),
         }
     }
 
@@ -235,13 +225,13 @@ impl Draft {
         let word = first_word(line);
         let name = without_blanks(word.rest);
         let Some((kind, digits)) = word.bytes.split_first() else {
-            return Err(Flaw::Fault(MALFORMED));
+            return Err(Flaw::Fault(MALFORMED_AIGER));
         };
         let Some(index) = number_of(digits) else {
-            return Err(Flaw::Fault(MALFORMED));
+            return Err(Flaw::Fault(MALFORMED_AIGER));
         };
         if name.is_empty() {
-            return Err(Flaw::Fault(MALFORMED));
+            return Err(Flaw::Fault(MALFORMED_AIGER));
         }
         self.add_name(alloc, *kind, index, name)
     }
@@ -254,7 +244,7 @@ impl Draft {
             b'i' => put_name(alloc, &mut self.inputs, index, name),
             b'l' => put_name(alloc, &mut self.latches, index, name),
             b'o' => put_name(alloc, &mut self.outputs, index, name),
-            _ => Err(Flaw::Fault(MALFORMED)),
+            _ => Err(Flaw::Fault(MALFORMED_AIGER)),
         }
     }
 }
@@ -269,7 +259,7 @@ fn put_name(
     ensures { ReadsSymbol result (put_symbol symbols.old.items index name.now) symbols.new.items }
 {
     if index >= symbols.len() as u64 {
-        return Err(Flaw::Fault(MALFORMED));
+        return Err(Flaw::Fault(MALFORMED_AIGER));
     }
     let place = index as usize;
     if symbols[place].is_some() {
@@ -291,10 +281,10 @@ fn least_fault(
     ensures { result ≡ flaw_of header.now variables.now defined lits.now reset }
 {
     if has_above(header.most, lits) {
-        return Some(ABOVE_GREATEST);
+        return Some(VARIABLE_TOO_GREAT);
     }
     if variables.has(defined / 2) {
-        return Some(DEFINED_TWICE);
+        return Some(VARIABLE_DEFINED_TWICE);
     }
     if defined < 2 || defined % 2 == 1 {
         return Some(NO_VARIABLE);

@@ -7,9 +7,9 @@ ghost use Rattle.kw_base.specs.declared.fault.Refusal.TheVariants as refusals;
 ghost use Rattle.aiger_text.specs.Drafts.{fault_in};
 ghost use Rattle.aiger_text.specs.Reading as reading;
 
-use crate::draft::UNDEFINED;
 use crate::variables::Variables;
 use aig_blast::{Gate, Lit};
+use kw_base::fault_number::UNDEFINED_VARIABLE;
 use kw_base::{Fault, Place, Refusal};
 use std::alloc::Global;
 
@@ -70,7 +70,7 @@ pub(crate) fn gates_placed(
 fn undefined(number: u32) -> Refusal
     ensures { result ≡ refusals.Fault (fault_in 74 number) }
 {
-    refusal(UNDEFINED, number)
+    refusal(UNDEFINED_VARIABLE, number)
 }
 
 /// The refusal of the line of this number.

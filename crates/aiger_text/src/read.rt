@@ -11,12 +11,13 @@ ghost use Rattle.aiger_text.specs.Sound.{IsDraft};
 ghost use Rattle.aig_blast.specs.Aigs.{IsAig};
 
 use crate::cuts::next_line;
-use crate::draft::{Draft, Flaw, MALFORMED};
+use crate::draft::{Draft, Flaw};
 use crate::header::{Header, Section, header_of};
 use crate::places::{all_placed, gates_placed, line_number, refusal};
 use crate::runs::{latch_words, output_bits, words_of};
 use aig_blast::{Aig, Gate, Lit};
 use kw_base::Refusal;
+use kw_base::fault_number::MALFORMED_AIGER;
 use kw_bits::{NoMemory, Sequence};
 use std::alloc::Global;
 
@@ -45,10 +46,10 @@ fn read_draft(alloc: Global, bytes: &[u8]) -> Result<Draft, Refusal>
     ensures fault { IfFault result (λ fault. draft_of bytes.now ≡ Err fault) }
 {
     let Some(line) = next_line(bytes) else {
-        return Err(refusal(MALFORMED, 1));
+        return Err(refusal(MALFORMED_AIGER, 1));
     };
     let Some(header) = header_of(line.bytes) else {
-        return Err(refusal(MALFORMED, 1));
+        return Err(refusal(MALFORMED_AIGER, 1));
     };
     let draft = read_lines(alloc, &header, bytes, line.rest)?;
     Ok(draft)
@@ -74,10 +75,10 @@ fn read_lines(alloc: Global, header: &Header, text: &[u8], bytes: &[u8]) -> Resu
     let last = draft.section(header);
     match last {
         Section::Symbol => Ok(draft),
-        Section::Input => Err(refusal(MALFORMED, number)),
-        Section::Latch => Err(refusal(MALFORMED, number)),
-        Section::Output => Err(refusal(MALFORMED, number)),
-        Section::Gate => Err(refusal(MALFORMED, number)),
+        Section::Input => Err(refusal(MALFORMED_AIGER, number)),
+        Section::Latch => Err(refusal(MALFORMED_AIGER, number)),
+        Section::Output => Err(refusal(MALFORMED_AIGER, number)),
+        Section::Gate => Err(refusal(MALFORMED_AIGER, number)),
     }
 }
 

@@ -53,6 +53,10 @@ pub const RUN_TOO_LONG: u32 = 45;
 pub const TOO_DEEP: u32 = 46;
 /// Too many inputs.
 pub const TOO_MANY_INPUTS: u32 = 47;
+/// A design that is too heavy in bits for a bit-level circuit.
+pub const TOO_MANY_BITS: u32 = 48;
+/// A run that is too long for a journal.
+pub const JOURNAL_TOO_LONG: u32 = 49;
 
 /// A malformed line of a BTOR2 file.
 pub const MALFORMED_LINE: u32 = 50;
@@ -74,3 +78,25 @@ pub const REPEATED_INIT_OR_NEXT: u32 = 57;
 pub const CONSTANT_TOO_GREAT: u32 = 58;
 /// A first value that depends on an input or a state.
 pub const INIT_NOT_CONSTANT: u32 = 59;
+
+/// A line of an AIGER text that isn't of its form, or is missing; a symbol's index that is out of range.
+pub const MALFORMED_AIGER: u32 = 70;
+/// A literal whose variable is above the greatest.
+pub const VARIABLE_TOO_GREAT: u32 = 71;
+/// A variable that an earlier line defines.
+pub const VARIABLE_DEFINED_TWICE: u32 = 72;
+/// A defined literal that is odd or a constant.
+pub const NO_VARIABLE: u32 = 73;
+/// A literal whose variable isn't defined, or for a gate isn't defined before.
+pub const UNDEFINED_VARIABLE: u32 = 74;
+/// A reset that is neither 0 nor 1.
+pub const RESET_LEFT_OUT: u32 = 75;
+
+/// A line of a journal that is of no form, or is missing.
+pub const MALFORMED_JOURNAL: u32 = 80;
+/// An attempt of a journal that isn't a trace.
+pub const NO_TRACE: u32 = 81;
+/// An answer of a journal that the board couldn't have given.
+pub const WRONG_ANSWER: u32 = 82;
+/// A batch of a journal that doesn't follow the one before, or leaves cycles open.
+pub const WRONG_BATCH: u32 = 83;
