@@ -1,10 +1,12 @@
 pub mod Conditions
+pub mod Declared
 pub mod Ends
 pub mod Evaluation
 pub mod Examples
 pub mod Filled
 pub mod Filling
 pub mod KindsByRule
+pub mod Lasting
 pub mod Narrow
 pub mod Numerals
 pub mod One

@@ -1,4 +1,5 @@
--- What the slow run of a text knows of values. Contracts of private functions alone cite it.
+-- What the slow run of a text knows of values, which of them are there, and which forms compute one. It serves the slow
+-- run's functions, `named_constant` and `written_constant` among them, and private functions of `btor2_net`.
 use Rattle.std.specs.BTreeMap as map
 use Rattle.std.specs.List.{zip}
 use Rattle.std.specs.Map.{lookup}

@@ -1,15 +1,16 @@
 //! Circuits: the slow run of an accepted file, the plain program of its definition.
 
 // The run of a text, step by step.
-ghost use Rattle.std.specs.Prelude.{◌≡◌, ◌==◌, ℕ, false, None, Some, map, IfOk, IfSome};
+ghost use Rattle.std.specs.Prelude.{◌≡◌, ◌==◌, ℕ, All, false, true, None, Some, map, IfOk, IfSome, IsSome};
 ghost use Rattle.kw_bits.specs.BitVector.{BitVector};
+ghost use Rattle.btor2_text.specs.Printable.{ArePrintable};
 ghost use Rattle.one_rule.specs.Stimulus.{inputs_of};
 ghost use Rattle.btor2_model.specs.Acceptance as acceptance;
 ghost use Rattle.btor2_model.specs.Known.{scope_of};
 ghost use Rattle.btor2_model.specs.Rules as form;
 ghost use Rattle.btor2_model.specs.Run as run;
 ghost use Rattle.btor2_model.specs.Scope as scope;
-ghost use Rattle.btor2_model.specs.SlowRun.{is_flag, Knows};
+ghost use Rattle.btor2_model.specs.SlowRun.{is_flag, known_value, IsFilled, Knows, StatesHave};
 
 use crate::acceptance::declared;
 use crate::arguments::id_at;
@@ -25,17 +26,16 @@ use kw_bits::{Bits, NoMemory};
 use one_rule::{FiredSet, Regs, Row, Rows, Stimulus};
 use std::alloc::{AllocError, Global};
 
-/// The rows of a text's run of n cycles, each line evaluated anew in each step. There are none where a value is
-/// missing, as where the stimulus gives an input one of another width. Where the inputs and the states have values of
-/// their widths, each line of a step has one; that the states still do after a step, and so that there always are rows
-/// for a stimulus of the inputs' widths, isn't proved.
+/// The rows of a text's run of n cycles, each line evaluated anew in each step. There always are for a stimulus of the
+/// inputs' widths; for another one there may be none.
 pub fn slow_run(
     alloc: Global,
     text: &Btor,
     stimulus: &Stimulus,
     n: u32,
 ) -> Result<Option<Rows>, NoMemory>
-    ensures { IfOk result (λ rows. IfSome rows (λ rows. rows ≡ run.run_of text.now (inputs_of stimulus.now) n)) }
+    ensures rows { IfOk result (λ rows. IfSome rows (λ rows. rows ≡ run.run_of text.now (inputs_of stimulus.now) n)) }
+    ensures always { stimulus.now.widths ≡ map (run.width_in text.now) (run.ids_of form.is_input text.now) → IfOk result (λ rows. IsSome rows) }
 {
     let lines = text.lines().as_slice();
     let known = all_declared(alloc, lines)?;
@@ -78,7 +78,8 @@ fn first_row(
 ) -> Result<Option<Row>, NoMemory>
     requires declared { scope_of known.now ≡ scope.behind_all scope.no_lines lines.now }
     requires states { Knows states.now (run.first_values lines.now) }
-    ensures { IfOk result (λ row. IfSome row (λ row. row ≡ run.first_row lines.now)) }
+    ensures row { IfOk result (λ row. IfSome row (λ row. row ≡ run.first_row lines.now)) }
+    ensures some { IfOk result (λ row. StatesHave lines.now states.now → IsSome row) }
 {
     let Some(regs) = values_of(alloc, &state_ids(alloc, lines)?, states)? else {
         return Ok(None);
@@ -99,8 +100,10 @@ fn row_behind(
     states: &KnownValues,
 ) -> Result<Option<Row>, NoMemory>
     requires { scope_of known.now ≡ scope.behind_all scope.no_lines lines.now }
-    ensures { IfOk result (λ row. IfSome row (λ row. (before after : ℕ → BitVector) → Knows values.now before → Knows states.now after
+    ensures row { IfOk result (λ row. IfSome row (λ row. (before after : ℕ → BitVector) → Knows values.now before → Knows states.now after
         → row ≡ record { regs = map after (run.ids_of form.is_state lines.now); fired = map (λ id. (before id).number == 1) (run.flag_ids lines.now) })) }
+    ensures some { IfOk result (λ row. acceptance.lines_fault scope.no_lines lines.now ≡ None → ArePrintable lines.now → IsFilled true (scope.behind_all scope.no_lines lines.now) values.now
+        → StatesHave lines.now states.now → IsSome row) }
 {
     let Some(regs) = values_of(alloc, &state_ids(alloc, lines)?, states)? else {
         return Ok(None);
@@ -137,7 +140,8 @@ fn is_flag(known: &Known, line: &Line) -> bool
 
 // The values of these ids, if all are known.
 fn values_of(alloc: Global, ids: &[u64], values: &KnownValues) -> Result<Option<Regs>, NoMemory>
-    ensures { IfOk result (λ found. IfSome found (λ found. (all : ℕ → BitVector) → Knows values.now all → found ≡ map all ids.now)) }
+    ensures values { IfOk result (λ found. IfSome found (λ found. (all : ℕ → BitVector) → Knows values.now all → found ≡ map all ids.now)) }
+    ensures some { IfOk result (λ found. All (λ id. IsSome (known_value values.now id)) ids.now → IsSome found) }
 {
     let mut found = Regs::new(alloc);
     for id in ids {

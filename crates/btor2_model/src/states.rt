@@ -1,14 +1,16 @@
 //! Circuits: the states of the slow run, before the first step and after each.
 
 // The values of states, before all steps and after one.
-ghost use Rattle.std.specs.Prelude.{◌≡◌, ℕ, None, Some, IfOk, IfSome, option_map, unwrap_or};
+ghost use Rattle.std.specs.Prelude.{◌≡◌, ◌≤◌, ℕ, false, true, None, Some, IfOk, IfSome, option_and_then, option_map, unwrap_or};
+ghost use Rattle.std.specs.List.{find};
 ghost use Rattle.kw_bits.specs.BitVector.{BitVector, zero_at};
+ghost use Rattle.btor2_text.specs.Printable.{ArePrintable};
 ghost use Rattle.btor2_model.specs.Acceptance as acceptance;
 ghost use Rattle.btor2_model.specs.Known.{scope_of};
 ghost use Rattle.btor2_model.specs.Rules as form;
 ghost use Rattle.btor2_model.specs.Run as run;
 ghost use Rattle.btor2_model.specs.Scope as scope;
-ghost use Rattle.btor2_model.specs.SlowRun.{Knows, sets};
+ghost use Rattle.btor2_model.specs.SlowRun.{HasValue, IsFilled, Knows, StatesHave, known_value, sets};
 
 use crate::arguments::id_at;
 use crate::known::Known;
@@ -40,7 +42,8 @@ pub(crate) fn first_values(
 ) -> Result<KnownValues, NoMemory>
     requires accepted { acceptance.lines_fault scope.no_lines lines.now ≡ None }
     requires declared { scope_of known.now ≡ scope.behind_all scope.no_lines lines.now }
-    ensures { IfOk result (λ states. Knows states (run.first_values lines.now)) }
+    ensures known { IfOk result (λ states. Knows states (run.first_values lines.now)) }
+    ensures have { IfOk result (λ states. ArePrintable lines.now → StatesHave lines.now states) }
 {
     let values = values_with(alloc, lines, &[], &KnownValues::new(alloc))?;
     let ids = state_ids(alloc, lines)?;
@@ -54,8 +57,10 @@ pub(crate) fn first_values(
 // The first value of a state: what its `init` has, or 0.
 fn first_value(known: &Known, values: &KnownValues, lines: &[Line], state: u64) -> Option<Bits>
     requires { scope_of known.now ≡ scope.behind_all scope.no_lines lines.now }
-    ensures { (all : ℕ → BitVector) → Knows values.now all
+    ensures known { (all : ℕ → BitVector) → Knows values.now all
         → IfSome result (λ value. unwrap_or (run.value_set form.is_init lines.now all state) (zero_at (run.width_in lines.now state)) ≡ value) }
+    ensures has { acceptance.lines_fault scope.no_lines lines.now ≡ None → ArePrintable lines.now → IsFilled false (scope.behind_all scope.no_lines lines.now) values.now
+        → 1 ≤ run.width_in lines.now state → run.width_in lines.now state ≤ 128 → HasValue result (run.width_in lines.now state) }
 {
     match init_of(lines, state) {
         Some(id) => values.get(id),
@@ -65,7 +70,8 @@ fn first_value(known: &Known, values: &KnownValues, lines: &[Line], state: u64) 
 
 // What the `init` of a state sets it to, if it has one.
 fn init_of(lines: &[Line], state: u64) -> Option<u64>
-    ensures { (all : ℕ → BitVector) → run.value_set form.is_init lines.now all state ≡ option_map all result }
+    ensures value { (all : ℕ → BitVector) → run.value_set form.is_init lines.now all state ≡ option_map all result }
+    ensures id { result ≡ option_map (λ line. scope.id_at line.arguments 2) (find (sets form.is_init state) lines.now) }
 {
     for line in lines {
         if is_init_of(line, state) {
@@ -87,7 +93,8 @@ pub(crate) fn next_values(
     lines: &[Line],
     values: &KnownValues,
 ) -> Result<KnownValues, NoMemory>
-    ensures { IfOk result (λ states. (all : ℕ → BitVector) → Knows values.now all → Knows states (run.next_values lines.now all)) }
+    ensures known { IfOk result (λ states. (all : ℕ → BitVector) → Knows values.now all → Knows states (run.next_values lines.now all)) }
+    ensures have { IfOk result (λ states. acceptance.IsAccepted lines.now → IsFilled true (scope.behind_all scope.no_lines lines.now) values.now → StatesHave lines.now states) }
 {
     let ids = state_ids(alloc, lines)?;
     let mut states = KnownValues::new(alloc);
@@ -99,14 +106,16 @@ pub(crate) fn next_values(
 
 // The value of a state after such a step: what its `next` has in it.
 fn next_value(values: &KnownValues, lines: &[Line], state: u64) -> Option<Bits>
-    ensures { (all : ℕ → BitVector) → Knows values.now all → IfSome result (λ value. run.next_values lines.now all state ≡ value) }
+    ensures known { (all : ℕ → BitVector) → Knows values.now all → IfSome result (λ value. run.next_values lines.now all state ≡ value) }
+    ensures value { result ≡ option_and_then (known_value values.now) (option_map (λ line. scope.id_at line.arguments 2) (find (sets form.is_next state) lines.now)) }
 {
     values.get(next_of(lines, state)?)
 }
 
 // What the `next` of a state sets it to, if it has one.
 fn next_of(lines: &[Line], state: u64) -> Option<u64>
-    ensures { (all : ℕ → BitVector) → run.value_set form.is_next lines.now all state ≡ option_map all result }
+    ensures value { (all : ℕ → BitVector) → run.value_set form.is_next lines.now all state ≡ option_map all result }
+    ensures id { result ≡ option_map (λ line. scope.id_at line.arguments 2) (find (sets form.is_next state) lines.now) }
 {
     for line in lines {
         if is_next_of(line, state) {
