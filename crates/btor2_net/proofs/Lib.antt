@@ -1,6 +1,5 @@
 pub mod Adding
 pub mod Asking
-pub mod Declared
 pub mod Distinct
 pub mod FewLines
 pub mod FirstSettings

@@ -34,10 +34,10 @@ use Rattle.btor2_net.specs.Values.{AreNodesOf, SameStep}
 use Rattle.btor2_net.specs.Wires.{AreWiresOf, Stand, first_of, input_wire, node_of, output_wire, set_by, state_wire, width_of, zero_of}
 use Rattle.btor2_net.specs.declared.form.Form.TheVariants as forms
 use Rattle.btor2_net.specs.declared.nodes.Nodes.{Nodes}
-use Rattle.btor2_net.proofs.Declared.{IsValue, all-passing, fine-lines, input-values, next-of, output-value, own-value, state-values}
+use Rattle.btor2_model.proofs.Declared.{IsValue, all-passing, fine-lines, input-values, next-of, output-value, own-value, state-values}
 use Rattle.btor2_net.proofs.Distinct.{states-given}
 use Rattle.btor2_net.proofs.Independent.{same-in-all-steps}
-use Rattle.btor2_net.proofs.Runs.{Matches, runs-as}
+use Rattle.btor2_net.proofs.Runs.{Matches, gives-outputs, runs-as}
 use Rattle.btor2_net.proofs.Tokens.{has-tokens}
 
 -- functions that agree on each line give the same list
@@ -285,4 +285,4 @@ module _ (lines : List Line) (accepted : IsAccepted lines) (n : Nodes) (nodes : 
     }
 
     pub are-wires : AreWiresOf lines wires
-    are-wires = record { circuit = is-circuit; has_lines = has-lines; run = runs-as lines wires (fine-lines lines accepted) is-circuit has-lines matches; names = has-tokens lines wires accepted.forms has-lines }
+    are-wires = record { circuit = is-circuit; has_lines = has-lines; run = runs-as lines wires (fine-lines lines accepted) is-circuit has-lines matches; outputs = gives-outputs lines wires (fine-lines lines accepted) is-circuit has-lines matches; names = has-tokens lines wires accepted.forms has-lines }

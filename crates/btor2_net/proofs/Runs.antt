@@ -8,10 +8,11 @@ use Rattle.net_graph.proofs.OperatorWidths.{width-value_at}
 use Rattle.net_graph.proofs.Values.{values-widths}
 use Rattle.typed_core.specs.Widths.{HaveWidths}
 use Rattle.one_rule.specs.Run.{InputsByCycle}
-use Rattle.one_rule.specs.Stimulus.{inputs_of}
+use Rattle.one_rule.specs.Stimulus.{AlwaysFits, InputVectors, inputs_of}
 use Rattle.one_rule.specs.declared.rows.Row.{Row}
 use Rattle.circuit_eval.specs.Circuits.{AreBits, IsCircuit, input_widths, state_widths}
 use Rattle.circuit_eval.specs.Run as wired
+use Rattle.circuit_eval.specs.Simulations.{Simulation, after_steps, beginning}
 use Rattle.circuit_eval.specs.declared.circuit.OutputWire.{OutputWire}
 use Rattle.circuit_eval.specs.declared.circuit.Wires.{Wires}
 use Rattle.circuit_eval.proofs.Fitting.{first_states-AreBits, next_states-AreBits, step_feeds}
@@ -22,7 +23,7 @@ use Rattle.btor2_model.specs.Rules.{is_output, is_state}
 use Rattle.btor2_model.specs.Run as text
 use Rattle.btor2_model.specs.Scope.{id_at, no_lines}
 use Rattle.btor2_model.proofs.Selections.{rows-next, states-next}
-use Rattle.btor2_net.specs.Translations.{HasLines, RunsAs, output_widths}
+use Rattle.btor2_net.specs.Translations.{GivesOutputs, HasLines, RunsAs, output_widths}
 use Rattle.btor2_net.specs.Values.{SameStep}
 use Rattle.btor2_net.proofs.Distinct.{inputs-given, states-given}
 
@@ -119,6 +120,22 @@ module _ (lines : List Line) (c : Wires) (fine : lines_fault no_lines lines ≡ 
         ∙ ap (λ (rows : List Row). rows ++ wired.rows_after c inputs n (k + 1) (regs (k + 1))) (sym (rows-next lines inputs k))
         ∙ rows-are n (k + 1) (next-bits k now) ∙ ap (text.rows_behind lines inputs) count
 
+    -- a moment before a step
+    abbrev moment : List BitVector → List BitVector → Simulation
+    moment states outputs = record { circuit = c; states = states; outputs = outputs }
+
+    -- what outputs name has these values in a step
+    abbrev outputs-at : ℕ → List BitVector
+    outputs-at k = map (λ (line : Line). text.values_in lines inputs k (id_at line.arguments 0)) (text.lines_of is_output lines)
+
+    outputs-are : (n k : ℕ) (outputs : List BitVector) → AreBits (regs k) (state_widths c.states) → (after_steps inputs (suc n) k (moment (regs k) outputs)).outputs ≡ outputs-at (k + n)
+    unfolding after_steps
+    outputs-are zero k outputs now = m.outputs (step k) (source k) (same-step k) ∙ (let same : k ≡ k + 0 = omega arith in ap outputs-at same)
+    outputs-are (suc n) k outputs now =
+        let given : List BitVector = wired.outputs_in c.outputs (values_of (source k) c.net) in
+        let count : (k + 1) + n ≡ k + suc n = omega arith in
+        ap (λ (rs : List BitVector). (after_steps inputs (suc n) (k + 1) (moment rs given)).outputs) (row-regs k) ∙ outputs-are n (k + 1) given (next-bits k now) ∙ ap outputs-at count
+
   zero-of : ℕ → BitVector
   zero-of id = zero_at (text.width_in lines id)
 
@@ -131,10 +148,25 @@ module _ (lines : List Line) (c : Wires) (fine : lines_fault no_lines lines ≡ 
       ap₂ (λ (rs : List BitVector) (bs : List Bool). let r : Row = record { regs = rs; fired = bs } in r) m.firsts
       (ap wired.flags zeros-are ∙ flags-by (λ (id : ℕ). zero_at (text.width_in lines id)) (text.width_in lines) output_ids refl)
 
+  abbrev fit : (stimulus : InputVectors) → stimulus.widths ≡ input_widths c.inputs → AlwaysFits stimulus → (k : ℕ) → AreBits (inputs_of stimulus k) (input_widths c.inputs)
+  fit stimulus same always k = HaveWidths-AreBits (input_widths c.inputs) (inputs_of stimulus k) (subst (λ (ws : List ℕ). HaveWidths ws (inputs_of stimulus k)) same (always k))
+
+  first-bits : AreBits (map (text.first_values lines) state_ids) (state_widths c.states)
+  first-bits = subst (λ (rs : List BitVector). AreBits rs (state_widths c.states)) m.firsts (first_states-AreBits c is)
+
+  pub gives-outputs : GivesOutputs lines c
+  gives-outputs stimulus n same always =
+      let inputs = inputs_of stimulus in
+      let fits = fit stimulus same always in
+      let zeros : List BitVector = wired.zero_outputs (widths_of c.net) c.outputs in
+      let more : n + 1 ≡ suc n = omega arith in
+      let count : 0 + n ≡ n = omega arith in
+      ap (λ (k : ℕ). (after_steps inputs k 0 (beginning c)).outputs) more ∙ ap (λ (rs : List BitVector). (after_steps inputs (suc n) 0 (moment inputs fits rs zeros)).outputs) m.firsts
+      ∙ outputs-are inputs fits n 0 zeros first-bits ∙ ap (outputs-at inputs fits) count
+
   pub runs-as : RunsAs lines c
   runs-as stimulus n same always =
       let inputs = inputs_of stimulus in
-      let fits : (k : ℕ) → AreBits (inputs k) (input_widths c.inputs) = λ k. HaveWidths-AreBits (input_widths c.inputs) (inputs k) (subst (λ (ws : List ℕ). HaveWidths ws (inputs k)) same (always k)) in
-      let first_bits : AreBits (regs inputs fits 0) (state_widths c.states) = subst (λ (rs : List BitVector). AreBits rs (state_widths c.states)) m.firsts (first_states-AreBits c is) in
+      let fits = fit stimulus same always in
       ap₂ (λ (r : Row) (rows : List Row). r ∷ rows) first-is
-      (ap (λ (rs : List BitVector). wired.rows_after c inputs n 0 rs) m.firsts ∙ rows-are inputs fits n 0 first_bits ∙ (let count : 0 + n ≡ n = omega arith in ap (text.rows_behind lines inputs) count))
+      (ap (λ (rs : List BitVector). wired.rows_after c inputs n 0 rs) m.firsts ∙ rows-are inputs fits n 0 first-bits ∙ (let count : 0 + n ≡ n = omega arith in ap (text.rows_behind lines inputs) count))

@@ -24,13 +24,13 @@ use Rattle.btor2_model.specs.Run as text
 use Rattle.btor2_model.specs.Scope.{Scope, id_at, no_lines, width_wanted}
 use Rattle.btor2_net.specs.Pages as pages
 use Rattle.btor2_net.specs.Pages.{Draft, Page, id_in}
-use Rattle.btor2_net.specs.Translations.{AreCounted, HasLines, HasTokens, RunsAs, name_of}
+use Rattle.btor2_net.specs.Translations.{AreCounted, GivesOutputs, HasLines, HasTokens, RunsAs, name_of}
 use Rattle.btor2_net.specs.Values.{AreGiven, SameStep}
 use Rattle.btor2_net.proofs.Adding.{scope_of}
-use Rattle.btor2_net.proofs.Declared.{width-is}
+use Rattle.btor2_model.proofs.Declared.{width-is}
 use Rattle.btor2_net.proofs.Distinct.{AreDistinct, ids-distinct}
 use Rattle.btor2_net.proofs.Keeping.{Keeps, Names, continued-by, keeps-both, names-keep, was-set}
-use Rattle.btor2_net.proofs.Runs.{Matches, runs-as}
+use Rattle.btor2_net.proofs.Runs.{Matches, gives-outputs, runs-as}
 use Rattle.btor2_net.proofs.WrittenEnds as ends
 use Rattle.btor2_net.proofs.WrittenInputs as ins
 use Rattle.btor2_net.proofs.WrittenLines.{Pairs, map-each, mapped, one-of-all, pairs-at, pairs-count, pairs-first, pairs-map, pairs-weaker}
@@ -335,6 +335,10 @@ module _ (c : Wires) (is : IsCircuit c) (tokens : HasTokens c) where
   unfolding pages.lines_of
   lines-run = runs-as e.lines c fine is has-lines matches
 
+  pub lines-give : GivesOutputs (pages.lines_of c) c
+  unfolding pages.lines_of
+  lines-give = gives-outputs e.lines c fine is has-lines matches
+
   pub lines-counted : AreCounted (pages.lines_of c)
   unfolding pages.lines_of
   lines-counted = has-e.good.counted
@@ -345,6 +349,7 @@ pub record AreWritten {E : Type 0} (r : Result (List Line) E) (c : Wires) : Type
   pub accepted : IfOk r IsAccepted
   pub names : IfOk r (λ (lines : List Line). HasLines lines c)
   pub run : IfOk r (λ (lines : List Line). RunsAs lines c)
+  pub outputs : IfOk r (λ (lines : List Line). GivesOutputs lines c)
   pub ids : IfOk r AreCounted
 
 pub are-written : {E : Type 0} (r : Result (List Line) E) (given c : Wires) → given ≡ c → IsCircuit c → HasTokens c → IfOk r (λ (lines : List Line). lines ≡ pages.lines_of given) → IfOk r (λ (lines : List Line). length lines < 2 ^ 64)
@@ -357,6 +362,7 @@ are-written {E} r given c same is tokens lines few =
           (λ ls at small. subst IsAccepted (sym at) (lines-accepted c is tokens (subst (λ (ks : List Line). length ks < 2 ^ 64) at small))) lines_are few;
       names = IfOk-weaker r (λ (ls : List Line). ls ≡ pages.lines_of c) (λ (ls : List Line). HasLines ls c) (λ ls at. subst (λ (ks : List Line). HasLines ks c) (sym at) (lines-have c is tokens)) lines_are;
       run = IfOk-weaker r (λ (ls : List Line). ls ≡ pages.lines_of c) (λ (ls : List Line). RunsAs ls c) (λ ls at. subst (λ (ks : List Line). RunsAs ks c) (sym at) (lines-run c is tokens)) lines_are;
+      outputs = IfOk-weaker r (λ (ls : List Line). ls ≡ pages.lines_of c) (λ (ls : List Line). GivesOutputs ls c) (λ ls at. subst (λ (ks : List Line). GivesOutputs ks c) (sym at) (lines-give c is tokens)) lines_are;
       ids = IfOk-weaker r (λ (ls : List Line). ls ≡ pages.lines_of c) AreCounted (λ ls at. subst AreCounted (sym at) (lines-counted c is tokens)) lines_are;
     }
   where

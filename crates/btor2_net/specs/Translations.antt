@@ -5,6 +5,7 @@ use Rattle.net_graph.specs.Nets.{width_at, widths_of}
 use Rattle.one_rule.specs.Stimulus.{AlwaysFits, InputVectors, inputs_of}
 use Rattle.circuit_eval.specs.Circuits as circuit
 use Rattle.circuit_eval.specs.Run as wired
+use Rattle.circuit_eval.specs.Simulations.{after_steps, beginning}
 use Rattle.circuit_eval.specs.declared.circuit.InputWire.{InputWire}
 use Rattle.circuit_eval.specs.declared.circuit.OutputWire.{OutputWire}
 use Rattle.circuit_eval.specs.declared.circuit.StateWire.{StateWire}
@@ -45,6 +46,12 @@ pub record HasLines (lines : List Line) (c : Wires) : Type 0 where
 abbrev pub RunsAs : List Line → Wires → Type 0
 RunsAs lines c = (stimulus : InputVectors) (n : ℕ) → stimulus.widths ≡ circuit.input_widths c.inputs → AlwaysFits stimulus
     → wired.run_of c (inputs_of stimulus) n ≡ text.run_of lines (inputs_of stimulus) n
+
+-- on every such stimulus, each output has in each step the value that its line names, also where it is wider than one bit
+abbrev pub GivesOutputs : List Line → Wires → Type 0
+GivesOutputs lines c = (stimulus : InputVectors) (step : ℕ) → stimulus.widths ≡ circuit.input_widths c.inputs → AlwaysFits stimulus
+    → (after_steps (inputs_of stimulus) (step + 1) 0 (beginning c)).outputs
+    ≡ map (λ (line : Line). text.values_in lines (inputs_of stimulus) step (id_at line.arguments 0)) (text.lines_of is_output lines)
 
 -- each name of the circuit can be written: a byte or more, and no blank, semicolon or end of a line
 pub record HasTokens (c : Wires) : Type 0 where

@@ -16,7 +16,7 @@ use Rattle.btor2_model.specs.Scope.{id_at}
 use Rattle.btor2_model.specs.SlowRun.{sets}
 use Rattle.btor2_model.specs.Table.{value_in}
 use Rattle.btor2_model.specs.declared.rule.Rule.{Rule}
-use Rattle.btor2_net.specs.Translations.{HasLines, HasTokens, RunsAs, name_of}
+use Rattle.btor2_net.specs.Translations.{GivesOutputs, HasLines, HasTokens, RunsAs, name_of}
 use Rattle.btor2_net.specs.declared.form.Form.{Form}
 use Rattle.btor2_net.specs.declared.form.Form.TheVariants as forms
 use Rattle.btor2_net.specs.declared.nodes.Nodes.{Nodes}
@@ -69,4 +69,5 @@ pub record AreWiresOf (lines : List Line) (c : Wires) : Type 0 where
   pub circuit : IsCircuit c
   pub has_lines : HasLines lines c
   pub run : RunsAs lines c
+  pub outputs : GivesOutputs lines c
   pub names : HasTokens c

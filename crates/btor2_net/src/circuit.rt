@@ -4,7 +4,7 @@ ghost use Rattle.std.specs.Prelude.{◌<◌, ◌^◌, IfOk, length};
 ghost use Rattle.btor2_model.specs.Acceptance.{IsAccepted};
 ghost use Rattle.btor2_model.specs.Rules.{is_input, is_state};
 ghost use Rattle.btor2_model.specs.Run.{lines_of};
-ghost use Rattle.btor2_net.specs.Translations.{HasLines, HasTokens, RunsAs};
+ghost use Rattle.btor2_net.specs.Translations.{GivesOutputs, HasLines, HasTokens, RunsAs};
 ghost use Rattle.btor2_net.specs.Wires.{AreWiresOf};
 
 use crate::form::Form;
@@ -23,6 +23,7 @@ pub fn to_circuit(alloc: Global, text: &Btor) -> Result<Circuit, NoMemory>
     requires states { length (lines_of is_state text.now) < 2 ^ 32 }
     ensures lines { IfOk result (HasLines text.now) }
     ensures run { IfOk result (RunsAs text.now) }
+    ensures outputs { IfOk result (GivesOutputs text.now) }
     ensures names { IfOk result HasTokens }
 {
     let wires = wires_of(alloc, text.lines().as_slice())?;

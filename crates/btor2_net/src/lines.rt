@@ -8,7 +8,7 @@ ghost use Rattle.btor2_net.specs.PageFields.{page_of};
 ghost use Rattle.btor2_net.specs.Layout.{AreLaidOut};
 ghost use Rattle.btor2_net.specs.Pages as pages;
 ghost use Rattle.btor2_net.specs.TidyLines.{AreTidy};
-ghost use Rattle.btor2_net.specs.Translations.{AreCounted, HasLines, HasTokens, RunsAs};
+ghost use Rattle.btor2_net.specs.Translations.{AreCounted, GivesOutputs, HasLines, HasTokens, RunsAs};
 
 use crate::keywords::{keyword_of_one, keyword_of_two};
 use crate::page::Page;
@@ -26,6 +26,7 @@ pub fn to_lines(alloc: Global, circuit: &Circuit) -> Result<Lines, NoMemory>
     ensures accepted { IfOk result IsAccepted }
     ensures names { IfOk result (λ lines. HasLines lines circuit.now) }
     ensures run { IfOk result (λ lines. RunsAs lines circuit.now) }
+    ensures outputs { IfOk result (λ lines. GivesOutputs lines circuit.now) }
     ensures ids { IfOk result AreCounted }
     ensures layout { IfOk result AreLaidOut }
     ensures tidy { IfOk result (λ lines. IsTidy circuit.now → AreTidy lines) }

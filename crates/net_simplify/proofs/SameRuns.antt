@@ -8,10 +8,11 @@ use Rattle.net_graph.specs.Nets.{IsNet, width_at, widths_of}
 use Rattle.net_graph.specs.Values.{AllRead, Sources, value_at, values_of}
 use Rattle.net_graph.specs.declared.node.NetOp.{NetOp}
 use Rattle.one_rule.specs.Run.{InputsByCycle}
-use Rattle.one_rule.specs.Stimulus.{inputs_of}
+use Rattle.one_rule.specs.Stimulus.{AlwaysFits, InputVectors, inputs_of}
 use Rattle.one_rule.specs.declared.rows.Row.{Row}
 use Rattle.circuit_eval.specs.Circuits.{AreBits, input_widths, IsCircuit, IsOutput, IsState, state_widths}
-use Rattle.circuit_eval.specs.Run.{first_row, first_states, flags, next_states, outputs_in, row_after, rows_after, zero_outputs}
+use Rattle.circuit_eval.specs.Run.{first_row, first_states, flags, next_states, outputs_in, row_after, rows_after, values_in, zero_outputs}
+use Rattle.circuit_eval.specs.Simulations.{after_steps, Simulation}
 use Rattle.circuit_eval.specs.declared.circuit.InputWire.{InputWire}
 use Rattle.circuit_eval.specs.declared.circuit.OutputWire.{OutputWire}
 use Rattle.circuit_eval.specs.declared.circuit.StateWire.{StateWire}
@@ -19,7 +20,7 @@ use Rattle.circuit_eval.specs.declared.circuit.Wires.{Wires}
 use Rattle.circuit_eval.proofs.Fitting.{first_states-AreBits, next_states-AreBits, step_feeds}
 use Rattle.circuit_eval.proofs.Stimuli.{HaveWidths-AreBits}
 use Rattle.net_simplify.specs.Forms.{IsLean}
-use Rattle.net_simplify.specs.Kept.{Keeps, RunsAs}
+use Rattle.net_simplify.specs.Kept.{HasOutputsOf, Keeps, RunsAs}
 use Rattle.net_simplify.specs.Passes.{IsSimpler, moved_output, moved_state, nth, ReadsOnly, Reduces, rewired, StandsFor}
 
 -- what a net and places have to keep of a circuit
@@ -87,14 +88,20 @@ module _ (c : Wires) (valid : IsCircuit c) (net : List NetOp) (places : List ℕ
 
   -- ---- the run
 
+  same_regs : (inputs now : List BitVector) → AreBits inputs (input_widths c.inputs) → AreBits now (state_widths c.states) → next_states new.states (values_in new inputs now) ≡ next_states c.states (values_in c inputs now)
+  same_regs inputs now given fit =
+      let s : Sources = record { inputs = inputs; states = now } in
+      of_states (λ (wire : StateWire). value_at (values_of s net) wire.next) (λ (wire : StateWire). value_at (values_of s c.net) wire.next) (λ k d h. (carries.states k d h).value s (step_feeds c inputs now valid given fit))
+
+  same_outputs : (inputs now : List BitVector) → AreBits inputs (input_widths c.inputs) → AreBits now (state_widths c.states) → outputs_in new.outputs (values_in new inputs now) ≡ outputs_in c.outputs (values_in c inputs now)
+  same_outputs inputs now given fit =
+      let s : Sources = record { inputs = inputs; states = now } in
+      of_outputs (λ (wire : OutputWire). value_at (values_of s net) wire.id) (λ (wire : OutputWire). value_at (values_of s c.net) wire.id) (λ k d h. (carries.outputs k d h).value s (step_feeds c inputs now valid given fit))
+
   same_row : (inputs now : List BitVector) → AreBits inputs (input_widths c.inputs) → AreBits now (state_widths c.states) → row_after new inputs now ≡ row_after c inputs now
   same_row inputs now given fit =
-      let s : Sources = record { inputs = inputs; states = now } in
-      let feeds = step_feeds c inputs now valid given fit in
-      let regs : next_states new.states (values_of s net) ≡ next_states c.states (values_of s c.net) =
-      of_states (λ (wire : StateWire). value_at (values_of s net) wire.next) (λ (wire : StateWire). value_at (values_of s c.net) wire.next) (λ k d h. (carries.states k d h).value s feeds) in
-      let outputs : outputs_in new.outputs (values_of s net) ≡ outputs_in c.outputs (values_of s c.net) =
-      of_outputs (λ (wire : OutputWire). value_at (values_of s net) wire.id) (λ (wire : OutputWire). value_at (values_of s c.net) wire.id) (λ k d h. (carries.outputs k d h).value s feeds) in
+      let regs = same_regs inputs now given fit in
+      let outputs = same_outputs inputs now given fit in
       λ i. record { regs = regs i; fired = flags (outputs i) }
 
   same_rows : (inputs : InputsByCycle) → ((cycle : ℕ) → AreBits (inputs cycle) (input_widths c.inputs)) → (n last : ℕ) (now : List BitVector) → AreBits now (state_widths c.states) → rows_after new inputs n last now ≡ rows_after c inputs n last now
@@ -105,22 +112,41 @@ module _ (c : Wires) (valid : IsCircuit c) (net : List NetOp) (places : List ℕ
       ap (λ (r : Row). r ∷ rows_after new inputs n (last + 1) r.regs) (same_row (inputs (last + 1)) now (given (last + 1)) fit)
       ∙ ap (λ (rows : List Row). row ∷ rows) (same_rows inputs given n (last + 1) row.regs (next_states-AreBits c (inputs (last + 1)) now valid (given (last + 1)) fit))
 
-  same_first : first_row new ≡ first_row c
-  same_first =
-      let outputs : zero_outputs (widths_of net) new.outputs ≡ zero_outputs (widths_of c.net) c.outputs =
+  same_zeros : zero_outputs (widths_of net) new.outputs ≡ zero_outputs (widths_of c.net) c.outputs
+  same_zeros =
       of_outputs (λ (wire : OutputWire). record { width = width_at (widths_of net) wire.id; number = 0 }) (λ (wire : OutputWire). record { width = width_at (widths_of c.net) wire.id; number = 0 })
-      (λ k d h. ap (λ (w : ℕ). record { width = w; number = 0 }) (carries.outputs k d h).width) in
-      λ i. record { regs = same_firsts i; fired = flags (outputs i) }
+      (λ k d h. ap (λ (w : ℕ). record { width = w; number = 0 }) (carries.outputs k d h).width)
+
+  same_first : first_row new ≡ first_row c
+  same_first = λ i. record { regs = same_firsts i; fired = flags (same_zeros i) }
+
+  abbrev given_by : (stimulus : InputVectors) → stimulus.widths ≡ input_widths c.inputs → AlwaysFits stimulus → (cycle : ℕ) → AreBits (inputs_of stimulus cycle) (input_widths c.inputs)
+  given_by stimulus widths fits cycle = subst (AreBits (inputs_of stimulus cycle)) widths (HaveWidths-AreBits stimulus.widths (inputs_of stimulus cycle) (fits cycle))
+
+  abbrev moment : Wires → List BitVector → List BitVector → Simulation
+  moment wires now outputs = record { circuit = wires; states = now; outputs = outputs }
+
+  same_steps : (inputs : InputsByCycle) → ((cycle : ℕ) → AreBits (inputs cycle) (input_widths c.inputs)) → (n last : ℕ) (now outputs : List BitVector) → AreBits now (state_widths c.states)
+      → (after_steps inputs n last (moment new now outputs)).outputs ≡ (after_steps inputs n last (moment c now outputs)).outputs
+  unfolding after_steps
+  same_steps inputs given zero last now outputs fit = refl
+  same_steps inputs given (suc n) last now outputs fit =
+      let input = inputs (last + 1) in
+      ap₂ (λ (rs os : List BitVector). (after_steps inputs n (last + 1) (moment new rs os)).outputs) (same_regs input now (given (last + 1)) fit) (same_outputs input now (given (last + 1)) fit)
+      ∙ same_steps inputs given n (last + 1) (next_states c.states (values_in c input now)) (outputs_in c.outputs (values_in c input now)) (next_states-AreBits c input now valid (given (last + 1)) fit)
+
+  pub rewired_outputs : HasOutputsOf c new
+  rewired_outputs stimulus n widths fits =
+      ap₂ (λ (rs os : List BitVector). (after_steps (inputs_of stimulus) n 0 (moment new rs os)).outputs) same_firsts same_zeros
+      ∙ same_steps (inputs_of stimulus) (given_by stimulus widths fits) n 0 (first_states c.states) (zero_outputs (widths_of c.net) c.outputs) (first_states-AreBits c valid)
 
   pub rewired_runs : RunsAs c new
   rewired_runs stimulus n widths fits =
-      let given : (cycle : ℕ) → AreBits (inputs_of stimulus cycle) (input_widths c.inputs) = λ cycle.
-      subst (AreBits (inputs_of stimulus cycle)) widths (HaveWidths-AreBits stimulus.widths (inputs_of stimulus cycle) (fits cycle)) in
       ap₂ (λ (r : Row) (rows : List Row). r ∷ rows) same_first
-      (ap (rows_after new (inputs_of stimulus) n 0) same_firsts ∙ same_rows (inputs_of stimulus) given n 0 (first_states c.states) (first_states-AreBits c valid))
+      (ap (rows_after new (inputs_of stimulus) n 0) same_firsts ∙ same_rows (inputs_of stimulus) (given_by stimulus widths fits) n 0 (first_states c.states) (first_states-AreBits c valid))
 
   pub rewired_simpler : IsLean net → IsSimpler c new
-  rewired_simpler lean = record { circuit = rewired_circuit; lean = lean; kept = rewired_keeps; run = rewired_runs }
+  rewired_simpler lean = record { circuit = rewired_circuit; lean = lean; kept = rewired_keeps; run = rewired_runs; outputs = rewired_outputs }
 
 -- ---- twice
 
@@ -136,6 +162,10 @@ keeps-twice a b c h k = record {
 
 pub runs-twice : (a b c : Wires) → Keeps a b → RunsAs a b → RunsAs b c → RunsAs a c
 runs-twice a b c kept h k stimulus n widths fits =
+    k stimulus n (widths ∙ ap input_widths (sym kept.inputs)) fits ∙ h stimulus n widths fits
+
+pub outputs-twice : (a b c : Wires) → Keeps a b → HasOutputsOf a b → HasOutputsOf b c → HasOutputsOf a c
+outputs-twice a b c kept h k stimulus n widths fits =
     k stimulus n (widths ∙ ap input_widths (sym kept.inputs)) fits ∙ h stimulus n widths fits
 
 -- ---- wires over a net

@@ -5,6 +5,7 @@ use Rattle.net_graph.specs.Nets.{width_at, widths_of}
 use Rattle.one_rule.specs.Stimulus.{AlwaysFits, InputVectors, inputs_of}
 use Rattle.circuit_eval.specs.Circuits.{input_widths, state_widths}
 use Rattle.circuit_eval.specs.Run.{first_states, run_of}
+use Rattle.circuit_eval.specs.Simulations.{after_steps, beginning}
 use Rattle.circuit_eval.specs.declared.circuit.OutputWire.{OutputWire}
 use Rattle.circuit_eval.specs.declared.circuit.StateWire.{StateWire}
 use Rattle.circuit_eval.specs.declared.circuit.Wires.{Wires}
@@ -26,3 +27,9 @@ pub record Keeps (old new : Wires) : Type 0 where
 abbrev pub RunsAs : Wires → Wires → Type 0
 RunsAs old new = (stimulus : InputVectors) (n : ℕ) → stimulus.widths ≡ input_widths old.inputs → AlwaysFits stimulus
     → run_of new (inputs_of stimulus) n ≡ run_of old (inputs_of stimulus) n
+
+-- after every number of steps on such a stimulus, each output has the value that it has in the circuit before, also where
+-- it is wider than one bit
+abbrev pub HasOutputsOf : Wires → Wires → Type 0
+HasOutputsOf old new = (stimulus : InputVectors) (n : ℕ) → stimulus.widths ≡ input_widths old.inputs → AlwaysFits stimulus
+    → (after_steps (inputs_of stimulus) n 0 (beginning new)).outputs ≡ (after_steps (inputs_of stimulus) n 0 (beginning old)).outputs

@@ -11,7 +11,7 @@ use Rattle.circuit_eval.specs.declared.circuit.OutputWire.{OutputWire}
 use Rattle.circuit_eval.specs.declared.circuit.StateWire.{StateWire}
 use Rattle.circuit_eval.specs.declared.circuit.Wires.{Wires}
 use Rattle.net_simplify.specs.Forms.{IsLean}
-use Rattle.net_simplify.specs.Kept.{Keeps, RunsAs}
+use Rattle.net_simplify.specs.Kept.{HasOutputsOf, Keeps, RunsAs}
 
 -- ---- nodes and their places in another net
 
@@ -129,3 +129,4 @@ pub record IsSimpler (old new : Wires) : Type 0 where
   pub lean : IsLean new.net
   pub kept : Keeps old new
   pub run : RunsAs old new
+  pub outputs : HasOutputsOf old new

@@ -4,7 +4,7 @@ ghost use Rattle.std.specs.Prelude.{IfOk};
 ghost use Rattle.circuit_eval.specs.Circuits.{IsCircuit};
 ghost use Rattle.circuit_eval.specs.Tidy.{IsTidy};
 ghost use Rattle.net_simplify.specs.Forms.{IsLean};
-ghost use Rattle.net_simplify.specs.Kept.{Keeps, RunsAs};
+ghost use Rattle.net_simplify.specs.Kept.{HasOutputsOf, Keeps, RunsAs};
 ghost use Rattle.net_simplify.specs.Passes.{IsSimpler};
 
 use crate::layout::laid_out;
@@ -19,6 +19,7 @@ use std::alloc::Global;
 /// first values, in order.
 pub fn simplify(alloc: Global, circuit: &Circuit) -> Result<Circuit, NoMemory>
     ensures run { IfOk result (RunsAs circuit.now) }
+    ensures outputs { IfOk result (HasOutputsOf circuit.now) }
     ensures kept { IfOk result (Keeps circuit.now) }
     ensures tidy { IfOk result IsTidy }
 {

@@ -19,4 +19,4 @@ returns c =
     ∙ c.circuit.view_is in
     let circuit : IsCircuit c.args.circuit.now = subst IsCircuit c.circuit.view_is c.circuit.invariant in
     let all = are-written c.wires_lines.result given c.args.circuit.now same circuit c.requires.names c.wires_lines.ensures.lines c.wires_lines.ensures.few in
-    record { lines = all.lines; accepted = all.accepted; names = all.names; run = all.run; ids = all.ids; layout = are-laid-out c.wires_lines.result c.args.circuit.now circuit c.requires.names all.lines; tidy = are-tidy c.wires_lines.result c.args.circuit.now circuit c.requires.names all.lines }
+    record { lines = all.lines; accepted = all.accepted; names = all.names; run = all.run; outputs = all.outputs; ids = all.ids; layout = are-laid-out c.wires_lines.result c.args.circuit.now circuit c.requires.names all.lines; tidy = are-tidy c.wires_lines.result c.args.circuit.now circuit c.requires.names all.lines }
