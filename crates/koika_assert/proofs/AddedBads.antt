@@ -29,7 +29,7 @@ use Rattle.btor2_net.specs.Pages.{Page, put}
 use Rattle.btor2_net.specs.Translations.{AreCounted}
 use Rattle.btor2_net.proofs.Adding.{Asked, Sound, length-put}
 use Rattle.btor2_net.proofs.Asking.{asked-one, four, value-given}
-use Rattle.btor2_net.proofs.Declared.{fine-lines}
+use Rattle.btor2_model.proofs.Declared.{fine-lines}
 use Rattle.btor2_net.proofs.Keeping.{Good, Keeps, Names, continued-by, keeps-all, keeps-both, known-by, names-keep, not-picked, picked, put-good, put-keeps, set_by, set_of, value-keep}
 use Rattle.koika_assert.specs.Bads.{bad_line, bad_lines}
 use Rattle.koika_assert.proofs.TurnedValues.{SameGiven, given-head, given-tail}

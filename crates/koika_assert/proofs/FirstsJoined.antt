@@ -1,13 +1,14 @@
 -- The first cycle of a rule in the rows so far and in a batch that goes on from them.
 use Rattle.std.proofs.Common.{◌≡◌, ℕ, ◌+◌, ◌-◌, ◌<◌, Bool, true, false, cond, List, [], ◌∷◌, ◌++◌, length, length-append, map, replicate, take, drop, get_or, Option, None, Some, refl, sym, ap, ◌∙◌, subst, arith}
-use Rattle.std.specs.List.{position_from}
+use Rattle.std.specs.List.{position_from, zip}
 use Rattle.std.specs.Option.{option_or}
 use Rattle.std.proofs.lemmas.List.{ext_get_or, get_or-map, length-map, take_all}
+use Rattle.std.proofs.lemmas.Slice.Zip.{get_or-zip}
 use Rattle.one_rule.specs.declared.rows.Row.{Row}
 use Rattle.stim_report.specs.Batches.{joined, last_cycle}
 use Rattle.stim_report.specs.Summary.{has_fired}
 use Rattle.koika_assert.specs.Marks.{AddsFirsts}
-use Rattle.koika_assert.specs.Violations.{Watched, first_violated, watched}
+use Rattle.koika_assert.specs.Violations.{Watched, first_from, first_violated, watched, watched_on}
 
 or_later : (b : Bool) (i : ℕ) (x y : Option ℕ) → cond b (Some i) (option_or x y) ≡ option_or (cond b (Some i) x) y
 or_later true i x y = refl
@@ -58,6 +59,33 @@ watched_joined names marks before batch known firsts cycles is some adds more =
     ap (λ (c : ℕ). record { names = names; marks = marks; cycles = c; firsts = firsts }) (more ∙ sym (cycles_joined before batch some))
     ∙ ap (λ (fs : List (Option ℕ)). record { names = names; marks = marks; cycles = last_cycle (joined before batch); firsts = fs }) (firsts_joined before batch marks firsts adds))
     adds more
+
+zip_count : (xs : List (Option ℕ)) (ys : List ℕ) → length xs ≡ length ys → length (zip xs ys) ≡ length xs
+zip_count [] ys same = refl
+zip_count (x ∷ xs) [] same = absurd (omega (arith, same))
+zip_count (x ∷ xs) (y ∷ ys) same = let rest = zip_count xs ys (omega (arith, same)) in omega (arith, rest)
+
+-- the first cycles of all marks, by those that there were
+pub firsts_on : (marks : List ℕ) (cycle : ℕ) (rows : List Row) (old new : List (Option ℕ)) → length old ≡ length marks → AddsFirsts marks cycle rows old new → new ≡ map (first_from cycle rows) (zip old marks)
+firsts_on marks cycle rows old new each adds =
+    let pairs = zip old marks in
+    let count = zip_count old marks each in
+    let turned = length-map pairs (first_from cycle rows) in
+    ext_get_or None new (map (first_from cycle rows) pairs) (adds.count ∙ sym (turned ∙ count))
+    (λ k below.
+    let within : k < length old = omega (arith, below, adds.count) in
+    adds.added k within
+    ∙ ap (first_from cycle rows) (sym (get_or-zip old marks k (None, 0) within (omega (arith, within, each))))
+    ∙ sym (get_or-map (first_from cycle rows) pairs k (None, 0) None (omega (arith, within, count))))
+
+-- what a batch adds to what is known of marks
+pub watched_more : (batch : List Row) (known : Watched) (firsts : List (Option ℕ)) (cycles : ℕ) → length known.firsts ≡ length known.marks → AddsFirsts known.marks (known.cycles + 1) (drop 1 batch) known.firsts firsts
+    → cycles ≡ known.cycles + length (drop 1 batch) → record { names = known.names; marks = known.marks; cycles = cycles; firsts = firsts } ≡ watched_on known batch
+unfolding watched_on
+watched_more batch known firsts cycles each adds more =
+    ap (λ (c : ℕ). record { names = known.names; marks = known.marks; cycles = c; firsts = firsts }) more
+    ∙ ap (λ (fs : List (Option ℕ)). record { names = known.names; marks = known.marks; cycles = known.cycles + length (drop 1 batch); firsts = fs })
+    (firsts_on known.marks (known.cycles + 1) (drop 1 batch) known.firsts firsts each adds)
 
 -- no rows tell of no cycle
 pub none_yet : (marks : List ℕ) → replicate (length marks) None ≡ map (first_violated []) marks

@@ -31,7 +31,7 @@ use Rattle.btor2_model.proofs.Filled.{value-alone}
 use Rattle.btor2_model.proofs.KindsByRule.{kinds-by, kinds_by}
 use Rattle.btor2_net.specs.Pages.{Page}
 use Rattle.btor2_net.specs.Translations.{AreCounted, name_of, output_widths, widths_in}
-use Rattle.btor2_net.proofs.Declared.{IsValue, all-passing, fine-lines, input-values, output-value, own-value, state-values}
+use Rattle.btor2_model.proofs.Declared.{IsValue, all-passing, fine-lines, input-values, output-value, own-value, state-values}
 use Rattle.koika_assert.specs.Bads.{HasSameParts, RunsAlike, ShowsMarks, bad_lines, flag_lines, is_violated, marked, with_bads}
 use Rattle.koika_assert.proofs.AddedBads.{HasBads, IsFlagOn, good, has-bads, no-bads, page, still-accepted, values-same}
 use Rattle.koika_assert.proofs.SameRuns.{in-same, states-same}

@@ -24,7 +24,7 @@ use Rattle.btor2_model.proofs.Filled.{each-measure, some-same}
 use Rattle.btor2_model.proofs.Filling.{stays}
 use Rattle.btor2_model.proofs.KindsByRule.{kinds-by, kinds_by}
 use Rattle.btor2_net.specs.Translations.{AreCounted}
-use Rattle.btor2_net.proofs.Declared.{IsValue, each-fine, fine-lines, output-value}
+use Rattle.btor2_model.proofs.Declared.{IsValue, each-fine, fine-lines, output-value}
 use Rattle.btor2_net.proofs.Keeping.{known-by}
 use Rattle.koika_assert.specs.Bads.{flag_lines}
 use Rattle.koika_assert.specs.Widths.{arguments_of, is_narrow, written_width}

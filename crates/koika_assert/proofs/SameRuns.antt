@@ -17,7 +17,7 @@ use Rattle.btor2_model.specs.declared.rule.Rule.{Rule}
 use Rattle.btor2_model.specs.declared.rule.Rule.TheVariants as forms
 use Rattle.btor2_model.proofs.Ends.{SameWidth, init-found}
 use Rattle.btor2_model.proofs.Selections.{set-by}
-use Rattle.btor2_net.proofs.Declared.{IsValue, all-passing, fine-lines, next-of, own-value, state-values}
+use Rattle.btor2_model.proofs.Declared.{IsValue, all-passing, fine-lines, next-of, own-value, state-values}
 use Rattle.koika_assert.proofs.TurnedValues.{SameGiven}
 
 -- what holds of each line holds of the one at a place

@@ -24,7 +24,7 @@ use Rattle.btor2_model.specs.declared.rule.Rule.TheVariants as forms
 use Rattle.btor2_model.proofs.Ends.{measured-widths, wanted-some, wanted-stays}
 use Rattle.btor2_model.proofs.Filled.{each-measure, value-alone}
 use Rattle.btor2_model.proofs.KindsByRule.{kinds-by, kinds_by}
-use Rattle.btor2_net.proofs.Declared.{IsValue, all-passing, each-line, fine-lines, input-values, own-value, width-is}
+use Rattle.btor2_model.proofs.Declared.{IsValue, all-passing, each-line, fine-lines, input-values, own-value, width-is}
 use Rattle.koika_assert.specs.Bads.{ShowsViolations, as_output, bads_as_outputs, is_violated, turned}
 use Rattle.koika_assert.proofs.SameRuns.{in-same}
 use Rattle.koika_assert.proofs.TurnedScopes.{good-wanted, is_good}

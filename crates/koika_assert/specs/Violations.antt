@@ -1,7 +1,8 @@
 -- Violations of assertions: a rule may be marked, and a cycle in which a marked rule fires violates its assertion. The
 -- text of violations is this project's own.
-use Rattle.std.specs.Prelude.{ℕ, Option, None, Some, List, [], ◌∷◌, ◌++◌, map, drop, codes, decimal}
-use Rattle.std.specs.List.{position_from}
+use Rattle.std.specs.Prelude.{ℕ, ◌+◌, Option, None, Some, List, [], ◌∷◌, ◌++◌, map, length, drop, codes, decimal}
+use Rattle.std.specs.List.{position_from, zip}
+use Rattle.std.specs.Option.{option_or}
 use Rattle.one_rule.specs.declared.rows.Row.{Row}
 use Rattle.stim_report.specs.Batches.{last_cycle}
 use Rattle.stim_report.specs.Summary.{has_fired}
@@ -20,6 +21,21 @@ pub record Watched : Type 0 where
 -- what rows say of marks
 unfoldable pub watched : List (List ℕ) → List ℕ → List Row → Watched
 watched names marks rows = record { names = names; marks = marks; cycles = last_cycle rows; firsts = map (first_violated rows) marks }
+
+-- the first cycle of a mark, and where there is none yet, the first that its rule fired in, by rows of which the first is
+-- that of this cycle
+abbrev pub first_from : ℕ → List Row → Option ℕ × ℕ → Option ℕ
+first_from cycle rows mark = option_or mark.0 (position_from (has_fired mark.1) cycle rows)
+
+-- what is known after a batch too, whose first row is the one that the rows so far end with
+unfoldable pub watched_on : Watched → List Row → Watched
+watched_on known batch =
+    record {
+      names = known.names;
+      marks = known.marks;
+      cycles = known.cycles + length (drop 1 batch);
+      firsts = map (first_from (known.cycles + 1) (drop 1 batch)) (zip known.firsts known.marks);
+    }
 
 -- the line of a mark that was violated
 abbrev pub violated_line : List ℕ → Option ℕ → List ℕ

@@ -3,7 +3,7 @@
 ghost use Rattle.std.specs.Prelude.{◌≡◌, ◌+◌, ◌<◌, ◌++◌, ◌^◌, ℕ, List, [], IfOk, OnOk, None, Some, length, replicate};
 ghost use Rattle.std.specs.List.{position_from};
 ghost use Rattle.koika_assert.specs.Marks.{AddsFirsts};
-ghost use Rattle.koika_assert.specs.Violations.{violated_line, violated_lines, watched, watched_text};
+ghost use Rattle.koika_assert.specs.Violations.{violated_line, violated_lines, watched, watched_on, watched_text};
 ghost use Rattle.one_rule.specs.declared.rows.Row.{Row as RowOf};
 ghost use Rattle.stim_report.specs.Batches.{joined};
 ghost use Rattle.stim_report.specs.Summary as summaries;
@@ -58,7 +58,10 @@ impl Watch {
     pub fn add(&mut self, rows: &Rows, from: u32)
         requires some { 0 < length rows.now }
         requires goes_on { from ≡ self.old.cycles }
-        ensures { (names : List (List ℕ)) (marks : List ℕ) (before : List RowOf)
+        ensures fields { self.new ≡ watched_on self.old rows.now }
+
+        // Where what is known is what rows say of marks, it is what they and the batch say.
+        ensures joined { (names : List (List ℕ)) (marks : List ℕ) (before : List RowOf)
             → self.old ≡ watched names marks before → self.new ≡ watched names marks (joined before rows.now) }
     {
         let from = u64::from(from);
