@@ -21,7 +21,7 @@ use Rattle.koika_parse.specs.Reading.{Reads, next}
 use Rattle.koika_parse.specs.Stops.{IsFaultOf}
 use Rattle.koika_parse.specs.Words.{DesignWord, end_follows}
 use Rattle.koika_parse.proofs.Expected.{never_none, same_of_some}
-use Rattle.koika_parse.proofs.Seen.{few_seen, open_seen, same_head, same_tail, zip_terminals}
+use Rattle.koika_parse.proofs.Seen.{few_seen, open_seen, same_head, same_tail}
 use Rattle.koika_parse.specs.declared.cursor.Cursor.{Cursor}
 use Rattle.koika_parse.specs.declared.source.Source.{Source}
 use Rattle.koika_parse.specs.declared.stop.Stop.{Stop}
@@ -185,12 +185,6 @@ none_has {source} {old} {new} {stop} at depth takes fault is tree design few sam
     such stops.Unexpected is = tt
     such stops.TooDeep is = few
     such stops.NoMemory is = absurd is
-
--- where reading stops, no tree with few open brackets derives the tokens
-pub none_derives : {source : Source} {old new : Cursor} {stop : Stop} (fault : Fault) → old.at ≡ 0 → old.depth ≡ 0 → Takes {X = Tree} source old new DesignWord end_follows (Err stop) → IsFaultOf source new stop fault →
-    (tree : Tree) → Derives source.text.now tree source.tokens.now → AreFewOpen 0 (tree_leaves tree) → ⊥
-none_derives {source} {old} {new} {stop} fault at depth takes is tree derives few =
-    none_has at depth takes fault is tree derives.design few (zip_terminals source.text.now (tree_leaves tree) source.tokens.now derives.leaves)
 
 -- tokens that are a tree's are read as that tree
 pub reads_back_found : (text : List ℕ) (tokens : List Token) (found : Tree) → Derives text found tokens → ReadsBack text tokens (Ok found)

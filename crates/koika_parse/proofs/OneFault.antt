@@ -1,12 +1,15 @@
 -- The tokens of a text have one fault at most, and none where a design with few open brackets has them.
-use Rattle.std.proofs.Common.{◌≡◌, ℕ, ◌≤◌, List, [], ◌∷◌, ◌++◌, map, append_assoc, append-nil, inl, inr, refl, sym, ap, ◌∙◌, subst, arith}
+use Rattle.std.proofs.Common.{◌≡◌, ℕ, ◌≤◌, List, [], ◌∷◌, ◌++◌, map, append_assoc, append-nil, inl, inr, refl, sym, ap, ◌∙◌, subst, arith, Err}
 use Rattle.std.specs.Prelude.{◌⊎◌}
 use Rattle.std.proofs.lemmas.List.{map-append}
-use Rattle.kw_base.specs.Fault.{fault_at}
+use Rattle.kw_base.specs.Fault.{IfFault, IsFaultUnlessNoMemory, fault_at}
 use Rattle.kw_base.specs.declared.fault.Fault.{Fault}
+use Rattle.kw_base.specs.declared.fault.Refusal.{Refusal}
+use Rattle.kw_base.specs.declared.fault.Refusal.TheVariants as refusals
 use Rattle.koika_syntax.specs.Grammar.{tree_leaves}
 use Rattle.koika_syntax.specs.Tree.{terminal_of}
 use Rattle.koika_syntax.specs.declared.token.Token.{Token}
+use Rattle.koika_syntax.specs.declared.tree.Tree.{Tree}
 use Rattle.koika_parse.specs.Brackets.{AreFewOpen, open_behind, open_behind_all}
 use Rattle.koika_parse.specs.Faults.{Begins, design_terminals, GoesOn, NoneGoesOn, OpensTooMany, place_behind, seen, StandsBetween}
 use Rattle.koika_parse.specs.Laws.{OneFault, NoFault}
@@ -92,6 +95,11 @@ one_fault text tokens f g a b = of (fronts a.before a.behind b.before b.behind (
     of (inl same) = same_place text tokens f g a b same.0 same.1
     of (inr (inl goes)) = absurd (not_before text tokens f g a b goes)
     of (inr (inr goes)) = absurd (not_before text tokens g f b a goes)
+
+-- a fault that is answered is the one that there is
+pub one_refused : (text : List ℕ) (tokens : List Token) (refusal : Refusal) (fault : Fault) → IfFault {X = Tree} (Err refusal) (StandsBetween text tokens) → StandsBetween text tokens fault → IsFaultUnlessNoMemory {X = Tree} (Err refusal) fault
+one_refused text tokens (refusals.Fault other) fault is stands = one_fault text tokens other fault is stands
+one_refused text tokens refusals.NoMemory fault is stands = tt
 
 pub no_fault : NoFault
 no_fault text tokens tree fault derives few a = why a.before a.behind a.split a.why

@@ -25,8 +25,8 @@ use Rattle.koika_parse.specs.Reading.{next}
 use Rattle.koika_parse.specs.declared.cursor.Cursor.{Cursor}
 use Rattle.koika_parse.specs.declared.source.Source.{Source}
 
--- how tightly a token holds to an expression in front of it: an operator by its level, a suffix, and what makes more
--- of a name
+-- how tightly a symbol holds to what is in front of it, if an expression can go on with it: an operator of two operands
+-- by its level, a suffix by 11, and what makes a call or a path of a name by 12
 abbrev pub holds : Symbol → Option ℕ
 holds symbols.Bar = Some 1
 holds symbols.Caret = Some 2

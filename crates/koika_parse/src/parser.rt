@@ -1,8 +1,9 @@
 //! Trees: the tree of a text, or its first fault.
 
 ghost use Rattle.std.specs.Prelude.{◌≡◌, ◌≤◌, All, Err, IfOk, drop, length};
-ghost use Rattle.kw_base.specs.Fault.{IfFault, fault_at};
+ghost use Rattle.kw_base.specs.Fault.{IfFault, IsFaultUnlessNoMemory, fault_at};
 ghost use Rattle.kw_base.specs.Place.{place_at};
+ghost use Rattle.kw_base.specs.declared.fault.Fault.{Fault};
 ghost use Rattle.std.specs.List.{flat_map};
 ghost use Rattle.koika_syntax.specs.Grammar.{Derives, IsDeclaration, IsDesign, declaration_leaves, tree_leaves};
 ghost use Rattle.koika_syntax.specs.Tokens.{StandsIn};
@@ -25,15 +26,15 @@ use std::alloc::Global;
 
 /// The tree of a text, whose tokens these are, or the first fault: 11 at a token that no design goes on with, or after
 /// the text where no design ends there, and 12 at a 65th open bracket. A tree is answered exactly where one with at
-/// most 64 open brackets derives the tokens, unless memory ran out. Where the tokens are a tree's, as in a printed
-/// text, that tree is answered up to places.
+/// most 64 open brackets derives the tokens, and a fault exactly where it is between them, unless memory ran out. Where
+/// the tokens are a tree's, as in a printed text, that tree is answered up to places.
 pub fn parse(alloc: Global, text: &[u8], tokens: &[Token]) -> Result<Tree, Refusal>
     requires stands { All (StandsIn text.now) tokens.now }
     ensures derived { IfOk result (λ tree. Derives text.now tree tokens.now) }
     ensures few { IfOk result (λ tree. AreFewOpen 0 (tree_leaves tree)) }
     ensures fault { IfFault result (StandsBetween text.now tokens.now) }
     ensures again { ReadsBack text.now tokens.now result }
-    ensures complete { IfFault result (λ fault. (tree : Tree) → Derives text.now tree tokens.now → AreFewOpen 0 (tree_leaves tree) → ⊥) }
+    ensures refused { (fault : Fault) → StandsBetween text.now tokens.now fault → IsFaultUnlessNoMemory result fault }
 {
     let source = Source {
         alloc,

@@ -246,12 +246,13 @@ level_of binary.Multiply = 9
 abbrev ExpressionLayer : Type 0
 ExpressionLayer = Expression-F Expression Statement Arm Block FieldValue Operand
 
--- how tightly an expression holds together: 0 is an `if`, 1 to 9 a chain of that level, 10 a unary run, 11 a postfix,
--- 12 a primary
+-- the level of a chain is that of its first operator; one without operators, which no text has, is of level 0
 abbrev pub level_of_chain : List Operand → ℕ
 level_of_chain [] = 0
 level_of_chain (operand ∷ operands) = level_of (out-Operand operand).operator
 
+-- how tightly an expression holds together: 0 is an `if`, 1 to 9 a chain of that level, 10 a unary run, 11 a postfix,
+-- 12 a primary
 abbrev pub level_of_layer : ExpressionLayer → ℕ
 level_of_layer (expression.If arms otherwise) = 0
 level_of_layer (expression.Chain first rest) = level_of_chain rest.items
