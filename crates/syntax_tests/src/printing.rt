@@ -1,7 +1,7 @@
 //! Tests: printed trees.
 
 use koika_parse::parse;
-use koika_print::{print, print_and_read};
+use koika_print::print;
 use koika_syntax::{Tree, lex};
 use kw_base::Refusal;
 use std::alloc::Global;
@@ -20,7 +20,9 @@ fn a_printed_design_is_read_again(rt: HostRuntime) -> Result<(), Fail> {
     let text =
         b"reg count : bits 8 = 8'd0 ;\nrule incr {\nwrite0 ( count , read0 ( count ) + 8'd1 ) }\nschedule {\nincr ;\n}\n";
     let tree = parsed(&rt, rt.alloc(), text)?;
-    let again = print_and_read(rt.alloc(), &tree)?;
+    let printed = print(rt.alloc(), &tree)?;
+    assert_eq!(rt; printed.as_slice(), text.as_slice());
+    let again = parsed(&rt, rt.alloc(), printed.as_slice())?;
     assert_eq!(rt; print(rt.alloc(), &again)?.as_slice(), text.as_slice());
     Ok(())
 }
