@@ -1,3 +1,4 @@
+pub mod BitWeights
 pub mod Capped
 pub mod Checking
 pub mod Checks
@@ -7,6 +8,7 @@ pub mod Constructs
 pub mod Counts
 pub mod Declarations
 pub mod Expressions
+pub mod Gauges
 pub mod Listed
 pub mod Locals
 pub mod Meaning

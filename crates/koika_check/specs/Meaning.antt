@@ -55,8 +55,8 @@ from_the_top d look (f ∷ fields) bits =
     look f.of (op.slice bits (bits.width - 1) (bits.width - width_of d f.of)) ∷
     from_the_top d look fields (op.slice bits (bits.width - width_of d f.of - 1) 0)
 
--- The value of a type that has these bits, where only that many structs, the first ones, may be named. An array's
--- item 0 has the least significant bits.
+-- The value of a type that has these bits, where structs are at most that many deep in one another; a deeper one has no
+-- fields. An array's item 0 has the least significant bits.
 abbrev pub unpacked_among : Checked → ℕ → BaseType → List ℕ → BitVector → Value
 unpacked_among d structs b (n ∷ lengths) bits =
     value.Items (map (λ i. unpacked_among d structs b lengths (op.slice bits ((i + 1) * (bits.width / n) - 1) (i * (bits.width / n)))) (below n))

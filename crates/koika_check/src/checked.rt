@@ -1,4 +1,5 @@
-//! Checker: the typed tree, well typed by its type.
+//! Checker: the typed tree. Its types do not say that it is well typed: `check` ensures it of its result, and `counts` and
+//! `bit_weight` require it.
 
 use crate::typed::{Typed, ValueType};
 use koika_types::{EnumDecl, Value};
@@ -67,7 +68,8 @@ pub struct Rule {
     pub body: Typed,
 }
 
-/// A design that is well typed, with the declarations of each kind in order and its names resolved to their numbers.
+/// A design, with the declarations of each kind in order and its names resolved to their numbers. The result of `check` is
+/// well typed.
 #[derive(Debug, Drop)]
 pub struct Checked {
     pub enums: Sequence<EnumDecl>,

@@ -9,6 +9,7 @@
 mod additions;
 mod agreement;
 mod answer;
+mod bit_weight;
 mod calls;
 mod checked;
 mod checker;
