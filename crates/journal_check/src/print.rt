@@ -57,8 +57,8 @@ fn push_ended(text: &mut Text, design: &Design, entry: &Entry) -> Result<(), NoM
     text.push(b'\n')
 }
 
-// Adds a line, without its line feed.
-fn push_line(text: &mut Text, design: &Design, line: &Line) -> Result<(), NoMemory>
+/// Adds a line, without its line feed.
+pub(crate) fn push_line(text: &mut Text, design: &Design, line: &Line) -> Result<(), NoMemory>
     ensures { OnOk result (text.new ≡ text.old ++ line_text design.now line.now) }
 {
     match line {

@@ -1,0 +1,12 @@
+use Rattle.std.proofs.Common.{◌≡◌}
+use Rattle.std.specs.Arc.{arc_value}
+use Rattle.journal_check.proofs.RunsOfBatches.{HasRechecked}
+use Rattle.journal_check.proofs.batches.recheck.Given as goal
+
+-- the batches so far are good, and left the rows so far
+abbrev pub invariant-loop-batch : goal.invariant-loop-batch
+invariant-loop-batch l =
+    record {
+      items : l.batch-items ≡ l.fn.journal.batches;
+      so_far : HasRechecked (arc_value l.design) (arc_value l.stimulus) l.n l.fn.journal l.batch-index l.from l.rows;
+    }

@@ -1,0 +1,9 @@
+use Rattle.stim_report.specs.Cuts.{lines_of}
+use Rattle.journal_check.proofs.OneJournal.{no_malformed, one_journal}
+use Rattle.journal_check.proofs.laws.a_text_is_one_journal_or_malformed.Goals as goal
+
+pub returns-clause-one : goal.returns-clause-one
+returns-clause-one c = λ design stimulus first_line text a b names is also. one_journal design stimulus first_line (lines_of text) a b names is also
+
+pub returns-clause-either : goal.returns-clause-either
+returns-clause-either c = no_malformed

@@ -1,0 +1,98 @@
+//! Journals: lines by their tokens.
+
+ghost use Rattle.std.specs.Prelude.{◌≡◌};
+ghost use Rattle.journal_check.specs.Naming.{Knows};
+ghost use Rattle.journal_check.specs.Tokens.{Reads, batch_at, begin_at, line_at, settle_at, submit_at, tokens_left, tokens_of};
+
+use crate::access::events;
+use crate::answer::{after, outcome, settled, taken_read};
+use crate::cut::{next_token, split_token};
+use crate::flaw::Flaw;
+use crate::head::{number, read_head};
+use crate::line::Line;
+use crate::names::Vocabulary;
+use crate::number::number_read;
+use attempt_log::Entry;
+use one_rule::Stimulus;
+use std::alloc::Global;
+
+/// What a line is read as. Whether it is printed so is another question.
+#[tactic(auto, unfolding(crate::specs::Tokens::line_at))]
+pub(crate) fn line(
+    alloc: Global,
+    names: &Vocabulary<'_>,
+    stimulus: &Stimulus,
+    bytes: &[u8],
+) -> Result<Line, Flaw>
+    requires { Knows names.now.design.now names.now.registers names.now.rules }
+    ensures { Reads (λ line. line) result (line_at names.now.design.now stimulus.now (tokens_of bytes.now)) }
+{
+    let (word, rest) = split_token(bytes);
+    if word == b"s".as_slice() {
+        return submit(alloc, names, stimulus, rest);
+    }
+    if word == b"t".as_slice() {
+        return settle(names, rest);
+    }
+    if word == b"batch".as_slice() {
+        return batch(rest);
+    }
+    begin(rest)
+}
+
+#[tactic(auto, unfolding(crate::specs::Tokens::submit_at))]
+fn submit(
+    alloc: Global,
+    names: &Vocabulary<'_>,
+    stimulus: &Stimulus,
+    rest: Option<&[u8]>,
+) -> Result<Line, Flaw>
+    requires { Knows names.now.design.now names.now.registers names.now.rules }
+    ensures { Reads (λ line. line) result (submit_at names.now.design.now stimulus.now (tokens_left rest.entry)) }
+{
+    let (worker, rest) = number(rest)?;
+    let (head, rest) = read_head(names, rest)?;
+    let (outcome, rest) = outcome(names, rest)?;
+    let (events, rest) = events(alloc, names, rest)?;
+    let (word, _) = next_token(rest)?;
+    Ok(Line::Entry(Entry::Submit {
+        worker,
+        cycle: head.cycle,
+        rule: head.rule,
+        inputs: stimulus.inputs(head.cycle)?,
+        events,
+        outcome,
+        answer: taken_read(word),
+    }))
+}
+
+#[tactic(auto, unfolding(crate::specs::Tokens::settle_at))]
+fn settle(names: &Vocabulary<'_>, rest: Option<&[u8]>) -> Result<Line, Flaw>
+    requires { Knows names.now.design.now names.now.registers names.now.rules }
+    ensures { Reads (λ line. line) result (settle_at names.now.design.now (tokens_left rest.entry)) }
+{
+    let (worker, rest) = number(rest)?;
+    let (_, rest) = next_token(rest)?;
+    let answer = settled(names, rest)?;
+    Ok(Line::Entry(Entry::Settle { worker, answer }))
+}
+
+#[tactic(auto, unfolding(crate::specs::Tokens::batch_at))]
+fn batch(rest: Option<&[u8]>) -> Result<Line, Flaw>
+    ensures { Reads (λ line. line) result (batch_at (tokens_left rest.entry)) }
+{
+    let (from, rest) = number(rest)?;
+    let (to, _) = number(rest)?;
+    Ok(Line::Batch { from, to })
+}
+
+// The number after `workers=`.
+#[tactic(auto, unfolding(crate::specs::Tokens::begin_at))]
+fn begin(rest: Option<&[u8]>) -> Result<Line, Flaw>
+    ensures { Reads (λ line. line) result (begin_at (tokens_left rest.entry)) }
+{
+    let (token, _) = next_token(rest)?;
+    Ok(Line::Begins {
+        workers: number_read(after(token, 8)),
+    })
+}

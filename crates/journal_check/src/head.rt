@@ -1,0 +1,39 @@
+//! Journals: a cycle and a rule.
+
+ghost use Rattle.journal_check.specs.Naming.{Knows};
+ghost use Rattle.journal_check.specs.Tokens.{ReadsFront, head_at, number_at, tokens_left};
+
+use crate::cut::next_token;
+use crate::flaw::Flaw;
+use crate::names::Vocabulary;
+use crate::number::number_read;
+
+/// A cycle and a rule.
+#[derive(Clone, Copy, Debug, PartialEq, Eq)]
+pub(crate) struct Head {
+    pub(crate) cycle: u32,
+    pub(crate) rule: u32,
+}
+
+/// The number where a cursor stands.
+#[tactic(auto, unfolding(crate::specs::Tokens::number_at))]
+pub(crate) fn number(rest: Option<&[u8]>) -> Result<(u32, Option<&[u8]>), Flaw>
+    ensures { ReadsFront result (number_at (tokens_left rest.entry)) }
+{
+    let (token, rest) = next_token(rest)?;
+    Ok((number_read(token), rest))
+}
+
+/// The cycle and the rule where a cursor stands.
+#[tactic(auto, unfolding(crate::specs::Tokens::head_at))]
+pub(crate) fn read_head<'a>(
+    names: &Vocabulary<'_>,
+    rest: Option<&'a [u8]>,
+) -> Result<(Head, Option<&'a [u8]>), Flaw>
+    requires { Knows names.now.design.now names.now.registers names.now.rules }
+    ensures { ReadsFront result (head_at names.now.design.now (tokens_left rest.entry)) }
+{
+    let (cycle, rest) = number(rest)?;
+    let (rule, rest) = names.rule(rest)?;
+    Ok((Head { cycle, rule }, rest))
+}

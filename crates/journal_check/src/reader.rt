@@ -1,0 +1,286 @@
+//! Journals: the reader of texts.
+
+ghost use Rattle.std.specs.Prelude.{◌≡◌, ◌≢◌, ◌<◌, ◌≤◌, ◌^◌, ◌++◌, ◌∷◌, ◌↔◌, [], List, IsTrue, IfOk, OnOk, length, Some, None};
+ghost use Rattle.kw_base.specs.Fault.{IfFault};
+ghost use Rattle.stim_report.specs.Cuts.{lines_of};
+ghost use Rattle.typed_core.specs.Valid.{IsValid};
+ghost use Rattle.journal_check.specs.Allowed.{Differs, IsAllowed};
+ghost use Rattle.journal_check.specs.Fitting.{IsSmall, LineFits};
+ghost use Rattle.journal_check.specs.Naming.{Knows};
+ghost use Rattle.journal_check.specs.Printing.{line_text};
+ghost use Rattle.journal_check.specs.Reading.{IsFirstMalformed, IsJournal, MayFollow, NoneFollows, malformed_at};
+ghost use Rattle.journal_check.specs.Steps.{Adds, IsMalformed, refusal_of};
+ghost use Rattle.journal_check.specs.declared.journal.Batch.{Batch as BatchOf};
+ghost use Rattle.journal_check.specs.declared.line.Line.{Line as LineOf};
+ghost use Rattle.journal_check.specs.declared.line.Line.TheVariants as lines;
+
+use crate::cut::next_line;
+use crate::entry::line;
+use crate::flaw::Flaw;
+use crate::journal::{Batch, Journal};
+use crate::line::Line;
+use crate::names::Vocabulary;
+use crate::print::push_line;
+use attempt_log::{Entry, Settled};
+use board_core::MAX_CYCLES;
+use kw_base::fault_number::MALFORMED_JOURNAL;
+use kw_base::{Fault, Place, Refusal};
+use kw_bits::{NoMemory, Sequence, Text};
+use one_rule::Stimulus;
+use std::alloc::Global;
+use typed_core::Design;
+
+/// A journal is of at most this many workers.
+const MAX_JOURNAL_WORKERS: u32 = 8;
+
+/// The journal of a text whose first line has this number in its source, or the fault of the first line that is of no
+/// form, at its first column.
+pub fn read_journal(
+    alloc: Global,
+    bytes: &[u8],
+    first_line: u32,
+    design: &Design,
+    stimulus: &Stimulus,
+) -> Result<Journal, Refusal>
+    ensures journal { IfOk result (IsJournal design.now stimulus.now first_line bytes.now) }
+    ensures fault { IfFault result (IsFirstMalformed design.now stimulus.now first_line bytes.now) }
+{
+    let names = Vocabulary::new(alloc, design)?;
+    read_lines(alloc, &names, stimulus, bytes, first_line)
+}
+
+fn read_lines(
+    alloc: Global,
+    names: &Vocabulary<'_>,
+    stimulus: &Stimulus,
+    bytes: &[u8],
+    first_line: u32,
+) -> Result<Journal, Refusal>
+    requires { Knows names.now.design.now names.now.registers names.now.rules }
+    ensures journal { IfOk result (IsJournal names.now.design.now stimulus.now first_line bytes.now) }
+    ensures fault { IfFault result (IsFirstMalformed names.now.design.now stimulus.now first_line bytes.now) }
+{
+    let mut page = Text::new(alloc);
+    let beginning = read_beginning(alloc, names, stimulus, &mut page, bytes, first_line)?;
+    let mut journal = Journal {
+        workers: beginning.workers,
+        line: first_line,
+        batches: Sequence::new(alloc),
+    };
+    let mut number = first_line.saturating_add(1);
+    let mut rest = beginning.rest;
+    while let Some(cut) = next_line(rest) {
+        add_line(
+            alloc,
+            names,
+            stimulus,
+            &mut page,
+            &mut journal,
+            cut.line,
+            number,
+        )?;
+        number = number.saturating_add(1);
+        rest = cut.rest;
+    }
+    Ok(journal)
+}
+
+// How many workers the first line says there were, and the bytes after it.
+#[derive(Clone, Copy)]
+struct Beginning<'a> {
+    workers: u32,
+    rest: &'a [u8],
+}
+
+fn read_beginning<'a>(
+    alloc: Global,
+    names: &Vocabulary<'_>,
+    stimulus: &Stimulus,
+    page: &mut Text,
+    bytes: &'a [u8],
+    number: u32,
+) -> Result<Beginning<'a>, Refusal>
+    requires { Knows names.now.design.now names.now.registers names.now.rules }
+    ensures begins { IfOk result (λ begun. LineFits names.now.design.now stimulus.now begun.workers (lines.Begins begun.workers)
+        × (lines_of bytes.now ≡ line_text names.now.design.now (lines.Begins begun.workers) ∷ lines_of begun.rest.now)) }
+    ensures fault { IfFault result (λ fault. (fault ≡ malformed_at number) × NoneFollows names.now.design.now stimulus.now None (lines_of bytes.now)) }
+{
+    let Some(cut) = next_line(bytes) else {
+        return Err(refusal(Flaw::Malformed, number));
+    };
+    let workers = read_workers(alloc, names, stimulus, page, cut.line, number)?;
+    Ok(Beginning {
+        workers,
+        rest: cut.rest,
+    })
+}
+
+// How many workers a first line says there were.
+fn read_workers(
+    alloc: Global,
+    names: &Vocabulary<'_>,
+    stimulus: &Stimulus,
+    page: &mut Text,
+    bytes: &[u8],
+    number: u32,
+) -> Result<u32, Refusal>
+    requires { Knows names.now.design.now names.now.registers names.now.rules }
+    ensures fits { IfOk result (λ workers. LineFits names.now.design.now stimulus.now workers (lines.Begins workers)) }
+    ensures text { IfOk result (λ workers. bytes.now ≡ line_text names.now.design.now (lines.Begins workers)) }
+    ensures fault { IfFault result (IsMalformed names.now.design.now (MayFollow names.now.design.now stimulus.now None) bytes.now number) }
+{
+    let line = read_line(alloc, names, stimulus, page, 0, bytes, number)?;
+    match line {
+        Line::Begins { workers } => Ok(workers),
+        Line::Batch { .. } => Err(refusal(Flaw::Malformed, number)),
+        Line::Entry(_entry) => Err(refusal(Flaw::Malformed, number)),
+    }
+}
+
+// Adds what a later line says.
+fn add_line(
+    alloc: Global,
+    names: &Vocabulary<'_>,
+    stimulus: &Stimulus,
+    page: &mut Text,
+    journal: &mut Journal,
+    bytes: &[u8],
+    number: u32,
+) -> Result<(), Refusal>
+    requires knows { Knows names.now.design.now names.now.registers names.now.rules }
+    requires few { IsSmall journal.old.workers }
+    ensures adds { OnOk result ((l : LineOf) × MayFollow names.now.design.now stimulus.now (Some journal.old) l × (bytes.now ≡ line_text names.now.design.now l) × Adds journal.old journal.new number l) }
+    ensures fault { IfFault result (IsMalformed names.now.design.now (MayFollow names.now.design.now stimulus.now (Some journal.old)) bytes.now number) }
+{
+    let line = read_line(alloc, names, stimulus, page, journal.workers, bytes, number)?;
+    match line {
+        Line::Begins { .. } => Err(refusal(Flaw::Malformed, number)),
+        Line::Batch { from, to } => add_batch(alloc, &mut journal.batches, from, to, number),
+        Line::Entry(entry) => add_entry(&mut journal.batches, entry, number),
+    }
+}
+
+// Adds a batch without entries.
+fn add_batch(
+    alloc: Global,
+    batches: &mut Sequence<Batch>,
+    from: u32,
+    to: u32,
+    line: u32,
+) -> Result<(), Refusal>
+    ensures ok { OnOk result (batches.new ≡ batches.old ++ record { from = from; to = to; line = line; entries = []; lines = [] } ∷ []) }
+    ensures fault { IfFault result (λ _. ⊥) }
+{
+    batches.push(Batch {
+        from,
+        to,
+        line,
+        entries: Sequence::new(alloc),
+        lines: Sequence::new(alloc),
+    })?;
+    Ok(())
+}
+
+// Adds an entry to the last batch.
+fn add_entry(batches: &mut Sequence<Batch>, entry: Entry, number: u32) -> Result<(), Refusal>
+    ensures ok { OnOk result ((front : List BatchOf) × (batch : BatchOf) × (batches.old ≡ front ++ batch ∷ [])
+        × (batches.new ≡ front ++ record batch { entries = batch.entries ++ entry ∷ []; lines = batch.lines ++ number ∷ [] } ∷ [])) }
+    ensures fault { IfFault result (λ fault. (fault ≡ malformed_at number) × (batches.old ≡ [])) }
+{
+    let Some(mut batch) = batches.pop() else {
+        return Err(refusal(Flaw::Malformed, number));
+    };
+    batch.entries.push(entry)?;
+    batch.lines.push(number)?;
+    batches.push(batch)?;
+    Ok(())
+}
+
+// What the line of a number says, if it fits and is printed so.
+fn read_line(
+    alloc: Global,
+    names: &Vocabulary<'_>,
+    stimulus: &Stimulus,
+    page: &mut Text,
+    workers: u32,
+    bytes: &[u8],
+    number: u32,
+) -> Result<Line, Refusal>
+    requires { Knows names.now.design.now names.now.registers names.now.rules }
+    ensures line { IfOk result (λ l. LineFits names.now.design.now stimulus.now workers l × (bytes.now ≡ line_text names.now.design.now l)) }
+    ensures fault { IfFault result (IsMalformed names.now.design.now (LineFits names.now.design.now stimulus.now workers) bytes.now number) }
+{
+    let line = match line(alloc, names, stimulus, bytes) {
+        Ok(line) => line,
+        Err(flaw) => return Err(refusal(flaw, number)),
+    };
+    is_valid(names.design);
+    if !is_allowed(&line, workers) {
+        return Err(refusal(Flaw::Malformed, number));
+    }
+    let printed = is_printed_so(page, names.design, &line, bytes)?;
+    if !printed {
+        return Err(refusal(Flaw::Malformed, number));
+    }
+    Ok(line)
+}
+
+// The refusal of the line of this number.
+fn refusal(flaw: Flaw, line: u32) -> Refusal
+    ensures { result ≡ refusal_of flaw line }
+{
+    match flaw {
+        Flaw::Malformed => {
+            Refusal::Fault(Fault::new(MALFORMED_JOURNAL, Place { line, column: 1 }))
+        }
+        Flaw::NoMemory => Refusal::NoMemory,
+    }
+}
+
+// States that a design is valid, as its type says.
+fn is_valid(design: &Design)
+    ensures { IsValid design.now }
+{
+    let _registers = design.regs.len();
+}
+
+// Whether a line is printed so. The page is for use again.
+fn is_printed_so(
+    page: &mut Text,
+    design: &Design,
+    line: &Line,
+    bytes: &[u8],
+) -> Result<bool, NoMemory>
+    ensures { IfOk result (λ is. IsTrue is ↔ (line_text design.now line.now ≡ bytes.now)) }
+{
+    page.clear();
+    push_line(page, design, line)?;
+    Ok(page.as_slice() == bytes)
+}
+
+// Whether the numbers of a line are in their ranges, and the two values of a stale read differ.
+fn is_allowed(line: &Line, workers: u32) -> bool
+    ensures { IsTrue result ↔ IsAllowed workers line.now }
+{
+    match line {
+        Line::Begins { workers } => 1 <= *workers && *workers <= MAX_JOURNAL_WORKERS,
+        Line::Batch { .. } => true,
+        Line::Entry(Entry::Submit { worker, cycle, .. }) => {
+            *worker <= workers && 1 <= *cycle && *cycle <= MAX_CYCLES
+        }
+        Line::Entry(Entry::Settle { worker, answer }) => *worker <= workers && differs(answer),
+    }
+}
+
+fn differs(answer: &Settled) -> bool
+    ensures { IsTrue result ↔ Differs answer.now }
+{
+    match answer {
+        Settled::Stale { read, .. } => read.held != read.now,
+        Settled::Committed { .. }
+        | Settled::Skipped { .. }
+        | Settled::CycleClosed { .. }
+        | Settled::Waiting { .. }
+        | Settled::Finished => true,
+    }
+}
