@@ -14,6 +14,7 @@ use Rattle.koika_syntax.specs.declared.token.Token.{Token}
 use Rattle.koika_syntax.proofs.Lexing.{tokens_or_first_fault}
 use Rattle.koika_parse.specs.Laws.{IsParsed}
 use Rattle.koika_parse.proofs.EachText.{each_text}
+use Rattle.koika_check.specs.BitWeights.{bit_weight}
 use Rattle.koika_check.specs.Checks.{checked}
 use Rattle.koika_check.specs.Counts.{counts_of}
 use Rattle.koika_check.specs.Outcomes.{Outcome, Fails, Gives}
@@ -23,6 +24,7 @@ use Rattle.koika_print.specs.Printed.{printed}
 use Rattle.one_rule.specs.Stimulus.{InputVectors, inputs_of}
 use Rattle.stim_report.specs.Cuts.{cut_at, ends_line, is_mark, parts_of, with_line_feed}
 use Rattle.kw_bits.specs.declared.host.HostSpec.{HostSpec}
+use Rattle.koika_top.specs.Aiger.{AnswersAiger, most_bits}
 use Rattle.koika_top.specs.Answer.{Answers, IsAnswer, has_one_text}
 use Rattle.koika_top.specs.Compile.{AnswersCompile}
 use Rattle.koika_top.specs.Generator.{pipeline}
@@ -35,12 +37,9 @@ use Rattle.koika_top.specs.declared.answer.Answer.{Answer}
 use Rattle.koika_top.specs.declared.answer.Answer.TheVariants.{Usage, Refused, Written}
 use Rattle.koika_top.specs.declared.shown.Shown.{Shown}
 use Rattle.koika_top.specs.declared.words.Command.{Command}
-use Rattle.koika_top.specs.declared.words.Command.TheVariants.{Check, Print, Sim, Compile, Btorsim, Gen}
-use Rattle.koika_top.proofs.CircuitAnswered.{btorsim_answer}
-
-yes_or_no : (b : Bool) → (b ≡ true) ⊎ (b ≡ false)
-yes_or_no true = inl refl
-yes_or_no false = inr refl
+use Rattle.koika_top.specs.declared.words.Command.TheVariants.{Check, Print, Sim, Compile, Btorsim, Gen, Aiger, Aigsim}
+use Rattle.koika_top.proofs.AigAnswered.{aigsim_answer}
+use Rattle.koika_top.proofs.CircuitAnswered.{btorsim_answer, yes_or_no}
 
 -- a stimulus, or the fault of it
 stimulus_told : (r : Result InputVectors Fault) → ((stimulus : InputVectors) × (r ≡ Ok stimulus)) ⊎ ((fault : Fault) × (r ≡ Err fault))
@@ -174,6 +173,8 @@ command_answer hosts (Sim cycles shown engine) source one = sim_answer hosts sou
 command_answer hosts (Btorsim cycles shown) source one = btorsim_answer source cycles shown
 command_answer hosts Compile source one = absurd (false≢true one)
 command_answer hosts (Gen stages) source one = (Written (pipeline stages), refl)
+command_answer hosts Aiger source one = absurd (false≢true one)
+command_answer hosts (Aigsim cycles shown) source one = aigsim_answer source cycles shown
 
 by_words : (hosts : List HostSpec) (command : Option Command) (source : List ℕ) → has_one_text command ≡ true → (answer : Answer) × MatchOption command (answer ≡ Usage) (λ c. Answers hosts c source answer)
 by_words hosts None source one = (Usage, refl)
@@ -190,4 +191,21 @@ some_circuit hosts source =
     ⊎_elim
     (λ long. inl (fault_of_source 40, inl (refl, long)))
     (λ short. ⊎_elim (λ found. inr found) (λ wrong. inl (wrong.0, inr wrong.1)) (spelled_or_fault hosts source short))
+    (cases_lt longest_source (length source))
+
+-- a source is refused by `aiger`, or spells what a bit-level circuit can be written of
+pub some_aig : (hosts : List HostSpec) (source : List ℕ) →
+    ((fault : Fault) × AnswersAiger hosts source (Refused fault)) ⊎ ((design : Checked) × (stimulus : InputVectors) × Spells hosts source design stimulus × (bit_weight design ≤ most_bits))
+some_aig hosts source =
+    ⊎_elim
+    (λ long. inl (fault_of_source 40, inl (refl, long)))
+    (λ short.
+    ⊎_elim
+    (λ found.
+    ⊎_elim
+    (λ heavy. inl (fault_of_source 48, inr (inr (refl, (found.0, found.1, found.2, heavy)))))
+    (λ light. inr (found.0, found.1, found.2, light))
+    (cases_lt most_bits (bit_weight found.0)))
+    (λ wrong. inl (wrong.0, inr (inl wrong.1)))
+    (spelled_or_fault hosts source short))
     (cases_lt longest_source (length source))

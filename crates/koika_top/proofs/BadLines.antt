@@ -17,7 +17,7 @@ use Rattle.koika_top.proofs.CircuitLines.{AreNumbered, HasSymbol, numbered-behin
 -- ---- flags
 
 -- where all measures are 1, the test of it keeps all
-all-ones : {X Y : Type 0} (f : X → ℕ) (xs : List X) (ys : List Y) → map f xs ≡ map (λ y. 1) ys → filter (λ x. f x == 1) xs ≡ xs
+pub all-ones : {X Y : Type 0} (f : X → ℕ) (xs : List X) (ys : List Y) → map f xs ≡ map (λ y. 1) ys → filter (λ x. f x == 1) xs ≡ xs
 all-ones f [] ys e = refl
 all-ones f (x ∷ xs) [] e = absurd cc
 all-ones f (x ∷ xs) (y ∷ ys) e =

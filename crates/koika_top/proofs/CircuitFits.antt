@@ -29,7 +29,7 @@ bits-fit [] all = HaveWidths-empty
 bits-fit (value ∷ values) all =
     HaveWidths-cons value.width (widths values) value values (all 0 no_bits (omega arith), refl) (bits-fit values (λ k d h. all (suc k) d (omega (arith, h))))
 
-are-fit : (values : List BitVector) (of_widths : List ℕ) → AreBits values of_widths → HaveWidths of_widths values
+pub are-fit : (values : List BitVector) (of_widths : List ℕ) → AreBits values of_widths → HaveWidths of_widths values
 are-fit values of_widths are = subst (λ (ws : List ℕ). HaveWidths ws values) are.widths (bits-fit values are.bits)
 
 one-more : (one two : Bool) (value : BitVector) (values : List BitVector) (wire : OutputWire) (wires : List OutputWire) → one ≡ two → length (map is_one values) ≡ length (map circuit.name_of wires)

@@ -96,24 +96,13 @@ few-inputs lines c shape few has is =
     let count = ap (λ (s : Shape). length s.inputs) is ∙ inputs-count lines c has in
     omega (arith, count, few is_input)
 
-pub few-registers : (lines : List Line) (shape : Shape) → HasFewLines lines → shape ≡ text.shape_of lines → length shape.registers < 2 ^ 32
-few-registers lines shape few is =
-    let named : Line → NameWidth = λ line. record { name = name_of line; width = width_in lines line.id } in
-    let count = ap (λ (s : Shape). length s.registers) is ∙ length-map (lines_of is_state lines) named in
-    omega (arith, count, few is_state)
-
-pub few-rules : (lines : List Line) (shape : Shape) → HasFewLines lines → shape ≡ text.shape_of lines → length shape.rules < 2 ^ 32
-few-rules lines shape few is =
-    let count = ap (λ (s : Shape). length s.rules) is ∙ length-map (text.flag_lines lines) name_of in
-    omega (arith, count, filter-fewer (is_flag lines) (lines_of is_output lines), few is_output)
-
 widths-after : (shape : Shape) (cycles : Result (List (List BitVector)) Fault) (stimulus : InputVectors)
     → after cycles (λ (cycles : List (List BitVector)). Ok (record { widths = widths_of shape.inputs; cycles = cycles })) ≡ Ok stimulus → stimulus.widths ≡ widths_of shape.inputs
 widths-after shape (Ok cycles) stimulus e = sym cc
 widths-after shape (Err fault) stimulus e = absurd cc
 
 -- a stimulus has the widths of the shape's inputs
-stimulus-widths : (shape : Shape) (line : ℕ) (bytes : List ℕ) (stimulus : InputVectors) → stimulus_of shape line bytes ≡ Ok stimulus → stimulus.widths ≡ widths_of shape.inputs
+pub stimulus-widths : (shape : Shape) (line : ℕ) (bytes : List ℕ) (stimulus : InputVectors) → stimulus_of shape line bytes ≡ Ok stimulus → stimulus.widths ≡ widths_of shape.inputs
 unfolding stimulus_of
 stimulus-widths shape line bytes stimulus e = widths-after shape (cycles_from shape.inputs line (cuts.lines_of bytes)) stimulus e
 

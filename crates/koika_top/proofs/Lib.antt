@@ -6,6 +6,7 @@ pub mod SamePrinted
 pub mod Generated
 pub mod OneAnswer
 pub mod PlainNames
+pub mod SymbolNames
 pub mod CircuitLines
 pub mod BadLines
 pub mod Answered
@@ -17,6 +18,7 @@ pub mod Promises
 pub mod ReadWords
 pub mod LoweredRuns
 pub mod Wiring
+pub mod AigWiring
 pub mod Options
 pub mod Reading
 pub mod Told
@@ -28,9 +30,17 @@ pub mod CircuitTexts
 pub mod CircuitViolations
 pub mod Engines
 pub mod OneCircuitAnswer
+pub mod OneAigAnswer
 pub mod CircuitAnswered
+pub mod AigAnswered
 pub mod CircuitShown
 pub mod CircuitTold
+pub mod AigRows
+pub mod AigEngines
+pub mod AigFits
+pub mod AigTexts
+pub mod AigRuns
 pub mod StimuliFit
 pub mod Compiled
+pub mod Converted
 pub mod Crews

@@ -14,6 +14,7 @@ use Rattle.koika_parse.specs.Faults.{StandsBetween}
 use Rattle.koika_parse.specs.Outline.{SameTree}
 use Rattle.koika_parse.proofs.OneFault as grammar
 use Rattle.koika_parse.proofs.Unambiguous.{one_tree}
+use Rattle.koika_check.specs.BitWeights.{bit_weight}
 use Rattle.koika_check.specs.Checks.{checked}
 use Rattle.koika_check.specs.Counts.{counts_of}
 use Rattle.koika_check.specs.Outcomes.{Outcome, Fails, Gives}
@@ -21,6 +22,7 @@ use Rattle.koika_check.specs.declared.checked.Checked.{Checked}
 use Rattle.koika_check.specs.declared.stop.Wrong.{Wrong}
 use Rattle.one_rule.specs.Stimulus.{InputVectors, inputs_of}
 use Rattle.kw_bits.specs.declared.host.HostSpec.{HostSpec}
+use Rattle.koika_top.specs.Aiger.{AnswersAiger, HasTooManyBits, most_bits}
 use Rattle.koika_top.specs.Answer.{Answers, IsAnswer, IsLikeAnswer, IsSameAnswer, has_one_text, status_of, text_of}
 use Rattle.koika_top.specs.Compile.{AnswersCompile, ShowsCircuit}
 use Rattle.koika_top.specs.Reads.{AnswersCheck, AnswersPrint, ShowsTree, TellsCounts, counts_line}
@@ -33,7 +35,8 @@ use Rattle.koika_top.specs.declared.answer.Answer.TheVariants.{Usage, Refused, W
 use Rattle.koika_top.specs.declared.shown.Shown.{Shown}
 use Rattle.koika_top.specs.declared.status.Status.TheVariants as status
 use Rattle.koika_top.specs.declared.words.Command.{Command}
-use Rattle.koika_top.specs.declared.words.Command.TheVariants.{Check, Print, Sim, Compile, Btorsim, Gen}
+use Rattle.koika_top.specs.declared.words.Command.TheVariants.{Check, Print, Sim, Compile, Btorsim, Gen, Aiger, Aigsim}
+use Rattle.koika_top.proofs.OneAigAnswer.{aigsim-same}
 use Rattle.koika_top.proofs.OneCircuitAnswer.{btorsim-same}
 use Rattle.koika_top.proofs.Results.{err-same, ok-same, ok_or_err}
 use Rattle.koika_top.proofs.SameChecked.{same_checked}
@@ -198,6 +201,41 @@ module _ (hosts : List HostSpec) (source : List ℕ) where
   compile-like (Written text) (Refused g) h k = absurd (refused_or_written g (counts_line (counts_of h.design)) (check-same (Refused g) (Written (counts_line (counts_of h.design))) k (counted text h)))
   compile-like (Written text) (Written other) h k = record { status = refl; refusal = λ e. let bad : status.Done ≡ status.Refused = e in absurd cc }
 
+  -- ---- aiger
+
+  light_or_heavy : (n : ℕ) → n ≤ most_bits → most_bits < n → ⊥
+  light_or_heavy n a b = omega (arith, a, b)
+
+  long_or_heavy : (f g : Fault) → IsTooLong source f → HasTooManyBits hosts source g → ⊥
+  long_or_heavy f g a b = long_or_spelled f b.1.0 a b.1.2.spelled
+
+  -- no source both spells a design with few bits and a stimulus and is refused
+  pub light_or_refused : (f : Fault) (d : Checked) (s : InputVectors) → Spells hosts source d s → bit_weight d ≤ most_bits → AnswersAiger hosts source (Refused f) → ⊥
+  light_or_refused f d s spelled light (inl long) = long_or_spelled f d long spelled.spelled
+  light_or_refused f d s spelled light (inr (inl fault)) = spelled_or_not f d s fault spelled
+  light_or_refused f d s spelled light (inr (inr heavy)) =
+      light_or_heavy (bit_weight d) light (subst (λ (e : Checked). most_bits < bit_weight e) (same_design heavy.1.0 d heavy.1.2.spelled spelled.spelled) heavy.1.3)
+
+  aiger-refused : (f g : Fault) → AnswersAiger hosts source (Refused f) → AnswersAiger hosts source (Refused g) → f ≡ g
+  aiger-refused f g (inl a) (inl b) = a.0 ∙ sym b.0
+  aiger-refused f g (inl a) (inr (inl b)) = absurd (long_or_unspelled f g a b)
+  aiger-refused f g (inl a) (inr (inr b)) = absurd (long_or_heavy f g a b)
+  aiger-refused f g (inr (inl a)) (inl b) = absurd (long_or_unspelled g f b a)
+  aiger-refused f g (inr (inl a)) (inr (inl b)) = unspelled-same f g a b
+  aiger-refused f g (inr (inl a)) (inr (inr b)) = absurd (spelled_or_not f b.1.0 b.1.1 a b.1.2)
+  aiger-refused f g (inr (inr a)) (inl b) = absurd (long_or_heavy g f b a)
+  aiger-refused f g (inr (inr a)) (inr (inl b)) = absurd (spelled_or_not g a.1.0 a.1.1 b a.1.2)
+  aiger-refused f g (inr (inr a)) (inr (inr b)) = a.0 ∙ sym b.0
+
+  aiger-like : (a b : Answer) → AnswersAiger hosts source a → AnswersAiger hosts source b → IsLikeAnswer a b
+  aiger-like Usage b h k = absurd h
+  aiger-like (Refused f) Usage h k = absurd k
+  aiger-like (Refused f) (Refused g) h k = record { status = refl; refusal = λ e. ap (λ fault. text_of (Refused fault)) (aiger-refused f g h k) }
+  aiger-like (Refused f) (Written text) h k = absurd (light_or_refused f k.design k.stimulus k.spelled k.light h)
+  aiger-like (Written text) Usage h k = absurd k
+  aiger-like (Written text) (Refused g) h k = absurd (light_or_refused g h.design h.stimulus h.spelled h.light k)
+  aiger-like (Written text) (Written other) h k = record { status = refl; refusal = λ e. let bad : status.Done ≡ status.Refused = e in absurd cc }
+
   -- ---- sim
 
   module _ (cycles : ℕ) where
@@ -257,6 +295,8 @@ command_answer-same hosts (Sim cycles shown engine) source a b h k = same-like a
 command_answer-same hosts Compile source a b h k = compile-like hosts source a b h k
 command_answer-same hosts (Btorsim cycles shown) source a b h k = same-like a b (btorsim-same source cycles shown a b h k)
 command_answer-same hosts (Gen stages) source a b h k = same-like a b (equal-same a b (h ∙ sym k))
+command_answer-same hosts Aiger source a b h k = aiger-like hosts source a b h k
+command_answer-same hosts (Aigsim cycles shown) source a b h k = same-like a b (aigsim-same source cycles shown a b h k)
 
 like-by_words : (hosts : List HostSpec) (command : Option Command) (source : List ℕ) (a b : Answer) → MatchOption command (a ≡ Usage) (λ c. Answers hosts c source a) → MatchOption command (b ≡ Usage) (λ c. Answers hosts c source b) → IsLikeAnswer a b
 like-by_words hosts None source a b h k = same-like a b (equal-same a b (h ∙ sym k))
@@ -265,7 +305,7 @@ like-by_words hosts (Some command) source a b h k = command_answer-same hosts co
 pub one_status : (hosts : List HostSpec) (words : List (List ℕ)) (source : List ℕ) (a b : Answer) → IsAnswer hosts words source a → IsAnswer hosts words source b → IsLikeAnswer a b
 one_status hosts words source a b h k = like-by_words hosts (command_of words) source a b h k
 
--- and all but those of `compile` are one
+-- and all but those of `compile` and `aiger` are one
 by_words : (hosts : List HostSpec) (command : Option Command) (source : List ℕ) (a b : Answer) → has_one_text command ≡ true → MatchOption command (a ≡ Usage) (λ c. Answers hosts c source a) → MatchOption command (b ≡ Usage) (λ c. Answers hosts c source b) → IsSameAnswer a b
 by_words hosts None source a b one h k = equal-same a b (h ∙ sym k)
 by_words hosts (Some Check) source a b one h k = check-same hosts source a b h k
@@ -274,6 +314,8 @@ by_words hosts (Some (Sim cycles shown engine)) source a b one h k = sim-same ho
 by_words hosts (Some Compile) source a b one h k = absurd (false≢true one)
 by_words hosts (Some (Btorsim cycles shown)) source a b one h k = btorsim-same source cycles shown a b h k
 by_words hosts (Some (Gen stages)) source a b one h k = equal-same a b (h ∙ sym k)
+by_words hosts (Some Aiger) source a b one h k = absurd (false≢true one)
+by_words hosts (Some (Aigsim cycles shown)) source a b one h k = aigsim-same source cycles shown a b h k
 
 pub one_answer : (hosts : List HostSpec) (words : List (List ℕ)) (source : List ℕ) (a b : Answer) → has_one_text (command_of words) ≡ true → IsAnswer hosts words source a → IsAnswer hosts words source b → IsSameAnswer a b
 one_answer hosts words source a b one h k = by_words hosts (command_of words) source a b one h k

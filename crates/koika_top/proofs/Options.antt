@@ -3,13 +3,13 @@ use Rattle.std.proofs.Common.{◌≡◌, ℕ, ◌+◌, ◌<◌, ◌≤◌, Bool,
 use Rattle.std.specs.Prelude.{codes, IfSome, if◌then◌else◌}
 use Rattle.std.specs.Str.{bytes_eq}
 use Rattle.koika_top.specs.Steps.{IsAlone, RunsBy}
-use Rattle.koika_top.specs.Words.{alone_of, asked_for, asks_workers, btorsim_by, btorsim_of, command_of, engine_by, engine_of, gen_by, gen_of, given_once, is_of_workers, number_of, no_options, options_of, sim_by, sim_of, with_cycles, with_engine, with_summary, with_word, with_workers}
+use Rattle.koika_top.specs.Words.{aigsim_by, aigsim_of, alone_of, asked_for, asks_workers, btorsim_by, btorsim_of, command_of, engine_by, engine_of, gen_by, gen_of, given_once, is_of_workers, number_of, no_options, options_of, sim_by, sim_of, with_cycles, with_engine, with_summary, with_word, with_workers}
 use Rattle.koika_top.specs.declared.shown.Shown.{Shown}
 use Rattle.koika_top.specs.declared.shown.Shown.TheVariants.{Report, Summary}
 use Rattle.koika_top.specs.declared.engine_kind.EngineKind.{EngineKind}
 use Rattle.koika_top.specs.declared.engine_kind.EngineKind.TheVariants.{Plain, Circuit, Workers}
 use Rattle.koika_top.specs.declared.words.Command.{Command}
-use Rattle.koika_top.specs.declared.words.Command.TheVariants.{Check, Print, Compile, Gen}
+use Rattle.koika_top.specs.declared.words.Command.TheVariants.{Aiger, Check, Print, Compile, Gen}
 use Rattle.koika_top.specs.declared.words.Options.{Options}
 
 -- how many words options take at the most
@@ -189,6 +189,16 @@ btorsim-alone : (options : Option Options) → Alone (btorsim_of options)
 btorsim-alone None = tt
 btorsim-alone (Some o) = btorsim_by-alone o.cycles o.shown o.engine o.workers
 
+aigsim_by-alone : (cycles : Option ℕ) (shown : Shown) (engine : Option EngineKind) (workers : Option ℕ) → Alone (aigsim_by cycles shown engine workers)
+aigsim_by-alone None shown engine workers = tt
+aigsim_by-alone (Some n) shown None None = tt
+aigsim_by-alone (Some n) shown None (Some count) = tt
+aigsim_by-alone (Some n) shown (Some kind) workers = tt
+
+aigsim-alone : (options : Option Options) → Alone (aigsim_of options)
+aigsim-alone None = tt
+aigsim-alone (Some o) = aigsim_by-alone o.cycles o.shown o.engine o.workers
+
 either-alone : (b : Bool) (x y : Option Command) → Alone x → Alone y → Alone (if b then x else y)
 either-alone true x y h k = h
 either-alone false x y h k = k
@@ -216,4 +226,6 @@ runs-alone (word ∷ rest) e =
     (either-alone (bytes_eq word (codes "sim")) _ _ (sim-alone (options_of rest) (options-without rest later.1))
     (either-alone (bytes_eq word (codes "btorsim")) _ _ (btorsim-alone (options_of rest))
     (either-alone (bytes_eq word (codes "compile")) _ _ (word-alone Compile rest tt)
-    (either-alone (bytes_eq word (codes "gen")) _ None (gen-alone rest) tt)))))
+    (either-alone (bytes_eq word (codes "gen")) _ _ (gen-alone rest)
+    (either-alone (bytes_eq word (codes "aiger")) _ _ (word-alone Aiger rest tt)
+    (either-alone (bytes_eq word (codes "aigsim")) _ None (aigsim-alone (options_of rest)) tt)))))))

@@ -1,6 +1,6 @@
 -- What was told of an answer keeps what is promised of a call.
 use Rattle.std.proofs.lemmas.Bool.{false≢true}
-use Rattle.std.proofs.Common.{◌≡◌, ◌⊎◌, ◌<◌, ℕ, Bool, cond, length, true, false, List, [], Option, Some, None, Result, refl, sym, ap, subst, ◌∙◌, inl, inr, ⊎_elim}
+use Rattle.std.proofs.Common.{◌≡◌, ◌⊎◌, ◌<◌, ◌≤◌, ℕ, Bool, cond, length, true, false, List, [], Option, Some, None, Result, refl, sym, ap, subst, ◌∙◌, inl, inr, ⊎_elim}
 use Rattle.std.specs.Prelude.{IfSome, MatchOption}
 use Rattle.kw_base.specs.FaultLine.{line_of_fault}
 use Rattle.kw_base.specs.declared.fault.Fault.{Fault}
@@ -9,8 +9,13 @@ use Rattle.kw_bits.specs.declared.host.HostSpec.{HostSpec}
 use Rattle.koika_top.specs.Answer.{Answers, IsAnswer, IsFailure, is_of_source, known_source, longest_of, reads_source, status_of, text_of, usage_line}
 use Rattle.koika_top.specs.Calls.{Call, CountsReadFault, IsAnswerTo, IsKept, LeavesUnread, ReadsAll, command_in, known_in}
 use Rattle.btor2_text.specs.declared.line.Line.{Line}
+use Rattle.koika_check.specs.BitWeights.{bit_weight}
 use Rattle.koika_check.specs.declared.checked.Checked.{Checked}
 use Rattle.one_rule.specs.Stimulus.{InputVectors, inputs_of}
+use Rattle.aig_blast.specs.Aigs.{AigParts}
+use Rattle.koika_top.specs.Aiger.{AnswersAiger, most_bits}
+use Rattle.koika_top.specs.Aigsim as aigsim
+use Rattle.koika_top.specs.Aigsim.{AnswersAigsim}
 use Rattle.koika_top.specs.Btorsim as circuit
 use Rattle.koika_top.specs.Btorsim.{AnswersBtorsim, HoldsRun, shown_run}
 use Rattle.koika_top.specs.Compile.{AnswersCompile}
@@ -27,8 +32,8 @@ use Rattle.koika_top.specs.declared.status.Status.{Status}
 use Rattle.koika_top.specs.declared.status.Status.TheVariants as status
 use Rattle.koika_top.specs.declared.untold.Untold.{Untold}
 use Rattle.koika_top.specs.declared.words.Command.{Command}
-use Rattle.koika_top.specs.declared.words.Command.TheVariants.{Check, Print, Sim, Compile, Btorsim, Gen}
-use Rattle.koika_top.proofs.OneAnswer.{one_answer, one_status, spelled_or_refused}
+use Rattle.koika_top.specs.declared.words.Command.TheVariants.{Check, Print, Sim, Compile, Btorsim, Gen, Aiger, Aigsim}
+use Rattle.koika_top.proofs.OneAnswer.{light_or_refused, one_answer, one_status, spelled_or_refused}
 use Rattle.koika_top.proofs.Told.{appends-kept, told-one}
 
 -- ---- bytes that may be known
@@ -117,6 +122,14 @@ compiled hosts bytes (Refused fault) result design stimulus spelled is told = ab
 compiled hosts bytes (Written text) result design stimulus spelled is (inl e) = inl e
 compiled hosts bytes (Written text) result design stimulus spelled is (inr f) = inr (inr f)
 
+-- and one of `aiger` where the design has few bits besides
+converted : (hosts : List HostSpec) (bytes : List ℕ) (answer : Answer) (result : Status) (design : Checked) (stimulus : InputVectors) → Spells hosts bytes design stimulus → bit_weight design ≤ most_bits
+    → AnswersAiger hosts bytes answer → (result ≡ status_of answer) ⊎ ((result ≡ status.WriteFault) ⊎ (result ≡ status.NoMemory)) → (result ≡ status.Done) ⊎ IsFailure result
+converted hosts bytes Usage result design stimulus spelled light is told = absurd is
+converted hosts bytes (Refused fault) result design stimulus spelled light is told = absurd (light_or_refused hosts bytes fault design stimulus spelled light is)
+converted hosts bytes (Written text) result design stimulus spelled light is (inl e) = inl e
+converted hosts bytes (Written text) result design stimulus spelled light is (inr f) = inr (inr f)
+
 module _ (untouched : Type 0) (c : Call) (whole : ReadsAll c) (unread : LeavesUnread untouched c) (read_fault : CountsReadFault c) where
   -- an answer was told
   module _ (mine : Answer) (kind : Replies (command_in c) mine) (right : IfSome (known_in c) (λ bytes. IsAnswerTo c bytes mine)) (told : TellsOne mine c.sink c.status) where
@@ -140,6 +153,9 @@ module _ (untouched : Type 0) (c : Call) (whole : ReadsAll c) (unread : LeavesUn
       exact = by-mine _ (λ bytes is answer k. ⊎_elim (λ e. inl (e ∙ (one_status c.hosts c.words bytes mine answer is k).status)) (λ f. inr (inr f)) told.status);
       compiles = λ asked. by-mine _ (λ bytes is design stimulus spelled.
           compiled c.hosts bytes mine c.status design stimulus spelled
+          (subst (λ (command : Option Command). MatchOption command (mine ≡ Usage) (λ (one : Command). Answers c.hosts one bytes mine)) asked is) told.status);
+      converts = λ asked. by-mine _ (λ bytes is design stimulus spelled light.
+          converted c.hosts bytes mine c.status design stimulus spelled light
           (subst (λ (command : Option Command). MatchOption command (mine ≡ Usage) (λ (one : Command). Answers c.hosts one bytes mine)) asked is) told.status);
       front = λ one. by-mine _ (λ bytes is answer k. subst (λ (text : List ℕ). GainsFront c.sink text) (one_answer c.hosts c.words bytes mine answer one is k).text told.front);
       some = by-mine _ (λ bytes is. inl (mine, is, told.front));
@@ -165,6 +181,7 @@ module _ (untouched : Type 0) (c : Call) (whole : ReadsAll c) (unread : LeavesUn
       refused_line = λ d. absurd (not-so status.Refused (λ bad. absurd cc) (λ bad. absurd cc) d);
       exact = of-any _ (known_in c) (λ bytes answer k. inr (⊎_elim (λ e. inl e) (λ e. inr (inr e)) why));
       compiles = λ asked. of-any _ (known_in c) (λ bytes design stimulus spelled. inr (⊎_elim (λ e. inl e) (λ e. inr (inr e)) why));
+      converts = λ asked. of-any _ (known_in c) (λ bytes design stimulus spelled light. inr (⊎_elim (λ e. inl e) (λ e. inr (inr e)) why));
       front = λ one. of-any _ (known_in c) (λ bytes answer k. front-none c.sink (text_of answer) kept);
       some = of-any _ (known_in c) (λ bytes. inr (kept, why));
       read_fault = read_fault;
@@ -203,6 +220,8 @@ never-usage hosts (Sim cycles shown engine) bytes Usage h = h
 never-usage hosts (Btorsim cycles shown) bytes Usage h = h
 never-usage hosts Compile bytes Usage h = h
 never-usage hosts (Gen stages) bytes Usage h = absurd cc
+never-usage hosts Aiger bytes Usage h = h
+never-usage hosts (Aigsim cycles shown) bytes Usage h = h
 
 -- what was told of the bytes that were read is told of the source
 pub tells-read : (hosts : List HostSpec) (command : Command) (left new : Option (List ℕ)) (bytes : List ℕ) (sink : Stream) (result : Status) → TakesAll left new bytes
@@ -220,6 +239,8 @@ refuses-long hosts (Sim cycles shown engine) source fault reads is long = inl (i
 refuses-long hosts (Btorsim cycles shown) source fault reads is long = inl (is, long)
 refuses-long hosts Compile source fault reads is long = inl (is, long)
 refuses-long hosts (Gen stages) source fault reads is long = absurd (false≢true reads)
+refuses-long hosts Aiger source fault reads is long = inl (is, long)
+refuses-long hosts (Aigsim cycles shown) source fault reads is long = inl (is, long)
 
 pub tells-long : (hosts : List HostSpec) (command : Command) (fault : Fault) → is_of_source command ≡ true → fault ≡ fault_of_source 40 → (left : Option (List ℕ)) (sink : Stream) (result : Status)
     → IfSome left (λ bytes. longest_of command < length bytes) → TellsOne (Refused fault) sink result → TellsRead IsReply left (Answers hosts command) sink result
@@ -288,5 +309,16 @@ tells-circuit-run cycles n shown kind source lines stimulus holds within same li
     inl (
       Written mine,
       record { lines = lines; stimulus = stimulus; holds = holds; within = within; told = λ i. shown_run (like i) lines (inputs_of stimulus) (same i) },
+      told-one (Written mine) s r told,
+    )
+
+-- and of the AIGER text that it holds
+pub tells-aig-run : (cycles n : ℕ) (shown kind : Shown) (source : List ℕ) (aig : AigParts) (stimulus : InputVectors) → aigsim.HoldsRun source aig stimulus → aigsim.is_too_long cycles aig ≡ false → n ≡ cycles → kind ≡ shown
+    → (s : Stream) (r : Result (Unit {0}) Untold) → Told (aigsim.shown_run kind aig stimulus n) s r → Tells (AnswersAigsim cycles shown source) s (status_by r status.Done)
+tells-aig-run cycles n shown kind source aig stimulus holds within same like s r told =
+    let mine = aigsim.shown_run kind aig stimulus n in
+    inl (
+      Written mine,
+      record { aig = aig; stimulus = stimulus; holds = holds; within = within; told = λ i. aigsim.shown_run (like i) aig stimulus (same i) },
       told-one (Written mine) s r told,
     )

@@ -17,6 +17,7 @@ use Rattle.typed_core.specs.Valid.{IsWidth}
 use Rattle.koika_lower.specs.Lowering.{input_widths}
 use Rattle.koika_top.specs.Sources.{IsIllTyped, IsUnread, IsUnspelled, SpellsDesign, SpellsTree, design_part, longest_source, of_input, shape_of, stimulus_in}
 use Rattle.koika_top.specs.Steps.{Makes}
+use Rattle.koika_top.specs.Aiger.{AnswersAiger, HasNoAig, ShowsAig}
 use Rattle.koika_top.specs.Compile.{AnswersCompile, ShowsCircuit}
 use Rattle.koika_top.specs.Reads.{AnswersCheck, AnswersPrint, ShowsTree, TellsCounts}
 use Rattle.kw_bits.specs.declared.host.HostSpec.{HostSpec}
@@ -130,3 +131,8 @@ pub makes-compile : (hosts : List HostSpec) (source : List ℕ) (r : Result (Lis
 makes-compile hosts source (Ok text) made refused = made
 makes-compile hosts source (Err (refusals.Fault fault)) made refused = inr refused
 makes-compile hosts source (Err refusals.NoMemory) made refused = tt
+
+pub makes-aiger : (hosts : List HostSpec) (source : List ℕ) (r : Result (List ℕ) Refusal) → IfOk r (ShowsAig hosts source) → IfFault r (HasNoAig hosts source) → Makes (AnswersAiger hosts source) r
+makes-aiger hosts source (Ok text) made refused = made
+makes-aiger hosts source (Err (refusals.Fault fault)) made refused = inr refused
+makes-aiger hosts source (Err refusals.NoMemory) made refused = tt

@@ -3,6 +3,8 @@
 use Rattle.std.specs.Prelude.{◌≡◌, ℕ, ◌⊎◌, Bool, false, true, List, [], ◌∷◌, ◌++◌, codes, MatchOption, Option, None, Some, if◌then◌else◌}
 use Rattle.kw_base.specs.FaultLine.{line_of_fault}
 use Rattle.kw_bits.specs.declared.host.HostSpec.{HostSpec}
+use Rattle.koika_top.specs.Aiger.{AnswersAiger}
+use Rattle.koika_top.specs.Aigsim.{AnswersAigsim}
 use Rattle.koika_top.specs.Btorsim.{AnswersBtorsim, longest_circuit}
 use Rattle.koika_top.specs.Compile.{AnswersCompile}
 use Rattle.koika_top.specs.Generator.{pipeline}
@@ -15,7 +17,7 @@ use Rattle.koika_top.specs.declared.answer.Answer.TheVariants.{Usage, Refused, W
 use Rattle.koika_top.specs.declared.status.Status.{Status}
 use Rattle.koika_top.specs.declared.status.Status.TheVariants as status
 use Rattle.koika_top.specs.declared.words.Command.{Command}
-use Rattle.koika_top.specs.declared.words.Command.TheVariants.{Check, Print, Sim, Compile, Btorsim, Gen}
+use Rattle.koika_top.specs.declared.words.Command.TheVariants.{Check, Print, Sim, Compile, Btorsim, Gen, Aiger, Aigsim}
 
 -- the answer to a command, where these host functions are handed in
 abbrev pub Answers : List HostSpec → Command → List ℕ → Answer → Type 0
@@ -25,6 +27,8 @@ Answers hosts (Sim cycles shown engine) source answer = AnswersSim hosts cycles 
 Answers hosts (Btorsim cycles shown) source answer = AnswersBtorsim cycles shown source answer
 Answers hosts Compile source answer = AnswersCompile hosts source answer
 Answers hosts (Gen stages) source answer = answer ≡ Written (pipeline stages)
+Answers hosts Aiger source answer = AnswersAiger hosts source answer
+Answers hosts (Aigsim cycles shown) source answer = AnswersAigsim cycles shown source answer
 
 -- the answer to words and a source; where the words aren't understood it is how to use the program
 abbrev pub IsAnswer : List HostSpec → List (List ℕ) → List ℕ → Answer → Type 0
@@ -42,6 +46,7 @@ reads_source (Some command) = is_of_source command
 -- how many bytes the source of a command may have
 abbrev pub longest_of : Command → ℕ
 longest_of (Btorsim cycles shown) = longest_circuit
+longest_of (Aigsim cycles shown) = longest_circuit
 longest_of other = longest_source
 
 -- what is known of the bytes that an answer stands on, where these are known of the source
@@ -49,7 +54,7 @@ abbrev pub known_source : Option Command → Option (List ℕ) → Option (List 
 known_source command left = if reads_source command then left else Some []
 
 abbrev pub usage_line : List ℕ
-usage_line = codes "usage: koika check|print|sim|compile|btorsim|gen" ++ 10 ∷ []
+usage_line = codes "usage: koika check|print|sim|compile|btorsim|gen|aiger|aigsim" ++ 10 ∷ []
 
 -- the bytes that tell an answer
 abbrev pub text_of : Answer → List ℕ
@@ -66,9 +71,10 @@ status_of (Written text) = status.Done
 abbrev pub IsFailure : Status → Type 0
 IsFailure result = (result ≡ status.ReadFault) ⊎ ((result ≡ status.WriteFault) ⊎ (result ≡ status.NoMemory))
 
--- whether there is one text at most that is written: a design has several circuits
+-- whether there is one text at most that is written: a design has several circuits, of words and of bits
 abbrev pub has_one_text : Option Command → Bool
 has_one_text (Some Compile) = false
+has_one_text (Some Aiger) = false
 has_one_text other = true
 
 -- two answers that a user can't tell apart: they have one status and one text

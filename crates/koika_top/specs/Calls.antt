@@ -1,11 +1,13 @@
 -- What is promised of a call of the program: one definition for each clause, over what its contract knows of it.
-use Rattle.std.specs.Prelude.{◌≡◌, ◌≢◌, ◌⊎◌, ℕ, false, true, List, [], Option, None, Some, IfSome}
+use Rattle.std.specs.Prelude.{◌≡◌, ◌≢◌, ◌≤◌, ◌⊎◌, ℕ, false, true, List, [], Option, None, Some, IfSome}
 use Rattle.kw_base.specs.FaultLine.{line_of_fault}
 use Rattle.kw_base.specs.declared.fault.Fault.{Fault}
 use Rattle.kw_bits.specs.Faults.{Rose}
+use Rattle.koika_check.specs.BitWeights.{bit_weight}
 use Rattle.koika_check.specs.declared.checked.Checked.{Checked}
 use Rattle.one_rule.specs.Stimulus.{InputVectors}
 use Rattle.kw_bits.specs.declared.host.HostSpec.{HostSpec}
+use Rattle.koika_top.specs.Aiger.{most_bits}
 use Rattle.koika_top.specs.Answer.{IsAnswer, IsFailure, has_one_text, known_source, reads_source, status_of, text_of, usage_line}
 use Rattle.koika_top.specs.Sources.{Spells}
 use Rattle.koika_top.specs.Streams.{Gains, GainsFront, GainsNothing, Stream}
@@ -15,7 +17,7 @@ use Rattle.koika_top.specs.declared.answer.Answer.TheVariants.{Refused, Written}
 use Rattle.koika_top.specs.declared.status.Status.{Status}
 use Rattle.koika_top.specs.declared.status.Status.TheVariants.{Done, Usage, Refused as IsRefused, ReadFault, WriteFault, NoMemory}
 use Rattle.koika_top.specs.declared.words.Command.{Command}
-use Rattle.koika_top.specs.declared.words.Command.TheVariants.{Compile}
+use Rattle.koika_top.specs.declared.words.Command.TheVariants.{Aiger, Compile}
 
 -- the words, the host functions that are offered, the source, the sink, and the status
 pub record Call : Type 0 where
@@ -79,6 +81,11 @@ abbrev pub CompilesSpelled : Call → Type 0
 CompilesSpelled c =
     command_in c ≡ Some Compile → IfSome (known_in c) (λ bytes. (design : Checked) (stimulus : InputVectors) → Spells c.hosts bytes design stimulus → (c.status ≡ Done) ⊎ IsFailure c.status)
 
+-- `aiger` has status 0 for a source that spells a design with few bits and a stimulus, unless reading or writing fails or memory runs out.
+abbrev pub ConvertsSpelled : Call → Type 0
+ConvertsSpelled c =
+    command_in c ≡ Some Aiger → IfSome (known_in c) (λ bytes. (design : Checked) (stimulus : InputVectors) → Spells c.hosts bytes design stimulus → bit_weight design ≤ most_bits → (c.status ≡ Done) ⊎ IsFailure c.status)
+
 -- In all cases the first bytes of the answer's text were written, where there is one text.
 abbrev pub WritesFront : Call → Type 0
 WritesFront c = has_one_text (command_in c) ≡ true → IfSome (known_in c) (λ bytes. (answer : Answer) → IsAnswerTo c bytes answer → GainsFront c.sink (text_of answer))
@@ -111,6 +118,7 @@ pub record IsKept (untouched : Type 0) (c : Call) : Type 0 where
   pub refused_line : WritesFaultLine c
   pub exact : HasStatusOfAnswer c
   pub compiles : CompilesSpelled c
+  pub converts : ConvertsSpelled c
   pub front : WritesFront c
   pub some : WritesSomeFront c
   pub read_fault : CountsReadFault c

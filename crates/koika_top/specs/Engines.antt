@@ -5,6 +5,8 @@ use Rattle.one_rule.specs.Run.{run_of}
 use Rattle.one_rule.specs.Stimulus.{InputVectors, inputs_of}
 use Rattle.one_rule.specs.declared.rows.Row.{Row}
 use Rattle.typed_core.specs.declared.design.Parts.{Parts}
+use Rattle.aig_blast.specs.Aigs as aigs
+use Rattle.aig_blast.specs.AigSims as aig_sims
 use Rattle.circuit_eval.specs.Circuits.{input_widths}
 use Rattle.circuit_eval.specs.Simulations.{Simulation, after_steps, beginning}
 
@@ -22,3 +24,8 @@ pub record HasRun (design : Parts) (stimulus : InputVectors) (cycle : ℕ) (last
 pub record StandsAfter (sim : Simulation) (stimulus : InputVectors) (cycle : ℕ) : Type 0 where
   pub steps : sim ≡ after_steps (inputs_of stimulus) cycle 0 (beginning sim.circuit)
   pub widths : stimulus.widths ≡ input_widths sim.circuit.inputs
+
+-- a bit-level circuit has run on a stimulus for its inputs up to this cycle
+pub record AigStandsAfter (sim : aig_sims.Simulation) (stimulus : InputVectors) (cycle : ℕ) : Type 0 where
+  pub steps : sim ≡ aig_sims.after_steps (inputs_of stimulus) cycle 0 (aig_sims.beginning sim.aig)
+  pub widths : stimulus.widths ≡ aigs.input_widths sim.aig.inputs

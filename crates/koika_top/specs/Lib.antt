@@ -11,6 +11,8 @@ pub mod Btorsim
 pub mod CircuitRuns
 pub mod Engines
 pub mod Compile
+pub mod Aiger
+pub mod Aigsim
 pub mod PlainNames
 pub mod Wired
 pub mod Streams

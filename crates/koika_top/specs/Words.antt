@@ -8,7 +8,7 @@ use Rattle.koika_top.specs.declared.engine_kind.EngineKind.TheVariants.{Plain, C
 use Rattle.koika_top.specs.declared.shown.Shown.{Shown}
 use Rattle.koika_top.specs.declared.shown.Shown.TheVariants.{Report, Summary}
 use Rattle.koika_top.specs.declared.words.Command.{Command}
-use Rattle.koika_top.specs.declared.words.Command.TheVariants.{Check, Print, Sim, Compile, Btorsim, Gen}
+use Rattle.koika_top.specs.declared.words.Command.TheVariants.{Check, Print, Sim, Compile, Btorsim, Gen, Aiger, Aigsim}
 use Rattle.koika_top.specs.declared.words.Options.{Options}
 
 -- the number that decimal digits write
@@ -111,6 +111,15 @@ abbrev pub btorsim_of : Option Options → Option Command
 btorsim_of None = None
 btorsim_of (Some options) = btorsim_by options.cycles options.shown options.engine options.workers
 
+-- `aigsim` with options, as `btorsim`
+abbrev pub aigsim_by : Option ℕ → Shown → Option EngineKind → Option ℕ → Option Command
+aigsim_by (Some cycles) shown None None = Some (Aigsim cycles shown)
+aigsim_by cycles shown engine workers = None
+
+abbrev pub aigsim_of : Option Options → Option Command
+aigsim_of None = None
+aigsim_of (Some options) = aigsim_by options.cycles options.shown options.engine options.workers
+
 -- `gen` with a number of stages from 1 to 100
 abbrev pub gen_by : Option ℕ → Option Command
 gen_by None = None
@@ -135,6 +144,8 @@ command_of (word ∷ rest) =
     else if bytes_eq word (codes "btorsim") then btorsim_of (options_of rest)
     else if bytes_eq word (codes "compile") then alone_of Compile rest
     else if bytes_eq word (codes "gen") then gen_of rest
+    else if bytes_eq word (codes "aiger") then alone_of Aiger rest
+    else if bytes_eq word (codes "aigsim") then aigsim_of (options_of rest)
     else None
 
 -- whether a word, and whether one of the words, asks for workers

@@ -198,10 +198,8 @@ fn run_of(
     })
 }
 
-// The fault of a run that is longer than runs may be.
-fn fits(cycles: u32, shape: &Shape) -> Result<(), Refusal>
-    requires registers { length shape.now.registers < 2 ^ 32 }
-    requires rules { length shape.now.rules < 2 ^ 32 }
+/// The fault of a run that is longer than runs may be.
+pub(crate) fn fits(cycles: u32, shape: &Shape) -> Result<(), Refusal>
     ensures within { OnOk result (lengths.is_too_long cycles (length shape.now.registers) (length shape.now.rules) ≡ false) }
     ensures refused { IfFault result (λ fault. (fault ≡ fault_of_source 45)
         × (lengths.is_too_long cycles (length shape.now.registers) (length shape.now.rules) ≡ true)) }

@@ -4,6 +4,7 @@ ghost use Rattle.std.specs.Prelude.{◌≡◌, ◌≤◌, ◌⊎◌, All, ℕ, L
 ghost use Rattle.kw_bits.specs.Host.{TakesWidth};
 ghost use Rattle.kw_bits.specs.declared.host.HostSpec.{HostSpec};
 ghost use Rattle.kw_base.specs.declared.fault.Fault.{Fault};
+ghost use Rattle.koika_check.specs.BitWeights.{bit_weight};
 ghost use Rattle.koika_check.specs.declared.checked.Checked.{Checked};
 ghost use Rattle.koika_print.specs.Printed.{printed};
 ghost use Rattle.koika_syntax.specs.Grammar.{Derives, tree_leaves};
@@ -16,6 +17,8 @@ ghost use Rattle.koika_top.specs.declared.answer.Answer.TheVariants.{Refused};
 ghost use Rattle.koika_top.specs.declared.shown.Shown.{Shown};
 ghost use Rattle.koika_top.specs.Answer.{IsAnswer, IsLikeAnswer, IsSameAnswer, has_one_text};
 ghost use Rattle.koika_top.specs.Btorsim.{AnswersBtorsim};
+ghost use Rattle.koika_top.specs.Aiger.{AnswersAiger, AnswersRows, IsConvertedOf, most_bits};
+ghost use Rattle.koika_top.specs.Aigsim.{AnswersAigsim};
 ghost use Rattle.koika_top.specs.Compile.{AnswersCompile, IsCompiledOf};
 ghost use Rattle.koika_top.specs.Generator.{pipeline};
 ghost use Rattle.koika_top.specs.Numbers.{AreFaultNumbers, AreLimits};
@@ -23,7 +26,8 @@ ghost use Rattle.koika_top.specs.Sim.{AnswersSim};
 ghost use Rattle.koika_top.specs.Sources.{Spells};
 ghost use Rattle.koika_top.specs.Words.{command_of};
 
-/// Arguments and a source have one answer at most, where the same host functions are handed in, but for `compile`.
+/// Arguments and a source have one answer at most, where the same host functions are handed in, but for `compile` and
+/// `aiger`.
 pub fn one_answer()
     ensures { (hosts : List HostSpec) (words : List (List ℕ)) (source : List ℕ) (a b : Answer) →
         has_one_text (command_of words) ≡ true →
@@ -36,7 +40,7 @@ pub fn one_status()
         IsAnswer hosts words source a → IsAnswer hosts words source b → IsLikeAnswer a b }
 {}
 
-/// Arguments and a source have an answer, but for `compile`.
+/// Arguments and a source have an answer, but for `compile` and `aiger`.
 pub fn some_answer()
     ensures { (hosts : List HostSpec) (words : List (List ℕ)) (source : List ℕ) →
         has_one_text (command_of words) ≡ true →
@@ -57,12 +61,36 @@ pub fn spelled_or_refused()
         Spells hosts source design stimulus → AnswersCompile hosts source (Refused fault) → ⊥ }
 {}
 
+/// `aiger` refuses a source, or the source spells a design with few bits and a stimulus for it.
+pub fn some_aig()
+    ensures { (hosts : List HostSpec) (source : List ℕ) →
+        ((fault : Fault) × AnswersAiger hosts source (Refused fault))
+        ⊎ ((design : Checked) × (stimulus : InputVectors) × Spells hosts source design stimulus
+        × (bit_weight design ≤ most_bits)) }
+{}
+
+/// No source both spells a design with few bits and a stimulus and is refused by `aiger`.
+pub fn light_or_refused()
+    ensures { (hosts : List HostSpec) (source : List ℕ) (design : Checked) (stimulus : InputVectors)
+        (fault : Fault) →
+        Spells hosts source design stimulus → bit_weight design ≤ most_bits →
+        AnswersAiger hosts source (Refused fault) → ⊥ }
+{}
+
 /// `btorsim` answers to what `compile` writes of a source, with the source's stimulus, what `sim` answers to the
 /// source. Host functions that are offered take operands of their width, as each `HostFn` does.
 pub fn compiled_runs_the_same()
     ensures { (hosts : List HostSpec) (source other : List ℕ) (cycles : ℕ) (shown : Shown) (answer : Answer) →
         All (λ (host : HostSpec). TakesWidth host.kind host.in_width) hosts → IsCompiledOf hosts source other →
         AnswersSim hosts cycles shown source answer → AnswersBtorsim cycles shown other answer }
+{}
+
+/// `aigsim` answers to what `aiger` writes of a source, with the source's stimulus, what `sim` answers to the source, but for
+/// the lines of violated assertions. Host functions that are offered take operands of their width, as each `HostFn` does.
+pub fn converted_runs_the_same()
+    ensures { (hosts : List HostSpec) (source other : List ℕ) (cycles : ℕ) (shown : Shown) (answer : Answer) →
+        All (λ (host : HostSpec). TakesWidth host.kind host.in_width) hosts → IsConvertedOf hosts source other →
+        AnswersRows hosts cycles shown source answer → AnswersAigsim cycles shown other answer }
 {}
 
 /// The text of `gen` is the printed text of each tree that derives its tokens.

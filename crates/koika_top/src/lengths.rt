@@ -1,6 +1,6 @@
 //! Program: the limits on runs.
 
-ghost use Rattle.std.specs.Prelude.{◌≡◌, ◌<◌, ◌^◌};
+ghost use Rattle.std.specs.Prelude.{◌≡◌};
 ghost use Rattle.koika_top.specs.Lengths.{is_too_long};
 
 // A run may have this many cycles, and this many register values and rule flags in the cycles of a batch.
@@ -13,10 +13,10 @@ pub(crate) const BATCH: u32 = 256;
 
 /// Whether a run for these cycles, of a system with that many registers and rules, is longer than runs may be.
 pub(crate) fn is_too_long(cycles: u32, registers: usize, rules: usize) -> bool
-    requires registers { registers < 2 ^ 32 }
-    requires rules { rules < 2 ^ 32 }
     ensures { result ≡ is_too_long cycles registers rules }
 {
     let kept = cycles.min(BATCH) as usize;
-    cycles > MOST_CYCLES || kept * registers > MOST_VALUES || kept * rules > MOST_VALUES
+    cycles > MOST_CYCLES
+        || kept.saturating_mul(registers) > MOST_VALUES
+        || kept.saturating_mul(rules) > MOST_VALUES
 }

@@ -5,6 +5,9 @@
 //! The program's `main` calls `run`.
 #![tactic(auto)]
 
+mod aig_engine;
+mod aig_run;
+mod aiger;
 mod answer;
 mod circuit_engine;
 mod circuit_read;
@@ -39,8 +42,8 @@ pub use answer::Answer;
 pub use circuit_shapes::circuit_shape;
 pub use engine_kind::EngineKind;
 pub use laws::{
-    compiled_runs_the_same, generated_as_printed, numbers, one_answer, one_status, some_answer,
-    some_circuit, spelled_or_refused,
+    compiled_runs_the_same, converted_runs_the_same, generated_as_printed, light_or_refused,
+    numbers, one_answer, one_status, some_aig, some_answer, some_circuit, spelled_or_refused,
 };
 pub use program::{run, run_here};
 pub use shown::Shown;

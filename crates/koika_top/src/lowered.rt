@@ -10,6 +10,7 @@ ghost use Rattle.koika_lower.specs.Lowering.{IsLowered, input_widths};
 ghost use Rattle.one_rule.specs.Externs.{kept};
 ghost use Rattle.one_rule.specs.Hosts.{host_specs};
 ghost use Rattle.typed_core.specs.Valid.{externs_of};
+ghost use Rattle.koika_top.specs.Aiger.{IsAigOf};
 ghost use Rattle.koika_top.specs.Compile.{AreCircuitOf};
 ghost use Rattle.koika_top.specs.PlainNames.{HasPlainNames};
 ghost use Rattle.koika_top.specs.Sources.{shape_of};
@@ -17,6 +18,7 @@ ghost use Rattle.koika_top.specs.Wired.{IsWiredAs};
 
 use crate::recall::is_valid;
 use crate::source::Spelled;
+use aig_blast::{Aig, blast};
 use btor2_net::to_lines;
 use btor2_text::Lines;
 use circuit_eval::Circuit;
@@ -83,6 +85,15 @@ impl Lowered {
     {
         let circuit = self.circuit(alloc)?;
         circuit_lines(alloc, &self.checked, &circuit)
+    }
+
+    /// The bit-level circuit of the design.
+    pub(crate) fn aig(&self, alloc: Global) -> Result<Aig, NoMemory>
+        ensures { IfOk result (IsAigOf self.now.checked) }
+    {
+        let circuit = self.circuit(alloc)?;
+        let aig = blast(alloc, &circuit)?;
+        Ok(aig)
     }
 
     // The circuit of the design, made simple.

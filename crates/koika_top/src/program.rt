@@ -3,9 +3,10 @@
 ghost use Rattle.std.specs.Prelude.{◌≡◌, ◌≤◌, List, [], ℕ, Some, false, true, IfSome, map, string_bytes, length};
 ghost use Rattle.kw_bits.specs.Faults.{Rose};
 ghost use Rattle.one_rule.specs.Hosts.{host_specs};
+ghost use Rattle.koika_top.specs.Aigsim.{AnswersAigsim};
 ghost use Rattle.koika_top.specs.Answer.{Answers, is_of_source, longest_of};
 ghost use Rattle.koika_top.specs.Btorsim.{AnswersBtorsim, longest_circuit};
-ghost use Rattle.koika_top.specs.Calls.{CompilesSpelled, CountsReadFault, CountsWriteFault, HasStatusOfAnswer, IsKept, LeavesUnread, ReadsAll, RejectsWords, WritesFaultLine, WritesFront, WritesNothing, WritesRefusal, WritesSomeFront, WritesText, WritesUsage, WritesUsageFront, call};
+ghost use Rattle.koika_top.specs.Calls.{CompilesSpelled, ConvertsSpelled, CountsReadFault, CountsWriteFault, HasStatusOfAnswer, IsKept, LeavesUnread, ReadsAll, RejectsWords, WritesFaultLine, WritesFront, WritesNothing, WritesRefusal, WritesSomeFront, WritesText, WritesUsage, WritesUsageFront, call};
 ghost use Rattle.koika_top.specs.Generator.{pipeline};
 ghost use Rattle.koika_top.specs.Sim.{AnswersSim};
 ghost use Rattle.koika_top.specs.Sources.{longest_source};
@@ -14,6 +15,8 @@ ghost use Rattle.koika_top.specs.Streams.{stream};
 ghost use Rattle.koika_top.specs.Told.{Tells};
 ghost use Rattle.koika_top.specs.Words.{asks_workers};
 
+use crate::aig_run::AigRun;
+use crate::aiger::convert_source;
 use crate::answer::{Answer, write_answer, write_made, write_refusal};
 use crate::circuit_run::CircuitRun;
 use crate::compile::compile_source;
@@ -77,6 +80,8 @@ pub fn run<S: Source, K: Sink, R: Threads + Wait + Sync>(
         (stream S.left S.faults source.old source.new) (stream K.written K.faults sink.old sink.new) result) }
     ensures compiles { CompilesSpelled (call (map string_bytes words.now) (host_specs hosts.now)
         (stream S.left S.faults source.old source.new) (stream K.written K.faults sink.old sink.new) result) }
+    ensures converts { ConvertsSpelled (call (map string_bytes words.now) (host_specs hosts.now)
+        (stream S.left S.faults source.old source.new) (stream K.written K.faults sink.old sink.new) result) }
     ensures front { WritesFront (call (map string_bytes words.now) (host_specs hosts.now)
         (stream S.left S.faults source.old source.new) (stream K.written K.faults sink.old sink.new) result) }
     ensures some { WritesSomeFront (call (map string_bytes words.now) (host_specs hosts.now)
@@ -133,6 +138,8 @@ pub fn run_here<S: Source, K: Sink>(
     ensures exact { HasStatusOfAnswer (call (map string_bytes words.now) (host_specs hosts.now)
         (stream S.left S.faults source.old source.new) (stream K.written K.faults sink.old sink.new) result) }
     ensures compiles { CompilesSpelled (call (map string_bytes words.now) (host_specs hosts.now)
+        (stream S.left S.faults source.old source.new) (stream K.written K.faults sink.old sink.new) result) }
+    ensures converts { ConvertsSpelled (call (map string_bytes words.now) (host_specs hosts.now)
         (stream S.left S.faults source.old source.new) (stream K.written K.faults sink.old sink.new) result) }
     ensures front { WritesFront (call (map string_bytes words.now) (host_specs hosts.now)
         (stream S.left S.faults source.old source.new) (stream K.written K.faults sink.old sink.new) result) }
@@ -235,6 +242,8 @@ fn answer_bytes<K: Sink, C: Crew>(
         Command::Btorsim { cycles, shown } => simulate_circuit(alloc, cycles, shown, source, sink),
         Command::Compile => write_made(alloc, compile_source(alloc, hosts, source), sink),
         Command::Gen { stages } => write_made(alloc, generate(alloc, stages), sink),
+        Command::Aiger => write_made(alloc, convert_source(alloc, hosts, source), sink),
+        Command::Aigsim { cycles, shown } => simulate_bits(alloc, cycles, shown, source, sink),
     }
 }
 
@@ -281,6 +290,23 @@ fn simulate_circuit<K: Sink>(
     ensures { Tells (AnswersBtorsim cycles shown source.now) (stream K.written K.faults sink.old sink.new) result }
 {
     match CircuitRun::read(alloc, cycles, shown, source) {
+        Ok(run) => status_by(run.write(alloc, sink), Status::Done),
+        Err(refusal) => write_refusal(alloc, refusal, sink),
+    }
+}
+
+// Runs the bit-level circuit of a source and writes what is shown of the run, or the line of the source's fault.
+fn simulate_bits<K: Sink>(
+    alloc: Global,
+    cycles: u32,
+    shown: Shown,
+    source: &[u8],
+    sink: &mut K,
+) -> Status
+    requires { length source.now ≤ longest_circuit }
+    ensures { Tells (AnswersAigsim cycles shown source.now) (stream K.written K.faults sink.old sink.new) result }
+{
+    match AigRun::read(alloc, cycles, shown, source) {
         Ok(run) => status_by(run.write(alloc, sink), Status::Done),
         Err(refusal) => write_refusal(alloc, refusal, sink),
     }

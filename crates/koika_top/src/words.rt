@@ -5,7 +5,7 @@ ghost use Rattle.std.specs.List.{list_all};
 ghost use Rattle.std.specs.Char.{IsAsciiDigit, is_ascii_digit};
 ghost use Rattle.koika_top.specs.Steps.{HasFewWorkers, IsInRange};
 ghost use Rattle.koika_top.specs.Answer.{is_of_source, longest_of};
-ghost use Rattle.koika_top.specs.Words.{alone_of, are_few_digits, asks_workers, btorsim_of, by_workers, command_of, engine_by, engine_of, gen_by, gen_of, is_of_workers, number_of, options_of, sim_of, value_of, with_cycles, with_engine, with_summary, with_word, with_workers};
+ghost use Rattle.koika_top.specs.Words.{aigsim_of, alone_of, are_few_digits, asks_workers, btorsim_of, by_workers, command_of, engine_by, engine_of, gen_by, gen_of, is_of_workers, number_of, options_of, sim_of, value_of, with_cycles, with_engine, with_summary, with_word, with_workers};
 
 use crate::engine_kind::EngineKind;
 use crate::given::{read_options, read_stages};
@@ -37,6 +37,13 @@ pub enum Command {
     Gen {
         stages: u32,
     },
+    /// The bit-level circuit of the source's design.
+    Aiger,
+    /// A run of the source's bit-level circuit for that many cycles.
+    Aigsim {
+        cycles: u32,
+        shown: Shown,
+    },
 }
 
 impl Command {
@@ -52,7 +59,7 @@ impl Command {
         ensures { result ≡ longest_of self }
     {
         match self {
-            Command::Btorsim { .. } => LONGEST_CIRCUIT,
+            Command::Btorsim { .. } | Command::Aigsim { .. } => LONGEST_CIRCUIT,
             _ => LONGEST_SOURCE,
         }
     }
@@ -95,6 +102,8 @@ pub(crate) fn command_of(alloc: Global, words: &[String]) -> Result<Option<Comma
             Ok(alone_of(Command::Compile, rest))
         }
         [command, stages @ ..] if command.as_str() == "gen" => gen_of(alloc, stages),
+        [command, rest @ ..] if command.as_str() == "aiger" => Ok(alone_of(Command::Aiger, rest)),
+        [command, options @ ..] if command.as_str() == "aigsim" => aigsim_of(alloc, options),
         _ => Ok(None),
     }
 }
@@ -177,6 +186,31 @@ fn btorsim_by(options: Option<Options>) -> Option<Command>
         return None;
     }
     Some(Command::Btorsim {
+        cycles: options.cycles?,
+        shown: options.shown,
+    })
+}
+
+fn aigsim_of(alloc: Global, words: &[String]) -> Result<Option<Command>, NoMemory>
+    ensures command { IfOk result (λ command. command ≡ aigsim_of (options_of (map string_bytes words.now))) }
+    ensures few { IfOk result (λ command. IfSome command IsInRange) }
+{
+    if aigsim_by(few_options_of(words)).is_none() {
+        return Ok(None);
+    }
+    Ok(aigsim_by(Some(read_options(alloc, "aigsim", words)?)))
+}
+
+// The run of a bit-level circuit with options, if they are valid: it takes neither an engine nor workers.
+fn aigsim_by(options: Option<Options>) -> Option<Command>
+    ensures command { result ≡ aigsim_of options }
+    ensures few { IfSome result IsInRange }
+{
+    let options = options?;
+    if options.engine.is_some() || options.workers.is_some() {
+        return None;
+    }
+    Some(Command::Aigsim {
         cycles: options.cycles?,
         shown: options.shown,
     })

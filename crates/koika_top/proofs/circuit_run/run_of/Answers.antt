@@ -6,7 +6,7 @@ use Rattle.circuit_eval.specs.declared.circuit.Wires.{Wires}
 use Rattle.stim_report.specs.Shapes.{widths_of}
 use Rattle.stim_report.specs.declared.shape.Shape.{Shape}
 use Rattle.typed_core.specs.Valid.{IsWidth}
-use Rattle.koika_top.proofs.CircuitTexts.{bad-names, bad-widths, fault-of-part, few-cycles, few-inputs, few-names, few-registers, few-rules, given-to, long-as, stimulus-fits}
+use Rattle.koika_top.proofs.CircuitTexts.{bad-names, bad-widths, fault-of-part, few-cycles, few-inputs, few-names, given-to, long-as, stimulus-fits}
 use Rattle.koika_top.proofs.Shapes.{shape-of-text, widths-valid}
 use Rattle.koika_top.proofs.circuit_run.run_of.Goals as goal
 
@@ -23,14 +23,6 @@ read_stimulus-requires-clause-few c =
 pub read_stimulus-requires-clause-widths : goal.read_stimulus-requires-clause-widths
 read_stimulus-requires-clause-widths c =
     subst (λ (s : Shape). All IsWidth (widths_of s.inputs)) (sym c.in_ok-shape.ensures) (widths-valid c.in_ok-circuit.circuit.inputs c.has_valid_wires.ensures.inputs)
-
-pub fits-requires-clause-registers : goal.fits-requires-clause-registers
-fits-requires-clause-registers c =
-    few-registers c.args.text.now c.in_ok-shape.shape c.requires.few (c.in_ok-shape.ensures ∙ shape-of-text c.args.text.now c.in_ok-circuit.circuit c.in_ok-circuit.ensures.lines)
-
-pub fits-requires-clause-rules : goal.fits-requires-clause-rules
-fits-requires-clause-rules c =
-    few-rules c.args.text.now c.in_ok-shape.shape c.requires.few (c.in_ok-shape.ensures ∙ shape-of-text c.args.text.now c.in_ok-circuit.circuit c.in_ok-circuit.ensures.lines)
 
 pub violations_of-requires : goal.violations_of-requires
 violations_of-requires c = c.requires.few

@@ -1,7 +1,7 @@
 use Rattle.one_rule.specs.Hosts.{host_specs}
 use Rattle.koika_top.specs.Answer.{Answers}
-use Rattle.koika_top.specs.declared.words.Command.TheVariants.{Check, Compile, Gen, Print}
-use Rattle.koika_top.proofs.Reading.{makes-check, makes-compile, makes-print}
+use Rattle.koika_top.specs.declared.words.Command.TheVariants.{Aiger, Check, Compile, Gen, Print}
+use Rattle.koika_top.proofs.Reading.{makes-aiger, makes-check, makes-compile, makes-print}
 use Rattle.koika_top.proofs.Told.{tells-made}
 use Rattle.koika_top.proofs.program.answer_bytes.Goals as goal
 
@@ -26,3 +26,9 @@ returns-in-Compile g c =
     rw c.in-Compile.is
     (tells-made (Answers (host_specs c.args.hosts.now) Compile c.args.source.now) c.compile_source.result
     (makes-compile (host_specs c.args.hosts.now) c.args.source.now c.compile_source.result c.compile_source.ensures.text c.compile_source.ensures.refused) _ _ c.write_made-in-Compile.ensures)
+
+pub returns-in-Aiger : goal.returns-in-Aiger
+returns-in-Aiger g c =
+    rw c.in-Aiger.is
+    (tells-made (Answers (host_specs c.args.hosts.now) Aiger c.args.source.now) c.convert_source.result
+    (makes-aiger (host_specs c.args.hosts.now) c.args.source.now c.convert_source.result c.convert_source.ensures.text c.convert_source.ensures.refused) _ _ c.write_made-in-Aiger.ensures)

@@ -1,0 +1,104 @@
+-- `aigsim` answers to the AIGER text of a source, with the source's stimulus, the run that `sim` answers to the source.
+use Rattle.std.proofs.Common.{◌≡◌, ℕ, ◌≤◌, All, List, length, refl, sym, ap, ap₂, subst, ◌∙◌, inl, inr}
+use Rattle.std.proofs.lemmas.List.{length-map}
+use Rattle.kw_bits.specs.Host.{TakesWidth}
+use Rattle.kw_bits.specs.declared.host.HostSpec.{HostSpec}
+use Rattle.aig_blast.specs.Aigs.{AigParts}
+use Rattle.aig_blast.specs.declared.aig.InputWord.{InputWord}
+use Rattle.aig_blast.specs.declared.aig.LatchWord.{LatchWord}
+use Rattle.aig_blast.specs.declared.aig.OutputBit.{OutputBit}
+use Rattle.aiger_text.specs.AigShapes as shapes
+use Rattle.aiger_text.specs.Reading.{aig_of}
+use Rattle.koika_check.proofs.TypedTrees.{typed-design}
+use Rattle.koika_check.specs.declared.checked.Checked.{Checked}
+use Rattle.koika_check.specs.declared.checked.Input.{Input}
+use Rattle.koika_check.specs.declared.checked.Register.{Register}
+use Rattle.one_rule.specs.Stimulus.{InputVectors, inputs_of}
+use Rattle.stim_report.specs.Cuts.{parts_of}
+use Rattle.stim_report.specs.Stimuli.{stimulus_of}
+use Rattle.stim_report.specs.declared.shape.NameWidth.{NameWidth}
+use Rattle.stim_report.specs.declared.shape.Shape.{Shape}
+use Rattle.koika_top.specs.Aiger.{AnswersRows, IsAigOf, ShowsAig}
+use Rattle.koika_top.specs.Aigsim as bits
+use Rattle.koika_top.specs.Aigsim.{AnswersAigsim, HoldsAig, HoldsRun}
+use Rattle.koika_top.specs.Btorsim.{longest_circuit}
+use Rattle.koika_top.specs.Compile.{IsStimulusFor}
+use Rattle.koika_top.specs.Lengths as lengths
+use Rattle.koika_top.specs.Sim as design
+use Rattle.koika_top.specs.Sim.{rows_text}
+use Rattle.koika_top.specs.Sources as sources
+use Rattle.koika_top.specs.Sources.{Spells}
+use Rattle.koika_top.specs.Systems as typed
+use Rattle.koika_top.specs.declared.answer.Answer.{Answer}
+use Rattle.koika_top.specs.declared.answer.Answer.TheVariants.{Usage, Refused, Written}
+use Rattle.koika_top.specs.declared.shown.Shown.{Shown}
+use Rattle.koika_top.proofs.OneAnswer.{long_or_spelled, same_design, spelled_or_not}
+use Rattle.koika_top.proofs.Reading.{stimulus-fits, widths-valid}
+use Rattle.koika_top.proofs.Shapes.{both-agree}
+use Rattle.koika_top.proofs.StimuliFit.{stimulus-always, stimulus-free}
+
+module _ (d : Checked) (aig : AigParts) (are : IsAigOf d aig) where
+  -- what texts tell of the bit-level circuit is what they tell of the design
+  shape-same : shapes.shape_of aig ≡ sources.shape_of d
+  shape-same =
+      let inputs = both-agree (λ (w : InputWord). w.name) (λ (w : InputWord). w.width) (λ (i : Input). i.name) (λ (i : Input). i.width) aig.inputs d.inputs are.inputs are.input_widths in
+      let registers = both-agree (λ (w : LatchWord). w.name) (λ (w : LatchWord). w.first.width) (λ (r : Register). r.name) (λ (r : Register). r.width) aig.latches d.registers are.latches are.latch_widths in
+      let shape : List NameWidth → List NameWidth → List (List ℕ) → Shape = λ is rs names. record { inputs = is; registers = rs; rules = names } in
+      λ i. shape (inputs i) (registers i) (are.outputs i)
+
+  long-same : (cycles : ℕ) → bits.is_too_long cycles aig ≡ design.is_too_long cycles d
+  long-same cycles =
+      let latches : length aig.latches ≡ length d.registers =
+      sym (length-map aig.latches (λ (w : LatchWord). w.name)) ∙ ap length are.latches ∙ length-map d.registers (λ (r : Register). r.name)
+      in
+      let outputs : length aig.outputs ≡ length d.rules =
+      sym (length-map aig.outputs (λ (output : OutputBit). output.name)) ∙ ap length are.outputs ∙ length-map d.rules sources.name_of
+      in
+      ap₂ (lengths.is_too_long cycles) latches outputs
+
+  shown-same : (stimulus : InputVectors) → IsStimulusFor d stimulus → (n : ℕ) (shown : Shown)
+      → bits.shown_run shown aig stimulus n ≡ rows_text shown (sources.shape_of d) (typed.run_of d (inputs_of stimulus) n)
+  shown-same stimulus fits n shown = λ i. rows_text shown (shape-same i) (are.run stimulus n fits i)
+
+module _ (hosts : List HostSpec) (offered : All (λ (h : HostSpec). TakesWidth h.kind h.in_width) hosts) (source converted other : List ℕ) (h : ShowsAig hosts source converted)
+    (front : (parts_of other).design ≡ converted) (after : (parts_of other).stimulus ≡ (parts_of source).stimulus) (short : length other ≤ longest_circuit) where
+  holds-aig : HoldsAig other h.aig
+  holds-aig = record { short = short; read = ap aig_of front ∙ h.read }
+
+  module _ (d : Checked) (stimulus : InputVectors) (spelled : Spells hosts source d stimulus) where
+    circuit : IsAigOf d h.aig
+    circuit = subst (λ (x : Checked). IsAigOf x h.aig) (same_design hosts source h.design d h.spelled.spelled spelled.spelled) h.circuit
+
+    holds-run : HoldsRun other h.aig stimulus
+    holds-run = record {
+      holds = holds-aig;
+      given =
+          (λ i. stimulus_of (shape-same d h.aig circuit i) (parts_of other).first_line (after i))
+          ∙ stimulus-free (sources.shape_of d) (parts_of source).first_line (parts_of other).first_line (parts_of source).stimulus stimulus spelled.given;
+    }
+
+    fits : IsStimulusFor d stimulus
+    fits =
+        let tree = spelled.spelled.tree in
+        let well = typed-design hosts tree d offered spelled.spelled.spelled.derived.design spelled.spelled.typed in
+        let all = widths-valid d (sources.shape_of d) well refl in
+        record {
+          widths = stimulus-fits d (sources.shape_of d) (parts_of source).first_line (parts_of source).stimulus stimulus refl spelled.given;
+          fits = stimulus-always (sources.shape_of d) (parts_of source).first_line (parts_of source).stimulus stimulus all spelled.given;
+        }
+
+  pub runs-the-same : (cycles : ℕ) (shown : Shown) (answer : Answer) → AnswersRows hosts cycles shown source answer → AnswersAigsim cycles shown other answer
+  runs-the-same cycles shown Usage is = is
+  runs-the-same cycles shown (Refused fault) (inl long) = absurd (long_or_spelled hosts source fault h.design long h.spelled.spelled)
+  runs-the-same cycles shown (Refused fault) (inr (inl wrong)) = absurd (spelled_or_not hosts source fault h.design h.stimulus wrong h.spelled)
+  runs-the-same cycles shown (Refused fault) (inr (inr (e, (d, stimulus, spelled, long)))) =
+      inr (inr (inr (e, (h.aig, stimulus, holds-run d stimulus spelled, long-same d h.aig (circuit d stimulus spelled) cycles ∙ long))))
+  runs-the-same cycles shown (Written report) shows =
+      let mine = circuit shows.design shows.stimulus shows.spelled in
+      record {
+        aig = h.aig;
+        stimulus = shows.stimulus;
+        holds = holds-run shows.design shows.stimulus shows.spelled;
+        within = long-same shows.design h.aig mine cycles ∙ shows.within;
+        told = shows.told ∙ sym (shown-same shows.design h.aig mine shows.stimulus (fits shows.design shows.stimulus shows.spelled) cycles shown);
+      }

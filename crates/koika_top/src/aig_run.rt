@@ -1,0 +1,141 @@
+//! Engines: the run of an AIGER text that `aigsim` asks for.
+
+ghost use Rattle.std.specs.Prelude.{◌≡◌, ◌≤◌, ◌<◌, ◌^◌, ◌⊎◌, [], IfOk, OnOk, false, true, length};
+ghost use Rattle.kw_base.specs.Fault.{IfFault};
+ghost use Rattle.aig_blast.specs.AigRun as bits;
+ghost use Rattle.aig_blast.specs.Aigs.{input_widths};
+ghost use Rattle.aiger_text.specs.AigShapes as shapes;
+ghost use Rattle.one_rule.specs.Stimulus.{inputs_of};
+ghost use Rattle.stim_report.specs.Cuts.{parts_of};
+ghost use Rattle.koika_top.specs.Aigsim.{HasNoAig, HasNoStimulus, HoldsAig, HoldsRun, IsRefusal, RunsTooLong, is_too_long, shown_run};
+ghost use Rattle.koika_top.specs.Btorsim.{longest_circuit};
+ghost use Rattle.koika_top.specs.Streams.{stream};
+ghost use Rattle.koika_top.specs.Telling.{HasRows, all_told, marks_in, shown_by};
+ghost use Rattle.koika_top.specs.Told.{Told};
+
+use crate::aig_engine::AigEngine;
+use crate::circuit_run::fits;
+use crate::recall::has_valid_parts;
+use crate::shown::Shown;
+use crate::tell::tell;
+use crate::teller::Teller;
+use crate::untold::Untold;
+use aig_blast::Aig;
+use aiger_text::{aig_shape, read_aiger};
+use attempt_log::NoGate;
+use koika_assert::Watch;
+use kw_base::Refusal;
+use kw_bits::Sequence;
+use kw_io::Sink;
+use one_rule::Stimulus;
+use std::alloc::Global;
+use stim_report::{Shape, SourceParts, read_stimulus, source_parts};
+
+/// The run of an AIGER text that is asked for: its bit-level circuit, the stimulus, for how many cycles, and what is
+/// shown of it.
+#[derive(Drop)]
+pub(crate) struct AigRun {
+    pub(crate) aig: Aig,
+    pub(crate) stimulus: Stimulus,
+    pub(crate) shape: Shape,
+    pub(crate) cycles: u32,
+    pub(crate) shown: Shown,
+    ghost shape_fits: { shape ≡ shapes.shape_of aig },
+    ghost stimulus_fits: { stimulus.widths ≡ input_widths aig.inputs },
+    ghost few_cycles: { cycles ≤ 16777216 },
+}
+
+impl AigRun {
+    /// The run of the text that a source holds, or the fault with which the source is refused.
+    pub(crate) fn read(
+        alloc: Global,
+        cycles: u32,
+        shown: Shown,
+        source: &[u8],
+    ) -> Result<AigRun, Refusal>
+        requires { length source.now ≤ longest_circuit }
+        ensures run { IfOk result (λ run. HoldsRun source.now run.aig run.stimulus) }
+        ensures within { IfOk result (λ run. is_too_long cycles run.aig ≡ false) }
+        ensures cycles { IfOk result (λ run. run.cycles ≡ cycles) }
+        ensures shown { IfOk result (λ run. run.shown ≡ shown) }
+        ensures refused { IfFault result (IsRefusal cycles source.now) }
+    {
+        let parts = source_parts(source);
+        let aig = read_aiger(alloc, parts.design)?;
+        run_of(alloc, cycles, shown, source, parts, aig)
+    }
+
+    /// Runs the circuit and writes what is shown of its rows, batch by batch.
+    pub(crate) fn write<K: Sink>(&self, alloc: Global, sink: &mut K) -> Result<(), Untold>
+        ensures { Told (shown_run self.now.shown self.now.aig self.now.stimulus self.now.cycles)
+            (stream K.written K.faults sink.old sink.new) result }
+    {
+        let none = Watch::new(alloc, Sequence::new(alloc), Sequence::new(alloc))?;
+        let teller = Teller::new(alloc, &self.shape, Some(self.shown), none)?;
+        tell_aig(
+            alloc,
+            &self.aig,
+            &self.stimulus,
+            self.cycles,
+            &self.shape,
+            teller,
+            sink,
+        )
+    }
+}
+
+// Runs a bit-level circuit for these cycles, and writes what a teller that has no rows yet tells of its rows.
+fn tell_aig<K: Sink>(
+    alloc: Global,
+    aig: &Aig,
+    stimulus: &Stimulus,
+    cycles: u32,
+    shape: &Shape,
+    teller: Teller,
+    sink: &mut K,
+) -> Result<(), Untold>
+    requires few { cycles ≤ 16777216 }
+    requires widths { stimulus.now.widths ≡ input_widths aig.now.inputs }
+    requires shape { shape.now ≡ shapes.shape_of aig.now }
+    requires none { HasRows teller shape.now (marks_in teller) [] }
+    ensures { Told (all_told (shown_by teller) shape.now (marks_in teller)
+        (bits.run_of aig.now (inputs_of stimulus.now) cycles))
+        (stream K.written K.faults sink.old sink.new) result }
+{
+    has_valid_parts(aig);
+    let mut engine = AigEngine::begin(alloc, aig, stimulus)?;
+    tell(alloc, &NoGate, &mut engine, cycles, shape, teller, sink)
+}
+
+// The run of a source's circuit, or the fault of its stimulus or of its length.
+fn run_of(
+    alloc: Global,
+    cycles: u32,
+    shown: Shown,
+    source: &[u8],
+    parts: SourceParts<'_>,
+    aig: Aig,
+) -> Result<AigRun, Refusal>
+    requires stimulus { parts.stimulus.now ≡ (parts_of source.now).stimulus }
+    requires first_line { parts.first_line ≡ (parts_of source.now).first_line }
+    requires aig { HoldsAig source.now aig }
+    requires few { length aig.inputs < 2 ^ 32 }
+    ensures run { IfOk result (λ run. HoldsRun source.now run.aig run.stimulus) }
+    ensures within { IfOk result (λ run. is_too_long cycles run.aig ≡ false) }
+    ensures cycles { IfOk result (λ run. run.cycles ≡ cycles) }
+    ensures shown { IfOk result (λ run. run.shown ≡ shown) }
+    ensures refused { IfFault result (λ fault.
+        HasNoStimulus source.now fault ⊎ RunsTooLong cycles source.now fault) }
+{
+    has_valid_parts(&aig);
+    let shape = aig_shape(alloc, &aig)?;
+    let stimulus = read_stimulus(alloc, parts.stimulus, parts.first_line, &shape)?;
+    fits(cycles, &shape)?;
+    Ok(AigRun {
+        aig,
+        stimulus,
+        shape,
+        cycles,
+        shown,
+    })
+}
