@@ -1,4 +1,4 @@
-//! Runs of designs by other engines: by their circuits, compiled and read back, and by workers.
+//! Runs of designs by other engines: by their circuits, of words and of bits, written and read back, and by workers.
 
 use crate::PIECE;
 use crate::runs::{run, words_of};
@@ -14,13 +14,37 @@ pub(crate) fn shows_the_same_run(
     options: &str,
     source: &str,
 ) -> io::Result<bool> {
+    converted_shows_the_same_run(rt, threads, "compile", "btorsim", options, source)
+}
+
+/// Whether the bit-level circuit of a source's design, written and read back, shows the same run with these options as
+/// the design.
+pub(crate) fn bits_show_the_same_run(
+    rt: &HostRuntime,
+    threads: &(impl Threads + Wait + Sync),
+    options: &str,
+    source: &str,
+) -> io::Result<bool> {
+    converted_shows_the_same_run(rt, threads, "aiger", "aigsim", options, source)
+}
+
+// Whether what one command writes of a source shows, by another command on it and the source's stimulus, the same run
+// with these options as the source's design.
+fn converted_shows_the_same_run(
+    rt: &HostRuntime,
+    threads: &(impl Threads + Wait + Sync),
+    converting: &str,
+    running: &str,
+    options: &str,
+    source: &str,
+) -> io::Result<bool> {
     let report = answer(rt, threads, "sim", options, source.as_bytes())?;
-    let mut circuit = answer(rt, threads, "compile", "", source.as_bytes())?;
+    let mut circuit = answer(rt, threads, converting, "", source.as_bytes())?;
     if let Some((_, stimulus)) = source.split_once("\n%%") {
         circuit.extend_from_slice(b"%%")?;
         circuit.extend_from_slice(stimulus.as_bytes())?;
     }
-    let read_back = answer(rt, threads, "btorsim", options, circuit.as_slice())?;
+    let read_back = answer(rt, threads, running, options, circuit.as_slice())?;
     Ok(report.as_slice() == read_back.as_slice())
 }
 

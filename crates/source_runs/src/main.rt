@@ -5,9 +5,10 @@
 //! words with ` | ` between them each reads what the ones before wrote. After `failing N` each read fails in turn, and
 //! then each write, where a call takes at most N bytes. After `seeing` each of two workers looks for the other before
 //! its first job, and whether both saw it is said. With `circuit` for a command it says whether the circuit of a file's
-//! design, compiled and read back, shows the same run with these options as the design, and with `workers K` whether K
-//! workers show it. With ` is ` between commands without a source it says whether both write the same bytes.
-//! `transcript` and a file say whether the file has what the command in its first line writes.
+//! design, compiled and read back, shows the same run with these options as the design, with `bits` whether its
+//! bit-level circuit does, and with `workers K` whether K workers show it. With ` is ` between commands without a source
+//! it says whether both write the same bytes. `transcript` and a file say whether the file has what the command in its
+//! first line writes.
 //!
 //! It stands on no definition of its own. The merge gate compares what it writes with `stdout`.
 #![tactic(auto)]
@@ -19,7 +20,7 @@ mod spelled;
 mod tables;
 mod transcripts;
 
-use crate::circuits::{shows_the_same_run, workers_show_the_same_run};
+use crate::circuits::{bits_show_the_same_run, shows_the_same_run, workers_show_the_same_run};
 use crate::flags::Flags;
 use crate::runs::{Ended, run, run_at_gate, words_of};
 use crate::spelled::spelled;
@@ -95,6 +96,10 @@ fn run_file(
             rt,
             shows_the_same_run(rt, threads, options, source.as_str())?,
         );
+    }
+    if let Some(options) = commands.strip_prefix("bits ") {
+        let same = bits_show_the_same_run(rt, threads, options, source.as_str())?;
+        return say_whether(rt, same);
     }
     if let Some(counted) = commands.strip_prefix("workers ") {
         let (count, options) = counted.split_once(' ').unwrap_or(("", ""));
