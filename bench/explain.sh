@@ -1,5 +1,5 @@
 #!/usr/bin/env bash
-# Tries what bin/explain says: for each row of docs/FAULTS.md and each example of docs/BTOR2.md, through a file and through a pipe,
+# Tries what bin/explain says: for each row of docs/FAULTS.md and docs/AIGER.md and each example of docs/BTOR2.md, through a file and a pipe,
 # standard output and the status are those of the program, and standard error has the fault, its meaning, its line with a caret, and
 # advice. The rows of "Habits" have a hint. It takes another program than the built one as its argument, and is run by hand.
 set -eu
@@ -48,7 +48,7 @@ check_said() {
     }
 }
 
-# The source that a cell of FAULTS.md stands for: `/` ends a line, and `"20 r#; "` is 20 copies, with the copy's number for `#`.
+# The source that a cell of FAULTS.md or AIGER.md stands for: `/` ends a line, and `"20 r#; "` is 20 copies, with the copy's number for `#`.
 spelled() {
     awk -v text="$1" '
         function plain(part) { gsub("/", "\n", part); printf "%s", part }
@@ -79,7 +79,7 @@ done < <(awk '
         sub(/^[^`]*`/, "", source)
         sub(/`[^`]*$/, "", source)
         if (cells[5] ~ /:/) print command "\t" cells[1] "\t" cells[5] "\t" source
-    }' docs/FAULTS.md)
+    }' docs/FAULTS.md docs/AIGER.md)
 
 # The examples of BTOR2.md, after the lines that the page has before its table.
 lines=$(awk '/^Each example follows|Each example follows the lines/ { on = 1; next } on && /^    / { print substr($0, 5) } on && /^and is refused/ { exit }' docs/BTOR2.md)
@@ -154,6 +154,12 @@ sim --cycles 1 --workers=65|1 to 64
 sim --cycles 1 --workers 2 --engine circuit|plain engine
 sim --cycles 1 --verbose|no option
 btorsim --cycles 1 --engine plain|no option
+aiger --cycles 1|no option
+aigsim|--cycles N
+aigsim --cycles x|decimal digits
+aigsim --cycles 1 --summary --summary|twice
+aigsim --cycles 1 --workers 2|no option
+aigsim design.aag|file name
 gen|missing
 gen 0|1 to 100
 gen 101|1 to 100

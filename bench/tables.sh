@@ -1,6 +1,6 @@
 #!/usr/bin/env bash
 # Makes the tables of docs/measured/ again, each by the script of its name beside this one. It takes names of tables; none
-# means all but `riscv`, which needs packages of Debian, and `gate`, which proves all from nothing. It takes an hour or
+# means all but `riscv` and `aiger`, which need packages of Debian, and `gate`, which proves all from nothing. It takes an hour or
 # more on a quiet machine.
 set -eu
 cd "$(dirname "$0")/.."

@@ -1,29 +1,92 @@
 #!/usr/bin/env bash
 # Tries the wrong implementations that no check reads, crates/NAME/wrong-bodies/*.edit, of the crates that are named, or
-# of all: the prover must refuse each. It works on a copy of the tree, where they stand in must-fail/, begins with what
-# the checks of this clone kept, and prints a table. A maintainer runs it after a change of a contract.
+# of all: the prover must refuse each. It works on a copy of the tree, where each crate is proved once and then each
+# edit's functions alone are checked again, over what that check kept. Where an edit changes something that is in no
+# function, the whole crate is checked. It prints a table, with the seconds that each check took, and ends with status 1
+# unless all are refused. A maintainer runs it after a change of a contract.
+#
+#   REFUSED      a function with the mistake isn't proved
+#   REFUSED, by names alone    it isn't, but only because a proof file names what the edit took away
+#   NOT REFUSED  all that was checked is proved all the same
+#   BAD EDIT     it doesn't fit the sources, or doesn't compile
+#   no verdict   the prover met a limit of its own, or the check took over $LIMIT seconds (900 if it isn't set)
 #
 # With --apply it proves nothing: it says, of all edits of both folders, which of them don't fit the sources any more.
 set -eu
 cd "$(dirname "$0")/.."
 
-# Whether each `old:` text of an edit is in its file once, after the pairs of texts before it.
-applies() {
-    awk -v folder="$(dirname "$1")/.." '
+# Applies an edit to the files of a folder: to what `old:` gives, once in its file, `new:`. It prints a line for each
+# change: the file, and the path of the function that it is in, `-` for an import, or nothing where it is in none. With
+# `look` for the last argument it changes no file. The status is 1 where the edit doesn't fit.
+edit() {
+    awk -v folder="$2" -v how="${3-}" '
         function count(text, part,    found, at) {
             while (at = index(text, part)) { found++; text = substr(text, at + length(part)) }
             return found + 0
         }
-        /^file: / { file = folder "/" substr($0, 7); while ((getline line <file) > 0) text = text line "\n" }
-        /^old: / { old = substr($0, 6); if (count(text, old) != 1) exit status = 1 }
-        /^new:/ { at = index(text, old); text = substr(text, 1, at - 1) substr($0, 6) substr(text, at + length(old)) }
-        END { exit status }' "$1"
+        # Reads a file, and finds the path of its module.
+        function open_file(name,    line) {
+            file = name
+            if (!(name in texts)) {
+                while ((getline line <(folder "/" name)) > 0) texts[name] = texts[name] line "\n"
+                names[++files] = name
+            }
+            module = name
+            sub(/^src\//, "", module); sub(/\.rt$/, "", module); sub(/\/mod$/, "", module); sub(/^(lib|main)$/, "", module)
+            gsub(/\//, "::", module)
+        }
+        # What comes after the type parameters that a text begins with.
+        function without_parameters(text,    k, depth) {
+            if (text !~ /^</) return text
+            for (k = 1; k <= length(text); k++) {
+                if (substr(text, k, 1) == "<") depth++
+                if (substr(text, k, 1) == ">" && substr(text, k - 1, 1) != "-" && --depth == 0) break
+            }
+            return substr(text, k + 1)
+        }
+        # The path of the function that goes on over the line of this number: the last one that begins at or above it,
+        # where its last brace is not above it, and the type of its impl before it.
+        function function_at(text, number,    lines, k, named, indent, type, path) {
+            split(text, lines, "\n")
+            for (k = 1; k <= number; k++) {
+                if (lines[k] ~ /^impl[ <]/) {
+                    type = without_parameters(substr(lines[k], 5))
+                    sub(/^.* for /, "", type)
+                    sub(/^[^A-Za-z_]*/, "", type)
+                    sub(/[^A-Za-z_0-9].*/, "", type)
+                } else if (lines[k] ~ /^}/) {
+                    if (k < number) named = ""
+                    type = ""
+                }
+                if (lines[k] ~ /^ *(pub(\([a-z ]+\))? )?(const )?(unsafe )?fn [a-z_A-Z0-9]+/) {
+                    indent = lines[k]; sub(/[^ ].*/, "", indent)
+                    named = lines[k]; sub(/^.*fn /, "", named); sub(/[^a-z_A-Z0-9].*/, "", named)
+                    path = module (type == "" ? "" : "::" type) "::" named
+                    sub(/^::/, "", path)
+                } else if (named != "" && k < number && lines[k] == indent "}") named = ""
+            }
+            return named == "" ? "" : path
+        }
+        /^file: / { open_file(substr($0, 7)) }
+        /^old: / { old = substr($0, 6); if (count(texts[file], old) != 1) exit status = 1 }
+        /^new:/ {
+            text = texts[file]
+            at = index(text, old)
+            before = substr(text, 1, at - 1)
+            print file, old ~ /^use / ? "-" : file ~ /^src\// ? function_at(text, gsub(/\n/, "&", before) + 1) : ""
+            texts[file] = substr(text, 1, at - 1) substr($0, 6) substr(text, at + length(old))
+        }
+        END {
+            if (!status && how != "look")
+                for (k = 1; k <= files; k++) { printf "%s", texts[names[k]] >(folder "/" names[k]); close(folder "/" names[k]) }
+            exit status
+        }' "$1"
 }
 
 if [ "${1-}" = --apply ]; then
     failed=0
-    for edit in crates/*/must-fail/*.edit crates/*/wrong-bodies/*.edit; do
-        applies "$edit" || { echo "$edit doesn't fit the sources"; failed=1; }
+    for one in crates/*/must-fail/*.edit crates/*/wrong-bodies/*.edit; do
+        edit "$one" "$(dirname "$one")/.." look >/dev/null || { echo "$one doesn't fit the sources"; failed=1; }
     done
     exit "$failed"
 fi
@@ -38,35 +101,69 @@ crates=("$@")
 if [ ${#crates[@]} = 0 ]; then
     mapfile -t crates < <(sed -n 's/^\([a-z_0-9]*\)[ :].*/\1/p' crates.txt)
 fi
-mkdir "$room/said"
 
-# Only the wrong bodies are tried: the gate tries the edits of must-fail/.
-some=()
+# Whether all that a check found wrong is that proof files name what isn't there: that says little of a contract.
+is_by_names() {
+    grep -E '^(note: )?[^ ]+:[0-9]+:[0-9]+:' "$room/said" | grep -E ': error|^note: ' >"$room/wrong" &&
+        ! grep -qvE '^(note: )?(\./)?proofs/.*(has no field|is not in scope|has no `|was not admitted)' "$room/wrong"
+}
+
+# Checks functions of the crate that we are in, or all of it where none is given, and sets what came of it and how long
+# it took. A path of a function that the check doesn't know, as of an impl for a type of several parameters, is left to
+# a check of the whole crate.
+check() {
+    local only=() path status=0 begin=$SECONDS
+    for path; do only+=(--only "$path"); done
+    timeout "${LIMIT:-900}" rt check --jobs 1 "${only[@]}" >"$room/said" 2>&1 </dev/null || status=$?
+    if [ "$status" = 2 ] && [ $# != 0 ]; then
+        check
+        return
+    fi
+    took=$((SECONDS - begin))
+    if [ "$status" = 0 ]; then
+        came="NOT REFUSED"
+    elif grep -q ' error\[\|^error\[' "$room/said"; then
+        came="BAD EDIT"
+    elif grep -q '^fn .*: \(not proved\|no proof\)' "$room/said" && [ "$status" = 1 ]; then
+        came="REFUSED"
+        ! is_by_names || came="REFUSED, by names alone"
+    elif [ "$status" = 1 ]; then
+        came="BAD EDIT"
+    else
+        came="no verdict"
+    fi
+}
+
+echo "| crate | wrong implementation | checked | seconds | what came of it |"
+echo "|---|---|---|---|---|"
+failed=0
 for crate in "${crates[@]}"; do
     [ -d "crates/$crate" ] || { echo "there is no crate $crate" >&2; exit 1; }
-    rm -rf "$room/crates/$crate/must-fail"
-    if [ -d "$room/crates/$crate/wrong-bodies" ]; then
-        mv "$room/crates/$crate/wrong-bodies" "$room/crates/$crate/must-fail"
-        some+=("$crate")
-    fi
-done
-
-echo "| crate | wrong implementation | what came of it |"
-echo "|---|---|---|"
-failed=0
-for crate in "${some[@]}"; do
-    (cd "$room" && rt must-fail "$crate") >"$room/said/$crate" 2>&1 </dev/null || failed=1
-    for edit in "$room/crates/$crate/must-fail"/*.edit; do
-        name=$(basename "$edit" .edit)
-        line=$(grep -F "must-fail $crate/$name.edit: " "$room/said/$crate" || true)
-        case $line in
-            *": refused, as it must be (only"*) came="refused, but: ${line#*refused, as it must be }" ;;
-            *": refused, as it must be"*) came=refused ;;
-            "") came="not tried" failed=1 ;;
-            *) came="**${line#*.edit: }**" failed=1 ;;
-        esac
-        echo "| \`$crate\` | \`$name\` | ${came//|/\\|} |"
+    [ -d "crates/$crate/wrong-bodies" ] || continue
+    # What an earlier check kept of this crate and of those below serves where it fits their texts; rt takes it by itself.
+    (cd "$room/crates/$crate" && rt check) >"$room/said" 2>&1 </dev/null || {
+        cat "$room/said" >&2
+        echo "$crate isn't proved as it is" >&2
+        exit 1
+    }
+    for one in "crates/$crate/wrong-bodies"/*.edit; do
+        folder=$room/crates/$crate
+        rm -rf "$room/kept"
+        mkdir "$room/kept"
+        for part in src specs proofs; do [ ! -d "$folder/$part" ] || cp -a "$folder/$part" "$room/kept/"; done
+        took=0 came="BAD EDIT" what=nothing
+        if edit "$one" "$folder" >"$room/places"; then
+            # All functions that it changes; none where a change is in none.
+            mapfile -t paths < <(awk '$2 != "-" { print $2 }' "$room/places" | sort -u)
+            case " ${paths[*]-} " in *"  "*) paths=() ;; esac
+            what=${paths[*]-}
+            cd "$folder"
+            check "${paths[@]}"
+            cd - >/dev/null
+        fi
+        for part in src specs proofs; do [ ! -d "$folder/$part" ] || { rm -rf "${folder:?}/$part" && mv "$room/kept/$part" "$folder/"; }; done
+        [[ $came = REFUSED* ]] || failed=1
+        echo "| \`$crate\` | \`$(basename "$one" .edit)\` | ${what:-the crate} | $took | $came |"
     done
-    grep -q "must-fail $crate/" "$room/said/$crate" || cat "$room/said/$crate" >&2
 done
 exit "$failed"

@@ -3,11 +3,11 @@ _koika() {
     local word=${COMP_WORDS[COMP_CWORD]} before=${COMP_WORDS[COMP_CWORD - 1]} command=${COMP_WORDS[1]-} words=
     COMPREPLY=()
     if [ "$COMP_CWORD" = 1 ]; then
-        words="check print sim compile btorsim gen --unproved"
+        words="check print sim compile btorsim gen aiger aigsim --unproved"
     else
         case $before in
             "<")
-                mapfile -t COMPREPLY < <(compgen -f -X '!*.@(koika|btor2)' -- "$word")
+                mapfile -t COMPREPLY < <(compgen -f -X '!*.@(koika|btor2|aag)' -- "$word")
                 [ "${#COMPREPLY[@]}" -gt 0 ] || mapfile -t COMPREPLY < <(compgen -f -- "$word")
                 return ;;
             --engine) words="plain circuit" ;;
@@ -15,7 +15,7 @@ _koika() {
             *)
                 case $command in
                     sim) words="--cycles --summary --engine --workers" ;;
-                    btorsim) words="--cycles --summary" ;;
+                    btorsim | aigsim) words="--cycles --summary" ;;
                     gen) words="1 10 100" ;;
                 esac
                 # each option is given once
