@@ -1,5 +1,8 @@
 //! Engines: what boards return, and the entries of a history.
 
+ghost use Rattle.std.specs.Prelude.{◌≡◌};
+ghost use Rattle.attempt_log.specs.Entries.{taken_of};
+
 use crate::cause::{Cause, StaleRead};
 use crate::traced::Attempt;
 use one_rule::Inputs;
@@ -15,6 +18,20 @@ pub enum Submitted {
     Ahead(Attempt),
     /// Another attempt stands for its cycle and rule.
     Twice(Attempt),
+}
+
+impl Submitted {
+    /// The answer without the attempt that it hands back.
+    pub fn taken(&self) -> Taken
+        ensures { result ≡ taken_of self.now }
+    {
+        match self {
+            Submitted::Stored => Taken::Stored,
+            Submitted::Late(_) => Taken::Late,
+            Submitted::Ahead(_) => Taken::Ahead,
+            Submitted::Twice(_) => Taken::Twice,
+        }
+    }
 }
 
 /// What a board answers when its head is to be settled.

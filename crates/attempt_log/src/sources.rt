@@ -1,13 +1,13 @@
 //! Engines: which own write each read of an attempt saw.
 
-ghost use Rattle.std.specs.Prelude.{◌≡◌, ◌+◌, ◌*◌, ◌<◌, ◌≤◌, ℕ, IfOk, if◌then◌else◌, length, slice_index_or};
+ghost use Rattle.std.specs.Prelude.{◌≡◌, ◌+◌, ◌*◌, ◌<◌, ◌≤◌, ◌^◌, ℕ, IfOk, if◌then◌else◌, length, slice_index_or};
 ghost use Rattle.kw_bits.specs.BitVector.{BitVector};
 ghost use Rattle.typed_core.specs.Alone.{is_write_below};
 ghost use Rattle.typed_core.specs.Evaluation.{unit};
 ghost use Rattle.typed_core.specs.Fits.{EventsFit};
 ghost use Rattle.typed_core.specs.Valid.{IsPort};
 ghost use Rattle.typed_core.specs.Widths.{register_widths};
-ghost use Rattle.attempt_log.specs.Sources.{AreSources, value_from};
+ghost use Rattle.attempt_log.specs.Sources.{AreSources, IsSource, value_from};
 ghost use Rattle.attempt_log.specs.declared.sources.TheConstants.{PLACES};
 
 use kw_bits::{Bits, NoMemory};
@@ -19,12 +19,63 @@ use typed_core::{Access, Design, Event, Events};
 // Each register has a place for each port.
 pub(crate) const PLACES: usize = PORTS as usize;
 
+// An attempt of at most so many events is looked back over: a table of each register's places would cost more.
+const FEW_EVENTS: usize = 16;
+
 // Where the reads among these events get their values, in time linear in the events and the design's registers.
 pub(crate) fn sources_of(
     alloc: Global,
     design: &Design,
     events: &Events,
 ) -> Result<Vec<usize>, NoMemory>
+    requires { EventsFit (register_widths design.now) events.now }
+    ensures { IfOk result (λ sources. AreSources events.now sources.items) }
+{
+    if events.len() <= FEW_EVENTS {
+        looked_back(alloc, events.as_slice())
+    } else {
+        in_table(alloc, design, events)
+    }
+}
+
+// The sources of these events, each looked for in those before it.
+fn looked_back(alloc: Global, events: &[Event]) -> Result<Vec<usize>, NoMemory>
+    ensures { IfOk result (λ sources. AreSources events.now sources.items) }
+{
+    let mut sources = Vec::with_capacity(alloc, events.len())?;
+    for (number, event) in events.iter().enumerate() {
+        sources.push_reserved(source_before(events, number, &event.access));
+    }
+    Ok(sources)
+}
+
+// The source of a read after so many events, at the register and the port of an access.
+fn source_before(events: &[Event], after: usize, access: &Access) -> usize
+    requires { after ≤ length events.now }
+    ensures { IsSource events.now after access.now.port access.now.register result }
+{
+    let mut source = 0;
+    for number in 0..after {
+        source = source_with(access, &events[number], number, source);
+    }
+    source
+}
+
+// The source after one event more, which has this number.
+fn source_with(access: &Access, event: &Event, number: usize, source: usize) -> usize
+    requires { number < 2 ^ 63 }
+    ensures { result ≡ (if is_write_below access.now.port access.now.register event.now.access then number + 1 else source) }
+{
+    let before = &event.access;
+    if before.write && before.register == access.register && before.port < access.port {
+        number + 1
+    } else {
+        source
+    }
+}
+
+// The sources of these events, by a table of what a read of each register gets at each port.
+fn in_table(alloc: Global, design: &Design, events: &Events) -> Result<Vec<usize>, NoMemory>
     requires { EventsFit (register_widths design.now) events.now }
     ensures { IfOk result (λ sources. AreSources events.now sources.items) }
 {

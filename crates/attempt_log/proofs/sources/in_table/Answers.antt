@@ -8,7 +8,7 @@ use Rattle.typed_core.specs.declared.access.Event.{Event}
 use Rattle.typed_core.specs.declared.design.RegDecl.{RegDecl}
 use Rattle.attempt_log.specs.Sources.{AreSources, IsSource}
 use Rattle.attempt_log.proofs.LookBack.{fit_at, source_next, sources_push}
-use Rattle.attempt_log.proofs.sources.sources_of.Goals as goal
+use Rattle.attempt_log.proofs.sources.in_table.Goals as goal
 
 pub loop-number-preserved : goal.loop-number-preserved
 loop-number-preserved c =

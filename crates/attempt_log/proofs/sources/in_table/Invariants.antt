@@ -4,7 +4,7 @@ use Rattle.typed_core.specs.Valid.{IsPort}
 use Rattle.typed_core.specs.declared.access.Event.{Event}
 use Rattle.attempt_log.specs.Sources.{IsSource}
 use Rattle.attempt_log.specs.declared.sources.TheConstants.{PLACES}
-use Rattle.attempt_log.proofs.sources.sources_of.Given as goal
+use Rattle.attempt_log.proofs.sources.in_table.Given as goal
 
 -- each place has the source of a read there now, and each event so far has its own
 abbrev pub invariant-loop-number : goal.invariant-loop-number
