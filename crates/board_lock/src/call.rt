@@ -1,27 +1,13 @@
 //! What a call of a board is entered as, and its receipt.
-ghost use Rattle.std.specs.Prelude.{◌≡◌};
 ghost use Rattle.attempt_log.specs.Attempt.{IsAttempt};
-ghost use Rattle.attempt_log.specs.Entries.{taken_of};
 
-use attempt_log::{Attempt, Submitted, Taken};
+use attempt_log::Attempt;
 
 /// The worker that made an event, and the event's place in the history of its board, modulo 2^64.
 #[derive(Clone, Copy, Debug, PartialEq, Eq)]
 pub struct Receipt {
     pub worker: u32,
     pub place: u64,
-}
-
-// The answer without the attempt that it hands back.
-pub(crate) fn taken_of(answer: &Submitted) -> Taken
-    ensures { result ≡ taken_of answer.now }
-{
-    match answer {
-        Submitted::Stored => Taken::Stored,
-        Submitted::Late(_) => Taken::Late,
-        Submitted::Ahead(_) => Taken::Ahead,
-        Submitted::Twice(_) => Taken::Twice,
-    }
 }
 
 // What any attempt is: a trace of a rule that its design has.

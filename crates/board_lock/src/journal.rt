@@ -16,7 +16,7 @@ ghost use Rattle.board_lock.specs.Receipts.{IsCopy, Noting, receipts};
 ghost use Rattle.board_lock.specs.Work.{HasWorked, HaveWorked, IsReady, JoinedFrom, SplitBy, Told};
 
 use crate::board::{LockBoard, work_seats};
-use crate::call::{Receipt, taken_of};
+use crate::call::Receipt;
 use crate::lock::{Lock, Place};
 use crate::notes::{Note, Notes, merged};
 use crate::seat::LockSeat;
@@ -184,7 +184,7 @@ fn note_submit(
                 inputs,
                 events,
                 outcome,
-                answer: taken_of(answer),
+                answer: answer.taken(),
             };
             note(notes, whole, receipt.place, entry)
         }
