@@ -309,6 +309,9 @@ impl KeptBoard {
         ensures finds { (all : Board → List Candidate) (number : ℕ) → FindsIn self.now all number search → FindsIn self.now (λ board. all board ++ further self.now.opening board cycle) number result }
         ensures rule { HasRule self.now.opening.design.rules result }
     {
+        if let Search::Found(found) = search {
+            return Search::Found(found);
+        }
         let mut search = search;
         for number in 0..self.design.nodes.len() {
             let pair = self.pair(cycle, number);

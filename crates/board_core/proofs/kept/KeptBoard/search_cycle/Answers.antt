@@ -1,11 +1,11 @@
 use Rattle.std.proofs.Common.{◌≡◌, ◌+◌, ◌≤◌, suc, Bool, List, [], ◌∷◌, ◌++◌, filter, length, take, ap, ◌∙◌, subst, arith}
 use Rattle.std.specs.Prelude.{if◌then◌else◌}
 use Rattle.typed_core.specs.declared.design.Parts.{Parts}
-use Rattle.board_core.specs.Candidates.{is_further, pairs}
+use Rattle.board_core.specs.Candidates.{further, is_further, pairs}
 use Rattle.board_core.specs.Kept.{Kept}
 use Rattle.board_core.specs.Search.{Finds}
 use Rattle.board_core.specs.declared.candidate.Candidate.{Candidate}
-use Rattle.board_core.proofs.Finds.{all_pairs, further_on, further_same}
+use Rattle.board_core.proofs.Finds.{all_pairs, found_more, further_on, further_same}
 use Rattle.board_core.proofs.kept.KeptBoard.search_cycle.Goals as goal
 
 pub loop-number-preserved : goal.loop-number-preserved
@@ -34,3 +34,6 @@ returns-clause-finds c all number f board st =
     let behind = ap (λ (d : Parts). length d.nodes) (c.behind-self.view_is ∙ c.deref.ensures) in
     let end : length nodes ≤ n = omega (arith, same, behind, c.len-number-end.ensures, c.loop-number-test.false) in
     subst (λ (xs : List Candidate). Finds (all board ++ filter (is_further board) xs) number c.loop-number.search) (all_pairs c.args.cycle nodes n end) (c.loop-number.invariant.finds all number f board st)
+
+pub returns-in-Found-clause-finds : goal.returns-in-Found-clause-finds
+returns-in-Found-clause-finds c all number f board st = found_more (all board) (further c.args.self.now.opening board c.args.cycle) number c.in-Found.found (subst (Finds (all board) number) c.in-Found.is (f board st))
