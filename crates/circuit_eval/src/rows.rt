@@ -65,9 +65,11 @@ fn row_of(alloc: Global, sim: &Sim) -> Result<Row, NoMemory>
 fn flags(alloc: Global, outputs: &[Bits]) -> Result<Vec<bool>, AllocError>
     ensures { IfOk result (λ fired. fired.items ≡ flags outputs.now) }
 {
-    outputs
-        .iter()
-        .filter(|output| output.width() == 1)
-        .map(|output| output.number() == 1)
-        .collect(alloc)
+    let mut fired = Vec::with_capacity(alloc, outputs.len())?;
+    for output in outputs {
+        if output.width() == 1 {
+            fired.push_reserved(output.number() == 1);
+        }
+    }
+    Ok(fired)
 }

@@ -23,7 +23,8 @@ pub fn evaluate(net: &Net, inputs: &[Bits], states: &[Bits], values: &mut [Bits]
 }
 
 /// The value of an operator over nodes of these values.
-#[inline]
+// A call and the copy of its result would take a third of what a node costs.
+#[inline(always)]
 pub fn value_of(op: &NetOp, inputs: &[Bits], states: &[Bits], before: &[Bits]) -> Bits
     requires stands { Stands (widths before.now) op.now }
     requires reads { Reads (widths inputs.now) (widths states.now) op.now }
