@@ -8,7 +8,7 @@
 mod finish;
 mod runs;
 
-pub use runs::{run_batch, run_threaded};
+pub use runs::{WINDOW, run_batch, run_threaded, turns_for};
 
 #[cfg(test)]
 mod tests;

@@ -1,6 +1,6 @@
 //! Engines: runs that workers make.
 
-ghost use Rattle.std.specs.Prelude.{◌≡◌, ◌≤◌, ◌+◌, ◌*◌, true, IfOk, length};
+ghost use Rattle.std.specs.Prelude.{◌≡◌, ◌≤◌, ◌+◌, ◌*◌, ◌^◌, true, IfOk, length};
 ghost use Rattle.std.specs.Arc.{arc_value};
 ghost use Rattle.typed_core.specs.Valid.{externs_of};
 ghost use Rattle.typed_core.specs.Widths.{HaveWidths, register_widths};
@@ -22,7 +22,7 @@ use std::thread::Threads;
 use typed_core::Design;
 
 /// How many cycles workers may be ahead, the current one included.
-const WINDOW: u32 = 4;
+pub const WINDOW: u32 = 4;
 
 /// The rows of the first n cycles, from the first values of the registers, made by workers at a board of this kind.
 /// Where such boards expose their core, they are the rows of the run, in whichever order the workers' events came.
@@ -85,10 +85,11 @@ pub fn run_batch<B: Board, R: Threads + Wait + Sync>(
     finished_rows(alloc, board.close())
 }
 
-// How many turns each worker has for that many cycles.
-fn turns_for(design: &Design, cycles: u32) -> u64
+/// How many turns each worker has for that many cycles.
+pub fn turns_for(design: &Design, cycles: u32) -> u64
     requires { cycles ≤ MAX_CYCLES }
-    ensures { result ≡ 4 * cycles * (length design.now.nodes + 1) + 16 }
+    ensures turns { result ≡ 4 * cycles * (length design.now.nodes + 1) + 16 }
+    ensures few { result ≤ 2 ^ 56 }
 {
     4 * u64::from(cycles) * (design.nodes.len() as u64 + 1) + 16
 }
