@@ -25,7 +25,7 @@ use Rattle.koika_lower.proofs.Operands.{onto, onto-reverse, parts, sim-lets}
 
 -- ---- the bodies of functions
 
-get-front : {X : Type 0} (xs ys : List X) (i : ℕ) → i < length xs → slice_get (xs ++ ys) i ≡ slice_get xs i
+pub get-front : {X : Type 0} (xs ys : List X) (i : ℕ) → i < length xs → slice_get (xs ++ ys) i ≡ slice_get xs i
 get-front [] ys i h = absurd (omega arith)
 get-front (x ∷ xs) ys zero h = refl
 get-front (x ∷ xs) ys (suc i) h = get-front xs ys i (omega arith)

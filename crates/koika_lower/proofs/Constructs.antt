@@ -132,13 +132,13 @@ module _ (d : Checked) (n depth : ℕ) (names : List Bound) (types : List ValueT
 
 -- ---- prefix operators
 
-prefixed-width : (operators : List UnaryOperator) (x : BitVector) (width : ℕ) → HasWidth x width → HasWidth (prefixed operators x) width
+pub prefixed-width : (operators : List UnaryOperator) (x : BitVector) (width : ℕ) → HasWidth x width → HasWidth (prefixed operators x) width
 prefixed-width [] x width h = h
 prefixed-width (unary.Not ∷ operators) x width h = let inner = prefixed-width operators x width h in let o = not-HasWidth (prefixed operators x) inner.0 in (o.0, o.1 ∙ inner.1)
 prefixed-width (unary.Negate ∷ operators) x width h = let inner = prefixed-width operators x width h in let o = neg-HasWidth (prefixed operators x) inner.0 in (o.0, o.1 ∙ inner.1)
 
 -- extensions
-extended-width : (extension : Extension) (x : BitVector) (from to : ℕ) → HasWidth x from → from ≤ to → to ≤ 128 → HasWidth (extension_value extension x to) to
+pub extended-width : (extension : Extension) (x : BitVector) (from to : ℕ) → HasWidth x from → from ≤ to → to ≤ 128 → HasWidth (extension_value extension x to) to
 extended-width extensions.Zero x from to h le few = zext-HasWidth x to h.0 (subst (λ w. w ≤ to) (sym h.1) le) few
 extended-width extensions.Sign x from to h le few = sext-HasWidth x to h.0 (subst (λ w. w ≤ to) (sym h.1) le) few
 

@@ -12,6 +12,7 @@ use Rattle.koika_types.specs.Values.{packed}
 use Rattle.koika_types.specs.declared.value.Value.{Value}
 use Rattle.typed_core.specs.Alone.{alone, alone_ports, outcome_of}
 use Rattle.typed_core.specs.Evaluation.{Ending, Value as Reached, Stop, Progress, Ports, evaluate}
+use Rattle.typed_core.specs.Fits.{PortsFit}
 use Rattle.typed_core.specs.Valid.{ActionHasWidth, AreNodes, Declarations, IsHost, IsRegister as IsCoreRegister, IsTable, IsValid, IsWidth, TriesNoneTwice, declarations, externs_of}
 use Rattle.typed_core.specs.Widths.{HaveWidths}
 use Rattle.kw_bits.specs.declared.host.HostSpec.{HostSpec}
@@ -27,7 +28,7 @@ use Rattle.typed_core.specs.declared.outcome.Outcome.TheVariants as ends
 use Rattle.typed_core.specs.declared.outcome.Stopped.{Stopped}
 use Rattle.typed_core.specs.declared.outcome.Stopped.TheVariants as stopped
 use Rattle.typed_core.proofs.Typed.{PortsFit-alone}
-use Rattle.koika_check.specs.Meaning.{Setting, bodies_behind, meaning, setting}
+use Rattle.koika_check.specs.Meaning.{Setting, bodies_behind, meaning, rule_body, setting}
 use Rattle.koika_check.specs.TypedAlone.{outcome_of as typed_outcome, typed_alone}
 use Rattle.koika_check.specs.Typing.{HasType, IsRegister, IsTypedDesign}
 use Rattle.koika_check.specs.declared.checked.Checked.{Checked}
@@ -38,7 +39,7 @@ use Rattle.koika_check.specs.declared.checked.Register.{Register}
 use Rattle.koika_check.specs.declared.checked.Rule.{Rule}
 use Rattle.koika_check.specs.declared.checked.Table.{Table}
 use Rattle.koika_check.specs.declared.typed.ValueType.{ValueType}
-use Rattle.koika_lower.specs.Lowering.{IsLowered, input_of, register_of, register_widths}
+use Rattle.koika_lower.specs.Lowering.{IsLowered, ends_of, input_of, register_of, register_widths, typed_ends}
 use Rattle.koika_lower.specs.Rules.{AreRules, IsRule}
 use Rattle.koika_lower.specs.Simulation.{Alike, AreNames, EndAlike, Lowers, Stands, declared_by, environment, world}
 use Rattle.koika_lower.specs.declared.lowered.Bound.{Bound}
@@ -65,12 +66,16 @@ world-setting : (d : Checked) (inputs : List BitVector) (ports : Ports Stopped) 
 world-setting d inputs ports =
     ap (λ (fs : List Function). bodies_behind (let s : Setting Stopped = record { design = d; inputs = inputs; ports = ports; bodies = [] } in s) fs) (take-length d.functions)
 
+rule-at : (d : Checked) (r : Rule) (c : CoreRule) (inputs : List BitVector) (ports : Ports Stopped) → IsRule d r c → HaveWidths (map (λ (i : Input). i.width) d.inputs) inputs → PortsFit (register_widths d) ports →
+    ends_of (evaluate (environment d inputs) ports c.body [] []) ≡ typed_ends (rule_body d inputs ports r.body [])
+rule-at d r c inputs ports is w fit =
+    same_alone d None (meaning (setting d inputs ports) r.body [] []) (evaluate (environment d inputs) ports c.body [] [])
+    (subst (λ (s : Setting Stopped). Alike (register_widths d) (Stands d None) (meaning s r.body [] []) (evaluate (environment d inputs) ports c.body [] [])) (world-setting d inputs ports)
+    (is.body.means inputs ports [] [] w fit tt [] tt))
+
 rule-alone : (d : Checked) (r : Rule) (c : CoreRule) (inputs regs : List BitVector) → IsRule d r c → HaveWidths (map (λ (i : Input). i.width) d.inputs) inputs → HaveWidths (register_widths d) regs →
     alone (environment d inputs) regs c.body ≡ typed_alone d inputs regs r.body
-rule-alone d r c inputs regs is w held =
-    same_alone d None (meaning (setting d inputs (alone_ports regs)) r.body [] []) (evaluate (environment d inputs) (alone_ports regs) c.body [] [])
-    (subst (λ (s : Setting Stopped). Alike (register_widths d) (Stands d None) (meaning s r.body [] []) (evaluate (environment d inputs) (alone_ports regs) c.body [] [])) (world-setting d inputs (alone_ports regs))
-    (is.body.means inputs (alone_ports regs) [] [] w (PortsFit-alone (register_widths d) regs held) tt [] tt))
+rule-alone d r c inputs regs is w held = rule-at d r c inputs (alone_ports regs) is w (PortsFit-alone (register_widths d) regs held)
 
 -- a rule whose body is lowered where no name is bound and all functions may be called
 pub rule-is : (d : Checked) (functions : ℕ) (names : List Bound) (r : Rule) (name : List ℕ) (l : Lowered) → IsTypedDesign d → functions ≡ length d.functions → names ≡ [] →
@@ -135,4 +140,7 @@ module _ (d : Checked) (is : IsTypedDesign d) (p : Parts) (regs : p.regs ≡ map
     alone = λ number r c at at' ins held w h.
         subst (λ env. alone env held c.body ≡ typed_alone d ins held r.body) (same_environment ins)
         (rule-alone d r c ins held (pairs-at (IsRule d) d.rules p.rules number r c rules at at') w h);
+    at_ports = λ number r c at at' ins ports w fit.
+        subst (λ env. ends_of (evaluate env ports c.body [] []) ≡ typed_ends (rule_body d ins ports r.body [])) (same_environment ins)
+        (rule-at d r c ins ports (pairs-at (IsRule d) d.rules p.rules number r c rules at at') w fit);
   }

@@ -55,7 +55,7 @@ operates-bits binary.Add left right next c = record { width = c.0; is = c.2 }
 operates-bits binary.Subtract left right next c = record { width = c.0; is = c.2 }
 operates-bits binary.Multiply left right next c = record { width = c.0; is = c.2 }
 
-chains-bits : (os : List BinaryOperator) (t : ValueType) (ts : List ValueType) (whole : ValueType) → 1 ≤ length os → Chains os t ts whole → IsBitsType whole
+pub chains-bits : (os : List BinaryOperator) (t : ValueType) (ts : List ValueType) (whole : ValueType) → 1 ≤ length os → Chains os t ts whole → IsBitsType whole
 chains-bits [] t ts whole some c = absurd (omega arith)
 chains-bits (o ∷ os) t [] whole some c = absurd c
 chains-bits (o ∷ []) t (u ∷ []) whole some c = let b = operates-bits o t u c.0 c.1 in record { width = b.width; is = c.2 ∙ b.is }

@@ -42,7 +42,7 @@ use Rattle.koika_lower.proofs.Orders.{bind-assoc}
 use Rattle.koika_lower.proofs.Simulations.{sim-bind, sim-same, sim-value}
 use Rattle.koika_lower.proofs.Widths.{width-bits}
 
-arity-cases : (k : HostKind) → (host.arity k ≡ 1) ⊎ (host.arity k ≡ 2)
+pub arity-cases : (k : HostKind) → (host.arity k ≡ 1) ⊎ (host.arity k ≡ 2)
 unfolding host.arity
 arity-cases kinds.Popcount = inl refl
 arity-cases kinds.Parity = inl refl
@@ -58,7 +58,7 @@ total-equal : (d : Checked) (a m : ℕ) → total d (replicate a (bits m)) ≡ a
 total-equal d zero m = omega arith
 total-equal d (suc a) m = let rest = total-equal d a m in let w = width-bits d m in omega (arith, rest, w)
 
-arguments-total : (d : Checked) (spec : HostSpec) → IsHost spec → (a : ℕ) → (a ≡ 1) ⊎ (a ≡ 2) → host.arity spec.kind ≡ a → total d (replicate a (bits (spec.in_width / a))) ≡ spec.in_width
+pub arguments-total : (d : Checked) (spec : HostSpec) → IsHost spec → (a : ℕ) → (a ≡ 1) ⊎ (a ≡ 2) → host.arity spec.kind ≡ a → total d (replicate a (bits (spec.in_width / a))) ≡ spec.in_width
 arguments-total d spec ok a (inl one) e =
     total-equal d a (spec.in_width / a) ∙ ap (λ k. k * (spec.in_width / k)) one ∙ omega arith
 arguments-total d spec ok a (inr two) e =
@@ -66,7 +66,7 @@ arguments-total d spec ok a (inr two) e =
     total-equal d a (spec.in_width / a) ∙ ap (λ k. k * (spec.in_width / k)) two ∙ omega (arith, even)
 
 -- the arguments joined
-joined-below : (d : Checked) (ts : List ValueType) (vs : List Value) (xs : List BitVector) (z : BitVector) → StandAll d ts vs xs → joined z vs ≡ below z xs
+pub joined-below : (d : Checked) (ts : List ValueType) (vs : List Value) (xs : List BitVector) (z : BitVector) → StandAll d ts vs xs → joined z vs ≡ below z xs
 joined-below d [] [] [] z h = refl
 joined-below d [] [] (x ∷ xs) z h = absurd h
 joined-below d [] (v ∷ vs) xs z h = absurd h
@@ -74,7 +74,7 @@ joined-below d (t ∷ ts) [] xs z h = absurd h
 joined-below d (t ∷ ts) (v ∷ vs) [] z h = absurd h
 joined-below d (t ∷ ts) (v ∷ vs) (x ∷ xs) z h = ap (λ y. joined (op.concat z y) vs) h.0.1 ∙ joined-below d ts vs xs (op.concat z x) h.1
 
-comparison-width : (c : SignedComparison) (x y : BitVector) (w : ℕ) → HasWidth x w → HasWidth y w → HasWidth (comparison_value c x y) 1
+pub comparison-width : (c : SignedComparison) (x y : BitVector) (w : ℕ) → HasWidth x w → HasWidth y w → HasWidth (comparison_value c x y) 1
 comparison-width comparisons.Less x y w hx hy = slt-HasWidth x y hx.0 hy.0 (hx.1 ∙ sym hy.1)
 comparison-width comparisons.LessOrEqual x y w hx hy = slte-HasWidth x y hx.0 hy.0 (hx.1 ∙ sym hy.1)
 comparison-width comparisons.Greater x y w hx hy = slt-HasWidth y x hy.0 hx.0 (hy.1 ∙ sym hx.1)
@@ -86,7 +86,7 @@ out-valid spec ok =
     let h = host-HasWidth spec.kind (zero_at spec.in_width) (record { some_bit = ok.some_bit; no_wider = omega (arith, ok.no_wider); in_range = pow_pos spec.in_width }) ok in
     (subst (λ w. 1 ≤ w) h.1 h.0.some_bit, subst (λ w. w ≤ 128) h.1 h.0.no_wider)
 
-answer_wide : (y : BitVector) (spec : HostSpec) → IsHost spec → HasWidth y spec.in_width → HasWidth (host.value spec.kind y) (host.out_width spec.kind spec.in_width)
+pub answer_wide : (y : BitVector) (spec : HostSpec) → IsHost spec → HasWidth y spec.in_width → HasWidth (host.value spec.kind y) (host.out_width spec.kind spec.in_width)
 answer_wide y spec ok h =
     let r = host-HasWidth spec.kind y h.0 (subst (host.TakesWidth spec.kind) (sym h.1) ok) in (r.0, r.1 ∙ ap (host.out_width spec.kind) h.1)
 

@@ -1,4 +1,5 @@
 pub mod Accesses
+pub mod Agreements
 pub mod Arms
 pub mod Atoms
 pub mod Bindings
@@ -12,6 +13,9 @@ pub mod Compounds
 pub mod Constructs
 pub mod Designs
 pub mod Groups
+pub mod GuardedBodies
+pub mod GuardedOperations
+pub mod GuardedParts
 pub mod Hosts
 pub mod Lists
 pub mod Lowerings
@@ -22,14 +26,16 @@ pub mod Orders
 pub mod PackedParts
 pub mod Parts
 pub mod Prefixes
+pub mod Progress
 pub mod Replacements
 pub mod Replacing
 pub mod Sides
 pub mod Simulations
 pub mod Slices
 pub mod Steps
-pub mod TreeCounts
+pub mod TwoLowerings
 pub mod TypeWidths
+pub mod Unpacking
 pub mod ValueLayers
 pub mod Values
 pub mod Widths

@@ -14,9 +14,17 @@ use Rattle.koika_check.specs.Types.{array, bits, of_base}
 use Rattle.koika_check.specs.Typing.{IsOf, Pairwise, PartIsOf}
 use Rattle.koika_check.specs.declared.checked.Checked.{Checked}
 use Rattle.koika_check.specs.declared.checked.Field.{Field}
+use Rattle.koika_check.specs.declared.typed.BaseType.{BaseType}
 use Rattle.koika_check.specs.declared.typed.BaseType.TheVariants as base
 use Rattle.koika_check.specs.declared.typed.ValueType.{ValueType}
 use Rattle.koika_lower.specs.Simulation.{Stands}
+
+-- the base and the lengths of a type
+unfoldable pub base_of : ValueType → BaseType
+base_of t = t.base
+
+unfoldable pub lengths_of : ValueType → List ℕ
+lengths_of t = t.lengths
 
 Pairwise-map : {X Y Z : Type 0} (is : Y → Z → Type 0) (f : X → Y) (xs : List X) (zs : List Z) → Pairwise (λ x. is (f x)) xs zs ≡ Pairwise is (map f xs) zs
 Pairwise-map is f [] [] = refl

@@ -33,7 +33,7 @@ use Rattle.koika_lower.specs.Applied.{AllFit, lowest_bit, lowest_of_all, part_wi
 use Rattle.koika_lower.specs.Simulation.{StandAll, Stands}
 use Rattle.koika_lower.proofs.Replacements.{replace-above, replace-all, replace-below, replace-lower, replace-upper}
 use Rattle.koika_lower.proofs.Slices.{slice-high, slice-low, slice-slice}
-use Rattle.koika_lower.proofs.ValueLayers.{close-IsOf, number-stands, open-IsOf}
+use Rattle.koika_lower.proofs.ValueLayers.{base_of, close-IsOf, lengths_of, number-stands, open-IsOf}
 use Rattle.koika_lower.proofs.Widths.{width-bits}
 
 -- widths together
@@ -179,7 +179,7 @@ module _ (x : BitVector) (m : ℕ) (some : 1 ≤ m) where
       let r = slice-HasWidth x ((i + 1) * m - 1) (i * m) h.0 (omega (arith, p)) (omega (arith, p, le, whole, h.1)) in
       (r.0, r.1 ∙ omega (arith, p))
 
-among-more : (k m : ℕ) (b : BaseType) → k ≤ m → IsAmong k b → IsAmong m b
+pub among-more : (k m : ℕ) (b : BaseType) → k ≤ m → IsAmong k b → IsAmong m b
 among-more k m (base.Struct number) le h = omega arith
 among-more k m (base.Bits w) le h = tt
 among-more k m (base.Enum number) le h = tt
@@ -292,7 +292,7 @@ module _ (d : Checked) (is : IsTypedDesign d) where
   index-within (x ∷ xs) zero h = omega arith
   index-within (x ∷ xs) (suc number) h = let rest = index-within xs number h in omega (arith, rest)
 
-  among-valid : (b : BaseType) (k : ℕ) → 1 ≤ base_width d b * k → IsAmong (length d.structs) b
+  pub among-valid : (b : BaseType) (k : ℕ) → 1 ≤ base_width d b * k → IsAmong (length d.structs) b
   among-valid (base.Bits w) k some = tt
   among-valid (base.Enum number) k some = tt
   among-valid (base.Struct number) k some =
@@ -539,12 +539,6 @@ module _ (d : Checked) (is : IsTypedDesign d) where
   pair-stand [] (t ∷ ts) valid h = absurd h
   pair-stand (v ∷ vs) [] valid h = absurd h
   pair-stand (v ∷ vs) (t ∷ ts) valid h = ((h.0, refl, constant-width v t valid.0 h.0), pair-stand vs ts valid.1 h.1)
-
-  lengths_of : ValueType → List ℕ
-  lengths_of t = t.lengths
-
-  base_of : ValueType → BaseType
-  base_of t = t.base
 
   item-of : (y : Value-F Value) (v : Value) (x : BitVector) (n : ℕ) (u : ValueType) (index : ℕ) → PartIsOf d (IsOf d) y (array n u) → packed_part (map-Value Value BitVector packed y) ≡ x → IsType d (array n u) → index < n →
       Stands d (Some u) (Some (slice_index_or (parts_by y) index v)) (op.slice x (index * width_of d u + width_of d u - 1) (index * width_of d u))

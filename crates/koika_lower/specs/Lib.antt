@@ -2,7 +2,9 @@ pub mod Actions
 pub mod Applied
 pub mod Expressions
 pub mod Forms
+pub mod Guarded
 pub mod Lowering
 pub mod Packing
 pub mod Rules
 pub mod Simulation
+pub mod TwoLowerings

@@ -17,7 +17,7 @@ use Rattle.koika_lower.proofs.Bindings.{on_ok}
 use Rattle.koika_lower.proofs.Bodies.{bind-next, body-lowers, item-at}
 use Rattle.koika_lower.proofs.Lowerings.{IsLowered, apply-lowered, block-lowered, do-lowered, give-lowered, if-lowered, let-lowered}
 use Rattle.koika_lower.proofs.Sides.{behind-next, lowered-push}
-use Rattle.koika_lower.proofs.TreeCounts.{calls-behind, count, count_step, count-Apply, count-Block, count-Do, count-Give, count-If, count-Let, count-first}
+use Rattle.koika_check.proofs.TreeCounts.{calls-behind, count, count_step, count-Apply, count-Block, count-Do, count-Give, count-If, count-Let, count-first}
 use Rattle.koika_lower.proofs.expressions.+lower.Goals as goal
 use Rattle.koika_lower.proofs.expressions.+lower.Goals.{called_body-in_default-get-via-in-Some+else-number-functions, called_body-in_default-get-via-in_default-get}
 

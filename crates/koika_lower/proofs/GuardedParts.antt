@@ -1,0 +1,153 @@
+-- The parts of values of types are there, and so are the operands of chains.
+use Rattle.std.proofs.Common.{◌≡◌, ℕ, zero, suc, ◌+◌, ◌-◌, ◌*◌, ◌/◌, ◌<◌, List, [], ◌∷◌, length, map, Option, Some, None, option_map, slice_get, slice_index_or, arith, refl, ap, sym, subst, ◌∙◌}
+use Rattle.std.specs.List.{AllByRecursion}
+use Rattle.std.proofs.lemmas.List.{length-map}
+use Rattle.std.proofs.lemmas.Option.{slice_get-get_or, slice_get_within}
+use Rattle.kw_bits.specs.BitVector.{BitVector}
+use Rattle.kw_bits.specs.Laws.{HasWidth}
+use Rattle.kw_bits.specs.Operators as op
+use Rattle.koika_syntax.specs.declared.operator.BinaryOperator.{BinaryOperator}
+use Rattle.koika_types.specs.Values.{packed}
+use Rattle.koika_types.specs.declared.value.Value.{Value, out-Value, roll-out-Value}
+use Rattle.koika_types.specs.declared.value.Value.TheOpen.{Value-F}
+use Rattle.koika_types.specs.declared.value.Value.TheVariants as value
+use Rattle.typed_core.specs.Valid.{IsWidth}
+use Rattle.koika_check.specs.Composites.{fields_by, fields_of}
+use Rattle.koika_check.specs.Meaning.{all_selected, below, binary_value, chained, from_the_top, parts_by, selected, unpacked, unpacked_among}
+use Rattle.koika_check.specs.Types.{all_lengths, array, bits, of_base, width_of}
+use Rattle.koika_check.specs.Typing.{Chains, IsAmong, IsOf, IsType, IsTypedDesign, Pairwise, PartIsOf, Replaces, Takes, TakesAll}
+use Rattle.koika_check.specs.declared.checked.Checked.{Checked}
+use Rattle.koika_check.specs.declared.checked.Field.{Field}
+use Rattle.koika_check.specs.declared.checked.Struct.{Struct}
+use Rattle.koika_check.specs.declared.typed.BaseType.{BaseType}
+use Rattle.koika_check.specs.declared.typed.BaseType.TheVariants as base
+use Rattle.koika_check.specs.declared.typed.Selection.{Selection}
+use Rattle.koika_check.specs.declared.typed.Selection.TheVariants as selection
+use Rattle.koika_check.specs.declared.typed.ValueType.{ValueType}
+use Rattle.koika_lower.specs.Guarded.{all_at, all_some, chained_if, field_at, fields_in, item_at, part_at, replaced_at, unpacked_if, unpacked_in}
+use Rattle.koika_lower.specs.Simulation.{StandAll, Stands}
+use Rattle.koika_lower.proofs.Agreements.{AllHave, Has}
+use Rattle.koika_lower.proofs.ChainValues.{operates-width}
+use Rattle.koika_lower.proofs.Constructs.{valid-bits}
+use Rattle.koika_lower.proofs.ValueLayers.{base_of, lengths_of, number-stands, open-IsOf}
+use Rattle.koika_lower.proofs.Values.{all-each, among-more, among-valid, constant-stands, takes-fit, takes-stands}
+
+-- as many of one as of the other
+pub pair-count : {X Y : Type 0} (P : X → Y → Type 0) (xs : List X) (ys : List Y) → Pairwise P xs ys → length xs ≡ length ys
+pair-count P [] [] h = refl
+pair-count P [] (y ∷ ys) h = absurd h
+pair-count P (x ∷ xs) [] h = absurd h
+pair-count P (x ∷ xs) (y ∷ ys) h = ap suc (pair-count P xs ys h.1)
+
+-- a number has the type of as many bits
+pub number-has : (d : Checked) (width : ℕ) (x : BitVector) → HasWidth x width → Has d (value.Number x) (bits width)
+number-has d width x h = ((number-stands d width x x refl h).0, valid-bits d width (subst IsWidth h.1 (h.0.some_bit, h.0.no_wider)))
+
+module _ (d : Checked) (is : IsTypedDesign d) where
+  -- a value stands for its bits
+  pub stands : (v : Value) (t : ValueType) → Has d v t → Stands d (Some t) (Some v) (packed v)
+  stands v t has = constant-stands d is t v has.1 has.0
+
+  pub bits-have : (v : Value) (t : ValueType) → Has d v t → HasWidth (packed v) (width_of d t)
+  bits-have v t has = (stands v t has).2
+
+  pub stand-all : (vs : List Value) (ts : List ValueType) → AllHave d vs ts → StandAll d ts vs (map packed vs)
+  stand-all [] [] have = tt
+  stand-all [] (t ∷ ts) have = absurd have
+  stand-all (v ∷ vs) [] have = absurd have
+  stand-all (v ∷ vs) (t ∷ ts) have = (stands v t have.0, stand-all vs ts have.1)
+
+  -- ---- parts
+
+  field-there : (y : Value-F Value) (w : Value) (struct number : ℕ) (f : Field) → PartIsOf d (IsOf d) y (of_base (base.Struct struct)) → slice_get (fields_of d struct) number ≡ Some f →
+      field_at y number ≡ Some (slice_index_or (parts_by y) number w)
+  unfolding base_of lengths_of
+  field-there (Value-F.Number b) w struct number f h at = let k = ap base_of h.0 in absurd (cc)
+  field-there (Value-F.Member m b) w struct number f h at = let k = ap base_of h.0 in absurd (cc)
+  field-there (Value-F.Items vs) w struct number f h at = let k = ap lengths_of h.1 in absurd (cc)
+  field-there (Value-F.Fields m vs) w struct number f h at =
+      let k : base.Struct struct ≡ base.Struct m = ap base_of h.0 in
+      let same : struct ≡ m = cc in
+      let within = slice_get_within (fields_of d struct) number f at in
+      let count : length (fields_of d struct) ≡ length vs =
+      ap (λ j. length (fields_of d j)) same ∙ sym (length-map (fields_of d m) (λ (f : Field). f.of)) ∙ sym (pair-count (IsOf d) vs (map (λ (f : Field). f.of) (fields_of d m)) h.1) in
+      slice_get-get_or vs number w (subst (λ j. number < j) count within)
+
+  item-there : (y : Value-F Value) (w : Value) (n index : ℕ) (item : ValueType) → PartIsOf d (IsOf d) y (array n item) → index < n → item_at y index ≡ Some (slice_index_or (parts_by y) index w)
+  unfolding lengths_of
+  item-there (Value-F.Number b) w n index item h below = let k = ap lengths_of h.0 in absurd (cc)
+  item-there (Value-F.Member m b) w n index item h below = let k = ap lengths_of h.0 in absurd (cc)
+  item-there (Value-F.Fields m vs) w n index item h below = let k = ap lengths_of h.0 in absurd (cc)
+  item-there (Value-F.Items vs) w n index item h below =
+      let k : n ∷ item.lengths ≡ length vs ∷ h.0.lengths = ap lengths_of h.1 in
+      let count : n ≡ length vs = cc in
+      slice_get-get_or vs index w (subst (λ j. index < j) count below)
+
+  pub part-there : (s : Selection) (t part : ValueType) (v : Value) → Has d v t → Takes d s t part → part_at v s ≡ Some (selected v s)
+  part-there (selection.Field number lowest width) t part v has takes =
+      field-there (out-Value v) v takes.0 number takes.1 (open-IsOf d v (out-Value v) (roll-out-Value v) (of_base (base.Struct takes.0)) (subst (IsOf d v) takes.2 has.0)) takes.3
+  part-there (selection.Item index width) t part v has takes =
+      item-there (out-Value v) v takes.0 index part (open-IsOf d v (out-Value v) (roll-out-Value v) (array takes.0 part) (subst (IsOf d v) takes.1 has.0)) takes.2
+  part-there (selection.Bits high low) t part v has takes = refl
+
+  pub selected-has : (selections : List Selection) (t part : ValueType) (v : Value) → Has d v t → TakesAll d selections t part → Has d (all_selected v selections) part
+  selected-has selections t part v has takes = ((takes-stands d is selections t part v (packed v) has.1 takes (stands v t has)).0, (takes-fit d is selections t part has.1 takes).2)
+
+  pub all-there : (selections : List Selection) (t part : ValueType) (v : Value) → Has d v t → TakesAll d selections t part → all_at (Some v) selections ≡ Some (all_selected v selections)
+  all-there [] t part v has takes = refl
+  all-there (s ∷ rest) t part v has takes =
+      ap (λ (o : Option Value). all_at o rest) (part-there s t takes.0 v has takes.1) ∙
+      all-there rest takes.0 part (selected v s) (selected-has (s ∷ []) t takes.0 v has (takes.0, takes.1, refl)) takes.2
+
+  pub replaced-there : (s : Selection) (t part : ValueType) (v : Value) → Has d v t → Replaces d s t part → replaced_at v s ≡ Some (selected v s)
+  replaced-there (selection.Field number lowest width) t part v has takes = part-there (selection.Field number lowest width) t part v has takes
+  replaced-there (selection.Item index width) t part v has takes = part-there (selection.Item index width) t part v has takes
+  replaced-there (selection.Bits high low) t part v has takes = absurd takes
+
+  -- ---- what bits are unpacked to
+
+  all-some-map : {X : Type 0} (f : X → Option Value) (g : X → Value) (xs : List X) → ((x : X) → f x ≡ Some (g x)) → all_some (map f xs) ≡ Some (map g xs)
+  all-some-map f g [] h = refl
+  all-some-map f g (x ∷ xs) h = ap (λ (o : Option Value). all_some (o ∷ map f xs)) (h x) ∙ ap (option_map (λ vs. g x ∷ vs)) (all-some-map f g xs h)
+
+  fields-in : (k : ℕ) (look : ValueType → BitVector → Option Value) (known : ValueType → BitVector → Value) → ((t : ValueType) (x : BitVector) → IsAmong k t.base → look t x ≡ Some (known t x)) →
+      (fields : List Field) (x : BitVector) → AllByRecursion (λ (f : Field). IsAmong k f.of.base) fields → all_some (fields_in d look fields x) ≡ Some (from_the_top d known fields x)
+  fields-in k look known h [] x among = refl
+  fields-in k look known h (f ∷ fields) x among =
+      ap (λ (o : Option Value). all_some (o ∷ fields_in d look fields (op.slice x (x.width - width_of d f.of - 1) 0))) (h f.of (op.slice x (x.width - 1) (x.width - width_of d f.of)) among.0) ∙
+      ap (option_map (λ vs. known f.of (op.slice x (x.width - 1) (x.width - width_of d f.of)) ∷ vs)) (fields-in k look known h fields (op.slice x (x.width - width_of d f.of - 1) 0) among.1)
+
+  second_of : (k : ℕ) (fields : List Field) → AllByRecursion (λ (f : Field). IsType d f.of × IsAmong k f.of.base) fields → AllByRecursion (λ (f : Field). IsAmong k f.of.base) fields
+  second_of k [] h = tt
+  second_of k (f ∷ fields) h = (h.0.1, second_of k fields h.1)
+
+  fields-among : (number : ℕ) (o : Option Struct) → slice_get d.structs number ≡ o → AllByRecursion (λ (f : Field). IsAmong number f.of.base) (fields_by o)
+  fields-among number None e = tt
+  fields-among number (Some s) e = second_of number s.fields (all-each d is (λ (f : Field). IsType d f.of × IsAmong number f.of.base) s.fields (is.structs number s e).fields)
+
+  in-there : (structs : ℕ) (b : BaseType) (lengths : List ℕ) (x : BitVector) → IsAmong structs b → unpacked_in d structs b lengths x ≡ Some (unpacked_among d structs b lengths x)
+  in-there structs b (n ∷ lengths) x among =
+      ap (option_map (λ vs. value.Items vs)) (all-some-map (λ i. unpacked_in d structs b lengths (op.slice x ((i + 1) * (x.width / n) - 1) (i * (x.width / n))))
+      (λ i. unpacked_among d structs b lengths (op.slice x ((i + 1) * (x.width / n) - 1) (i * (x.width / n)))) (below n)
+      (λ i. in-there structs b lengths (op.slice x ((i + 1) * (x.width / n) - 1) (i * (x.width / n))) among))
+  in-there structs (base.Bits width) [] x among = refl
+  in-there structs (base.Enum number) [] x among = refl
+  in-there zero (base.Struct number) [] x among = absurd (omega arith)
+  in-there (suc structs) (base.Struct number) [] x among =
+      ap (option_map (λ vs. value.Fields number vs)) (fields-in number (λ t part. unpacked_in d structs t.base t.lengths part) (λ t part. unpacked_among d structs t.base t.lengths part)
+      (λ t y earlier. in-there structs t.base t.lengths y (among-more number structs t.base (omega arith) earlier)) (fields_of d number) x (fields-among number (slice_get d.structs number) refl))
+
+  pub unpacked-there : (t : ValueType) (x : BitVector) → IsType d t → unpacked_if d t x ≡ Some (unpacked d t x)
+  unpacked-there t x valid = in-there (length d.structs) t.base t.lengths x (among-valid d is t.base (all_lengths t.lengths) valid.0)
+
+  -- ---- chains
+
+  pub chain-there : (os : List BinaryOperator) (left : ValueType) (ts : List ValueType) (of : ValueType) (x : BitVector) (vs : List Value) → AllHave d vs ts → Chains os left ts of → HasWidth x (width_of d left) →
+      (chained_if os x vs ≡ Some (chained os x vs)) × HasWidth (chained os x vs) (width_of d of)
+  chain-there [] left [] of x [] have chains h = (refl, subst (λ (t : ValueType). HasWidth x (width_of d t)) (sym chains) h)
+  chain-there [] left [] of x (v ∷ vs) have chains h = absurd have
+  chain-there [] left (t ∷ ts) of x vs have chains h = absurd chains
+  chain-there (o ∷ os) left [] of x vs have chains h = absurd chains
+  chain-there (o ∷ os) left (t ∷ ts) of x [] have chains h = absurd have
+  chain-there (o ∷ os) left (t ∷ ts) of x (v ∷ vs) have chains h =
+      chain-there os chains.0 ts of (binary_value o x (packed v)) vs have.1 chains.2 (operates-width d left t chains.0 x (packed v) h (bits-have v t have.0) o chains.1)
