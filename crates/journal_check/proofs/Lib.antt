@@ -19,3 +19,6 @@ pub mod Replays
 pub mod RunsOfBatches
 pub mod Sound
 pub mod Texts
+pub mod Twins
+pub mod BoardAnswers
+pub mod WrittenJournals

@@ -1,4 +1,4 @@
--- A text is one journal or none, and one that is a journal has no malformed line.
+-- A text is one journal or none, and one that is a journal has no malformed line; no two lines are the first malformed one.
 use Rattle.std.proofs.Common.{◌≡◌, ℕ, ◌<◌, List, [], ◌∷◌, ◌++◌, length, map, Option, Some, None, refl, sym, ap, ap₂, subst, ◌∙◌, arith}
 use Rattle.std.specs.List.{AllByRecursion, flat_map}
 use Rattle.typed_core.specs.declared.design.Parts.{Parts}
@@ -9,7 +9,7 @@ use Rattle.stim_report.specs.Cuts.{lines_of}
 use Rattle.journal_check.specs.Fitting.{IsSmall, LineFits}
 use Rattle.journal_check.specs.Journals.{lines_in, lines_of_batch, numbers_in, numbers_of_batch}
 use Rattle.journal_check.specs.Printing.{ended, journal_text, line_text}
-use Rattle.journal_check.specs.Reading.{AreFront, AreLinesOf, HasPlainNames, IsFirstMalformed, IsJournal, IsNumbered, MayFollow, NoneFollows}
+use Rattle.journal_check.specs.Reading.{AreFront, AreLinesOf, HasPlainNames, IsFirstMalformed, IsJournal, IsNumbered, MayFollow, NoneFollows, malformed_at, number_after}
 use Rattle.journal_check.specs.declared.journal.Batch.{Batch}
 use Rattle.journal_check.specs.declared.journal.Journal.{Journal}
 use Rattle.journal_check.specs.declared.line.Line.{Line}
@@ -200,3 +200,45 @@ next_follows design stimulus first_line before (text ∷ rest) journal (Some fro
 pub no_malformed : (design : Parts) (stimulus : InputVectors) (first_line : ℕ) (text : List ℕ) (journal : Journal) (fault : Fault) → HasPlainNames design → IsJournal design stimulus first_line text journal → IsFirstMalformed design stimulus first_line text fault → ⊥
 no_malformed design stimulus first_line text journal fault names is first =
     next_follows design stimulus first_line first.before first.rest journal first.front names (sym is.lines ∙ first.lines) is.fit first.are first.none
+
+-- ---- the first line of no form
+
+-- of two fronts of a list they are the same, or one goes on after the other
+data Fronts (xs r ys s : List (List ℕ)) : Type 0 where
+  Same : xs ≡ ys → Fronts xs r ys s
+  Longer : (y : List ℕ) (t : List (List ℕ)) → ys ≡ xs ++ y ∷ t → r ≡ y ∷ (t ++ s) → Fronts xs r ys s
+  Shorter : (x : List ℕ) (t : List (List ℕ)) → xs ≡ ys ++ x ∷ t → s ≡ x ∷ (t ++ r) → Fronts xs r ys s
+
+further : (x y : List ℕ) (xs r ys s : List (List ℕ)) → x ≡ y → Fronts xs r ys s → Fronts (x ∷ xs) r (y ∷ ys) s
+further x y xs r ys s same (Same is) = Same (ap₂ (λ (z : List ℕ) (zs : List (List ℕ)). z ∷ zs) same is)
+further x y xs r ys s same (Longer z t is rest) = Longer z t (ap₂ (λ (z : List ℕ) (zs : List (List ℕ)). z ∷ zs) (sym same) is) rest
+further x y xs r ys s same (Shorter z t is rest) = Shorter z t (ap₂ (λ (z : List ℕ) (zs : List (List ℕ)). z ∷ zs) same is) rest
+
+fronts : (xs r ys s : List (List ℕ)) → xs ++ r ≡ ys ++ s → Fronts xs r ys s
+fronts [] r [] s is = Same refl
+fronts [] r (y ∷ ys) s is = Longer y ys refl is
+fronts (x ∷ xs) r [] s is = Shorter x xs refl (sym is)
+fronts (x ∷ xs) r (y ∷ ys) s is = further x y xs r ys s (ap (first_or x) is) (fronts xs r ys s (ap rest_of is))
+
+no_front : (xs : List (List ℕ)) (y : List ℕ) (t : List (List ℕ)) → xs ++ y ∷ t ≡ [] → ⊥
+no_front [] y t is = absurd (cc)
+no_front (x ∷ xs) y t is = absurd (cc)
+
+-- a line with which none goes on is in no longer front
+module _ (design : Parts) (stimulus : InputVectors) (first_line : ℕ) (names : HasPlainNames design) where
+  stops : (before : List (List ℕ)) (y : List ℕ) (t rest : List (List ℕ)) (front longer : Option Journal) → AreFront design stimulus first_line before front → NoneFollows design stimulus front (y ∷ rest)
+      → AreFront design stimulus first_line (before ++ y ∷ t) longer → ⊥
+  stops before y t rest front None are none also = no_front before y t also
+  stops before y t rest front (Some journal) are none also = next_follows design stimulus first_line before (y ∷ t) journal front names (sym also.lines) also.fit are none
+
+  pub one_malformed : (text : List ℕ) (a b : Fault) → IsFirstMalformed design stimulus first_line text a → IsFirstMalformed design stimulus first_line text b → a ≡ b
+  one_malformed text a b p q = by (fronts p.before p.rest q.before q.rest (sym p.lines ∙ q.lines))
+    where
+      by : Fronts p.before p.rest q.before q.rest → a ≡ b
+      by (Same is) = p.fault_is ∙ ap (λ (before : List (List ℕ)). malformed_at (number_after first_line (length before))) is ∙ sym q.fault_is
+      by (Longer y t is rest) =
+          absurd (stops p.before y t (t ++ q.rest) p.front q.front p.are (subst (NoneFollows design stimulus p.front) rest p.none)
+          (subst (λ (texts : List (List ℕ)). AreFront design stimulus first_line texts q.front) is q.are))
+      by (Shorter y t is rest) =
+          absurd (stops q.before y t (t ++ p.rest) q.front p.front q.are (subst (NoneFollows design stimulus q.front) rest q.none)
+          (subst (λ (texts : List (List ℕ)). AreFront design stimulus first_line texts p.front) is p.are))

@@ -10,3 +10,4 @@ pub mod Reading
 pub mod Replaying
 pub mod Steps
 pub mod Tokens
+pub mod Twins

@@ -33,12 +33,15 @@ pub fn what_was_read_is_printed_back()
         → IsJournal design stimulus first_line text journal → journal_text design journal ≡ flat_map ended (lines_of text) }
 {}
 
-/// A text is one journal at most, and one that is a journal has no malformed line, where no name has a space.
+/// A text is one journal at most, one that is a journal has no malformed line, and no two faults are those of a first
+/// malformed line, where no name has a space.
 pub fn a_text_is_one_journal_or_malformed()
     ensures one { (design : Parts) (stimulus : InputVectors) (first_line : ℕ) (text : List ℕ) (a b : JournalOf) → HasPlainNames design
         → IsJournal design stimulus first_line text a → IsJournal design stimulus first_line text b → a ≡ b }
     ensures either { (design : Parts) (stimulus : InputVectors) (first_line : ℕ) (text : List ℕ) (journal : JournalOf) (fault : FaultOf) → HasPlainNames design
         → IsJournal design stimulus first_line text journal → IsFirstMalformed design stimulus first_line text fault → ⊥ }
+    ensures first { (design : Parts) (stimulus : InputVectors) (first_line : ℕ) (text : List ℕ) (a b : FaultOf) → HasPlainNames design
+        → IsFirstMalformed design stimulus first_line text a → IsFirstMalformed design stimulus first_line text b → a ≡ b }
 {}
 
 /// The text of a journal that fits is cut into its lines, where no name has a byte below the space.

@@ -33,6 +33,25 @@ pub fn print_journal(alloc: Global, design: &Design, journal: &Journal) -> Resul
     Ok(text)
 }
 
+/// The line with which a journal of this many workers begins, with a line feed at its end.
+pub fn print_begin(alloc: Global, workers: u32) -> Result<Text, NoMemory>
+    ensures { IfOk result (λ text. text ≡ texts.ended (joined (begin_tokens workers))) }
+{
+    let mut text = Text::new(alloc);
+    push_begin(&mut text, workers)?;
+    text.push(b'\n')?;
+    Ok(text)
+}
+
+/// The lines of a batch, each with a line feed at its end.
+pub fn print_batch(alloc: Global, design: &Design, batch: &Batch) -> Result<Text, NoMemory>
+    ensures { IfOk result (λ text. text ≡ text_of design.now (lines_of_batch batch.now)) }
+{
+    let mut text = Text::new(alloc);
+    push_lines(&mut text, design, batch)?;
+    Ok(text)
+}
+
 // Adds the lines of a batch, each with its line feed.
 fn push_lines(text: &mut Text, design: &Design, batch: &Batch) -> Result<(), NoMemory>
     ensures { OnOk result (text.new ≡ text.old ++ text_of design.now (lines_of_batch batch.now)) }

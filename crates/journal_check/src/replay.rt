@@ -8,7 +8,6 @@ ghost use Rattle.typed_core.specs.Valid.{externs_of};
 ghost use Rattle.typed_core.specs.Widths.{HaveWidths, input_widths, register_widths};
 ghost use Rattle.one_rule.specs.Externs.{kept};
 ghost use Rattle.one_rule.specs.Stimulus.{StimulusFits};
-ghost use Rattle.attempt_log.specs.Entries.{taken_of};
 ghost use Rattle.attempt_log.specs.Setting.{IsFor};
 ghost use Rattle.attempt_log.specs.Trace.{IsTrace};
 ghost use Rattle.board_core.specs.Board.{opened, setting_of};
@@ -21,7 +20,7 @@ ghost use Rattle.journal_check.specs.Checking.{BatchFits, Closes, IsFaultOfEntri
 ghost use Rattle.journal_check.specs.Replaying.{Answers, AnswersOtherwise, IsFaultAt, Leaves, Makes};
 
 use crate::journal::Batch;
-use attempt_log::{Attempt, Entry, Settled, Submitted, Taken};
+use attempt_log::{Attempt, Entry, Settled, Taken};
 use board_core::Core;
 use kw_base::fault_number::{NO_TRACE, WRONG_ANSWER, WRONG_BATCH};
 use kw_base::{Fault, Place, Refusal};
@@ -182,22 +181,10 @@ fn submit(core: &mut Core, attempt: Attempt, answer: Taken, line: u32) -> Result
     ensures fault { IfFault result (λ fault. (fault ≡ at_line 82 line) × AnswersOtherwise core.old (event.Submit attempt) (history.Submit answer)) }
 {
     let given = core.submit(attempt);
-    if taken_of(&given) != answer {
+    if given.taken() != answer {
         return Err(refusal(WRONG_ANSWER, line));
     }
     Ok(())
-}
-
-// The answer without the attempt that it hands back.
-fn taken_of(answer: &Submitted) -> Taken
-    ensures { result ≡ taken_of answer.now }
-{
-    match answer {
-        Submitted::Stored => Taken::Stored,
-        Submitted::Late(_) => Taken::Late,
-        Submitted::Ahead(_) => Taken::Ahead,
-        Submitted::Twice(_) => Taken::Twice,
-    }
 }
 
 // Settles the head, which is to be answered so.

@@ -1,0 +1,20 @@
+//! Journals: how many lines a text has.
+
+ghost use Rattle.std.specs.Prelude.{◌≡◌, length};
+ghost use Rattle.stim_report.specs.Cuts.{lines_of};
+ghost use Rattle.journal_check.specs.Reading.{number_after};
+
+use crate::cut::next_line;
+
+/// The number of the line after a text whose first line has this number.
+pub fn line_after(first_line: u32, text: &[u8]) -> u32
+    ensures { result ≡ number_after first_line (length (lines_of text.now)) }
+{
+    let mut number = first_line;
+    let mut rest = text;
+    while let Some(cut) = next_line(rest) {
+        number = number.saturating_add(1);
+        rest = cut.rest;
+    }
+    number
+}
