@@ -2,4 +2,3 @@ pub mod Printing
 pub mod Lexed
 pub mod Levels
 pub mod Writable
-pub mod RoundTrip

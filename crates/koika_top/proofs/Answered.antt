@@ -1,5 +1,5 @@
 -- Words and a source have an answer.
-use Rattle.std.proofs.Common.{◌≡◌, ◌⊎◌, ◌+◌, ◌≤◌, ℕ, zero, suc, Bool, true, false, List, [], ◌∷◌, ◌++◌, length, length-append, take, Option, Some, None, Result, Ok, Err, refl, ap, inl, inr, arith, ⊎_elim}
+use Rattle.std.proofs.Common.{◌≡◌, ◌⊎◌, ◌+◌, ◌≤◌, ℕ, zero, suc, true, false, List, [], ◌∷◌, ◌++◌, length, length-append, take, Option, Some, None, Result, Ok, Err, refl, ap, inl, inr, arith, ⊎_elim}
 use Rattle.std.specs.Prelude.{MatchOption, position}
 use Rattle.std.specs.List.{flat_map, join_with_byte, slice_split}
 use Rattle.std.proofs.lemmas.Bool.{cases_lt, false≢true}
@@ -25,10 +25,13 @@ use Rattle.one_rule.specs.Stimulus.{InputVectors, inputs_of}
 use Rattle.stim_report.specs.Cuts.{cut_at, ends_line, is_mark, parts_of, with_line_feed}
 use Rattle.kw_bits.specs.declared.host.HostSpec.{HostSpec}
 use Rattle.koika_top.specs.Aiger.{AnswersAiger, most_bits}
-use Rattle.koika_top.specs.Answer.{Answers, IsAnswer, has_one_text}
+use Rattle.koika_top.specs.Answer.{Answers, IsAnswer, is_answered}
+use Rattle.koika_top.specs.Btorsim.{longest_circuit}
 use Rattle.koika_top.specs.Compile.{AnswersCompile}
 use Rattle.koika_top.specs.Generator.{pipeline}
+use Rattle.koika_top.specs.Journal.{AnswersJournal, HasJournal, is_too_heavy}
 use Rattle.koika_top.specs.Reads.{AnswersCheck, AnswersPrint, counts_line}
+use Rattle.koika_top.specs.Recheck as recheck
 use Rattle.koika_top.specs.Sim.{AnswersSim, is_too_long, marks_of, text_of_rows}
 use Rattle.koika_top.specs.Sources.{IsIllTyped, IsUnread, IsUnspelled, Spells, SpellsDesign, SpellsTree, design_part, fault_of_source, longest_source, shape_of, stimulus_in}
 use Rattle.koika_top.specs.Systems.{run_of}
@@ -37,7 +40,7 @@ use Rattle.koika_top.specs.declared.answer.Answer.{Answer}
 use Rattle.koika_top.specs.declared.answer.Answer.TheVariants.{Usage, Refused, Written}
 use Rattle.koika_top.specs.declared.shown.Shown.{Shown}
 use Rattle.koika_top.specs.declared.words.Command.{Command}
-use Rattle.koika_top.specs.declared.words.Command.TheVariants.{Check, Print, Sim, Compile, Btorsim, Gen, Aiger, Aigsim}
+use Rattle.koika_top.specs.declared.words.Command.TheVariants.{Check, Print, Sim, Compile, Btorsim, Gen, Aiger, Aigsim, Journal, Recheck}
 use Rattle.koika_top.proofs.AigAnswered.{aigsim_answer}
 use Rattle.koika_top.proofs.CircuitAnswered.{btorsim_answer, yes_or_no}
 
@@ -166,7 +169,7 @@ module _ (hosts : List HostSpec) (source : List ℕ) where
         (spelled_or_fault short))
         (cases_lt longest_source (length source))
 
-command_answer : (hosts : List HostSpec) (command : Command) (source : List ℕ) → has_one_text (Some command) ≡ true → (answer : Answer) × Answers hosts command source answer
+command_answer : (hosts : List HostSpec) (command : Command) (source : List ℕ) → is_answered (Some command) ≡ true → (answer : Answer) × Answers hosts command source answer
 command_answer hosts Check source one = check_answer hosts source
 command_answer hosts Print source one = print_answer hosts source
 command_answer hosts (Sim cycles shown engine) source one = sim_answer hosts source cycles shown
@@ -175,13 +178,15 @@ command_answer hosts Compile source one = absurd (false≢true one)
 command_answer hosts (Gen stages) source one = (Written (pipeline stages), refl)
 command_answer hosts Aiger source one = absurd (false≢true one)
 command_answer hosts (Aigsim cycles shown) source one = aigsim_answer source cycles shown
+command_answer hosts (Journal cycles workers) source one = absurd (false≢true one)
+command_answer hosts (Recheck cycles) source one = absurd (false≢true one)
 
-by_words : (hosts : List HostSpec) (command : Option Command) (source : List ℕ) → has_one_text command ≡ true → (answer : Answer) × MatchOption command (answer ≡ Usage) (λ c. Answers hosts c source answer)
+by_words : (hosts : List HostSpec) (command : Option Command) (source : List ℕ) → is_answered command ≡ true → (answer : Answer) × MatchOption command (answer ≡ Usage) (λ c. Answers hosts c source answer)
 by_words hosts None source one = (Usage, refl)
 by_words hosts (Some command) source one = command_answer hosts command source one
 
 -- there is an answer
-pub some_answer : (hosts : List HostSpec) (words : List (List ℕ)) (source : List ℕ) → has_one_text (command_of words) ≡ true → (answer : Answer) × IsAnswer hosts words source answer
+pub some_answer : (hosts : List HostSpec) (words : List (List ℕ)) (source : List ℕ) → is_answered (command_of words) ≡ true → (answer : Answer) × IsAnswer hosts words source answer
 some_answer hosts words source one = by_words hosts (command_of words) source one
 
 -- a source is refused by `compile`, or spells what a circuit can be written of
@@ -209,3 +214,68 @@ some_aig hosts source =
     (λ wrong. inl (wrong.0, inr (inl wrong.1)))
     (spelled_or_fault hosts source short))
     (cases_lt longest_source (length source))
+
+-- a source is refused by `sim --journal`, or spells what a journal can be written of
+module _ (hosts : List HostSpec) (cycles workers : ℕ) (source : List ℕ) where
+  abbrev IsOrHas : Type 0
+  IsOrHas = ((fault : Fault) × AnswersJournal hosts cycles workers source (Refused fault)) ⊎ ((design : Checked) × (stimulus : InputVectors) × HasJournal hosts cycles source design stimulus)
+
+  has_journal : (d : Checked) (s : InputVectors) → Spells hosts source d s → IsOrHas
+  has_journal d s spelled =
+      ⊎_elim
+      (λ long. inl (fault_of_source 45, inr (inl (inr (refl, (d, s, spelled, long))))))
+      (λ within.
+      ⊎_elim
+      (λ heavy. inl (fault_of_source 49, inr (inr (refl, (d, s, spelled, within, heavy)))))
+      (λ light. inr (d, s, record { spelled = spelled; within = within; light = light }))
+      (yes_or_no (is_too_heavy cycles d)))
+      (yes_or_no (is_too_long cycles d))
+
+  pub some_journal : IsOrHas
+  some_journal =
+      ⊎_elim
+      (λ long. inl (fault_of_source 40, inl (refl, long)))
+      (λ short.
+      ⊎_elim
+      (λ found. has_journal found.0 found.1 found.2)
+      (λ wrong. inl (wrong.0, inr (inl (inl wrong.1))))
+      (spelled_or_fault hosts source short))
+      (cases_lt longest_source (length source))
+
+-- a source is refused by `recheck` before its journal is looked at, or may have a journal
+module _ (hosts : List HostSpec) (cycles : ℕ) (source : List ℕ) where
+  abbrev IsOrMay : Type 0
+  IsOrMay = ((fault : Fault) × recheck.IsRefusedBefore hosts cycles source fault) ⊎ ((design : Checked) × (stimulus : InputVectors) × recheck.MayHaveJournal hosts cycles source design stimulus)
+
+  may_have_journal : (d : Checked) (s : InputVectors) → recheck.SpellsBoth hosts source d s → IsOrMay
+  may_have_journal d s spelled =
+      ⊎_elim
+      (λ long. inl (fault_of_source 45, inr (d, s, spelled, inl (refl, long))))
+      (λ within.
+      ⊎_elim
+      (λ heavy. inl (fault_of_source 49, inr (d, s, spelled, inr (refl, within, heavy))))
+      (λ light. inr (d, s, record { spelled = spelled; within = within; light = light }))
+      (yes_or_no (is_too_heavy cycles d)))
+      (yes_or_no (is_too_long cycles d))
+
+  first_part : (d : Checked) → recheck.SpellsFirst hosts source d → IsOrMay
+  first_part d first =
+      ⊎_elim
+      (λ given. may_have_journal d given.0 (record { first = first; given = given.1 }))
+      (λ wrong. inl (wrong.0, inl (inr (inr (d, first, wrong.1)))))
+      (stimulus_told (recheck.stimulus_in source d))
+
+  pub some_recheck : IsOrMay
+  some_recheck =
+      ⊎_elim
+      (λ long. inl (fault_of_source 40, inl (inl (refl, inl long))))
+      (λ short.
+      ⊎_elim
+      (λ long. inl (fault_of_source 40, inl (inl (refl, inr long))))
+      (λ brief.
+      ⊎_elim
+      (λ found. first_part found.0 (record { short = short; spelled = found.1 }))
+      (λ wrong. inl (wrong.0, inl (inr (inl (short, wrong.1)))))
+      (design_or_fault hosts (recheck.parts_of source).design brief))
+      (cases_lt longest_source (length (recheck.parts_of source).design)))
+      (cases_lt longest_circuit (length source))

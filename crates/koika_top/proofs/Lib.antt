@@ -5,6 +5,10 @@ pub mod SameChecked
 pub mod SamePrinted
 pub mod Generated
 pub mod OneAnswer
+pub mod OneRecheck
+pub mod OneOfWords
+pub mod LoweredTwins
+pub mod ValidWidths
 pub mod PlainNames
 pub mod SymbolNames
 pub mod CircuitLines
@@ -44,3 +48,13 @@ pub mod StimuliFit
 pub mod Compiled
 pub mod Converted
 pub mod Crews
+pub mod RoundTrip
+pub mod Records
+pub mod JournalNames
+pub mod Rechecked
+pub mod CutAgain
+pub mod SomeHistories
+pub mod JournalBatches
+pub mod DeclaredNames
+pub mod JournaledAgain
+pub mod Rechecking

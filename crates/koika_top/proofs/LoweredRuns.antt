@@ -36,7 +36,7 @@ twice f g [] = refl
 twice f g (x ∷ xs) = ap (λ zs. g (f x) ∷ zs) (twice f g xs)
 
 -- what is within a list is there
-not_past : {X : Type 0} (xs : List X) (k : ℕ) → slice_get xs k ≡ None → k < length xs → ⊥
+pub not_past : {X : Type 0} (xs : List X) (k : ℕ) → slice_get xs k ≡ None → k < length xs → ⊥
 not_past xs k none within =
     ⊎_elim
     (λ found. let bad : None ≡ Some found.0 = sym none ∙ found.2 in absurd cc)
@@ -69,7 +69,7 @@ module _ (d : Checked) (design : Parts) (lowered : IsLowered d design) where
   first-same : core_run.first_values design ≡ first_values d
   first-same = ap (map (λ (decl : RegDecl). decl.first)) lowered.registers ∙ twice register_of (λ (decl : RegDecl). decl.first) d.registers
 
-  rules-count : length design.rules ≡ length d.rules
+  pub rules-count : length design.rules ≡ length d.rules
   rules-count = sym (length-map design.rules (λ (c : CoreRule). c.name)) ∙ ap length lowered.names ∙ length-map d.rules (λ (r : Rule). r.name)
 
   -- ---- rules

@@ -1,7 +1,5 @@
--- Words and a source have one answer, by its status and its text.
-use Rattle.std.proofs.Common.{◌≡◌, ℕ, ◌<◌, ◌≤◌, inl, inr, true, false, List, length, Option, Some, None, refl, sym, ap, subst, ◌∙◌, arith}
-use Rattle.std.specs.Prelude.{MatchOption}
-use Rattle.std.proofs.lemmas.Bool.{false≢true}
+-- A source spells one design and has one answer to each command, by its status and its text.
+use Rattle.std.proofs.Common.{◌≡◌, ℕ, ◌<◌, ◌≤◌, inl, inr, true, false, List, length, refl, sym, ap, subst, ◌∙◌, arith}
 use Rattle.kw_base.specs.Fault.{fault_at}
 use Rattle.kw_base.specs.Place.{place_at}
 use Rattle.kw_base.specs.declared.fault.Fault.{Fault}
@@ -23,21 +21,17 @@ use Rattle.koika_check.specs.declared.stop.Wrong.{Wrong}
 use Rattle.one_rule.specs.Stimulus.{InputVectors, inputs_of}
 use Rattle.kw_bits.specs.declared.host.HostSpec.{HostSpec}
 use Rattle.koika_top.specs.Aiger.{AnswersAiger, HasTooManyBits, most_bits}
-use Rattle.koika_top.specs.Answer.{Answers, IsAnswer, IsLikeAnswer, IsSameAnswer, has_one_text, status_of, text_of}
+use Rattle.koika_top.specs.Answer.{IsLikeAnswer, IsSameAnswer, text_of}
 use Rattle.koika_top.specs.Compile.{AnswersCompile, ShowsCircuit}
+use Rattle.koika_top.specs.Journal.{AnswersJournal, HasJournal, HasNoJournal, is_too_heavy}
 use Rattle.koika_top.specs.Reads.{AnswersCheck, AnswersPrint, ShowsTree, TellsCounts, counts_line}
 use Rattle.koika_top.specs.Sim.{AnswersSim, HasNoRun, ShowsRun, is_too_long, marks_of, text_of_rows}
 use Rattle.koika_top.specs.Sources.{HasNoTree, IsIllTyped, IsTooLong, IsUnread, IsUnspelled, Spells, SpellsDesign, SpellsTree, design_part, longest_source, shape_of, stimulus_in}
 use Rattle.koika_top.specs.Systems.{run_of}
-use Rattle.koika_top.specs.Words.{command_of}
 use Rattle.koika_top.specs.declared.answer.Answer.{Answer}
 use Rattle.koika_top.specs.declared.answer.Answer.TheVariants.{Usage, Refused, Written}
 use Rattle.koika_top.specs.declared.shown.Shown.{Shown}
 use Rattle.koika_top.specs.declared.status.Status.TheVariants as status
-use Rattle.koika_top.specs.declared.words.Command.{Command}
-use Rattle.koika_top.specs.declared.words.Command.TheVariants.{Check, Print, Sim, Compile, Btorsim, Gen, Aiger, Aigsim}
-use Rattle.koika_top.proofs.OneAigAnswer.{aigsim-same}
-use Rattle.koika_top.proofs.OneCircuitAnswer.{btorsim-same}
 use Rattle.koika_top.proofs.Results.{err-same, ok-same, ok_or_err}
 use Rattle.koika_top.proofs.SameChecked.{same_checked}
 use Rattle.koika_top.proofs.SamePrinted.{same_printed}
@@ -97,7 +91,7 @@ module _ (source : List ℕ) where
   long_or_unread : (f g : Fault) → IsTooLong source f → IsUnread source g → ⊥
   long_or_unread f g a b = not_both_lengths (length source) a.1 (unread-short g b)
 
-  print-same : (a b : Answer) → AnswersPrint source a → AnswersPrint source b → IsSameAnswer a b
+  pub print-same : (a b : Answer) → AnswersPrint source a → AnswersPrint source b → IsSameAnswer a b
   print-same Usage b h k = absurd h
   print-same (Refused f) Usage h k = absurd k
   print-same (Refused f) (Refused g) (inl h) (inl k) = record { status = refl; text = ap (λ fault. text_of (Refused fault)) (h.0 ∙ sym k.0) }
@@ -120,11 +114,11 @@ module _ (hosts : List HostSpec) (source : List ℕ) where
   pub same_design : (d e : Checked) → SpellsDesign hosts source d → SpellsDesign hosts source e → d ≡ e
   same_design d e h k = gives-same d e (checked hosts k.tree) (sym (same_outcome h.tree k.tree h.spelled k.spelled) ∙ h.typed) k.typed
 
-  ill-short : (f : Fault) → IsIllTyped hosts source f → length source ≤ longest_source
+  pub ill-short : (f : Fault) → IsIllTyped hosts source f → length source ≤ longest_source
   ill-short f (inl a) = unread-short source f a
   ill-short f (inr a) = a.2.short
 
-  ill-same : (f g : Fault) → IsIllTyped hosts source f → IsIllTyped hosts source g → f ≡ g
+  pub ill-same : (f g : Fault) → IsIllTyped hosts source f → IsIllTyped hosts source g → f ≡ g
   ill-same f g (inl a) (inl b) = unread-same source f g a b
   ill-same f g (inl a) (inr b) = absurd (read_or_not source f b.0 a b.2)
   ill-same f g (inr a) (inl b) = absurd (read_or_not source g a.0 b a.2)
@@ -132,7 +126,7 @@ module _ (hosts : List HostSpec) (source : List ℕ) where
       let same = fails-same a.1 b.1 (checked hosts b.0) (sym (same_outcome a.0 b.0 a.2 b.2) ∙ a.3) b.3 in
       a.4 ∙ ap (λ (w : Wrong). fault_at w.number (place_at (design_part source) w.place)) same ∙ sym b.4
 
-  typed_or_not : (f : Fault) (d : Checked) → IsIllTyped hosts source f → SpellsDesign hosts source d → ⊥
+  pub typed_or_not : (f : Fault) (d : Checked) → IsIllTyped hosts source f → SpellsDesign hosts source d → ⊥
   typed_or_not f d (inl a) h = read_or_not source f h.tree a h.spelled
   typed_or_not f d (inr a) h = gives_or_fails d a.1 (checked hosts h.tree) h.typed (sym (same_outcome a.0 h.tree a.2 h.spelled) ∙ a.3)
 
@@ -155,7 +149,7 @@ module _ (hosts : List HostSpec) (source : List ℕ) where
   spelled_or_not f d s (inl a) h = typed_or_not f d a h.spelled
   spelled_or_not f d s (inr a) h = ok_or_err s f (stimulus_in source d) h.given (sym (stimulus-same a.0 d a.1 h.spelled) ∙ a.2)
 
-  same_stimulus : (d e : Checked) (s r : InputVectors) → Spells hosts source d s → Spells hosts source e r → s ≡ r
+  pub same_stimulus : (d e : Checked) (s r : InputVectors) → Spells hosts source d s → Spells hosts source e r → s ≡ r
   same_stimulus d e s r h k = ok-same s r (stimulus_in source e) (sym (stimulus-same d e h.spelled k.spelled) ∙ h.given) k.given
 
   -- ---- check
@@ -166,7 +160,7 @@ module _ (hosts : List HostSpec) (source : List ℕ) where
   pub long_or_spelled : (f : Fault) (d : Checked) → IsTooLong source f → SpellsDesign hosts source d → ⊥
   long_or_spelled f d a h = not_both_lengths (length source) a.1 h.spelled.short
 
-  check-same : (a b : Answer) → AnswersCheck hosts source a → AnswersCheck hosts source b → IsSameAnswer a b
+  pub check-same : (a b : Answer) → AnswersCheck hosts source a → AnswersCheck hosts source b → IsSameAnswer a b
   check-same Usage b h k = absurd h
   check-same (Refused f) Usage h k = absurd k
   check-same (Refused f) (Refused g) (inl h) (inl k) = record { status = refl; text = ap (λ fault. text_of (Refused fault)) (h.0 ∙ sym k.0) }
@@ -192,7 +186,7 @@ module _ (hosts : List HostSpec) (source : List ℕ) where
   spelled_or_refused f d s spelled (inl long) = long_or_spelled f d long spelled.spelled
   spelled_or_refused f d s spelled (inr fault) = spelled_or_not f d s fault spelled
 
-  compile-like : (a b : Answer) → AnswersCompile hosts source a → AnswersCompile hosts source b → IsLikeAnswer a b
+  pub compile-like : (a b : Answer) → AnswersCompile hosts source a → AnswersCompile hosts source b → IsLikeAnswer a b
   compile-like Usage b h k = absurd h
   compile-like (Refused f) Usage h k = absurd k
   compile-like (Refused f) (Refused g) h k = same-like (Refused f) (Refused g) (check-same (Refused f) (Refused g) h k)
@@ -227,7 +221,7 @@ module _ (hosts : List HostSpec) (source : List ℕ) where
   aiger-refused f g (inr (inr a)) (inr (inl b)) = absurd (spelled_or_not g a.1.0 a.1.1 b a.1.2)
   aiger-refused f g (inr (inr a)) (inr (inr b)) = a.0 ∙ sym b.0
 
-  aiger-like : (a b : Answer) → AnswersAiger hosts source a → AnswersAiger hosts source b → IsLikeAnswer a b
+  pub aiger-like : (a b : Answer) → AnswersAiger hosts source a → AnswersAiger hosts source b → IsLikeAnswer a b
   aiger-like Usage b h k = absurd h
   aiger-like (Refused f) Usage h k = absurd k
   aiger-like (Refused f) (Refused g) h k = record { status = refl; refusal = λ e. ap (λ fault. text_of (Refused fault)) (aiger-refused f g h k) }
@@ -267,7 +261,7 @@ module _ (hosts : List HostSpec) (source : List ℕ) where
     long_or_no_run : (f g : Fault) → IsTooLong source f → HasNoRun hosts cycles source g → ⊥
     long_or_no_run f g a b = not_both_lengths (length source) a.1 (no_run-short g b)
 
-    sim-same : (shown : Shown) (a b : Answer) → AnswersSim hosts cycles shown source a → AnswersSim hosts cycles shown source b → IsSameAnswer a b
+    pub sim-same : (shown : Shown) (a b : Answer) → AnswersSim hosts cycles shown source a → AnswersSim hosts cycles shown source b → IsSameAnswer a b
     sim-same shown Usage b h k = absurd h
     sim-same shown (Refused f) Usage h k = absurd k
     sim-same shown (Refused f) (Refused g) (inl h) (inl k) = record { status = refl; text = ap (λ fault. text_of (Refused fault)) (h.0 ∙ sym k.0) }
@@ -281,41 +275,44 @@ module _ (hosts : List HostSpec) (source : List ℕ) where
     sim-same shown (Written text) (Refused g) h (inr k) = absurd (run_or_not g shown text k h)
     sim-same shown (Written text) (Written other) h k = record { status = refl; text = shown-same shown text other h k }
 
--- ---- commands and words
+    -- ---- journals
 
--- answers that are equal can't be told apart
-pub equal-same : (a b : Answer) → a ≡ b → IsSameAnswer a b
-equal-same a b e = record { status = ap status_of e; text = ap text_of e }
+    -- a design whose run isn't too long has no run that is
+    run_or_long : (f : Fault) (d : Checked) → HasNoRun hosts cycles source f → (s : InputVectors) → Spells hosts source d s → is_too_long cycles d ≡ false → ⊥
+    run_or_long f d (inl a) s spelled within = spelled_or_not f d s a spelled
+    run_or_long f d (inr a) s spelled within =
+        let both : true ≡ false = sym a.1.3 ∙ ap (is_too_long cycles) (same_design a.1.0 d a.1.2.spelled spelled.spelled) ∙ within in
+        absurd cc
 
--- the answers of a command to a source have one status
-pub command_answer-same : (hosts : List HostSpec) (command : Command) (source : List ℕ) (a b : Answer) → Answers hosts command source a → Answers hosts command source b → IsLikeAnswer a b
-command_answer-same hosts Check source a b h k = same-like a b (check-same hosts source a b h k)
-command_answer-same hosts Print source a b h k = same-like a b (print-same source a b h k)
-command_answer-same hosts (Sim cycles shown engine) source a b h k = same-like a b (sim-same hosts source cycles shown a b h k)
-command_answer-same hosts Compile source a b h k = compile-like hosts source a b h k
-command_answer-same hosts (Btorsim cycles shown) source a b h k = same-like a b (btorsim-same source cycles shown a b h k)
-command_answer-same hosts (Gen stages) source a b h k = same-like a b (equal-same a b (h ∙ sym k))
-command_answer-same hosts Aiger source a b h k = aiger-like hosts source a b h k
-command_answer-same hosts (Aigsim cycles shown) source a b h k = same-like a b (aigsim-same source cycles shown a b h k)
+    -- no source both spells a design with a stimulus that has a journal and is refused
+    pub journaled_or_refused : (workers : ℕ) (f : Fault) (d : Checked) (s : InputVectors) → HasJournal hosts cycles source d s → AnswersJournal hosts cycles workers source (Refused f) → ⊥
+    journaled_or_refused workers f d s h (inl long) = long_or_spelled f d long h.spelled.spelled
+    journaled_or_refused workers f d s h (inr (inl none)) = run_or_long f d none s h.spelled h.within
+    journaled_or_refused workers f d s h (inr (inr heavy)) =
+        let both : true ≡ false = sym heavy.1.4 ∙ ap (is_too_heavy cycles) (same_design heavy.1.0 d heavy.1.2.spelled h.spelled.spelled) ∙ h.light in
+        absurd cc
 
-like-by_words : (hosts : List HostSpec) (command : Option Command) (source : List ℕ) (a b : Answer) → MatchOption command (a ≡ Usage) (λ c. Answers hosts c source a) → MatchOption command (b ≡ Usage) (λ c. Answers hosts c source b) → IsLikeAnswer a b
-like-by_words hosts None source a b h k = same-like a b (equal-same a b (h ∙ sym k))
-like-by_words hosts (Some command) source a b h k = command_answer-same hosts command source a b h k
+    no_journal-same : (f g : Fault) → HasNoJournal hosts cycles source f → HasNoJournal hosts cycles source g → f ≡ g
+    no_journal-same f g (inl a) (inl b) = no_run-same f g a b
+    no_journal-same f g (inl a) (inr b) = absurd (run_or_long f b.1.0 a b.1.1 b.1.2 b.1.3)
+    no_journal-same f g (inr a) (inl b) = absurd (run_or_long g a.1.0 b a.1.1 a.1.2 a.1.3)
+    no_journal-same f g (inr a) (inr b) = a.0 ∙ sym b.0
 
-pub one_status : (hosts : List HostSpec) (words : List (List ℕ)) (source : List ℕ) (a b : Answer) → IsAnswer hosts words source a → IsAnswer hosts words source b → IsLikeAnswer a b
-one_status hosts words source a b h k = like-by_words hosts (command_of words) source a b h k
+    long_or_no_journal : (f g : Fault) → IsTooLong source f → HasNoJournal hosts cycles source g → ⊥
+    long_or_no_journal f g a (inl b) = long_or_no_run f g a b
+    long_or_no_journal f g a (inr b) = long_or_spelled f b.1.0 a b.1.2.spelled
 
--- and all but those of `compile` and `aiger` are one
-by_words : (hosts : List HostSpec) (command : Option Command) (source : List ℕ) (a b : Answer) → has_one_text command ≡ true → MatchOption command (a ≡ Usage) (λ c. Answers hosts c source a) → MatchOption command (b ≡ Usage) (λ c. Answers hosts c source b) → IsSameAnswer a b
-by_words hosts None source a b one h k = equal-same a b (h ∙ sym k)
-by_words hosts (Some Check) source a b one h k = check-same hosts source a b h k
-by_words hosts (Some Print) source a b one h k = print-same source a b h k
-by_words hosts (Some (Sim cycles shown engine)) source a b one h k = sim-same hosts source cycles shown a b h k
-by_words hosts (Some Compile) source a b one h k = absurd (false≢true one)
-by_words hosts (Some (Btorsim cycles shown)) source a b one h k = btorsim-same source cycles shown a b h k
-by_words hosts (Some (Gen stages)) source a b one h k = equal-same a b (h ∙ sym k)
-by_words hosts (Some Aiger) source a b one h k = absurd (false≢true one)
-by_words hosts (Some (Aigsim cycles shown)) source a b one h k = aigsim-same source cycles shown a b h k
+    journal-refused : (workers : ℕ) (f g : Fault) → AnswersJournal hosts cycles workers source (Refused f) → AnswersJournal hosts cycles workers source (Refused g) → f ≡ g
+    journal-refused workers f g (inl a) (inl b) = a.0 ∙ sym b.0
+    journal-refused workers f g (inl a) (inr b) = absurd (long_or_no_journal f g a b)
+    journal-refused workers f g (inr a) (inl b) = absurd (long_or_no_journal g f b a)
+    journal-refused workers f g (inr a) (inr b) = no_journal-same f g a b
 
-pub one_answer : (hosts : List HostSpec) (words : List (List ℕ)) (source : List ℕ) (a b : Answer) → has_one_text (command_of words) ≡ true → IsAnswer hosts words source a → IsAnswer hosts words source b → IsSameAnswer a b
-one_answer hosts words source a b one h k = by_words hosts (command_of words) source a b one h k
+    pub journal-like : (workers : ℕ) (a b : Answer) → AnswersJournal hosts cycles workers source a → AnswersJournal hosts cycles workers source b → IsLikeAnswer a b
+    journal-like workers Usage b h k = absurd h
+    journal-like workers (Refused f) Usage h k = absurd k
+    journal-like workers (Refused f) (Refused g) h k = record { status = refl; refusal = λ e. ap (λ fault. text_of (Refused fault)) (journal-refused workers f g h k) }
+    journal-like workers (Refused f) (Written text) h k = absurd (journaled_or_refused workers f k.design k.stimulus k.spelled h)
+    journal-like workers (Written text) Usage h k = absurd k
+    journal-like workers (Written text) (Refused g) h k = absurd (journaled_or_refused workers g h.design h.stimulus h.spelled k)
+    journal-like workers (Written text) (Written other) h k = record { status = refl; refusal = λ e. let bad : status.Done ≡ status.Refused = e in absurd cc }

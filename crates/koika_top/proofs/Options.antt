@@ -3,7 +3,7 @@ use Rattle.std.proofs.Common.{◌≡◌, ℕ, ◌+◌, ◌<◌, ◌≤◌, Bool,
 use Rattle.std.specs.Prelude.{codes, IfSome, if◌then◌else◌}
 use Rattle.std.specs.Str.{bytes_eq}
 use Rattle.koika_top.specs.Steps.{IsAlone, RunsBy}
-use Rattle.koika_top.specs.Words.{aigsim_by, aigsim_of, alone_of, asked_for, asks_workers, btorsim_by, btorsim_of, command_of, engine_by, engine_of, gen_by, gen_of, given_once, is_of_workers, number_of, no_options, options_of, sim_by, sim_of, with_cycles, with_engine, with_summary, with_word, with_workers}
+use Rattle.koika_top.specs.Words.{aigsim_by, aigsim_of, alone_of, asked_flag, asked_for, asks_workers, btorsim_by, btorsim_of, command_of, engine_by, engine_of, gen_by, gen_of, given_once, is_of_workers, journal_by, number_of, no_options, options_of, recheck_by, recheck_of, sim_by, sim_of, with_cycles, with_engine, with_journal, with_summary, with_word, with_workers}
 use Rattle.koika_top.specs.declared.shown.Shown.{Shown}
 use Rattle.koika_top.specs.declared.shown.Shown.TheVariants.{Report, Summary}
 use Rattle.koika_top.specs.declared.engine_kind.EngineKind.{EngineKind}
@@ -21,8 +21,12 @@ abbrev shown_words : Shown → ℕ
 shown_words Report = 0
 shown_words Summary = 1
 
+abbrev flag_words : Bool → ℕ
+flag_words false = 0
+flag_words true = 1
+
 abbrev pub words_of : Options → ℕ
-words_of o = value_words o.cycles + value_words o.engine + value_words o.workers + shown_words o.shown
+words_of o = value_words o.cycles + value_words o.engine + value_words o.workers + shown_words o.shown + flag_words o.journal
 
 value_few : {X : Type 0} (o : Option X) → value_words o ≤ 2
 value_few None = omega arith
@@ -31,6 +35,10 @@ value_few (Some x) = omega arith
 shown_few : (s : Shown) → shown_words s ≤ 1
 shown_few Report = omega arith
 shown_few Summary = omega arith
+
+flag_few : (b : Bool) → flag_words b ≤ 1
+flag_few false = omega arith
+flag_few true = omega arith
 
 -- options that may be there take so many words, or more
 abbrev pub Takes : ℕ → Option Options → Type 0
@@ -46,25 +54,33 @@ once-takes (Some x) put value n f = tt
 with_cycles-takes : (word : List ℕ) (others : Option Options) (m : ℕ) → Takes m others → Takes (m + 2) (with_cycles word others)
 with_cycles-takes word None m h = tt
 with_cycles-takes word (Some o) m h =
-    once-takes o.cycles _ (number_of word) (m + 2) (λ n none. let few : m ≤ 0 + value_words o.engine + value_words o.workers + shown_words o.shown = rw none at h in omega (arith, few))
+    once-takes o.cycles _ (number_of word) (m + 2) (λ n none. let few : m ≤ 0 + value_words o.engine + value_words o.workers + shown_words o.shown + flag_words o.journal = rw none at h in omega (arith, few))
 
 with_engine-takes : (word : List ℕ) (others : Option Options) (m : ℕ) → Takes m others → Takes (m + 2) (with_engine word others)
 with_engine-takes word None m h = tt
 with_engine-takes word (Some o) m h =
-    once-takes o.engine _ (engine_of word) (m + 2) (λ kind none. let few : m ≤ value_words o.cycles + 0 + value_words o.workers + shown_words o.shown = rw none at h in omega (arith, few))
+    once-takes o.engine _ (engine_of word) (m + 2) (λ kind none. let few : m ≤ value_words o.cycles + 0 + value_words o.workers + shown_words o.shown + flag_words o.journal = rw none at h in omega (arith, few))
 
 with_workers-takes : (word : List ℕ) (others : Option Options) (m : ℕ) → Takes m others → Takes (m + 2) (with_workers word others)
 with_workers-takes word None m h = tt
 with_workers-takes word (Some o) m h =
-    once-takes o.workers _ (number_of word) (m + 2) (λ n none. let few : m ≤ value_words o.cycles + value_words o.engine + 0 + shown_words o.shown = rw none at h in omega (arith, few))
+    once-takes o.workers _ (number_of word) (m + 2) (λ n none. let few : m ≤ value_words o.cycles + value_words o.engine + 0 + shown_words o.shown + flag_words o.journal = rw none at h in omega (arith, few))
 
 with_summary-takes : (others : Option Options) (m : ℕ) → Takes m others → Takes (m + 1) (with_summary others)
 with_summary-takes None m h = tt
 with_summary-takes (Some o) m h = of o.shown refl
   where
     of : (s : Shown) → o.shown ≡ s → Takes (m + 1) (given_once (asked_for s) (λ shown. record o { shown = shown }) (Some Summary))
-    of Report is = let few : m ≤ value_words o.cycles + value_words o.engine + value_words o.workers + 0 = rw is at h in omega (arith, few)
+    of Report is = let few : m ≤ value_words o.cycles + value_words o.engine + value_words o.workers + 0 + flag_words o.journal = rw is at h in omega (arith, few)
     of Summary is = tt
+
+with_journal-takes : (others : Option Options) (m : ℕ) → Takes m others → Takes (m + 1) (with_journal others)
+with_journal-takes None m h = tt
+with_journal-takes (Some o) m h = of o.journal refl
+  where
+    of : (b : Bool) → o.journal ≡ b → Takes (m + 1) (given_once (asked_flag b) (λ journal. record o { journal = journal }) (Some true))
+    of false is = let few : m ≤ value_words o.cycles + value_words o.engine + value_words o.workers + shown_words o.shown + 0 = rw is at h in omega (arith, few)
+    of true is = tt
 
 fewer : (others : Option Options) (m n : ℕ) → n ≤ m → Takes m others → Takes n others
 fewer None m n h t = tt
@@ -79,13 +95,15 @@ with_word-takes word others m h =
     let one : m + 1 ≤ m + 2 = omega arith in
     either-takes (bytes_eq word (codes "--summary")) _ _ (m + 1)
     (with_summary-takes others m h)
+    (either-takes (bytes_eq word (codes "--journal")) _ _ (m + 1)
+    (with_journal-takes others m h)
     (either-takes (bytes_eq (take 9 word) (codes "--cycles=")) _ _ (m + 1)
     (fewer (with_cycles (drop 9 word) others) (m + 2) (m + 1) one (with_cycles-takes (drop 9 word) others m h))
     (either-takes (bytes_eq (take 9 word) (codes "--engine=")) _ _ (m + 1)
     (fewer (with_engine (drop 9 word) others) (m + 2) (m + 1) one (with_engine-takes (drop 9 word) others m h))
     (either-takes (bytes_eq (take 10 word) (codes "--workers=")) _ None (m + 1)
     (fewer (with_workers (drop 10 word) others) (m + 2) (m + 1) one (with_workers-takes (drop 10 word) others m h))
-    tt)))
+    tt))))
 
 -- options take as many words as they are given by
 pub options-take : (words : List (List ℕ)) → Takes (length words) (options_of words)
@@ -102,12 +120,12 @@ options-take (word ∷ value ∷ rest) =
     (fewer (with_word word (options_of (value ∷ rest))) (length (value ∷ rest) + 1) (length rest + 2) (omega arith)
     (with_word-takes word (options_of (value ∷ rest)) (length (value ∷ rest)) (options-take (value ∷ rest)))))))
 
-too_many : (options : Option Options) (n : ℕ) → 7 < n → Takes n options → options ≡ None
+too_many : (options : Option Options) (n : ℕ) → 8 < n → Takes n options → options ≡ None
 too_many None n h t = refl
-too_many (Some o) n h t = absurd (omega (arith, h, t, value_few o.cycles, value_few o.engine, value_few o.workers, shown_few o.shown))
+too_many (Some o) n h t = absurd (omega (arith, h, t, value_few o.cycles, value_few o.engine, value_few o.workers, shown_few o.shown, flag_few o.journal))
 
--- more than seven words are no options
-pub options-few : (words : List (List ℕ)) → 7 < length words → options_of words ≡ None
+-- more than eight words are no options
+pub options-few : (words : List (List ℕ)) → 8 < length words → options_of words ≡ None
 options-few words h = too_many (options_of words) (length words) h (options-take words)
 
 -- ---- words that ask for no workers
@@ -134,6 +152,10 @@ with_summary-without : (others : Option Options) → Without others → Without 
 with_summary-without None h = tt
 with_summary-without (Some o) h = once-without (asked_for o.shown) _ (Some Summary) (λ shown. h)
 
+with_journal-without : (others : Option Options) → Without others → Without (with_journal others)
+with_journal-without None h = tt
+with_journal-without (Some o) h = once-without (asked_flag o.journal) _ (Some true) (λ journal. h)
+
 either-without : (b : Bool) (x y : Option Options) → Without x → Without y → Without (if b then x else y)
 either-without true x y h k = h
 either-without false x y h k = k
@@ -149,9 +171,10 @@ neither false b e = (refl, e)
 with_word-without : (word : List ℕ) (others : Option Options) → is_of_workers word ≡ false → Without others → Without (with_word word others)
 with_word-without word others e h =
     either-without (bytes_eq word (codes "--summary")) _ _ (with_summary-without others h)
+    (either-without (bytes_eq word (codes "--journal")) _ _ (with_journal-without others h)
     (either-without (bytes_eq (take 9 word) (codes "--cycles=")) _ _ (with_cycles-without (drop 9 word) others h)
     (either-without (bytes_eq (take 9 word) (codes "--engine=")) _ _ (with_engine-without (drop 9 word) others h)
-    (other-without (bytes_eq (take 10 word) (codes "--workers=")) _ None (neither (bytes_eq word (codes "--workers")) (bytes_eq (take 10 word) (codes "--workers=")) e).1 tt)))
+    (other-without (bytes_eq (take 10 word) (codes "--workers=")) _ None (neither (bytes_eq word (codes "--workers")) (bytes_eq (take 10 word) (codes "--workers=")) e).1 tt))))
 
 options-without : (words : List (List ℕ)) → asks_workers words ≡ false → Without (options_of words)
 options-without [] e = refl
@@ -175,9 +198,22 @@ sim_by-alone (Some n) shown (Some Plain) = tt
 sim_by-alone (Some n) shown (Some Circuit) = tt
 sim_by-alone (Some n) shown (Some (Workers count)) = tt
 
+-- without workers there is no journal
+journal_by-alone : (cycles : Option ℕ) (shown : Shown) (engine : Option EngineKind) → Alone (journal_by cycles shown engine None)
+journal_by-alone None shown engine = tt
+journal_by-alone (Some n) Report None = tt
+journal_by-alone (Some n) Report (Some kind) = tt
+journal_by-alone (Some n) Summary engine = tt
+
+either-alone : (b : Bool) (x y : Option Command) → Alone x → Alone y → Alone (if b then x else y)
+either-alone true x y h k = h
+either-alone false x y h k = k
+
 sim-alone : (options : Option Options) → Without options → Alone (sim_of options)
 sim-alone None h = tt
-sim-alone (Some o) h = subst (λ (workers : Option ℕ). Alone (sim_by o.cycles o.shown (engine_by o.engine workers))) (sym h) (sim_by-alone o.cycles o.shown o.engine)
+sim-alone (Some o) h =
+    subst (λ (workers : Option ℕ). Alone (if o.journal then journal_by o.cycles o.shown o.engine workers else sim_by o.cycles o.shown (engine_by o.engine workers))) (sym h)
+    (either-alone o.journal _ _ (journal_by-alone o.cycles o.shown o.engine) (sim_by-alone o.cycles o.shown o.engine))
 
 btorsim_by-alone : (cycles : Option ℕ) (shown : Shown) (engine : Option EngineKind) (workers : Option ℕ) → Alone (btorsim_by cycles shown engine workers)
 btorsim_by-alone None shown engine workers = tt
@@ -187,7 +223,7 @@ btorsim_by-alone (Some n) shown (Some kind) workers = tt
 
 btorsim-alone : (options : Option Options) → Alone (btorsim_of options)
 btorsim-alone None = tt
-btorsim-alone (Some o) = btorsim_by-alone o.cycles o.shown o.engine o.workers
+btorsim-alone (Some o) = either-alone o.journal None _ tt (btorsim_by-alone o.cycles o.shown o.engine o.workers)
 
 aigsim_by-alone : (cycles : Option ℕ) (shown : Shown) (engine : Option EngineKind) (workers : Option ℕ) → Alone (aigsim_by cycles shown engine workers)
 aigsim_by-alone None shown engine workers = tt
@@ -197,11 +233,18 @@ aigsim_by-alone (Some n) shown (Some kind) workers = tt
 
 aigsim-alone : (options : Option Options) → Alone (aigsim_of options)
 aigsim-alone None = tt
-aigsim-alone (Some o) = aigsim_by-alone o.cycles o.shown o.engine o.workers
+aigsim-alone (Some o) = either-alone o.journal None _ tt (aigsim_by-alone o.cycles o.shown o.engine o.workers)
 
-either-alone : (b : Bool) (x y : Option Command) → Alone x → Alone y → Alone (if b then x else y)
-either-alone true x y h k = h
-either-alone false x y h k = k
+recheck_by-alone : (cycles : Option ℕ) (shown : Shown) (engine : Option EngineKind) (workers : Option ℕ) → Alone (recheck_by cycles shown engine workers)
+recheck_by-alone None shown engine workers = tt
+recheck_by-alone (Some n) Report None None = tt
+recheck_by-alone (Some n) Report None (Some count) = tt
+recheck_by-alone (Some n) Report (Some kind) workers = tt
+recheck_by-alone (Some n) Summary engine workers = tt
+
+recheck-alone : (options : Option Options) → Alone (recheck_of options)
+recheck-alone None = tt
+recheck-alone (Some o) = either-alone o.journal None _ tt (recheck_by-alone o.cycles o.shown o.engine o.workers)
 
 gen_by-alone : (stages : Option ℕ) → Alone (gen_by stages)
 gen_by-alone None = tt
@@ -228,4 +271,5 @@ runs-alone (word ∷ rest) e =
     (either-alone (bytes_eq word (codes "compile")) _ _ (word-alone Compile rest tt)
     (either-alone (bytes_eq word (codes "gen")) _ _ (gen-alone rest)
     (either-alone (bytes_eq word (codes "aiger")) _ _ (word-alone Aiger rest tt)
-    (either-alone (bytes_eq word (codes "aigsim")) _ None (aigsim-alone (options_of rest)) tt)))))))
+    (either-alone (bytes_eq word (codes "aigsim")) _ _ (aigsim-alone (options_of rest))
+    (either-alone (bytes_eq word (codes "recheck")) _ None (recheck-alone (options_of rest)) tt))))))))

@@ -70,22 +70,22 @@ word-token (b ∷ bytes) word = record {
 -- ---- what outcomes give
 
 -- what is given, if anything is, is such
-abbrev GivesSuch : {X : Type 0} → (X → Type 0) → Outcome X → Type 0
+abbrev pub GivesSuch : {X : Type 0} → (X → Type 0) → Outcome X → Type 0
 GivesSuch P (Gives x) = P x
 GivesSuch P (Fails fault) = ⊤
 
-given : {X : Type 0} (P : X → Type 0) (o : Outcome X) (x : X) → GivesSuch P o → o ≡ Gives x → P x
+pub given : {X : Type 0} (P : X → Type 0) (o : Outcome X) (x : X) → GivesSuch P o → o ≡ Gives x → P x
 given P o x such is = subst (GivesSuch P) is such
 
-unless-such : {X : Type 0} (P : X → Type 0) (c : Condition) (x : X) → P x → GivesSuch P (unless c x)
+pub unless-such : {X : Type 0} (P : X → Type 0) (c : Condition) (x : X) → P x → GivesSuch P (unless c x)
 unless-such P None x h = h
 unless-such P (Some fault) x h = tt
 
-behind : {X Y : Type 0} (Q : X → Type 0) (P : Y → Type 0) (o : Outcome X) (next : X → Outcome Y) → GivesSuch Q o → ((x : X) → Q x → GivesSuch P (next x)) → GivesSuch P (o >>= next)
+pub behind : {X Y : Type 0} (Q : X → Type 0) (P : Y → Type 0) (o : Outcome X) (next : X → Outcome Y) → GivesSuch Q o → ((x : X) → Q x → GivesSuch P (next x)) → GivesSuch P (o >>= next)
 behind Q P (Gives x) next such h = h x such
 behind Q P (Fails fault) next such h = tt
 
-behind-any : {X Y : Type 0} (P : Y → Type 0) (o : Outcome X) (next : X → Outcome Y) → ((x : X) → GivesSuch P (next x)) → GivesSuch P (o >>= next)
+pub behind-any : {X Y : Type 0} (P : Y → Type 0) (o : Outcome X) (next : X → Outcome Y) → ((x : X) → GivesSuch P (next x)) → GivesSuch P (o >>= next)
 behind-any P (Gives x) next h = h x
 behind-any P (Fails fault) next h = tt
 

@@ -10,7 +10,10 @@ use Rattle.koika_top.specs.Answer.{Answers, IsAnswer, IsFailure, is_of_source, k
 use Rattle.koika_top.specs.Calls.{Call, CountsReadFault, IsAnswerTo, IsKept, LeavesUnread, ReadsAll, command_in, known_in}
 use Rattle.btor2_text.specs.declared.line.Line.{Line}
 use Rattle.koika_check.specs.BitWeights.{bit_weight}
+use Rattle.typed_core.specs.declared.design.Parts.{Parts}
+use Rattle.journal_check.specs.Printing.{journal_text}
 use Rattle.koika_check.specs.declared.checked.Checked.{Checked}
+use Rattle.koika_lower.specs.Lowering.{IsLowered}
 use Rattle.one_rule.specs.Stimulus.{InputVectors, inputs_of}
 use Rattle.aig_blast.specs.Aigs.{AigParts}
 use Rattle.koika_top.specs.Aiger.{AnswersAiger, most_bits}
@@ -19,6 +22,8 @@ use Rattle.koika_top.specs.Aigsim.{AnswersAigsim}
 use Rattle.koika_top.specs.Btorsim as circuit
 use Rattle.koika_top.specs.Btorsim.{AnswersBtorsim, HoldsRun, shown_run}
 use Rattle.koika_top.specs.Compile.{AnswersCompile}
+use Rattle.koika_top.specs.Journal.{AnswersJournal, HasJournal, IsJournalOf}
+use Rattle.koika_top.specs.Journaling.{WritesJournal}
 use Rattle.koika_top.specs.Sim.{AnswersSim, is_too_long, text_of_run}
 use Rattle.koika_top.specs.Sources.{Spells, fault_of_source}
 use Rattle.koika_top.specs.Steps.{IsReply, Replies, TellsCall, TellsRead}
@@ -32,8 +37,10 @@ use Rattle.koika_top.specs.declared.status.Status.{Status}
 use Rattle.koika_top.specs.declared.status.Status.TheVariants as status
 use Rattle.koika_top.specs.declared.untold.Untold.{Untold}
 use Rattle.koika_top.specs.declared.words.Command.{Command}
-use Rattle.koika_top.specs.declared.words.Command.TheVariants.{Check, Print, Sim, Compile, Btorsim, Gen, Aiger, Aigsim}
-use Rattle.koika_top.proofs.OneAnswer.{light_or_refused, one_answer, one_status, spelled_or_refused}
+use Rattle.koika_top.specs.declared.words.Command.TheVariants.{Check, Print, Sim, Compile, Btorsim, Gen, Aiger, Aigsim, Journal, Recheck}
+use Rattle.koika_top.proofs.OneAnswer.{light_or_refused, spelled_or_refused}
+use Rattle.koika_top.proofs.OneOfWords.{one_answer, one_status}
+use Rattle.koika_top.proofs.Rechecked.{journaled, rechecked}
 use Rattle.koika_top.proofs.Told.{appends-kept, told-one}
 
 -- ---- bytes that may be known
@@ -157,6 +164,12 @@ module _ (untouched : Type 0) (c : Call) (whole : ReadsAll c) (unread : LeavesUn
       converts = λ asked. by-mine _ (λ bytes is design stimulus spelled light.
           converted c.hosts bytes mine c.status design stimulus spelled light
           (subst (λ (command : Option Command). MatchOption command (mine ≡ Usage) (λ (one : Command). Answers c.hosts one bytes mine)) asked is) told.status);
+      journals = λ cycles workers asked. by-mine _ (λ bytes is design stimulus has.
+          journaled c.hosts cycles workers bytes mine c.status design stimulus has
+          (subst (λ (command : Option Command). MatchOption command (mine ≡ Usage) (λ (one : Command). Answers c.hosts one bytes mine)) asked is) told.status);
+      rechecks = λ cycles asked. by-mine _ (λ bytes is design stimulus core may lowered.
+          rechecked c.hosts cycles bytes design stimulus core may lowered mine c.status
+          (subst (λ (command : Option Command). MatchOption command (mine ≡ Usage) (λ (one : Command). Answers c.hosts one bytes mine)) asked is) told.status);
       front = λ one. by-mine _ (λ bytes is answer k. subst (λ (text : List ℕ). GainsFront c.sink text) (one_answer c.hosts c.words bytes mine answer one is k).text told.front);
       some = by-mine _ (λ bytes is. inl (mine, is, told.front));
       read_fault = read_fault;
@@ -182,6 +195,10 @@ module _ (untouched : Type 0) (c : Call) (whole : ReadsAll c) (unread : LeavesUn
       exact = of-any _ (known_in c) (λ bytes answer k. inr (⊎_elim (λ e. inl e) (λ e. inr (inr e)) why));
       compiles = λ asked. of-any _ (known_in c) (λ bytes design stimulus spelled. inr (⊎_elim (λ e. inl e) (λ e. inr (inr e)) why));
       converts = λ asked. of-any _ (known_in c) (λ bytes design stimulus spelled light. inr (⊎_elim (λ e. inl e) (λ e. inr (inr e)) why));
+      journals = λ cycles workers asked. of-any _ (known_in c) (λ bytes design stimulus has. inr (⊎_elim (λ e. inl e) (λ e. inr (inr e)) why));
+      rechecks = λ cycles asked. of-any _ (known_in c) (λ bytes design stimulus core may lowered.
+          let failed = ⊎_elim (λ e. inl e) (λ e. inr (inr e)) why in
+          record { good = λ j read good. inr failed; other = λ j read bad. inr failed; none = λ no. inr failed });
       front = λ one. of-any _ (known_in c) (λ bytes answer k. front-none c.sink (text_of answer) kept);
       some = of-any _ (known_in c) (λ bytes. inr (kept, why));
       read_fault = read_fault;
@@ -203,6 +220,13 @@ pub kept-source : (untouched : Type 0) (c : Call) → reads_source (command_in c
 kept-source untouched c reads whole read_fault told =
     kept untouched c (λ d. inr (whole d)) (λ quiet. let bad : false ≡ true = sym quiet ∙ reads in absurd (false≢true bad)) read_fault told
 
+-- a call that finds no memory before it does anything
+pub kept-out_of_memory : (untouched : Type 0) (c : Call) → untouched → GainsNothing c.sink → c.status ≡ status.NoMemory → IsKept untouched c
+kept-out_of_memory untouched c same nothing out =
+    kept untouched c (λ d. let bad : status.NoMemory ≡ status.Done = sym out ∙ d in absurd cc)
+    (λ quiet. (same, λ d. let bad : status.NoMemory ≡ status.ReadFault = sym out ∙ d in absurd cc))
+    (λ d. let bad : status.NoMemory ≡ status.ReadFault = sym out ∙ d in absurd cc) (inr (nothing, inr out))
+
 -- a status that is told isn't that of a read fault
 pub never-read-told : (Is : Answer → Type 0) (sink : Stream) (result : Status) → Tells Is sink result → result ≡ status.ReadFault → ⊥
 never-read-told Is sink result (inl (answer, is, told)) d = never-read sink result answer told d
@@ -222,6 +246,8 @@ never-usage hosts Compile bytes Usage h = h
 never-usage hosts (Gen stages) bytes Usage h = absurd cc
 never-usage hosts Aiger bytes Usage h = h
 never-usage hosts (Aigsim cycles shown) bytes Usage h = h
+never-usage hosts (Journal cycles workers) bytes Usage h = h
+never-usage hosts (Recheck cycles) bytes Usage h = h
 
 -- what was told of the bytes that were read is told of the source
 pub tells-read : (hosts : List HostSpec) (command : Command) (left new : Option (List ℕ)) (bytes : List ℕ) (sink : Stream) (result : Status) → TakesAll left new bytes
@@ -241,6 +267,8 @@ refuses-long hosts Compile source fault reads is long = inl (is, long)
 refuses-long hosts (Gen stages) source fault reads is long = absurd (false≢true reads)
 refuses-long hosts Aiger source fault reads is long = inl (is, long)
 refuses-long hosts (Aigsim cycles shown) source fault reads is long = inl (is, long)
+refuses-long hosts (Journal cycles workers) source fault reads is long = inl (is, long)
+refuses-long hosts (Recheck cycles) source fault reads is long = inl (inl (inl (is, inl long)))
 
 pub tells-long : (hosts : List HostSpec) (command : Command) (fault : Fault) → is_of_source command ≡ true → fault ≡ fault_of_source 40 → (left : Option (List ℕ)) (sink : Stream) (result : Status)
     → IfSome left (λ bytes. longest_of command < length bytes) → TellsOne (Refused fault) sink result → TellsRead IsReply left (Answers hosts command) sink result
@@ -299,6 +327,25 @@ tells-run hosts cycles n shown kind source design stimulus spelled within same l
       Written mine,
       record { design = design; stimulus = stimulus; spelled = spelled; within = sym (ap (λ (k : ℕ). is_too_long k design) same) ∙ within; told = λ i. text_of_run design stimulus (same i) (like i) },
       told-one (Written mine) s r told,
+    )
+
+-- a journal that was told, of the design that a source spells
+pub tells-journal : (hosts : List HostSpec) (cycles n workers count : ℕ) (source : List ℕ) (design : Checked) (stimulus : InputVectors) (core : Parts) → HasJournal hosts cycles source design stimulus → IsLowered design core → n ≡ cycles → count ≡ workers
+    → (s : Stream) (r : Result (Unit {0}) Untold) → WritesJournal core stimulus n count s r → Tells (AnswersJournal hosts cycles workers source) s (status_by r status.Done)
+tells-journal hosts cycles n workers count source design stimulus core has lowered same many s r (journal, is, told) =
+    inl (
+      Written (journal_text core journal),
+      record {
+        design = design;
+        stimulus = stimulus;
+        spelled = has;
+        core = core;
+        lowered = lowered;
+        journal = journal;
+        is = subst (λ (k : ℕ). IsJournalOf core stimulus k workers journal) same (subst (λ (k : ℕ). IsJournalOf core stimulus n k journal) many is);
+        told = refl;
+      },
+      told-one (Written (journal_text core journal)) s r told,
     )
 
 -- and of the BTOR2 text that it holds

@@ -19,8 +19,8 @@ use Rattle.clap.specs.declared.parser.matches.ValueSource.TheVariants.{CommandLi
 use Rattle.clap.specs.declared.builder.value_parser.Reading.{Reading}
 use Rattle.clap.specs.Takes.{is_given, settle_passes, takes, turn_passes, walk_passes}
 use Rattle.clap.proofs.OnLiterals.{clap_on_literals}
-use Rattle.koika_top.specs.Given.{Give, bare, cycles_rule, engine_rule, flag_of, gen_app, number_in, run_app, stages_rule, summary_rule, workers_rule}
-use Rattle.koika_top.specs.Words.{asked_for, engine_by, engine_of, gen_by, gen_of, given_once, no_options, number_of, options_of, sim_by, sim_of, value_of, with_cycles, with_engine, with_summary, with_word, with_workers}
+use Rattle.koika_top.specs.Given.{Give, bare, cycles_rule, engine_rule, flag_of, flag_text, gen_app, journal_rule, number_in, run_app, stages_rule, summary_rule, workers_rule}
+use Rattle.koika_top.specs.Words.{asked_flag, asked_for, engine_by, engine_of, gen_by, gen_of, given_once, journal_by, no_options, number_of, options_of, sim_by, sim_of, value_of, with_cycles, with_engine, with_journal, with_summary, with_word, with_workers}
 use Rattle.koika_top.specs.declared.engine_kind.EngineKind.{EngineKind}
 use Rattle.koika_top.specs.declared.engine_kind.EngineKind.TheVariants.{Plain, Circuit}
 use Rattle.koika_top.specs.declared.shown.Shown.{Shown}
@@ -53,17 +53,26 @@ front_length of_cycles = 9
 front_length of_engine = 9
 front_length of_workers = 10
 
--- an option and its value, an option with its value behind `=`, and `--summary`
+-- the options without a value
+data Flag : Type 0 where
+  of_summary : Flag
+  of_journal : Flag
+
+abbrev own_word : Flag → Text
+own_word of_summary = codes "--summary"
+own_word of_journal = codes "--journal"
+
+-- an option and its value, an option with its value behind `=`, and an option without a value
 data Step : Type 0 where
   next : Key → Text → Step
   equals : Key → Text → Step
-  summary : Step
+  alone : Flag → Step
 
 abbrev words_of : List Step → List Text
 words_of [] = []
 words_of (next key v ∷ steps) = flag_word key ∷ v ∷ words_of steps
 words_of (equals key v ∷ steps) = (front_word key ++ v) ∷ words_of steps
-words_of (summary ∷ steps) = codes "--summary" ∷ words_of steps
+words_of (alone f ∷ steps) = own_word f ∷ words_of steps
 
 record PutsCycles (v : Text) (rest o : Options) : Type 0 where
   n : ℕ
@@ -73,6 +82,7 @@ record PutsCycles (v : Text) (rest o : Options) : Type 0 where
   engine : o.engine ≡ rest.engine
   workers : o.workers ≡ rest.workers
   shown : o.shown ≡ rest.shown
+  journal : o.journal ≡ rest.journal
 
 record PutsEngine (v : Text) (rest o : Options) : Type 0 where
   kind : EngineKind
@@ -82,6 +92,7 @@ record PutsEngine (v : Text) (rest o : Options) : Type 0 where
   engine : o.engine ≡ Some kind
   workers : o.workers ≡ rest.workers
   shown : o.shown ≡ rest.shown
+  journal : o.journal ≡ rest.journal
 
 record PutsWorkers (v : Text) (rest o : Options) : Type 0 where
   n : ℕ
@@ -91,6 +102,7 @@ record PutsWorkers (v : Text) (rest o : Options) : Type 0 where
   engine : o.engine ≡ rest.engine
   workers : o.workers ≡ Some n
   shown : o.shown ≡ rest.shown
+  journal : o.journal ≡ rest.journal
 
 abbrev Puts : Key → Text → Options → Options → Type 0
 Puts of_cycles v rest o = PutsCycles v rest o
@@ -103,13 +115,26 @@ record IsShown (rest o : Options) : Type 0 where
   engine : o.engine ≡ rest.engine
   workers : o.workers ≡ rest.workers
   shown : o.shown ≡ Summary
+  journal : o.journal ≡ rest.journal
+
+record IsJournaled (rest o : Options) : Type 0 where
+  fresh : rest.journal ≡ false
+  cycles : o.cycles ≡ rest.cycles
+  engine : o.engine ≡ rest.engine
+  workers : o.workers ≡ rest.workers
+  shown : o.shown ≡ rest.shown
+  journal : o.journal ≡ true
+
+abbrev Sets : Flag → Options → Options → Type 0
+Sets of_summary rest o = IsShown rest o
+Sets of_journal rest o = IsJournaled rest o
 
 -- steps give options
 abbrev Gives : List Step → Options → Type 0
 Gives [] o = o ≡ no_options
 Gives (next key v ∷ steps) o = (rest : Options) × Gives steps rest × Puts key v rest o
 Gives (equals key v ∷ steps) o = (rest : Options) × Gives steps rest × Puts key v rest o
-Gives (summary ∷ steps) o = (rest : Options) × Gives steps rest × IsShown rest o
+Gives (alone f ∷ steps) o = (rest : Options) × Gives steps rest × Sets f rest o
 
 -- a value that was given once
 once-is : {X : Type 0} (earlier : Option X) (put : X → Options) (value : Option X) (o : Options) → given_once earlier put value ≡ Some o → (v : X) × (earlier ≡ None) × (value ≡ Some v) × (put v ≡ o)
@@ -130,7 +155,7 @@ with_key-is of_cycles v (Some rest) o e =
     let put = sym found.3 in (
       rest,
       refl,
-      record { n = found.0; number = found.2; fresh = found.1; cycles = ap (λ (p : Options). p.cycles) put; engine = ap (λ (p : Options). p.engine) put; workers = ap (λ (p : Options). p.workers) put; shown = ap (λ (p : Options). p.shown) put },
+      record { n = found.0; number = found.2; fresh = found.1; cycles = ap (λ (p : Options). p.cycles) put; engine = ap (λ (p : Options). p.engine) put; workers = ap (λ (p : Options). p.workers) put; shown = ap (λ (p : Options). p.shown) put; journal = ap (λ (p : Options). p.journal) put },
     )
 with_key-is of_engine v None o e = absurd (none-some o e)
 with_key-is of_engine v (Some rest) o e =
@@ -138,7 +163,7 @@ with_key-is of_engine v (Some rest) o e =
     let put = sym found.3 in (
       rest,
       refl,
-      record { kind = found.0; named = found.2; fresh = found.1; cycles = ap (λ (p : Options). p.cycles) put; engine = ap (λ (p : Options). p.engine) put; workers = ap (λ (p : Options). p.workers) put; shown = ap (λ (p : Options). p.shown) put },
+      record { kind = found.0; named = found.2; fresh = found.1; cycles = ap (λ (p : Options). p.cycles) put; engine = ap (λ (p : Options). p.engine) put; workers = ap (λ (p : Options). p.workers) put; shown = ap (λ (p : Options). p.shown) put; journal = ap (λ (p : Options). p.journal) put },
     )
 with_key-is of_workers v None o e = absurd (none-some o e)
 with_key-is of_workers v (Some rest) o e =
@@ -146,7 +171,7 @@ with_key-is of_workers v (Some rest) o e =
     let put = sym found.3 in (
       rest,
       refl,
-      record { n = found.0; number = found.2; fresh = found.1; cycles = ap (λ (p : Options). p.cycles) put; engine = ap (λ (p : Options). p.engine) put; workers = ap (λ (p : Options). p.workers) put; shown = ap (λ (p : Options). p.shown) put },
+      record { n = found.0; number = found.2; fresh = found.1; cycles = ap (λ (p : Options). p.cycles) put; engine = ap (λ (p : Options). p.engine) put; workers = ap (λ (p : Options). p.workers) put; shown = ap (λ (p : Options). p.shown) put; journal = ap (λ (p : Options). p.journal) put },
     )
 
 asked-none : (s : Shown) → asked_for s ≡ None → s ≡ Report
@@ -166,8 +191,38 @@ with_summary-is (Some rest) o e =
         engine = ap (λ (p : Options). p.engine) put;
         workers = ap (λ (p : Options). p.workers) put;
         shown = ap (λ (p : Options). p.shown) put ∙ sym (some_is _ _ found.2);
+        journal = ap (λ (p : Options). p.journal) put;
       },
     )
+
+flag-none : (b : Bool) → asked_flag b ≡ None → b ≡ false
+flag-none false e = refl
+flag-none true e = absurd (none-some true (sym e))
+
+with_journal-is : (others : Option Options) (o : Options) → with_journal others ≡ Some o → (rest : Options) × (others ≡ Some rest) × IsJournaled rest o
+with_journal-is None o e = absurd (none-some o e)
+with_journal-is (Some rest) o e =
+    let found = once-is (asked_flag rest.journal) (λ journal. record rest { journal = journal }) (Some true) o e in
+    let put = sym found.3 in (
+      rest,
+      refl,
+      record {
+        fresh = flag-none rest.journal found.1;
+        cycles = ap (λ (p : Options). p.cycles) put;
+        engine = ap (λ (p : Options). p.engine) put;
+        workers = ap (λ (p : Options). p.workers) put;
+        shown = ap (λ (p : Options). p.shown) put;
+        journal = ap (λ (p : Options). p.journal) put ∙ sym (some_is _ _ found.2);
+      },
+    )
+
+abbrev with_flag : Flag → Option Options → Option Options
+with_flag of_summary others = with_summary others
+with_flag of_journal others = with_journal others
+
+with_flag-is : (f : Flag) (others : Option Options) (o : Options) → with_flag f others ≡ Some o → (rest : Options) × (others ≡ Some rest) × Sets f rest o
+with_flag-is of_summary others o e = with_summary-is others o e
+with_flag-is of_journal others o e = with_journal-is others o e
 
 abbrev Found : List Text → Options → Type 0
 Found words o = (steps : List Step) × (words ≡ words_of steps) × Gives steps o
@@ -182,23 +237,24 @@ module _ (word : Text) (words : List Text) (o : Options) (later : (rest : Option
       let found = later put.0 put.1 in
       (equals key (drop n word) ∷ found.0, ap₂ (λ w ws. w ∷ ws) (sym (front ∙ take-append-drop n word)) found.1, (put.0, found.2, put.2))
 
-  summary-is : bytes_eq word (codes "--summary") ≡ true → with_summary (options_of words) ≡ Some o → Found (word ∷ words) o
-  summary-is is e =
-      let put = with_summary-is (options_of words) o e in
+  flag-is : (f : Flag) → bytes_eq word (own_word f) ≡ true → with_flag f (options_of words) ≡ Some o → Found (word ∷ words) o
+  flag-is f is e =
+      let put = with_flag-is f (options_of words) o e in
       let found = later put.0 put.1 in
-      (summary ∷ found.0, ap₂ (λ w ws. w ∷ ws) ((bytes_eq-Decides word (codes "--summary")).0 is) found.1, (put.0, found.2, put.2))
+      (alone f ∷ found.0, ap₂ (λ w ws. w ∷ ws) ((bytes_eq-Decides word (own_word f)).0 is) found.1, (put.0, found.2, put.2))
 
   with_word-is : with_word word (options_of words) ≡ Some o → Found (word ∷ words) o
-  with_word-is e = go (bytes_eq word (codes "--summary")) (bytes_eq (take 9 word) (codes "--cycles=")) (bytes_eq (take 9 word) (codes "--engine=")) (bytes_eq (take 10 word) (codes "--workers=")) refl refl refl refl e
+  with_word-is e = go (bytes_eq word (codes "--summary")) (bytes_eq word (codes "--journal")) (bytes_eq (take 9 word) (codes "--cycles=")) (bytes_eq (take 9 word) (codes "--engine=")) (bytes_eq (take 10 word) (codes "--workers=")) refl refl refl refl refl e
     where
-      go : (a b c d : Bool) → bytes_eq word (codes "--summary") ≡ a → bytes_eq (take 9 word) (codes "--cycles=") ≡ b → bytes_eq (take 9 word) (codes "--engine=") ≡ c → bytes_eq (take 10 word) (codes "--workers=") ≡ d
-          → (if a then with_summary (options_of words) else if b then with_cycles (drop 9 word) (options_of words) else if c then with_engine (drop 9 word) (options_of words) else if d then with_workers (drop 10 word) (options_of words) else None) ≡ Some o
+      go : (a j b c d : Bool) → bytes_eq word (codes "--summary") ≡ a → bytes_eq word (codes "--journal") ≡ j → bytes_eq (take 9 word) (codes "--cycles=") ≡ b → bytes_eq (take 9 word) (codes "--engine=") ≡ c → bytes_eq (take 10 word) (codes "--workers=") ≡ d
+          → (if a then with_summary (options_of words) else if j then with_journal (options_of words) else if b then with_cycles (drop 9 word) (options_of words) else if c then with_engine (drop 9 word) (options_of words) else if d then with_workers (drop 10 word) (options_of words) else None) ≡ Some o
           → Found (word ∷ words) o
-      go true b c d is first second third e = summary-is is e
-      go false true c d is first second third e = equals-is of_cycles first e
-      go false false true d is first second third e = equals-is of_engine second e
-      go false false false true is first second third e = equals-is of_workers third e
-      go false false false false is first second third e = absurd (none-some o e)
+      go true j b c d is noted first second third e = flag-is of_summary is e
+      go false true b c d is noted first second third e = flag-is of_journal noted e
+      go false false true c d is noted first second third e = equals-is of_cycles first e
+      go false false false true d is noted first second third e = equals-is of_engine second e
+      go false false false false true is noted first second third e = equals-is of_workers third e
+      go false false false false false is noted first second third e = absurd (none-some o e)
 
 module _ (word value : Text) (words : List Text) (o : Options) (later : (rest : Options) → options_of words ≡ Some rest → Found words rest) where
   -- a word that is an option, and its value behind it
@@ -266,22 +322,24 @@ value-plain of_workers v rest o put = number-plain v put.n put.number
 
 -- ---- rows
 
--- what may be found: values of the three options, and that a summary is wanted
+-- what may be found: values of the three options, and that a summary or a journal is wanted
 data Slot : Type 0 where
   of_value : Key → Slot
-  of_summary : Slot
+  of_flag : Flag → Slot
 
 abbrev id_of : Slot → Text
 id_of (of_value of_cycles) = codes "cycles"
 id_of (of_value of_engine) = codes "engine"
 id_of (of_value of_workers) = codes "workers"
-id_of of_summary = codes "summary"
+id_of (of_flag of_summary) = codes "summary"
+id_of (of_flag of_journal) = codes "journal"
 
 abbrev reading_of_slot : Slot → Reading
 reading_of_slot (of_value of_cycles) = reading_by (filled cycles_rule)
 reading_of_slot (of_value of_engine) = reading_by (filled engine_rule)
 reading_of_slot (of_value of_workers) = reading_by (filled workers_rule)
-reading_of_slot of_summary = reading_by (filled summary_rule)
+reading_of_slot (of_flag of_summary) = reading_by (filled summary_rule)
+reading_of_slot (of_flag of_journal) = reading_by (filled journal_rule)
 
 abbrev row_for : Slot → List Text → Row
 row_for slot values = record { id = id_of slot; values = values; count = None; source = Some CommandLine; reading = reading_of_slot slot }
@@ -361,19 +419,28 @@ module _ (rows : List Row) (values : Slot → Option (List Text)) (known : Known
   known-used (of_value of_cycles) given fresh (of_value of_cycles) = found-own (of_value of_cycles) given fresh refl
   known-used (of_value of_cycles) given fresh (of_value of_engine) = found-other (of_value of_cycles) (of_value of_engine) given fresh refl
   known-used (of_value of_cycles) given fresh (of_value of_workers) = found-other (of_value of_cycles) (of_value of_workers) given fresh refl
-  known-used (of_value of_cycles) given fresh of_summary = found-other (of_value of_cycles) of_summary given fresh refl
+  known-used (of_value of_cycles) given fresh (of_flag of_summary) = found-other (of_value of_cycles) (of_flag of_summary) given fresh refl
+  known-used (of_value of_cycles) given fresh (of_flag of_journal) = found-other (of_value of_cycles) (of_flag of_journal) given fresh refl
   known-used (of_value of_engine) given fresh (of_value of_cycles) = found-other (of_value of_engine) (of_value of_cycles) given fresh refl
   known-used (of_value of_engine) given fresh (of_value of_engine) = found-own (of_value of_engine) given fresh refl
   known-used (of_value of_engine) given fresh (of_value of_workers) = found-other (of_value of_engine) (of_value of_workers) given fresh refl
-  known-used (of_value of_engine) given fresh of_summary = found-other (of_value of_engine) of_summary given fresh refl
+  known-used (of_value of_engine) given fresh (of_flag of_summary) = found-other (of_value of_engine) (of_flag of_summary) given fresh refl
+  known-used (of_value of_engine) given fresh (of_flag of_journal) = found-other (of_value of_engine) (of_flag of_journal) given fresh refl
   known-used (of_value of_workers) given fresh (of_value of_cycles) = found-other (of_value of_workers) (of_value of_cycles) given fresh refl
   known-used (of_value of_workers) given fresh (of_value of_engine) = found-other (of_value of_workers) (of_value of_engine) given fresh refl
   known-used (of_value of_workers) given fresh (of_value of_workers) = found-own (of_value of_workers) given fresh refl
-  known-used (of_value of_workers) given fresh of_summary = found-other (of_value of_workers) of_summary given fresh refl
-  known-used of_summary given fresh (of_value of_cycles) = found-other of_summary (of_value of_cycles) given fresh refl
-  known-used of_summary given fresh (of_value of_engine) = found-other of_summary (of_value of_engine) given fresh refl
-  known-used of_summary given fresh (of_value of_workers) = found-other of_summary (of_value of_workers) given fresh refl
-  known-used of_summary given fresh of_summary = found-own of_summary given fresh refl
+  known-used (of_value of_workers) given fresh (of_flag of_summary) = found-other (of_value of_workers) (of_flag of_summary) given fresh refl
+  known-used (of_value of_workers) given fresh (of_flag of_journal) = found-other (of_value of_workers) (of_flag of_journal) given fresh refl
+  known-used (of_flag of_summary) given fresh (of_value of_cycles) = found-other (of_flag of_summary) (of_value of_cycles) given fresh refl
+  known-used (of_flag of_summary) given fresh (of_value of_engine) = found-other (of_flag of_summary) (of_value of_engine) given fresh refl
+  known-used (of_flag of_summary) given fresh (of_value of_workers) = found-other (of_flag of_summary) (of_value of_workers) given fresh refl
+  known-used (of_flag of_summary) given fresh (of_flag of_summary) = found-own (of_flag of_summary) given fresh refl
+  known-used (of_flag of_summary) given fresh (of_flag of_journal) = found-other (of_flag of_summary) (of_flag of_journal) given fresh refl
+  known-used (of_flag of_journal) given fresh (of_value of_cycles) = found-other (of_flag of_journal) (of_value of_cycles) given fresh refl
+  known-used (of_flag of_journal) given fresh (of_value of_engine) = found-other (of_flag of_journal) (of_value of_engine) given fresh refl
+  known-used (of_flag of_journal) given fresh (of_value of_workers) = found-other (of_flag of_journal) (of_value of_workers) given fresh refl
+  known-used (of_flag of_journal) given fresh (of_flag of_summary) = found-other (of_flag of_journal) (of_flag of_summary) given fresh refl
+  known-used (of_flag of_journal) given fresh (of_flag of_journal) = found-own (of_flag of_journal) given fresh refl
 
   none-used : (slot : Slot) → values slot ≡ None → has_row (id_of slot) rows ≡ false
   none-used slot fresh = has-found (id_of slot) rows ∙ ap is_some (known slot) ∙ ap (λ found. is_some (option_map (row_for slot) found)) fresh
@@ -427,13 +494,15 @@ module _ (name : Text) (rows : List Row) (pending : Option (Text × List Text)) 
     equals_passes of_engine none = simp (settles, none)
     equals_passes of_workers none = simp (settles, none)
 
-  flag_walked : walked run_rules [] (between rows pending) (codes "--summary") ≡ between (used_by of_summary (codes "true" ∷ []) so_far) None
+  flag_walked : (f : Flag) → walked run_rules [] (between rows pending) (own_word f) ≡ between (used_by (of_flag f) (codes "true" ∷ []) so_far) None
   unfolding clap_on_literals
-  flag_walked = refl
+  flag_walked of_summary = refl
+  flag_walked of_journal = refl
 
-  flag_passes : has_row (id_of of_summary) so_far ≡ false → turn_passes (run_shape name) [] (between rows pending) (codes "--summary") ≡ true
+  flag_passes : (f : Flag) → has_row (id_of (of_flag f)) so_far ≡ false → turn_passes (run_shape name) [] (between rows pending) (own_word f) ≡ true
   unfolding clap_on_literals
-  flag_passes none = simp (settles, none)
+  flag_passes of_summary none = simp (settles, none)
+  flag_passes of_journal none = simp (settles, none)
 
   module _ (d : ℕ) (ds : Text) (dash : (d == 45) ≡ false) where
     next_walked : (key : Key) → walked run_rules [] (walked run_rules [] (between rows pending) (flag_word key)) (d ∷ ds) ≡ between so_far (Some (id_of (of_value key), (d ∷ ds) ∷ []))
@@ -480,14 +549,14 @@ module _ (name : Text) (values : Slot → Option (List Text)) where
         (word-read (between stands.rows stands.pending) _ (front_word key ++ v) (words_of steps) others (equals_walked name stands.rows stands.pending stands.passes v key) (equals_passes name stands.rows stands.pending stands.passes v key none)
         (later _ (record { rows = used_by (of_value key) (v ∷ []) so_far; pending = None; is = refl; passes = refl; known = known-used so_far values stands.known (of_value key) (v ∷ []) fresh })))
 
-    flag-read : (others : Slot → Option (List Text)) → values of_summary ≡ None
-        → ((after : Walk) → Stands (put of_summary (codes "true" ∷ []) values) after → Reads name others after (words_of steps)) → Reads name others w (words_of (summary ∷ steps))
-    flag-read others fresh later =
-        let none = none-used (settled_rows run_rules stands.pending stands.rows) values stands.known of_summary fresh in
+    flag-read : (f : Flag) (others : Slot → Option (List Text)) → values (of_flag f) ≡ None
+        → ((after : Walk) → Stands (put (of_flag f) (codes "true" ∷ []) values) after → Reads name others after (words_of steps)) → Reads name others w (words_of (alone f ∷ steps))
+    flag-read f others fresh later =
+        let none = none-used (settled_rows run_rules stands.pending stands.rows) values stands.known (of_flag f) fresh in
         let so_far = settled_rows run_rules stands.pending stands.rows in
-        subst (λ (from : Walk). Reads name others from (words_of (summary ∷ steps))) (sym stands.is)
-        (word-read (between stands.rows stands.pending) _ (codes "--summary") (words_of steps) others (flag_walked name stands.rows stands.pending stands.passes) (flag_passes name stands.rows stands.pending stands.passes none)
-        (later _ (record { rows = used_by of_summary (codes "true" ∷ []) so_far; pending = None; is = refl; passes = refl; known = known-used so_far values stands.known of_summary (codes "true" ∷ []) fresh })))
+        subst (λ (from : Walk). Reads name others from (words_of (alone f ∷ steps))) (sym stands.is)
+        (word-read (between stands.rows stands.pending) _ (own_word f) (words_of steps) others (flag_walked name stands.rows stands.pending stands.passes f) (flag_passes name stands.rows stands.pending stands.passes f none)
+        (later _ (record { rows = used_by (of_flag f) (codes "true" ∷ []) so_far; pending = None; is = refl; passes = refl; known = known-used so_far values stands.known (of_flag f) (codes "true" ∷ []) fresh })))
 
     next-read : (key : Key) (v : Text) (others : Slot → Option (List Text)) → IsPlain v → values (of_value key) ≡ None
         → ((after : Walk) → Stands (put (of_value key) (v ∷ []) values) after → Reads name others after (words_of steps)) → Reads name others w (words_of (next key v ∷ steps))
@@ -519,14 +588,15 @@ abbrev all_values : List Step → (Slot → Option (List Text)) → Slot → Opt
 all_values [] values = values
 all_values (next key v ∷ steps) values = all_values steps (put (of_value key) (v ∷ []) values)
 all_values (equals key v ∷ steps) values = all_values steps (put (of_value key) (v ∷ []) values)
-all_values (summary ∷ steps) values = all_values steps (put of_summary (codes "true" ∷ []) values)
+all_values (alone f ∷ steps) values = all_values steps (put (of_flag f) (codes "true" ∷ []) values)
 
 -- nothing is there yet of what options give
 record AreFree (o : Options) (values : Slot → Option (List Text)) : Type 0 where
   cycles : is_some o.cycles ≡ true → values (of_value of_cycles) ≡ None
   engine : is_some o.engine ≡ true → values (of_value of_engine) ≡ None
   workers : is_some o.workers ≡ true → values (of_value of_workers) ≡ None
-  shown : o.shown ≡ Summary → values of_summary ≡ None
+  shown : o.shown ≡ Summary → values (of_flag of_summary) ≡ None
+  journal : o.journal ≡ true → values (of_flag of_journal) ≡ None
 
 report-summary : (s : Shown) → s ≡ Report → s ≡ Summary → ⊥
 report-summary s e f = let bad : Report ≡ Summary = sym e ∙ f in absurd cc
@@ -546,26 +616,41 @@ module _ (values : Slot → Option (List Text)) (rest o : Options) (free : AreFr
     engine = λ s. free.engine (ap is_some put.engine ∙ s);
     workers = λ s. free.workers (ap is_some put.workers ∙ s);
     shown = λ s. free.shown (put.shown ∙ s);
+    journal = λ s. free.journal (put.journal ∙ s);
   }
   key-free of_engine v put = record {
     cycles = λ s. free.cycles (ap is_some put.cycles ∙ s);
     engine = λ s. absurd (none-there rest.engine put.fresh s);
     workers = λ s. free.workers (ap is_some put.workers ∙ s);
     shown = λ s. free.shown (put.shown ∙ s);
+    journal = λ s. free.journal (put.journal ∙ s);
   }
   key-free of_workers v put = record {
     cycles = λ s. free.cycles (ap is_some put.cycles ∙ s);
     engine = λ s. free.engine (ap is_some put.engine ∙ s);
     workers = λ s. absurd (none-there rest.workers put.fresh s);
     shown = λ s. free.shown (put.shown ∙ s);
+    journal = λ s. free.journal (put.journal ∙ s);
   }
 
-  flag-free : IsShown rest o → AreFree rest (put of_summary (codes "true" ∷ []) values)
-  flag-free put = record {
+  flag-fresh : (f : Flag) → Sets f rest o → values (of_flag f) ≡ None
+  flag-fresh of_summary put = free.shown put.shown
+  flag-fresh of_journal put = free.journal put.journal
+
+  flag-free : (f : Flag) → Sets f rest o → AreFree rest (put (of_flag f) (codes "true" ∷ []) values)
+  flag-free of_summary put = record {
     cycles = λ s. free.cycles (ap is_some put.cycles ∙ s);
     engine = λ s. free.engine (ap is_some put.engine ∙ s);
     workers = λ s. free.workers (ap is_some put.workers ∙ s);
     shown = λ s. absurd (report-summary rest.shown put.fresh s);
+    journal = λ s. free.journal (put.journal ∙ s);
+  }
+  flag-free of_journal put = record {
+    cycles = λ s. free.cycles (ap is_some put.cycles ∙ s);
+    engine = λ s. free.engine (ap is_some put.engine ∙ s);
+    workers = λ s. free.workers (ap is_some put.workers ∙ s);
+    shown = λ s. free.shown (put.shown ∙ s);
+    journal = λ s. absurd (true≢false (sym s ∙ put.fresh));
   }
 
 all-read : (name : Text) (steps : List Step) (o : Options) (values : Slot → Option (List Text)) (w : Walk) → Gives steps o → AreFree o values → Stands values w → Reads name (all_values steps values) w (words_of steps)
@@ -577,9 +662,9 @@ all-read name (next key v ∷ steps) o values w gives free stands =
 all-read name (equals key v ∷ steps) o values w gives free stands =
     equals-read name values steps w stands key v _ (key-fresh values gives.0 o free key v gives.2)
     (λ after stands'. all-read name steps gives.0 _ after gives.1 (key-free values gives.0 o free key v gives.2) stands')
-all-read name (summary ∷ steps) o values w gives free stands =
-    flag-read name values steps w stands _ (free.shown gives.2.shown)
-    (λ after stands'. all-read name steps gives.0 _ after gives.1 (flag-free values gives.0 o free gives.2) stands')
+all-read name (alone f ∷ steps) o values w gives free stands =
+    flag-read name values steps w stands f _ (flag-fresh values gives.0 o free f gives.2)
+    (λ after stands'. all-read name steps gives.0 _ after gives.1 (flag-free values gives.0 o free f gives.2) stands')
 
 -- ---- what they are read as
 
@@ -590,12 +675,17 @@ abbrev flag_values : Shown → Option (List Text) → Option (List Text)
 flag_values Report given = given
 flag_values Summary given = Some (codes "true" ∷ [])
 
+abbrev journal_values : Bool → Option (List Text) → Option (List Text)
+journal_values false given = given
+journal_values true given = Some (codes "true" ∷ [])
+
 -- values are read as options, where those that the options don't give were there before
 record AreReadAs (o : Options) (before values : Slot → Option (List Text)) : Type 0 where
   cycles : first_as number_of (values (of_value of_cycles)) ≡ option_or o.cycles (first_as number_of (before (of_value of_cycles)))
   engine : first_as engine_of (values (of_value of_engine)) ≡ option_or o.engine (first_as engine_of (before (of_value of_engine)))
   workers : first_as number_of (values (of_value of_workers)) ≡ option_or o.workers (first_as number_of (before (of_value of_workers)))
-  shown : values of_summary ≡ flag_values o.shown (before of_summary)
+  shown : values (of_flag of_summary) ≡ flag_values o.shown (before (of_flag of_summary))
+  journal : values (of_flag of_journal) ≡ journal_values o.journal (before (of_flag of_journal))
 
 module _ (rest o : Options) (before values : Slot → Option (List Text)) where
   key-read : (key : Key) (v : Text) → Puts key v rest o → AreReadAs rest (put (of_value key) (v ∷ []) before) values → AreReadAs o before values
@@ -603,27 +693,38 @@ module _ (rest o : Options) (before values : Slot → Option (List Text)) where
     cycles = read.cycles ∙ ap₂ option_or put.fresh put.number ∙ ap (λ (own : Option ℕ). option_or own (first_as number_of (before (of_value of_cycles)))) (sym put.cycles);
     engine = read.engine ∙ ap (λ (own : Option EngineKind). option_or own (first_as engine_of (before (of_value of_engine)))) (sym put.engine);
     workers = read.workers ∙ ap (λ (own : Option ℕ). option_or own (first_as number_of (before (of_value of_workers)))) (sym put.workers);
-    shown = read.shown ∙ ap (λ (own : Shown). flag_values own (before of_summary)) (sym put.shown);
+    shown = read.shown ∙ ap (λ (own : Shown). flag_values own (before (of_flag of_summary))) (sym put.shown);
+    journal = read.journal ∙ ap (λ (own : Bool). journal_values own (before (of_flag of_journal))) (sym put.journal);
   }
   key-read of_engine v put read = record {
     cycles = read.cycles ∙ ap (λ (own : Option ℕ). option_or own (first_as number_of (before (of_value of_cycles)))) (sym put.cycles);
     engine = read.engine ∙ ap₂ option_or put.fresh put.named ∙ ap (λ (own : Option EngineKind). option_or own (first_as engine_of (before (of_value of_engine)))) (sym put.engine);
     workers = read.workers ∙ ap (λ (own : Option ℕ). option_or own (first_as number_of (before (of_value of_workers)))) (sym put.workers);
-    shown = read.shown ∙ ap (λ (own : Shown). flag_values own (before of_summary)) (sym put.shown);
+    shown = read.shown ∙ ap (λ (own : Shown). flag_values own (before (of_flag of_summary))) (sym put.shown);
+    journal = read.journal ∙ ap (λ (own : Bool). journal_values own (before (of_flag of_journal))) (sym put.journal);
   }
   key-read of_workers v put read = record {
     cycles = read.cycles ∙ ap (λ (own : Option ℕ). option_or own (first_as number_of (before (of_value of_cycles)))) (sym put.cycles);
     engine = read.engine ∙ ap (λ (own : Option EngineKind). option_or own (first_as engine_of (before (of_value of_engine)))) (sym put.engine);
     workers = read.workers ∙ ap₂ option_or put.fresh put.number ∙ ap (λ (own : Option ℕ). option_or own (first_as number_of (before (of_value of_workers)))) (sym put.workers);
-    shown = read.shown ∙ ap (λ (own : Shown). flag_values own (before of_summary)) (sym put.shown);
+    shown = read.shown ∙ ap (λ (own : Shown). flag_values own (before (of_flag of_summary))) (sym put.shown);
+    journal = read.journal ∙ ap (λ (own : Bool). journal_values own (before (of_flag of_journal))) (sym put.journal);
   }
 
-  flag-read-as : IsShown rest o → AreReadAs rest (put of_summary (codes "true" ∷ []) before) values → AreReadAs o before values
-  flag-read-as put read = record {
+  flag-read-as : (f : Flag) → Sets f rest o → AreReadAs rest (put (of_flag f) (codes "true" ∷ []) before) values → AreReadAs o before values
+  flag-read-as of_summary put read = record {
     cycles = read.cycles ∙ ap (λ (own : Option ℕ). option_or own (first_as number_of (before (of_value of_cycles)))) (sym put.cycles);
     engine = read.engine ∙ ap (λ (own : Option EngineKind). option_or own (first_as engine_of (before (of_value of_engine)))) (sym put.engine);
     workers = read.workers ∙ ap (λ (own : Option ℕ). option_or own (first_as number_of (before (of_value of_workers)))) (sym put.workers);
-    shown = read.shown ∙ ap (λ (own : Shown). flag_values own (Some (codes "true" ∷ []))) put.fresh ∙ ap (λ (own : Shown). flag_values own (before of_summary)) (sym put.shown);
+    shown = read.shown ∙ ap (λ (own : Shown). flag_values own (Some (codes "true" ∷ []))) put.fresh ∙ ap (λ (own : Shown). flag_values own (before (of_flag of_summary))) (sym put.shown);
+    journal = read.journal ∙ ap (λ (own : Bool). journal_values own (before (of_flag of_journal))) (sym put.journal);
+  }
+  flag-read-as of_journal put read = record {
+    cycles = read.cycles ∙ ap (λ (own : Option ℕ). option_or own (first_as number_of (before (of_value of_cycles)))) (sym put.cycles);
+    engine = read.engine ∙ ap (λ (own : Option EngineKind). option_or own (first_as engine_of (before (of_value of_engine)))) (sym put.engine);
+    workers = read.workers ∙ ap (λ (own : Option ℕ). option_or own (first_as number_of (before (of_value of_workers)))) (sym put.workers);
+    shown = read.shown ∙ ap (λ (own : Shown). flag_values own (before (of_flag of_summary))) (sym put.shown);
+    journal = read.journal ∙ ap (λ (own : Bool). journal_values own (Some (codes "true" ∷ []))) put.fresh ∙ ap (λ (own : Bool). journal_values own (before (of_flag of_journal))) (sym put.journal);
   }
 
 all-read-as : (steps : List Step) (o : Options) (before : Slot → Option (List Text)) → Gives steps o → AreReadAs o before (all_values steps before)
@@ -631,11 +732,12 @@ all-read-as [] o before gives = record {
   cycles = ap (λ (p : Options). option_or p.cycles (first_as number_of (before (of_value of_cycles)))) (sym gives);
   engine = ap (λ (p : Options). option_or p.engine (first_as engine_of (before (of_value of_engine)))) (sym gives);
   workers = ap (λ (p : Options). option_or p.workers (first_as number_of (before (of_value of_workers)))) (sym gives);
-  shown = ap (λ (p : Options). flag_values p.shown (before of_summary)) (sym gives);
+  shown = ap (λ (p : Options). flag_values p.shown (before (of_flag of_summary))) (sym gives);
+  journal = ap (λ (p : Options). journal_values p.journal (before (of_flag of_journal))) (sym gives);
 }
 all-read-as (next key v ∷ steps) o before gives = key-read gives.0 o before _ key v gives.2 (all-read-as steps gives.0 (put (of_value key) (v ∷ []) before) gives.1)
 all-read-as (equals key v ∷ steps) o before gives = key-read gives.0 o before _ key v gives.2 (all-read-as steps gives.0 (put (of_value key) (v ∷ []) before) gives.1)
-all-read-as (summary ∷ steps) o before gives = flag-read-as gives.0 o before _ gives.2 (all-read-as steps gives.0 (put of_summary (codes "true" ∷ []) before) gives.1)
+all-read-as (alone f ∷ steps) o before gives = flag-read-as gives.0 o before _ f gives.2 (all-read-as steps gives.0 (put (of_flag f) (codes "true" ∷ []) before) gives.1)
 
 gen_taken : (d : ℕ) (ds : Text) → (d == 45) ≡ false → (takes gen_app ((d ∷ ds) ∷ []) ≡ true) × (first_of (codes "stages") (matches_of gen_app ((d ∷ ds) ∷ [])) ≡ Some (d ∷ ds))
 unfolding clap_on_literals
@@ -649,10 +751,11 @@ gen_is_simple = refl
 
 -- ---- what is built
 
-pub run_app-is : (name : Text) (b first second third whole : Command) (cycles engine workers summary : Arg) → app_of b ≡ bare name → AddsArg b cycles first → AddsArg first engine second → AddsArg second workers third → AddsArg third summary whole
-    → rule_of cycles ≡ cycles_rule → rule_of engine ≡ engine_rule → rule_of workers ≡ workers_rule → rule_of summary ≡ summary_rule → cycles.global ≡ false → engine.global ≡ false → workers.global ≡ false → summary.global ≡ false → app_of whole ≡ run_app name
-run_app-is name b first second third whole cycles engine count shows begun one two three four cycles_is engine_is workers_is summary_is here there beside behind =
-    four.shape behind ∙ ap₂ with_rule (three.shape beside ∙ ap₂ with_rule (two.shape there ∙ ap₂ with_rule (one.shape here ∙ ap₂ with_rule begun cycles_is) engine_is) workers_is) summary_is
+pub run_app-is : (name : Text) (b first second third fourth whole : Command) (cycles engine workers summary journal : Arg) → app_of b ≡ bare name → AddsArg b cycles first → AddsArg first engine second → AddsArg second workers third → AddsArg third summary fourth
+    → AddsArg fourth journal whole → rule_of cycles ≡ cycles_rule → rule_of engine ≡ engine_rule → rule_of workers ≡ workers_rule → rule_of summary ≡ summary_rule → rule_of journal ≡ journal_rule
+    → cycles.global ≡ false → engine.global ≡ false → workers.global ≡ false → summary.global ≡ false → journal.global ≡ false → app_of whole ≡ run_app name
+run_app-is name b first second third fourth whole cycles engine count shows notes begun one two three four five cycles_is engine_is workers_is summary_is journal_is here there beside behind last =
+    five.shape last ∙ ap₂ with_rule (four.shape behind ∙ ap₂ with_rule (three.shape beside ∙ ap₂ with_rule (two.shape there ∙ ap₂ with_rule (one.shape here ∙ ap₂ with_rule begun cycles_is) engine_is) workers_is) summary_is) journal_is
 
 pub gen_app-is : (b whole : Command) (stages : Arg) → app_of b ≡ bare (codes "gen") → AddsArg b stages whole → rule_of stages ≡ stages_rule → stages.global ≡ false → app_of whole ≡ gen_app
 gen_app-is b whole stages begun one stages_is here = one.shape here ∙ ap₂ with_rule begun stages_is
@@ -665,9 +768,14 @@ shown_by_flag one flag Report s e on off (inr (f, is)) = is
 shown_by_flag one flag Summary s e on off (inl (t, is)) = is
 shown_by_flag one flag Summary s e on off (inr (f, is)) = absurd (true≢false (sym (on e) ∙ f))
 
+-- what it says of the journal
+pub journal_by_flag : (one : Option Text) (flag o : Bool) → one ≡ Some (flag_text o) → (one ≡ Some (codes "true") → flag ≡ true) → (one ≡ Some (codes "false") → flag ≡ false) → flag ≡ o
+journal_by_flag one flag false e on off = off e
+journal_by_flag one flag true e on off = on e
+
 -- options are what they have
-pub options_same : (a b : Options) → a.cycles ≡ b.cycles → a.engine ≡ b.engine → a.workers ≡ b.workers → a.shown ≡ b.shown → a ≡ b
-options_same a b cycles engine count shown = rw cycles (rw engine (rw count (rw shown refl)))
+pub options_same : (a b : Options) → a.cycles ≡ b.cycles → a.engine ≡ b.engine → a.workers ≡ b.workers → a.shown ≡ b.shown → a.journal ≡ b.journal → a ≡ b
+options_same a b cycles engine count shown journal = rw cycles (rw engine (rw count (rw shown (rw journal refl))))
 
 -- ---- what is found
 
@@ -685,51 +793,106 @@ module _ (rows : List Row) where
       go true = refl
       go false = refl
 
-abbrev summary_filled : Rule
-summary_filled = filled summary_rule
+abbrev flag_filled : Flag → Rule
+flag_filled of_summary = filled summary_rule
+flag_filled of_journal = filled journal_rule
 
--- the rows after all words have the rows of these options, and whether a summary is wanted
-record IsFinished (rows final : List Row) (shown : Shown) : Type 0 where
+abbrev default_row : Flag → Row
+default_row f = record { id = id_of (of_flag f); values = codes "false" ∷ []; count = None; source = Some DefaultValue; reading = reading_of_slot (of_flag f) }
+
+-- the rows with what a flag says by default, where it isn't given
+record Defaults (f : Flag) (rows final : List Row) (given : Bool) : Type 0 where
+  others : (slot : Slot) → bytes_eq (id_of (of_flag f)) (id_of slot) ≡ false → row_of_id (id_of slot) final ≡ row_of_id (id_of slot) rows
+  own : one_of (id_of (of_flag f)) final ≡ Some (flag_text given)
+
+module _ (rows : List Row) where
+  default-none : (f : Flag) → row_of_id (id_of (of_flag f)) rows ≡ None → with_default rows (flag_filled f) ≡ rows ++ (default_row f ∷ [])
+  default-none of_summary none =
+      rw (has-found (codes "summary") rows ∙ ap is_some none) (with_row-is (codes "summary") (reading_of_slot (of_flag of_summary)) DefaultValue (codes "false" ∷ []) rows none)
+  default-none of_journal none =
+      rw (has-found (codes "journal") rows ∙ ap is_some none) (with_row-is (codes "journal") (reading_of_slot (of_flag of_journal)) DefaultValue (codes "false" ∷ []) rows none)
+
+  default-some : (f : Flag) (r : Row) → row_of_id (id_of (of_flag f)) rows ≡ Some r → with_default rows (flag_filled f) ≡ rows
+  default-some of_summary r there = rw (has-found (codes "summary") rows ∙ ap is_some there) refl
+  default-some of_journal r there = rw (has-found (codes "journal") rows ∙ ap is_some there) refl
+
+  own-id : (f : Flag) → row_of_id (id_of (of_flag f)) (default_row f ∷ []) ≡ Some (default_row f)
+  own-id of_summary = refl
+  own-id of_journal = refl
+
+  own-text : (f : Flag) → row_text (default_row f) ≡ Some (codes "false")
+  own-text of_summary = refl
+  own-text of_journal = refl
+
+  given-text : (f : Flag) → row_text (row_for (of_flag f) (codes "true" ∷ [])) ≡ Some (codes "true")
+  given-text of_summary = refl
+  given-text of_journal = refl
+
+  defaulted : (f : Flag) (given : Bool) → row_of_id (id_of (of_flag f)) rows ≡ option_map (row_for (of_flag f)) (journal_values given None) → Defaults f rows (with_default rows (flag_filled f)) given
+  defaulted f false none =
+      let is = default-none f none in
+      let found : (id : Text) → row_of_id id (with_default rows (flag_filled f)) ≡ option_or (row_of_id id rows) (row_of_id id (default_row f ∷ [])) =
+      λ id. ap (row_of_id id) is ∙ find-append (λ (r : Row). bytes_eq r.id id) rows (default_row f ∷ []) in
+      record {
+        others = λ slot differ. found (id_of slot) ∙ ap (λ (b : Bool). option_or (row_of_id (id_of slot) rows) (cond b (Some (default_row f)) None)) differ ∙ or-none (row_of_id (id_of slot) rows);
+        own = ap (option_and_then row_text) (found (id_of (of_flag f)) ∙ ap₂ option_or none (own-id f)) ∙ own-text f;
+      }
+  defaulted f true there =
+      let is = default-some f _ there in
+      record {
+        others = λ slot differ. ap (row_of_id (id_of slot)) is;
+        own = ap (one_of (id_of (of_flag f))) is ∙ ap (option_and_then row_text) there ∙ given-text f;
+      }
+
+-- the rows after all words have the rows of these options, and whether a summary and a journal are wanted
+record IsFinished (rows final : List Row) (shown : Shown) (journal : Bool) : Type 0 where
   values : (key : Key) → row_of_id (id_of (of_value key)) final ≡ row_of_id (id_of (of_value key)) rows
   flag : one_of (codes "summary") final ≡ Some (flag_of shown)
+  noted : one_of (codes "journal") final ≡ Some (flag_text journal)
 
-abbrev default_row : Row
-default_row = record { id = codes "summary"; values = codes "false" ∷ []; count = None; source = Some DefaultValue; reading = reading_of_slot of_summary }
+abbrev is_summary : Shown → Bool
+is_summary Report = false
+is_summary Summary = true
+
+shown-text : (s : Shown) → flag_text (is_summary s) ≡ flag_of s
+shown-text Report = refl
+shown-text Summary = refl
+
+shown-values : (s : Shown) → flag_values s None ≡ journal_values (is_summary s) None
+shown-values Report = refl
+shown-values Summary = refl
+
+abbrev all_defaults : List Row → List Row
+all_defaults rows = with_default (with_default rows (flag_filled of_summary)) (flag_filled of_journal)
 
 module _ (rows : List Row) (values : Slot → Option (List Text)) (known : Known rows values) where
-  behind-all : (values of_summary ≡ None) → with_default rows summary_filled ≡ rows ++ (default_row ∷ [])
-  behind-all none =
-      let absent = known of_summary ∙ ap (option_map (row_for of_summary)) none in
-      rw (none-used rows values known of_summary none) (with_row-is (codes "summary") (reading_of_slot of_summary) DefaultValue (codes "false" ∷ []) rows absent)
-
-  finish : (shown : Shown) → values of_summary ≡ flag_values shown None → IsFinished rows (with_default rows summary_filled) shown
-  finish Report none =
-      let is = behind-all none in
-      let found : (id : Text) → row_of_id id (with_default rows summary_filled) ≡ option_or (row_of_id id rows) (row_of_id id (default_row ∷ [])) =
-      λ id. ap (row_of_id id) is ∙ find-append (λ (r : Row). bytes_eq r.id id) rows (default_row ∷ []) in
+  finish : (shown : Shown) (journal : Bool) → values (of_flag of_summary) ≡ flag_values shown None → values (of_flag of_journal) ≡ journal_values journal None → IsFinished rows (all_defaults rows) shown journal
+  finish shown journal told noted =
+      let first = defaulted rows of_summary (is_summary shown) (known (of_flag of_summary) ∙ ap (option_map (row_for (of_flag of_summary))) (told ∙ shown-values shown)) in
+      let second = defaulted (with_default rows (flag_filled of_summary)) of_journal journal
+      (first.others (of_flag of_journal) refl ∙ known (of_flag of_journal) ∙ ap (option_map (row_for (of_flag of_journal))) noted) in
       record {
-        values = λ key. found (id_of (of_value key)) ∙ ap (option_or (row_of_id (id_of (of_value key)) rows)) (other-id key) ∙ or-none (row_of_id (id_of (of_value key)) rows);
-        flag = ap (option_and_then row_text) (found (codes "summary") ∙ ap (λ own. option_or own (Some default_row)) (known of_summary ∙ ap (option_map (row_for of_summary)) none));
+        values = λ key. second.others (of_value key) (not-journal key) ∙ first.others (of_value key) (not-summary key);
+        flag = ap (option_and_then row_text) (second.others (of_flag of_summary) refl) ∙ first.own ∙ ap (λ (t : Text). Some t) (shown-text shown);
+        noted = second.own;
       }
     where
-      other-id : (key : Key) → row_of_id (id_of (of_value key)) (default_row ∷ []) ≡ None
-      other-id of_cycles = refl
-      other-id of_engine = refl
-      other-id of_workers = refl
-  finish Summary there =
-      let has : has_row (codes "summary") rows ≡ true = has-found (codes "summary") rows ∙ ap is_some (known of_summary ∙ ap (option_map (row_for of_summary)) there) in
-      let is : with_default rows summary_filled ≡ rows = rw has refl in
-      record {
-        values = λ key. ap (row_of_id (id_of (of_value key))) is;
-        flag = ap (one_of (codes "summary")) is ∙ ap (option_and_then row_text) (known of_summary ∙ ap (option_map (row_for of_summary)) there);
-      }
+      not-journal : (key : Key) → bytes_eq (codes "journal") (id_of (of_value key)) ≡ false
+      not-journal of_cycles = refl
+      not-journal of_engine = refl
+      not-journal of_workers = refl
 
-  finished-is : (pending : Option (Text × List Text)) (before : List Row) → settled_rows run_rules pending before ≡ rows → finished run_rules (held_with before pending) ≡ with_default rows summary_filled
+      not-summary : (key : Key) → bytes_eq (codes "summary") (id_of (of_value key)) ≡ false
+      not-summary of_cycles = refl
+      not-summary of_engine = refl
+      not-summary of_workers = refl
+
+  finished-is : (pending : Option (Text × List Text)) (before : List Row) → settled_rows run_rules pending before ≡ rows → finished run_rules (held_with before pending) ≡ all_defaults rows
   finished-is pending before is =
       rw is
-      (ap (λ (first : List Row). with_default (with_default (with_default first (filled engine_rule)) (filled workers_rule)) summary_filled) (plain-default rows (filled cycles_rule) refl)
-      ∙ ap (λ (second : List Row). with_default (with_default second (filled workers_rule)) summary_filled) (plain-default rows (filled engine_rule) refl)
-      ∙ ap (λ (third : List Row). with_default third summary_filled) (plain-default rows (filled workers_rule) refl))
+      (ap (λ (first : List Row). all_defaults (with_default (with_default first (filled engine_rule)) (filled workers_rule))) (plain-default rows (filled cycles_rule) refl)
+      ∙ ap (λ (second : List Row). all_defaults (with_default second (filled workers_rule))) (plain-default rows (filled engine_rule) refl)
+      ∙ ap (λ (third : List Row). all_defaults third) (plain-default rows (filled workers_rule) refl))
 
 -- what is read of a row is read of its values
 read-through : {X : Type 0} (read : Text → Option X) (slot : Slot) (found : Option (List Text)) → option_and_then read (option_and_then (λ (r : Row). slice_get r.values 0) (option_map (row_for slot) found)) ≡ first_as read found
@@ -745,13 +908,14 @@ abbrev nothing : Slot → Option (List Text)
 nothing slot = None
 
 all-free : (o : Options) → AreFree o nothing
-all-free o = record { cycles = λ s. refl; engine = λ s. refl; workers = λ s. refl; shown = λ s. refl }
+all-free o = record { cycles = λ s. refl; engine = λ s. refl; workers = λ s. refl; shown = λ s. refl; journal = λ s. refl }
 
 none-known : Known [] nothing
 none-known (of_value of_cycles) = refl
 none-known (of_value of_engine) = refl
 none-known (of_value of_workers) = refl
-none-known of_summary = refl
+none-known (of_flag of_summary) = refl
+none-known (of_flag of_journal) = refl
 
 first-stands : Stands nothing (walk_from nothing_held)
 first-stands = record { rows = []; pending = None; is = refl; passes = refl; known = none-known }
@@ -761,13 +925,13 @@ module _ (name : Text) (words : List Text) (o : Options) (values : Slot → Opti
   so = settled_rows run_rules reads.stands.pending reads.stands.rows
 
   abbrev final : List Row
-  final = with_default so summary_filled
+  final = all_defaults so
 
   end : finished run_rules (walk run_rules [] nothing_held words).held ≡ final
   end = ap (λ (w : Walk). finished run_rules w.held) reads.stands.is ∙ finished-is so values reads.stands.known reads.stands.pending reads.stands.rows refl
 
-  is-finished : IsFinished so final o.shown
-  is-finished = finish so values reads.stands.known o.shown told.shown
+  is-finished : IsFinished so final o.shown o.journal
+  is-finished = finish so values reads.stands.known o.shown o.journal told.shown told.journal
 
   row-is : (key : Key) → row_of_id (id_of (of_value key)) final ≡ option_map (row_for (of_value key)) (values (of_value key))
   row-is key = is-finished.values key ∙ reads.stands.known (of_value key)
@@ -792,13 +956,16 @@ module _ (name : Text) (words : List Text) (o : Options) (values : Slot → Opti
       engine = ap (λ found. option_and_then engine_of (option_and_then (λ (r : Row). slice_get r.values 0) found)) (row-is of_engine) ∙ read-through engine_of (of_value of_engine) (values (of_value of_engine)) ∙ told.engine ∙ or-none o.engine;
       workers = ap (λ found. option_and_then number_of (option_and_then (λ (r : Row). slice_get r.values 0) found)) (row-is of_workers) ∙ read-through number_of (of_value of_workers) (values (of_value of_workers)) ∙ told.workers ∙ or-none o.workers;
       shown = is-finished.flag;
+      journal = is-finished.noted;
     });
   }
 
 -- the cycles are there
-cycles-there : (c : Option ℕ) (shown : Shown) (engine : Option EngineKind) → is_some (sim_by c shown engine) ≡ true → (n : ℕ) × (c ≡ Some n)
-cycles-there None shown engine e = absurd (true≢false (sym e))
-cycles-there (Some n) shown engine e = (n, refl)
+cycles-there : (journal : Bool) (c : Option ℕ) (shown : Shown) (engine : Option EngineKind) (workers : Option ℕ)
+    → is_some (if journal then journal_by c shown engine workers else sim_by c shown (engine_by engine workers)) ≡ true → (n : ℕ) × (c ≡ Some n)
+cycles-there true None shown engine workers e = absurd (true≢false (sym e))
+cycles-there false None shown engine workers e = absurd (true≢false (sym e))
+cycles-there journal (Some n) shown engine workers e = (n, refl)
 
 -- valid words are read as the options that they give
 pub words_are_read : (name : Text) (words : List Text) → is_some (sim_of (options_of words)) ≡ true
@@ -809,7 +976,7 @@ words_are_read name words valid = go (options_of words) refl valid
     go None is valid = absurd (true≢false (sym valid))
     go (Some o) is valid =
         let found = steps_of words o is in
-        let there = cycles-there o.cycles o.shown (engine_by o.engine o.workers) valid in
+        let there = cycles-there o.journal o.cycles o.shown o.engine o.workers valid in
         let reads = all-read name found.0 o nothing (walk_from nothing_held) found.2 (all-free o) first-stands in
         (o, is, subst (λ ws. IsRead name ws o) (sym found.1) (are-read name (words_of found.0) o _ reads (all-read-as found.0 o nothing found.2) there.0 there.1))
 

@@ -20,6 +20,7 @@ use Rattle.koika_top.specs.Steps.{Makes}
 use Rattle.koika_top.specs.Aiger.{AnswersAiger, HasNoAig, ShowsAig}
 use Rattle.koika_top.specs.Compile.{AnswersCompile, ShowsCircuit}
 use Rattle.koika_top.specs.Reads.{AnswersCheck, AnswersPrint, ShowsTree, TellsCounts}
+use Rattle.koika_top.specs.Recheck.{AnswersRecheck, IsUncertified, ShowsChecked}
 use Rattle.kw_bits.specs.declared.host.HostSpec.{HostSpec}
 use Rattle.koika_syntax.specs.Grammar.{Derives, tree_leaves}
 use Rattle.koika_syntax.specs.Tokens.{AreTokensOf}
@@ -136,3 +137,8 @@ pub makes-aiger : (hosts : List HostSpec) (source : List ℕ) (r : Result (List 
 makes-aiger hosts source (Ok text) made refused = made
 makes-aiger hosts source (Err (refusals.Fault fault)) made refused = inr refused
 makes-aiger hosts source (Err refusals.NoMemory) made refused = tt
+
+pub makes-recheck : (hosts : List HostSpec) (cycles : ℕ) (source : List ℕ) (r : Result (List ℕ) Refusal) → IfOk r (ShowsChecked hosts cycles source) → IfFault r (IsUncertified hosts cycles source) → Makes (AnswersRecheck hosts cycles source) r
+makes-recheck hosts cycles source (Ok text) made refused = made
+makes-recheck hosts cycles source (Err (refusals.Fault fault)) made refused = refused
+makes-recheck hosts cycles source (Err refusals.NoMemory) made refused = tt

@@ -8,7 +8,9 @@ use Rattle.koika_top.specs.Aigsim.{AnswersAigsim}
 use Rattle.koika_top.specs.Btorsim.{AnswersBtorsim, longest_circuit}
 use Rattle.koika_top.specs.Compile.{AnswersCompile}
 use Rattle.koika_top.specs.Generator.{pipeline}
+use Rattle.koika_top.specs.Journal.{AnswersJournal}
 use Rattle.koika_top.specs.Reads.{AnswersCheck, AnswersPrint}
+use Rattle.koika_top.specs.Recheck.{AnswersRecheck}
 use Rattle.koika_top.specs.Sim.{AnswersSim}
 use Rattle.koika_top.specs.Sources.{longest_source}
 use Rattle.koika_top.specs.Words.{command_of}
@@ -17,7 +19,7 @@ use Rattle.koika_top.specs.declared.answer.Answer.TheVariants.{Usage, Refused, W
 use Rattle.koika_top.specs.declared.status.Status.{Status}
 use Rattle.koika_top.specs.declared.status.Status.TheVariants as status
 use Rattle.koika_top.specs.declared.words.Command.{Command}
-use Rattle.koika_top.specs.declared.words.Command.TheVariants.{Check, Print, Sim, Compile, Btorsim, Gen, Aiger, Aigsim}
+use Rattle.koika_top.specs.declared.words.Command.TheVariants.{Check, Print, Sim, Compile, Btorsim, Gen, Aiger, Aigsim, Journal, Recheck}
 
 -- the answer to a command, where these host functions are handed in
 abbrev pub Answers : List HostSpec → Command → List ℕ → Answer → Type 0
@@ -29,6 +31,8 @@ Answers hosts Compile source answer = AnswersCompile hosts source answer
 Answers hosts (Gen stages) source answer = answer ≡ Written (pipeline stages)
 Answers hosts Aiger source answer = AnswersAiger hosts source answer
 Answers hosts (Aigsim cycles shown) source answer = AnswersAigsim cycles shown source answer
+Answers hosts (Journal cycles workers) source answer = AnswersJournal hosts cycles workers source answer
+Answers hosts (Recheck cycles) source answer = AnswersRecheck hosts cycles source answer
 
 -- the answer to words and a source; where the words aren't understood it is how to use the program
 abbrev pub IsAnswer : List HostSpec → List (List ℕ) → List ℕ → Answer → Type 0
@@ -47,6 +51,7 @@ reads_source (Some command) = is_of_source command
 abbrev pub longest_of : Command → ℕ
 longest_of (Btorsim cycles shown) = longest_circuit
 longest_of (Aigsim cycles shown) = longest_circuit
+longest_of (Recheck cycles) = longest_circuit
 longest_of other = longest_source
 
 -- what is known of the bytes that an answer stands on, where these are known of the source
@@ -54,7 +59,7 @@ abbrev pub known_source : Option Command → Option (List ℕ) → Option (List 
 known_source command left = if reads_source command then left else Some []
 
 abbrev pub usage_line : List ℕ
-usage_line = codes "usage: koika check|print|sim|compile|btorsim|gen|aiger|aigsim" ++ 10 ∷ []
+usage_line = codes "usage: koika check|print|sim|compile|btorsim|gen|aiger|aigsim|recheck" ++ 10 ∷ []
 
 -- the bytes that tell an answer
 abbrev pub text_of : Answer → List ℕ
@@ -71,11 +76,20 @@ status_of (Written text) = status.Done
 abbrev pub IsFailure : Status → Type 0
 IsFailure result = (result ≡ status.ReadFault) ⊎ ((result ≡ status.WriteFault) ⊎ (result ≡ status.NoMemory))
 
--- whether there is one text at most that is written: a design has several circuits, of words and of bits
+-- whether there is one text at most that is written: a design has several circuits, of words and of bits, and journals
 abbrev pub has_one_text : Option Command → Bool
 has_one_text (Some Compile) = false
 has_one_text (Some Aiger) = false
+has_one_text (Some (Journal cycles workers)) = false
 has_one_text other = true
+
+-- whether definitions alone make an answer: circuits, journals and lowered designs are made by the program's functions
+abbrev pub is_answered : Option Command → Bool
+is_answered (Some Compile) = false
+is_answered (Some Aiger) = false
+is_answered (Some (Journal cycles workers)) = false
+is_answered (Some (Recheck cycles)) = false
+is_answered other = true
 
 -- two answers that a user can't tell apart: they have one status and one text
 pub record IsSameAnswer (a b : Answer) : Type 0 where

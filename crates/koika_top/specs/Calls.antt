@@ -5,10 +5,17 @@ use Rattle.kw_base.specs.declared.fault.Fault.{Fault}
 use Rattle.kw_bits.specs.Faults.{Rose}
 use Rattle.koika_check.specs.BitWeights.{bit_weight}
 use Rattle.koika_check.specs.declared.checked.Checked.{Checked}
+use Rattle.koika_lower.specs.Lowering.{IsLowered}
+use Rattle.journal_check.specs.Checking.{IsGood}
+use Rattle.journal_check.specs.Reading.{IsJournal}
+use Rattle.journal_check.specs.declared.journal.Journal.{Journal as JournalOf}
+use Rattle.typed_core.specs.declared.design.Parts.{Parts}
 use Rattle.one_rule.specs.Stimulus.{InputVectors}
 use Rattle.kw_bits.specs.declared.host.HostSpec.{HostSpec}
 use Rattle.koika_top.specs.Aiger.{most_bits}
 use Rattle.koika_top.specs.Answer.{IsAnswer, IsFailure, has_one_text, known_source, reads_source, status_of, text_of, usage_line}
+use Rattle.koika_top.specs.Journal.{HasJournal}
+use Rattle.koika_top.specs.Recheck.{MayHaveJournal, parts_of}
 use Rattle.koika_top.specs.Sources.{Spells}
 use Rattle.koika_top.specs.Streams.{Gains, GainsFront, GainsNothing, Stream}
 use Rattle.koika_top.specs.Words.{command_of}
@@ -17,7 +24,7 @@ use Rattle.koika_top.specs.declared.answer.Answer.TheVariants.{Refused, Written}
 use Rattle.koika_top.specs.declared.status.Status.{Status}
 use Rattle.koika_top.specs.declared.status.Status.TheVariants.{Done, Usage, Refused as IsRefused, ReadFault, WriteFault, NoMemory}
 use Rattle.koika_top.specs.declared.words.Command.{Command}
-use Rattle.koika_top.specs.declared.words.Command.TheVariants.{Aiger, Compile}
+use Rattle.koika_top.specs.declared.words.Command.TheVariants.{Aiger, Compile, Journal, Recheck}
 
 -- the words, the host functions that are offered, the source, the sink, and the status
 pub record Call : Type 0 where
@@ -86,6 +93,26 @@ abbrev pub ConvertsSpelled : Call → Type 0
 ConvertsSpelled c =
     command_in c ≡ Some Aiger → IfSome (known_in c) (λ bytes. (design : Checked) (stimulus : InputVectors) → Spells c.hosts bytes design stimulus → bit_weight design ≤ most_bits → (c.status ≡ Done) ⊎ IsFailure c.status)
 
+-- `sim --journal` has status 0 for a source that has a journal of that many cycles, unless reading or writing fails or
+-- memory runs out.
+abbrev pub JournalsSpelled : Call → Type 0
+JournalsSpelled c =
+    (cycles workers : ℕ) → command_in c ≡ Some (Journal cycles workers) → IfSome (known_in c) (λ bytes. (design : Checked) (stimulus : InputVectors) → HasJournal c.hosts cycles bytes design stimulus → (c.status ≡ Done) ⊎ IsFailure c.status)
+
+-- What `recheck` makes of the third part of a source: it has status 0 for a good journal of the design, and status 2 for
+-- one that isn't good, and where the part is no journal, unless reading or writing fails or memory runs out.
+pub record IsDecided (core : Parts) (stimulus : InputVectors) (cycles line : ℕ) (text : List ℕ) (result : Status) : Type 0 where
+  pub good : (journal : JournalOf) → IsJournal core stimulus line text journal → IsGood core stimulus cycles journal → (result ≡ Done) ⊎ IsFailure result
+  pub other : (journal : JournalOf) → IsJournal core stimulus line text journal → (IsGood core stimulus cycles journal → ⊥) → (result ≡ IsRefused) ⊎ IsFailure result
+  pub none : ((journal : JournalOf) → IsJournal core stimulus line text journal → ⊥) → (result ≡ IsRefused) ⊎ IsFailure result
+
+-- So it does for each source that may have a journal, whatever its design is lowered to.
+abbrev pub RechecksSpelled : Call → Type 0
+RechecksSpelled c =
+    (cycles : ℕ) → command_in c ≡ Some (Recheck cycles)
+    → IfSome (known_in c) (λ bytes. (design : Checked) (stimulus : InputVectors) (core : Parts) → MayHaveJournal c.hosts cycles bytes design stimulus → IsLowered design core
+    → let parts = parts_of bytes in IsDecided core stimulus cycles parts.journal_line parts.journal c.status)
+
 -- In all cases the first bytes of the answer's text were written, where there is one text.
 abbrev pub WritesFront : Call → Type 0
 WritesFront c = has_one_text (command_in c) ≡ true → IfSome (known_in c) (λ bytes. (answer : Answer) → IsAnswerTo c bytes answer → GainsFront c.sink (text_of answer))
@@ -119,6 +146,8 @@ pub record IsKept (untouched : Type 0) (c : Call) : Type 0 where
   pub exact : HasStatusOfAnswer c
   pub compiles : CompilesSpelled c
   pub converts : ConvertsSpelled c
+  pub journals : JournalsSpelled c
+  pub rechecks : RechecksSpelled c
   pub front : WritesFront c
   pub some : WritesSomeFront c
   pub read_fault : CountsReadFault c

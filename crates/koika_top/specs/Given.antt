@@ -1,6 +1,6 @@
 -- What the reader of command lines is told of the options of a run and of the word of `gen`, and which options the rows
 -- that it finds give. Only contracts of private functions cite it.
-use Rattle.std.specs.Prelude.{◌≡◌, ℕ, true, List, codes, Option, Some, option_and_then}
+use Rattle.std.specs.Prelude.{◌≡◌, ℕ, Bool, true, false, List, codes, Option, Some, option_and_then}
 use Rattle.clap.specs.Walk.{Row, Rule, Text, first_of, one_of}
 use Rattle.clap.specs.Simple.{App, new_app, new_rule, on_top, with_rule}
 use Rattle.clap.specs.declared.builder.action.ArgAction.TheVariants.{SetTrue}
@@ -14,21 +14,31 @@ use Rattle.koika_top.specs.declared.words.Options.{Options}
 abbrev pub bare : Text → App
 bare name = on_top (λ s. record s { no_binary_name = true; disable_help_flag = true }) (new_app name)
 
+-- an option that has a value, and one that has none
+abbrev pub valued_rule : Text → Rule
+valued_rule name = record (new_rule name) { long = Some name }
+
+abbrev pub flag_rule : Text → Rule
+flag_rule name = record (new_rule name) { long = Some name; action = Some SetTrue }
+
 abbrev pub cycles_rule : Rule
-cycles_rule = record (new_rule (codes "cycles")) { long = Some (codes "cycles"); required = true }
+cycles_rule = record (valued_rule (codes "cycles")) { required = true }
 
 abbrev pub engine_rule : Rule
-engine_rule = record (new_rule (codes "engine")) { long = Some (codes "engine") }
+engine_rule = valued_rule (codes "engine")
 
 abbrev pub workers_rule : Rule
-workers_rule = record (new_rule (codes "workers")) { long = Some (codes "workers") }
+workers_rule = valued_rule (codes "workers")
 
 abbrev pub summary_rule : Rule
-summary_rule = record (new_rule (codes "summary")) { long = Some (codes "summary"); action = Some SetTrue }
+summary_rule = flag_rule (codes "summary")
+
+abbrev pub journal_rule : Rule
+journal_rule = flag_rule (codes "journal")
 
 -- the options of a run
 abbrev pub run_app : Text → App
-run_app name = with_rule (with_rule (with_rule (with_rule (bare name) cycles_rule) engine_rule) workers_rule) summary_rule
+run_app name = with_rule (with_rule (with_rule (with_rule (with_rule (bare name) cycles_rule) engine_rule) workers_rule) summary_rule) journal_rule
 
 abbrev pub stages_rule : Rule
 stages_rule = record (new_rule (codes "stages")) { required = true }
@@ -50,9 +60,15 @@ abbrev pub flag_of : Shown → Text
 flag_of Report = codes "false"
 flag_of Summary = codes "true"
 
+-- how a flag tells whether a journal is wanted
+abbrev pub flag_text : Bool → Text
+flag_text false = codes "false"
+flag_text true = codes "true"
+
 -- the rows give these options
 pub record Give (rows : List Row) (options : Options) : Type 0 where
   pub cycles : number_in (codes "cycles") rows ≡ options.cycles
   pub engine : engine_in (codes "engine") rows ≡ options.engine
   pub workers : number_in (codes "workers") rows ≡ options.workers
   pub shown : one_of (codes "summary") rows ≡ Some (flag_of options.shown)
+  pub journal : one_of (codes "journal") rows ≡ Some (flag_text options.journal)

@@ -4,6 +4,7 @@ pub mod Words
 pub mod Given
 pub mod Generator
 pub mod Reads
+pub mod RoundTrip
 pub mod Sim
 pub mod Lengths
 pub mod CircuitShapes
@@ -13,12 +14,17 @@ pub mod Engines
 pub mod Compile
 pub mod Aiger
 pub mod Aigsim
+pub mod Histories
+pub mod Journal
+pub mod Journaling
+pub mod Recheck
 pub mod PlainNames
 pub mod Wired
 pub mod Streams
 pub mod Answer
 pub mod Calls
 pub mod Told
+pub mod Works
 pub mod Steps
 pub mod Telling
 pub mod Numbers

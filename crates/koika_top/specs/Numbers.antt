@@ -1,11 +1,11 @@
 -- The number of each fault and each limit of a design, beside the constant of the code that stands for it in other definitions.
 use Rattle.std.specs.Prelude.{◌≡◌}
-use Rattle.kw_base.specs.declared.fault_number.TheConstants.{NO_TOKEN, UNEXPECTED_TOKEN, BRACKETS_TOO_DEEP, NUMBER_OUT_OF_RANGE, NAME_TOO_LONG, UNKNOWN_NAME, REPEATED_NAME, WRONG_TYPE, WRONG_WIDTH, WRONG_FIELD, WRONG_ARGUMENT_COUNT, RULE_TWICE_ON_A_PATH, WRONG_ENTRY_COUNT, UNKNOWN_HOST_FUNCTION, MALFORMED_ASSIGNMENT, UNKNOWN_INPUT, INPUT_TOO_WIDE, SOURCE_TOO_LONG, TOO_MANY_REGISTERS, TOO_MANY_RULES, TOO_MANY_NODES, TOO_HEAVY, RUN_TOO_LONG, TOO_DEEP, TOO_MANY_INPUTS, TOO_MANY_BITS, MALFORMED_LINE, REPEATED_ID, UNDEFINED_ID, WRONG_SORT, FORM_LEFT_OUT, SORT_OUT_OF_RANGE, STATE_WITHOUT_NEXT, REPEATED_INIT_OR_NEXT, CONSTANT_TOO_GREAT, INIT_NOT_CONSTANT, MALFORMED_AIGER, VARIABLE_TOO_GREAT, VARIABLE_DEFINED_TWICE, NO_VARIABLE, UNDEFINED_VARIABLE, RESET_LEFT_OUT}
+use Rattle.kw_base.specs.declared.fault_number.TheConstants.{NO_TOKEN, UNEXPECTED_TOKEN, BRACKETS_TOO_DEEP, NUMBER_OUT_OF_RANGE, NAME_TOO_LONG, UNKNOWN_NAME, REPEATED_NAME, WRONG_TYPE, WRONG_WIDTH, WRONG_FIELD, WRONG_ARGUMENT_COUNT, RULE_TWICE_ON_A_PATH, WRONG_ENTRY_COUNT, UNKNOWN_HOST_FUNCTION, MALFORMED_ASSIGNMENT, UNKNOWN_INPUT, INPUT_TOO_WIDE, SOURCE_TOO_LONG, TOO_MANY_REGISTERS, TOO_MANY_RULES, TOO_MANY_NODES, TOO_HEAVY, RUN_TOO_LONG, TOO_DEEP, TOO_MANY_INPUTS, TOO_MANY_BITS, JOURNAL_TOO_LONG, MALFORMED_LINE, REPEATED_ID, UNDEFINED_ID, WRONG_SORT, FORM_LEFT_OUT, SORT_OUT_OF_RANGE, STATE_WITHOUT_NEXT, REPEATED_INIT_OR_NEXT, CONSTANT_TOO_GREAT, INIT_NOT_CONSTANT, MALFORMED_AIGER, VARIABLE_TOO_GREAT, VARIABLE_DEFINED_TWICE, NO_VARIABLE, UNDEFINED_VARIABLE, RESET_LEFT_OUT, MALFORMED_JOURNAL, NO_TRACE, WRONG_ANSWER, WRONG_BATCH}
 use Rattle.typed_core.specs.declared.limits.TheConstants.{MAX_REGISTERS, MAX_INPUTS, MAX_RULES, MAX_NODES, MAX_TABLE_IN_WIDTH, PORTS}
 use Rattle.koika_check.specs.declared.measure.TheConstants.{MAX_WEIGHT, MAX_DEPTH}
 use Rattle.koika_top.specs.declared.aiger.TheConstants.{MOST_BITS}
 
--- tokens and grammar; names and types; stimuli; sources, limits and runs; BTOR2 texts; AIGER texts
+-- tokens and grammar; names and types; stimuli; sources, limits and runs; BTOR2 texts; AIGER texts; journals
 pub record AreFaultNumbers : Type 0 where
   pub no_token : NO_TOKEN ≡ 10
   pub unexpected_token : UNEXPECTED_TOKEN ≡ 11
@@ -33,6 +33,7 @@ pub record AreFaultNumbers : Type 0 where
   pub too_deep : TOO_DEEP ≡ 46
   pub too_many_inputs : TOO_MANY_INPUTS ≡ 47
   pub too_many_bits : TOO_MANY_BITS ≡ 48
+  pub journal_too_long : JOURNAL_TOO_LONG ≡ 49
   pub malformed_line : MALFORMED_LINE ≡ 50
   pub repeated_id : REPEATED_ID ≡ 51
   pub undefined_id : UNDEFINED_ID ≡ 52
@@ -49,6 +50,10 @@ pub record AreFaultNumbers : Type 0 where
   pub no_variable : NO_VARIABLE ≡ 73
   pub undefined_variable : UNDEFINED_VARIABLE ≡ 74
   pub reset_left_out : RESET_LEFT_OUT ≡ 75
+  pub malformed_journal : MALFORMED_JOURNAL ≡ 80
+  pub no_trace : NO_TRACE ≡ 81
+  pub wrong_answer : WRONG_ANSWER ≡ 82
+  pub wrong_batch : WRONG_BATCH ≡ 83
 
 -- declarations, scheduler nodes, input bits of a table, ports, weight and depth, bit weight
 pub record AreLimits : Type 0 where

@@ -13,7 +13,7 @@ use Rattle.koika_top.specs.declared.status.Status.TheVariants as status
 use Rattle.koika_top.specs.declared.words.Command.{Command}
 use Rattle.koika_top.specs.declared.engine_kind.EngineKind.{EngineKind}
 use Rattle.koika_top.specs.declared.engine_kind.EngineKind.TheVariants.{Workers}
-use Rattle.koika_top.specs.declared.words.Command.TheVariants.{Gen, Sim}
+use Rattle.koika_top.specs.declared.words.Command.TheVariants.{Gen, Journal, Sim}
 
 -- a text, or why there is none, is such an answer; out of memory is free
 abbrev pub Makes : (Answer → Type 0) → Result (List ℕ) Refusal → Type 0
@@ -60,6 +60,7 @@ HasFewWorkers other = ⊤
 abbrev pub IsInRange : Command → Type 0
 IsInRange (Gen stages) = stages ≤ 100
 IsInRange (Sim cycles shown engine) = HasFewWorkers engine
+IsInRange (Journal cycles workers) = (1 ≤ workers) × (workers ≤ 8)
 IsInRange other = ⊤
 
 -- no workers make the run
@@ -70,6 +71,7 @@ IsAlone other = ⊤
 -- where the command is a run, its engine is one of these
 abbrev pub RunsBy : (EngineKind → Type 0) → Command → Type 0
 RunsBy has (Sim cycles shown engine) = has engine
+RunsBy has (Journal cycles workers) = has (Workers workers)
 RunsBy has other = ⊤
 
 -- so it is for each command that words may ask for

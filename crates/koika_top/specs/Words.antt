@@ -1,5 +1,5 @@
 -- Which arguments are valid, as words of the command line, and what they ask for. The program's own name isn't among them.
-use Rattle.std.specs.Prelude.{ℕ, ◌+◌, ◌-◌, ◌*◌, ◌&&◌, ◌||◌, nat_le, Bool, false, List, [], ◌∷◌, length, fold, codes, take, drop, Option, Some, None, if◌then◌else◌}
+use Rattle.std.specs.Prelude.{ℕ, ◌+◌, ◌-◌, ◌*◌, ◌&&◌, ◌||◌, nat_le, Bool, true, false, List, [], ◌∷◌, length, fold, codes, take, drop, Option, Some, None, if◌then◌else◌}
 use Rattle.std.specs.List.{list_all}
 use Rattle.std.specs.Char.{is_ascii_digit}
 use Rattle.std.specs.Str.{bytes_eq}
@@ -8,7 +8,7 @@ use Rattle.koika_top.specs.declared.engine_kind.EngineKind.TheVariants.{Plain, C
 use Rattle.koika_top.specs.declared.shown.Shown.{Shown}
 use Rattle.koika_top.specs.declared.shown.Shown.TheVariants.{Report, Summary}
 use Rattle.koika_top.specs.declared.words.Command.{Command}
-use Rattle.koika_top.specs.declared.words.Command.TheVariants.{Check, Print, Sim, Compile, Btorsim, Gen, Aiger, Aigsim}
+use Rattle.koika_top.specs.declared.words.Command.TheVariants.{Check, Print, Sim, Compile, Btorsim, Gen, Aiger, Aigsim, Journal, Recheck}
 use Rattle.koika_top.specs.declared.words.Options.{Options}
 
 -- the number that decimal digits write
@@ -29,7 +29,7 @@ engine_of word = if bytes_eq word (codes "plain") then Some Plain else if bytes_
 
 -- no option is given
 abbrev pub no_options : Options
-no_options = record { cycles = None; engine = None; workers = None; shown = Report }
+no_options = record { cycles = None; engine = None; workers = None; shown = Report; journal = false }
 
 -- options with a value that is given once, and is valid: there is no earlier one, and there is this one
 abbrev pub given_once : {X : Type 0} → Option X → (X → Options) → Option X → Option Options
@@ -62,10 +62,21 @@ abbrev pub with_summary : Option Options → Option Options
 with_summary None = None
 with_summary (Some options) = given_once (asked_for options.shown) (λ shown. record options { shown = shown }) (Some Summary)
 
+-- no journal is made where nothing is asked for
+abbrev pub asked_flag : Bool → Option Bool
+asked_flag false = None
+asked_flag true = Some true
+
+-- options, if they are valid, with a journal
+abbrev pub with_journal : Option Options → Option Options
+with_journal None = None
+with_journal (Some options) = given_once (asked_flag options.journal) (λ journal. record options { journal = journal }) (Some true)
+
 -- the other options, if they are valid, with one that is a word of its own
 abbrev pub with_word : List ℕ → Option Options → Option Options
 with_word word others =
     if bytes_eq word (codes "--summary") then with_summary others
+    else if bytes_eq word (codes "--journal") then with_journal others
     else if bytes_eq (take 9 word) (codes "--cycles=") then with_cycles (drop 9 word) others
     else if bytes_eq (take 9 word) (codes "--engine=") then with_engine (drop 9 word) others
     else if bytes_eq (take 10 word) (codes "--workers=") then with_workers (drop 10 word) others
@@ -98,9 +109,16 @@ abbrev pub sim_by : Option ℕ → Shown → Option EngineKind → Option Comman
 sim_by (Some cycles) shown (Some engine) = Some (Sim cycles shown engine)
 sim_by cycles shown engine = None
 
+-- a journal of 1 to 8 workers; it takes neither a summary nor an engine
+abbrev pub journal_by : Option ℕ → Shown → Option EngineKind → Option ℕ → Option Command
+journal_by (Some cycles) Report None (Some workers) = if nat_le 1 workers && nat_le workers 8 then Some (Journal cycles workers) else None
+journal_by cycles shown engine workers = None
+
 abbrev pub sim_of : Option Options → Option Command
 sim_of None = None
-sim_of (Some options) = sim_by options.cycles options.shown (engine_by options.engine options.workers)
+sim_of (Some options) =
+    if options.journal then journal_by options.cycles options.shown options.engine options.workers
+    else sim_by options.cycles options.shown (engine_by options.engine options.workers)
 
 -- `btorsim` with options: the cycles have to be given, and neither an engine nor workers
 abbrev pub btorsim_by : Option ℕ → Shown → Option EngineKind → Option ℕ → Option Command
@@ -109,7 +127,7 @@ btorsim_by cycles shown engine workers = None
 
 abbrev pub btorsim_of : Option Options → Option Command
 btorsim_of None = None
-btorsim_of (Some options) = btorsim_by options.cycles options.shown options.engine options.workers
+btorsim_of (Some options) = if options.journal then None else btorsim_by options.cycles options.shown options.engine options.workers
 
 -- `aigsim` with options, as `btorsim`
 abbrev pub aigsim_by : Option ℕ → Shown → Option EngineKind → Option ℕ → Option Command
@@ -118,7 +136,16 @@ aigsim_by cycles shown engine workers = None
 
 abbrev pub aigsim_of : Option Options → Option Command
 aigsim_of None = None
-aigsim_of (Some options) = aigsim_by options.cycles options.shown options.engine options.workers
+aigsim_of (Some options) = if options.journal then None else aigsim_by options.cycles options.shown options.engine options.workers
+
+-- `recheck` with options: the cycles alone are given
+abbrev pub recheck_by : Option ℕ → Shown → Option EngineKind → Option ℕ → Option Command
+recheck_by (Some cycles) Report None None = Some (Recheck cycles)
+recheck_by cycles shown engine workers = None
+
+abbrev pub recheck_of : Option Options → Option Command
+recheck_of None = None
+recheck_of (Some options) = if options.journal then None else recheck_by options.cycles options.shown options.engine options.workers
 
 -- `gen` with a number of stages from 1 to 100
 abbrev pub gen_by : Option ℕ → Option Command
@@ -146,6 +173,7 @@ command_of (word ∷ rest) =
     else if bytes_eq word (codes "gen") then gen_of rest
     else if bytes_eq word (codes "aiger") then alone_of Aiger rest
     else if bytes_eq word (codes "aigsim") then aigsim_of (options_of rest)
+    else if bytes_eq word (codes "recheck") then recheck_of (options_of rest)
     else None
 
 -- whether a word, and whether one of the words, asks for workers

@@ -14,7 +14,8 @@ use kw_io::{Sink, write_all};
 use std::alloc::Global;
 
 // How to call the program.
-const USAGE_LINE: &[u8] = b"usage: koika check|print|sim|compile|btorsim|gen|aiger|aigsim\n";
+const USAGE_LINE: &[u8] =
+    b"usage: koika check|print|sim|compile|btorsim|gen|aiger|aigsim|recheck\n";
 
 /// What the program answers to its arguments and its source.
 #[derive(Debug, Drop)]

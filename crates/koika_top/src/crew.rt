@@ -1,19 +1,24 @@
 //! Engines: who makes the run of a design.
 
-ghost use Rattle.std.specs.Arc.{arc_value};
-ghost use Rattle.koika_check.specs.Typing.{IsTypedDesign};
-ghost use Rattle.koika_top.specs.Sim.{text_of_run};
 ghost use Rattle.koika_top.specs.Streams.{stream};
-ghost use Rattle.koika_top.specs.Told.{Told};
+ghost use Rattle.koika_top.specs.Works.{IsReady, IsWritten, engine_of};
 
 use crate::design_run::Run;
 use crate::engine_kind::EngineKind;
+use crate::journal_run::JournalRun;
 use crate::untold::Untold;
 use attempt_log::Gate;
 use kw_io::Sink;
 use std::alloc::Global;
 use std::sync::Wait;
 use std::thread::Threads;
+
+/// What is asked of a run: its report or summary, or its journal.
+#[derive(Drop)]
+pub(crate) enum Work {
+    Shown(Run),
+    Journal(JournalRun),
+}
 
 /// Who makes the run of a design.
 pub(crate) trait Crew {
@@ -22,19 +27,17 @@ pub(crate) trait Crew {
     /// The engines that it runs.
     ghost has: { Self → EngineKind → Type 0 };
 
-    /// Makes a run by its engine and writes what is shown of it, batch by batch.
+    /// Makes a run by its engine and writes what is asked of it, batch by batch.
     fn write<K: Sink>(
         &self,
         alloc: Global,
         gate: &(dyn Gate + Sync),
-        run: &Run,
+        work: &Work,
         sink: &mut K,
     ) -> Result<(), Untold>
-        requires typed { IsTypedDesign run.now.lowered.checked }
-        requires engine { has self.now run.now.engine }
-        ensures { Told
-            (text_of_run run.now.lowered.checked (arc_value run.now.lowered.stimulus) run.now.cycles run.now.shown)
-            (stream K.written K.faults sink.old sink.new) result };
+        requires ready { IsReady work.now }
+        requires engine { has self.now (engine_of work.now) }
+        ensures { IsWritten work.now (stream K.written K.faults sink.old sink.new) result };
 }
 
 /// The caller alone, without workers. It is proved to return.
@@ -56,13 +59,16 @@ impl Crew for Alone {
         &self,
         alloc: Global,
         _gate: &(dyn Gate + Sync),
-        run: &Run,
+        work: &Work,
         sink: &mut K,
     ) -> Result<(), Untold> {
-        match run.engine {
-            EngineKind::Plain => run.write_plain(alloc, sink),
-            EngineKind::Circuit => run.write_circuit(alloc, sink),
-            EngineKind::Workers(_) => unreachable!(),
+        match work {
+            Work::Shown(run) => match run.engine {
+                EngineKind::Plain => run.write_plain(alloc, sink),
+                EngineKind::Circuit => run.write_circuit(alloc, sink),
+                EngineKind::Workers(_) => unreachable!(),
+            },
+            Work::Journal(_) => unreachable!(),
         }
     }
 }
@@ -77,13 +83,16 @@ impl<'r, R: Threads + Wait + Sync> Crew for InThreads<'r, R> {
         &self,
         alloc: Global,
         gate: &(dyn Gate + Sync),
-        run: &Run,
+        work: &Work,
         sink: &mut K,
     ) -> Result<(), Untold> {
-        match run.engine {
-            EngineKind::Plain => run.write_plain(alloc, sink),
-            EngineKind::Circuit => run.write_circuit(alloc, sink),
-            EngineKind::Workers(count) => run.write_workers(self.rt, alloc, count, gate, sink),
+        match work {
+            Work::Shown(run) => match run.engine {
+                EngineKind::Plain => run.write_plain(alloc, sink),
+                EngineKind::Circuit => run.write_circuit(alloc, sink),
+                EngineKind::Workers(count) => run.write_workers(self.rt, alloc, count, gate, sink),
+            },
+            Work::Journal(run) => run.write(self.rt, alloc, gate, sink),
         }
     }
 }

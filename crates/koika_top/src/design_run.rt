@@ -179,8 +179,8 @@ impl Run {
     }
 }
 
-// Whether a run of the design for these cycles is longer than runs may be.
-fn is_too_long(cycles: u32, design: &Checked) -> bool
+/// Whether a run of the design for these cycles is longer than runs may be.
+pub(crate) fn is_too_long(cycles: u32, design: &Checked) -> bool
     ensures { result ≡ is_too_long cycles design.now }
 {
     lengths::is_too_long(cycles, design.registers.len(), design.rules.len())

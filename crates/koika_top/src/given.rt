@@ -1,8 +1,8 @@
 //! Program: the options of valid arguments.
 
-ghost use Rattle.std.specs.Prelude.{◌≡◌, true, map, string_bytes, IfOk, is_some, Some};
-ghost use Rattle.clap.specs.Words.{app_of, found_of, kind_of, rows_of};
-ghost use Rattle.koika_top.specs.Given.{Give, bare, engine_in, number_in};
+ghost use Rattle.std.specs.Prelude.{◌≡◌, false, true, map, string_bytes, IfOk, is_some, Some};
+ghost use Rattle.clap.specs.Words.{app_of, found_of, kind_of, rows_of, rule_of};
+ghost use Rattle.koika_top.specs.Given.{Give, bare, engine_in, flag_rule, number_in, run_app, valued_rule};
 ghost use Rattle.koika_top.specs.Words.{gen_by, gen_of, options_of, sim_of};
 ghost use Rattle.koika_top.specs.declared.words.Options.{Options as AnyOptions};
 
@@ -19,17 +19,7 @@ pub(crate) fn read_options(alloc: Global, name: &str, words: &[String]) -> Resul
     requires valid { is_some (sim_of (options_of (map string_bytes words.now))) ≡ true }
     ensures { IfOk result (λ options. options_of (map string_bytes words.now) ≡ Some options) }
 {
-    let cycles = Arg::new(alloc, "cycles").long("cycles").required(true);
-    let engine = Arg::new(alloc, "engine").long("engine");
-    let workers = Arg::new(alloc, "workers").long("workers");
-    let summary = Arg::new(alloc, "summary")
-        .long("summary")
-        .action(ArgAction::SetTrue);
-    let command = bare(alloc, name)
-        .arg(cycles)?
-        .arg(engine)?
-        .arg(workers)?
-        .arg(summary)?;
+    let command = run_app(alloc, name)?;
     match command.try_get_matches_from(words) {
         Ok(matches) => Ok(options_in(&matches)),
         Err(error) => Err(want_of_memory(&error)),
@@ -47,6 +37,36 @@ pub(crate) fn read_stages(alloc: Global, words: &[String]) -> Result<Option<u32>
         Ok(matches) => Ok(number_in(&matches, "stages")),
         Err(error) => Err(want_of_memory(&error)),
     }
+}
+
+// The options of a run.
+fn run_app<'a>(alloc: Global, name: &'a str) -> Result<Command<'a>, NoMemory>
+    ensures { IfOk result (λ command. app_of command ≡ run_app name.entry.now) }
+{
+    let cycles = valued(alloc, "cycles").required(true);
+    let command = bare(alloc, name)
+        .arg(cycles)?
+        .arg(valued(alloc, "engine"))?
+        .arg(valued(alloc, "workers"))?
+        .arg(flag(alloc, "summary"))?
+        .arg(flag(alloc, "journal"))?;
+    Ok(command)
+}
+
+// An option that has a value.
+fn valued<'a>(alloc: Global, name: &'a str) -> Arg<'a>
+    ensures rule { rule_of result ≡ valued_rule name.entry.now }
+    ensures own { result.global ≡ false }
+{
+    Arg::new(alloc, name).long(name)
+}
+
+// An option that has none.
+fn flag<'a>(alloc: Global, name: &'a str) -> Arg<'a>
+    ensures rule { rule_of result ≡ flag_rule name.entry.now }
+    ensures own { result.global ≡ false }
+{
+    Arg::new(alloc, name).long(name).action(ArgAction::SetTrue)
 }
 
 // A command to which all words belong, and that knows no word of its own.
@@ -72,6 +92,7 @@ fn options_in(matches: &ArgMatches<'_>) -> Options
         engine: engine_in(matches, "engine"),
         workers: number_in(matches, "workers"),
         shown,
+        journal: matches.get_flag("journal"),
     }
 }
 

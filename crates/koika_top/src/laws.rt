@@ -15,19 +15,23 @@ ghost use Rattle.one_rule.specs.Stimulus.{InputVectors};
 ghost use Rattle.koika_top.specs.declared.answer.Answer.{Answer};
 ghost use Rattle.koika_top.specs.declared.answer.Answer.TheVariants.{Refused};
 ghost use Rattle.koika_top.specs.declared.shown.Shown.{Shown};
-ghost use Rattle.koika_top.specs.Answer.{IsAnswer, IsLikeAnswer, IsSameAnswer, has_one_text};
+ghost use Rattle.koika_top.specs.declared.shown.Shown.TheVariants.{Report};
+ghost use Rattle.koika_top.specs.Answer.{IsAnswer, IsLikeAnswer, IsSameAnswer, has_one_text, is_answered};
 ghost use Rattle.koika_top.specs.Btorsim.{AnswersBtorsim};
 ghost use Rattle.koika_top.specs.Aiger.{AnswersAiger, AnswersRows, IsConvertedOf, most_bits};
 ghost use Rattle.koika_top.specs.Aigsim.{AnswersAigsim};
 ghost use Rattle.koika_top.specs.Compile.{AnswersCompile, IsCompiledOf};
 ghost use Rattle.koika_top.specs.Generator.{pipeline};
+ghost use Rattle.koika_top.specs.Journal.{AnswersJournal, HasJournal};
 ghost use Rattle.koika_top.specs.Numbers.{AreFaultNumbers, AreLimits};
+ghost use Rattle.koika_top.specs.Recheck.{AnswersRecheck, HasPartsOf, IsJournaledOf, IsRefusedBefore, MayHaveJournal, SpellsBoth};
+ghost use Rattle.koika_top.specs.RoundTrip.{PrintedIsReadAgain};
 ghost use Rattle.koika_top.specs.Sim.{AnswersSim};
 ghost use Rattle.koika_top.specs.Sources.{Spells};
 ghost use Rattle.koika_top.specs.Words.{command_of};
 
-/// Arguments and a source have one answer at most, where the same host functions are handed in, but for `compile` and
-/// `aiger`.
+/// Arguments and a source have one answer at most, where the same host functions are handed in, but for `compile`,
+/// `aiger` and `sim --journal`.
 pub fn one_answer()
     ensures { (hosts : List HostSpec) (words : List (List ℕ)) (source : List ℕ) (a b : Answer) →
         has_one_text (command_of words) ≡ true →
@@ -40,10 +44,10 @@ pub fn one_status()
         IsAnswer hosts words source a → IsAnswer hosts words source b → IsLikeAnswer a b }
 {}
 
-/// Arguments and a source have an answer, but for `compile` and `aiger`.
+/// Arguments and a source have an answer, but for `compile`, `aiger`, `sim --journal` and `recheck`.
 pub fn some_answer()
     ensures { (hosts : List HostSpec) (words : List (List ℕ)) (source : List ℕ) →
-        has_one_text (command_of words) ≡ true →
+        is_answered (command_of words) ≡ true →
         (answer : Answer) × IsAnswer hosts words source answer }
 {}
 
@@ -93,11 +97,55 @@ pub fn converted_runs_the_same()
         AnswersRows hosts cycles shown source answer → AnswersAigsim cycles shown other answer }
 {}
 
+/// `sim --journal` refuses a source, or the source spells a design and a stimulus and has a journal.
+pub fn some_journal()
+    ensures { (hosts : List HostSpec) (cycles workers : ℕ) (source : List ℕ) →
+        ((fault : Fault) × AnswersJournal hosts cycles workers source (Refused fault))
+        ⊎ ((design : Checked) × (stimulus : InputVectors) × HasJournal hosts cycles source design stimulus) }
+{}
+
+/// No source both spells a design with a stimulus that has a journal and is refused by `sim --journal`.
+pub fn journaled_or_refused()
+    ensures { (hosts : List HostSpec) (cycles workers : ℕ) (source : List ℕ) (design : Checked)
+        (stimulus : InputVectors) (fault : Fault) →
+        HasJournal hosts cycles source design stimulus → AnswersJournal hosts cycles workers source (Refused fault) →
+        ⊥ }
+{}
+
+/// `recheck` refuses a source before its journal is looked at, or the source spells a design and a stimulus that may have
+/// a journal.
+pub fn some_recheck()
+    ensures { (hosts : List HostSpec) (cycles : ℕ) (source : List ℕ) →
+        ((fault : Fault) × IsRefusedBefore hosts cycles source fault)
+        ⊎ ((design : Checked) × (stimulus : InputVectors) × MayHaveJournal hosts cycles source design stimulus) }
+{}
+
+/// `recheck` answers to what `sim --journal` writes of a source, after whatever spells that source's design and stimulus,
+/// what `sim` answers to the source. Host functions that are offered take operands of their width, as each `HostFn` does.
+pub fn journaled_runs_the_same()
+    ensures { (hosts : List HostSpec) (cycles workers : ℕ) (source other : List ℕ) (answer : Answer) →
+        All (λ (host : HostSpec). TakesWidth host.kind host.in_width) hosts → 1 ≤ workers → workers ≤ 8 →
+        IsJournaledOf hosts cycles workers source other →
+        AnswersSim hosts cycles Report source answer → AnswersRecheck hosts cycles other answer }
+{}
+
 /// The text of `gen` is the printed text of each tree that derives its tokens.
 pub fn generated_as_printed()
     ensures { (stages : ℕ) (tokens : List Token) (tree : Tree) →
         stages ≤ 100 → AreTokensOf tokens (pipeline stages) → Derives (pipeline stages) tree tokens →
         pipeline stages ≡ printed (tree_leaves tree) }
+{}
+
+/// What is printed of a tree of the grammar is read again as that tree, up to places.
+#[tactic(auto, using(crate::proofs::RoundTrip::printed_is_read_again))]
+pub fn a_printed_tree_is_read_again()
+    ensures { PrintedIsReadAgain }
+{}
+
+/// A source of `recheck` with the design and the stimulus of another source spells what that one does.
+pub fn joined_spells_the_same()
+    ensures { (hosts : List HostSpec) (source other : List ℕ) (design : Checked) (stimulus : InputVectors) →
+        HasPartsOf source other → Spells hosts source design stimulus → SpellsBoth hosts other design stimulus }
 {}
 
 /// Faults and limits have these numbers.

@@ -20,6 +20,8 @@ mod engine;
 mod engine_kind;
 mod generator;
 mod given;
+mod journal_run;
+mod journaled;
 mod last_row;
 mod laws;
 mod lengths;
@@ -28,6 +30,7 @@ mod plain_engine;
 mod program;
 mod reads;
 mod recall;
+mod recheck;
 mod shape;
 mod shown;
 mod source;
@@ -41,9 +44,12 @@ mod workers_engine;
 pub use answer::Answer;
 pub use circuit_shapes::circuit_shape;
 pub use engine_kind::EngineKind;
+pub use journaled::{Journaled, run_journal};
 pub use laws::{
-    compiled_runs_the_same, converted_runs_the_same, generated_as_printed, light_or_refused,
-    numbers, one_answer, one_status, some_aig, some_answer, some_circuit, spelled_or_refused,
+    a_printed_tree_is_read_again, compiled_runs_the_same, converted_runs_the_same,
+    generated_as_printed, joined_spells_the_same, journaled_or_refused, journaled_runs_the_same,
+    light_or_refused, numbers, one_answer, one_status, some_aig, some_answer, some_circuit,
+    some_journal, some_recheck, spelled_or_refused,
 };
 pub use program::{run, run_here};
 pub use shown::Shown;

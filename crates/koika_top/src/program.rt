@@ -6,25 +6,29 @@ ghost use Rattle.one_rule.specs.Hosts.{host_specs};
 ghost use Rattle.koika_top.specs.Aigsim.{AnswersAigsim};
 ghost use Rattle.koika_top.specs.Answer.{Answers, is_of_source, longest_of};
 ghost use Rattle.koika_top.specs.Btorsim.{AnswersBtorsim, longest_circuit};
-ghost use Rattle.koika_top.specs.Calls.{CompilesSpelled, ConvertsSpelled, CountsReadFault, CountsWriteFault, HasStatusOfAnswer, IsKept, LeavesUnread, ReadsAll, RejectsWords, WritesFaultLine, WritesFront, WritesNothing, WritesRefusal, WritesSomeFront, WritesText, WritesUsage, WritesUsageFront, call};
+ghost use Rattle.koika_top.specs.Calls.{CompilesSpelled, ConvertsSpelled, CountsReadFault, CountsWriteFault, HasStatusOfAnswer, IsKept, JournalsSpelled, LeavesUnread, ReadsAll, RechecksSpelled, RejectsWords, WritesFaultLine, WritesFront, WritesNothing, WritesRefusal, WritesSomeFront, WritesText, WritesUsage, WritesUsageFront, call};
 ghost use Rattle.koika_top.specs.Generator.{pipeline};
+ghost use Rattle.koika_top.specs.Journal.{AnswersJournal};
 ghost use Rattle.koika_top.specs.Sim.{AnswersSim};
 ghost use Rattle.koika_top.specs.Sources.{longest_source};
 ghost use Rattle.koika_top.specs.Steps.{AskFor, IsInRange, IsReply, Makes, RunsBy, TellsRead};
 ghost use Rattle.koika_top.specs.Streams.{stream};
 ghost use Rattle.koika_top.specs.Told.{Tells};
 ghost use Rattle.koika_top.specs.Words.{asks_workers};
+ghost use Rattle.koika_top.specs.declared.engine_kind.EngineKind.TheVariants.{Workers};
 
 use crate::aig_run::AigRun;
 use crate::aiger::convert_source;
 use crate::answer::{Answer, write_answer, write_made, write_refusal};
 use crate::circuit_run::CircuitRun;
 use crate::compile::compile_source;
-use crate::crew::{Alone, Crew, InThreads};
+use crate::crew::{Alone, Crew, InThreads, Work};
 use crate::design_run::Run;
 use crate::engine_kind::EngineKind;
 use crate::generator::pipeline;
+use crate::journal_run::JournalRun;
 use crate::reads::{check_source, print_source};
+use crate::recheck::recheck_source;
 use crate::shown::Shown;
 use crate::source::fault_of_source;
 use crate::status::Status;
@@ -81,6 +85,10 @@ pub fn run<S: Source, K: Sink, R: Threads + Wait + Sync>(
     ensures compiles { CompilesSpelled (call (map string_bytes words.now) (host_specs hosts.now)
         (stream S.left S.faults source.old source.new) (stream K.written K.faults sink.old sink.new) result) }
     ensures converts { ConvertsSpelled (call (map string_bytes words.now) (host_specs hosts.now)
+        (stream S.left S.faults source.old source.new) (stream K.written K.faults sink.old sink.new) result) }
+    ensures journals { JournalsSpelled (call (map string_bytes words.now) (host_specs hosts.now)
+        (stream S.left S.faults source.old source.new) (stream K.written K.faults sink.old sink.new) result) }
+    ensures rechecks { RechecksSpelled (call (map string_bytes words.now) (host_specs hosts.now)
         (stream S.left S.faults source.old source.new) (stream K.written K.faults sink.old sink.new) result) }
     ensures front { WritesFront (call (map string_bytes words.now) (host_specs hosts.now)
         (stream S.left S.faults source.old source.new) (stream K.written K.faults sink.old sink.new) result) }
@@ -140,6 +148,10 @@ pub fn run_here<S: Source, K: Sink>(
     ensures compiles { CompilesSpelled (call (map string_bytes words.now) (host_specs hosts.now)
         (stream S.left S.faults source.old source.new) (stream K.written K.faults sink.old sink.new) result) }
     ensures converts { ConvertsSpelled (call (map string_bytes words.now) (host_specs hosts.now)
+        (stream S.left S.faults source.old source.new) (stream K.written K.faults sink.old sink.new) result) }
+    ensures journals { JournalsSpelled (call (map string_bytes words.now) (host_specs hosts.now)
+        (stream S.left S.faults source.old source.new) (stream K.written K.faults sink.old sink.new) result) }
+    ensures rechecks { RechecksSpelled (call (map string_bytes words.now) (host_specs hosts.now)
         (stream S.left S.faults source.old source.new) (stream K.written K.faults sink.old sink.new) result) }
     ensures front { WritesFront (call (map string_bytes words.now) (host_specs hosts.now)
         (stream S.left S.faults source.old source.new) (stream K.written K.faults sink.old sink.new) result) }
@@ -244,6 +256,12 @@ fn answer_bytes<K: Sink, C: Crew>(
         Command::Gen { stages } => write_made(alloc, generate(alloc, stages), sink),
         Command::Aiger => write_made(alloc, convert_source(alloc, hosts, source), sink),
         Command::Aigsim { cycles, shown } => simulate_bits(alloc, cycles, shown, source, sink),
+        Command::Journal { cycles, workers } => {
+            write_journal(crew, alloc, cycles, workers, hosts, gate, source, sink)
+        }
+        Command::Recheck { cycles } => {
+            write_made(alloc, recheck_source(alloc, hosts, cycles, source), sink)
+        }
     }
 }
 
@@ -273,7 +291,37 @@ fn simulate<K: Sink, C: Crew>(
         (stream K.written K.faults sink.old sink.new) result }
 {
     match Run::read(alloc, cycles, shown, engine, hosts, source) {
-        Ok(run) => status_by(crew.write(alloc, gate, &run, sink), Status::Done),
+        Ok(run) => status_by(
+            crew.write(alloc, gate, &Work::Shown(run), sink),
+            Status::Done,
+        ),
+        Err(refusal) => write_refusal(alloc, refusal, sink),
+    }
+}
+
+// Has workers run the design of a source and writes the journal of the run, or the line of the source's fault.
+fn write_journal<K: Sink, C: Crew>(
+    crew: &C,
+    alloc: Global,
+    cycles: u32,
+    workers: u32,
+    hosts: &[HostFn],
+    gate: &(dyn Gate + Sync),
+    source: &[u8],
+    sink: &mut K,
+) -> Status
+    requires short { length source.now ≤ longest_source }
+    requires some { 1 ≤ workers }
+    requires most { workers ≤ 8 }
+    requires crew { C.has crew.now (Workers workers) }
+    ensures { Tells (AnswersJournal (host_specs hosts.now) cycles workers source.now)
+        (stream K.written K.faults sink.old sink.new) result }
+{
+    match JournalRun::read(alloc, cycles, workers, hosts, source) {
+        Ok(run) => status_by(
+            crew.write(alloc, gate, &Work::Journal(run), sink),
+            Status::Done,
+        ),
         Err(refusal) => write_refusal(alloc, refusal, sink),
     }
 }

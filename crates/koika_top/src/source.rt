@@ -54,8 +54,8 @@ pub(crate) fn read_tree(alloc: Global, source: &[u8], design: &[u8]) -> Result<T
     parse(alloc, design, &tokens)
 }
 
-// The typed design that a source spells with its design part, or the first fault of it.
-fn read_design(
+/// The typed design that a source spells with its design part, or the first fault of it.
+pub(crate) fn read_design(
     alloc: Global,
     hosts: &[HostFn],
     source: &[u8],

@@ -5,7 +5,7 @@ ghost use Rattle.std.specs.List.{list_all};
 ghost use Rattle.std.specs.Char.{IsAsciiDigit, is_ascii_digit};
 ghost use Rattle.koika_top.specs.Steps.{HasFewWorkers, IsInRange};
 ghost use Rattle.koika_top.specs.Answer.{is_of_source, longest_of};
-ghost use Rattle.koika_top.specs.Words.{aigsim_of, alone_of, are_few_digits, asks_workers, btorsim_of, by_workers, command_of, engine_by, engine_of, gen_by, gen_of, is_of_workers, number_of, options_of, sim_of, value_of, with_cycles, with_engine, with_summary, with_word, with_workers};
+ghost use Rattle.koika_top.specs.Words.{aigsim_of, alone_of, are_few_digits, asks_workers, btorsim_of, by_workers, command_of, engine_by, engine_of, gen_by, gen_of, is_of_workers, journal_by, number_of, options_of, recheck_of, sim_of, value_of, with_cycles, with_engine, with_journal, with_summary, with_word, with_workers};
 
 use crate::engine_kind::EngineKind;
 use crate::given::{read_options, read_stages};
@@ -44,6 +44,15 @@ pub enum Command {
         cycles: u32,
         shown: Shown,
     },
+    /// The journal of a run of the source's design for that many cycles by that many workers.
+    Journal {
+        cycles: u32,
+        workers: u32,
+    },
+    /// The run of that many cycles that the source's journal shows.
+    Recheck {
+        cycles: u32,
+    },
 }
 
 impl Command {
@@ -59,13 +68,15 @@ impl Command {
         ensures { result ≡ longest_of self }
     {
         match self {
-            Command::Btorsim { .. } | Command::Aigsim { .. } => LONGEST_CIRCUIT,
+            Command::Btorsim { .. } | Command::Aigsim { .. } | Command::Recheck { .. } => {
+                LONGEST_CIRCUIT
+            }
             _ => LONGEST_SOURCE,
         }
     }
 }
 
-// A source with a design may have this many bytes, and one with a circuit text this many.
+// A source with a design may have this many bytes, and one with a circuit text or a journal this many.
 const LONGEST_SOURCE: usize = 1_048_576;
 
 const LONGEST_CIRCUIT: usize = 268_435_456;
@@ -77,13 +88,16 @@ pub(crate) struct Options {
     pub(crate) engine: Option<EngineKind>,
     pub(crate) workers: Option<u32>,
     pub(crate) shown: Shown,
+    pub(crate) journal: bool,
 }
 
 // Options are at most this many words, since each is at most once.
-const MOST_WORDS: usize = 7;
+const MOST_WORDS: usize = 8;
 
-// At most this many workers run a design.
+// At most this many workers run a design, and this many where their journal is wanted.
 const MOST_WORKERS: u32 = 64;
+
+const MOST_JOURNAL_WORKERS: u32 = 8;
 
 // A pipeline has at most this many stages.
 const MOST_STAGES: u32 = 100;
@@ -104,6 +118,7 @@ pub(crate) fn command_of(alloc: Global, words: &[String]) -> Result<Option<Comma
         [command, stages @ ..] if command.as_str() == "gen" => gen_of(alloc, stages),
         [command, rest @ ..] if command.as_str() == "aiger" => Ok(alone_of(Command::Aiger, rest)),
         [command, options @ ..] if command.as_str() == "aigsim" => aigsim_of(alloc, options),
+        [command, options @ ..] if command.as_str() == "recheck" => recheck_of(alloc, options),
         _ => Ok(None),
     }
 }
@@ -129,17 +144,37 @@ fn sim_of(alloc: Global, words: &[String]) -> Result<Option<Command>, NoMemory>
     Ok(sim_by(Some(read_options(alloc, "sim", words)?)))
 }
 
-// The run of a design with options, if they are valid.
+// The run of a design, or its journal, with options, if they are valid.
 fn sim_by(options: Option<Options>) -> Option<Command>
     ensures command { result ≡ sim_of options }
     ensures few { IfSome result IsInRange }
 {
     let options = options?;
+    if options.journal {
+        return journal_by(options);
+    }
     Some(Command::Sim {
         cycles: options.cycles?,
         shown: options.shown,
         engine: engine_by(options.engine, options.workers)?,
     })
+}
+
+// The journal of a run: it has few workers, and takes neither a summary nor an engine.
+fn journal_by(options: Options) -> Option<Command>
+    ensures command { result ≡ journal_by options.cycles options.shown options.engine options.workers }
+    ensures few { IfSome result IsInRange }
+{
+    let cycles = options.cycles?;
+    let workers = options.workers?;
+    if options.shown == Shown::Summary || options.engine.is_some() {
+        return None;
+    }
+    if 1 <= workers && workers <= MOST_JOURNAL_WORKERS {
+        Some(Command::Journal { cycles, workers })
+    } else {
+        None
+    }
 }
 
 // The engine of a run by what is given of it and of the workers, if they go together.
@@ -176,13 +211,13 @@ fn btorsim_of(alloc: Global, words: &[String]) -> Result<Option<Command>, NoMemo
     Ok(btorsim_by(Some(read_options(alloc, "btorsim", words)?)))
 }
 
-// The run of a circuit text with options, if they are valid: it takes neither an engine nor workers.
+// The run of a circuit text with options, if they are valid: it takes no engine, no workers and no journal.
 fn btorsim_by(options: Option<Options>) -> Option<Command>
     ensures command { result ≡ btorsim_of options }
     ensures few { IfSome result IsInRange }
 {
     let options = options?;
-    if options.engine.is_some() || options.workers.is_some() {
+    if options.engine.is_some() || options.workers.is_some() || options.journal {
         return None;
     }
     Some(Command::Btorsim {
@@ -201,18 +236,45 @@ fn aigsim_of(alloc: Global, words: &[String]) -> Result<Option<Command>, NoMemor
     Ok(aigsim_by(Some(read_options(alloc, "aigsim", words)?)))
 }
 
-// The run of a bit-level circuit with options, if they are valid: it takes neither an engine nor workers.
+// The run of a bit-level circuit with options, if they are valid: it takes no engine, no workers and no journal.
 fn aigsim_by(options: Option<Options>) -> Option<Command>
     ensures command { result ≡ aigsim_of options }
     ensures few { IfSome result IsInRange }
 {
     let options = options?;
-    if options.engine.is_some() || options.workers.is_some() {
+    if options.engine.is_some() || options.workers.is_some() || options.journal {
         return None;
     }
     Some(Command::Aigsim {
         cycles: options.cycles?,
         shown: options.shown,
+    })
+}
+
+fn recheck_of(alloc: Global, words: &[String]) -> Result<Option<Command>, NoMemory>
+    ensures command { IfOk result (λ command. command ≡ recheck_of (options_of (map string_bytes words.now))) }
+    ensures few { IfOk result (λ command. IfSome command IsInRange) }
+{
+    if recheck_by(few_options_of(words)).is_none() {
+        return Ok(None);
+    }
+    Ok(recheck_by(Some(read_options(alloc, "recheck", words)?)))
+}
+
+// The run that a journal shows with options, if they are valid: the cycles alone are given.
+fn recheck_by(options: Option<Options>) -> Option<Command>
+    ensures command { result ≡ recheck_of options }
+    ensures few { IfSome result IsInRange }
+{
+    let options = options?;
+    if options.shown == Shown::Summary || options.journal {
+        return None;
+    }
+    if options.engine.is_some() || options.workers.is_some() {
+        return None;
+    }
+    Some(Command::Recheck {
+        cycles: options.cycles?,
     })
 }
 
@@ -269,6 +331,7 @@ fn options_of(words: &[String]) -> Option<Options>
             engine: None,
             workers: None,
             shown: Shown::Report,
+            journal: false,
         }),
         [word, value, rest @ ..] if word.as_str() == "--cycles" => {
             with_cycles(value.as_bytes(), options_of(rest))
@@ -289,6 +352,9 @@ fn with_word(word: &[u8], others: Option<Options>) -> Option<Options>
 {
     if word == b"--summary".as_slice() {
         return with_summary(others);
+    }
+    if word == b"--journal".as_slice() {
+        return with_journal(others);
     }
     if let Some(value) = word.strip_prefix(b"--cycles=") {
         return with_cycles(value, others);
@@ -359,6 +425,20 @@ fn with_summary(others: Option<Options>) -> Option<Options>
         }),
         Shown::Summary => None,
     }
+}
+
+// Other options and that a journal is wanted, which isn't said yet.
+fn with_journal(others: Option<Options>) -> Option<Options>
+    ensures { result ≡ with_journal others }
+{
+    let others = others?;
+    if others.journal {
+        return None;
+    }
+    Some(Options {
+        journal: true,
+        ..others
+    })
 }
 
 /// Whether one of the words asks for workers.

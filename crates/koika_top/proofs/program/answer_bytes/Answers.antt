@@ -1,7 +1,7 @@
 use Rattle.one_rule.specs.Hosts.{host_specs}
 use Rattle.koika_top.specs.Answer.{Answers}
-use Rattle.koika_top.specs.declared.words.Command.TheVariants.{Aiger, Check, Compile, Gen, Print}
-use Rattle.koika_top.proofs.Reading.{makes-aiger, makes-check, makes-compile, makes-print}
+use Rattle.koika_top.specs.declared.words.Command.TheVariants.{Aiger, Check, Compile, Gen, Print, Recheck}
+use Rattle.koika_top.proofs.Reading.{makes-aiger, makes-check, makes-compile, makes-print, makes-recheck}
 use Rattle.koika_top.proofs.Told.{tells-made}
 use Rattle.koika_top.proofs.program.answer_bytes.Goals as goal
 
@@ -32,3 +32,9 @@ returns-in-Aiger g c =
     rw c.in-Aiger.is
     (tells-made (Answers (host_specs c.args.hosts.now) Aiger c.args.source.now) c.convert_source.result
     (makes-aiger (host_specs c.args.hosts.now) c.args.source.now c.convert_source.result c.convert_source.ensures.text c.convert_source.ensures.refused) _ _ c.write_made-in-Aiger.ensures)
+
+pub returns-in-Recheck : goal.returns-in-Recheck
+returns-in-Recheck g c =
+    rw c.in-Recheck.is
+    (tells-made (Answers (host_specs c.args.hosts.now) (Recheck c.in-Recheck.cycles) c.args.source.now) c.recheck_source.result
+    (makes-recheck (host_specs c.args.hosts.now) c.in-Recheck.cycles c.args.source.now c.recheck_source.result c.recheck_source.ensures.text c.recheck_source.ensures.refused) _ _ c.write_made-in-Recheck.ensures)

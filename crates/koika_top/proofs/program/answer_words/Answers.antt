@@ -2,7 +2,8 @@ use Rattle.std.proofs.Common.{ap, map, refl, string_bytes, sym, ◌∙◌}
 use Rattle.one_rule.specs.Hosts.{host_specs}
 use Rattle.koika_top.specs.Answer.{reads_source}
 use Rattle.koika_top.specs.declared.answer.Answer.TheVariants.{Usage}
-use Rattle.koika_top.proofs.Promises.{kept-source, kept-unread, never-read, never-read-told, tells-alone, tells-source, tells-usage}
+use Rattle.koika_top.proofs.Promises.{kept-out_of_memory, kept-source, kept-unread, never-read, never-read-told, tells-alone, tells-source, tells-usage}
+use Rattle.koika_top.proofs.Told.{keeps-known}
 use Rattle.koika_top.proofs.program.answer_words.Goals as goal
 
 pub returns-in-Ok-None : goal.returns-in-Ok-None
@@ -32,3 +33,6 @@ returns-else-reads_source g c =
     let asked = rw c.in-Ok-Some.field-0-is at c.in-Ok-Some.ensures.command in
     kept-unread _ _ (ap reads_source (sym asked) ∙ reads) refl (never-read-told _ _ _ c.answer_bytes.ensures)
     (tells-alone (host_specs c.args.hosts.now) (map string_bytes c.args.words.now) _ _ _ c.in-Ok-Some.command asked reads c.answer_bytes.ensures)
+
+pub returns-in-Err : goal.returns-in-Err
+returns-in-Err g c = kept-out_of_memory _ _ refl (keeps-known _) refl

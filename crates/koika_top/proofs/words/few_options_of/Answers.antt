@@ -5,5 +5,5 @@ use Rattle.koika_top.proofs.words.few_options_of.Goals as goal
 
 pub returns-then-words-gt-MOST_WORDS : goal.returns-then-words-gt-MOST_WORDS
 returns-then-words-gt-MOST_WORDS c =
-    let many : 7 < length (map string_bytes c.args.words.now) = omega (arith, c.if-words-gt-MOST_WORDS.true, length-map c.args.words.now string_bytes) in
+    let many : 8 < length (map string_bytes c.args.words.now) = omega (arith, c.if-words-gt-MOST_WORDS.true, length-map c.args.words.now string_bytes) in
     sym (options-few (map string_bytes c.args.words.now) many)

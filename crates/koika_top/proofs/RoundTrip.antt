@@ -8,7 +8,7 @@ use Rattle.koika_syntax.proofs.Cuts.{one_list}
 use Rattle.koika_parse.specs.Laws.{terminals, terminals_in}
 use Rattle.koika_parse.proofs.Unambiguous.{read_again}
 use Rattle.koika_print.specs.Printed.{IsLexedAs, printed}
-use Rattle.koika_print.specs.RoundTrip.{PrintedIsReadAgain}
+use Rattle.koika_top.specs.RoundTrip.{PrintedIsReadAgain}
 use Rattle.koika_print.proofs.Lexed.{lexed_text}
 use Rattle.koika_print.proofs.Writable.{writable}
 

@@ -1,0 +1,243 @@
+-- `recheck` has one answer to a source, whatever the source's design is lowered to.
+use Rattle.std.proofs.Common.{◌≡◌, ◌⊎◌, ◌<◌, ◌≤◌, ℕ, true, false, List, length, refl, sym, ap, ap₂, subst, ◌∙◌, inl, inr, arith}
+use Rattle.kw_base.specs.declared.fault.Fault.{Fault}
+use Rattle.kw_bits.specs.declared.host.HostSpec.{HostSpec}
+use Rattle.typed_core.specs.Widths.{HaveWidths}
+use Rattle.typed_core.specs.declared.design.Parts.{Parts as Core}
+use Rattle.one_rule.specs.Stimulus.{InputVectors, inputs_of}
+use Rattle.stim_report.specs.Cuts.{lines_of}
+use Rattle.journal_check.specs.Checking.{IsFirstFault, IsGood}
+use Rattle.journal_check.specs.Reading as reading
+use Rattle.journal_check.specs.Reading.{IsFirstMalformed, IsJournal}
+use Rattle.journal_check.specs.Twins.{AreTwins}
+use Rattle.journal_check.specs.declared.journal.Journal.{Journal}
+use Rattle.journal_check.proofs.OneFault.{good_excludes_faults, one_first_fault}
+use Rattle.journal_check.proofs.OneJournal.{no_malformed, one_journal, one_malformed}
+use Rattle.journal_check.proofs.Twins.{twins_fail_alike, twins_pass_alike, twins_read_alike, twins_stop_alike}
+use Rattle.koika_check.specs.declared.checked.Checked.{Checked}
+use Rattle.koika_lower.specs.Lowering.{IsLowered, input_widths}
+use Rattle.koika_top.specs.Answer.{IsSameAnswer, text_of}
+use Rattle.koika_top.specs.Btorsim.{longest_circuit}
+use Rattle.koika_top.specs.Journal.{is_too_heavy}
+use Rattle.koika_top.specs.Recheck.{AnswersRecheck, HasNoDesign, HasNoLength, HasNoLines, HasNoParts, IsRefusedBefore, IsTooLong, IsWrong, MayHaveJournal, ShowsChecked, SpellsBoth, SpellsFirst, parts_of, stimulus_in}
+use Rattle.koika_top.specs.Sim.{is_too_long, text_of_run}
+use Rattle.koika_top.specs.Sources.{longest_source, shape_of}
+use Rattle.koika_top.specs.declared.answer.Answer.{Answer}
+use Rattle.koika_top.specs.declared.answer.Answer.TheVariants.{Usage, Refused, Written}
+use Rattle.koika_top.specs.declared.shown.Shown.TheVariants.{Report}
+use Rattle.koika_top.proofs.JournalNames.{lowered-plain}
+use Rattle.koika_top.proofs.LoweredTwins.{lowered-twins}
+use Rattle.koika_top.proofs.OneAnswer.{ill-same, ill-short, same_design, typed_or_not}
+use Rattle.koika_top.proofs.PlainNames.{plain-names}
+use Rattle.koika_top.proofs.Reading.{stimulus-fits}
+use Rattle.koika_top.proofs.Results.{err-same, ok-same, ok_or_err}
+use Rattle.koika_top.proofs.StimuliFit.{stimulus-always}
+use Rattle.koika_top.proofs.ValidWidths.{registers-valid, shape-valid}
+
+not_both : (m n : ℕ) → m < n → n ≤ m → ⊥
+not_both m n a b = omega (arith, a, b)
+
+module _ (hosts : List HostSpec) (cycles : ℕ) (bytes : List ℕ) where
+  abbrev design_text : List ℕ
+  design_text = (parts_of bytes).design
+
+  abbrev line : ℕ
+  line = (parts_of bytes).journal_line
+
+  abbrev text : List ℕ
+  text = (parts_of bytes).journal
+
+  -- ---- a design and a stimulus
+
+  one_design : (d e : Checked) → SpellsFirst hosts bytes d → SpellsFirst hosts bytes e → d ≡ e
+  one_design d e h k = same_design hosts design_text d e h.spelled k.spelled
+
+  one_stimulus : (d e : Checked) (s r : InputVectors) → SpellsBoth hosts bytes d s → SpellsBoth hosts bytes e r → s ≡ r
+  one_stimulus d e s r h k = ok-same s r (stimulus_in bytes e) (sym (ap (stimulus_in bytes) (one_design d e h.first k.first)) ∙ h.given) k.given
+
+  long_or_first : (f : Fault) (d : Checked) → IsTooLong bytes f → SpellsFirst hosts bytes d → ⊥
+  long_or_first f d (e, inl long) h = not_both longest_circuit (length bytes) long h.short
+  long_or_first f d (e, inr long) h = not_both longest_source (length design_text) long h.spelled.spelled.short
+
+  typed_or_none : (f : Fault) (d : Checked) → HasNoDesign hosts bytes f → SpellsFirst hosts bytes d → ⊥
+  typed_or_none f d none h = typed_or_not hosts design_text f d none.1 h.spelled
+
+  parts_or_not : (f : Fault) (d : Checked) (s : InputVectors) → HasNoParts hosts bytes f → SpellsBoth hosts bytes d s → ⊥
+  parts_or_not f d s (inl long) h = long_or_first f d long h.first
+  parts_or_not f d s (inr (inl none)) h = typed_or_none f d none h.first
+  parts_or_not f d s (inr (inr none)) h = ok_or_err s f (stimulus_in bytes d) h.given (sym (ap (stimulus_in bytes) (one_design none.0 d none.1 h.first)) ∙ none.2)
+
+  long_or_none : (f g : Fault) → IsTooLong bytes f → HasNoDesign hosts bytes g → ⊥
+  long_or_none f g (e, inl long) none = not_both longest_circuit (length bytes) long none.0
+  long_or_none f g (e, inr long) none = not_both longest_source (length design_text) long (ill-short hosts design_text g none.1)
+
+  no_parts-same : (f g : Fault) → HasNoParts hosts bytes f → HasNoParts hosts bytes g → f ≡ g
+  no_parts-same f g (inl a) (inl b) = a.0 ∙ sym b.0
+  no_parts-same f g (inl a) (inr (inl b)) = absurd (long_or_none f g a b)
+  no_parts-same f g (inl a) (inr (inr b)) = absurd (long_or_first f b.0 a b.1)
+  no_parts-same f g (inr (inl a)) (inl b) = absurd (long_or_none g f b a)
+  no_parts-same f g (inr (inl a)) (inr (inl b)) = ill-same hosts design_text f g a.1 b.1
+  no_parts-same f g (inr (inl a)) (inr (inr b)) = absurd (typed_or_none f b.0 a b.1)
+  no_parts-same f g (inr (inr a)) (inl b) = absurd (long_or_first g a.0 b a.1)
+  no_parts-same f g (inr (inr a)) (inr (inl b)) = absurd (typed_or_none g a.0 b a.1)
+  no_parts-same f g (inr (inr a)) (inr (inr b)) = err-same f g (stimulus_in bytes b.0) (sym (ap (stimulus_in bytes) (one_design a.0 b.0 a.1 b.1)) ∙ a.2) b.2
+
+  -- ---- lengths
+
+  long_or_within : (d e : Checked) → SpellsFirst hosts bytes d → SpellsFirst hosts bytes e → is_too_long cycles d ≡ true → is_too_long cycles e ≡ false → ⊥
+  long_or_within d e h k long within = let bad : true ≡ false = sym long ∙ ap (is_too_long cycles) (one_design d e h k) ∙ within in absurd cc
+
+  heavy_or_light : (d e : Checked) → SpellsFirst hosts bytes d → SpellsFirst hosts bytes e → is_too_heavy cycles d ≡ true → is_too_heavy cycles e ≡ false → ⊥
+  heavy_or_light d e h k heavy light = let bad : true ≡ false = sym heavy ∙ ap (is_too_heavy cycles) (one_design d e h k) ∙ light in absurd cc
+
+  no_length-same : (f g : Fault) → HasNoLength hosts cycles bytes f → HasNoLength hosts cycles bytes g → f ≡ g
+  no_length-same f g (d, s, h, inl a) (e, r, k, inl b) = a.0 ∙ sym b.0
+  no_length-same f g (d, s, h, inl a) (e, r, k, inr b) = absurd (long_or_within d e h.first k.first a.1 b.1)
+  no_length-same f g (d, s, h, inr a) (e, r, k, inl b) = absurd (long_or_within e d k.first h.first b.1 a.1)
+  no_length-same f g (d, s, h, inr a) (e, r, k, inr b) = a.0 ∙ sym b.0
+
+  before-same : (f g : Fault) → IsRefusedBefore hosts cycles bytes f → IsRefusedBefore hosts cycles bytes g → f ≡ g
+  before-same f g (inl a) (inl b) = no_parts-same f g a b
+  before-same f g (inl a) (inr b) = absurd (parts_or_not f b.0 b.1 a b.2)
+  before-same f g (inr a) (inl b) = absurd (parts_or_not g a.0 a.1 b a.2)
+  before-same f g (inr a) (inr b) = no_length-same f g a b
+
+  -- no source both may have a journal and is refused before it
+  pub before_or_may : (f : Fault) (d : Checked) (s : InputVectors) → MayHaveJournal hosts cycles bytes d s → IsRefusedBefore hosts cycles bytes f → ⊥
+  before_or_may f d s may (inl none) = parts_or_not f d s none may.spelled
+  before_or_may f d s may (inr (e, r, h, inl long)) = long_or_within e d h.first may.spelled.first long.1 may.within
+  before_or_may f d s may (inr (e, r, h, inr heavy)) = heavy_or_light e d h.first may.spelled.first heavy.2 may.light
+
+  -- ---- journals
+
+  -- no name of what the design is lowered to has a space
+  core-plain : (d : Checked) (core : Core) → SpellsFirst hosts bytes d → IsLowered d core → reading.HasPlainNames core
+  core-plain d core first lowered =
+      let design = first.spelled in
+      lowered-plain d core lowered (plain-names hosts design.tree d design.spelled.derived.design.declarations design.typed)
+
+  -- the stimulus fits
+  fits : (d : Checked) (s : InputVectors) → SpellsBoth hosts bytes d s → (cycle : ℕ) → HaveWidths (input_widths d) (inputs_of s cycle)
+  fits d s h cycle =
+      let shape = shape_of d in
+      let parts = parts_of bytes in
+      subst (λ (widths : List ℕ). HaveWidths widths (inputs_of s cycle)) (stimulus-fits d shape parts.stimulus_line parts.stimulus s refl h.given)
+      (stimulus-always shape parts.stimulus_line parts.stimulus s (shape-valid hosts h.first.spelled.tree d h.first.spelled.typed) h.given cycle)
+
+  -- what is said of a journal with the other is said with this
+  module _ (d e : Checked) (s r : InputVectors) (core other : Core) (may : MayHaveJournal hosts cycles bytes d s) (also : MayHaveJournal hosts cycles bytes e r) (lowered : IsLowered d core) (besides : IsLowered e other) where
+    given : r ≡ s
+    given = one_stimulus e d r s also.spelled may.spelled
+
+    twins : AreTwins s other core
+    twins =
+        let spelled = may.spelled.first.spelled in
+        lowered-twins d s other core (registers-valid hosts spelled.tree d spelled.typed) (fits d s may.spelled)
+        (subst (λ (x : Checked). IsLowered x other) (one_design e d also.spelled.first may.spelled.first) besides) lowered
+
+    pub read-across : (j : Journal) → IsJournal other r line text j → IsJournal core s line text j
+    read-across j h = twins_read_alike s other core line text j twins (subst (λ (x : InputVectors). IsJournal other x line text j) given h)
+
+    pub stop-across : (f : Fault) → IsFirstMalformed other r line text f → IsFirstMalformed core s line text f
+    stop-across f h = twins_stop_alike s other core line text f twins (subst (λ (x : InputVectors). IsFirstMalformed other x line text f) given h)
+
+    pub pass-across : (j : Journal) → IsGood other r cycles j → IsGood core s cycles j
+    pass-across j h = twins_pass_alike s other core cycles j twins (subst (λ (x : InputVectors). IsGood other x cycles j) given h)
+
+    fail-across : (j : Journal) (f : Fault) → IsFirstFault other r cycles j f → IsFirstFault core s cycles j f
+    fail-across j f h = twins_fail_alike s other core cycles j f twins (subst (λ (x : InputVectors). IsFirstFault other x cycles j f) given h)
+
+  -- what is said of the third part with one design of the core
+  module _ (d : Checked) (s : InputVectors) (core : Core) (may : MayHaveJournal hosts cycles bytes d s) (lowered : IsLowered d core) where
+    -- one journal is read
+    pub one_read : (a b : Journal) → IsJournal core s line text a → IsJournal core s line text b → a ≡ b
+    one_read a b h k = one_journal core s line (lines_of text) a b (core-plain d core may.spelled.first lowered) h k
+
+    -- or none, where a line is of no form
+    pub read_or_stop : (j : Journal) (f : Fault) → IsJournal core s line text j → IsFirstMalformed core s line text f → ⊥
+    read_or_stop j f h k = no_malformed core s line text j f (core-plain d core may.spelled.first lowered) h k
+
+    pub good_or_wrong : (a b : Journal) (f : Fault) → IsJournal core s line text a → IsJournal core s line text b → IsGood core s cycles a → IsFirstFault core s cycles b f → ⊥
+    good_or_wrong a b f h k good wrong = good_excludes_faults core s cycles b f (subst (IsGood core s cycles) (one_read a b h k) good) wrong
+
+    abbrev Stops : Fault → Type 0
+    Stops f = IsFirstMalformed core s line text f
+
+    abbrev Fails : Fault → Type 0
+    Fails f = (j : Journal) × IsJournal core s line text j × IsFirstFault core s cycles j f
+
+    -- another such source has these faults with this design of the core
+    stops-here : (f : Fault) → HasNoLines hosts cycles bytes f → Stops f
+    stops-here f (e, r, other, also, besides, h) = stop-across d e s r core other may also lowered besides f h
+
+    fails-here : (f : Fault) → IsWrong hosts cycles bytes f → Fails f
+    fails-here f (e, r, other, j, spelled, h) =
+        let also = spelled.spelled in
+        (j, read-across d e s r core other may also lowered spelled.lowered j spelled.read, fail-across d e s r core other may also lowered spelled.lowered j f h)
+
+    pub stop-same : (f g : Fault) → Stops f → Stops g → f ≡ g
+    stop-same f g h k = one_malformed core s line (core-plain d core may.spelled.first lowered) text f g h k
+
+    fail-same : (f g : Fault) → Fails f → Fails g → f ≡ g
+    fail-same f g h k = one_first_fault core s cycles k.0 f g (subst (λ (j : Journal). IsFirstFault core s cycles j f) (one_read h.0 k.0 h.1 k.1) h.2) k.2
+
+    looked-same : (f g : Fault) → Stops f ⊎ Fails f → Stops g ⊎ Fails g → f ≡ g
+    looked-same f g (inl h) (inl k) = stop-same f g h k
+    looked-same f g (inl h) (inr k) = absurd (read_or_stop k.0 f k.1 h)
+    looked-same f g (inr h) (inl k) = absurd (read_or_stop h.0 g h.1 k)
+    looked-same f g (inr h) (inr k) = fail-same f g h k
+
+    pub here : (f : Fault) → HasNoLines hosts cycles bytes f ⊎ IsWrong hosts cycles bytes f → Stops f ⊎ Fails f
+    here f (inl h) = inl (stops-here f h)
+    here f (inr h) = inr (fails-here f h)
+
+    -- a journal that is good with it stops nowhere and isn't wrong
+    pub good_or_not : (j : Journal) (f : Fault) → IsJournal core s line text j → IsGood core s cycles j → Stops f ⊎ Fails f → ⊥
+    good_or_not j f h good (inl k) = read_or_stop j f h k
+    good_or_not j f h good (inr k) = good_or_wrong j k.0 f h k.1 good k.2
+
+  -- ---- answers
+
+  abbrev Looked : Fault → Type 0
+  Looked f = HasNoLines hosts cycles bytes f ⊎ IsWrong hosts cycles bytes f
+
+  after-same : (f g : Fault) → Looked f → Looked g → f ≡ g
+  after-same f g (inl (d, s, core, may, lowered, h)) k = looked-same d s core may lowered f g (inl h) (here d s core may lowered g k)
+  after-same f g (inr (d, s, core, j, spelled, h)) k =
+      looked-same d s core spelled.spelled spelled.lowered f g (inr (j, spelled.read, h)) (here d s core spelled.spelled spelled.lowered g k)
+
+  before_or_after : (f g : Fault) → IsRefusedBefore hosts cycles bytes f → Looked g → ⊥
+  before_or_after f g before (inl (d, s, core, may, lowered, h)) = before_or_may f d s may before
+  before_or_after f g before (inr (d, s, core, j, spelled, h)) = before_or_may f d s spelled.spelled before
+
+  shown_or_not : (f : Fault) (told : List ℕ) → ShowsChecked hosts cycles bytes told → Looked f → ⊥
+  shown_or_not f told h k =
+      let spelled = h.spelled in
+      good_or_not h.design h.stimulus h.core spelled.spelled spelled.lowered h.journal f spelled.read h.good (here h.design h.stimulus h.core spelled.spelled spelled.lowered f k)
+
+  shown-same : (a b : List ℕ) → ShowsChecked hosts cycles bytes a → ShowsChecked hosts cycles bytes b → a ≡ b
+  shown-same a b h k =
+      let mine = h.spelled.spelled.spelled in
+      let other = k.spelled.spelled.spelled in
+      h.told
+      ∙ ap₂ (λ (d : Checked) (s : InputVectors). text_of_run d s cycles Report) (one_design h.design k.design mine.first other.first) (one_stimulus h.design k.design h.stimulus k.stimulus mine other)
+      ∙ sym k.told
+
+  refused-same : (f g : Fault) → AnswersRecheck hosts cycles bytes (Refused f) → AnswersRecheck hosts cycles bytes (Refused g) → f ≡ g
+  refused-same f g (inl a) (inl b) = before-same f g a b
+  refused-same f g (inl a) (inr b) = absurd (before_or_after f g a b)
+  refused-same f g (inr a) (inl b) = absurd (before_or_after g f b a)
+  refused-same f g (inr a) (inr b) = after-same f g a b
+
+  shown_or_refused : (f : Fault) (told : List ℕ) → AnswersRecheck hosts cycles bytes (Refused f) → ShowsChecked hosts cycles bytes told → ⊥
+  shown_or_refused f told (inl before) h = before_or_may f h.design h.stimulus h.spelled.spelled before
+  shown_or_refused f told (inr after) h = shown_or_not f told h after
+
+  pub recheck-same : (a b : Answer) → AnswersRecheck hosts cycles bytes a → AnswersRecheck hosts cycles bytes b → IsSameAnswer a b
+  recheck-same Usage b h k = absurd h
+  recheck-same (Refused f) Usage h k = absurd k
+  recheck-same (Refused f) (Refused g) h k = record { status = refl; text = ap (λ fault. text_of (Refused fault)) (refused-same f g h k) }
+  recheck-same (Refused f) (Written told) h k = absurd (shown_or_refused f told h k)
+  recheck-same (Written told) Usage h k = absurd k
+  recheck-same (Written told) (Refused g) h k = absurd (shown_or_refused g told k h)
+  recheck-same (Written told) (Written other) h k = record { status = refl; text = shown-same told other h k }

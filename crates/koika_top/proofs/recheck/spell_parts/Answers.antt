@@ -1,0 +1,29 @@
+use Rattle.std.proofs.Common.{List, ℕ, sym, ap, subst, ◌∙◌}
+use Rattle.one_rule.specs.Hosts.{host_specs}
+use Rattle.stim_report.specs.Stimuli.{stimulus_of}
+use Rattle.koika_top.specs.Sources.{SpellsDesign, design_part}
+use Rattle.koika_top.proofs.CutAgain.{design_part-again}
+use Rattle.koika_top.proofs.PlainNames.{plain-names}
+use Rattle.koika_top.proofs.Reading.{stimulus-fits, widths-valid}
+use Rattle.koika_top.proofs.recheck.spell_parts.Goals as goal
+
+pub read_design-requires-clause-cut : goal.read_design-requires-clause-cut
+read_design-requires-clause-cut g c = c.requires.design ∙ sym (design_part-again c.args.source.now) ∙ ap design_part (sym c.requires.design)
+
+pub read_stimulus-requires-clause-widths : goal.read_stimulus-requires-clause-widths
+read_stimulus-requires-clause-widths g c = widths-valid c.in_ok-design.design c.in_ok-shape.shape c.in_ok-design.ensures.typed c.in_ok-shape.ensures
+
+pub returns-clause-spelled : goal.returns-clause-spelled
+returns-clause-spelled g c =
+    record {
+      first = record { short = c.requires.short; spelled = subst (λ (s : List ℕ). SpellsDesign (host_specs c.args.hosts.now) s c.in_ok-design.design) c.requires.design c.in_ok-design.ensures.spelled };
+      given = sym (λ i. stimulus_of (c.in_ok-shape.ensures i) (c.requires.stimulus_line i) (c.requires.stimulus i)) ∙ c.in_ok-stimulus.ensures.stimulus;
+    }
+
+pub invariant_of-result-clause-plain : goal.invariant_of-result-clause-plain
+invariant_of-result-clause-plain g c =
+    let design = c.in_ok-design.ensures.spelled in
+    plain-names (host_specs c.args.hosts.now) design.tree c.in_ok-design.design design.spelled.derived.design.declarations design.typed
+
+pub invariant_of-result-clause-stimulus_fits : goal.invariant_of-result-clause-stimulus_fits
+invariant_of-result-clause-stimulus_fits g c = stimulus-fits c.in_ok-design.design c.in_ok-shape.shape _ _ _ c.in_ok-shape.ensures c.in_ok-stimulus.ensures.stimulus
