@@ -1,7 +1,9 @@
-//! Runs of designs by other engines: by their circuits, of words and of bits, written and read back, and by workers.
+//! Runs of designs by other engines: by their circuits, of words and of bits, written and read back, by workers, and by
+//! workers' journals.
 
 use crate::PIECE;
 use crate::runs::{run, words_of};
+use std::alloc::Global;
 use std::io;
 use std::sync::Wait;
 use std::thread::Threads;
@@ -62,6 +64,36 @@ pub(crate) fn workers_show_the_same_run(
     more.push_str(count)?;
     let by_workers = answer(rt, threads, "sim", more.as_str(), source.as_bytes())?;
     Ok(report.as_slice() == by_workers.as_slice())
+}
+
+/// Whether the journal of that many workers, rechecked, shows the same run of a source's design with these options as
+/// the plain engine.
+pub(crate) fn journal_shows_the_same_run(
+    rt: &HostRuntime,
+    threads: &(impl Threads + Wait + Sync),
+    count: &str,
+    options: &str,
+    source: &str,
+) -> io::Result<bool> {
+    let report = answer(rt, threads, "sim", options, source.as_bytes())?;
+    let mut more = String::from_str(rt.alloc(), options)?;
+    more.push_str(" --journal --workers ")?;
+    more.push_str(count)?;
+    let journal = answer(rt, threads, "sim", more.as_str(), source.as_bytes())?;
+    let whole = with_journal(rt.alloc(), source, journal.as_slice())?;
+    let rechecked = answer(rt, threads, "recheck", options, whole.as_slice())?;
+    Ok(report.as_slice() == rechecked.as_slice())
+}
+
+/// A source with a journal after its design and its stimulus.
+pub(crate) fn with_journal(alloc: Global, source: &str, journal: &[u8]) -> io::Result<Vec<u8>> {
+    let mut whole = Vec::from_slice(alloc, source.as_bytes())?;
+    if source.split_once("\n%%").is_none() {
+        whole.extend_from_slice(b"\n%%")?;
+    }
+    whole.extend_from_slice(b"\n%%\n")?;
+    whole.extend_from_slice(journal)?;
+    Ok(whole)
 }
 
 // What the program writes on a command with these options and a source.

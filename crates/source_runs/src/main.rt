@@ -2,13 +2,14 @@
 //! place, and the cases of standard input, each after its line. What the program writes follows.
 //!
 //! A case is the program's words and a source, after `: ` the source itself and after ` < ` the name of its file. Of
-//! words with ` | ` between them each reads what the ones before wrote. After `failing N` each read fails in turn, and
-//! then each write, where a call takes at most N bytes. After `seeing` each of two workers looks for the other before
-//! its first job, and whether both saw it is said. With `circuit` for a command it says whether the circuit of a file's
-//! design, compiled and read back, shows the same run with these options as the design, with `bits` whether its
-//! bit-level circuit does, and with `workers K` whether K workers show it. With ` is ` between commands without a source
-//! it says whether both write the same bytes. `transcript` and a file say whether the file has what the command in its
-//! first line writes.
+//! words with ` | ` between them each reads what the ones before wrote. After `changed N => LINE in` the file's line N is
+//! LINE. After `failing N` each read fails in turn, and then each write, where a call takes at most N bytes.
+//! After `seeing` each of two workers looks for the other before its first job, and whether both saw it is said; what
+//! they write is a journal where ` | ` and a command that reads it follow. With `circuit` for a command it says whether
+//! the circuit of a design, compiled and read back, shows the same run with these options as the design, with `bits`
+//! whether its bit-level circuit does, with `workers K` whether K workers show it, and with `journal K` whether their
+//! journal does, rechecked. With ` is ` between commands without a source it says whether both write the same bytes.
+//! `transcript` and a file say whether the file has what the command in its first line writes.
 //!
 //! It stands on no definition of its own. The merge gate compares what it writes with `stdout`.
 #![tactic(auto)]
@@ -20,7 +21,10 @@ mod spelled;
 mod tables;
 mod transcripts;
 
-use crate::circuits::{bits_show_the_same_run, shows_the_same_run, workers_show_the_same_run};
+use crate::circuits::{
+    bits_show_the_same_run, journal_shows_the_same_run, shows_the_same_run, with_journal,
+    workers_show_the_same_run,
+};
 use crate::flags::Flags;
 use crate::runs::{Ended, run, run_at_gate, words_of};
 use crate::spelled::spelled;
@@ -51,12 +55,16 @@ fn run_line(
     threads: &(impl Threads + Wait + Sync),
     case: &str,
 ) -> io::Result<()> {
+    if let Some(change) = case.strip_prefix("changed ") {
+        return run_changed(rt, threads, change);
+    }
     if let Some((commands, source)) = case.split_once(": ") {
         let source = spelled(rt.alloc(), source)?;
-        return run_case(rt, threads, commands, source);
+        return run_case(rt, threads, commands, source.as_slice());
     }
     if let Some((commands, file)) = case.split_once(" < ") {
-        return run_file(rt, threads, commands, file);
+        let source = fs::read_to_string(rt, file)?;
+        return run_case(rt, threads, commands, source.as_bytes());
     }
     if let Some((commands, others)) = case.split_once(" is ") {
         return compare(rt, threads, commands, others);
@@ -67,6 +75,29 @@ fn run_line(
     }
 }
 
+// Runs commands on the source in a file where the line of a number is another one.
+fn run_changed(
+    rt: &HostRuntime,
+    threads: &(impl Threads + Wait + Sync),
+    change: &str,
+) -> io::Result<()> {
+    let (number, rest) = change.split_once(" => ").unwrap_or(("", ""));
+    let (new, rest) = rest.split_once(" in ").unwrap_or(("", ""));
+    let (commands, file) = rest.split_once(" < ").unwrap_or(("", ""));
+    let number: usize = number.parse().unwrap_or(0);
+    let source = fs::read_to_string(rt, file)?;
+    let mut changed = Vec::new(rt.alloc());
+    for (place, line) in source.as_str().lines().enumerate() {
+        if number.checked_sub(1) == Some(place) {
+            changed.extend_from_slice(new.as_bytes())?;
+        } else {
+            changed.extend_from_slice(line.as_bytes())?;
+        }
+        changed.push(b'\n')?;
+    }
+    run_commands(rt, threads, commands, changed.as_slice())
+}
+
 // Says whether commands without a source write the same bytes as others.
 fn compare(
     rt: &HostRuntime,
@@ -74,8 +105,8 @@ fn compare(
     commands: &str,
     others: &str,
 ) -> io::Result<()> {
-    let one = last_of(rt, threads, commands, Vec::new(rt.alloc()))?;
-    let other = last_of(rt, threads, others, Vec::new(rt.alloc()))?;
+    let one = last_of(rt, threads, commands, &[])?;
+    let other = last_of(rt, threads, others, &[])?;
     if one.written.as_slice() == other.written.as_slice() {
         println!(rt; "the same bytes")
     } else {
@@ -83,35 +114,38 @@ fn compare(
     }
 }
 
-// Runs commands on the source in a file.
-fn run_file(
+// Runs commands on a source, or says what a case of another kind asks for.
+fn run_case(
     rt: &HostRuntime,
     threads: &(impl Threads + Wait + Sync),
     commands: &str,
-    file: &str,
+    source: &[u8],
 ) -> io::Result<()> {
-    let source = fs::read_to_string(rt, file)?;
+    let text = str::from_utf8(source).unwrap_or("");
     if let Some(options) = commands.strip_prefix("circuit ") {
-        return say_whether(
-            rt,
-            shows_the_same_run(rt, threads, options, source.as_str())?,
-        );
+        return say_whether(rt, shows_the_same_run(rt, threads, options, text)?);
     }
     if let Some(options) = commands.strip_prefix("bits ") {
-        let same = bits_show_the_same_run(rt, threads, options, source.as_str())?;
-        return say_whether(rt, same);
+        return say_whether(rt, bits_show_the_same_run(rt, threads, options, text)?);
     }
     if let Some(counted) = commands.strip_prefix("workers ") {
         let (count, options) = counted.split_once(' ').unwrap_or(("", ""));
-        let same = workers_show_the_same_run(rt, threads, count, options, source.as_str())?;
+        let same = workers_show_the_same_run(rt, threads, count, options, text)?;
         return say_whether(rt, same);
     }
-    run_case(
-        rt,
-        threads,
-        commands,
-        Vec::from_slice(rt.alloc(), source.as_bytes())?,
-    )
+    if let Some(counted) = commands.strip_prefix("journal ") {
+        let (count, options) = counted.split_once(' ').unwrap_or(("", ""));
+        let same = journal_shows_the_same_run(rt, threads, count, options, text)?;
+        return say_whether(rt, same);
+    }
+    if let Some(command) = commands.strip_prefix("seeing ") {
+        return run_seeing(rt, threads, command, text);
+    }
+    if let Some(failing) = commands.strip_prefix("failing ") {
+        let (piece, command) = failing.split_once(' ').unwrap_or(("", ""));
+        return run_failing(rt, threads, command, source, piece.parse().unwrap_or(PIECE));
+    }
+    run_commands(rt, threads, commands, source)
 }
 
 // Says whether another engine shows the same run.
@@ -135,29 +169,11 @@ fn run_examples(rt: &HostRuntime, threads: &(impl Threads + Wait + Sync)) -> io:
         } else if !source.is_empty() {
             let place = cell(row, 4);
             print!(rt; "{fault} at {place}: ")?;
-            run_commands(rt, threads, command.as_str(), spelled(rt.alloc(), source)?)?;
+            let source = spelled(rt.alloc(), source)?;
+            run_commands(rt, threads, command.as_str(), source.as_slice())?;
         }
     }
     Ok(())
-}
-
-fn run_case(
-    rt: &HostRuntime,
-    threads: &(impl Threads + Wait + Sync),
-    commands: &str,
-    source: Vec<u8>,
-) -> io::Result<()> {
-    if let Some(command) = commands.strip_prefix("seeing ") {
-        return run_seeing(rt, threads, command, source.as_slice());
-    }
-    match commands.strip_prefix("failing ") {
-        None => run_commands(rt, threads, commands, source),
-        Some(commands) => {
-            let (piece, command) = commands.split_once(' ').unwrap_or(("", ""));
-            let piece = piece.parse().unwrap_or(PIECE);
-            run_failing(rt, threads, command, source.as_slice(), piece)
-        }
-    }
 }
 
 // Writes what the last of commands writes, with its status where the text doesn't say it.
@@ -165,7 +181,7 @@ fn run_commands(
     rt: &HostRuntime,
     threads: &(impl Threads + Wait + Sync),
     commands: &str,
-    source: Vec<u8>,
+    source: &[u8],
 ) -> io::Result<()> {
     let last = last_of(rt, threads, commands, source)?;
     let written = last.written.as_slice();
@@ -181,11 +197,11 @@ fn last_of(
     rt: &HostRuntime,
     threads: &(impl Threads + Wait + Sync),
     commands: &str,
-    source: Vec<u8>,
+    source: &[u8],
 ) -> io::Result<Ended> {
     let mut last = Ended {
         status: Status::Done,
-        written: source,
+        written: Vec::from_slice(rt.alloc(), source)?,
     };
     for command in commands.split(" | ") {
         let words = words_of(rt.alloc(), command)?;
@@ -214,12 +230,14 @@ fn status_told(answer: &[u8]) -> Status {
 }
 
 // Runs the program where each of two workers looks for the other before its first job, and says whether both saw it.
+// What was written is a journal where a further command is to read it, after the source.
 fn run_seeing(
     rt: &HostRuntime,
     threads: &(impl Threads + Wait + Sync),
     command: &str,
-    source: &[u8],
+    source: &str,
 ) -> io::Result<()> {
+    let (command, further) = command.split_once(" | ").unwrap_or((command, ""));
     let words = words_of(rt.alloc(), command)?;
     let flags = Flags::new();
     let ended = run_at_gate(
@@ -227,12 +245,17 @@ fn run_seeing(
         threads,
         &flags,
         words.as_slice(),
-        source,
+        source.as_bytes(),
         PIECE,
         &[],
         &[],
     )?;
-    rt.stdout().write_all(ended.written.as_slice())?;
+    if further.is_empty() {
+        rt.stdout().write_all(ended.written.as_slice())?;
+    } else {
+        let whole = with_journal(rt.alloc(), source, ended.written.as_slice())?;
+        run_commands(rt, threads, further, whole.as_slice())?;
+    }
     if flags.both_saw() {
         println!(rt; "both workers saw each other")
     } else {
@@ -251,7 +274,7 @@ fn run_failing(
     let alloc = rt.alloc();
     let words = words_of(alloc, command)?;
     let whole = run(rt, threads, words.as_slice(), source, piece, &[], &[])?;
-    for call in 1..100 {
+    for call in 1..u64::MAX {
         let ended = run(rt, threads, words.as_slice(), source, piece, &[call], &[])?;
         print!(rt; "read {call}: ")?;
         tell(rt, &ended, whole.written.as_slice())?;
@@ -259,7 +282,7 @@ fn run_failing(
             break;
         }
     }
-    for call in 1..100 {
+    for call in 1..u64::MAX {
         let ended = run(rt, threads, words.as_slice(), source, piece, &[], &[call])?;
         print!(rt; "write {call}: ")?;
         tell(rt, &ended, whole.written.as_slice())?;

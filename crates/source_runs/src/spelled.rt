@@ -4,7 +4,7 @@ use std::alloc::Global;
 use std::io;
 
 /// The source that is written so: `/` ends a line, and `"20 r#; "` stands for what is after the number, that many
-/// times, with the number of the copy, from 0, in place of `#`.
+/// times, with the number of the copy, from 0, in place of each `#`.
 pub(crate) fn spelled(alloc: Global, written: &str) -> io::Result<Vec<u8>> {
     let mut source = Vec::new(alloc);
     let mut rest = written;
@@ -24,13 +24,13 @@ pub(crate) fn spelled(alloc: Global, written: &str) -> io::Result<Vec<u8>> {
 
 // Adds copies of a text, each with its number.
 fn push_copies(alloc: Global, source: &mut Vec<u8>, text: &str, count: u32) -> io::Result<()> {
-    let (front, back) = text.split_once('#').unwrap_or((text, ""));
     for number in 0..count {
-        push(source, front)?;
-        if front.len() < text.len() {
-            push(source, number.to_string(alloc)?.as_str())?;
+        if text.contains('#') {
+            let number = number.to_string(alloc)?;
+            push(source, text.replace(alloc, '#', number.as_str())?.as_str())?;
+        } else {
+            push(source, text)?;
         }
-        push(source, back)?;
     }
     Ok(())
 }
