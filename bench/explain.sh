@@ -1,7 +1,7 @@
 #!/usr/bin/env bash
-# Tries what bin/explain says: for each row of docs/FAULTS.md and docs/AIGER.md and each example of docs/BTOR2.md, through a file and a pipe,
-# standard output and the status are those of the program, and standard error has the fault, its meaning, its line with a caret, and
-# advice. The rows of "Habits" have a hint. It takes another program than the built one as its argument, and is run by hand.
+# Tries what bin/explain says: for each row of docs/FAULTS.md, docs/AIGER.md and docs/JOURNAL.md and each example of docs/BTOR2.md, through
+# a file and a pipe, standard output and the status are those of the program, and standard error has the fault, its meaning, its line
+# with a caret, and advice. The rows of "Habits" have a hint. It takes another program than the built one as its argument, and is run by hand.
 set -eu
 cd "$(dirname "$0")/.."
 program=${1:-crates/koika_cli/out/koika_cli}
@@ -79,7 +79,7 @@ done < <(awk '
         sub(/^[^`]*`/, "", source)
         sub(/`[^`]*$/, "", source)
         if (cells[5] ~ /:/) print command "\t" cells[1] "\t" cells[5] "\t" source
-    }' docs/FAULTS.md docs/AIGER.md)
+    }' docs/FAULTS.md docs/AIGER.md docs/JOURNAL.md)
 
 # The examples of BTOR2.md, after the lines that the page has before its table.
 lines=$(awk '/^Each example follows|Each example follows the lines/ { on = 1; next } on && /^    / { print substr($0, 5) } on && /^and is refused/ { exit }' docs/BTOR2.md)
@@ -152,6 +152,12 @@ sim --cycles 1 --engine quick|no engine
 sim --cycles 1 --workers 0|1 to 64
 sim --cycles 1 --workers=65|1 to 64
 sim --cycles 1 --workers 2 --engine circuit|plain engine
+sim --cycles 1 --journal|1 to 8
+sim --cycles 1 --workers 9 --journal|1 to 8
+sim --cycles 1 --journal --workers 2 --summary|without `--summary`
+sim --cycles 1 --journal --workers 2 --engine plain|without `--engine`
+sim --journal --workers 2 --journal|twice
+sim --journal --workers 2|--cycles N
 sim --cycles 1 --verbose|no option
 btorsim --cycles 1 --engine plain|no option
 aiger --cycles 1|no option
@@ -160,6 +166,12 @@ aigsim --cycles x|decimal digits
 aigsim --cycles 1 --summary --summary|twice
 aigsim --cycles 1 --workers 2|no option
 aigsim design.aag|file name
+btorsim --cycles 1 --journal|no option
+recheck|--cycles N
+recheck --cycles x|decimal digits
+recheck --cycles 1 --cycles=1|twice
+recheck --cycles 1 --workers 2|no option
+recheck --cycles 1 journal.txt|no word
 gen|missing
 gen 0|1 to 100
 gen 101|1 to 100

@@ -98,6 +98,18 @@ collatz="reg r : bits 16 = 16'd18; fun times3(v : bits 16) : bits 16 { (v << 16'
 rule divide { let v = read0(r); if v[0] == 1'd0 { write0(r, v >> 16'd1) } }
 rule multiply { let v = read1(r); if v[0] == 1'd1 { write1(r, times3(v) + 16'd1) } } schedule { divide; multiply; }"
 
+journal="%%
+%%
+journal workers=1
+batch 0 1
+s 0 1 incr done r0:count=00 w0:count=01 : stored
+t 0 : committed 1 incr
+t 0 : closed 1"
+bits="aag 1 0 1 2 0
+2 3
+2
+3"
+
 echo "$counter" >"$room/source"
 row "\`sim\` of the counter" sim --cycles 2
 row "the counter, 300 cycles" sim --cycles 300
@@ -106,6 +118,10 @@ echo "$forward" >"$room/source"
 for many in 1 2 8 64; do row "two rules, \`--workers $many\`" sim --cycles 1 --workers "$many"; done
 "$program" gen 10 >"$room/source"
 for many in 1 2 8; do row "\`gen\` 10, \`--workers $many\`" sim --cycles 20 --workers "$many"; done
+printf '%s\n%s\n' "$counter" "$journal" >"$room/source"
+row "\`recheck\` of a journal" recheck --cycles 1
+echo "$bits" >"$room/source"
+row "\`aigsim\` of two outputs" aigsim --cycles 2
 echo "$host" >"$room/source"
 row "a host function" sim --cycles 2
 row "the same, \`--workers 2\`" sim --cycles 2 --workers 2
@@ -116,6 +132,11 @@ while read -r name cycles; do
     "$program" compile <"$room/source" >"$room/circuit"
     mv "$room/circuit" "$room/source"
     row "\`btorsim\` of it" btorsim --cycles "$cycles"
+    echo "${!name}" >"$room/source"
+    row "\`aiger\` of $name" aiger
+    "$program" aiger <"$room/source" >"$room/circuit"
+    mv "$room/circuit" "$room/source"
+    row "\`aigsim\` of it" aigsim --cycles "$cycles"
 done <<<"forward 1
 toggle 3
 table 4

@@ -14,14 +14,16 @@ try() {
         echo "wrong: $* is completed by ${COMPREPLY[*]}, and not by $wanted"
     }
 }
-try "check print sim compile btorsim gen aiger aigsim --unproved" koika ""
+try "check print sim compile btorsim gen aiger aigsim recheck --unproved" koika ""
 try "check compile" koika c
-try "--cycles --summary --engine --workers" koika sim "--"
-try "--summary --engine --workers" koika sim --cycles 4 "--"
+try "--cycles --summary --engine --workers --journal" koika sim "--"
+try "--summary --engine --workers --journal" koika sim --cycles 4 "--"
 try "plain circuit" koika sim --engine ""
 try "--cycles --summary" koika btorsim ""
 try "aiger aigsim" koika a
 try "--cycles --summary" koika aigsim ""
+try "recheck" koika r
+try "--cycles" koika recheck ""
 try "" koika check ""
 [ "$wrong" = 0 ] && echo "bash completes"
 exit "$wrong"

@@ -3,7 +3,7 @@ _koika() {
     local word=${COMP_WORDS[COMP_CWORD]} before=${COMP_WORDS[COMP_CWORD - 1]} command=${COMP_WORDS[1]-} words=
     COMPREPLY=()
     if [ "$COMP_CWORD" = 1 ]; then
-        words="check print sim compile btorsim gen aiger aigsim --unproved"
+        words="check print sim compile btorsim gen aiger aigsim recheck --unproved"
     else
         case $before in
             "<")
@@ -14,8 +14,9 @@ _koika() {
             --cycles | --workers) return ;;
             *)
                 case $command in
-                    sim) words="--cycles --summary --engine --workers" ;;
+                    sim) words="--cycles --summary --engine --workers --journal" ;;
                     btorsim | aigsim) words="--cycles --summary" ;;
+                    recheck) words="--cycles" ;;
                     gen) words="1 10 100" ;;
                 esac
                 # each option is given once
