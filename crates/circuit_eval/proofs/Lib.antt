@@ -1,3 +1,7 @@
 pub mod Fitting
+pub mod Keeping
+pub mod MachineWords
+pub mod NodeWords
+pub mod Programs
 pub mod RowByRow
 pub mod Stimuli

@@ -1,4 +1,6 @@
 pub mod Circuits
+pub mod Programs
 pub mod Run
 pub mod Simulations
 pub mod Tidy
+pub mod Words

@@ -2,13 +2,17 @@
 //!
 //! Contracts see a `Circuit` as its wires and cite `specs/Circuits.antt`, which says which wires make a circuit, and
 //! `specs/Run.antt`, which says what its run is. `specs/Simulations.antt` is what a `Sim` is seen as, and `specs/Tidy.antt`
-//! says when a circuit is tidy. `net_sched`, `net_simplify` and `btor2_net` make circuits, and `koika_top` runs them.
+//! says when a circuit is tidy. A `Sim` lays its net out once, as steps on machine words (`specs/Programs.antt`).
+//! `net_sched`, `net_simplify` and `btor2_net` make circuits, and `koika_top` runs them.
 #![tactic(auto)]
 
 mod circuit;
+mod program;
 mod rows;
 mod sim;
+mod steps;
 mod validity;
+mod words;
 
 pub use circuit::{Circuit, InputWire, OutputWire, StateWire, Wires};
 pub use rows::{run_circuit, run_on};

@@ -1,13 +1,17 @@
 //! Circuits: a simulator that goes step by step.
 
-ghost use Rattle.std.specs.Prelude.{◌≡◌, ◌<◌, IfOk, length, All};
+ghost use Rattle.std.specs.Prelude.{◌≡◌, ◌<◌, ℕ, List, IfOk, length, All};
+ghost use Rattle.kw_bits.specs.BitVector.{BitVector};
 ghost use Rattle.net_graph.specs.Nets.{widths_of};
 ghost use Rattle.circuit_eval.specs.Circuits.{AreBits, input_widths, IsOutput, state_widths};
+ghost use Rattle.circuit_eval.specs.Programs.{HasRoom, Keeps, node_width};
 ghost use Rattle.circuit_eval.specs.Run.{first_states, next_states, outputs_in, zero_outputs};
 
 use crate::circuit::{Circuit, OutputWire, StateWire};
+use crate::program::{Step, has_wide, lay_out};
+use crate::steps::{node, run_steps};
 use kw_bits::{Bits, NoMemory};
-use net_graph::{Net, evaluate};
+use net_graph::Net;
 use one_rule::{Inputs, Regs};
 use std::alloc::{AllocError, Global};
 use std::marker::Model;
@@ -18,20 +22,23 @@ pub struct Sim<'c> {
     circuit: &'c Circuit,
     states: Regs,
     outputs: Vec<Bits>,
-    // The values of the nodes, written anew in each step.
-    values: Vec<Bits>,
+    // The net, laid out, and what it makes in each step: the words of its nodes, and the values of those above 64 bits.
+    steps: Vec<Step>,
+    words: Vec<u64>,
+    wides: Vec<Bits>,
 }
 
 impl<'c> Model for Sim<'c> {
     ghost use Rattle.std.specs.Prelude.{◌≡◌, length};
     ghost use Rattle.circuit_eval.specs.Circuits.{AreBits, state_widths};
+    ghost use Rattle.circuit_eval.specs.Programs.{HasRoom, IsLaidOut};
     ghost use Rattle.circuit_eval.specs.Simulations.{Simulation};
 
     ghost Value = { Simulation };
 
     ghost view = { λ s. record { circuit = s.circuit.now; states = s.states; outputs = s.outputs.items } };
 
-    ghost invariant = { λ s. AreBits s.states (state_widths s.circuit.now.states) × (length s.outputs.items ≡ length s.circuit.now.outputs) × (length s.values.items ≡ length s.circuit.now.net) };
+    ghost invariant = { λ s. AreBits s.states (state_widths s.circuit.now.states) × (length s.outputs.items ≡ length s.circuit.now.outputs) × IsLaidOut s.circuit.now.net s.steps.items × HasRoom s.circuit.now.net s.words.items s.wides.items };
 }
 
 impl<'c> Sim<'c> {
@@ -45,7 +52,9 @@ impl<'c> Sim<'c> {
             circuit,
             states: Regs::from_vec(first_states(alloc, circuit.states.as_slice())?),
             outputs: zero_outputs(alloc, &circuit.net, circuit.outputs.as_slice())?,
-            values: room_for(alloc, circuit.net.len())?,
+            steps: lay_out(alloc, &circuit.net)?,
+            words: zero_words(alloc, circuit.net.len())?,
+            wides: room_for_wide(alloc, &circuit.net)?,
         })
     }
 
@@ -55,14 +64,30 @@ impl<'c> Sim<'c> {
         ensures { self.new ≡ after_step self.old inputs.now }
     {
         let circuit: &Circuit = self.circuit;
-        evaluate(
-            &circuit.net,
+        let net = &circuit.net;
+        run_steps(
+            net,
+            &self.steps,
             inputs.as_slice(),
             self.states.as_slice(),
-            &mut self.values,
+            &mut self.words,
+            &mut self.wides,
         );
-        take_next(circuit.states.as_slice(), &self.values, &mut self.states);
-        take_outputs(circuit.outputs.as_slice(), &self.values, &mut self.outputs);
+        let (words, wides) = (&self.words, &self.wides);
+        take_next(
+            net,
+            circuit.states.as_slice(),
+            words,
+            wides,
+            &mut self.states,
+        );
+        take_outputs(
+            net,
+            circuit.outputs.as_slice(),
+            words,
+            wides,
+            &mut self.outputs,
+        );
     }
 
     /// The states now.
@@ -98,6 +123,25 @@ fn zero_outputs(alloc: Global, net: &Net, outputs: &[OutputWire]) -> Result<Vec<
     Ok(values)
 }
 
+// A word for each of that many nodes.
+fn zero_words(alloc: Global, nodes: usize) -> Result<Vec<u64>, NoMemory>
+    ensures { IfOk result (λ words. length words.items ≡ nodes) }
+{
+    let mut words = Vec::with_capacity(alloc, nodes)?;
+    for _node in 0..nodes {
+        words.push(0)?;
+    }
+    Ok(words)
+}
+
+// Room for the values of the nodes above 64 bits: none where there is no such node.
+fn room_for_wide(alloc: Global, net: &Net) -> Result<Vec<Bits>, NoMemory>
+    ensures { IfOk result (λ values. (id : ℕ) → id < length net.now → 64 < node_width net.now id → id < length values.items) }
+{
+    let nodes = if has_wide(net) { net.len() } else { 0 };
+    room_for(alloc, nodes)
+}
+
 fn room_for(alloc: Global, nodes: usize) -> Result<Vec<Bits>, NoMemory>
     ensures { IfOk result (λ values. length values.items ≡ nodes) }
 {
@@ -110,23 +154,33 @@ fn room_for(alloc: Global, nodes: usize) -> Result<Vec<Bits>, NoMemory>
 }
 
 // Each state takes the value of its next node.
-fn take_next(wires: &[StateWire], values: &[Bits], states: &mut Regs)
-    requires stand { All (λ wire. wire.next < length values.now) wires.now }
-    requires room { length states.old ≡ length wires.now }
-    ensures { states.new ≡ next_states wires.now values.now }
+fn take_next(net: &Net, wires: &[StateWire], words: &[u64], wides: &[Bits], states: &mut Regs)
+    requires stand { All (λ wire. wire.next < length net.now) wires.now }
+    requires states { length states.old ≡ length wires.now }
+    requires room { HasRoom net.now words.now wides.now }
+    requires kept { (values : List BitVector) × Keeps net.now words.now wides.now values (length net.now) }
+    ensures { (values : List BitVector) → Keeps net.now words.now wides.now values (length net.now) → states.new ≡ next_states wires.now values }
 {
     for (state, wire) in wires.iter().enumerate() {
-        states.set(state, values[wire.next as usize]);
+        states.set(state, node(net, wire.next, words, wides));
     }
 }
 
 // Each output takes the value of its node.
-fn take_outputs(wires: &[OutputWire], values: &[Bits], outputs: &mut [Bits])
-    requires stand { All (λ wire. wire.id < length values.now) wires.now }
-    requires room { length outputs.old ≡ length wires.now }
-    ensures { outputs.new ≡ outputs_in wires.now values.now }
+fn take_outputs(
+    net: &Net,
+    wires: &[OutputWire],
+    words: &[u64],
+    wides: &[Bits],
+    outputs: &mut [Bits],
+)
+    requires stand { All (λ wire. wire.id < length net.now) wires.now }
+    requires outputs { length outputs.old ≡ length wires.now }
+    requires room { HasRoom net.now words.now wides.now }
+    requires kept { (values : List BitVector) × Keeps net.now words.now wides.now values (length net.now) }
+    ensures { (values : List BitVector) → Keeps net.now words.now wides.now values (length net.now) → outputs.new ≡ outputs_in wires.now values }
 {
     for (output, wire) in wires.iter().enumerate() {
-        outputs[output] = values[wire.id as usize];
+        outputs[output] = node(net, wire.id, words, wides);
     }
 }

@@ -1,4 +1,6 @@
-use Rattle.std.proofs.Common.{◌≡◌, length, take}
+use Rattle.std.proofs.Common.{◌≡◌, List, length, take}
+use Rattle.kw_bits.specs.BitVector.{BitVector}
+use Rattle.circuit_eval.specs.Programs.{Keeps}
 use Rattle.circuit_eval.specs.Run.{next_states}
 use Rattle.circuit_eval.proofs.sim.take_next.Given as goal
 
@@ -6,5 +8,5 @@ use Rattle.circuit_eval.proofs.sim.take_next.Given as goal
 abbrev pub invariant-loop-state : goal.invariant-loop-state
 invariant-loop-state l = record {
   count : length l.states ≡ length l.wires;
-  so_far : take l.state l.states ≡ next_states (take l.state l.wires) l.values;
+  so_far : (values : List BitVector) → Keeps l.net l.words l.wides values (length l.net) → take l.state l.states ≡ next_states (take l.state l.wires) values;
 }

@@ -1,7 +1,8 @@
-use Rattle.std.proofs.Common.{◌≡◌, List, length, map, sym, ◌∙◌, ap, subst}
+use Rattle.std.proofs.Common.{◌≡◌, ℕ, ◌<◌, List, length, map, sym, ◌∙◌, ap, subst}
 use Rattle.std.proofs.lemmas.List.{length-map}
 use Rattle.kw_bits.specs.BitVector.{BitVector}
 use Rattle.circuit_eval.specs.Circuits.{AreBits, IsCircuit, state_widths}
+use Rattle.circuit_eval.specs.Programs.{IsLaidOut, node_width}
 use Rattle.circuit_eval.specs.Run.{first_states}
 use Rattle.circuit_eval.specs.declared.circuit.OutputWire.{OutputWire}
 use Rattle.circuit_eval.specs.declared.circuit.Wires.{Wires}
@@ -20,5 +21,9 @@ invariant_of-result c =
     let first : c.from_vec.result ≡ first_states wires.states = c.from_vec.ensures ∙ c.in_ok-first_states.ensures ∙ ap first_states states in (
       subst (λ (values : List BitVector). AreBits values (state_widths wires.states)) (sym first) (first_states-AreBits wires valid),
       count _ c.in_ok-zero_outputs.field-0.items c.as_slice-2.result.now wires.outputs c.in_ok-zero_outputs.ensures outputs,
-      c.in_ok-room_for.ensures ∙ c.len.ensures.len ∙ ap (λ (w : Wires). length w.net) c.circuit.view_is,
+      subst (λ (w : Wires). IsLaidOut w.net c.in_ok-lay_out.field-0.items) c.circuit.view_is c.in_ok-lay_out.ensures,
+      record {
+        each = c.in_ok-zero_words.ensures ∙ c.len.ensures.len ∙ ap (λ (w : Wires). length w.net) c.circuit.view_is;
+        wide = subst (λ (w : Wires). (id : ℕ) → id < length w.net → 64 < node_width w.net id → id < length c.in_ok-room_for_wide.field-0.items) c.circuit.view_is c.in_ok-room_for_wide.ensures;
+      },
     )
