@@ -1,6 +1,7 @@
 -- What the readers of a source found of its circuit text.
-use Rattle.std.proofs.Common.{◌≡◌, ℕ, ◌≤◌, ◌<◌, ◌^◌, not, Bool, true, false, List, [], ◌∷◌, map, length, None, Some, Result, Ok, Err, inl, inr, ⊎_elim, refl, sym, ap, ap₂, subst, ◌∙◌, arith}
-use Rattle.std.specs.Prelude.{IfOk, OnOk, ◌⊎◌, ◌||◌, ◌*◌, min, nat_lt}
+use Rattle.std.proofs.Common.{◌≡◌, ℕ, ◌≤◌, ◌<◌, ◌^◌, not, Bool, true, false, List, [], ◌∷◌, map, length, Option, None, Some, Result, Ok, Err, inl, inr, ⊎_elim, refl, sym, ap, ap₂, subst, ◌∙◌, arith}
+use Rattle.std.specs.Prelude.{IfOk, IfSome, OnOk, ◌⊎◌, ◌||◌, ◌*◌, min, nat_lt}
+use Rattle.std.specs.List.{list_any}
 use Rattle.std.proofs.lemmas.Bool.{ltb-false}
 use Rattle.std.proofs.lemmas.List.{length-map}
 use Rattle.kw_base.specs.Fault.{IfFault}
@@ -27,16 +28,21 @@ use Rattle.stim_report.specs.Stimuli.{after, cycles_from, stimulus_of}
 use Rattle.stim_report.specs.declared.shape.NameWidth.{NameWidth}
 use Rattle.stim_report.specs.declared.shape.Shape.{Shape}
 use Rattle.koika_top.specs.Btorsim as text
-use Rattle.koika_top.specs.Btorsim.{HasNoLines, HasNoStimulus, HasNoText, HoldsLines, HoldsText, IsRefusal, RunsTooLong, is_flag, is_too_long, longest_circuit}
-use Rattle.koika_top.specs.CircuitRuns.{HasFewLines, ShowsBads}
+use Rattle.koika_top.specs.Btorsim.{HasNoLines, HasNoStimulus, HasNoText, HoldsLines, HoldsText, IsRefusal, RunsTooLong, is_too_long, longest_circuit}
+use Rattle.koika_top.specs.CircuitRuns.{AreBadsOf, HasFewLines, ShowsBads}
 use Rattle.koika_top.specs.CircuitShapes as circuit
 use Rattle.koika_top.specs.Lengths as lengths
+use Rattle.koika_top.specs.declared.bad_flags.BadFlags.{BadFlags}
 use Rattle.koika_top.proofs.Shapes.{inputs-count, widths-told}
 
 -- a fault of a part is one of the whole
 pub fault-of-part : (P Q : Fault → Type 0) (e : Refusal) → ((fault : Fault) → P fault → Q fault) → IfFault {X = Unit {0}} (Err e) P → IfFault {X = Unit {0}} (Err e) Q
 fault-of-part P Q (refusals.Fault fault) f h = f fault h
 fault-of-part P Q refusals.NoMemory f h = tt
+
+or-sides : (b c : Bool) → (b || c) ≡ false → (b ≡ false) × (c ≡ false)
+or-sides true c e = absurd cc
+or-sides false c e = (refl, e)
 
 -- ---- lines
 
@@ -65,6 +71,13 @@ no-text source read lines short is are (Err refusals.NoMemory) h = tt
 
 -- ---- bad lines
 
+-- where no line is a bad line there are none
+pub none-bad : (lines : List Line) → list_any (λ (line : Line). is_bad (rule_of line.keyword)) lines ≡ false → lines_of is_bad lines ≡ []
+none-bad [] none = refl
+none-bad (line ∷ lines) none =
+    let both = or-sides (is_bad (rule_of line.keyword)) (list_any (λ (line : Line). is_bad (rule_of line.keyword)) lines) none in
+    rw both.0 (none-bad lines both.1)
+
 -- the text that shows violations has as few lines
 pub few-shown : (lines shown : List Line) → HasFewLines lines → shown ≡ bads_as_outputs lines → HasFewLines shown
 few-shown lines shown few is test =
@@ -75,8 +88,14 @@ few-shown lines shown few is test =
     subst (λ (ls : List Line). length (lines_of test ls) < 2 ^ 32) (sym is) bound
 
 -- the circuit that shows violations has inputs of the same widths
-pub bad-widths : (lines : List Line) (c bads : Wires) → HasLines lines c → ShowsBads lines bads → input_widths c.inputs ≡ input_widths bads.inputs
+bad-widths : (lines : List Line) (c bads : Wires) → HasLines lines c → ShowsBads lines bads → input_widths c.inputs ≡ input_widths bads.inputs
 bad-widths lines c bads has shows = has.input_widths ∙ sym shows.shows.inputs ∙ sym shows.has.input_widths
+
+-- and so a stimulus fits it, if there is one
+pub bads-fit : (lines : List Line) (c : Wires) (bads : Option BadFlags) (stimulus : InputVectors) → HasLines lines c → AreBadsOf lines bads → stimulus.widths ≡ input_widths c.inputs
+    → IfSome bads (λ flags. stimulus.widths ≡ input_widths flags.circuit.inputs)
+bads-fit lines c None stimulus has are fits = tt
+bads-fit lines c (Some flags) stimulus has are fits = fits ∙ bad-widths lines c flags.circuit has are.0
 
 name-turned : (line : Line) → name_of (turned line) ≡ name_of line
 name-turned line = refl
@@ -124,16 +143,13 @@ refused-later cycles source (Err refusals.NoMemory) h = tt
 
 -- ---- lengths
 
-or-left : (b c : Bool) → (b || c) ≡ false → b ≡ false
-or-left true c e = e
-or-left false c e = refl
-
 -- a run that isn't too long has few cycles
 pub few-cycles : (cycles registers rules : ℕ) → lengths.is_too_long cycles registers rules ≡ false → cycles ≤ 16777216
 few-cycles cycles registers rules e =
     let states = nat_lt 4194304 (min cycles 256 * registers) in
     let flags = nat_lt 4194304 (min cycles 256 * rules) in
-    ltb-false 16777216 cycles (or-left (nat_lt 16777216 cycles) states (or-left (nat_lt 16777216 cycles || states) flags e))
+    let short = or-sides (nat_lt 16777216 cycles || states) flags e in
+    ltb-false 16777216 cycles (or-sides (nat_lt 16777216 cycles) states short.0).0
 
 -- a run of the shape is too long, or isn't, where one of the text is
 pub long-as : (cycles : ℕ) (lines : List Line) (shape : Shape) (long : Bool) → shape ≡ text.shape_of lines → lengths.is_too_long cycles (length shape.registers) (length shape.rules) ≡ long → is_too_long cycles lines ≡ long
@@ -144,5 +160,9 @@ long-as cycles lines shape long is h =
     sym (ap₂ (lengths.is_too_long cycles) states flags) ∙ h
 
 -- the names of bad lines are few
-pub few-names : (lines : List Line) (names : List (List ℕ)) → HasFewLines lines → names ≡ map name_of (lines_of is_bad lines) → length names < 2 ^ 32
+few-names : (lines : List Line) (names : List (List ℕ)) → HasFewLines lines → names ≡ map name_of (lines_of is_bad lines) → length names < 2 ^ 32
 few-names lines names few named = omega (arith, ap length named ∙ length-map (lines_of is_bad lines) name_of, few is_bad)
+
+pub few-bads : (lines : List Line) (bads : Option BadFlags) → HasFewLines lines → AreBadsOf lines bads → IfSome bads (λ flags. length flags.names < 2 ^ 32)
+few-bads lines None few are = tt
+few-bads lines (Some flags) few are = few-names lines flags.names few are.1

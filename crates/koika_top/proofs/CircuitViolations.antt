@@ -1,9 +1,9 @@
 -- The lines of violated bad lines are those of the flags of the circuit that shows them.
-use Rattle.std.proofs.Common.{◌≡◌, ℕ, zero, suc, ◌+◌, Bool, false, cond, List, [], ◌∷◌, ◌++◌, length, map, Option, Some, refl, sym, ap, ap₂, ◌∙◌, append_assoc, arith}
+use Rattle.std.proofs.Common.{◌≡◌, ℕ, zero, suc, ◌+◌, Bool, false, cond, List, [], ◌∷◌, ◌++◌, length, map, Option, None, Some, refl, sym, ap, ap₂, ◌∙◌, append_assoc, arith}
 use Rattle.std.proofs.lemmas.List.{length-map}
 use Rattle.std.proofs.lemmas.List.FromFn.{map-range_with_len_more}
 use Rattle.std.specs.List.{flat_map, position_from, range_with_len}
-use Rattle.std.specs.Prelude.{slice_index_or}
+use Rattle.std.specs.Prelude.{IfSome, slice_index_or}
 use Rattle.one_rule.specs.Run.{InputsByCycle}
 use Rattle.one_rule.specs.Stimulus.{AlwaysFits, InputVectors, inputs_of}
 use Rattle.one_rule.specs.declared.rows.Row.{Row}
@@ -19,7 +19,9 @@ use Rattle.koika_assert.specs.Violations as marked
 use Rattle.koika_assert.specs.Violations.{first_violated, violated_line, violated_lines, watched}
 use Rattle.stim_report.specs.Summary.{has_fired}
 use Rattle.koika_top.specs.Btorsim.{violations}
-use Rattle.koika_top.specs.CircuitRuns.{ShowsBads}
+use Rattle.koika_top.specs.Btorsim as text
+use Rattle.koika_top.specs.CircuitRuns.{AreBadsOf, ShowsBads, violations_by}
+use Rattle.koika_top.specs.declared.bad_flags.BadFlags.{BadFlags}
 use Rattle.koika_top.proofs.CircuitRows.{drop-none}
 
 -- the first that passes among images is the first whose image passes
@@ -66,7 +68,7 @@ module _ (bads : List Line) (is : Line → ℕ → Bool) (row : ℕ → Row) (fl
       length-one-more (line ∷ front) bad = omega (arith, length-one-more front bad)
 
 -- what is told of the circuit that shows violations is what is told of the text
-pub violations-told : (lines : List Line) (bads : Wires) (names : List (List ℕ)) (stimulus : InputVectors) (n : ℕ) → ShowsBads lines bads → names ≡ map name_of (lines_of is_bad lines)
+violations-told : (lines : List Line) (bads : Wires) (names : List (List ℕ)) (stimulus : InputVectors) (n : ℕ) → ShowsBads lines bads → names ≡ map name_of (lines_of is_bad lines)
     → stimulus.widths ≡ input_widths bads.inputs → AlwaysFits stimulus
     → marked.violations names (range_with_len 0 (length names)) (wired.run_of bads (inputs_of stimulus) n) ≡ violations lines (inputs_of stimulus) n
 unfolding watched
@@ -81,3 +83,12 @@ violations-told lines bads names stimulus n shows named widths always =
     ∙ ap (λ (ns : List (List ℕ)). violated_lines ns (map (λ mark. position_from (has_fired mark) 1 (map (row_behind shows.shown inputs) (range_with_len 0 n))) (range_with_len 0 (length ns)))) named
     ∙ ap (λ (k : ℕ). violated_lines (map name_of marks) (map (λ mark. position_from (has_fired mark) 1 (map (row_behind shows.shown inputs) (range_with_len 0 n))) (range_with_len 0 k))) count
     ∙ lines-behind marks (λ bad step. is_violated lines inputs step bad) (row_behind shows.shown inputs) (shows.shows.flags inputs) n [] marks refl 0 refl
+
+-- and where there is no such circuit, nothing is
+pub bads-told : (lines : List Line) (bads : Option BadFlags) (stimulus : InputVectors) (n : ℕ) → AreBadsOf lines bads
+    → IfSome bads (λ flags. stimulus.widths ≡ input_widths flags.circuit.inputs) → AlwaysFits stimulus
+    → violations_by bads (inputs_of stimulus) n ≡ violations lines (inputs_of stimulus) n
+bads-told lines None stimulus n none widths always =
+    sym (ap (flat_map (λ (bad : Line). violated_line (name_of bad) (text.first_violated lines (inputs_of stimulus) n bad))) none)
+bads-told lines (Some flags) stimulus n are widths always =
+    violations-told lines flags.circuit flags.names stimulus n are.0 are.1 widths always

@@ -1,18 +1,17 @@
 //! Engines: the run of a BTOR2 text that `btorsim` asks for.
 
-ghost use Rattle.std.specs.Prelude.{◌≡◌, ◌≤◌, ◌<◌, ◌^◌, ◌⊎◌, [], IfOk, OnOk, List, false, true, length, map};
+ghost use Rattle.std.specs.Prelude.{◌≡◌, ◌≤◌, ◌<◌, ◌^◌, ◌⊎◌, [], IfOk, IfSome, OnOk, List, false, true, length};
 ghost use Rattle.std.specs.List.{range_with_len};
+ghost use Rattle.std.proofs.Props.{props};
 ghost use Rattle.kw_base.specs.Fault.{IfFault};
 ghost use Rattle.btor2_text.specs.declared.line.Line.{Line as LineOf};
 ghost use Rattle.circuit_eval.specs.Circuits.{input_widths};
 ghost use Rattle.circuit_eval.specs.Run as wired;
-ghost use Rattle.circuit_eval.specs.declared.circuit.OutputWire.{OutputWire as Wire};
-ghost use Rattle.koika_assert.specs.Violations.{watched};
 ghost use Rattle.koika_assert.specs.Violations as marked;
 ghost use Rattle.one_rule.specs.Stimulus.{inputs_of};
 ghost use Rattle.stim_report.specs.Cuts.{parts_of};
 ghost use Rattle.koika_top.specs.Btorsim.{HasNoLines, HasNoStimulus, HasNoText, HoldsRun, HoldsText, IsRefusal, RunsTooLong, is_too_long, longest_circuit, shown_run};
-ghost use Rattle.koika_top.specs.CircuitRuns.{AreCircuitsOf, HasFewLines, ShowsBads};
+ghost use Rattle.koika_top.specs.CircuitRuns.{AreCircuitsOf, HasFewLines, violations_by};
 ghost use Rattle.koika_top.specs.CircuitShapes as circuits;
 ghost use Rattle.koika_top.specs.Lengths as lengths;
 ghost use Rattle.koika_top.specs.Sim.{rows_text};
@@ -21,6 +20,7 @@ ghost use Rattle.koika_top.specs.Streams.{stream};
 ghost use Rattle.koika_top.specs.Telling.{HasRows, all_told, marks_in, shown_by};
 ghost use Rattle.koika_top.specs.Told.{Told};
 
+use crate::bad_flags::{BadFlags, bad_watch};
 use crate::circuit_engine::CircuitEngine;
 use crate::circuit_shapes::circuit_shape;
 use crate::lengths::is_too_long;
@@ -34,30 +34,29 @@ use attempt_log::NoGate;
 use btor2_model::{Btor, accept};
 use btor2_net::to_circuit;
 use btor2_text::read_lines;
-use circuit_eval::{Circuit, OutputWire};
-use koika_assert::{Watch, bads_as_outputs};
+use circuit_eval::Circuit;
+use koika_assert::Watch;
 use kw_base::{Refusal, fault_number};
-use kw_bits::{NoMemory, Sequence, Text};
+use kw_bits::Sequence;
 use kw_io::Sink;
 use one_rule::Stimulus;
 use std::alloc::Global;
 use stim_report::{Shape, SourceParts, read_stimulus, source_parts};
 
-/// The run of a BTOR2 text that is asked for: its circuit, the one that shows the violations of its bad lines, the
-/// stimulus, for how many cycles, and what is shown of it.
+/// The run of a BTOR2 text that is asked for: its circuit, the one that shows the violations of its bad lines if it has
+/// any, the stimulus, for how many cycles, and what is shown of it.
 #[derive(Drop)]
 pub(crate) struct CircuitRun {
     pub(crate) circuit: Circuit,
-    pub(crate) bads: Circuit,
-    pub(crate) bad_names: Sequence<Text>,
+    pub(crate) bads: Option<BadFlags>,
     pub(crate) stimulus: Stimulus,
     pub(crate) shape: Shape,
     pub(crate) cycles: u32,
     pub(crate) shown: Shown,
     ghost shape_fits: { shape ≡ circuits.shape_of circuit },
     ghost stimulus_fits: { stimulus.widths ≡ input_widths circuit.inputs },
-    ghost bads_fit: { stimulus.widths ≡ input_widths bads.inputs },
-    ghost few_bads: { length bad_names < 2 ^ 32 },
+    ghost bads_fit: { IfSome bads (λ flags. stimulus.widths ≡ input_widths flags.circuit.inputs) } by { Prim.hlevel props },
+    ghost few_bads: { IfSome bads (λ flags. length flags.names < 2 ^ 32) } by { Prim.hlevel props },
     ghost few_cycles: { cycles ≤ 16777216 },
 }
 
@@ -71,19 +70,19 @@ impl CircuitRun {
     ) -> Result<CircuitRun, Refusal>
         requires { length source.now ≤ longest_circuit }
         ensures run { IfOk result (λ run. (lines : List LineOf) × HoldsRun source.now lines run.stimulus
-            × AreCircuitsOf lines run.circuit run.bads run.bad_names × (is_too_long cycles lines ≡ false)) }
+            × AreCircuitsOf lines run.circuit run.bads × (is_too_long cycles lines ≡ false)) }
         ensures cycles { IfOk result (λ run. run.cycles ≡ cycles) }
         ensures shown { IfOk result (λ run. run.shown ≡ shown) }
         ensures refused { IfFault result (IsRefusal cycles source.now) }
     {
         let parts = source_parts(source);
         let text = read_text(alloc, source, parts.design)?;
-        run_of(alloc, cycles, shown, source, parts, &text)
+        run_of(alloc, cycles, shown, source, parts, text)
     }
 
     /// Runs the circuit and writes what is shown of its rows, batch by batch, and after them the violations.
     pub(crate) fn write<K: Sink>(&self, alloc: Global, sink: &mut K) -> Result<(), Untold>
-        ensures { (lines : List LineOf) → AreCircuitsOf lines self.now.circuit self.now.bads self.now.bad_names
+        ensures { (lines : List LineOf) → AreCircuitsOf lines self.now.circuit self.now.bads
             → Told (shown_run self.now.shown lines (inputs_of self.now.stimulus) self.now.cycles)
             (stream K.written K.faults sink.old sink.new) result }
     {
@@ -111,21 +110,36 @@ impl CircuitRun {
         )
     }
 
-    // Runs the circuit that shows violations, if there are bad lines, and writes these.
+    // Writes the violations, if there are bad lines.
     fn write_violations<K: Sink>(&self, alloc: Global, sink: &mut K) -> Result<(), Untold>
-        ensures { Told (marked.violations self.now.bad_names (range_with_len 0 (length self.now.bad_names))
-            (wired.run_of self.now.bads (inputs_of self.now.stimulus) self.now.cycles))
+        ensures { Told (violations_by self.now.bads (inputs_of self.now.stimulus) self.now.cycles)
             (stream K.written K.faults sink.old sink.new) result }
     {
-        if self.bad_names.is_empty() {
-            return Ok(());
+        match &self.bads {
+            None => Ok(()),
+            Some(bads) => self.write_flags(alloc, bads, sink),
         }
-        let shape = circuit_shape(alloc, &self.bads)?;
-        let watch = bad_watch(alloc, self.bad_names.as_slice())?;
+    }
+
+    // Runs the circuit that shows violations, and writes these.
+    fn write_flags<K: Sink>(
+        &self,
+        alloc: Global,
+        bads: &BadFlags,
+        sink: &mut K,
+    ) -> Result<(), Untold>
+        requires widths { self.now.stimulus.widths ≡ input_widths bads.now.circuit.inputs }
+        requires few { length bads.now.names < 2 ^ 32 }
+        ensures { Told (marked.violations bads.now.names (range_with_len 0 (length bads.now.names))
+            (wired.run_of bads.now.circuit (inputs_of self.now.stimulus) self.now.cycles))
+            (stream K.written K.faults sink.old sink.new) result }
+    {
+        let shape = circuit_shape(alloc, &bads.circuit)?;
+        let watch = bad_watch(alloc, bads.names.as_slice())?;
         let teller = Teller::new(alloc, &shape, None, watch)?;
         tell_circuit(
             alloc,
-            &self.bads,
+            &bads.circuit,
             &self.stimulus,
             self.cycles,
             &shape,
@@ -159,38 +173,36 @@ fn tell_circuit<K: Sink>(
     tell(alloc, &NoGate, &mut engine, cycles, shape, teller, sink)
 }
 
-// The run of a source's text, or the fault of its stimulus or of its length.
+// The run of a source's text, or the fault of its stimulus or of its length. The text isn't kept.
 fn run_of(
     alloc: Global,
     cycles: u32,
     shown: Shown,
     source: &[u8],
     parts: SourceParts<'_>,
-    text: &Btor,
+    text: Btor,
 ) -> Result<CircuitRun, Refusal>
     requires stimulus { parts.stimulus.now ≡ (parts_of source.now).stimulus }
     requires first_line { parts.first_line ≡ (parts_of source.now).first_line }
-    requires text { HoldsText source.now text.now }
-    requires few { HasFewLines text.now }
-    ensures run { IfOk result (λ run. HoldsRun source.now text.now run.stimulus) }
-    ensures circuits { IfOk result (λ run. AreCircuitsOf text.now run.circuit run.bads run.bad_names) }
-    ensures within { OnOk result (is_too_long cycles text.now ≡ false) }
+    requires text { HoldsText source.now text }
+    requires few { HasFewLines text }
+    ensures run { IfOk result (λ run. HoldsRun source.now text run.stimulus) }
+    ensures circuits { IfOk result (λ run. AreCircuitsOf text run.circuit run.bads) }
+    ensures within { OnOk result (is_too_long cycles text ≡ false) }
     ensures cycles { IfOk result (λ run. run.cycles ≡ cycles) }
     ensures shown { IfOk result (λ run. run.shown ≡ shown) }
     ensures refused { IfFault result (λ fault.
         HasNoStimulus source.now fault ⊎ RunsTooLong cycles source.now fault) }
 {
-    let circuit = to_circuit(alloc, text)?;
+    let circuit = to_circuit(alloc, &text)?;
     has_valid_wires(&circuit);
     let shape = circuit_shape(alloc, &circuit)?;
     let stimulus = read_stimulus(alloc, parts.stimulus, parts.first_line, &shape)?;
     fits(cycles, &shape)?;
-    let bads = violations_of(alloc, text)?;
-    let bad_names = names_of(alloc, bads.outputs.as_slice())?;
+    let bads = BadFlags::of(alloc, text)?;
     Ok(CircuitRun {
         circuit,
         bads,
-        bad_names,
         stimulus,
         shape,
         cycles,
@@ -221,38 +233,4 @@ fn read_text(alloc: Global, source: &[u8], design: &[u8]) -> Result<Btor, Refusa
 {
     let lines = read_lines(alloc, design)?;
     accept(alloc, lines)
-}
-
-// The circuit whose flags are the violations of a text's bad lines.
-fn violations_of(alloc: Global, text: &Btor) -> Result<Circuit, NoMemory>
-    requires { HasFewLines text.now }
-    ensures { IfOk result (ShowsBads text.now) }
-{
-    let shown = bads_as_outputs(alloc, text)?;
-    to_circuit(alloc, &shown)
-}
-
-// The names of outputs.
-fn names_of(alloc: Global, wires: &[OutputWire]) -> Result<Sequence<Text>, NoMemory>
-    ensures { IfOk result (λ names. names ≡ map (λ (wire : Wire). wire.name) wires.now) }
-{
-    let mut names = Sequence::new(alloc);
-    for wire in wires {
-        names.push(Text::from_slice(alloc, wire.name.as_slice())?)?;
-    }
-    Ok(names)
-}
-
-// A watch on that many flags, with these names.
-fn bad_watch(alloc: Global, names: &[Text]) -> Result<Watch, NoMemory>
-    requires { length names.now < 2 ^ 32 }
-    ensures { IfOk result (λ watch. watch ≡ watched names.now (range_with_len 0 (length names.now)) []) }
-{
-    let mut copies = Sequence::new(alloc);
-    let mut marks = Sequence::new(alloc);
-    for name in names {
-        marks.push(marks.len() as u32)?;
-        copies.push(Text::from_slice(alloc, name.as_slice())?)?;
-    }
-    Watch::new(alloc, copies, marks)
 }

@@ -9,6 +9,7 @@ mod aig_engine;
 mod aig_run;
 mod aiger;
 mod answer;
+mod bad_flags;
 mod circuit_engine;
 mod circuit_read;
 mod circuit_run;

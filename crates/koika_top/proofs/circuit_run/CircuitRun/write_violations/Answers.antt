@@ -1,43 +1,27 @@
-use Rattle.std.proofs.Common.{length, sym, ap, ◌∙◌}
-use Rattle.std.proofs.lemmas.Result.{err_from_is_err_and}
-use Rattle.std.specs.List.{range_with_len}
-use Rattle.circuit_eval.specs.Run.{run_of}
-use Rattle.koika_assert.specs.Violations.{violations}
+use Rattle.std.proofs.Common.{◌≡◌, ◌<◌, ◌^◌, length, Option, sym, ap, subst}
+use Rattle.std.specs.Prelude.{IfSome}
+use Rattle.circuit_eval.specs.Circuits.{input_widths}
 use Rattle.one_rule.specs.Stimulus.{inputs_of}
-use Rattle.koika_top.specs.Sim.{Marks}
-use Rattle.koika_top.proofs.CircuitTold.{has-own, marks-alone, none-told}
-use Rattle.koika_top.proofs.Told.{told-as, told-empty, told-none}
+use Rattle.koika_top.specs.CircuitRuns.{violations_by}
+use Rattle.koika_top.specs.declared.bad_flags.BadFlags.{BadFlags}
+use Rattle.koika_top.proofs.Told.{told-as, told-empty}
 use Rattle.koika_top.proofs.circuit_run.CircuitRun.write_violations.Goals as goal
 
-pub returns-then-is_empty : goal.returns-then-is_empty
-returns-then-is_empty g c = told-as _ _ _ _ (sym (none-told c.args.self.now.bad_names _ _ (c.is_empty.ensures.0 c.if-is_empty.true))) (told-empty _ _ _)
-
-pub returns-in_err-shape : goal.returns-in_err-shape
-returns-in_err-shape g c =
-    let p = err_from_is_err_and c.from_residual.result c.from_residual.ensures.1 in
-    rw (p.1, p.2) (told-none _ _ _)
-
-pub returns-in_err-watch : goal.returns-in_err-watch
-returns-in_err-watch g c =
-    let p = err_from_is_err_and c.from_residual-in_err-watch.result c.from_residual-in_err-watch.ensures.1 in
-    rw (p.1, p.2) (told-none _ _ _)
-
-pub returns-in_err-teller : goal.returns-in_err-teller
-returns-in_err-teller g c =
-    let p = err_from_is_err_and c.from_residual-in_err-teller.result c.from_residual-in_err-teller.ensures.1 in
-    rw (p.1, p.2) (told-none _ _ _)
-
-pub tell_circuit-requires-clause-none : goal.tell_circuit-requires-clause-none
-tell_circuit-requires-clause-none g c =
-    let marks : Marks = record { names = c.as_slice.result.now; rules = range_with_len 0 (length c.as_slice.result.now) } in
-    has-own c.in_ok-teller.teller c.in_ok-shape.shape marks (c.in_ok-teller.ensures.rows marks c.in_ok-watch.ensures)
-
-pub returns : goal.returns
-returns g c =
+pub returns-in-None : goal.returns-in-None
+returns-in-None g c =
     let run = c.args.self.now in
-    let rows = run_of run.bads (inputs_of run.stimulus) run.cycles in
-    let marks : Marks = record { names = c.as_slice.result.now; rules = range_with_len 0 (length c.as_slice.result.now) } in
-    told-as _ _ _ c.tell_circuit.result
-    (marks-alone c.in_ok-teller.teller c.in_ok-shape.shape marks rows (c.in_ok-teller.ensures.rows marks c.in_ok-watch.ensures) c.in_ok-teller.ensures.shown
-    ∙ ap (λ names. violations names (range_with_len 0 (length names)) rows) c.as_slice.ensures)
-    c.tell_circuit.ensures
+    told-as _ _ _ _ (sym (ap (λ (bads : Option BadFlags). violations_by bads (inputs_of run.stimulus) run.cycles) c.in-None.is)) (told-empty _ _ _)
+
+pub write_flags-requires-clause-widths : goal.write_flags-requires-clause-widths
+write_flags-requires-clause-widths g c =
+    let run = c.args.self.now in
+    subst (λ (bads : Option BadFlags). IfSome bads (λ flags. run.stimulus.widths ≡ input_widths flags.circuit.inputs)) c.in-Some.is run.bads_fit
+
+pub write_flags-requires-clause-few : goal.write_flags-requires-clause-few
+write_flags-requires-clause-few g c =
+    subst (λ (bads : Option BadFlags). IfSome bads (λ flags. length flags.names < 2 ^ 32)) c.in-Some.is c.args.self.now.few_bads
+
+pub returns-in-Some : goal.returns-in-Some
+returns-in-Some g c =
+    let run = c.args.self.now in
+    told-as _ _ _ _ (sym (ap (λ (bads : Option BadFlags). violations_by bads (inputs_of run.stimulus) run.cycles) c.in-Some.is)) c.write_flags.ensures

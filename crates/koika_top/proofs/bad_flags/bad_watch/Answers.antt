@@ -2,7 +2,7 @@ use Rattle.std.proofs.Common.{◌≡◌, ℕ, List, ◌∷◌, ◌++◌, [], len
 use Rattle.std.proofs.lemmas.List.{length-take-le, take_more}
 use Rattle.std.proofs.lemmas.List.FromFn.{length-range_with_len}
 use Rattle.koika_top.proofs.CircuitTold.{range-next}
-use Rattle.koika_top.proofs.circuit_run.bad_watch.Goals as goal
+use Rattle.koika_top.proofs.bad_flags.bad_watch.Goals as goal
 
 pub overflow_cast-len : goal.overflow_cast-len
 overflow_cast-len c = omega (arith, ap length c.loop-name.invariant.marks, length-range_with_len 0 c.loop-name.name-index, c.loop-name-test.true, c.requires)

@@ -1,6 +1,6 @@
 use Rattle.std.proofs.Common.{◌≡◌, take}
 use Rattle.std.specs.List.{range_with_len}
-use Rattle.koika_top.proofs.circuit_run.bad_watch.Given as goal
+use Rattle.koika_top.proofs.bad_flags.bad_watch.Given as goal
 
 abbrev pub invariant-loop-name : goal.invariant-loop-name
 invariant-loop-name l = record {
