@@ -89,6 +89,16 @@ awk 'BEGIN {
 }' >"$room/circuit"
 echo "| a circuit of 2,000,000 operators, $(wc -c <"$room/circuit") bytes, for a cycle | $(memory "$room/circuit" btorsim --cycles 1) |"
 
+# A source of functions that call one another: each of the first calls the one before twice, each further one calls it once.
+functions() {
+    awk -v twice="$1" -v once="$2" 'BEGIN {
+        print "reg r : bits 8 = 8'\''d0;\nfun f0(x : bits 8) : bits 8 { x + 8'\''d1 }"
+        for (k = 1; k < twice; k++) print "fun f" k "(x : bits 8) : bits 8 { f" k - 1 "(f" k - 1 "(x)) }"
+        for (k = twice; k < twice + once; k++) print "fun f" k "(x : bits 8) : bits 8 { f" k - 1 "(x) + 8'\''d1 }"
+        print "rule a { write0(r, f" twice + once - 1 "(read0(r))) }\nschedule { a; }"
+    }'
+}
+
 echo
 echo "What \`sim\` costs before its first cycle, \`check\` aside, by functions that call one another:"
 echo

@@ -1,7 +1,7 @@
 #!/usr/bin/env bash
 # Makes the tables of docs/measured/ again, each by the script of its name beside this one. It takes names of tables; none
-# means all but `riscv` and `aiger`, which need packages of Debian, and `gate`, which proves all from nothing. It takes an hour or
-# more on a quiet machine.
+# means all but `riscv`, `aiger` and `peers`, which need packages of Debian, and `gate`, which proves all from nothing. It takes
+# an hour or more on a quiet machine.
 set -eu
 cd "$(dirname "$0")/.."
 
