@@ -2,14 +2,14 @@
 use Rattle.std.proofs.Common.{◌≡◌, ℕ, ◌+◌, ◌<◌, ◌≤◌, List, [], length, get_or, take, sym, ap, subst, ◌∙◌, arith}
 use Rattle.std.specs.Prelude.{◌≢◌, Bool, if◌then◌else◌, nat_eq, Some}
 use Rattle.std.proofs.lemmas.Bool.{ne_eqb}
-use Rattle.std.proofs.lemmas.List.{get_or-take, length-take-le}
+use Rattle.std.proofs.lemmas.List.{get_or-take, length-map, length-take-le}
 use Rattle.std.proofs.lemmas.Option.{get_or_from_slice_get, slice_get-get_or, slice_get_within}
 use Rattle.kw_bits.specs.BitVector.{BitVector}
 use Rattle.kw_bits.specs.Laws.{HasWidth}
 use Rattle.net_graph.specs.Laws.{Feeds}
-use Rattle.net_graph.specs.Nets.{IsNet, op_width, Stands, widths_of}
-use Rattle.net_graph.specs.Operators.{ite_value, TakesTwo}
-use Rattle.net_graph.specs.Values.{no_bits, node_value, op_value, Sources, values_of}
+use Rattle.net_graph.specs.Nets.{IsNet, op_width, Stands, width_at, widths_of}
+use Rattle.net_graph.specs.Operators.{ite_value, TakesTwo, two_value}
+use Rattle.net_graph.specs.Values.{no_bits, node_value, op_value, Sources, value_at, values_of, widths}
 use Rattle.net_graph.specs.declared.node.NetOne.{NetOne}
 use Rattle.net_graph.specs.declared.node.NetTwo.{NetTwo}
 use Rattle.net_graph.specs.declared.node.NetOp.{NetOp}
@@ -18,7 +18,7 @@ use Rattle.net_graph.proofs.OneByOne.{length-one_by_one}
 use Rattle.net_graph.proofs.OperatorWidths.{width-value_at}
 use Rattle.net_graph.proofs.Standing.{stands_at}
 use Rattle.net_graph.proofs.Values.{values-by_operators, values-widths}
-use Rattle.circuit_eval.specs.Programs.{Has, node_width}
+use Rattle.circuit_eval.specs.Programs.{Has, HasRoom, Keeps, node_width}
 
 -- an operator stands over the nodes before it
 pub stands : (net : List NetOp) (id : ℕ) (op : NetOp) → IsNet net → Has net id op → Stands (take id (widths_of net)) op
@@ -108,3 +108,18 @@ taken condition x y e = ap (λ (n : ℕ). if nat_eq n 1 then x else y) e
 pub passed : (condition x y : BitVector) → condition.number ≢ 1 → ite_value condition x y ≡ y
 unfolding ite_value
 passed condition x y e = ap (λ (b : Bool). if b then x else y) (ne_eqb condition.number 1 e)
+
+-- two wide operands stand where their values are kept, and the operator gives the node's value there
+pub wide_operands : (s : Sources) (net : List NetOp) (words : List ℕ) (wides : List BitVector) (id a b : ℕ) (operator : NetTwo) → IsNet net → HasRoom net words wides → Keeps net words wides (values_of s net) id
+    → Has net id (Two operator a b) → 64 < node_width net a → 64 < node_width net b → Stands (widths wides) (Two operator a b) × (op_value s wides (Two operator a b) ≡ node_value s net id)
+wide_operands s net words wides id a b operator valid room keeps has wide_a wide_b =
+    let o = of_two net id a b operator valid has in
+    let x = keeps a o.first.before in
+    let y = keeps b o.second.before in
+    let count : length (widths wides) ≡ length wides = length-map wides (λ (value : BitVector). value.width) in
+    let width_a : node_width net a ≡ width_at (widths wides) a = sym x.fits.1 ∙ ap (λ (v : BitVector). v.width) (sym (x.wide wide_a)) ∙ sym (width-value_at wides a) in
+    let width_b : node_width net b ≡ width_at (widths wides) b = sym y.fits.1 ∙ ap (λ (v : BitVector). v.width) (sym (y.wide wide_b)) ∙ sym (width-value_at wides b) in
+    let takes : TakesTwo operator (width_at (widths wides) a) (width_at (widths wides) b) = subst (λ (v : ℕ). TakesTwo operator (width_at (widths wides) a) v) width_b (subst (λ (w : ℕ). TakesTwo operator w (node_width net b)) width_a o.takes) in
+    let there : Stands (widths wides) (Two operator a b) = (omega (arith, count, room.wide a o.first.within wide_a), omega (arith, count, room.wide b o.second.within wide_b), takes) in
+    let same : op_value s wides (Two operator a b) ≡ op_value s (values_of s net) (Two operator a b) = ap (λ (v : BitVector). two_value operator v (value_at wides b)) (x.wide wide_a) ∙ ap (λ (v : BitVector). two_value operator (value_at (values_of s net) a) v) (y.wide wide_b) in
+    (there, same ∙ sym (by_operator s net id (Two operator a b) valid has))

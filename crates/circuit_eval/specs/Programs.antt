@@ -1,6 +1,6 @@
 -- A net that is laid out to run on words of the machine, a step for each node. A node of up to 64 bits has its value's number
 -- as its word, and the values of wider nodes are kept apart. This serves private functions alone.
-use Rattle.std.specs.Prelude.{◌≡◌, ℕ, ◌+◌, ◌-◌, ◌<◌, ◌≤◌, List, length, Some, slice_get, slice_index_or}
+use Rattle.std.specs.Prelude.{◌≡◌, ◌⊎◌, ℕ, ◌+◌, ◌-◌, ◌<◌, ◌≤◌, List, length, Some, slice_get, slice_index_or}
 use Rattle.kw_bits.specs.BitVector.{BitVector}
 use Rattle.kw_bits.specs.Laws.{HasWidth}
 use Rattle.net_graph.specs.Nets.{IsNet, width_at, widths_of}
@@ -9,10 +9,10 @@ use Rattle.net_graph.specs.declared.node.NetOne.TheVariants.{Not}
 use Rattle.net_graph.specs.declared.node.NetTwo.TheVariants.{And, Or, Xor, Add, Sub, Mul, EqBits, Neq, Ult, Ulte, Concat}
 use Rattle.net_graph.specs.declared.node.NetTwo.{NetTwo}
 use Rattle.net_graph.specs.declared.node.NetOp.{NetOp}
-use Rattle.net_graph.specs.declared.node.NetOp.TheVariants.{Const, Input, State, One, Two, Slice, Uext, Ite}
+use Rattle.net_graph.specs.declared.node.NetOp.TheVariants.{Const, Input, State, One, Two, Slice, Uext, Sext, Ite}
 use Rattle.circuit_eval.specs.Words.{IsMask}
 use Rattle.circuit_eval.specs.declared.program.Step.{Step}
-use Rattle.circuit_eval.specs.declared.program.Step.TheVariants.{Constant, TakeInput, TakeState, Copy, Invert, Both, Either, OneOf, Sum, Difference, Product, Equal, Unequal, Below, AtMost, Join, Cut, Choose, Other}
+use Rattle.circuit_eval.specs.declared.program.Step.TheVariants.{Constant, TakeInput, TakeState, Copy, Invert, Both, Either, OneOf, Sum, Difference, Product, Equal, Unequal, Below, AtMost, Join, Cut, Choose, Wide, Other}
 
 -- the width of a node
 abbrev pub node_width : List NetOp → ℕ → ℕ
@@ -30,7 +30,35 @@ Has net id op = slice_get net id ≡ Some op
 abbrev pub HasNarrow : List NetOp → ℕ → NetTwo → (a b : ℕ) → Type 0
 HasNarrow net id operator a b = Has net id (Two operator a b) × IsNarrow net a
 
--- a step makes the word of a node; one that makes none fits every node
+-- no step makes the word of an operator on two nodes, the first of up to 64 bits
+abbrev pub HasNoWord : List NetOp → NetTwo → (a b : ℕ) → Type 0
+HasNoWord net And a b = ⊥
+HasNoWord net Or a b = ⊥
+HasNoWord net Xor a b = ⊥
+HasNoWord net Add a b = ⊥
+HasNoWord net Sub a b = ⊥
+HasNoWord net Mul a b = ⊥
+HasNoWord net EqBits a b = ⊥
+HasNoWord net Neq a b = ⊥
+HasNoWord net Ult a b = ⊥
+HasNoWord net Ulte a b = ⊥
+HasNoWord net Concat a b = 64 < node_width net a + node_width net b
+HasNoWord net operator a b = Unit {0}
+
+-- an operator has no step of its own
+abbrev pub HasNoStep : List NetOp → NetOp → Type 0
+HasNoStep net (Const value) = 64 < value.width
+HasNoStep net (Input number width) = 64 < width
+HasNoStep net (State number width) = 64 < width
+HasNoStep net (One Not a) = 64 < node_width net a
+HasNoStep net (One operator a) = Unit {0}
+HasNoStep net (Two operator a b) = (64 < node_width net a × IsNarrow net b) ⊎ (IsNarrow net a × HasNoWord net operator a b)
+HasNoStep net (Slice a upper lower) = 64 < node_width net a
+HasNoStep net (Uext a added) = 64 < node_width net a + added
+HasNoStep net (Sext a added) = Unit {0}
+HasNoStep net (Ite condition a b) = 64 < node_width net a
+
+-- a step makes the word of a node; one on wide operands finds them where they are kept; the last is for what has no step
 abbrev pub Makes : List NetOp → ℕ → Step → Type 0
 Makes net id (Constant word) = (value : BitVector) × Has net id (Const value) × (value.width ≤ 64) × (value.number ≡ word)
 Makes net id (TakeInput number) = (width : ℕ) × Has net id (Input number width) × (width ≤ 64)
@@ -50,7 +78,14 @@ Makes net id (AtMost a b) = HasNarrow net id Ulte a b
 Makes net id (Join a b shift) = Has net id (Two Concat a b) × (node_width net a + node_width net b ≤ 64) × (shift ≡ node_width net b)
 Makes net id (Cut a lower mask) = (upper : ℕ) × Has net id (Slice a upper lower) × IsNarrow net a × IsMask mask (upper - lower + 1)
 Makes net id (Choose condition a b) = Has net id (Ite condition a b) × IsNarrow net a
-Makes net id Other = Unit {0}
+Makes net id (Wide operator a b) = Has net id (Two operator a b) × (64 < node_width net a) × (64 < node_width net b)
+Makes net id Other = (op : NetOp) × Has net id op × HasNoStep net op
+
+-- a step makes no word: its node's value is made by the operator
+abbrev pub MakesNoWord : Step → Type 0
+MakesNoWord (Wide operator a b) = Unit {0}
+MakesNoWord Other = Unit {0}
+MakesNoWord step = ⊥
 
 -- a step for each node of a net
 pub record IsLaidOut (net : List NetOp) (steps : List Step) : Type 0 where

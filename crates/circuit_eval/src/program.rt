@@ -2,10 +2,10 @@
 //!
 //! A node of up to 64 bits has its value's number as its word. The value of a wider node is kept apart, as a bit vector.
 
-ghost use Rattle.std.specs.Prelude.{◌≡◌, ◌<◌, ◌↔◌, ℕ, false, length, IfOk, IsTrue};
+ghost use Rattle.std.specs.Prelude.{◌≡◌, ◌<◌, ◌↔◌, ℕ, true, false, length, IfOk, IsTrue};
 ghost use Rattle.net_graph.specs.Nets.{IsNet};
 ghost use Rattle.net_graph.specs.declared.node.NetOp.TheVariants as variant;
-ghost use Rattle.circuit_eval.specs.Programs.{Has, IsLaidOut, IsNarrow, Makes};
+ghost use Rattle.circuit_eval.specs.Programs.{Has, IsLaidOut, IsNarrow, Makes, node_width};
 
 use crate::words::mask_of;
 use kw_bits::NoMemory;
@@ -33,6 +33,8 @@ pub(crate) enum Step {
     Join(NetId, NetId, u32),
     Cut(NetId, u32, u64),
     Choose(NetId, NetId, NetId),
+    /// By the operator itself, on two bit vectors of more than 64 bits, as they are kept.
+    Wide(NetTwo, NetId, NetId),
     /// By the operator itself, on bit vectors.
     Other,
 }
@@ -51,7 +53,8 @@ pub(crate) fn lay_out(alloc: Global, net: &Net) -> Result<Vec<Step>, NoMemory>
 
 /// Whether some node has more than 64 bits.
 pub(crate) fn has_wide(net: &Net) -> bool
-    ensures { result ≡ false → (id : ℕ) → id < length net.now → IsNarrow net.now id }
+    ensures none { result ≡ false → (id : ℕ) → id < length net.now → IsNarrow net.now id }
+    ensures some { result ≡ true → (id : ℕ) × (id < length net.now) × (64 < node_width net.now id) }
 {
     for id in 0..net.len() {
         if net.width(id as NetId) > 64 {
@@ -103,18 +106,13 @@ fn step_of(net: &Net, op: &NetOp) -> Step
                 Step::Other
             }
         }
-        NetOp::Two(NetTwo::Concat, a, b) => {
-            if net.width(a) + net.width(b) <= 64 {
-                Step::Join(a, b, net.width(b))
-            } else {
-                Step::Other
-            }
-        }
         NetOp::Two(operator, a, b) => {
             if is_narrow(net, a) {
                 step_of_two(net, operator, a, b)
-            } else {
+            } else if is_narrow(net, b) {
                 Step::Other
+            } else {
+                Step::Wide(operator, a, b)
             }
         }
         NetOp::Slice(a, upper, lower) => {
@@ -142,7 +140,7 @@ fn step_of(net: &Net, op: &NetOp) -> Step
     }
 }
 
-// The step of an operator on two nodes of one width of up to 64 bits.
+// The step of an operator on two nodes, the first of up to 64 bits.
 fn step_of_two(net: &Net, operator: NetTwo, a: NetId, b: NetId) -> Step
     requires net { IsNet net.now }
     requires has { (id : ℕ) × Has net.now id (variant.Two operator a b) }
@@ -160,6 +158,26 @@ fn step_of_two(net: &Net, operator: NetTwo, a: NetId, b: NetId) -> Step
         NetTwo::Neq => Step::Unequal(a, b),
         NetTwo::Ult => Step::Below(a, b),
         NetTwo::Ulte => Step::AtMost(a, b),
-        _ => Step::Other,
+        NetTwo::Nand
+        | NetTwo::Nor
+        | NetTwo::Xnor
+        | NetTwo::Sll
+        | NetTwo::Srl
+        | NetTwo::Sra
+        | NetTwo::Ugt
+        | NetTwo::Ugte
+        | NetTwo::Slt
+        | NetTwo::Slte
+        | NetTwo::Sgt
+        | NetTwo::Sgte
+        | NetTwo::Iff
+        | NetTwo::Implies => Step::Other,
+        NetTwo::Concat => {
+            if net.width(a) + net.width(b) <= 64 {
+                Step::Join(a, b, net.width(b))
+            } else {
+                Step::Other
+            }
+        }
     }
 }

@@ -1,10 +1,10 @@
 //! Circuits: a simulator that goes step by step.
 
-ghost use Rattle.std.specs.Prelude.{◌≡◌, ◌<◌, ℕ, List, IfOk, length, All};
+ghost use Rattle.std.specs.Prelude.{◌≡◌, ◌<◌, ℕ, List, [], IfOk, length, All};
 ghost use Rattle.kw_bits.specs.BitVector.{BitVector};
 ghost use Rattle.net_graph.specs.Nets.{widths_of};
 ghost use Rattle.circuit_eval.specs.Circuits.{AreBits, input_widths, IsOutput, state_widths};
-ghost use Rattle.circuit_eval.specs.Programs.{HasRoom, Keeps, node_width};
+ghost use Rattle.circuit_eval.specs.Programs.{HasRoom, IsNarrow, Keeps, node_width};
 ghost use Rattle.circuit_eval.specs.Run.{first_states, next_states, outputs_in, zero_outputs};
 
 use crate::circuit::{Circuit, OutputWire, StateWire};
@@ -136,7 +136,8 @@ fn zero_words(alloc: Global, nodes: usize) -> Result<Vec<u64>, NoMemory>
 
 // Room for the values of the nodes above 64 bits: none where there is no such node.
 fn room_for_wide(alloc: Global, net: &Net) -> Result<Vec<Bits>, NoMemory>
-    ensures { IfOk result (λ values. (id : ℕ) → id < length net.now → 64 < node_width net.now id → id < length values.items) }
+    ensures enough { IfOk result (λ values. (id : ℕ) → id < length net.now → 64 < node_width net.now id → id < length values.items) }
+    ensures none { IfOk result (λ values. ((id : ℕ) → id < length net.now → IsNarrow net.now id) → values.items ≡ []) }
 {
     let nodes = if has_wide(net) { net.len() } else { 0 };
     room_for(alloc, nodes)

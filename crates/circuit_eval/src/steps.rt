@@ -1,12 +1,12 @@
 //! Circuits: the run of a net that is laid out.
 
-ghost use Rattle.std.specs.Prelude.{◌≡◌, ◌+◌, ◌<◌, ◌≤◌, ℕ, List, length, IfSome};
+ghost use Rattle.std.specs.Prelude.{◌≡◌, ◌+◌, ◌<◌, ◌≤◌, ℕ, List, length, IfNone, IfSome};
 ghost use Rattle.kw_bits.specs.BitVector.{BitVector};
 ghost use Rattle.kw_bits.specs.Laws.{HasWidth};
 ghost use Rattle.net_graph.specs.Laws.{Feeds};
 ghost use Rattle.net_graph.specs.Nets.{IsNet, width_at, widths_of};
 ghost use Rattle.net_graph.specs.Values.{node_value, value_at, values_of};
-ghost use Rattle.circuit_eval.specs.Programs.{HasRoom, IsLaidOut, IsNarrow, Keeps, KeepsAt, Makes, word_at};
+ghost use Rattle.circuit_eval.specs.Programs.{HasRoom, IsLaidOut, IsNarrow, Keeps, KeepsAt, Makes, MakesNoWord, word_at};
 
 use crate::program::Step;
 use crate::words::{
@@ -34,7 +34,7 @@ pub(crate) fn run_steps(
     for (id, step) in steps.iter().enumerate() {
         match word_of(net, id, step, inputs, states, words, wides) {
             Some(word) => words[id] = word,
-            None => make_other(net, id, inputs, states, words, wides),
+            None => make_other(net, id, step, inputs, states, words, wides),
         }
     }
 }
@@ -56,7 +56,8 @@ fn word_of(
     requires words { length words.now ≡ length net.now }
     requires feeds { Feeds (record { inputs = inputs.now; states = states.now }) net.now }
     requires keeps { Keeps net.now words.now wides.now (values_of (record { inputs = inputs.now; states = states.now }) net.now) id }
-    ensures { IfSome result (λ word. IsNarrow net.now id × (word ≡ (node_value (record { inputs = inputs.now; states = states.now }) net.now id).number)) }
+    ensures word { IfSome result (λ word. IsNarrow net.now id × (word ≡ (node_value (record { inputs = inputs.now; states = states.now }) net.now id).number)) }
+    ensures none { IfNone result (MakesNoWord step.now) }
 {
     match *step {
         Step::Constant(word) => Some(word),
@@ -81,7 +82,7 @@ fn word_of(
             at(words, a),
             at(words, b),
         )),
-        Step::Other => None,
+        Step::Wide(..) | Step::Other => None,
     }
 }
 
@@ -98,6 +99,7 @@ fn at(words: &[u64], id: NetId) -> u64
 fn make_other(
     net: &Net,
     id: usize,
+    step: &Step,
     inputs: &[Bits],
     states: &[Bits],
     words: &mut [u64],
@@ -105,6 +107,7 @@ fn make_other(
 )
     requires net { IsNet net.now }
     requires node { id < length net.now }
+    requires makes { Makes net.now id step.now }
     requires room { HasRoom net.now words.old wides.old }
     requires feeds { Feeds (record { inputs = inputs.now; states = states.now }) net.now }
     requires keeps { Keeps net.now words.old wides.old (values_of (record { inputs = inputs.now; states = states.now }) net.now) id }
@@ -112,11 +115,37 @@ fn make_other(
     ensures words { length words.new ≡ length words.old }
     ensures wides { length wides.new ≡ length wides.old }
 {
-    let value = value_by_operator(net, id, inputs, states, words, wides);
+    let value = value_by_step(net, id, step, inputs, states, words, wides);
     if net.width(id as NetId) <= 64 {
         words[id] = value.number() as u64;
     } else {
         wides[id] = value;
+    }
+}
+
+// The value of a node: wide operands are lent as they are kept, others are copied.
+fn value_by_step(
+    net: &Net,
+    id: usize,
+    step: &Step,
+    inputs: &[Bits],
+    states: &[Bits],
+    words: &[u64],
+    wides: &[Bits],
+) -> Bits
+    requires net { IsNet net.now }
+    requires node { id < length net.now }
+    requires makes { Makes net.now id step.now }
+    requires room { HasRoom net.now words.now wides.now }
+    requires feeds { Feeds (record { inputs = inputs.now; states = states.now }) net.now }
+    requires keeps { Keeps net.now words.now wides.now (values_of (record { inputs = inputs.now; states = states.now }) net.now) id }
+    ensures { result ≡ node_value (record { inputs = inputs.now; states = states.now }) net.now id }
+{
+    match *step {
+        Step::Wide(operator, a, b) => {
+            value_of(&NetOp::Two(operator, a, b), inputs, states, wides)
+        }
+        _ => value_by_operator(net, id, inputs, states, words, wides),
     }
 }
 

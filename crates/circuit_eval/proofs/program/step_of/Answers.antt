@@ -11,21 +11,13 @@ pub width-requires-then-is_narrow : goal.width-requires-then-is_narrow
 width-requires-then-is_narrow c =
     let h = c.requires.has in (of_one c.args.net.now h.0 c.in-One-Not-default.a c.in-One-Not-default.field-0 c.requires.net (h.1 ∙ ap Some c.in-One-Not-default.is)).within
 
-pub width-requires-in-Two-Concat-default-default : goal.width-requires-in-Two-Concat-default-default
-width-requires-in-Two-Concat-default-default c =
-    let h = c.requires.has in (of_two c.args.net.now h.0 c.in-Two-Concat-default-default.a c.in-Two-Concat-default-default.b c.in-Two-Concat-default-default.field-0 c.requires.net (h.1 ∙ ap Some c.in-Two-Concat-default-default.is)).first.within
-
-pub width-requires-in-Two-Concat-default-default-2 : goal.width-requires-in-Two-Concat-default-default-2
-width-requires-in-Two-Concat-default-default-2 c =
-    let h = c.requires.has in (of_two c.args.net.now h.0 c.in-Two-Concat-default-default.a c.in-Two-Concat-default-default.b c.in-Two-Concat-default-default.field-0 c.requires.net (h.1 ∙ ap Some c.in-Two-Concat-default-default.is)).second.within
-
-pub width-requires-then-width-le64-4 : goal.width-requires-then-width-le64-4
-width-requires-then-width-le64-4 c =
-    let h = c.requires.has in (of_two c.args.net.now h.0 c.in-Two-Concat-default-default.a c.in-Two-Concat-default-default.b c.in-Two-Concat-default-default.field-0 c.requires.net (h.1 ∙ ap Some c.in-Two-Concat-default-default.is)).second.within
-
 pub is_narrow-requires-in-Two : goal.is_narrow-requires-in-Two
 is_narrow-requires-in-Two c =
     let h = c.requires.has in (of_two c.args.net.now h.0 c.in-Two.a c.in-Two.b c.in-Two.operator c.requires.net (h.1 ∙ ap Some c.in-Two.is)).first.within
+
+pub is_narrow-requires-else-is_narrow-2 : goal.is_narrow-requires-else-is_narrow-2
+is_narrow-requires-else-is_narrow-2 c =
+    let h = c.requires.has in (of_two c.args.net.now h.0 c.in-Two.a c.in-Two.b c.in-Two.operator c.requires.net (h.1 ∙ ap Some c.in-Two.is)).second.within
 
 pub is_narrow-requires-in-Slice : goal.is_narrow-requires-in-Slice
 is_narrow-requires-in-Slice c =
@@ -37,18 +29,18 @@ overflow_sub-upper c =
 
 pub overflow_add-upper : goal.overflow_add-upper
 overflow_add-upper c =
-    let h = c.requires.has in let p = of_slice c.args.net.now h.0 c.in-Slice.a c.in-Slice.upper c.in-Slice.lower c.requires.net (h.1 ∙ ap Some c.in-Slice.is) in omega (arith, p.1, p.2, c.if-is_narrow-3.ensures.0 refl)
+    let h = c.requires.has in let p = of_slice c.args.net.now h.0 c.in-Slice.a c.in-Slice.upper c.in-Slice.lower c.requires.net (h.1 ∙ ap Some c.in-Slice.is) in omega (arith, p.1, p.2, c.if-is_narrow-4.ensures.0 refl)
 
-pub mask_of-requires-then-is_narrow-3-clause-most : goal.mask_of-requires-then-is_narrow-3-clause-most
-mask_of-requires-then-is_narrow-3-clause-most c =
-    let h = c.requires.has in let p = of_slice c.args.net.now h.0 c.in-Slice.a c.in-Slice.upper c.in-Slice.lower c.requires.net (h.1 ∙ ap Some c.in-Slice.is) in omega (arith, p.1, p.2, c.if-is_narrow-3.ensures.0 refl)
+pub mask_of-requires-then-is_narrow-4-clause-most : goal.mask_of-requires-then-is_narrow-4-clause-most
+mask_of-requires-then-is_narrow-4-clause-most c =
+    let h = c.requires.has in let p = of_slice c.args.net.now h.0 c.in-Slice.a c.in-Slice.upper c.in-Slice.lower c.requires.net (h.1 ∙ ap Some c.in-Slice.is) in omega (arith, p.1, p.2, c.if-is_narrow-4.ensures.0 refl)
 
 pub width-requires-in-Uext : goal.width-requires-in-Uext
 width-requires-in-Uext c =
     let h = c.requires.has in (of_uext c.args.net.now h.0 c.in-Uext.a c.in-Uext.added c.requires.net (h.1 ∙ ap Some c.in-Uext.is)).0.within
 
-pub overflow_add-width-in-Uext : goal.overflow_add-width-in-Uext
-overflow_add-width-in-Uext c =
+pub overflow_add-width : goal.overflow_add-width
+overflow_add-width c =
     let h = c.requires.has in let p = of_uext c.args.net.now h.0 c.in-Uext.a c.in-Uext.added c.requires.net (h.1 ∙ ap Some c.in-Uext.is) in omega (arith, p.1, c.width-in-Uext.ensures.width)
 
 pub is_narrow-requires-in-Ite : goal.is_narrow-requires-in-Ite

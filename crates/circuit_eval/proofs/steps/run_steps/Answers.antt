@@ -15,7 +15,7 @@ loop-id-preserved c =
     let inside : c.loop-id.id < length c.args.net.now = omega (arith, c.loop-id-test.true, c.requires.laid_out.count) in
     let room = c.loop-id.invariant.2 in
     elim c.match-word_of.branch [
-      | in-Some w ↦ let made = subst (λ o. IfSome o (λ word. IsNarrow c.args.net.now c.loop-id.id × (word ≡ (node_value (record { inputs = c.args.inputs.now; states = c.args.states.now }) c.args.net.now c.loop-id.id).number))) w.in-Some.is c.word_of.ensures in
+      | in-Some w ↦ let made = subst (λ o. IfSome o (λ word. IsNarrow c.args.net.now c.loop-id.id × (word ≡ (node_value (record { inputs = c.args.inputs.now; states = c.args.states.now }) c.args.net.now c.loop-id.id).number))) w.in-Some.is c.word_of.ensures.word in
           let words : List ℕ = slice_set c.loop-id.words c.loop-id.id w.in-Some.word in
           let count : length words ≡ length c.loop-id.words = length-set c.loop-id.words c.loop-id.id w.in-Some.word in
           let wide_room : HasRoom c.args.net.now words c.loop-id.wides = record { each = count ∙ room.each; wide = room.wide } in

@@ -28,9 +28,9 @@ at-requires-in-Both-2 c =
     let m = subst (λ (it : Step). Makes c.args.net.now c.args.id it) c.in-Both.is c.requires.makes in
     omega (arith, (of_two c.args.net.now c.args.id c.in-Both.a c.in-Both.b And c.requires.net m.0).second.within, c.requires.words)
 
-pub returns-in-Both : goal.returns-in-Both
+pub returns-in-Both-clause-word : goal.returns-in-Both-clause-word
 unfolding two_value TakesTwo
-returns-in-Both c =
+returns-in-Both-clause-word c =
     let m = subst (λ (it : Step). Makes c.args.net.now c.args.id it) c.in-Both.is c.requires.makes in
     by_two (record { inputs = c.args.inputs.now; states = c.args.states.now }) c.args.net.now c.args.words.now c.args.wides.now c.args.id c.requires.net c.requires.feeds c.requires.keeps And op.and (λ w. w) (λ w v t. t) (λ x y. refl) and-HasWidth (λ w h. h) c.in-Both.a c.in-Both.b c.at-in-Both.result c.at-in-Both-2.result c.and.result m c.at-in-Both.ensures c.at-in-Both-2.ensures c.and.ensures
 
@@ -44,9 +44,9 @@ at-requires-in-Either-2 c =
     let m = subst (λ (it : Step). Makes c.args.net.now c.args.id it) c.in-Either.is c.requires.makes in
     omega (arith, (of_two c.args.net.now c.args.id c.in-Either.a c.in-Either.b Or c.requires.net m.0).second.within, c.requires.words)
 
-pub returns-in-Either : goal.returns-in-Either
+pub returns-in-Either-clause-word : goal.returns-in-Either-clause-word
 unfolding two_value TakesTwo
-returns-in-Either c =
+returns-in-Either-clause-word c =
     let m = subst (λ (it : Step). Makes c.args.net.now c.args.id it) c.in-Either.is c.requires.makes in
     by_two (record { inputs = c.args.inputs.now; states = c.args.states.now }) c.args.net.now c.args.words.now c.args.wides.now c.args.id c.requires.net c.requires.feeds c.requires.keeps Or op.or (λ w. w) (λ w v t. t) (λ x y. refl) or-HasWidth (λ w h. h) c.in-Either.a c.in-Either.b c.at-in-Either.result c.at-in-Either-2.result c.or.result m c.at-in-Either.ensures c.at-in-Either-2.ensures c.or.ensures
 
@@ -60,9 +60,9 @@ at-requires-in-OneOf-2 c =
     let m = subst (λ (it : Step). Makes c.args.net.now c.args.id it) c.in-OneOf.is c.requires.makes in
     omega (arith, (of_two c.args.net.now c.args.id c.in-OneOf.a c.in-OneOf.b Xor c.requires.net m.0).second.within, c.requires.words)
 
-pub returns-in-OneOf : goal.returns-in-OneOf
+pub returns-in-OneOf-clause-word : goal.returns-in-OneOf-clause-word
 unfolding two_value TakesTwo
-returns-in-OneOf c =
+returns-in-OneOf-clause-word c =
     let m = subst (λ (it : Step). Makes c.args.net.now c.args.id it) c.in-OneOf.is c.requires.makes in
     by_two (record { inputs = c.args.inputs.now; states = c.args.states.now }) c.args.net.now c.args.words.now c.args.wides.now c.args.id c.requires.net c.requires.feeds c.requires.keeps Xor op.xor (λ w. w) (λ w v t. t) (λ x y. refl) xor-HasWidth (λ w h. h) c.in-OneOf.a c.in-OneOf.b c.at-in-OneOf.result c.at-in-OneOf-2.result c.xor.result m c.at-in-OneOf.ensures c.at-in-OneOf-2.ensures c.xor.ensures
 
@@ -76,9 +76,9 @@ at-requires-in-Equal-2 c =
     let m = subst (λ (it : Step). Makes c.args.net.now c.args.id it) c.in-Equal.is c.requires.makes in
     omega (arith, (of_two c.args.net.now c.args.id c.in-Equal.a c.in-Equal.b EqBits c.requires.net m.0).second.within, c.requires.words)
 
-pub returns-in-Equal : goal.returns-in-Equal
+pub returns-in-Equal-clause-word : goal.returns-in-Equal-clause-word
 unfolding two_value TakesTwo
-returns-in-Equal c =
+returns-in-Equal-clause-word c =
     let m = subst (λ (it : Step). Makes c.args.net.now c.args.id it) c.in-Equal.is c.requires.makes in
     by_two (record { inputs = c.args.inputs.now; states = c.args.states.now }) c.args.net.now c.args.words.now c.args.wides.now c.args.id c.requires.net c.requires.feeds c.requires.keeps EqBits op.eq_bits (λ w. 1) (λ w v t. t) (λ x y. refl) eq_bits-HasWidth (λ w h. omega arith) c.in-Equal.a c.in-Equal.b c.at-in-Equal.result c.at-in-Equal-2.result c.equal.result m c.at-in-Equal.ensures c.at-in-Equal-2.ensures c.equal.ensures
 
@@ -92,9 +92,9 @@ at-requires-in-Unequal-2 c =
     let m = subst (λ (it : Step). Makes c.args.net.now c.args.id it) c.in-Unequal.is c.requires.makes in
     omega (arith, (of_two c.args.net.now c.args.id c.in-Unequal.a c.in-Unequal.b Neq c.requires.net m.0).second.within, c.requires.words)
 
-pub returns-in-Unequal : goal.returns-in-Unequal
+pub returns-in-Unequal-clause-word : goal.returns-in-Unequal-clause-word
 unfolding two_value TakesTwo
-returns-in-Unequal c =
+returns-in-Unequal-clause-word c =
     let m = subst (λ (it : Step). Makes c.args.net.now c.args.id it) c.in-Unequal.is c.requires.makes in
     by_two (record { inputs = c.args.inputs.now; states = c.args.states.now }) c.args.net.now c.args.words.now c.args.wides.now c.args.id c.requires.net c.requires.feeds c.requires.keeps Neq (λ (x y : BitVector). op.not (op.eq_bits x y)) (λ w. 1) (λ w v t. t) (λ x y. refl) (λ x y p q e. let h = eq_bits-HasWidth x y p q e in let n = not-HasWidth (op.eq_bits x y) h.0 in (n.0, n.1 ∙ h.1)) (λ w h. omega arith) c.in-Unequal.a c.in-Unequal.b c.at-in-Unequal.result c.at-in-Unequal-2.result c.differ.result m c.at-in-Unequal.ensures c.at-in-Unequal-2.ensures c.differ.ensures
 
@@ -108,9 +108,9 @@ at-requires-in-Below-2 c =
     let m = subst (λ (it : Step). Makes c.args.net.now c.args.id it) c.in-Below.is c.requires.makes in
     omega (arith, (of_two c.args.net.now c.args.id c.in-Below.a c.in-Below.b Ult c.requires.net m.0).second.within, c.requires.words)
 
-pub returns-in-Below : goal.returns-in-Below
+pub returns-in-Below-clause-word : goal.returns-in-Below-clause-word
 unfolding two_value TakesTwo
-returns-in-Below c =
+returns-in-Below-clause-word c =
     let m = subst (λ (it : Step). Makes c.args.net.now c.args.id it) c.in-Below.is c.requires.makes in
     by_two (record { inputs = c.args.inputs.now; states = c.args.states.now }) c.args.net.now c.args.words.now c.args.wides.now c.args.id c.requires.net c.requires.feeds c.requires.keeps Ult op.ult (λ w. 1) (λ w v t. t) (λ x y. refl) ult-HasWidth (λ w h. omega arith) c.in-Below.a c.in-Below.b c.at-in-Below.result c.at-in-Below-2.result c.below.result m c.at-in-Below.ensures c.at-in-Below-2.ensures c.below.ensures
 
@@ -124,9 +124,9 @@ at-requires-in-AtMost-2 c =
     let m = subst (λ (it : Step). Makes c.args.net.now c.args.id it) c.in-AtMost.is c.requires.makes in
     omega (arith, (of_two c.args.net.now c.args.id c.in-AtMost.a c.in-AtMost.b Ulte c.requires.net m.0).second.within, c.requires.words)
 
-pub returns-in-AtMost : goal.returns-in-AtMost
+pub returns-in-AtMost-clause-word : goal.returns-in-AtMost-clause-word
 unfolding two_value TakesTwo
-returns-in-AtMost c =
+returns-in-AtMost-clause-word c =
     let m = subst (λ (it : Step). Makes c.args.net.now c.args.id it) c.in-AtMost.is c.requires.makes in
     by_two (record { inputs = c.args.inputs.now; states = c.args.states.now }) c.args.net.now c.args.words.now c.args.wides.now c.args.id c.requires.net c.requires.feeds c.requires.keeps Ulte op.ulte (λ w. 1) (λ w v t. t) (λ x y. refl) ulte-HasWidth (λ w h. omega arith) c.in-AtMost.a c.in-AtMost.b c.at-in-AtMost.result c.at-in-AtMost-2.result c.at_most.result m c.at-in-AtMost.ensures c.at-in-AtMost-2.ensures c.at_most.ensures
 
@@ -140,9 +140,9 @@ at-requires-in-Sum-2 c =
     let m = subst (λ (it : Step). Makes c.args.net.now c.args.id it) c.in-Sum.is c.requires.makes in
     omega (arith, (of_two c.args.net.now c.args.id c.in-Sum.a c.in-Sum.b Add c.requires.net m.0.0).second.within, c.requires.words)
 
-pub returns-in-Sum : goal.returns-in-Sum
+pub returns-in-Sum-clause-word : goal.returns-in-Sum-clause-word
 unfolding two_value TakesTwo
-returns-in-Sum c =
+returns-in-Sum-clause-word c =
     let m = subst (λ (it : Step). Makes c.args.net.now c.args.id it) c.in-Sum.is c.requires.makes in
     by_masked (record { inputs = c.args.inputs.now; states = c.args.states.now }) c.args.net.now c.args.words.now c.args.wides.now c.args.id c.requires.net c.requires.feeds c.requires.keeps Add op.add (λ w. w) (λ w v t. t) (λ x y. refl) add-HasWidth (λ w h. h) c.in-Sum.a c.in-Sum.b c.in-Sum.mask c.at-in-Sum.result c.at-in-Sum-2.result c.add.result m.0 m.1 c.at-in-Sum.ensures c.at-in-Sum-2.ensures c.add.ensures
 
@@ -156,9 +156,9 @@ at-requires-in-Difference-2 c =
     let m = subst (λ (it : Step). Makes c.args.net.now c.args.id it) c.in-Difference.is c.requires.makes in
     omega (arith, (of_two c.args.net.now c.args.id c.in-Difference.a c.in-Difference.b Sub c.requires.net m.0.0).second.within, c.requires.words)
 
-pub returns-in-Difference : goal.returns-in-Difference
+pub returns-in-Difference-clause-word : goal.returns-in-Difference-clause-word
 unfolding two_value TakesTwo
-returns-in-Difference c =
+returns-in-Difference-clause-word c =
     let m = subst (λ (it : Step). Makes c.args.net.now c.args.id it) c.in-Difference.is c.requires.makes in
     by_masked (record { inputs = c.args.inputs.now; states = c.args.states.now }) c.args.net.now c.args.words.now c.args.wides.now c.args.id c.requires.net c.requires.feeds c.requires.keeps Sub op.sub (λ w. w) (λ w v t. t) (λ x y. refl) sub-HasWidth (λ w h. h) c.in-Difference.a c.in-Difference.b c.in-Difference.mask c.at-in-Difference.result c.at-in-Difference-2.result c.sub.result m.0 m.1 c.at-in-Difference.ensures c.at-in-Difference-2.ensures c.sub.ensures
 
@@ -172,14 +172,14 @@ at-requires-in-Product-2 c =
     let m = subst (λ (it : Step). Makes c.args.net.now c.args.id it) c.in-Product.is c.requires.makes in
     omega (arith, (of_two c.args.net.now c.args.id c.in-Product.a c.in-Product.b Mul c.requires.net m.0.0).second.within, c.requires.words)
 
-pub returns-in-Product : goal.returns-in-Product
+pub returns-in-Product-clause-word : goal.returns-in-Product-clause-word
 unfolding two_value TakesTwo
-returns-in-Product c =
+returns-in-Product-clause-word c =
     let m = subst (λ (it : Step). Makes c.args.net.now c.args.id it) c.in-Product.is c.requires.makes in
     by_masked (record { inputs = c.args.inputs.now; states = c.args.states.now }) c.args.net.now c.args.words.now c.args.wides.now c.args.id c.requires.net c.requires.feeds c.requires.keeps Mul op.mul (λ w. w) (λ w v t. t) (λ x y. refl) mul-HasWidth (λ w h. h) c.in-Product.a c.in-Product.b c.in-Product.mask c.at-in-Product.result c.at-in-Product-2.result c.mul.result m.0 m.1 c.at-in-Product.ensures c.at-in-Product-2.ensures c.mul.ensures
 
-pub returns-in-Constant : goal.returns-in-Constant
-returns-in-Constant c =
+pub returns-in-Constant-clause-word : goal.returns-in-Constant-clause-word
+returns-in-Constant-clause-word c =
     let m = subst (λ (it : Step). Makes c.args.net.now c.args.id it) c.in-Constant.is c.requires.makes in
     constant (record { inputs = c.args.inputs.now; states = c.args.states.now }) c.args.net.now c.args.words.now c.args.wides.now c.args.id c.requires.net c.requires.feeds c.requires.keeps m.0 c.in-Constant.word m.1 m.2 m.3
 
@@ -188,8 +188,8 @@ at-requires c =
     let m = subst (λ (it : Step). Makes c.args.net.now c.args.id it) c.in-Copy.is c.requires.makes in
     omega (arith, (of_uext c.args.net.now c.args.id c.in-Copy.a m.0 c.requires.net m.1).0.within, c.requires.words)
 
-pub returns-in-Copy : goal.returns-in-Copy
-returns-in-Copy c =
+pub returns-in-Copy-clause-word : goal.returns-in-Copy-clause-word
+returns-in-Copy-clause-word c =
     let m = subst (λ (it : Step). Makes c.args.net.now c.args.id it) c.in-Copy.is c.requires.makes in
     copied (record { inputs = c.args.inputs.now; states = c.args.states.now }) c.args.net.now c.args.words.now c.args.wides.now c.args.id c.requires.net c.requires.feeds c.requires.keeps c.in-Copy.a m.0 c.at.result m.1 m.2 c.at.ensures
 
@@ -198,8 +198,8 @@ at-requires-in-Invert c =
     let m = subst (λ (it : Step). Makes c.args.net.now c.args.id it) c.in-Invert.is c.requires.makes in
     omega (arith, (of_one c.args.net.now c.args.id c.in-Invert.a Not c.requires.net m.0).within, c.requires.words)
 
-pub returns-in-Invert : goal.returns-in-Invert
-returns-in-Invert c =
+pub returns-in-Invert-clause-word : goal.returns-in-Invert-clause-word
+returns-in-Invert-clause-word c =
     let m = subst (λ (it : Step). Makes c.args.net.now c.args.id it) c.in-Invert.is c.requires.makes in
     inverted (record { inputs = c.args.inputs.now; states = c.args.states.now }) c.args.net.now c.args.words.now c.args.wides.now c.args.id c.requires.net c.requires.feeds c.requires.keeps c.in-Invert.a c.in-Invert.mask c.at-in-Invert.result c.not.result m.0 m.1 m.2 c.at-in-Invert.ensures c.not.ensures
 
@@ -213,8 +213,8 @@ at-requires-in-Join-2 c =
     let m = subst (λ (it : Step). Makes c.args.net.now c.args.id it) c.in-Join.is c.requires.makes in
     omega (arith, (of_two c.args.net.now c.args.id c.in-Join.a c.in-Join.b Concat c.requires.net m.0).second.within, c.requires.words)
 
-pub returns-in-Join : goal.returns-in-Join
-returns-in-Join c =
+pub returns-in-Join-clause-word : goal.returns-in-Join-clause-word
+returns-in-Join-clause-word c =
     let m = subst (λ (it : Step). Makes c.args.net.now c.args.id it) c.in-Join.is c.requires.makes in
     joined (record { inputs = c.args.inputs.now; states = c.args.states.now }) c.args.net.now c.args.words.now c.args.wides.now c.args.id c.requires.net c.requires.feeds c.requires.keeps c.in-Join.a c.in-Join.b c.in-Join.shift c.at-in-Join.result c.at-in-Join-2.result c.concat.result m.0 m.1 m.2 c.at-in-Join.ensures c.at-in-Join-2.ensures c.concat.ensures
 
@@ -223,8 +223,8 @@ at-requires-in-Cut c =
     let m = subst (λ (it : Step). Makes c.args.net.now c.args.id it) c.in-Cut.is c.requires.makes in
     omega (arith, (of_slice c.args.net.now c.args.id c.in-Cut.a m.0 c.in-Cut.lower c.requires.net m.1).0.within, c.requires.words)
 
-pub returns-in-Cut : goal.returns-in-Cut
-returns-in-Cut c =
+pub returns-in-Cut-clause-word : goal.returns-in-Cut-clause-word
+returns-in-Cut-clause-word c =
     let m = subst (λ (it : Step). Makes c.args.net.now c.args.id it) c.in-Cut.is c.requires.makes in
     cut (record { inputs = c.args.inputs.now; states = c.args.states.now }) c.args.net.now c.args.words.now c.args.wides.now c.args.id c.requires.net c.requires.feeds c.requires.keeps c.in-Cut.a m.0 c.in-Cut.lower c.in-Cut.mask c.at-in-Cut.result c.slice.result m.1 m.2 m.3 c.at-in-Cut.ensures c.slice.ensures
 
@@ -243,8 +243,8 @@ at-requires-in-Choose-3 c =
     let m = subst (λ (it : Step). Makes c.args.net.now c.args.id it) c.in-Choose.is c.requires.makes in
     omega (arith, (of_ite c.args.net.now c.args.id c.in-Choose.condition c.in-Choose.a c.in-Choose.b c.requires.net m.0).second.within, c.requires.words)
 
-pub returns-in-Choose : goal.returns-in-Choose
-returns-in-Choose c =
+pub returns-in-Choose-clause-word : goal.returns-in-Choose-clause-word
+returns-in-Choose-clause-word c =
     let m = subst (λ (it : Step). Makes c.args.net.now c.args.id it) c.in-Choose.is c.requires.makes in
     chosen (record { inputs = c.args.inputs.now; states = c.args.states.now }) c.args.net.now c.args.words.now c.args.wides.now c.args.id c.requires.net c.requires.feeds c.requires.keeps c.in-Choose.condition c.in-Choose.a c.in-Choose.b c.at-in-Choose.result c.at-in-Choose-2.result c.at-in-Choose-3.result c.ite.result m.0 m.1 c.at-in-Choose.ensures c.at-in-Choose-2.ensures c.at-in-Choose-3.ensures c.ite.ensures
 
@@ -260,8 +260,8 @@ overflow_cast-result c =
     let same : c.index-inputs-number.result ≡ get_or c.args.inputs.now c.in-TakeInput.number no_bits = get_or_read c.args.inputs.now c.in-TakeInput.number c.index-inputs-number.result at.0 c.index-inputs-number.is no_bits in
     word_fits c.number.result c.index-inputs-number.result c.number.ensures.number c.number.ensures.bits (omega (arith, ap (λ (v : BitVector). v.width) same, at.1, m.2))
 
-pub returns-in-TakeInput : goal.returns-in-TakeInput
-returns-in-TakeInput c =
+pub returns-in-TakeInput-clause-word : goal.returns-in-TakeInput-clause-word
+returns-in-TakeInput-clause-word c =
     let m = subst (λ (it : Step). Makes c.args.net.now c.args.id it) c.in-TakeInput.is c.requires.makes in
     let at = input_there (record { inputs = c.args.inputs.now; states = c.args.states.now }) c.args.net.now c.args.words.now c.args.wides.now c.args.id c.requires.net c.requires.feeds c.requires.keeps c.in-TakeInput.number m.0 m.1 in
     let same : c.index-inputs-number.result ≡ get_or c.args.inputs.now c.in-TakeInput.number no_bits = get_or_read c.args.inputs.now c.in-TakeInput.number c.index-inputs-number.result at.0 c.index-inputs-number.is no_bits in
@@ -274,8 +274,8 @@ overflow_cast-result-in-TakeState c =
     let same : c.index-states-number.result ≡ get_or c.args.states.now c.in-TakeState.number no_bits = get_or_read c.args.states.now c.in-TakeState.number c.index-states-number.result at.0 c.index-states-number.is no_bits in
     word_fits c.number-in-TakeState.result c.index-states-number.result c.number-in-TakeState.ensures.number c.number-in-TakeState.ensures.bits (omega (arith, ap (λ (v : BitVector). v.width) same, at.1, m.2))
 
-pub returns-in-TakeState : goal.returns-in-TakeState
-returns-in-TakeState c =
+pub returns-in-TakeState-clause-word : goal.returns-in-TakeState-clause-word
+returns-in-TakeState-clause-word c =
     let m = subst (λ (it : Step). Makes c.args.net.now c.args.id it) c.in-TakeState.is c.requires.makes in
     let at = state_there (record { inputs = c.args.inputs.now; states = c.args.states.now }) c.args.net.now c.args.words.now c.args.wides.now c.args.id c.requires.net c.requires.feeds c.requires.keeps c.in-TakeState.number m.0 m.1 in
     let same : c.index-states-number.result ≡ get_or c.args.states.now c.in-TakeState.number no_bits = get_or_read c.args.states.now c.in-TakeState.number c.index-states-number.result at.0 c.index-states-number.is no_bits in

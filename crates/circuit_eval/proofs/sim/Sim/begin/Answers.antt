@@ -24,6 +24,6 @@ invariant_of-result c =
       subst (λ (w : Wires). IsLaidOut w.net c.in_ok-lay_out.field-0.items) c.circuit.view_is c.in_ok-lay_out.ensures,
       record {
         each = c.in_ok-zero_words.ensures ∙ c.len.ensures.len ∙ ap (λ (w : Wires). length w.net) c.circuit.view_is;
-        wide = subst (λ (w : Wires). (id : ℕ) → id < length w.net → 64 < node_width w.net id → id < length c.in_ok-room_for_wide.field-0.items) c.circuit.view_is c.in_ok-room_for_wide.ensures;
+        wide = subst (λ (w : Wires). (id : ℕ) → id < length w.net → 64 < node_width w.net id → id < length c.in_ok-room_for_wide.field-0.items) c.circuit.view_is c.in_ok-room_for_wide.ensures.enough;
       },
     )
