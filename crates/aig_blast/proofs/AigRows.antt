@@ -1,5 +1,5 @@
 -- The rows of a bit-level circuit's run, one after another.
-use Rattle.std.proofs.Common.{◌≡◌, ℕ, suc, ◌+◌, ◌-◌, ◌<◌, ◌≤◌, Bool, true, false, List, [], ◌∷◌, ◌++◌, map, refl, sym, ap, ap₂, ◌∙◌, arith, append_assoc, append-nil}
+use Rattle.std.proofs.Common.{◌≡◌, ℕ, zero, suc, ◌+◌, ◌-◌, ◌<◌, ◌≤◌, Bool, true, false, List, [], ◌∷◌, ◌++◌, map, refl, sym, ap, ap₂, ◌∙◌, arith, append_assoc, append-nil}
 use Rattle.kw_bits.specs.BitVector.{BitVector}
 use Rattle.one_rule.specs.Run.{InputsByCycle}
 use Rattle.one_rule.specs.declared.rows.Row.{Row}
@@ -27,20 +27,31 @@ rows-end a inputs n last states rows over =
     let count : n - last ≡ 0 = omega arith in
     ap (λ (k : ℕ). rows ++ rows_after a inputs k last states) count ∙ append-nil rows
 
--- the next step is the first of those to come
-pub steps-turn : (inputs : InputsByCycle) (n last : ℕ) (s : Simulation) → last < n
-    → after_steps inputs (n - (last + 1)) (last + 1) (after_step s (inputs (last + 1))) ≡ after_steps inputs (n - last) last s
+-- no step was made before the first
+pub steps-none : (inputs : InputsByCycle) (from : ℕ) (s : Simulation) → s ≡ after_steps inputs (from - from) from s
 unfolding after_steps
-steps-turn inputs n last s more =
-    let count : n - last ≡ suc (n - (last + 1)) = omega arith in
-    ap (λ (k : ℕ). after_steps inputs k last s) (sym count)
+steps-none inputs from s =
+    let count : 0 ≡ from - from = omega arith in
+    ap (λ (k : ℕ). after_steps inputs k from s) count
 
--- no step comes after the last cycle
-pub steps-end : (inputs : InputsByCycle) (n last : ℕ) (s : Simulation) → n ≤ last → after_steps inputs (n - last) last s ≡ s
+-- a step more is made after all the others
+steps-more : (inputs : InputsByCycle) (count last : ℕ) (s : Simulation)
+    → after_steps inputs (suc count) last s ≡ after_step (after_steps inputs count last s) (inputs (last + count + 1))
 unfolding after_steps
-steps-end inputs n last s over =
-    let count : n - last ≡ 0 = omega arith in
-    ap (λ (k : ℕ). after_steps inputs k last s) count
+steps-more inputs zero last s = ap (λ (k : ℕ). after_step s (inputs k)) (omega arith)
+steps-more inputs (suc count) last s =
+    let first : Simulation = after_step s (inputs (last + 1)) in
+    let next : last + 1 + count + 1 ≡ last + suc count + 1 = omega arith in
+    steps-more inputs count (last + 1) first ∙ ap (λ (k : ℕ). after_step (after_steps inputs count (last + 1) first) (inputs k)) next
+
+-- the steps up to a cycle, and the one after it
+pub steps-turn : (inputs : InputsByCycle) (from last : ℕ) (old now next : Simulation) → from ≤ last → now ≡ after_steps inputs (last - from) from old
+    → next ≡ after_step now (inputs (last + 1)) → next ≡ after_steps inputs (last + 1 - from) from old
+steps-turn inputs from last old now next since made step =
+    let cycle : last + 1 ≡ from + (last - from) + 1 = omega arith in
+    let count : suc (last - from) ≡ last + 1 - from = omega arith in
+    step ∙ ap₂ (λ (s : Simulation) (k : ℕ). after_step s (inputs k)) made cycle
+    ∙ sym (steps-more inputs (last - from) from old) ∙ ap (λ (k : ℕ). after_steps inputs k from old) count
 
 pub is_one-flag : (flag : Bool) → is_one (flag_bits flag) ≡ flag
 is_one-flag true = refl

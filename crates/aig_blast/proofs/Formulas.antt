@@ -12,7 +12,7 @@ use Rattle.aig_blast.proofs.Numbers.{number-lt, number-not, number-append, numbe
 use Rattle.aig_blast.proofs.Sums.{length-sum_after, number-add, number-sub, number-neg, ult-ltb}
 use Rattle.aig_blast.proofs.Products.{length-product_after, number-mul}
 use Rattle.aig_blast.proofs.Shifting.{length-up_after, length-down_after, number-sll, number-srl, not-down_after}
-use Rattle.aig_blast.proofs.TestsOfBits.{all_ones-eqb, some_one-ltb, odd_ones-count, equal-eqb}
+use Rattle.aig_blast.proofs.TestsOfBits.{all_ones, all_ones-eqb, some_one-ltb, odd_ones, odd_ones-count, equal-eqb}
 use Rattle.aig_blast.proofs.PlaceByPlace.{number-and, number-or, number-xor}
 use Rattle.std.proofs.lemmas.Bool.Decides.{nat_tests}
 use Rattle.aig_blast.proofs.Signed.{HasSign-sign}
@@ -95,15 +95,15 @@ pub slt-formula : (xs ys : List Bool) → 1 ≤ length xs → length xs ≡ leng
 unfolding op.slt
 slt-formula xs ys some same = flag-bit (s.slt xs ys) ∙ ap op.flag (slt-int xs ys some same)
 
-pub redand-formula : (xs : List Bool) → as_bits (s.all_ones xs ∷ []) ≡ op.redand (as_bits xs)
+pub redand-formula : (xs : List Bool) → as_bits (all_ones xs ∷ []) ≡ op.redand (as_bits xs)
 unfolding op.redand
-redand-formula xs = flag-bit (s.all_ones xs) ∙ ap op.flag (all_ones-eqb xs)
+redand-formula xs = flag-bit (all_ones xs) ∙ ap op.flag (all_ones-eqb xs)
 
 pub redor-formula : (xs : List Bool) → as_bits (s.some_one xs ∷ []) ≡ op.redor (as_bits xs)
 unfolding op.redor
 redor-formula xs = flag-bit (s.some_one xs) ∙ ap op.flag (some_one-ltb xs)
 
-pub redxor-formula : (xs : List Bool) → as_bits (s.odd_ones xs ∷ []) ≡ op.redxor (as_bits xs)
+pub redxor-formula : (xs : List Bool) → as_bits (odd_ones xs ∷ []) ≡ op.redxor (as_bits xs)
 unfolding op.redxor
 redxor-formula xs = same_bits _ _ refl (omega (arith, odd_ones-count xs))
 

@@ -7,7 +7,7 @@ use Rattle.kw_bits.proofs.Words.{shifted_out, shifted_down_out}
 use Rattle.kw_bits.specs.Operators as op
 use Rattle.kw_bits.proofs.Signs.{HasSign, sra-low, sra-high}
 use Rattle.aig_blast.specs.BitLists.{number, as_bits}
-use Rattle.aig_blast.specs.Steps.{choose, zeros, some_one, sll, srl, sign, down_after, up_short, down_short}
+use Rattle.aig_blast.specs.Steps.{choose, zeros, some_one, sll, srl, sign, down_after, down_short}
 use Rattle.aig_blast.proofs.Numbers.{number-split, number-zeros, number-lt}
 use Rattle.aig_blast.proofs.Shifting.{length-up_after, length-down_after, number-sll, number-srl, not-down_after, not-choose, map_not-replicate}
 use Rattle.aig_blast.proofs.TestsOfBits.{some_one-ltb}
@@ -25,6 +25,10 @@ up_by false m xs ys within is =
     let none : number (drop m ys) ≡ 0 = omega (arith, ltb-false 0 (number (drop m ys)) (sym is)) in
     let low : number (take m ys) ≡ number ys = omega (arith, number-split m ys, ap (λ h. 2 ^ m * h) none) in
     number-sll xs (take m ys) ∙ ap (λ n. number xs * 2 ^ n % 2 ^ length xs) low
+
+-- the shifter up with stages for the first m bits of the amount alone
+abbrev pub up_short : ℕ → List Bool → List Bool → List Bool
+up_short m xs ys = choose (some_one (drop m ys)) (zeros (length xs)) (sll xs (take m ys))
 
 pub number-up_short : (m : ℕ) (xs ys : List Bool) → length xs ≤ 2 ^ m → number (up_short m xs ys) ≡ number xs * 2 ^ number ys % 2 ^ length xs
 number-up_short m xs ys within = up_by (some_one (drop m ys)) m xs ys within (some_one-ltb (drop m ys))

@@ -6,7 +6,7 @@ use Rattle.std.proofs.lemmas.Bool.Decides.{nat_tests}
 use Rattle.std.proofs.lemmas.List.{take_all}
 use Rattle.std.proofs.lemmas.Nat.{pow_pos, ones_cat}
 use Rattle.aig_blast.specs.BitLists.{bit, number, xor}
-use Rattle.aig_blast.specs.Steps.{bit_of, joined_after, all_ones, some_one, odd_ones, equal_after, equal}
+use Rattle.aig_blast.specs.Steps.{bit_of, joined_after, some_one, equal_after, equal}
 use Rattle.aig_blast.proofs.Numbers.{number-take-suc, number-take-lt}
 
 all_step : (a b : Bool) (t p : ℕ) → t < p → a ≡ eqb (t + 1) p → (a && b) ≡ eqb (t + p * bit b + 1) (p * 2)
@@ -65,6 +65,13 @@ equal-after xs ys (suc k) =
 
 whole : (xs : List Bool) → take (length xs) xs ≡ xs
 whole xs = take_all (length xs) xs (omega arith)
+
+-- whether all bits are 1, and whether an odd number of them are
+abbrev pub all_ones : List Bool → Bool
+all_ones xs = joined_after (λ x y. x && y) true xs (length xs)
+
+abbrev pub odd_ones : List Bool → Bool
+odd_ones xs = joined_after xor false xs (length xs)
 
 pub all_ones-eqb : (xs : List Bool) → all_ones xs ≡ eqb (number xs) (2 ^ length xs - 1)
 all_ones-eqb xs =

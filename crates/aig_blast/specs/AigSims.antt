@@ -1,5 +1,5 @@
 -- A bit-level circuit at a moment between two steps, and its rows from there on.
-use Rattle.std.specs.Prelude.{ℕ, zero, suc, ◌+◌, ◌-◌, ◌/◌, ◌<◌, ◌≤◌, List, ◌∷◌, [], length, Bool, map, All}
+use Rattle.std.specs.Prelude.{◌≡◌, ℕ, zero, suc, ◌+◌, ◌-◌, ◌/◌, ◌<◌, ◌≤◌, List, ◌∷◌, [], length, Bool, map, All}
 use Rattle.kw_bits.specs.BitVector.{BitVector, zero_at}
 use Rattle.circuit_eval.specs.Run.{is_one}
 use Rattle.aig_blast.specs.AigRun.{first_words, next_words, rows_after, values_in}
@@ -47,6 +47,10 @@ after_step s inputs =
 unfoldable pub after_steps : InputsByCycle → (count last : ℕ) → Simulation → Simulation
 after_steps inputs zero last s = s
 after_steps inputs (suc count) last s = after_steps inputs count (last + 1) (after_step s (inputs (last + 1)))
+
+-- some of that many steps were made, from the first on
+abbrev pub MadeSome : InputsByCycle → (count last : ℕ) → Simulation → Simulation → Type 0
+MadeSome inputs count last old new = (made : ℕ) × (made ≤ count) × (new ≡ after_steps inputs made last old)
 
 -- the row of a moment, and those of the cycles from one to another after it
 abbrev pub row_at : Simulation → Row

@@ -85,14 +85,8 @@ abbrev pub joined_after : (Bool → Bool → Bool) → Bool → List Bool → �
 joined_after f start xs zero = start
 joined_after f start xs (suc k) = f (joined_after f start xs k) (bit_of xs k)
 
-abbrev pub all_ones : List Bool → Bool
-all_ones xs = joined_after (λ x y. x && y) true xs (length xs)
-
 abbrev pub some_one : List Bool → Bool
 some_one xs = joined_after (λ x y. x || y) false xs (length xs)
-
-abbrev pub odd_ones : List Bool → Bool
-odd_ones xs = joined_after xor false xs (length xs)
 
 -- whether two words agree in their first k bits
 abbrev pub equal_after : List Bool → List Bool → ℕ → Bool
@@ -120,9 +114,6 @@ abbrev pub digits : ℕ → ℕ → List Bool
 digits n zero = []
 digits n (suc k) = digits n k ++ nat_eq (n / 2 ^ k % 2) 1 ∷ []
 
--- the shifters with stages for the first m bits of the amount alone: any higher bit shifts everything out
-abbrev pub up_short : ℕ → List Bool → List Bool → List Bool
-up_short m xs ys = choose (some_one (drop m ys)) (zeros (length xs)) (sll xs (take m ys))
-
+-- the shifter with stages for the first m bits of the amount alone: any higher bit shifts everything out
 abbrev pub down_short : Bool → ℕ → List Bool → List Bool → List Bool
 down_short fill m xs ys = choose (some_one (drop m ys)) (replicate (length xs) fill) (down_after fill xs (take m ys) (length (take m ys)))

@@ -1,11 +1,11 @@
 //! Runs of a graph: one row a cycle.
 
-ghost use Rattle.std.specs.Prelude.{◌≡◌, ◌≤◌, ◌-◌, IfOk, OnOk, map};
+ghost use Rattle.std.specs.Prelude.{◌≡◌, ◌≤◌, ◌-◌, IfOk, OnErr, OnOk, map};
 ghost use Rattle.one_rule.specs.Stimulus.{inputs_of};
 ghost use Rattle.circuit_eval.specs.Run.{is_one};
 ghost use Rattle.aig_blast.specs.Aigs.{input_widths};
 ghost use Rattle.aig_blast.specs.AigRun.{run_of};
-ghost use Rattle.aig_blast.specs.AigSims.{after_steps, row_at, rows_from};
+ghost use Rattle.aig_blast.specs.AigSims.{MadeSome, after_steps, row_at, rows_from};
 
 use crate::aig::Aig;
 use crate::sim::AigSim;
@@ -24,7 +24,8 @@ pub fn run_aig(alloc: Global, aig: &Aig, stimulus: &Stimulus, n: u32) -> Result<
 }
 
 /// The row after cycle `from` of a run, and those of the cycles from there to `to`. The simulator is then after the last of
-/// them, so a run can be made in parts. The stimulus is for the circuit's words of inputs.
+/// them, so a run can be made in parts. On an error it has made some of the steps, from the first on. The stimulus is for
+/// the circuit's words of inputs.
 pub fn run_on(
     alloc: Global,
     sim: &mut AigSim,
@@ -36,6 +37,7 @@ pub fn run_on(
     requires widths { stimulus.now.widths ≡ input_widths sim.old.aig.inputs }
     ensures rows { IfOk result (λ rows. rows ≡ rows_from sim.old (inputs_of stimulus.now) from to) }
     ensures sim { OnOk result (sim.new ≡ after_steps (inputs_of stimulus.now) (to - from) from sim.old) }
+    ensures short { OnErr result (MadeSome (inputs_of stimulus.now) (to - from) from sim.old sim.new) }
 {
     let mut rows = Rows::new(alloc);
     rows.push(row_of(alloc, sim)?)?;
