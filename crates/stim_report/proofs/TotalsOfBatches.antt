@@ -14,7 +14,7 @@ use Rattle.stim_report.specs.Report.{hex}
 use Rattle.stim_report.specs.Shapes.{RowFits, RowsFit, widths_of}
 use Rattle.stim_report.specs.Summary.{Totals, fired_count, has_fired, last_values, totals_of}
 use Rattle.stim_report.proofs.Hex.{length_hex_digits}
-use Rattle.stim_report.specs.Tallies.{AddsCounts, AreOf, KeepsTotals, kept}
+use Rattle.stim_report.specs.Tallies.{AddsCounts, AreOf, KeepsTotals, kept, totals_on}
 use Rattle.stim_report.specs.declared.shape.NameWidth.{NameWidth}
 use Rattle.stim_report.specs.declared.shape.Shape.{Shape}
 
@@ -122,6 +122,16 @@ totals_joined shape before batch t counts cycles is fit fits some adds more =
     let P : Totals → Type 0 = λ s. AddsCounts s.counts counts batch → cycles ≡ s.cycles + (length batch - 1)
     → record { registers = s.registers; rules = s.rules; cycles = cycles; counts = counts; last = kept s.last batch } ≡ totals_of shape (joined before batch) in
     subst P (sym is) (totals_more shape before batch counts cycles fit fits some) adds more
+
+-- the totals, from those before
+pub totals_added : (t : Totals) (batch : List Row) (counts : List ℕ) (cycles : ℕ) → AddsCounts t.counts counts batch → cycles ≡ t.cycles + (length batch - 1)
+    → record { registers = t.registers; rules = t.rules; cycles = cycles; counts = counts; last = kept t.last batch } ≡ totals_on t batch
+unfolding totals_on
+totals_added t batch counts cycles adds more =
+    let each : ℕ → ℕ = λ rule. get_or t.counts rule 0 + fired_count batch rule in
+    let all : counts ≡ map each (range_with_len 0 (length t.counts)) = fill_by_all each counts (length t.counts) 0 adds.count (λ k below. adds.added k (omega (arith, below))) in
+    ap (λ (c : ℕ). record { registers = t.registers; rules = t.rules; cycles = c; counts = counts; last = kept t.last batch }) more
+    ∙ ap (λ (cs : List ℕ). record { registers = t.registers; rules = t.rules; cycles = t.cycles + (length batch - 1); counts = cs; last = kept t.last batch }) all
 
 at_end : (values : List BitVector) (rows : List Row) (d : Row) → 0 < length rows → fold (λ (vs : List BitVector) (row : Row). row.regs) values rows ≡ (get_or rows (length rows - 1) d).regs
 at_end values [] d some = absurd (omega (arith, some))

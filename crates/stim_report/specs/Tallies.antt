@@ -1,12 +1,13 @@
 -- How a tally keeps totals: a count for each rule, none above the number of cycles, and a value of its width for each
 -- register, or none yet.
-use Rattle.std.specs.Prelude.{◌≡◌, ℕ, ◌+◌, ◌≤◌, ◌<◌, List, [], ◌∷◌, length, slice_get, slice_index, slice_index_or, Some}
+use Rattle.std.specs.Prelude.{◌≡◌, ℕ, ◌+◌, ◌-◌, ◌≤◌, ◌<◌, List, [], ◌∷◌, length, map, slice_get, slice_index, slice_index_or, Some}
+use Rattle.std.specs.List.{range_with_len}
 use Rattle.kw_bits.specs.BitVector.{BitVector}
 use Rattle.kw_bits.specs.Laws.{HasWidth}
 use Rattle.typed_core.specs.Evaluation.{unit}
 use Rattle.one_rule.specs.declared.rows.Row.{Row}
 use Rattle.stim_report.specs.Shapes.{widths_of}
-use Rattle.stim_report.specs.Summary.{fired_count, last_values}
+use Rattle.stim_report.specs.Summary.{Totals, fired_count, last_values}
 use Rattle.stim_report.specs.declared.shape.NameWidth.{NameWidth}
 
 -- the values are of the first registers
@@ -31,3 +32,13 @@ kept [] rows = last_values rows
 kept (value ∷ values) [] = value ∷ values
 kept (value ∷ values) (row ∷ []) = value ∷ values
 kept (value ∷ values) (row ∷ next ∷ rows) = last_values (row ∷ next ∷ rows)
+
+-- the totals after a batch too, whose first row is the one that the rows so far end with
+unfoldable pub totals_on : Totals → List Row → Totals
+totals_on totals batch = record {
+  registers = totals.registers;
+  rules = totals.rules;
+  cycles = totals.cycles + (length batch - 1);
+  counts = map (λ rule. slice_index totals.counts rule + fired_count batch rule) (range_with_len 0 (length totals.counts));
+  last = kept totals.last batch;
+}

@@ -9,7 +9,7 @@ ghost use Rattle.stim_report.specs.Report.{hex};
 ghost use Rattle.stim_report.specs.Shapes.{RowFits, RowsFit};
 ghost use Rattle.stim_report.specs.Summary as texts;
 ghost use Rattle.stim_report.specs.Summary.{fired_line, fired_lines, has_fired, last_values, totals_of, totals_text, value_line, value_lines};
-ghost use Rattle.stim_report.specs.Tallies.{AddsCounts, AreOf, kept};
+ghost use Rattle.stim_report.specs.Tallies.{AddsCounts, AreOf, kept, totals_on};
 ghost use Rattle.stim_report.specs.declared.shape.Shape.{Shape as ShapeOf};
 
 use crate::registers::push_hex;
@@ -61,7 +61,10 @@ impl Tally {
         requires fit { AllByRecursion (RowFits self.old.registers self.old.rules) rows.now }
         requires some { 0 < length rows.now }
         requires goes_on { from ≡ self.old.cycles }
-        ensures { (shape : ShapeOf) (before : List RowOf) → RowsFit shape before → self.old ≡ totals_of shape before → self.new ≡ totals_of shape (joined before rows.now) }
+        ensures fields { self.new ≡ totals_on self.old rows.now }
+
+        // Where the totals are those of rows, they are those of these rows and the batch.
+        ensures joined { (shape : ShapeOf) (before : List RowOf) → RowsFit shape before → self.old ≡ totals_of shape before → self.new ≡ totals_of shape (joined before rows.now) }
     {
         add_counts(&mut self.counts, rows.as_slice(), u64::from(from));
         keep_last(&mut self.last, rows.as_slice());

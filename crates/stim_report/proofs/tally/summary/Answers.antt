@@ -11,4 +11,4 @@ pub add-requires-clause-goes_on : goal.add-requires-clause-goes_on
 add-requires-clause-goes_on c = begins_at_zero c.args.shape.now c.in_ok-tally.tally c.in_ok-tally.ensures
 
 pub returns : goal.returns
-returns c = IfOk-weaker c.text.result _ _ (λ text is. is ∙ ap totals_text (c.add.ensures c.args.shape.now [] tt c.in_ok-tally.ensures)) c.text.ensures
+returns c = IfOk-weaker c.text.result _ _ (λ text is. is ∙ ap totals_text (c.add.ensures.joined c.args.shape.now [] tt c.in_ok-tally.ensures)) c.text.ensures
