@@ -18,12 +18,17 @@ use Rattle.btor2_model.specs.Acceptance.{agree, init_is_fixed, is_fresh, is_know
 use Rattle.btor2_model.specs.Rules.{rule_of, bounds_fit, widths_agree}
 use Rattle.btor2_model.specs.Run.{base_of}
 use Rattle.btor2_model.specs.Scope.{Scope, argument_depends, measures, measures_from, measures_of, meaning_depends, sort_width_in, width_wanted}
-use Rattle.btor2_model.specs.SlowRun.{GivesValue, HasValue, computes, first_measure, IsFilled, known_value, takes_one, takes_alike, is_constant, width_by}
+use Rattle.btor2_model.specs.SlowRun.{GivesValue, HasValue, computes, IsFilled, known_value, takes_one, takes_alike, is_constant, width_by}
 use Rattle.btor2_model.specs.declared.known_values.KnownValues.{KnownValues}
 use Rattle.btor2_model.specs.declared.rule.Measures.{Measures}
 use Rattle.btor2_model.specs.declared.rule.Rule.{Rule}
 use Rattle.btor2_model.specs.declared.rule.Rule.TheVariants as forms
 use Rattle.btor2_model.proofs.KindsByRule.{IsBaseOf, base-by, kinds-by, kinds_by}
+
+-- the first of a line's measures, which is its width where it has a value; 0 where it has none
+abbrev pub first_measure : Option Measures → ℕ
+first_measure None = 0
+first_measure (Some m) = m.first
 
 -- the four numbers are those of the arguments
 pub each-measure : (a b c d : Option ℕ) (m : Measures) → measures_from a b c d ≡ Some m → (a ≡ Some m.first) × (b ≡ Some m.second) × (c ≡ Some m.third) × (d ≡ Some m.fourth)

@@ -13,14 +13,14 @@ use Rattle.btor2_model.specs.Acceptance.{agree, fault_in, init_is_fixed, is_fres
 use Rattle.btor2_model.specs.Rules.{bounds_fit, is_input, is_state, role_of, rule_of}
 use Rattle.btor2_model.specs.Run.{ids_of, width_in}
 use Rattle.btor2_model.specs.Scope.{Scope, argument_depends, behind, behind_all, meaning_depends, meaning_of, measures_of, no_lines, sort_width, value_width, width_or_none, width_wanted}
-use Rattle.btor2_model.specs.SlowRun.{GivesValue, HasValue, InputsHave, IsFilled, StatesHave, computes, first_measure, known_value}
+use Rattle.btor2_model.specs.SlowRun.{GivesValue, HasValue, InputsHave, IsFilled, StatesHave, computes, known_value}
 use Rattle.btor2_model.specs.declared.known_values.KnownValues.{KnownValues}
 use Rattle.btor2_model.specs.declared.meaning.Meaning.{Meaning}
 use Rattle.btor2_model.specs.declared.rule.Measures.{Measures}
 use Rattle.btor2_model.specs.declared.rule.Rule.{Rule}
 use Rattle.btor2_model.specs.declared.rule.Rule.TheVariants as forms
 use Rattle.btor2_model.proofs.Evaluation.{accepted-next, option_map-none, option_or-none}
-use Rattle.btor2_model.proofs.Filled.{both, later, line-has, some-same, sooner}
+use Rattle.btor2_model.proofs.Filled.{both, first_measure, later, line-has, some-same, sooner}
 
 -- a line's id and its bounds, where it has no fault
 pub fresh-and-bounds : (a b c d e f g : Bool) → option_map (λ (k : ℕ × Bool). k.0) (find (λ (k : ℕ × Bool). not k.1) ((51, a) ∷ (52, b) ∷ (53, c) ∷ (55, d) ∷ (57, e) ∷ (58, f) ∷ (59, g) ∷ [])) ≡ None

@@ -19,7 +19,6 @@ use Rattle.btor2_model.specs.Run.{Step, Values, base_of, ids_of, no_bits, width_
 use Rattle.btor2_model.specs.Scope.{Scope, id_at, meaning_depends, sort_width_in, width_wanted}
 use Rattle.btor2_model.specs.declared.known_values.KnownValues.{KnownValues}
 use Rattle.btor2_model.specs.declared.meaning.Meaning.{Meaning}
-use Rattle.btor2_model.specs.declared.rule.Measures.{Measures}
 use Rattle.btor2_model.specs.declared.rule.Rule.TheVariants as forms
 use Rattle.btor2_model.specs.declared.rule.Rule.{Rule}
 
@@ -98,11 +97,6 @@ computes forms.Next = false
 computes forms.Output = false
 computes forms.Bad = false
 computes other = true
-
--- the first of a line's measures, which is its width where it has a value; 0 where it has none
-abbrev pub first_measure : Option Measures → ℕ
-first_measure None = 0
-first_measure (Some m) = m.first
 
 -- an operator or a constant gives a value, where its operands have values of widths that it takes
 pub record GivesValue (scope : Scope) (known : KnownValues) (keyword : Keyword) (given : List Argument) (result : Option BitVector) : Type 0 where
