@@ -19,7 +19,7 @@ use Rattle.rule_log.proofs.Telling.{NoneSet, read_refused, refused_by_flags, see
 use Rattle.one_rule.specs.PortRun.{read_behind, write_behind}
 use Rattle.net_graph.specs.Values.{value_at}
 use Rattle.net_graph.specs.declared.node.NetOp.{NetOp}
-use Rattle.net_action.specs.Parts.{ComesTo, Means, Puts, is_here}
+use Rattle.net_action.specs.Parts.{ComesTo, Means, Puts}
 use Rattle.net_action.specs.Wires.{AreLogWires, HasWire, LogStandsFor, is_set, is_up, wire_at, written}
 use Rattle.net_action.specs.declared.wires.LogWires.{LogWires}
 use Rattle.net_action.specs.declared.wires.RuleNet.{RuleNet}
@@ -39,6 +39,10 @@ and_false true b e = e
 and_false false b e = refl
 
 -- ---- a wire in the place of another
+
+-- one port of one register
+abbrev pub is_here : ℕ → ℕ → ℕ → ℕ → Bool
+is_here port register at other = (register == other) && (port == at)
 
 pub put_here : (old new : List ℕ) (port register wire : ℕ) → Puts old port register new wire → PORTS * register + port < length old → wire_at new port register ≡ wire
 put_here old new port register wire puts within =

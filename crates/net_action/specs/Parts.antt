@@ -159,10 +159,6 @@ WriteHasWidth d port register a widths width =
 abbrev pub write_of : ℕ → ℕ → Action → Meaning
 write_of port register a env ports locals = evaluate env ports a locals >>= λ value. ports.write port register value
 
--- one port of one register
-abbrev pub is_here : ℕ → ℕ → ℕ → ℕ → Bool
-is_here port register at other = (register == other) && (port == at)
-
 -- a wire of a port of a register was put in the place of another
 abbrev pub Puts : List ℕ → ℕ → ℕ → List ℕ → ℕ → Type 0
 Puts old port register new wire = new ≡ slice_set old (PORTS * register + port) wire
