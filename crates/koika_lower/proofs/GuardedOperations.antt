@@ -1,8 +1,8 @@
 -- Operations on values of the types that they take are never stuck, and come to a value of their type.
-use Rattle.std.proofs.Common.{◌≡◌, ℕ, ◌<◌, ◌≤◌, ◌+◌, ◌^◌, List, [], ◌∷◌, length, map, replicate, Option, Some, None, slice_get, slice_index_or, option_map, if◌then◌else◌, nat_eq, arith, refl, ap, sym, subst, ◌∙◌}
+use Rattle.std.proofs.Common.{◌≡◌, ℕ, ◌<◌, ◌≤◌, ◌+◌, ◌/◌, ◌^◌, List, [], ◌∷◌, length, map, replicate, Option, Some, None, slice_get, slice_index_or, option_map, if◌then◌else◌, nat_eq, nat_lt, arith, refl, ap, sym, subst, ◌∙◌}
 use Rattle.std.specs.Prelude.{reverse}
-use Rattle.std.proofs.lemmas.Bool.{eq-eqb}
-use Rattle.std.proofs.lemmas.List.{length-map}
+use Rattle.std.proofs.lemmas.Bool.{eq-eqb, lt-ltb}
+use Rattle.std.proofs.lemmas.List.{length-map, length-replicate}
 use Rattle.std.proofs.lemmas.Option.{slice_get-get_or, slice_get-map}
 use Rattle.kw_bits.specs.BitVector.{BitVector}
 use Rattle.kw_bits.specs.Host as host
@@ -12,9 +12,10 @@ use Rattle.koika_types.specs.Values.{packed}
 use Rattle.koika_types.specs.declared.value.Value.{Value}
 use Rattle.koika_types.specs.declared.value.Value.TheOpen.{Value-F}
 use Rattle.koika_types.specs.declared.value.Value.TheVariants as value
-use Rattle.typed_core.specs.Evaluation.{Ports, answer_of, comes_to, entry_of, unit}
+use Rattle.typed_core.specs.Evaluation.{Part, Ports, ◌>>=◌, answer_of, comes_to, entry_of, unit}
 use Rattle.typed_core.specs.Fits.{PortsFit, ValueFits}
-use Rattle.typed_core.specs.Valid.{IsHost, IsTable, IsWidth}
+use Rattle.typed_core.specs.Valid.{IsHost, IsPort, IsTable, IsWidth}
+use Rattle.typed_core.specs.declared.limits.TheConstants.{PORTS}
 use Rattle.typed_core.specs.declared.outcome.Stopped.{Stopped}
 use Rattle.koika_check.specs.Composites.{fields_by, fields_of}
 use Rattle.koika_check.specs.Meaning.{Meaning, Setting, all_selected, apply, body_by, chained, comparison_value, extension_value, gives, host_by, joined, prefixed, read_as, replaced, table_by, unpacked}
@@ -31,7 +32,7 @@ use Rattle.koika_check.specs.declared.typed.BaseType.TheVariants as base
 use Rattle.koika_check.specs.declared.typed.Operation.{Operation}
 use Rattle.koika_check.specs.declared.typed.Operation.TheVariants as operation
 use Rattle.koika_check.specs.declared.typed.ValueType.{ValueType}
-use Rattle.koika_lower.specs.Guarded.{Cause, all_at, chained_if, gives_number, guarded_apply, replaced_at, stuck, unpacked_if, unstuck, unstuck_ports, with_some}
+use Rattle.koika_lower.specs.Guarded.{Cause, all_at, chained_if, gives_number, guarded_apply, replaced_at, stuck, unpacked_if, unstuck, unstuck_ports, with_register, with_some}
 use Rattle.koika_lower.specs.Lowering.{register_widths}
 use Rattle.koika_lower.proofs.Agreements.{Agrees, AllHave, Has, HasIf, agrees-bind, agrees-port, agrees-some, agrees-stop, agrees-test, agrees-value, all-are}
 use Rattle.koika_lower.proofs.Constructs.{bits-width, extended-width, prefixed-width}
@@ -134,8 +135,13 @@ module _ (d : Checked) (is : IsTypedDesign d) (n : ℕ) (inputs : List BitVector
       let b = below-width d (packed v) (width_of d t) ts vs (map packed vs) (bits-have d is v t have.0) all few in
       let x : BitVector = joined (packed v) vs in
       let wide : HasWidth x spec.in_width = subst (λ y. HasWidth y spec.in_width) (sym (joined-below d ts vs (map packed vs) (packed v) all)) (b.0, b.1 ∙ whole) in
-      subst (λ (o : Option Host). Agrees regs (HasIf d of) (gives (value.Number (answer_of (host_by o) x))) (with_some (λ (k : Host). gives_number (host.value k.spec.kind x)) o)) (sym h.1)
-      (number-comes of (host.out_width spec.kind spec.in_width) (host.value spec.kind x) h.3 (answer_wide x spec ok wide))
+      let count : length (v ∷ vs) ≡ host.arity spec.kind =
+      pair-count (Has d) (v ∷ vs) (t ∷ ts) have ∙ ap length h.2 ∙ length-replicate (host.arity spec.kind) (bits (spec.in_width / host.arity spec.kind)) in
+      subst (λ (o : Option Host). Agrees regs (HasIf d of) (gives (value.Number (answer_of (host_by o) x)))
+      (with_some (λ (k : Host). if nat_eq (length (v ∷ vs)) (host.arity k.spec.kind) then gives_number (host.value k.spec.kind x) else stuck) o)) (sym h.1)
+      (agrees-test regs (HasIf d of) (nat_eq (length (v ∷ vs)) (host.arity spec.kind)) (gives (value.Number (host.value spec.kind x))) (gives_number (host.value spec.kind x)) stuck
+      (eq-eqb (length (v ∷ vs)) (host.arity spec.kind) count)
+      (number-comes of (host.out_width spec.kind spec.in_width) (host.value spec.kind x) h.3 (answer_wide x spec ok wide)))
 
   no-host : (number : ℕ) (of : Option ValueType) → Applies d n (operation.Host number) [] of → ⊥
   no-host number of h =
@@ -149,26 +155,34 @@ module _ (d : Checked) (is : IsTypedDesign d) (n : ℕ) (inputs : List BitVector
       let ok = all-get (IsRegister d) d.registers register r is.registers at in
       slice_get-map (λ (x : Register). x.width) d.registers register ∙ ap (option_map (λ (x : Register). x.width)) at ∙ ap Some ok.width
 
+  -- a register that is declared, at a port that there is
+  held : (port register : ℕ) (r : Register) (of : Option ValueType) (m : Part (Option Value) Stopped) (next : Register → Part (Option Value) Cause) → IsPort port → slice_get d.registers register ≡ Some r →
+      Agrees regs (HasIf d of) m (next r) → Agrees regs (HasIf d of) m (with_register guarded_one port register next)
+  held port register r of m next there at agrees =
+      agrees-test regs (HasIf d of) (nat_lt port PORTS) m (with_some next (slice_get d.registers register)) stuck (lt-ltb port PORTS there)
+      (agrees-some regs (HasIf d of) m next (slice_get d.registers register) r at agrees)
+
   read-fine : (port register : ℕ) (of : Option ValueType) → Applies d n (operation.Read port register) [] of → Fine (operation.Read port register) of []
   read-fine port register of h =
       let r : Register = h.0 in
       let ok = all-get (IsRegister d) d.registers register r is.registers h.2 in
-      agrees-bind regs (ValueFits (width_of d r.of)) (HasIf d of) (λ x. read_as d (slice_get d.registers register) x)
-      (λ x. with_some (λ (q : Register). with_some gives (unpacked_if d q.of x)) (slice_get d.registers register))
+      held port register r of (apply plain_setting (operation.Read port register) []) (λ (q : Register). (unstuck_ports ports).read port register >>= λ x. with_some gives (unpacked_if d q.of x)) h.1 h.2
+      (agrees-bind regs (ValueFits (width_of d r.of)) (HasIf d of) (λ x. read_as d (slice_get d.registers register) x) (λ x. with_some gives (unpacked_if d r.of x))
       (λ x fits.
-      subst (λ (o : Option Register). Agrees regs (HasIf d of) (read_as d o x) (with_some (λ (q : Register). with_some gives (unpacked_if d q.of x)) o)) (sym h.2)
+      subst (λ (o : Option Register). Agrees regs (HasIf d of) (read_as d o x) (with_some gives (unpacked_if d r.of x))) (sym h.2)
       (unpacks of r.of x h.3 ok.of (fits.bits ok.of.0, fits.as_wide)))
       (ports.read port register) (λ events. unstuck (ports.read port register events))
-      (agrees-port regs (width_of d r.of) (ports.read port register) (λ events known. fit.read port register (width_of d r.of) events h.1 (register-width register r h.2) known))
+      (agrees-port regs (width_of d r.of) (ports.read port register) (λ events known. fit.read port register (width_of d r.of) events h.1 (register-width register r h.2) known)))
 
   write-fine : (port register : ℕ) (t : ValueType) (of : Option ValueType) (v : Value) → Has d v t → Applies d n (operation.Write port register) (t ∷ []) of → Fine (operation.Write port register) of (v ∷ [])
   write-fine port register t of v has h =
       let r : Register = h.0 in
       let wide : HasWidth (packed v) (width_of d r.of) = subst (λ (q : ValueType). HasWidth (packed v) (width_of d q)) h.3 (bits-have d is v t has) in
-      agrees-bind regs (ValueFits 0) (HasIf d of) (λ _. comes_to None) (λ _. comes_to None)
+      held port register r of (apply plain_setting (operation.Write port register) (v ∷ [])) (λ _. (unstuck_ports ports).write port register (packed v) >>= λ _. comes_to None) h.1 h.2
+      (agrees-bind regs (ValueFits 0) (HasIf d of) (λ _. comes_to None) (λ _. comes_to None)
       (λ x fits. subst (λ (o : Option ValueType). Agrees regs (HasIf d o) (comes_to None) (comes_to None)) (sym h.4) (agrees-value regs (HasIf d None) None tt))
       (ports.write port register (packed v)) (λ events. unstuck (ports.write port register (packed v) events))
-      (agrees-port regs 0 (ports.write port register (packed v)) (λ events known. fit.write port register (width_of d r.of) (packed v) events h.1 (register-width register r h.2) wide known))
+      (agrees-port regs 0 (ports.write port register (packed v)) (λ events known. fit.write port register (width_of d r.of) (packed v) events h.1 (register-width register r h.2) wide known)))
 
   -- ---- calls
 
@@ -177,9 +191,14 @@ module _ (d : Checked) (is : IsTypedDesign d) (n : ℕ) (inputs : List BitVector
       let f : Function = h.0 in
       let b = callable number f h.1 h.2 in
       let arguments : AllHave d (reverse vs) (reverse f.parameters) = subst (λ us. AllHave d (reverse vs) (reverse us)) h.3 (reverse-have d vs ts have) in
-      subst (λ (o : Option ValueType). Agrees regs (HasIf d o) (body_by (slice_get bodies number) (reverse vs)) (with_some (λ (body : Meaning Cause). body (reverse vs)) (slice_get guarded number))) (sym h.4)
-      (agrees-some regs (HasIf d f.result) (body_by (slice_get bodies number) (reverse vs)) (λ (body : Meaning Cause). body (reverse vs)) (slice_get guarded number) b.guarded b.guarded_is
-      (subst (λ (o : Option (Meaning Stopped)). Agrees regs (HasIf d f.result) (body_by o (reverse vs)) (b.guarded (reverse vs))) (sym b.is) (b.agrees (reverse vs) arguments)))
+      let count : length vs ≡ length f.parameters = pair-count (Has d) vs ts have ∙ ap length h.3 in
+      let called : Part (Option Value) Stopped = body_by (slice_get bodies number) (reverse vs) in
+      let guarded_call : Part (Option Value) Cause = with_some (λ (body : Meaning Cause). body (reverse vs)) (slice_get guarded number) in
+      subst (λ (o : Option ValueType). Fine (operation.Call number) o vs) (sym h.4)
+      (agrees-some regs (HasIf d f.result) called (λ (q : Function). if nat_eq (length vs) (length q.parameters) then guarded_call else stuck) (slice_get d.functions number) f h.2
+      (agrees-test regs (HasIf d f.result) (nat_eq (length vs) (length f.parameters)) called guarded_call stuck (eq-eqb (length vs) (length f.parameters) count)
+      (agrees-some regs (HasIf d f.result) called (λ (body : Meaning Cause). body (reverse vs)) (slice_get guarded number) b.guarded b.guarded_is
+      (subst (λ (o : Option (Meaning Stopped)). Agrees regs (HasIf d f.result) (body_by o (reverse vs)) (b.guarded (reverse vs))) (sym b.is) (b.agrees (reverse vs) arguments)))))
 
   -- ---- all operations
 

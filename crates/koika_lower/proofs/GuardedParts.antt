@@ -1,6 +1,7 @@
 -- The parts of values of types are there, and so are the operands of chains.
-use Rattle.std.proofs.Common.{◌≡◌, ℕ, zero, suc, ◌+◌, ◌-◌, ◌*◌, ◌/◌, ◌<◌, List, [], ◌∷◌, length, map, Option, Some, None, option_map, slice_get, slice_index_or, arith, refl, ap, sym, subst, ◌∙◌}
+use Rattle.std.proofs.Common.{◌≡◌, ℕ, zero, suc, ◌+◌, ◌-◌, ◌*◌, ◌/◌, ◌<◌, ◌≤◌, List, [], ◌∷◌, length, map, Option, Some, None, option_map, option_and_then, slice_get, slice_index, slice_index_or, ◌&&◌, if◌then◌else◌, arith, refl, ap, ap₂, sym, subst, ◌∙◌}
 use Rattle.std.specs.List.{AllByRecursion}
+use Rattle.std.proofs.lemmas.Bool.{le-leb, lt-ltb}
 use Rattle.std.proofs.lemmas.List.{length-map}
 use Rattle.std.proofs.lemmas.Option.{slice_get-get_or, slice_get_within}
 use Rattle.kw_bits.specs.BitVector.{BitVector}
@@ -8,13 +9,14 @@ use Rattle.kw_bits.specs.Laws.{HasWidth}
 use Rattle.kw_bits.specs.Operators as op
 use Rattle.koika_syntax.specs.declared.operator.BinaryOperator.{BinaryOperator}
 use Rattle.koika_types.specs.Values.{packed}
+use Rattle.koika_types.specs.declared.declarations.EnumDecl.{EnumDecl}
 use Rattle.koika_types.specs.declared.value.Value.{Value, out-Value, roll-out-Value}
 use Rattle.koika_types.specs.declared.value.Value.TheOpen.{Value-F}
 use Rattle.koika_types.specs.declared.value.Value.TheVariants as value
 use Rattle.typed_core.specs.Valid.{IsWidth}
 use Rattle.koika_check.specs.Composites.{fields_by, fields_of}
 use Rattle.koika_check.specs.Meaning.{all_selected, below, binary_value, chained, from_the_top, parts_by, selected, unpacked, unpacked_among}
-use Rattle.koika_check.specs.Types.{all_lengths, array, bits, of_base, width_of}
+use Rattle.koika_check.specs.Types.{all_lengths, array, base_width, bits, of_base, width_of}
 use Rattle.koika_check.specs.Typing.{Chains, IsAmong, IsOf, IsType, IsTypedDesign, Pairwise, PartIsOf, Replaces, Takes, TakesAll}
 use Rattle.koika_check.specs.declared.checked.Checked.{Checked}
 use Rattle.koika_check.specs.declared.checked.Field.{Field}
@@ -28,7 +30,7 @@ use Rattle.koika_lower.specs.Guarded.{all_at, all_some, chained_if, field_at, fi
 use Rattle.koika_lower.specs.Simulation.{StandAll, Stands}
 use Rattle.koika_lower.proofs.Agreements.{AllHave, Has}
 use Rattle.koika_lower.proofs.ChainValues.{operates-width}
-use Rattle.koika_lower.proofs.Constructs.{valid-bits}
+use Rattle.koika_lower.proofs.Constructs.{bits-width, valid-bits}
 use Rattle.koika_lower.proofs.ValueLayers.{base_of, lengths_of, number-stands, open-IsOf}
 use Rattle.koika_lower.proofs.Values.{all-each, among-more, among-valid, constant-stands, takes-fit, takes-stands}
 
@@ -38,6 +40,12 @@ pair-count P [] [] h = refl
 pair-count P [] (y ∷ ys) h = absurd h
 pair-count P (x ∷ xs) [] h = absurd h
 pair-count P (x ∷ xs) (y ∷ ys) h = ap suc (pair-count P xs ys h.1)
+
+-- what has a width is declared
+declared : {X : Type 0} (width : X → ℕ) (xs : List X) (number : ℕ) → 1 ≤ slice_index (map width xs) number → (x : X) × (slice_get xs number ≡ Some x)
+declared width [] number some = absurd (omega arith)
+declared width (x ∷ xs) zero some = (x, refl)
+declared width (x ∷ xs) (suc number) some = declared width xs number some
 
 -- a number has the type of as many bits
 pub number-has : (d : Checked) (width : ℕ) (x : BitVector) → HasWidth x width → Has d (value.Number x) (bits width)
@@ -88,7 +96,10 @@ module _ (d : Checked) (is : IsTypedDesign d) where
       field-there (out-Value v) v takes.0 number takes.1 (open-IsOf d v (out-Value v) (roll-out-Value v) (of_base (base.Struct takes.0)) (subst (IsOf d v) takes.2 has.0)) takes.3
   part-there (selection.Item index width) t part v has takes =
       item-there (out-Value v) v takes.0 index part (open-IsOf d v (out-Value v) (roll-out-Value v) (array takes.0 part) (subst (IsOf d v) takes.1 has.0)) takes.2
-  part-there (selection.Bits high low) t part v has takes = refl
+  part-there (selection.Bits high low) t part v has takes =
+      let h = bits-width d t takes.0 (packed v) takes.1 (bits-have v t has) in
+      ap (λ b. if b then Some (value.Number (op.slice (packed v) high low)) else None)
+      (ap₂ (λ a b. a && b) (le-leb low high takes.2) (lt-ltb high (packed v).width (subst (λ k. high < k) (sym h.1) takes.3)))
 
   pub selected-has : (selections : List Selection) (t part : ValueType) (v : Value) → Has d v t → TakesAll d selections t part → Has d (all_selected v selections) part
   selected-has selections t part v has takes = ((takes-stands d is selections t part v (packed v) has.1 takes (stands v t has)).0, (takes-fit d is selections t part has.1 takes).2)
@@ -110,35 +121,40 @@ module _ (d : Checked) (is : IsTypedDesign d) where
   all-some-map f g [] h = refl
   all-some-map f g (x ∷ xs) h = ap (λ (o : Option Value). all_some (o ∷ map f xs)) (h x) ∙ ap (option_map (λ vs. g x ∷ vs)) (all-some-map f g xs h)
 
-  fields-in : (k : ℕ) (look : ValueType → BitVector → Option Value) (known : ValueType → BitVector → Value) → ((t : ValueType) (x : BitVector) → IsAmong k t.base → look t x ≡ Some (known t x)) →
-      (fields : List Field) (x : BitVector) → AllByRecursion (λ (f : Field). IsAmong k f.of.base) fields → all_some (fields_in d look fields x) ≡ Some (from_the_top d known fields x)
-  fields-in k look known h [] x among = refl
-  fields-in k look known h (f ∷ fields) x among =
-      ap (λ (o : Option Value). all_some (o ∷ fields_in d look fields (op.slice x (x.width - width_of d f.of - 1) 0))) (h f.of (op.slice x (x.width - 1) (x.width - width_of d f.of)) among.0) ∙
-      ap (option_map (λ vs. known f.of (op.slice x (x.width - 1) (x.width - width_of d f.of)) ∷ vs)) (fields-in k look known h fields (op.slice x (x.width - width_of d f.of - 1) 0) among.1)
+  fields-in : (k : ℕ) (look : ValueType → BitVector → Option Value) (known : ValueType → BitVector → Value) → ((t : ValueType) (x : BitVector) → IsType d t → IsAmong k t.base → look t x ≡ Some (known t x)) →
+      (fields : List Field) (x : BitVector) → AllByRecursion (λ (f : Field). IsType d f.of × IsAmong k f.of.base) fields → all_some (fields_in d look fields x) ≡ Some (from_the_top d known fields x)
+  fields-in k look known h [] x each = refl
+  fields-in k look known h (f ∷ fields) x each =
+      ap (λ (o : Option Value). all_some (o ∷ fields_in d look fields (op.slice x (x.width - width_of d f.of - 1) 0))) (h f.of (op.slice x (x.width - 1) (x.width - width_of d f.of)) each.0.0 each.0.1) ∙
+      ap (option_map (λ vs. known f.of (op.slice x (x.width - 1) (x.width - width_of d f.of)) ∷ vs)) (fields-in k look known h fields (op.slice x (x.width - width_of d f.of - 1) 0) each.1)
 
-  second_of : (k : ℕ) (fields : List Field) → AllByRecursion (λ (f : Field). IsType d f.of × IsAmong k f.of.base) fields → AllByRecursion (λ (f : Field). IsAmong k f.of.base) fields
-  second_of k [] h = tt
-  second_of k (f ∷ fields) h = (h.0.1, second_of k fields h.1)
+  -- the base of a valid type has a bit
+  some_bit : (t : ValueType) → IsType d t → 1 ≤ base_width d t.base
+  some_bit t valid = factor (base_width d t.base) (all_lengths t.lengths) valid.0
+    where
+      factor : (m k : ℕ) → 1 ≤ m * k → 1 ≤ m
+      factor zero k h = absurd (omega (arith, h))
+      factor (suc m) k h = omega arith
 
-  fields-among : (number : ℕ) (o : Option Struct) → slice_get d.structs number ≡ o → AllByRecursion (λ (f : Field). IsAmong number f.of.base) (fields_by o)
-  fields-among number None e = tt
-  fields-among number (Some s) e = second_of number s.fields (all-each d is (λ (f : Field). IsType d f.of × IsAmong number f.of.base) s.fields (is.structs number s e).fields)
-
-  in-there : (structs : ℕ) (b : BaseType) (lengths : List ℕ) (x : BitVector) → IsAmong structs b → unpacked_in d structs b lengths x ≡ Some (unpacked_among d structs b lengths x)
-  in-there structs b (n ∷ lengths) x among =
+  in-there : (structs : ℕ) (b : BaseType) (lengths : List ℕ) (x : BitVector) → IsAmong structs b → 1 ≤ base_width d b → unpacked_in d structs b lengths x ≡ Some (unpacked_among d structs b lengths x)
+  in-there structs b (n ∷ lengths) x among some =
       ap (option_map (λ vs. value.Items vs)) (all-some-map (λ i. unpacked_in d structs b lengths (op.slice x ((i + 1) * (x.width / n) - 1) (i * (x.width / n))))
       (λ i. unpacked_among d structs b lengths (op.slice x ((i + 1) * (x.width / n) - 1) (i * (x.width / n)))) (below n)
-      (λ i. in-there structs b lengths (op.slice x ((i + 1) * (x.width / n) - 1) (i * (x.width / n))) among))
-  in-there structs (base.Bits width) [] x among = refl
-  in-there structs (base.Enum number) [] x among = refl
-  in-there zero (base.Struct number) [] x among = absurd (omega arith)
-  in-there (suc structs) (base.Struct number) [] x among =
+      (λ i. in-there structs b lengths (op.slice x ((i + 1) * (x.width / n) - 1) (i * (x.width / n))) among some))
+  in-there structs (base.Bits width) [] x among some = refl
+  in-there structs (base.Enum number) [] x among some =
+      ap (option_map (λ (e : EnumDecl). value.Member number x)) (declared (λ (e : EnumDecl). e.width) d.enums number some).1
+  in-there zero (base.Struct number) [] x among some = absurd (omega arith)
+  in-there (suc structs) (base.Struct number) [] x among some =
+      let it = declared (λ (s : Struct). s.width) d.structs number some in
+      ap (option_and_then (λ (s : Struct). option_map (λ vs. value.Fields number vs) (all_some (fields_in d (λ t part. unpacked_in d structs t.base t.lengths part) s.fields x)))) it.1 ∙
       ap (option_map (λ vs. value.Fields number vs)) (fields-in number (λ t part. unpacked_in d structs t.base t.lengths part) (λ t part. unpacked_among d structs t.base t.lengths part)
-      (λ t y earlier. in-there structs t.base t.lengths y (among-more number structs t.base (omega arith) earlier)) (fields_of d number) x (fields-among number (slice_get d.structs number) refl))
+      (λ t y valid earlier. in-there structs t.base t.lengths y (among-more number structs t.base (omega arith) earlier) (some_bit t valid)) it.0.fields x
+      (all-each d is (λ (f : Field). IsType d f.of × IsAmong number f.of.base) it.0.fields (is.structs number it.0 it.1).fields)) ∙
+      ap (λ (o : Option Struct). Some (value.Fields number (from_the_top d (λ t part. unpacked_among d structs t.base t.lengths part) (fields_by o) x))) (sym it.1)
 
   pub unpacked-there : (t : ValueType) (x : BitVector) → IsType d t → unpacked_if d t x ≡ Some (unpacked d t x)
-  unpacked-there t x valid = in-there (length d.structs) t.base t.lengths x (among-valid d is t.base (all_lengths t.lengths) valid.0)
+  unpacked-there t x valid = in-there (length d.structs) t.base t.lengths x (among-valid d is t.base (all_lengths t.lengths) valid.0) (some_bit t valid)
 
   -- ---- chains
 

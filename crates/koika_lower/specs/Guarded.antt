@@ -1,20 +1,21 @@
 -- What a rule of a typed tree evaluates to where no definition takes a default: the meaning that is stuck where that of
 -- `koika_check` would go on with an operand that isn't there, with too few or too many of them, with a number that names
--- nothing, or with a condition that is neither 0 nor 1. Well typed rules are never stuck (progress, in the sense of Wright and
--- Felleisen, 1994).
-use Rattle.std.specs.Prelude.{ℕ, zero, suc, ◌+◌, ◌-◌, ◌*◌, ◌/◌, List, [], ◌∷◌, ◌++◌, map, Option, Some, None, option_map, if◌then◌else◌, length, nat_eq, reverse, slice_get}
+-- nothing, or with a condition that is neither 0 nor 1. A constant is taken as it is. Well typed rules are never stuck (progress,
+-- in the sense of Wright and Felleisen, 1994).
+use Rattle.std.specs.Prelude.{ℕ, zero, suc, ◌+◌, ◌-◌, ◌*◌, ◌/◌, List, [], ◌∷◌, ◌++◌, map, Option, Some, None, option_map, option_and_then, if◌then◌else◌, ◌&&◌, length, nat_eq, nat_le, nat_lt, reverse, slice_get}
 use Rattle.kw_bits.specs.BitVector.{BitVector}
 use Rattle.kw_bits.specs.Host as host
 use Rattle.kw_bits.specs.Operators as op
 use Rattle.koika_syntax.specs.declared.operator.BinaryOperator.{BinaryOperator}
 use Rattle.koika_types.specs.Values.{packed}
+use Rattle.koika_types.specs.declared.declarations.EnumDecl.{EnumDecl}
 use Rattle.koika_types.specs.declared.value.Value.{Value}
 use Rattle.koika_types.specs.declared.value.Value.TheOpen.{Value-F}
 use Rattle.koika_types.specs.declared.value.Value.TheVariants as value
 use Rattle.koika_types.specs.declared.value.Value.TheViews.{out-Value}
 use Rattle.typed_core.specs.Evaluation.{Ending, Value as Reached, Stop, Progress, Part, Ports, ◌>>=◌, comes_to, stops}
+use Rattle.typed_core.specs.declared.limits.TheConstants.{PORTS}
 use Rattle.typed_core.specs.declared.outcome.Stopped.{Stopped}
-use Rattle.koika_check.specs.Composites.{fields_of}
 use Rattle.koika_check.specs.Meaning.{Meaning, Setting, Stepped, below, binary_value, comparison_value, extension_value, gives, joined, prefixed, replaced, steps_in_turn}
 use Rattle.koika_check.specs.Types.{width_of}
 use Rattle.koika_check.specs.Typing.{IsOf}
@@ -82,23 +83,24 @@ fields_in d look (f ∷ fields) bits =
     look f.of (op.slice bits (bits.width - 1) (bits.width - width_of d f.of)) ∷
     fields_in d look fields (op.slice bits (bits.width - width_of d f.of - 1) 0)
 
--- The value of a type that has these bits, if structs are at most that many deep in one another. An array's item 0 has the
--- least significant bits.
+-- The value of a type that has these bits, if the enums and structs that it names are declared, and structs are at most that
+-- many deep in one another. An array's item 0 has the least significant bits.
 abbrev pub unpacked_in : Checked → ℕ → BaseType → List ℕ → BitVector → Option Value
 unpacked_in d structs b (n ∷ lengths) bits =
     option_map (λ vs. value.Items vs) (all_some (map (λ i. unpacked_in d structs b lengths (op.slice bits ((i + 1) * (bits.width / n) - 1) (i * (bits.width / n)))) (below n)))
 unpacked_in d structs (base.Bits width) [] bits = Some (value.Number bits)
-unpacked_in d structs (base.Enum number) [] bits = Some (value.Member number bits)
+unpacked_in d structs (base.Enum number) [] bits = option_map (λ (e : EnumDecl). value.Member number bits) (slice_get d.enums number)
 unpacked_in d zero (base.Struct number) [] bits = None
 unpacked_in d (suc structs) (base.Struct number) [] bits =
-    option_map (λ vs. value.Fields number vs) (all_some (fields_in d (λ t part. unpacked_in d structs t.base t.lengths part) (fields_of d number) bits))
+    option_and_then (λ (s : Struct). option_map (λ vs. value.Fields number vs) (all_some (fields_in d (λ t part. unpacked_in d structs t.base t.lengths part) s.fields bits)))
+    (slice_get d.structs number)
 
 abbrev pub unpacked_if : Checked → ValueType → BitVector → Option Value
 unpacked_if d t bits = unpacked_in d (length d.structs) t.base t.lengths bits
 
 -- ---- parts of values
 
--- the field of this number of a struct, and the item of this index of an array
+-- the field of this number of a struct, the item of this index of an array, and these bits of a vector
 abbrev pub field_at : Value-F Value → ℕ → Option Value
 field_at (Value-F.Fields struct fields) number = slice_get fields number
 field_at v number = None
@@ -107,10 +109,13 @@ abbrev pub item_at : Value-F Value → ℕ → Option Value
 item_at (Value-F.Items items) index = slice_get items index
 item_at v index = None
 
+abbrev pub bits_at : BitVector → (high low : ℕ) → Option Value
+bits_at bits high low = if nat_le low high && nat_lt high bits.width then Some (value.Number (op.slice bits high low)) else None
+
 abbrev pub part_at : Value → Selection → Option Value
 part_at v (selection.Field number lowest width) = field_at (out-Value v) number
 part_at v (selection.Item index width) = item_at (out-Value v) index
-part_at v (selection.Bits high low) = Some (value.Number (op.slice (packed v) high low))
+part_at v (selection.Bits high low) = bits_at (packed v) high low
 
 abbrev pub all_at : Option Value → List Selection → Option Value
 all_at None selections = None
@@ -133,6 +138,10 @@ chained_if operators left rest = None
 abbrev pub gives_number : BitVector → Part (Option Value) Cause
 gives_number bits = gives (value.Number bits)
 
+-- a register that is declared, at a port that there is
+abbrev pub with_register : Setting Cause → (port register : ℕ) → (Register → Part (Option Value) Cause) → Part (Option Value) Cause
+with_register s port register next = if nat_lt port PORTS then with_some next (slice_get s.design.registers register) else stuck
+
 abbrev pub guarded_apply : Setting Cause → Operation → List Value → Part (Option Value) Cause
 guarded_apply s (operation.Unary operators) (v ∷ []) = gives_number (prefixed operators (packed v))
 guarded_apply s (operation.Chain operators) (first ∷ rest) = with_some gives_number (chained_if operators (packed first) rest)
@@ -148,11 +157,15 @@ guarded_apply s (operation.Compare comparison) (a ∷ b ∷ []) = gives_number (
 guarded_apply s (operation.Table number) (v ∷ []) =
     with_some (λ (t : Table). with_some gives_number (slice_get t.spec.entries (packed v).number)) (slice_get s.design.tables number)
 guarded_apply s (operation.Host number) (v ∷ rest) =
-    with_some (λ (h : Host). gives_number (host.value h.spec.kind (joined (packed v) rest))) (slice_get s.design.hosts number)
-guarded_apply s (operation.Call number) values = with_some (λ (body : Meaning Cause). body (reverse values)) (slice_get s.bodies number)
-guarded_apply s (operation.Read port register) [] = s.ports.read port register >>= λ bits.
-    with_some (λ (r : Register). with_some gives (unpacked_if s.design r.of bits)) (slice_get s.design.registers register)
-guarded_apply s (operation.Write port register) (v ∷ []) = s.ports.write port register (packed v) >>= λ _. comes_to None
+    with_some (λ (h : Host). if nat_eq (length (v ∷ rest)) (host.arity h.spec.kind) then gives_number (host.value h.spec.kind (joined (packed v) rest)) else stuck)
+    (slice_get s.design.hosts number)
+guarded_apply s (operation.Call number) values =
+    with_some (λ (f : Function). if nat_eq (length values) (length f.parameters) then with_some (λ (body : Meaning Cause). body (reverse values)) (slice_get s.bodies number) else stuck)
+    (slice_get s.design.functions number)
+guarded_apply s (operation.Read port register) [] =
+    with_register s port register (λ r. s.ports.read port register >>= λ bits. with_some gives (unpacked_if s.design r.of bits))
+guarded_apply s (operation.Write port register) (v ∷ []) =
+    with_register s port register (λ _. s.ports.write port register (packed v) >>= λ _. comes_to None)
 guarded_apply s operation.Abort [] = stops s.ports.abort
 guarded_apply s o values = stuck
 

@@ -14,7 +14,8 @@ use std::alloc::Global;
 use typed_core::{Design, Parts, Rule, Scope};
 
 /// The design of the core that a well typed design is lowered to: functions are written in, values are packed, and each rule
-/// does alone what it did. Time and memory grow as the design's weight does. The one error is that memory ran out.
+/// does alone what it did. Time and memory grow as the design's weight does. The one error is `NoMemory`: memory ran out, or a
+/// number is past 32 bits.
 pub fn lower(alloc: Global, checked: &Checked) -> Result<Design, NoMemory>
     requires { IsTypedDesign checked.now }
     ensures { IfOk result (IsLowered checked.now) }
