@@ -67,7 +67,7 @@ impl LockBoard {
 
     /// Has each worker take its turns, side by side, and returns their reports in order of their numbers. The history
     /// that the board's seat has then seen is legal, goes on from what it had seen, and has what the workers report.
-    /// After an `Err` no worker has run.
+    /// After an `Err` no worker has run. The board is at the same lock after each return.
     pub fn work_all<R: Threads + Wait + Sync>(
         &mut self,
         rt: &R,
@@ -79,6 +79,7 @@ impl LockBoard {
         ensures none_ran { OnErr result (self.new.place.me ≡ self.old.place.me) }
         ensures opened { self.new.place.me.0.opened ≡ self.old.place.me.0.opened }
         ensures workers { self.new.workers ≡ self.old.workers }
+        ensures table { self.new.place.table_id ≡ self.old.place.table_id }
     {
         self.run(rt, alloc, &gate, turns)
     }
@@ -95,6 +96,7 @@ impl LockBoard {
         ensures none_ran { OnErr result (self.new.place.me ≡ self.old.place.me) }
         ensures opened { self.new.place.me.0.opened ≡ self.old.place.me.0.opened }
         ensures workers { self.new.workers ≡ self.old.workers }
+        ensures table { self.new.place.table_id ≡ self.old.place.table_id }
     {
         let count = self.workers as usize;
         let Ok(mut reports) = Vec::with_capacity(alloc, count) else {
@@ -209,6 +211,7 @@ impl Board for LockBoard {
         LockBoard::open(alloc, core, workers)
     }
 
+    // It has the clauses of the trait alone. `LockBoard::work_all` says more.
     fn work_all<R: Threads + Wait + Sync>(
         &mut self,
         rt: &R,

@@ -219,7 +219,8 @@ pub struct Noted {
 impl LockBoard {
     /// Has the workers take their turns at a board that has seen nothing, and returns the history that is then seen.
     /// After an `Err`, either no worker has run, or all that the workers did stays done: the board's seat has then seen
-    /// a legal history with each worker's entries, and only their list is lost.
+    /// a legal history with each worker's entries, and only their list is lost. The board is at the same lock after each
+    /// return.
     pub fn journal_all<R: Threads + Wait + Sync, G: Gate + Sync>(
         &mut self,
         rt: &R,
@@ -236,6 +237,7 @@ impl LockBoard {
         ensures kept { OnErr result ((self.new.place.me ≡ self.old.place.me) ⊎ HaveWorked turns self.old.workers self.old.place.me.0 self.new.place.me.0) }
         ensures opened { self.new.place.me.0.opened ≡ self.old.place.me.0.opened }
         ensures same { self.new.workers ≡ self.old.workers }
+        ensures table { self.new.place.table_id ≡ self.old.place.table_id }
     {
         let count = self.workers as usize;
         let Ok(mut reports) = Vec::with_capacity(alloc, count) else {
