@@ -28,10 +28,10 @@ fn main(rt: HostRuntime) -> ExitCode {
             let mut source = StdSource::new(rt.stdin());
             let mut sink = StdSink::new(rt.stdout());
             let status = run_with_hosts(&rt, rt.alloc(), &arguments, &mut source, &mut sink);
-            ExitCode::from(status as u8)
+            ExitCode::from(status.number())
         }
         Err(error) if error.kind() == ErrorKind::OutOfMemory => {
-            ExitCode::from(Status::NoMemory as u8)
+            ExitCode::from(Status::NoMemory.number())
         }
         Err(_) => ExitCode::from(NO_ARGUMENTS),
     }

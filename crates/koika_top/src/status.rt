@@ -1,18 +1,37 @@
 //! Program: exit statuses.
 
-/// How a run of the program ends; as a number it is the program's exit status.
+ghost use Rattle.std.specs.Prelude.{◌≡◌};
+ghost use Rattle.koika_top.specs.Numbers.{exit_status};
+
+/// How a run of the program ends; its number is the program's exit status.
 #[derive(Clone, Copy, Debug, PartialEq, Eq)]
 pub enum Status {
     /// The answer was written.
-    Done = 0,
+    Done,
     /// The arguments were invalid; the usage line was written.
-    Usage = 1,
+    Usage,
     /// The source was refused; the line of its fault was written.
-    Refused = 2,
+    Refused,
     /// Reading failed; nothing was written.
-    ReadFault = 3,
+    ReadFault,
     /// Writing failed.
-    WriteFault = 4,
+    WriteFault,
     /// Memory ran out.
-    NoMemory = 5,
+    NoMemory,
+}
+
+impl Status {
+    /// The exit status, from 0 for `Done` to 5 for `NoMemory`, in the order above.
+    pub fn number(self) -> u8
+        ensures { result ≡ exit_status self }
+    {
+        match self {
+            Status::Done => 0,
+            Status::Usage => 1,
+            Status::Refused => 2,
+            Status::ReadFault => 3,
+            Status::WriteFault => 4,
+            Status::NoMemory => 5,
+        }
+    }
 }

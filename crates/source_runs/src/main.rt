@@ -187,7 +187,7 @@ fn run_commands(
     let written = last.written.as_slice();
     rt.stdout().write_all(written)?;
     if last.status != status_told(written) {
-        println!(rt; "status {}", last.status as u8)?;
+        println!(rt; "status {}", last.status.number())?;
     }
     Ok(())
 }
@@ -295,7 +295,7 @@ fn run_failing(
 
 // Tells the status of a run, and how many bytes of a whole answer it wrote.
 fn tell(rt: &HostRuntime, ended: &Ended, whole: &[u8]) -> io::Result<()> {
-    let status = ended.status as u8;
+    let status = ended.status.number();
     let written = ended.written.as_slice();
     if whole.starts_with(written) {
         println!(rt;
