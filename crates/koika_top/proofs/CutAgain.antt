@@ -1,5 +1,5 @@
--- The bytes in front of the mark have no mark of their own, and are fewer than all where there is one; neither they nor what
--- comes after it are longer than the source.
+-- The bytes in front of the mark have no mark of their own, and are fewer than all where there is one; what comes after it
+-- isn't longer than the source.
 use Rattle.std.proofs.Common.{◌≡◌, ◌+◌, ◌-◌, ◌<◌, ◌≤◌, ℕ, zero, suc, Bool, true, false, cond, List, [], ◌∷◌, ◌++◌, length, length-append, take, drop, Option, Some, None, refl, sym, ap, subst, ◌∙◌, arith}
 use Rattle.std.specs.Prelude.{if◌then◌else◌, is_some, nat_lt, not, position}
 use Rattle.std.specs.List.{AllByRecursion, flat_map, join_with_byte, onto_first, position_or_len, slice_split}
@@ -88,20 +88,6 @@ pub line-unmarked : (source rest : List ℕ) (number : ℕ) → length rest ≤ 
 line-unmarked source rest number all =
     ap (λ (b : Bool). if b then capped (number + (parts_of rest).first_line - 1) else number_after 1 (length (lines_of source)))
     (sym (mark-by_length rest) ∙ le-ltb (length (parts_of rest).design) (length rest) all)
-
-pub design_length : (source : List ℕ) → length (parts_of source).design ≤ length source
-unfolding parts_of
-design_length source = of (nat_lt n (length lines)) refl
-  where
-    lines : List (List ℕ)
-    lines = slice_split ends_line source
-
-    n : ℕ
-    n = position_or_len is_mark lines
-
-    of : (b : Bool) → nat_lt n (length lines) ≡ b → length (cut_at lines (cond b (Some n) None) source).design ≤ length source
-    of true is = omega (arith, front_length lines (ltb-true n (length lines) is), ap length (join_with_byte-slice_split 10 source))
-    of false is = omega arith
 
 -- lines are counted from 1
 pub some_line : (source : List ℕ) → 1 ≤ (parts_of source).first_line

@@ -1,10 +1,9 @@
 -- `recheck` answers to the journal of a source, after the source's design and stimulus, what `sim` answers to the source.
-use Rattle.std.proofs.Common.{◌≡◌, ◌≤◌, ℕ, inl, inr, List, [], ◌∷◌, length, map, Ok, refl, sym, ap, ap₂, subst, ◌∙◌, arith}
+use Rattle.std.proofs.Common.{◌≡◌, ◌≤◌, ℕ, inl, inr, List, [], ◌∷◌, ◌++◌, length, map, replicate, refl, sym, ap, ap₂, subst, ◌∙◌}
 use Rattle.std.specs.Prelude.{All}
 use Rattle.std.specs.List.{AllByRecursion}
 use Rattle.std.proofs.lemmas.List.{length-map}
 use Rattle.std.proofs.lemmas.List.Elements.{recursion_from_All}
-use Rattle.kw_bits.specs.BitVector.{BitVector}
 use Rattle.kw_bits.specs.Host.{TakesWidth}
 use Rattle.kw_bits.specs.Laws.{HasWidth}
 use Rattle.kw_bits.specs.declared.host.HostSpec.{HostSpec}
@@ -17,13 +16,7 @@ use Rattle.typed_core.specs.declared.design.Rule.{Rule as CoreRule}
 use Rattle.typed_core.proofs.WidthLists.{HaveWidths-cons, HaveWidths-empty}
 use Rattle.one_rule.specs.Run.{first_values}
 use Rattle.one_rule.specs.Stimulus.{InputVectors}
-use Rattle.koika_syntax.specs.Grammar.{Derives}
-use Rattle.koika_syntax.specs.Tokens.{AreTokensOf}
 use Rattle.stim_report.specs.Cuts as cuts
-use Rattle.stim_report.specs.Cuts.{lines_of}
-use Rattle.stim_report.specs.Shapes.{widths_of}
-use Rattle.stim_report.specs.Stimuli.{after, cycles_from, stimulus_of}
-use Rattle.stim_report.specs.declared.shape.Shape.{Shape}
 use Rattle.attempt_log.specs.Entries.{worker_of}
 use Rattle.attempt_log.specs.declared.entry.Entry.{Entry}
 use Rattle.attempt_log.specs.declared.entry.Entry.TheVariants as entry
@@ -44,46 +37,45 @@ use Rattle.koika_check.proofs.TypedTrees.{typed-design}
 use Rattle.koika_lower.specs.Lowering.{IsLowered, register_of}
 use Rattle.koika_lower.proofs.Values.{constant-stands}
 use Rattle.koika_top.specs.Journal.{IsMadeBy}
-use Rattle.koika_top.specs.Recheck.{AnswersRecheck, HasPartsOf, IsJournaledOf, SpellsBoth, SpellsJournal, parts_of}
+use Rattle.koika_top.specs.Recheck.{AnswersRecheck, HasPartsOf, IsJournaledOf, SpellsJournal, SpellsSame, parts_of}
 use Rattle.koika_top.specs.Sim.{AnswersSim, text_of_run}
-use Rattle.koika_top.specs.Sources.{Spells, SpellsDesign, design_part, shape_of}
+use Rattle.koika_top.specs.Sources.{Spells, SpellsDesign, design_part, longest_source, shape_of}
 use Rattle.koika_top.specs.declared.answer.Answer.{Answer}
 use Rattle.koika_top.specs.declared.answer.Answer.TheVariants.{Usage, Refused, Written}
 use Rattle.koika_top.specs.declared.shown.Shown.TheVariants.{Report}
 use Rattle.koika_top.proofs.CircuitTexts.{few-cycles}
-use Rattle.koika_top.proofs.CutAgain.{design_length, design_part-again}
+use Rattle.koika_top.proofs.CutAgain.{design_part-again}
 use Rattle.koika_top.proofs.DeclaredNames.{HasDeclaredNames, declared-names, lowered-own, lowered-shown}
+use Rattle.koika_top.proofs.EmptyLines.{longer, longer-equal, longer-same, longer-text}
+use Rattle.koika_top.proofs.LineFeeds.{HasTokens, has_feeds}
 use Rattle.koika_top.proofs.OneAnswer.{journaled_or_refused, same_design, same_stimulus}
-use Rattle.koika_top.proofs.StimuliFit.{stimulus-free}
+use Rattle.koika_top.proofs.SameStimuli.{good-same, journal-same, text-same}
 
--- the design part of a source spells what the source does
-pub part-spells : (hosts : List HostSpec) (source : List ℕ) (d : Checked) → SpellsDesign hosts source d → SpellsDesign hosts (design_part source) d
-part-spells hosts source d h =
-    let same = sym (design_part-again source) in
+-- what a source spells, a design part spells that has line feeds more and isn't too long
+part-spells : (hosts : List HostSpec) (source other : List ℕ) (feeds : ℕ) (d : Checked) → (cuts.parts_of other).design ≡ design_part source ++ replicate feeds 10 → length (cuts.parts_of other).design ≤ longest_source
+    → SpellsDesign hosts source d → SpellsDesign hosts (cuts.parts_of other).design d
+part-spells hosts source other feeds d is short h =
+    let has = has_feeds feeds (design_part source) h.tree h.spelled.tokens (record { are = h.spelled.are; derived = h.spelled.derived }) in
+    let same : design_part source ++ replicate feeds 10 ≡ design_part (design_part other) = sym (design_part-again other ∙ is) in
+    let again : HasTokens (design_part (design_part other)) h.tree h.spelled.tokens = subst (λ (text : List ℕ). HasTokens text h.tree h.spelled.tokens) same has in
     record {
       tree = h.tree;
-      spelled = record {
-        short = omega (arith, design_length source, h.spelled.short);
-        tokens = h.spelled.tokens;
-        are = subst (AreTokensOf h.spelled.tokens) same h.spelled.are;
-        derived = subst (λ (text : List ℕ). Derives text h.tree h.spelled.tokens) same h.spelled.derived;
-        few = h.spelled.few;
-      };
+      spelled = record { short = short; tokens = h.spelled.tokens; are = again.are; derived = again.derived; few = h.spelled.few };
       typed = h.typed;
     }
 
--- a stimulus is read by its lines
-same_lines : (shape : Shape) (first_line : ℕ) (a b : List ℕ) → lines_of a ≡ lines_of b → stimulus_of shape first_line a ≡ stimulus_of shape first_line b
-unfolding stimulus_of
-same_lines shape first_line a b same =
-    ap (λ (lines : List (List ℕ)). after (cycles_from shape.inputs first_line lines) (λ (cycles : List (List BitVector)). Ok (record { widths = widths_of shape.inputs; cycles = cycles }))) same
-
-pub parts-spell : (hosts : List HostSpec) (source other : List ℕ) (d : Checked) (s : InputVectors) → HasPartsOf source other → Spells hosts source d s → SpellsBoth hosts other d s
+-- a source with the parts of another spells its design, and a stimulus that is the same in every cycle
+pub parts-spell : (hosts : List HostSpec) (source other : List ℕ) (d : Checked) (s : InputVectors) (is : HasPartsOf source other) → Spells hosts source d s → SpellsSame hosts other d s is.empty_lines
 parts-spell hosts source other d s is h = record {
-  first = record { short = is.short; spelled = subst (λ (text : List ℕ). SpellsDesign hosts text d) (sym is.design) (part-spells hosts source d h.spelled) };
-  given =
-      same_lines (shape_of d) (parts_of other).stimulus_line (parts_of other).stimulus (cuts.parts_of source).stimulus is.stimulus
-      ∙ stimulus-free (shape_of d) (cuts.parts_of source).first_line (parts_of other).stimulus_line (cuts.parts_of source).stimulus s h.given;
+  again = longer is.empty_lines s;
+  same = longer-same is.empty_lines s;
+  equal = longer-equal is.empty_lines s;
+  spelled = record {
+    first = record { short = is.short; spelled = part-spells hosts source other is.line_feeds d is.design is.design_short h.spelled };
+    given =
+        longer-text (shape_of d) (cuts.parts_of source).first_line (parts_of other).stimulus_line is.empty_lines (cuts.parts_of source).stimulus (parts_of other).stimulus s is.stimulus
+        h.given;
+  };
 }
 
 -- ---- lowered designs
@@ -127,6 +119,9 @@ module _ (hosts : List HostSpec) (offered : All (λ (host : HostSpec). TakesWidt
   abbrev stimulus : InputVectors
   stimulus = is.shows.stimulus
 
+  abbrev again : InputVectors
+  again = is.again
+
   abbrev core : Parts
   core = is.shows.core
 
@@ -151,10 +146,12 @@ module _ (hosts : List HostSpec) (offered : All (λ (host : HostSpec). TakesWidt
       is.shows.journal (first-wide d typed core is.shows.lowered) some few
       is.shows.is.workers_are is.shows.is.good (made-in core stimulus workers is.shows.journal.batches is.shows.is.made)
 
-  read : IsJournal core stimulus line (parts_of other).journal journal
-  read = read-back core stimulus line is.shows.journal (parts_of other).journal (lowered-shown d core is.shows.lowered names) fit (is.journal ∙ is.shows.told)
+  read : IsJournal core again line (parts_of other).journal journal
+  read =
+      journal-same stimulus again is.same core line (parts_of other).journal journal
+      (read-back core stimulus line is.shows.journal (parts_of other).journal (lowered-shown d core is.shows.lowered names) fit (is.journal ∙ is.shows.told))
 
-  spelled : SpellsJournal hosts cycles other d stimulus core journal
+  spelled : SpellsJournal hosts cycles other d again core journal
   spelled = record {
     spelled = record {
       spelled = is.spelled;
@@ -171,13 +168,14 @@ module _ (hosts : List HostSpec) (offered : All (λ (host : HostSpec). TakesWidt
   answers-again (Refused fault) (inr none) = absurd (journaled_or_refused hosts source cycles workers fault d stimulus is.shows.spelled (inr (inl none)))
   answers-again (Written text) run = record {
     design = d;
-    stimulus = stimulus;
+    stimulus = again;
     core = core;
     journal = journal;
     spelled = spelled;
-    good = renumbered-good core stimulus cycles line is.shows.journal is.shows.is.good;
+    good = good-same stimulus again is.same core cycles journal (renumbered-good core stimulus cycles line is.shows.journal is.shows.is.good);
     told =
         run.told
         ∙ ap₂ (λ (e : Checked) (s : InputVectors). text_of_run e s cycles Report) (same_design hosts source run.design d run.spelled.spelled spells)
-        (same_stimulus hosts source run.design d run.stimulus stimulus run.spelled is.shows.spelled.spelled);
+        (same_stimulus hosts source run.design d run.stimulus stimulus run.spelled is.shows.spelled.spelled)
+        ∙ text-same stimulus again is.same d cycles Report;
   }

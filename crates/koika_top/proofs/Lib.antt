@@ -56,5 +56,8 @@ pub mod CutAgain
 pub mod SomeHistories
 pub mod JournalBatches
 pub mod DeclaredNames
+pub mod SameStimuli
+pub mod EmptyLines
+pub mod LineFeeds
 pub mod JournaledAgain
 pub mod Rechecking

@@ -22,7 +22,7 @@ use Rattle.typed_core.specs.Valid.{IsWidth}
 use Rattle.typed_core.specs.Widths.{HaveWidths}
 
 -- what follows a value has one
-after-ok : {X Y E : Type 0} (r : Result X E) (f : X → Result Y E) (y : Y) → after r f ≡ Ok y → (x : X) × (r ≡ Ok x) × (f x ≡ Ok y)
+pub after-ok : {X Y E : Type 0} (r : Result X E) (f : X → Result Y E) (y : Y) → after r f ≡ Ok y → (x : X) × (r ≡ Ok x) × (f x ≡ Ok y)
 after-ok (Ok x) f y e = (x, refl, e)
 after-ok (Err z) f y e = absurd cc
 
@@ -45,7 +45,7 @@ module _ (inputs : List NameWidth) where
       ap (λ (r : Result Assignment ℕ). after (at_place (place m word.0) r) (λ (a : Assignment). line_from inputs m (line ++ a ∷ []) words)) is
       ∙ line-free l m (line ++ found.0 ∷ []) words out found.2
 
-  cycles-free : (l m : ℕ) (lines : List (List ℕ)) (cycles : List (List BitVector)) → cycles_from inputs l lines ≡ Ok cycles → cycles_from inputs m lines ≡ Ok cycles
+  pub cycles-free : (l m : ℕ) (lines : List (List ℕ)) (cycles : List (List BitVector)) → cycles_from inputs l lines ≡ Ok cycles → cycles_from inputs m lines ≡ Ok cycles
   unfolding line_of
   cycles-free l m [] cycles e = e
   cycles-free l m (line ∷ lines) cycles e =

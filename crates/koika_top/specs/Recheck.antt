@@ -1,13 +1,13 @@
 -- What `recheck` answers to a source: a design, a stimulus and a journal, each after a line `%%` but the first. A good
 -- journal certifies the run that is reported (McConnell et al., Certifying algorithms, Computer Science Review 2011).
 -- How the journal came about isn't said.
-use Rattle.std.specs.Prelude.{◌≡◌, ℕ, ◌+◌, ◌-◌, ◌<◌, ◌≤◌, ◌⊎◌, Bool, true, false, List, length, position, Result, Ok, Err, if◌then◌else◌, is_some}
+use Rattle.std.specs.Prelude.{◌≡◌, ℕ, ◌+◌, ◌-◌, ◌<◌, ◌≤◌, ◌⊎◌, Bool, true, false, List, [], ◌++◌, length, replicate, position, Result, Ok, Err, if◌then◌else◌, is_some}
 use Rattle.std.specs.List.{slice_split}
 use Rattle.kw_base.specs.Place.{capped}
 use Rattle.kw_base.specs.declared.fault.Fault.{Fault}
 use Rattle.kw_bits.specs.declared.host.HostSpec.{HostSpec}
 use Rattle.typed_core.specs.declared.design.Parts.{Parts as Core}
-use Rattle.one_rule.specs.Stimulus.{InputVectors}
+use Rattle.one_rule.specs.Stimulus.{AreSame, InputVectors}
 use Rattle.journal_check.specs.Checking.{IsFirstFault, IsGood}
 use Rattle.journal_check.specs.Reading.{IsFirstMalformed, IsJournal, number_after}
 use Rattle.journal_check.specs.declared.journal.Journal.{Journal}
@@ -143,16 +143,30 @@ AnswersRecheck hosts cycles source Usage = ⊥
 AnswersRecheck hosts cycles source (Refused fault) = IsUncertified hosts cycles source fault
 AnswersRecheck hosts cycles source (Written text) = ShowsChecked hosts cycles source text
 
--- a source of `recheck` has the design's bytes and the stimulus's lines of another source before its second mark, and
--- isn't too long
+-- A source of `recheck` has the design's bytes and the stimulus's lines of another source before its second mark, but
+-- for line feeds after the design and empty lines after the stimulus, and isn't too long. A mark begins a line, so a
+-- design that ends without a line feed has one more in front of a mark.
 pub record HasPartsOf (source other : List ℕ) : Type 0 where
-  pub design : (parts_of other).design ≡ (cuts.parts_of source).design
-  pub stimulus : cuts.lines_of (parts_of other).stimulus ≡ cuts.lines_of (cuts.parts_of source).stimulus
+  pub line_feeds : ℕ
+  pub design : (parts_of other).design ≡ (cuts.parts_of source).design ++ replicate line_feeds 10
+  pub empty_lines : ℕ
+  pub stimulus : cuts.lines_of (parts_of other).stimulus ≡ cuts.lines_of (cuts.parts_of source).stimulus ++ replicate empty_lines []
   pub short : length other ≤ longest_circuit
+  pub design_short : length (parts_of other).design ≤ longest_source
 
--- before its second mark it spells the design and the stimulus of another source, and after it has that source's journal
+-- it spells this design, and a stimulus with the same inputs in every cycle; without more lines it is the same stimulus
+pub record SpellsSame (hosts : List HostSpec) (other : List ℕ) (design : Checked) (stimulus : InputVectors) (empty_lines : ℕ) : Type 0 where
+  pub again : InputVectors
+  pub same : AreSame stimulus again
+  pub equal : empty_lines ≡ 0 → again ≡ stimulus
+  pub spelled : SpellsBoth hosts other design again
+
+-- before its second mark it spells the design of another source and a stimulus with the same inputs in every cycle, and
+-- after it has that source's journal
 pub record IsJournaledOf (hosts : List HostSpec) (cycles workers : ℕ) (source other : List ℕ) : Type 0 where
   pub text : List ℕ
   pub shows : ShowsJournal hosts cycles workers source text
-  pub spelled : SpellsBoth hosts other shows.design shows.stimulus
+  pub again : InputVectors
+  pub same : AreSame shows.stimulus again
+  pub spelled : SpellsBoth hosts other shows.design again
   pub journal : (parts_of other).journal ≡ text

@@ -24,7 +24,7 @@ ghost use Rattle.koika_top.specs.Compile.{AnswersCompile, IsCompiledOf};
 ghost use Rattle.koika_top.specs.Generator.{pipeline};
 ghost use Rattle.koika_top.specs.Journal.{AnswersJournal, HasJournal};
 ghost use Rattle.koika_top.specs.Numbers.{AreFaultNumbers, AreLimits};
-ghost use Rattle.koika_top.specs.Recheck.{AnswersRecheck, HasPartsOf, IsJournaledOf, IsRefusedBefore, MayHaveJournal, SpellsBoth};
+ghost use Rattle.koika_top.specs.Recheck.{AnswersRecheck, HasPartsOf, IsJournaledOf, IsRefusedBefore, MayHaveJournal, SpellsSame};
 ghost use Rattle.koika_top.specs.RoundTrip.{PrintedIsReadAgain};
 ghost use Rattle.koika_top.specs.Sim.{AnswersSim};
 ghost use Rattle.koika_top.specs.Sources.{Spells};
@@ -120,8 +120,9 @@ pub fn some_recheck()
         ⊎ ((design : Checked) × (stimulus : InputVectors) × MayHaveJournal hosts cycles source design stimulus) }
 {}
 
-/// `recheck` answers to what `sim --journal` writes of a source, after whatever spells that source's design and stimulus,
-/// what `sim` answers to the source. Host functions that are offered take operands of their width, as each `HostFn` does.
+/// `recheck` answers to what `sim --journal` writes of a source, after whatever spells that source's design and a stimulus
+/// with the same inputs in every cycle, what `sim` answers to the source. Host functions that are offered take operands of
+/// their width, as each `HostFn` does.
 pub fn journaled_runs_the_same()
     ensures { (hosts : List HostSpec) (cycles workers : ℕ) (source other : List ℕ) (answer : Answer) →
         All (λ (host : HostSpec). TakesWidth host.kind host.in_width) hosts → 1 ≤ workers → workers ≤ 8 →
@@ -142,10 +143,12 @@ pub fn a_printed_tree_is_read_again()
     ensures { PrintedIsReadAgain }
 {}
 
-/// A source of `recheck` with the design and the stimulus of another source spells what that one does.
+/// A source of `recheck` with the design and the stimulus of another source, but for line feeds after the design and empty
+/// lines after the stimulus, spells the same design, and a stimulus with the same inputs in every cycle.
 pub fn joined_spells_the_same()
-    ensures { (hosts : List HostSpec) (source other : List ℕ) (design : Checked) (stimulus : InputVectors) →
-        HasPartsOf source other → Spells hosts source design stimulus → SpellsBoth hosts other design stimulus }
+    ensures { (hosts : List HostSpec) (source other : List ℕ) (design : Checked) (stimulus : InputVectors)
+        (parts : HasPartsOf source other) → Spells hosts source design stimulus →
+        SpellsSame hosts other design stimulus parts.empty_lines }
 {}
 
 /// Faults and limits have these numbers.
