@@ -19,8 +19,8 @@ program=${1:-crates/koika_cli/out/koika_cli}
 cycles=20
 failed=0
 
-# A test bench for the Verilog of a file whose latches are outputs: a line for each cycle, with the flags of the rules as
-# bits and the registers as in a report. The arguments are the file and the stimulus.
+# A test bench for the Verilog of a file whose latches are outputs: a line for each cycle, with the flags of the rules
+# as bits and the registers as in a report. The arguments are the file and the stimulus.
 test_bench() {
     awk -v cycles="$cycles" '
         function symbol(name) { return "\\" name " " }

@@ -1,5 +1,5 @@
 #!/usr/bin/env bash
-# Measures what it costs to read, to accept and to print a circuit text of ten megabytes in lines of 20 to 40 bytes, by
+# Measures what it costs to read, to accept and to print a BTOR2 file of ten megabytes in lines of 20 to 40 bytes, by
 # tests that make the text. It proves and builds the tests if need be, and is run by hand.
 set -eu
 cd "$(dirname "$0")/.."

@@ -1,6 +1,6 @@
 #!/usr/bin/env bash
-# Lists every definition of `specs/` with its comment and the sources that import it by name, crate by crate, in the order of
-# crates.txt: a page of Markdown on standard output. It takes names of crates; none means all.
+# Lists every definition of `specs/` with its comment and the sources that import it by name, crate by crate, in the
+# order of crates.txt: a page of Markdown on standard output. It takes names of crates; none means all.
 set -eu
 cd "$(dirname "$0")/.."
 export LC_ALL=C.UTF-8

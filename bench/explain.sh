@@ -1,7 +1,8 @@
 #!/usr/bin/env bash
-# Tries what bin/explain says: for each row of docs/FAULTS.md, docs/AIGER.md and docs/JOURNAL.md and each example of docs/BTOR2.md, through
-# a file and a pipe, standard output and the status are those of the program, and standard error has the fault, its meaning, its line
-# with a caret, and advice. The rows of "Habits" have a hint. It takes another program than the built one as its argument, and is run by hand.
+# Tries what bin/explain says: for each row of docs/FAULTS.md, docs/AIGER.md and docs/JOURNAL.md and each example of
+# docs/BTOR2.md, through a file and a pipe, standard output and the status are those of the program, and standard error
+# has the fault, its meaning, its line with a caret, and advice. The rows of "Habits" have a hint. It takes another
+# program than the built one as its argument, and is run by hand.
 set -eu
 cd "$(dirname "$0")/.."
 program=${1:-crates/koika_cli/out/koika_cli}
@@ -48,7 +49,8 @@ check_said() {
     }
 }
 
-# The source that a cell of FAULTS.md or AIGER.md stands for: `/` ends a line, and `"20 r#; "` is 20 copies, with the copy's number for `#`.
+# The source that a cell of FAULTS.md or AIGER.md stands for: `/` ends a line, and `"20 r#; "` is 20 copies, with the
+# copy's number for `#`.
 spelled() {
     awk -v text="$1" '
         function plain(part) { gsub("/", "\n", part); printf "%s", part }

@@ -1,9 +1,9 @@
 #!/usr/bin/env bash
-# Measures Verilator and Icarus Verilog beside the program's engines. Each design is compiled to BTOR2, and that is written
-# as Verilog line by line; both build a simulator of it. Their reports of a run are compared with the program's: the rules
-# and the registers of each cycle. Then it measures what a cycle costs by each, with a report and without, and how long each
-# takes to build. It takes another program than the built one as its argument, and is run by hand. It needs verilator,
-# iverilog and g++ of Debian.
+# Measures Verilator and Icarus Verilog beside the program's engines. Each design is compiled to BTOR2, and that is
+# written as Verilog line by line; both build a simulator of it. Their reports of a run are compared with the program's:
+# the rules and the registers of each cycle. Then it measures what a cycle costs by each, with a report and without, and
+# how long each takes to build. It takes another program than the built one as its argument, and is run by hand. It
+# needs verilator, iverilog and g++ of Debian.
 set -eu
 cd "$(dirname "$0")/.."
 . bench/cost.sh
@@ -26,9 +26,9 @@ COMMANDS
 program=${1:-crates/koika_cli/out/koika_cli}
 [ $# = 1 ] || ./koika check <examples/counter.koika >/dev/null # builds the program if need be
 
-# The Verilog of a BTOR2 file that `compile` wrote of a design without inputs: a wire for each value, a register for each
-# state. At an edge of `clk` each state takes its next value; where `show` is 1, the row of that cycle is written: the rules'
-# flags as bits, and the next values.
+# The Verilog of a BTOR2 file that `compile` wrote of a design without inputs: a wire for each value, a register for
+# each state. At an edge of `clk` each state takes its next value; where `show` is 1, the row of that cycle is written:
+# the rules' flags as bits, and the next values.
 verilog_of_btor2() {
     awk '
         function is(text) { print "  wire " range "n" $1 " = " text ";" }

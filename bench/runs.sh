@@ -1,7 +1,7 @@
 #!/usr/bin/env bash
-# Measures what the program costs on the pipelines that it makes itself and on their circuits, for each cycle; what `bad`
-# lines cost; what a long run and a long circuit take in memory; and what it costs to write functions in. It takes another
-# program than the built one as its argument, and is run by hand.
+# Measures what the program costs on the pipelines that it makes itself and on their circuits, for each cycle; what
+# `bad` lines cost; what a long run and a long circuit take in memory; and what it costs to write functions in. It takes
+# another program than the built one as its argument, and is run by hand.
 set -eu
 cd "$(dirname "$0")/.."
 . bench/cost.sh
@@ -89,7 +89,8 @@ awk 'BEGIN {
 }' >"$room/circuit"
 echo "| a circuit of 2,000,000 operators, $(wc -c <"$room/circuit") bytes, for a cycle | $(memory "$room/circuit" btorsim --cycles 1) |"
 
-# A source of functions that call one another: each of the first calls the one before twice, each further one calls it once.
+# A source of functions that call one another: each of the first calls the one before twice, each further one calls it
+# once.
 functions() {
     awk -v twice="$1" -v once="$2" 'BEGIN {
         print "reg r : bits 8 = 8'\''d0;\nfun f0(x : bits 8) : bits 8 { x + 8'\''d1 }"

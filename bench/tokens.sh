@@ -1,8 +1,8 @@
 #!/usr/bin/env bash
 # Measures what it costs to cut a text into tokens, for each byte: what `print` costs on a text of a megabyte, one line
-# over and over, after a `;`, with which no design begins, so that all is cut and nothing parsed; less what it costs after
-# a byte that begins no token, so that nothing is cut. The reading of the text and its cut at a line `%%` are not counted.
-# It is run by hand.
+# over and over, after a `;`, with which no design begins, so that all is cut and nothing parsed; less what it costs
+# after a byte that begins no token, so that nothing is cut. The reading of the text and its cut at a line `%%` are not
+# counted. It is run by hand.
 set -eu
 cd "$(dirname "$0")/.."
 . bench/cost.sh

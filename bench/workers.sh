@@ -1,9 +1,9 @@
 #!/usr/bin/env bash
 # Measures what a run by workers costs beside one of the plain engine: for each cycle of the small processor of the
 # examples, of the RISC-V core with a program and of two pipelines; in seconds; and in memory, on a design at the
-# language's limits. It takes another program than the built one as its argument, and is run by hand, on a quiet machine:
-# workers wait for each other, so with more than one the figures differ from run to run, and where other programs run,
-# each wait is long.
+# language's limits. It takes another program than the built one as its argument, and is run by hand, on a quiet
+# machine: workers wait for each other, so with more than one the figures differ from run to run, and where other
+# programs run, each wait is long.
 set -eu
 cd "$(dirname "$0")/.."
 . bench/cost.sh
@@ -46,8 +46,8 @@ for design in core queue "gen 10" "gen 100"; do
     done
 done
 
-# A design with the most registers, inputs and rules that there may be, each of the most bits. Each rule reads half of its
-# weight.
+# A design with the most registers, inputs and rules that there may be, each of the most bits. Each rule reads half of
+# its weight.
 awk 'BEGIN {
     for (k = 0; k < 256; k++) print "reg r" k " : bits 128 = 128'\''d" k ";\ninput i" k " : bits 128;"
     for (k = 0; k < 256; k++) {

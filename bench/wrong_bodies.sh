@@ -140,7 +140,8 @@ failed=0
 for crate in "${crates[@]}"; do
     [ -d "crates/$crate" ] || { echo "there is no crate $crate" >&2; exit 1; }
     [ -d "crates/$crate/wrong-bodies" ] || continue
-    # What an earlier check kept of this crate and of those below serves where it fits their texts; rt takes it by itself.
+    # What an earlier check kept of this crate and of those below serves where it fits their texts; rt takes it by
+    # itself.
     (cd "$room/crates/$crate" && rt check) >"$room/said" 2>&1 </dev/null || {
         cat "$room/said" >&2
         echo "$crate isn't proved as it is" >&2

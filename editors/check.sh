@@ -1,6 +1,7 @@
 #!/bin/sh
-# Compares what Vim's syntax and the TextMate grammars colour with the program's own tokens, on all examples; tries the completion
-# scripts and the manual page. It takes another program than the built one as its argument, needs vim and python3, and is run by hand.
+# Compares what Vim's syntax and the TextMate grammars colour with the program's own tokens, on all examples; tries the
+# completion scripts and the manual page. It takes another program than the built one as its argument, needs vim and
+# python3, and is run by hand.
 set -eu
 cd "$(dirname "$0")/.."
 program=${1:-crates/koika_cli/out/koika_cli}
