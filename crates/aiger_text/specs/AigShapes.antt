@@ -1,4 +1,4 @@
--- What texts tell of a bit-level circuit: its words of inputs and of latches by name and width, and the names of its
+-- What reports show of a bit-level circuit: its words of inputs and of latches by name and width, and the names of its
 -- outputs.
 use Rattle.std.specs.Prelude.{ℕ, List, map}
 use Rattle.aig_blast.specs.Aigs.{AigParts}

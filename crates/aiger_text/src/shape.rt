@@ -8,7 +8,7 @@ use kw_bits::{NoMemory, Sequence, Text};
 use std::alloc::Global;
 use stim_report::{NameWidth, Shape};
 
-/// What texts tell of a bit-level circuit: its words of inputs, its words of latches, and in place of rules its
+/// What reports show of a bit-level circuit: its words of inputs, its words of latches, and in place of rules its
 /// outputs.
 pub fn aig_shape(alloc: Global, aig: &Aig) -> Result<Shape, NoMemory>
     ensures { IfOk result (λ shape. shape ≡ shapes.shape_of aig.now) }

@@ -40,12 +40,12 @@ pub record Opening : Type 0 where
 abbrev pub setting_of : Opening → Setting
 setting_of o = record { design = o.design; stimulus = o.stimulus }
 
--- the attempts that stand, by cycle and rule
+-- the stored attempts, by cycle and rule
 abbrev pub Slots : Type 0
 Slots = ℕ → ℕ → Option Attempted
 
 -- the current cycle, the registers and the rules that fired in it and its head, the rules that are settled in it, the
--- rows of the cycles that are closed, and the attempts that stand
+-- rows of the cycles that are closed, and the stored attempts
 pub record Board : Type 0 where
   pub cycle : ℕ
   pub walk : Walk State

@@ -51,7 +51,7 @@ kept_by design stimulus from to window cycle place rows slots =
       slots = slots;
     }
 
--- the attempts that stand by lists of slots, the first for this cycle
+-- the stored attempts by lists of slots, the first for this cycle
 abbrev pub slots_from : ℕ → List (List (Option Attempted)) → Slots
 slots_from current lists cycle rule =
     if nat_lt cycle current then None else slice_index_or (slice_index_or lists (cycle - current) []) rule None

@@ -61,7 +61,7 @@ impl<E: Entered> Play<Option<Core>, View> for Add<E> {
     ghost then = { added E.entry };
 }
 
-/// A seat ends its turn: it gives up its ticket and the slot.
+/// A seat ends its turn: it drops its ticket and the slot.
 pub struct Give;
 
 impl Play<Option<Core>, View> for Give {

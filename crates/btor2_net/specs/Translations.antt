@@ -1,4 +1,4 @@
--- When a circuit is that of a circuit text: it has the names and widths of the text's lines, and its run is the text's. The run
+-- When a circuit is that of a BTOR2 file: it has the names and widths of the file's lines, and its run is the file's. The run
 -- of a text, and that of a circuit, is after BTOR2 (Niemetz et al., CAV 2018).
 use Rattle.std.specs.Prelude.{◌≡◌, ℕ, ◌+◌, Bool, List, ◌∷◌, All, map, Some, slice_get, unwrap_or, decimal}
 use Rattle.net_graph.specs.Nets.{width_at, widths_of}

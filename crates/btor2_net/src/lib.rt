@@ -1,4 +1,4 @@
-//! Circuit texts as circuits, and circuits as circuit texts.
+//! BTOR2 files as circuits, and circuits as BTOR2 files.
 //!
 //! Contracts cite `specs/Translations.antt`, which says when a circuit is that of a text: names and widths in order, and one
 //! run, `specs/Layout.antt`, how the lines of a circuit are laid out, `specs/TidyLines.antt`, when lines are tidy, and

@@ -14,7 +14,7 @@ use std::alloc::Global;
 use typed_core::limits::PORTS;
 use typed_core::{Access, Event, Events};
 
-/// The access where a cursor stands.
+/// The access at a cursor.
 #[tactic(auto, unfolding(crate::specs::Tokens::access_at))]
 pub(crate) fn access<'a>(
     names: &Vocabulary<'_>,
@@ -68,7 +68,7 @@ fn event_read(names: &Vocabulary<'_>, token: &[u8]) -> Result<Event, Flaw>
     Ok(Event { access, value })
 }
 
-/// The events before the first colon where a cursor stands.
+/// The events before the first colon at a cursor.
 pub(crate) fn events<'a>(
     alloc: Global,
     names: &Vocabulary<'_>,

@@ -13,7 +13,7 @@ use crate::names::Vocabulary;
 use attempt_log::{Cause, Settled, StaleRead, Taken};
 use typed_core::Outcome;
 
-/// How a rule ended, where a cursor stands.
+/// How a rule ended, as read at a cursor.
 #[tactic(auto, unfolding(crate::specs::Tokens::outcome_at))]
 pub(crate) fn outcome<'a>(
     names: &Vocabulary<'_>,
@@ -59,7 +59,7 @@ pub(crate) fn taken_read(word: &[u8]) -> Taken
     Taken::Twice
 }
 
-/// What was answered when the head was to be settled, where a cursor stands.
+/// What was answered when the head was to be settled, as read at a cursor.
 #[tactic(auto, unfolding(crate::specs::Tokens::settled_at))]
 pub(crate) fn settled(names: &Vocabulary<'_>, rest: Option<&[u8]>) -> Result<Settled, Flaw>
     requires { Knows names.now.design.now names.now.registers names.now.rules }
@@ -168,7 +168,7 @@ pub(crate) fn after(token: &[u8], count: usize) -> &[u8]
     token.get(count..).unwrap_or(&[])
 }
 
-// Why a rule was skipped, where a cursor stands.
+// Why a rule was skipped, as read at a cursor.
 #[tactic(auto, unfolding(crate::specs::Tokens::cause_at))]
 fn cause(names: &Vocabulary<'_>, rest: Option<&[u8]>) -> Result<Cause, Flaw>
     requires { Knows names.now.design.now names.now.registers names.now.rules }

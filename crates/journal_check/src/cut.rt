@@ -55,7 +55,7 @@ fn without_return(line: &[u8]) -> &[u8]
     }
 }
 
-/// The first token where a cursor stands, and the cursor after it.
+/// The first token at a cursor, and the cursor after it.
 pub(crate) fn next_token(rest: Option<&[u8]>) -> Result<(&[u8], Option<&[u8]>), Flaw>
     ensures { ReadsToken result (token_at (tokens_left rest.entry)) }
 {

@@ -15,7 +15,7 @@ pub(crate) struct Head {
     pub(crate) rule: u32,
 }
 
-/// The number where a cursor stands.
+/// The number at a cursor.
 #[tactic(auto, unfolding(crate::specs::Tokens::number_at))]
 pub(crate) fn number(rest: Option<&[u8]>) -> Result<(u32, Option<&[u8]>), Flaw>
     ensures { ReadsFront result (number_at (tokens_left rest.entry)) }
@@ -24,7 +24,7 @@ pub(crate) fn number(rest: Option<&[u8]>) -> Result<(u32, Option<&[u8]>), Flaw>
     Ok((number_read(token), rest))
 }
 
-/// The cycle and the rule where a cursor stands.
+/// The cycle and the rule at a cursor.
 #[tactic(auto, unfolding(crate::specs::Tokens::head_at))]
 pub(crate) fn read_head<'a>(
     names: &Vocabulary<'_>,

@@ -1,7 +1,7 @@
 //! The program: its arguments, standard input and standard output and its host functions go to `koika_top::run`, whose
 //! status is the exit status.
 //!
-//! It stands on no definition of its own: what it answers is the contract of `run`. Nothing calls it.
+//! It has no definition of its own: what it answers is the contract of `run`. Nothing calls it.
 #![tactic(auto)]
 
 use attempt_log::NoGate;

@@ -2,7 +2,7 @@
 //!
 //! What tokens a tree stands for and which trees are the grammar's is in `koika_syntax`;
 //! `specs/Reading.antt` says what a reader of a part has read, and `specs/Laws.antt` what holds of each text.
-//! `koika_top` and `koika_print` call `parse`.
+//! `koika_top` calls `parse`.
 #![tactic(auto, using(crate::proofs::Reading::reading))]
 
 mod constants;

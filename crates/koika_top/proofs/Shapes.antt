@@ -1,4 +1,4 @@
--- What texts tell of a circuit is what they tell of its circuit text.
+-- What reports show of a circuit is what they show of its BTOR2 file.
 use Rattle.std.proofs.Common.{◌≡◌, ℕ, ◌==◌, Bool, true, false, cond, filter, List, [], ◌∷◌, map, length, All, refl, sym, ap, ◌∙◌}
 use Rattle.std.proofs.lemmas.List.{length-map}
 use Rattle.std.proofs.lemmas.Simd.{map-map}

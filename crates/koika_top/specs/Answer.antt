@@ -38,7 +38,7 @@ Answers hosts (Recheck cycles) source answer = AnswersRecheck hosts cycles sourc
 abbrev pub IsAnswer : List HostSpec → List (List ℕ) → List ℕ → Answer → Type 0
 IsAnswer hosts words source answer = MatchOption (command_of words) (answer ≡ Usage) (λ command. Answers hosts command source answer)
 
--- whether an answer stands on the source
+-- whether an answer depends on the source
 abbrev pub is_of_source : Command → Bool
 is_of_source (Gen stages) = false
 is_of_source other = true
@@ -54,14 +54,14 @@ longest_of (Aigsim cycles shown) = longest_circuit
 longest_of (Recheck cycles) = longest_circuit
 longest_of other = longest_source
 
--- what is known of the bytes that an answer stands on, where these are known of the source
+-- what is known of the bytes that an answer depends on, where these are known of the source
 abbrev pub known_source : Option Command → Option (List ℕ) → Option (List ℕ)
 known_source command left = if reads_source command then left else Some []
 
 abbrev pub usage_line : List ℕ
 usage_line = codes "usage: koika check|print|sim|compile|btorsim|gen|aiger|aigsim|recheck" ++ 10 ∷ []
 
--- the bytes that tell an answer
+-- the text of an answer
 abbrev pub text_of : Answer → List ℕ
 text_of Usage = usage_line
 text_of (Refused fault) = line_of_fault fault

@@ -1,4 +1,4 @@
--- What a source is that holds a circuit text, in front of its mark, and a stimulus after it, and what is shown of the
+-- What a source is that holds a BTOR2 file, in front of its mark, and a stimulus after it, and what is shown of the
 -- text's run. Texts and runs are those of BTOR2 (Niemetz et al., CAV 2018); the order of refusals is this project's
 -- own.
 use Rattle.std.specs.Prelude.{◌≡◌, ℕ, ◌<◌, ◌≤◌, ◌⊎◌, ◌==◌, Bool, true, false, List, ◌++◌, length, map, filter, Option, None, Some, Result, Ok, Err}
@@ -27,7 +27,7 @@ use Rattle.koika_top.specs.declared.answer.Answer.{Answer}
 use Rattle.koika_top.specs.declared.answer.Answer.TheVariants.{Usage, Refused, Written}
 use Rattle.koika_top.specs.declared.shown.Shown.{Shown}
 
--- a source with a circuit text may have this many bytes
+-- a source with a BTOR2 file may have this many bytes
 abbrev pub longest_circuit : ℕ
 longest_circuit = 268435456
 
@@ -110,7 +110,7 @@ violations lines inputs cycles = flat_map (λ bad. violated_line (name_of bad) (
 abbrev pub shown_run : Shown → List Line → InputsByCycle → ℕ → List ℕ
 shown_run shown lines inputs cycles = rows_text shown (shape_of lines) (run_of lines inputs cycles) ++ violations lines inputs cycles
 
--- the text shows the run of the source's circuit text on the source's stimulus for these cycles
+-- the text shows the run of the source's BTOR2 file on the source's stimulus for these cycles
 pub record ShowsRun (cycles : ℕ) (shown : Shown) (source text : List ℕ) : Type 0 where
   pub lines : List Line
   pub stimulus : InputVectors

@@ -1,4 +1,4 @@
--- When circuits that are ready to run are those of a circuit text. This serves private functions alone.
+-- When circuits that are ready to run are those of a BTOR2 file. This serves private functions alone.
 use Rattle.std.specs.Prelude.{◌≡◌, ◌<◌, ◌^◌, ℕ, Bool, List, [], length, map, Option, None, Some}
 use Rattle.std.specs.List.{range_with_len}
 use Rattle.btor2_text.specs.declared.line.Line.{Line}

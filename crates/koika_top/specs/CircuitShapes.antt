@@ -1,4 +1,4 @@
--- What texts tell of a circuit: its inputs, its states, and its outputs of one bit in place of rules.
+-- What reports show of a circuit: its inputs, its states, and its outputs of one bit in place of rules.
 use Rattle.std.specs.Prelude.{ℕ, ◌==◌, Bool, List, map, filter}
 use Rattle.circuit_eval.specs.declared.circuit.InputWire.{InputWire}
 use Rattle.circuit_eval.specs.declared.circuit.OutputWire.{OutputWire}

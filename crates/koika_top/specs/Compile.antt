@@ -1,4 +1,4 @@
--- What `compile` answers to a source: a circuit text (BTOR2; Niemetz et al., CAV 2018) that is accepted and whose own
+-- What `compile` answers to a source: a BTOR2 file (Niemetz et al., CAV 2018) that is accepted and whose own
 -- run is that of the source's design, for every stimulus. It is tidy and laid out; which one is left open: any that is so
 -- and runs so.
 use Rattle.std.specs.Prelude.{◌≡◌, ℕ, ◌+◌, ◌≤◌, ◌⊎◌, List, length, map, Some, slice_get}

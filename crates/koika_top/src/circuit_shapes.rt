@@ -12,7 +12,7 @@ use net_graph::Net;
 use std::alloc::Global;
 use stim_report::{NameWidth, Shape};
 
-/// What texts tell of a circuit: its inputs, its states, and in place of rules its outputs of one bit.
+/// What reports show of a circuit: its inputs, its states, and in place of rules its outputs of one bit.
 pub fn circuit_shape(alloc: Global, circuit: &Circuit) -> Result<Shape, NoMemory>
     ensures { IfOk result (λ shape. shape ≡ shapes.shape_of circuit.now) }
 {

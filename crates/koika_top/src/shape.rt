@@ -12,7 +12,7 @@ use kw_bits::{NoMemory, Sequence, Text};
 use std::alloc::Global;
 use stim_report::{NameWidth, Shape};
 
-/// What texts tell of a typed design.
+/// What reports show of a typed design.
 pub(crate) fn shape_of(alloc: Global, design: &Checked) -> Result<Shape, NoMemory>
     ensures { IfOk result (λ shape. shape ≡ sources.shape_of design.now) }
 {

@@ -26,7 +26,7 @@ pub enum Command {
         shown: Shown,
         engine: EngineKind,
     },
-    /// A run of the source's circuit text for that many cycles.
+    /// A run of the source's BTOR2 file for that many cycles.
     Btorsim {
         cycles: u32,
         shown: Shown,
@@ -56,7 +56,7 @@ pub enum Command {
 }
 
 impl Command {
-    /// Whether the command's answer stands on the source.
+    /// Whether the command's answer depends on the source.
     pub(crate) fn reads_source(self) -> bool
         ensures { result ≡ is_of_source self }
     {
@@ -76,7 +76,7 @@ impl Command {
     }
 }
 
-// A source with a design may have this many bytes, and one with a circuit text or a journal this many.
+// A source with a design may have this many bytes, and one with a BTOR2 file or a journal this many.
 const LONGEST_SOURCE: usize = 1_048_576;
 
 const LONGEST_CIRCUIT: usize = 268_435_456;
@@ -211,7 +211,7 @@ fn btorsim_of(alloc: Global, words: &[String]) -> Result<Option<Command>, NoMemo
     Ok(btorsim_by(Some(read_options(alloc, "btorsim", words)?)))
 }
 
-// The run of a circuit text with options, if they are valid: it takes no engine, no workers and no journal.
+// The run of a BTOR2 file with options, if they are valid: it takes no engine, no workers and no journal.
 fn btorsim_by(options: Option<Options>) -> Option<Command>
     ensures command { result ≡ btorsim_of options }
     ensures few { IfSome result IsInRange }

@@ -5,7 +5,7 @@
 //! of SMT-LIB's theory of bit vectors and of BTOR2, and the answers of `specs/Host.antt`. They see a `Sequence` as the
 //! list of its items, and a `Reserved` as that list beside its capacity. `specs/Faults.antt` says when a count of faults
 //! rose. Proofs above cite the laws of
-//! `proofs/OperatorLaws.antt` and `proofs/Halves.antt`. Every other crate stands on this one.
+//! `proofs/OperatorLaws.antt` and `proofs/Halves.antt`. Every other crate uses this one.
 #![tactic(auto)]
 
 mod bit_vector;

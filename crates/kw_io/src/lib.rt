@@ -1,7 +1,7 @@
 //! Where bytes come from and where they go: sources and sinks that may fail, over the system and in memory.
 //!
 //! Contracts speak of the bytes left and written, where they are exposed, in the words of std
-//! (`Rattle.std.specs.Io.KnownBytes`), and of counts of faults that rise (`specs/Faults.antt`). The top
+//! (`Rattle.std.specs.Io.KnownBytes`), and of counts of faults that rise (`specs/Faults.antt` of `kw_bits`). The top
 //! crate reads its whole input and writes its whole output through `read_all` and `write_all`.
 #![tactic(auto)]
 

@@ -1,5 +1,5 @@
 //! Tests of the libraries from streams and bit vectors to engines, boards and circuits, by their public calls: outside vectors, and
-//! each call that no command makes, once where it goes well. They cite no definition, and nothing stands on them. A library
+//! each call that no command makes, once where it goes well. They cite no definition, and nothing uses them. A library
 //! with tests of its own is proved twice at each merge, so those that need nothing private are here.
 #![tactic(auto)]
 

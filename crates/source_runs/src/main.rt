@@ -5,13 +5,15 @@
 //! words with ` | ` between them each reads what the ones before wrote. After `changed N => LINE in` the file's line N is
 //! LINE. After `failing N` each read fails in turn, and then each write, where a call takes at most N bytes.
 //! After `seeing` each of two workers looks for the other before its first job, and whether both saw it is said; what
-//! they write is a journal where ` | ` and a command that reads it follow. With `circuit` for a command it says whether
-//! the circuit of a design, compiled and read back, shows the same run with these options as the design, with `bits`
-//! whether its bit-level circuit does, with `workers K` whether K workers show it, and with `journal K` whether their
-//! journal does, rechecked. With ` is ` between commands without a source it says whether both write the same bytes.
-//! `transcript` and a file say whether the file has what the command in its first line writes.
+//! they write is a journal where ` | ` and a command that reads it follow.
 //!
-//! It stands on no definition of its own. The merge gate compares what it writes with `stdout`.
+//! With `circuit` for a command it says whether the circuit of a design, compiled and read back, shows the same run
+//! with these options as the design, with `bits` whether its bit-level circuit does, with `workers K` whether K workers
+//! show it, and with `journal K` whether their journal does, rechecked. With ` is ` between commands without a source
+//! it says whether both write the same bytes. `transcript` and a file say whether the file has what the command in its
+//! first line writes.
+//!
+//! It has no definition of its own. The merge gate compares what it writes with `stdout`.
 #![tactic(auto)]
 
 mod circuits;
