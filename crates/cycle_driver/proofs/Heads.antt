@@ -21,7 +21,6 @@ use Rattle.board_core.specs.Board.{Board, Opening, Step, closed, dropped, head, 
 use Rattle.board_core.specs.Candidates.{Chooses}
 use Rattle.board_core.specs.Kept.{AtPlain, Does, Kept, StandsFor}
 use Rattle.board_core.specs.Laws.{IsRuleSettled, head_attempt}
-use Rattle.board_core.specs.declared.event.BoardAnswer.{BoardAnswer}
 use Rattle.board_core.specs.declared.event.BoardAnswer.TheVariants as answer
 use Rattle.board_core.proofs.Heads.{head_comes_first, head_settles}
 use Rattle.cycle_driver.specs.Heads.{AwaitsHead}

@@ -2,8 +2,7 @@ use Rattle.std.proofs.Common.{◌≡◌, ◌<◌, List, length, Some, refl, arit
 use Rattle.std.specs.Prelude.{slice_get}
 use Rattle.std.proofs.lemmas.Option.{slice_get_read}
 use Rattle.typed_core.specs.declared.access.Event.{Event}
-use Rattle.attempt_log.specs.Sources.{IsSource}
-use Rattle.attempt_log.proofs.LookBack.{source_first, source_next}
+use Rattle.attempt_log.proofs.LookBack.{source_next}
 use Rattle.attempt_log.proofs.sources.source_before.Goals as goal
 
 pub loop-number-preserved : goal.loop-number-preserved

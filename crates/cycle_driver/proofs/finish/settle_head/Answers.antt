@@ -1,8 +1,8 @@
-use Rattle.std.proofs.Common.{◌<◌, subst, arith}
+use Rattle.std.proofs.Common.{subst, arith}
 use Rattle.attempt_log.specs.declared.job.JobAnswer.{JobAnswer}
 use Rattle.board_core.specs.Board.{Board}
 use Rattle.board_core.specs.Candidates.{Chooses}
-use Rattle.board_core.specs.Kept.{StandsFor, left}
+use Rattle.board_core.specs.Kept.{StandsFor}
 use Rattle.cycle_driver.proofs.Heads.{head_goes_on}
 use Rattle.cycle_driver.proofs.finish.settle_head.Goals as goal
 

@@ -1,4 +1,4 @@
-use denote.Param.Send.{IsSend, IsSync, sendable}
+use denote.Param.Send.{sendable}
 use Rattle.std.proofs.Crossing.{crosses}
 use Rattle.std.specs.Prelude.{slice_index_or}
 use Rattle.spec_worker.specs.declared.Working.{Working}

@@ -11,7 +11,6 @@ use Rattle.std.proofs.Common.{refl}
 use Rattle.koika_parse.proofs.Expected.{step, finish, next_part, last_part, fails, fails_before, fails_last, tail, before_one, free_last}
 use Rattle.koika_parse.specs.Expected.{Any, NoComma}
 use Rattle.koika_parse.proofs.Commas.{commas_start, commas_apart, commas_at, commas_end, commas_first, commas_next}
-use Rattle.koika_parse.specs.Reading.{next}
 use Rattle.koika_parse.proofs.ConstantWords.{FieldsTail, constant_array_start, constant_at_bracket, constant_at_name, constant_elsewhere, constant_field_start, constant_fields_listed, constants_listed, named_constant_start, some_fields_tail}
 use Rattle.koika_parse.proofs.Rows.{name_not_brace, brace_not_name}
 use Rattle.koika_parse.proofs.source.Source.+constant.Goals as goal

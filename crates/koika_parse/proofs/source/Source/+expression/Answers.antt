@@ -17,7 +17,7 @@ use Rattle.koika_parse.specs.Expected.{Any, NoComma, Takes, first}
 use Rattle.koika_parse.specs.ExpressionWords.{Free, LevelWord, brace_follows, parenthesis_follows}
 use Rattle.koika_parse.proofs.BlockWords.{after_apart, after_at, after_end, arm_start, before_block, block_start, conditional_start, else_arm, else_at, else_block, else_end, expression_chain, expression_if, expression_start, field_value_start, inside_end, inside_expression, inside_let, inside_start, let_start, after_next, else_go, else_next, inside_let_next}
 use Rattle.koika_parse.proofs.PrimaryWords.{arguments_at, arguments_end, named_call, named_colons, named_end, named_start, parenthesis_free, primary_none, FieldValuesTail, array_start, block_primary_start, compare_start, expressions_listed, extend_start, field_values_listed, keyword_at, keyword_refused, literal_at, named_at, other_keyword, pack_start, parentheses_start, some_array, some_compare, some_extend, some_field_values_tail, some_pack, some_parentheses, some_read, some_unpack, some_update, some_write, symbol_at, symbol_refused, unpack_start, update_start, write_start}
-use Rattle.koika_parse.proofs.Expected.{before_one, before_one_then, begin, fails, fails_before, fails_last, fails_last_as, finish, free_last, last, last_part, next_part, not_so, step, tail, takes_word, never_none, same_of_some, some_one}
+use Rattle.koika_parse.proofs.Expected.{before_one, before_one_then, fails, fails_before, fails_last, fails_last_as, finish, free_last, last, last_part, next_part, not_so, step, tail, takes_word, never_none, same_of_some, some_one}
 use Rattle.koika_parse.proofs.Rows.{brace_not_name, name_not_brace}
 use Rattle.koika_parse.proofs.ChainWords.{chain_start, free_more, operand_start, operands_apart, operands_at, operands_end, operands_start, postfix_start, prefixes_apart, suffixes_apart, suffixes_at, suffixes_end, unary_at, unary_end, chain_go, operands_first_go, operands_next}
 use Rattle.koika_parse.proofs.Commas.{commas_apart, commas_at, commas_end, commas_start, commas_first, commas_next}
