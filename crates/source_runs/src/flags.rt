@@ -1,6 +1,7 @@
 //! A gate at which two workers see each other.
 
 use attempt_log::Gate;
+use std::hint::spin_loop;
 use std::sync::atomic::{AtomicBool, Ordering};
 
 // How often a worker looks for the other at the most.
@@ -65,6 +66,8 @@ impl Gate for Flags {
                 self.seen.of(is_first).store(true, Ordering::SeqCst);
                 return;
             }
+            // So that it looks for seconds: on a busy machine the other may begin late.
+            spin_loop();
         }
     }
 
