@@ -26,7 +26,7 @@ use Rattle.koika_lower.proofs.Constructs.{sim-core}
 use Rattle.koika_lower.proofs.Groups.{are-wide, as_wide, below, below-stacked, below-width, chains-wide, sim-joined}
 use Rattle.koika_lower.proofs.Values.{stand-stacked, struct-total, total}
 use Rattle.koika_lower.proofs.Simulations.{sim-value}
-use Rattle.koika_lower.proofs.ValueLayers.{close-IsOf}
+use Rattle.koika_check.proofs.TypingLayers.{close-IsOf}
 use Rattle.koika_lower.proofs.Widths.{width-bits}
 
 -- ---- structs

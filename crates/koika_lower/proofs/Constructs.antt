@@ -33,7 +33,7 @@ use Rattle.koika_lower.specs.declared.lowered.Bound.{Bound}
 use Rattle.koika_lower.specs.declared.lowered.Lowered.{Lowered}
 use Rattle.koika_lower.proofs.Operands.{sim-one, sim-same-bits}
 use Rattle.koika_lower.proofs.Simulations.{sim-value}
-use Rattle.koika_lower.proofs.ValueLayers.{number-stands}
+use Rattle.koika_lower.proofs.TypedNumbers.{number-stands}
 use Rattle.koika_lower.proofs.Values.{unpacked-stands}
 use Rattle.koika_lower.proofs.Widths.{width-bits}
 

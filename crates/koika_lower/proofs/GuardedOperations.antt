@@ -40,7 +40,7 @@ use Rattle.koika_lower.proofs.Groups.{below-width, chains-bits}
 use Rattle.koika_lower.proofs.GuardedParts.{all-there, bits-have, chain-there, number-has, pair-count, replaced-there, selected-has, stand-all, stands, unpacked-there}
 use Rattle.koika_lower.proofs.Hosts.{answer_wide, arguments-total, arity-cases, comparison-width, joined-below}
 use Rattle.koika_lower.proofs.Operands.{onto, onto-reverse}
-use Rattle.koika_lower.proofs.ValueLayers.{close-IsOf}
+use Rattle.koika_check.proofs.TypingLayers.{close-IsOf}
 use Rattle.koika_lower.proofs.Values.{all-get, declared-struct, replaced-stands, total, unpacked-stands}
 
 -- the body of a function, and the guarded one

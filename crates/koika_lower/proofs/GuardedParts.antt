@@ -31,7 +31,8 @@ use Rattle.koika_lower.specs.Simulation.{StandAll, Stands}
 use Rattle.koika_lower.proofs.Agreements.{AllHave, Has}
 use Rattle.koika_lower.proofs.ChainValues.{operates-width}
 use Rattle.koika_lower.proofs.Constructs.{bits-width, valid-bits}
-use Rattle.koika_lower.proofs.ValueLayers.{base_of, lengths_of, number-stands, open-IsOf}
+use Rattle.koika_check.proofs.TypingLayers.{open-IsOf}
+use Rattle.koika_lower.proofs.TypedNumbers.{base_of, lengths_of, number-stands}
 use Rattle.koika_lower.proofs.Values.{all-each, among-more, among-valid, constant-stands, takes-fit, takes-stands}
 
 -- as many of one as of the other

@@ -35,7 +35,7 @@ pub mod Slices
 pub mod Steps
 pub mod TwoLowerings
 pub mod TypeWidths
+pub mod TypedNumbers
 pub mod Unpacking
-pub mod ValueLayers
 pub mod Values
 pub mod Widths

@@ -22,7 +22,8 @@ use Rattle.koika_check.specs.declared.typed.BaseType.{BaseType}
 use Rattle.koika_check.specs.declared.typed.BaseType.TheVariants as base
 use Rattle.koika_check.specs.declared.typed.ValueType.{ValueType}
 use Rattle.koika_check.proofs.TreeParts.{Such}
-use Rattle.koika_lower.proofs.ValueLayers.{base_of, lengths_of, open-IsOf}
+use Rattle.koika_check.proofs.TypingLayers.{open-IsOf}
+use Rattle.koika_lower.proofs.TypedNumbers.{base_of, lengths_of}
 use Rattle.koika_lower.proofs.Values.{all-each, array-width, constant-stands, declared-struct, first_of, item-type, same_types, total, types_of, unpacked-stands}
 
 joined_width : (a b : BitVector) → (concat a b).width ≡ a.width + b.width

@@ -33,7 +33,8 @@ use Rattle.koika_lower.specs.Applied.{AllFit, lowest_bit, lowest_of_all, part_wi
 use Rattle.koika_lower.specs.Simulation.{StandAll, Stands}
 use Rattle.koika_lower.proofs.Replacements.{replace-above, replace-all, replace-below, replace-lower, replace-upper}
 use Rattle.koika_lower.proofs.Slices.{slice-high, slice-low, slice-slice}
-use Rattle.koika_lower.proofs.ValueLayers.{base_of, close-IsOf, lengths_of, number-stands, open-IsOf}
+use Rattle.koika_check.proofs.TypingLayers.{close-IsOf, open-IsOf}
+use Rattle.koika_lower.proofs.TypedNumbers.{base_of, lengths_of, number-stands}
 use Rattle.koika_lower.proofs.Widths.{width-bits}
 
 -- widths together
