@@ -124,6 +124,7 @@ fn make_other(
 }
 
 // The value of a node: wide operands are lent as they are kept, others are copied.
+#[inline(always)]
 fn value_by_step(
     net: &Net,
     id: usize,
