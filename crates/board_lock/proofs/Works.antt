@@ -14,7 +14,7 @@ use Rattle.spec_worker.specs.Work.{Counted, Ends, Gains}
 use Rattle.spec_worker.proofs.Gaining.{all_kinds}
 use Rattle.board_lock.specs.Histories.{IsPast, StartsWith, by}
 use Rattle.board_lock.specs.Plays.{IsOwner, CanSplit, Stands, KnowsAll, done_of, left, newcomer, joined}
-use Rattle.board_lock.specs.Work.{HasWorked, IsReady, JoinedFrom, Matches, Reports, SplitBy, Told}
+use Rattle.board_lock.specs.Work.{HasWorked, IsReady, JoinedFrom, Matches, Reports, SplitBy, Told, Worked}
 use Rattle.board_lock.specs.declared.view.View.{View}
 use Rattle.board_lock.specs.declared.view.Done.{Done}
 use Rattle.board_lock.proofs.Own.{by-append}
@@ -134,7 +134,7 @@ told turns count v old w reports was j s =
           append_cancel_left (by n v.seen) (by n added) [] (sym (parts n) ∙ (none ∙ sym (append-nil (by n v.seen))));
     }
 
-pub told_run : (turns count n : ℕ) (v old mid w : View) (reports : List Report) → JoinedFrom turns 0 n old mid reports → length reports ≡ n → old.part.out ≡ n → 1 ≤ count → SplitBy count v old → w ≡ mid → (IsOwner mid.part → mid.part.out ≡ 0 → KnowsAll mid) → Told turns count v w reports × (length reports ≡ count)
+pub told_run : (turns count n : ℕ) (v old mid w : View) (reports : List Report) → JoinedFrom turns 0 n old mid reports → length reports ≡ n → old.part.out ≡ n → 1 ≤ count → SplitBy count v old → w ≡ mid → (IsOwner mid.part → mid.part.out ≡ 0 → KnowsAll mid) → Worked turns count v w reports
 told_run turns count n v old mid w reports j long out some-worker split kept settled =
     let same : n ≡ count = sym out ∙ split.out in
     let was : old.part.was ≡ v.seen = ⊎_elim (λ (z : count ≡ 0). absurd (omega (arith, z, some-worker))) (λ (t : (old.part.top ≡ count) × (old.part.was ≡ v.seen) × (old.part.dones ≡ [])). t.1) split.first in

@@ -88,6 +88,10 @@ pub record Told (turns count : ℕ) (v w : View) (reports : List Report) : Type 
   pub each : (i : ℕ) (r : Report) → get_elem? reports i ≡ some r → ReportFits turns i v.seen added w r
   pub others : (n : ℕ) → count ≤ n → by n added ≡ []
 
--- the same of the reports of workers who have worked, where the reports themselves are lost
+-- there is a report of each worker, and they tell so
+abbrev pub Worked : ℕ → ℕ → View → View → List Report → Type 0
+Worked turns count v w reports = Told turns count v w reports × (length reports ≡ count)
+
+-- the same where the reports themselves are lost
 abbrev pub HaveWorked : ℕ → ℕ → View → View → Type 0
-HaveWorked turns count v w = (reports : List Report) × Told turns count v w reports × (length reports ≡ count)
+HaveWorked turns count v w = (reports : List Report) × Worked turns count v w reports

@@ -7,7 +7,7 @@ ghost use Rattle.board_core.specs.Kept.{StandsFor};
 ghost use Rattle.spec_worker.specs.Work.{WorksAt};
 ghost use Rattle.board_lock.specs.Histories.{Leaves};
 ghost use Rattle.board_lock.specs.Plays.{IsOutside, IsOwner};
-ghost use Rattle.board_lock.specs.Work.{HasWorked, IsReady, JoinedFrom, SplitBy, Told};
+ghost use Rattle.board_lock.specs.Work.{HasWorked, IsReady, JoinedFrom, SplitBy, Worked};
 
 use crate::lock::{Lock, Place};
 use crate::seat::LockSeat;
@@ -75,7 +75,7 @@ impl LockBoard {
         gate: &(dyn Gate + Sync),
         turns: u64,
     ) -> Result<Vec<Report>, NoMemory>
-        ensures told { IfOk result (λ reports. Told turns self.old.workers self.old.place.me.0 self.new.place.me.0 reports.items × (length reports.items ≡ self.old.workers)) }
+        ensures told { IfOk result (λ reports. Worked turns self.old.workers self.old.place.me.0 self.new.place.me.0 reports.items) }
         ensures none_ran { OnErr result (self.new.place.me ≡ self.old.place.me) }
         ensures opened { self.new.place.me.0.opened ≡ self.old.place.me.0.opened }
         ensures workers { self.new.workers ≡ self.old.workers }
@@ -92,7 +92,7 @@ impl LockBoard {
         gate: &G,
         turns: u64,
     ) -> Result<Vec<Report>, NoMemory>
-        ensures told { IfOk result (λ reports. Told turns self.old.workers self.old.place.me.0 self.new.place.me.0 reports.items × (length reports.items ≡ self.old.workers)) }
+        ensures told { IfOk result (λ reports. Worked turns self.old.workers self.old.place.me.0 self.new.place.me.0 reports.items) }
         ensures none_ran { OnErr result (self.new.place.me ≡ self.old.place.me) }
         ensures opened { self.new.place.me.0.opened ≡ self.old.place.me.0.opened }
         ensures workers { self.new.workers ≡ self.old.workers }
@@ -194,11 +194,16 @@ fn join_all<R: Wait>(
 }
 
 impl Board for LockBoard {
-    ghost use Rattle.std.specs.Prelude.{true};
+    ghost use Rattle.std.specs.Prelude.{true, ◌≡◌};
+    ghost use Rattle.board_lock.specs.Work.{Worked};
 
     ghost tells = { true };
 
     ghost opening = { λ b. b.place.me.0.opened };
+
+    ghost has_worked = { λ turns v w reports. Worked turns v.workers v.place.me.0 w.place.me.0 reports × (w.workers ≡ v.workers) × (w.place.table_id ≡ v.place.table_id) };
+
+    ghost is_untouched = { λ v w. (w.place.me ≡ v.place.me) × (w.workers ≡ v.workers) × (w.place.table_id ≡ v.place.table_id) };
 
     fn begin(alloc: Global, core: Core, workers: u32) -> Result<LockBoard, NoMemory>
         requires new { StandsFor core (opened core.opening) }
@@ -211,7 +216,7 @@ impl Board for LockBoard {
         LockBoard::open(alloc, core, workers)
     }
 
-    // It has the clauses of the trait alone. `LockBoard::work_all` says more.
+    // What `LockBoard::work_all` says, by the trait's meanings: a clause of its own can't be stated here.
     fn work_all<R: Threads + Wait + Sync>(
         &mut self,
         rt: &R,

@@ -13,7 +13,7 @@ ghost use Rattle.board_core.specs.History.{board_after};
 ghost use Rattle.board_lock.specs.Histories.{Each, InRun, IsCycle, StartsWith};
 ghost use Rattle.board_lock.specs.Plays.{IsOutside, IsOwner};
 ghost use Rattle.board_lock.specs.Receipts.{IsCopy, Noting, receipts};
-ghost use Rattle.board_lock.specs.Work.{HasWorked, HaveWorked, IsReady, JoinedFrom, SplitBy, Told};
+ghost use Rattle.board_lock.specs.Work.{HasWorked, HaveWorked, IsReady, JoinedFrom, SplitBy, Worked};
 
 use crate::board::{LockBoard, work_seats};
 use crate::call::Receipt;
@@ -233,7 +233,7 @@ impl LockBoard {
         ensures entries { IfOk result (λ noted. noted.entries ≡ self.new.place.me.0.seen) }
         ensures workers { IfOk result (λ noted. Each (λ e. worker_of e < self.old.workers) noted.entries) }
         ensures in_run { IfOk result (λ noted. Each (InRun self.old.place.me.0.opened) noted.entries) }
-        ensures told { IfOk result (λ noted. Told turns self.old.workers self.old.place.me.0 self.new.place.me.0 noted.reports × (length noted.reports ≡ self.old.workers)) }
+        ensures told { IfOk result (λ noted. Worked turns self.old.workers self.old.place.me.0 self.new.place.me.0 noted.reports) }
         ensures kept { OnErr result ((self.new.place.me ≡ self.old.place.me) ⊎ HaveWorked turns self.old.workers self.old.place.me.0 self.new.place.me.0) }
         ensures opened { self.new.place.me.0.opened ≡ self.old.place.me.0.opened }
         ensures same { self.new.workers ≡ self.old.workers }

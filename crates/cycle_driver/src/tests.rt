@@ -110,6 +110,10 @@ impl Board for StrayBoard {
 
     ghost opening = { λ b. b.core.opening };
 
+    ghost has_worked = { λ turns v w reports. Unit {0} };
+
+    ghost is_untouched = { λ v w. Unit {0} };
+
     fn begin(alloc: Global, core: Core, _workers: u32) -> Result<StrayBoard, NoMemory> {
         drop(core);
         let Setting {
@@ -166,6 +170,10 @@ impl Board for LoneBoard {
     ghost tells = { true };
 
     ghost opening = { λ b. b.core.opening };
+
+    ghost has_worked = { λ turns v w reports. Unit {0} };
+
+    ghost is_untouched = { λ v w. Unit {0} };
 
     fn begin(_alloc: Global, core: Core, workers: u32) -> Result<LoneBoard, NoMemory> {
         Ok(LoneBoard { core, workers })

@@ -9,7 +9,7 @@ use Rattle.std.proofs.lemmas.Grind.{common_steps}
 use Rattle.attempt_log.specs.declared.report.Report.{Report}
 use Rattle.board_lock.specs.declared.notes.Note.{Note}
 use Rattle.board_lock.specs.Plays.{KnowsAll}
-use Rattle.board_lock.specs.Work.{Told}
+use Rattle.board_lock.specs.Work.{Worked}
 use Rattle.board_lock.specs.Receipts.{Noting}
 use Rattle.board_lock.specs.declared.view.View.{View}
 use Rattle.board_lock.proofs.Works.{told_run, worked}
@@ -28,22 +28,22 @@ on_err (Err e) p = p
 pub returns-then-not-whole-clause-kept : goal.returns-then-not-whole-clause-kept
 returns-then-not-whole-clause-kept g c =
     let reports : List Report = c.join_noting-whole.new.reports.items in
-    let told : Told c.args.turns c.args.self.now.workers c.args.self.now.place.me.0 c.learn.new.place.me.0 reports × (length reports ≡ c.args.self.now.workers) =
+    let told : Worked c.args.turns c.args.self.now.workers c.args.self.now.place.me.0 c.learn.new.place.me.0 reports =
     told_run c.args.turns c.args.self.now.workers _ c.args.self.now.place.me.0 c.split_noting.new.place.me.0 c.join_noting-whole.new.place.me.0 c.learn.new.place.me.0 reports
     c.join_noting-whole.ensures.joined c.join_noting-whole.ensures.count (grind (arith, common_steps)) c.args.self.now.some c.in_ok-seats.ensures.split (λ i. (c.learn.ensures.kept i).0) c.learn.ensures.settled in
-    inr (reports, told.0, told.1)
+    inr (reports, told)
 
 pub returns-in_err-entries-clause-kept : goal.returns-in_err-entries-clause-kept
 returns-in_err-entries-clause-kept g c =
     let reports : List Report = c.join_noting-whole.new.reports.items in
-    let told : Told c.args.turns c.args.self.now.workers c.args.self.now.place.me.0 c.learn.new.place.me.0 reports × (length reports ≡ c.args.self.now.workers) =
+    let told : Worked c.args.turns c.args.self.now.workers c.args.self.now.place.me.0 c.learn.new.place.me.0 reports =
     told_run c.args.turns c.args.self.now.workers _ c.args.self.now.place.me.0 c.split_noting.new.place.me.0 c.join_noting-whole.new.place.me.0 c.learn.new.place.me.0 reports
     c.join_noting-whole.ensures.joined c.join_noting-whole.ensures.count (grind (arith, common_steps)) c.args.self.now.some c.in_ok-seats.ensures.split (λ i. (c.learn.ensures.kept i).0) c.learn.ensures.settled in
-    on_err c.from_residual-in_err-entries.result (inr (reports, told.0, told.1))
+    on_err c.from_residual-in_err-entries.result (inr (reports, told))
 
 pub returns-clause-told : goal.returns-clause-told
 returns-clause-told g c =
-    subst (λ (l : List Report). Told c.args.turns c.args.self.now.workers c.args.self.now.place.me.0 c.learn.new.place.me.0 l × (length l ≡ c.args.self.now.workers)) (sym c.from_vec-reports.ensures)
+    subst (λ (l : List Report). Worked c.args.turns c.args.self.now.workers c.args.self.now.place.me.0 c.learn.new.place.me.0 l) (sym c.from_vec-reports.ensures)
     (told_run c.args.turns c.args.self.now.workers _ c.args.self.now.place.me.0 c.split_noting.new.place.me.0 c.join_noting-whole.new.place.me.0 c.learn.new.place.me.0 c.join_noting-whole.new.reports.items
     c.join_noting-whole.ensures.joined c.join_noting-whole.ensures.count (grind (arith, common_steps)) c.args.self.now.some c.in_ok-seats.ensures.split (λ i. (c.learn.ensures.kept i).0) c.learn.ensures.settled)
 
@@ -56,7 +56,7 @@ returns-clause-entries g c =
     let lists : List (List Note) = c.join_noting-whole.new.lists.items in
     let reports : List Report = c.from_vec-reports.result in
     let kept : w ≡ mid = λ i. (c.learn.ensures.kept i).0 in
-    let told : Told c.args.turns K v w reports × (length reports ≡ K) = returns-clause-told g c in
+    let told : Worked c.args.turns K v w reports = returns-clause-told g c in
     let j = c.join_noting-whole.ensures.joined in
     let settled : KnowsAll w = subst KnowsAll (sym kept) (c.learn.ensures.settled j.own j.out) in
     let long : length lists ≡ K = c.join_noting-whole.ensures.lists_count ∙ (sym c.join_noting-whole.ensures.count ∙ (ap (λ (l : List Report). length l) (sym c.from_vec-reports.ensures) ∙ told.1)) in
@@ -79,7 +79,7 @@ returns-clause-in_run g c =
     let lists : List (List Note) = c.join_noting-whole.new.lists.items in
     let reports : List Report = c.from_vec-reports.result in
     let kept : w ≡ mid = λ i. (c.learn.ensures.kept i).0 in
-    let told : Told c.args.turns K v w reports × (length reports ≡ K) = returns-clause-told g c in
+    let told : Worked c.args.turns K v w reports = returns-clause-told g c in
     let j = c.join_noting-whole.ensures.joined in
     let settled : KnowsAll w = subst KnowsAll (sym kept) (c.learn.ensures.settled j.own j.out) in
     let long : length lists ≡ K = c.join_noting-whole.ensures.lists_count ∙ (sym c.join_noting-whole.ensures.count ∙ (ap (λ (l : List Report). length l) (sym c.from_vec-reports.ensures) ∙ told.1)) in
