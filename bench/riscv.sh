@@ -1,5 +1,5 @@
 #!/usr/bin/env bash
-# Compiles the programs of examples/riscv, makes a design of each by koika-rom, and runs each design by both engines and
+# Compiles the programs of examples/riscv, makes a design of each by koika-gen, and runs each design by both engines and
 # by the BTOR2 file that it is compiled to. It compares these runs with each other, and with qemu-riscv32: the registers
 # after each instruction, the memory at the end, the output and the exit code. Then it measures what a cycle costs. It
 # takes another program than the built one as its argument, and is run by hand. It needs gcc-riscv64-unknown-elf,
