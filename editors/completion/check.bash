@@ -1,8 +1,14 @@
 #!/usr/bin/env bash
-# Tries the completion for bash.
-here=$(dirname "${BASH_SOURCE[0]}")
+# Tries the completion for bash, in a folder with files of its own.
+here=$(cd "$(dirname "${BASH_SOURCE[0]}")" && pwd)
+shopt -u extglob
 # shellcheck source=koika.bash
 . "$here/koika.bash"
+room=$(mktemp -d)
+trap 'rm -rf "$room"' EXIT
+cd "$room" || exit
+touch a.koika b.koika c.btor2 d.aag lines
+mkdir parts
 wrong=0
 try() {
     local wanted=$1
@@ -14,16 +20,29 @@ try() {
         echo "wrong: $* is completed by ${COMPREPLY[*]}, and not by $wanted"
     }
 }
-try "check print sim compile btorsim gen aiger aigsim recheck --unproved" koika ""
+try "check print sim compile btorsim gen aiger aigsim recheck help --help --version --unproved" koika ""
 try "check compile" koika c
+try "aiger aigsim" koika a
+try "recheck" koika r
+try "--help --version --unproved" koika "--"
+try "check print sim compile btorsim gen aiger aigsim recheck" koika help ""
 try "--cycles --summary --engine --workers --journal" koika sim "--"
 try "--summary --engine --workers --journal" koika sim --cycles 4 "--"
+try "--summary --engine --workers" koika sim --cycles 4 a.koika --journal "--"
 try "plain circuit" koika sim --engine ""
-try "--cycles --summary" koika btorsim ""
-try "aiger aigsim" koika a
-try "--cycles --summary" koika aigsim ""
-try "recheck" koika r
-try "--cycles" koika recheck ""
-try "" koika check ""
+try "" koika sim --cycles ""
+try "--cycles --summary" koika btorsim "--"
+try "--cycles --summary" koika aigsim "--"
+try "--cycles" koika recheck "--"
+try "" koika check "--"
+try "a.koika b.koika parts" koika check ""
+try "a.koika b.koika parts --cycles" koika recheck ""
+try "a.koika" koika sim --cycles 4 a
+try "c.btor2 parts --summary" koika btorsim --cycles 4 ""
+try "d.aag parts --summary" koika aigsim --cycles 4 ""
+try "lines" koika sim --cycles 4 a.koika l
+try "a.koika b.koika parts" koika check "<" ""
+try "parts" koika check p
+try "1 10 100" koika gen ""
 [ "$wrong" = 0 ] && echo "bash completes"
 exit "$wrong"
