@@ -1,0 +1,227 @@
+"""Prints the definitions that the contract of `run` rests on, or one command's part of it: `bench/believe.sh` says how."""
+import collections
+import re
+import sys
+
+from sources import HOLE, TOP, WORD, crates, definitions_of, files, functions_of, imports_of, lines_of
+
+# The top call, and what each command's answer is.
+TOP_CALL = {("koika_top", "run"), ("koika_top", "run_here")}
+COMMANDS = {
+    "check": "AnswersCheck",
+    "print": "AnswersPrint",
+    "sim": "AnswersSim",
+    "compile": "AnswersCompile",
+    "btorsim": "AnswersBtorsim",
+    "aiger": "AnswersAiger",
+    "aigsim": "AnswersAigsim",
+    "journal": "AnswersJournal",
+    "recheck": "AnswersRecheck",
+    "gen": "pipeline",
+}
+# The commands whose definitions docs/DEFINITIONS.md has to list.
+LISTED = ["sim", "compile"]
+
+
+class House:
+    """All definitions, what each uses, and the contracts."""
+
+    def __init__(self):
+        self.definitions, self.modules, self.again, self.makes = {}, {}, {}, collections.defaultdict(dict)
+        self.functions = []
+        for crate in crates():
+            for path in files(crate, "specs", ".antt"):
+                found = definitions_of(crate, path)
+                for one in found:
+                    self.definitions[crate, one.module, one.name] = one
+                    if one.kind == "data":
+                        for line in one.text.split("\n")[1:]:
+                            made = re.match(r"\s+(?:pub )?(" + WORD + r")\s*:", line)
+                            if made:
+                                self.makes[crate, one.module][made[1]] = one.name
+                if found:
+                    self.modules[crate, found[0].module] = [one.name for one in found]
+                for line in lines_of(path):
+                    named = re.match(r"pub use Rattle\.(\w+)\.specs\.([\w.]+?)(?:\.\{(.*)\})?\s*$", line)
+                    if named:
+                        here = path.split("/specs/")[1][: -len(".antt")].replace("/", ".")
+                        if named[3] is None:
+                            self.again[crate, named[2].split(".")[-1]] = named[1], named[2]
+                        else:
+                            for name in named[3].split(","):
+                                self.again[crate, here, name.strip()] = named[1], named[2], name.strip()
+            for path in files(crate, "src", ".rt"):
+                self.functions += functions_of(crate, path)
+        self.uses, self.types = {}, {}
+        for key, one in self.definitions.items():
+            names = set(self.modules[key[:2]]) | set(self.makes[key[:2]])
+            used, self.types[key] = self.named(one.text, one.imports, key[:2], names)
+            # In a file a definition comes after what it uses: another word of the same name is a parameter.
+            self.uses[key] = {it for it in used if it[:2] != key[:2] or self.definitions[it].first < one.first}
+
+    def module(self, path):
+        """The module that an import names, if it is one of definitions: crate and module."""
+        found = re.match(r"Rattle\.(\w+)\.specs\.(.+)$", path)
+        if not found:
+            return None
+        return self.again.get(found.groups(), found.groups())
+
+    def known(self, module, name):
+        """The definition of this name in a module: itself, one that it is a case of, or one that the module names again."""
+        key = (*module, name)
+        if key in self.definitions:
+            return key
+        if name in self.makes[module]:
+            return (*module, self.makes[module][name])
+        return self.again.get(key)
+
+    def named(self, text, imports, here=None, own=()):
+        """The definitions and the program's types that a text names."""
+        text = "\n".join(line for line in text.split("\n") if not line.lstrip().startswith("--"))
+        plain = re.sub(r"(?<=[\w)\]'])\.[\w']+", "", text)  # without the fields of values
+        words = set(re.findall(WORD, plain)) | set(re.findall(r"[^\s(){}\[\],;:@\"]+", plain))
+        found, types = set(), set()
+
+        def is_there(name):
+            return any(part in words for part in name.split(HOLE) if part) if HOLE in name else name in words
+
+        def note(path, name):
+            module = self.module(path)
+            if module is None:
+                return
+            if module[1].startswith("declared."):
+                types.add((module[0], re.sub(r"\.The\w+$", "", module[1][len("declared.") :])))
+            else:
+                key = self.known(module, name)
+                if key:
+                    found.add(key)
+
+        for alias, name in re.findall(r"\b(\w+)\.(" + WORD + ")", text):
+            if alias in imports.modules:
+                note(imports.modules[alias], name)
+        for name, (path, there) in imports.names.items():
+            if is_there(name):
+                note(path, there)
+        for name in own:
+            if is_there(name):
+                found.add(self.known(here, name))
+        return found, types
+
+    def reached(self, start):
+        """What these definitions use, themselves included."""
+        seen, left = set(), list(start)
+        while left:
+            key = left.pop()
+            if key not in seen:
+                seen.add(key)
+                left += self.uses[key]
+        return seen
+
+    def of_contract(self, functions):
+        found = set()
+        for one in functions:
+            found |= self.named(one.clauses, one.imports)[0]
+        return self.reached(found)
+
+    def ordered(self, reached):
+        """These definitions, each after those that it uses: file by file, and in a file as they come there."""
+        below, order = collections.defaultdict(set), []
+        for key in reached:
+            below[key[:2]] |= {it[:2] for it in self.uses[key] if it[:2] != key[:2]}
+
+        def visit(module, path):
+            if module in order or module in path:
+                return
+            for lower in sorted(below[module]):
+                visit(lower, path + [module])
+            order.append(module)
+
+        for module in sorted(below):
+            visit(module, [])
+        place = {module: at for at, module in enumerate(order)}
+        return sorted(reached, key=lambda key: (place[key[:2]], self.definitions[key].first))
+
+    def size(self, keys):
+        return sum(self.definitions[key].last - self.definitions[key].first + 1 for key in keys)
+
+    def types_of(self, reached):
+        """The program's types that these definitions name: file, first and last line, by name."""
+        found = []
+        for crate, path in sorted({it for key in reached for it in self.types[key]}):
+            *folders, name = path.split(".")
+            for file in (f"crates/{crate}/src/{'/'.join(folders)}.rt", f"crates/{crate}/src/lib.rt"):
+                try:
+                    text = "\n".join(lines_of(file))
+                except FileNotFoundError:
+                    continue
+                type_ = re.search(r"^ *(?:pub(?:\([a-z]+\))? )?(?:struct|enum|const|type) " + name + r"\b[^{;]*?(;|\{\}|\{.*?\n *\}|\{[^\n]*\})", text, re.S | re.M)
+                if type_:
+                    first = text.count("\n", 0, type_.start()) + 1
+                    found.append((file, first, first + type_[0].count("\n"), name))
+                    break
+        return found
+
+
+def check(house):
+    """Whether what has to be believed is where it says: prints what is not."""
+    wrong = []
+    top = house.of_contract(one for one in house.functions if (one.crate, one.name) in TOP_CALL and one.is_public)
+    for key in house.ordered(top):
+        if key[1].startswith("inner."):
+            wrong.append(f"{house.definitions[key].path}:{house.definitions[key].first} {key[2]} is in inner/, and `run` rests on it")
+    public = house.of_contract(one for one in house.functions if one.is_public)
+    for (crate, module), names in house.modules.items():
+        if not module.startswith("inner.") and not any((crate, module, name) in public for name in names):
+            wrong.append(f"crates/{crate}/specs/{module.replace('.', '/')}.antt: no public contract rests on it")
+    with open(f"{TOP}/docs/DEFINITIONS.md", encoding="utf-8") as file:
+        page = file.read()
+    for command in LISTED:
+        left = collections.Counter(
+            house.definitions[key].path for key in house.reached(roots(house, command)) if house.definitions[key].path[len("crates/") :] not in page
+        )
+        for path, count in sorted(left.items()):
+            wrong.append(f"{path} isn't in docs/DEFINITIONS.md, and {command} rests on {count} of its definitions")
+    print("\n".join(wrong) if wrong else "all that has to be believed is in specs/ and in docs/DEFINITIONS.md")
+    return 1 if wrong else 0
+
+
+def roots(house, command):
+    found = [key for key in house.definitions if key[2] == COMMANDS[command]]
+    if len(found) != 1:
+        sys.exit(f"{len(found)} definitions are called {COMMANDS[command]}")
+    return found
+
+
+def main(words):
+    house = House()
+    if words == ["--check"]:
+        return check(house)
+    if words == ["--counts"]:
+        print("| to believe | definitions | lines | files |\n|---|---|---|---|")
+        for command in COMMANDS:
+            keys = house.reached(roots(house, command))
+            print(f"| `{command}` | {len(keys):,} | {house.size(keys):,} | {len({key[:2] for key in keys})} |")
+        keys = house.of_contract(one for one in house.functions if (one.crate, one.name) in TOP_CALL and one.is_public)
+        print(f"| all that `run` says | {len(keys):,} | {house.size(keys):,} | {len({key[:2] for key in keys})} |")
+        return 0
+    if len(words) > 1 or words and words[0] not in COMMANDS:
+        sys.exit(f"usage: bench/believe.sh [--check | --counts | {' | '.join(COMMANDS)}]")
+    if words:
+        reached = house.reached(roots(house, words[0]))
+    else:
+        reached = house.of_contract(one for one in house.functions if (one.crate, one.name) in TOP_CALL and one.is_public)
+    order = house.ordered(reached)
+    types = house.types_of(reached)
+    what = words[0] if words else "run"
+    print(f"To believe {what}, read {len(order):,} definitions, {house.size(order):,} lines, in {len({key[:2] for key in order})} files, and")
+    print(f"{len(types)} types of the program, {sum(last - first + 1 for _, first, last, _ in types):,} lines.")
+    for path, first, last, name in types:
+        print(f"{path}:{first}-{last} {name}")
+    for key in order:
+        one = house.definitions[key]
+        print(f"{one.path}:{one.first}-{one.last} {one.name}")
+    return 0
+
+
+if __name__ == "__main__":
+    sys.exit(main(sys.argv[1:]))
