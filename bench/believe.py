@@ -1,4 +1,6 @@
-"""Prints the definitions that the contract of `run` rests on, or one command's part of it: `bench/believe.sh` says how."""
+"""Prints the definitions that the contract of `run` rests on, or one command's part of it.
+
+`bench/believe.sh` says how."""
 import collections
 import re
 import sys
@@ -19,6 +21,7 @@ COMMANDS = {
     "recheck": "AnswersRecheck",
     "gen": "pipeline",
 }
+BEGINS_TYPE = r"^ *(?:pub(?:\([a-z]+\))? )?(?:struct|enum|const|type) "
 # The commands whose definitions docs/DEFINITIONS.md has to list.
 LISTED = ["sim", "compile"]
 
@@ -67,7 +70,7 @@ class House:
         return self.again.get(found.groups(), found.groups())
 
     def known(self, module, name):
-        """The definition of this name in a module: itself, one that it is a case of, or one that the module names again."""
+        """The definition of a name in a module: its own, that of a case, or one that the module names again."""
         key = (*module, name)
         if key in self.definitions:
             return key
@@ -117,10 +120,12 @@ class House:
                 left += self.uses[key]
         return seen
 
-    def of_contract(self, functions):
+    def of_contracts(self, of_top=False):
+        """What the contracts of public functions rest on, or that of the top call alone."""
         found = set()
-        for one in functions:
-            found |= self.named(one.clauses, one.imports)[0]
+        for one in self.functions:
+            if one.is_public and (not of_top or (one.crate, one.name) in TOP_CALL):
+                found |= self.named(one.clauses, one.imports)[0]
         return self.reached(found)
 
     def ordered(self, reached):
@@ -154,7 +159,7 @@ class House:
                     text = "\n".join(lines_of(file))
                 except FileNotFoundError:
                     continue
-                type_ = re.search(r"^ *(?:pub(?:\([a-z]+\))? )?(?:struct|enum|const|type) " + name + r"\b[^{;]*?(;|\{\}|\{.*?\n *\}|\{[^\n]*\})", text, re.S | re.M)
+                type_ = re.search(BEGINS_TYPE + name + r"\b[^{;]*?(;|\{\}|\{.*?\n *\}|\{[^\n]*\})", text, re.S | re.M)
                 if type_:
                     first = text.count("\n", 0, type_.start()) + 1
                     found.append((file, first, first + type_[0].count("\n"), name))
@@ -165,21 +170,21 @@ class House:
 def check(house):
     """Whether what has to be believed is where it says: prints what is not."""
     wrong = []
-    top = house.of_contract(one for one in house.functions if (one.crate, one.name) in TOP_CALL and one.is_public)
-    for key in house.ordered(top):
+    for key in house.ordered(house.of_contracts(of_top=True)):
+        one = house.definitions[key]
         if key[1].startswith("inner."):
-            wrong.append(f"{house.definitions[key].path}:{house.definitions[key].first} {key[2]} is in inner/, and `run` rests on it")
-    public = house.of_contract(one for one in house.functions if one.is_public)
+            wrong.append(f"{one.path}:{one.first} {key[2]} is in inner/, and `run` rests on it")
+    public = house.of_contracts()
     for (crate, module), names in house.modules.items():
         if not module.startswith("inner.") and not any((crate, module, name) in public for name in names):
             wrong.append(f"crates/{crate}/specs/{module.replace('.', '/')}.antt: no public contract rests on it")
     with open(f"{TOP}/docs/DEFINITIONS.md", encoding="utf-8") as file:
         page = file.read()
     for command in LISTED:
-        left = collections.Counter(
-            house.definitions[key].path for key in house.reached(roots(house, command)) if house.definitions[key].path[len("crates/") :] not in page
-        )
-        for path, count in sorted(left.items()):
+        paths = collections.Counter(house.definitions[key].path for key in house.reached(roots(house, command)))
+        for path, count in sorted(paths.items()):
+            if path[len("crates/") :] in page:
+                continue
             wrong.append(f"{path} isn't in docs/DEFINITIONS.md, and {command} rests on {count} of its definitions")
     print("\n".join(wrong) if wrong else "all that has to be believed is in specs/ and in docs/DEFINITIONS.md")
     return 1 if wrong else 0
@@ -201,7 +206,7 @@ def main(words):
         for command in COMMANDS:
             keys = house.reached(roots(house, command))
             print(f"| `{command}` | {len(keys):,} | {house.size(keys):,} | {len({key[:2] for key in keys})} |")
-        keys = house.of_contract(one for one in house.functions if (one.crate, one.name) in TOP_CALL and one.is_public)
+        keys = house.of_contracts(of_top=True)
         print(f"| all that `run` says | {len(keys):,} | {house.size(keys):,} | {len({key[:2] for key in keys})} |")
         return 0
     if len(words) > 1 or words and words[0] not in COMMANDS:
@@ -209,12 +214,13 @@ def main(words):
     if words:
         reached = house.reached(roots(house, words[0]))
     else:
-        reached = house.of_contract(one for one in house.functions if (one.crate, one.name) in TOP_CALL and one.is_public)
+        reached = house.of_contracts(of_top=True)
     order = house.ordered(reached)
     types = house.types_of(reached)
     what = words[0] if words else "run"
-    print(f"To believe {what}, read {len(order):,} definitions, {house.size(order):,} lines, in {len({key[:2] for key in order})} files, and")
-    print(f"{len(types)} types of the program, {sum(last - first + 1 for _, first, last, _ in types):,} lines.")
+    many, lines = len({key[:2] for key in order}), sum(last - first + 1 for _, first, last, _ in types)
+    print(f"To believe {what}, read {len(order):,} definitions, {house.size(order):,} lines, in {many} files,")
+    print(f"and {len(types)} types of the program, {lines:,} lines.")
     for path, first, last, name in types:
         print(f"{path}:{first}-{last} {name}")
     for key in order:

@@ -9,7 +9,8 @@ RUN = 6  # lines that a pair shares at least
 COMMON = 8  # a run that is in more places than this is a form, not a copy
 PARAMETERS = 7
 COLUMNS = 200
-DEFAULT = r"(None|_) => (0|&\[\]|\"\"|Lowered::unit\(\)|Ok\(Lowered::unit\(\)\)),|unwrap_or\((0|&\[\]|\"\")\)|unwrap_or_default\("
+NOTHING = r"(0|&\[\]|\"\"|Lowered::unit\(\)|Ok\(Lowered::unit\(\)\))"
+DEFAULT = rf"(None|_) => {NOTHING},|unwrap_or\({NOTHING}\)|unwrap_or_default\("
 
 
 def texts(part, ending):
@@ -18,8 +19,9 @@ def texts(part, ending):
 
 
 def pairs(part, ending):
-    """Pairs of files of different crates that share six lines or more to the letter. Comments, imports and lines without a word don't
-    count."""
+    """Pairs of files of different crates that share six lines or more to the letter.
+
+    Comments, imports and lines without a word don't count."""
     kept, places = {}, collections.defaultdict(list)
     for crate, path in texts(part, ending):
         lines = [
@@ -54,7 +56,7 @@ def pairs(part, ending):
 
 
 def lemmas():
-    """Lemmas and definitions of proofs that two files or more have, to the letter. Those of one function's proof don't count."""
+    """Lemmas that two files or more have, to the letter. Those of one function's proof don't count."""
     found = collections.defaultdict(list)
     for _, path in texts("proofs", ".antt"):
         if path.count("/") == 3:
@@ -81,8 +83,9 @@ def parameters():
 
 
 def defaults():
-    """Values that stand where there can be none. bench/house.txt lists the places where that is so, and those where a definition says
-    that the value is that; each other place is shown as a new one, and so is a line of the list that fits no place any more."""
+    """Values for cases that can't be, by the list bench/house.txt. It also has cases that a definition gives a value.
+
+    Each other place is shown as a new one, and so is a line of the list that fits no place any more."""
     listed = {}
     with open(f"{TOP}/bench/house.txt", encoding="utf-8") as file:
         for line in file:
@@ -125,9 +128,9 @@ def uncommented():
 
 
 MEASURES = {
-    "code": ("pairs of files of src/ in different crates that share six lines or more", lambda: pairs("src", ".rt")),
-    "specs": ("pairs of files of specs/ in different crates that share six lines or more", lambda: pairs("specs", ".antt")),
-    "proofs": ("pairs of files of proofs/ in different crates that share six lines or more", lambda: pairs("proofs", ".antt")),
+    "code": ("pairs of src/ in different crates that share six lines or more", lambda: pairs("src", ".rt")),
+    "specs": ("pairs of specs/ in different crates that share six lines or more", lambda: pairs("specs", ".antt")),
+    "proofs": ("pairs of proofs/ in different crates that share six lines or more", lambda: pairs("proofs", ".antt")),
     "lemmas": ("lemmas that two files or more have to the letter", lemmas),
     "parameters": ("functions with seven parameters or more", parameters),
     "defaults": ("defaults for cases that can't be", defaults),

@@ -1,4 +1,5 @@
-"""Reads the sources of the repository: their crates, the definitions of specs/ and the functions of src/ with their contracts.
+"""Reads the sources of the repository: crates, the definitions of specs/, the functions of src/ with their contracts.
+
 `house.py` and `believe.py` use it."""
 import collections
 import os
@@ -59,10 +60,8 @@ def definitions_of(crate, path):
     """The definitions of a file, in their order."""
     lines = lines_of(path)
     imports, module = imports_of(lines), module_of(crate, path)
-    begins = re.compile(
-        r" *(?=(?:abbrev|unfoldable|opaque|private|pub|record|data) )(?:(?:abbrev|unfoldable|opaque|private|pub) )*(?:(record|data) )?("
-        + WORD + r")(?=[\s:({])"
-    )
+    words = "abbrev|unfoldable|opaque|private|pub"
+    begins = re.compile(rf" *(?=(?:{words}|record|data) )(?:(?:{words}) )*(?:(record|data) )?({WORD})(?=[\s:({{])")
     found, comment, opened = [], [], None
 
     def close():
@@ -131,11 +130,8 @@ def functions_of(crate, path):
                     place += 1
                     clauses.append(lines[place])
                     open_brackets += lines[place].count("{") - lines[place].count("}")
-            elif re.match(r"\s*(\{|\}|pub |fn |impl\b|struct\b|enum\b|trait\b|use |mod |#\[)", clause) and not clause.strip().startswith(
-                "#[tactic"
-            ):
+            elif re.match(r"\s*(\{|\}|pub |fn |impl\b|struct\b|enum\b|trait\b|use |mod |#\[)", clause):
                 break
-        found.append(
-            Function(crate, path, number, begins[2], begins[1] is not None, [it for it in parts if it], "\n".join(clauses), imports)
-        )
+        parts = [it for it in parts if it]
+        found.append(Function(crate, path, number, begins[2], bool(begins[1]), parts, "\n".join(clauses), imports))
     return found
