@@ -82,6 +82,9 @@ SCRIPTS = [
     ("SWEEPS.md", "sbatch --wait", "{}", ".."),
 ]
 
+# Messages on faults are those that a user gets.
+ENVIRONMENT = {name: value for name, value in os.environ.items() if name not in ("KOIKA", "KOIKA_EXPLAIN")}
+
 # What isn't installed everywhere: a word of a command, and the program that it needs.
 TOOLS = {
     "yosys": "yosys", "berkeley-abc": "berkeley-abc", "iverilog": "iverilog", "z3": "z3", "cvc5": "cvc5",
@@ -208,7 +211,7 @@ class Pages:
         done = subprocess.run(
             ["bash", "-c", command], cwd=room, stdin=subprocess.DEVNULL, stdout=subprocess.PIPE,
             stderr=subprocess.STDOUT, timeout=600, check=False,
-            env={**os.environ, "KOIKA_EXPLAIN": "0", "KOIKA": os.path.join(self.top, "koika")})
+            env={**ENVIRONMENT, "KOIKA": os.path.join(self.top, "koika")})
         found = strip_end(done.stdout.decode("utf-8", "replace").split("\n"))
         if not (are_among if re.match(TALKERS, command) else are_lines)(wanted, found):
             self.say(where, f"another answer to: {command}\n" + "\n".join(found))
@@ -395,7 +398,7 @@ class Tables:
             try:
                 done = subprocess.run(
                     [os.path.join(self.pages.top, "koika")] + command.split(), stdin=file, stdout=subprocess.PIPE,
-                    stderr=subprocess.DEVNULL, timeout=seconds, check=False, env={**os.environ, "KOIKA_EXPLAIN": "0"})
+                    stderr=subprocess.DEVNULL, timeout=seconds, check=False, env=ENVIRONMENT)
             except subprocess.TimeoutExpired:
                 return ""
             return done.stdout.decode("utf-8", "replace")
