@@ -442,6 +442,29 @@ class Tables:
                 at = len(before.split("\n")) + text.count("\n")
                 self.same("BTOR2.md", self.answer("btorsim --cycles 1", before + text), f"fault {number} at {at}:1\n")
 
+    def forms(self, page):
+        """The examples of BTOR2's forms, which are one file with the lines that the page says of them."""
+        lines = ["1 sort bitvec 1", "4 sort bitvec 4", "11 input 1", "14 input 4"]
+        for _, example, *_ in rows_of(page, "| form | example"):
+            lines += ticked(example)
+        self.same("BTOR2.md, the forms", self.answer("btorsim --cycles 1", "\n".join(lines))[:4], "@0 -")
+        self.refusals(page)
+
+    def gates(self, page):
+        """The gates of operators at each width."""
+        for operator, gates in rows_of(page, "| operator at w bits"):
+            for width, wanted in zip((8, 32, 64, 128), gates.split(", ")):
+                design = f"reg r : bits {width} = {width}'d0; input a : bits {width}; rule x {{ write0(r, EXPRESSION) }} schedule {{ x; }}"
+                said = self.answer("aiger", design.replace("EXPRESSION", ticked(operator)[0])).split("\n")[0]
+                self.same(f"AIGER.md, {operator} of {width}", said.split(" ")[-1], wanted.replace(",", ""))
+        self.words(page)
+
+    def tokens(self, page):
+        """Each example of a fault of tokens."""
+        for number, _, examples in rows_of(page, "| fault | where | examples"):
+            for example in ticked(examples):
+                self.same(f"LANGUAGE.md, {example}", self.answer("check", example).split(" ")[1], number)
+
     def words(self, page):
         """Each example of latches that are words."""
         for symbols, words in rows_of(page, "| symbols of latches"):
@@ -493,7 +516,8 @@ def main():
     """Tries each page that is named."""
     pages = Pages(sys.argv[1])
     tables = Tables(pages, sys.argv[1])
-    of_tables = {"LIMITS.md": tables.limits, "BTOR2.md": tables.refusals, "AIGER.md": tables.words, "JOURNAL.md": tables.journals}
+    of_tables = {"LANGUAGE.md": tables.tokens, "LIMITS.md": tables.limits, "BTOR2.md": tables.forms,
+                 "AIGER.md": tables.gates, "JOURNAL.md": tables.journals}
     for page in sys.argv[2:]:
         name = os.path.basename(page)
         pages.page(page)
