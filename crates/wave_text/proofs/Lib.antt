@@ -1,0 +1,4 @@
+pub mod Batches
+pub mod Binary
+pub mod Moments
+pub mod Turns
