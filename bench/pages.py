@@ -84,6 +84,59 @@ SCRIPTS = [
     ("SWEEPS.md", "sbatch --wait", "{}", ".."),
 ]
 
+# What a page says in a sentence: the page, words of it, commands that show it, and what they write. They come after the
+# page's own.
+COUNTER = """cat > counter.v <<'END'
+module top(input clk, input [3:0] data, output [3:0] q);
+  reg [3:0] count FIRST;
+  always @(posedge clk) count <= count + data;
+  assign q = count; ASSERTION
+endmodule
+END
+yosys -q -p 'read_verilog -sv counter.v; prep -top top; flatten; techmap; opt; dfflegalize -cell $_DFF_P_ 01; aigmap;
+             clean; write_aiger OPTIONS -ascii -symbols counter.aag' && ./koika aigsim --cycles 0 counter.aag 2> /dev/null"""
+
+
+def counter(first="", assertion="", options=""):
+    """The commands that make an AIGER file of a counter and run it."""
+    return COUNTER.replace("FIRST", first).replace("ASSERTION", assertion).replace("OPTIONS", options)
+
+
+CLAIMS = [
+    ("AIGER.md", "`write_aiger` refuses the cell `$mem_v2`",
+     "yosys -q -p 'read_verilog design.v; prep -top top; flatten; techmap; opt; dfflegalize -cell $_DFF_P_ 01; aigmap; clean;"
+     " write_aiger -ascii x.aag' 2>&1 |"
+     " grep -o 'mem_v2'", "mem_v2"),
+    ("AIGER.md", "Without it such a register is its own reset (75)", counter(), "fault 75 at 7:1"),
+    ("AIGER.md", "and writes a `!` before their names", counter("= 4'd1", "", "-zinit") + " | grep -o '!count.0'", "!count[0"),
+    ("AIGER.md", "An assertion makes a header of more numbers (70)",
+     counter("= 4'd1", "always @* assert(count != 10);"), "fault 70 at 1:1"),
+    ("AIGER.md", "A register that is also a port has both names", counter("= 4'd1") + " | cut -c 1-17", "@0 - count[0] q=1"),
+    ("CIRCUITS.md", "there is a `write_btor` and no `read_btor`",
+     "yosys -p 'help read_btor' | grep -o '^No such command'", "No such command"),
+    ("FORMATS.md", "A file that can't be read is status 3", "./koika check none 2> /dev/null; echo $?", "3"),
+    ("FORMATS.md", "`-` names that", "./koika check - < examples/counter.koika", "ok registers=1 rules=1 nodes=1 weight=10"),
+    ("FORMATS.md", "`/dev/null` is an empty part", "./koika sim --cycles 0 examples/counter.koika /dev/null", "@0 - count=00"),
+    ("FROM-BLUESPEC.md", "producer first at port 0, then consumer at port 1", """cat > fifo.koika <<'END'
+input put : bits 1; input get : bits 1; reg full : bits 1 = 1'd0;
+rule enqueue { if ~put | read0(full) { abort }; write0(full, 1'd1) }
+rule dequeue { if ~get | ~read1(full) { abort }; write1(full, 1'd0) }
+schedule { enqueue; dequeue; }
+END
+printf 'put=1 get=1\\nput=1\\nput=1 get=1\\n' > stimulus; ./koika sim --cycles 3 fifo.koika stimulus""",
+     "@0 - full=0\n@1 enqueue,dequeue full=0\n@2 enqueue full=1\n@3 dequeue full=0"),
+    ("LANGUAGE.md", "the old value and another rule's new value in one rule | not possible", """cat > both.koika <<'END'
+reg x : bits 8 = 8'd0; reg old : bits 8 = 8'd0; reg new : bits 8 = 8'd0;
+rule write { write0(x, 8'd1) }
+rule both { write0(old, read0(x)); write0(new, read1(x)) }
+schedule { write; both; }
+END
+./koika sim --cycles 1 both.koika | tail -n 1""", "@1 write x=01 old=00 new=00"),
+    ("SWEEPS.md", "which is 0 also where an assertion is violated",
+     "bin/sweep examples/limit.koika stimuli | awk '$3 == \"ten@16\" { print $2 }' | head -n 1"
+     "; bin/sweep examples/limit.koika stimuli > /dev/null; echo $?", "0\n2"),
+]
+
 # Messages on faults are those that a user gets.
 ENVIRONMENT = {name: value for name, value in os.environ.items() if name not in ("KOIKA", "KOIKA_EXPLAIN")}
 
@@ -228,6 +281,13 @@ class Pages:
                 subprocess.run(["bash", "-c", BEFORE[name]], cwd=room, check=True)
             for start, block in blocks_of(page):
                 self.block(name, start, block, room)
+            with open(page, encoding="utf-8") as file:
+                text = " ".join(file.read().split())
+            for of_page, words, command, wanted in CLAIMS:
+                if of_page == name:
+                    self.run(f"{name}, {words}", command, wanted.split("\n"), room)
+                    if words not in text:
+                        self.say(name, f"it doesn't say: {words}")
 
     def block(self, name, start, block, room):
         """Runs a transcript or commands, or makes a file."""
