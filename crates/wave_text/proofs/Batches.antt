@@ -9,7 +9,7 @@ use Rattle.stim_report.specs.Summary.{last_values}
 use Rattle.stim_report.specs.declared.shape.Shape.{Shape}
 use Rattle.stim_report.proofs.TotalsOfBatches.{cycles_joined}
 use Rattle.wave_text.specs.Parts.{GoesOn, Progress, TakesRows, ending, last_of, moments_before_last, part, progress}
-use Rattle.wave_text.specs.Waves.{dump, edge, edges, head, last_levels, levels, moments, no_levels, time, variables}
+use Rattle.wave_text.specs.Waves.{body, dump, edge, edges, head, last_levels, levels, moments, no_levels, time, variables}
 use Rattle.wave_text.specs.declared.level.Level.{Level}
 use Rattle.wave_text.specs.declared.variable.Variable.{Variable}
 
@@ -133,7 +133,7 @@ moments_last shape inputs cycle row (next ∷ rows) = ap (λ (ms : List (List Le
 
 -- the text of the rows and the ending are the edges of all rows and the last time
 pub parts_join : (shape : Shape) (inputs : InputsByCycle) (rows : List Row) → 1 ≤ length rows → head shape ++ part shape inputs rows ++ ending shape (progress shape inputs rows) ≡ dump shape inputs rows
-unfolding dump ending progress
+unfolding dump body ending progress
 parts_join shape inputs [] some = absurd (omega (arith, some))
 parts_join shape inputs (row ∷ rows) some =
     let all = row ∷ rows in
@@ -149,4 +149,3 @@ parts_join shape inputs (row ∷ rows) some =
     ∙ ap (λ n. written ++ (edge vs n (last_of (no_levels shape) ms) last ++ [])) at ∙ ap (λ t. written ++ t) (append-nil final) in
     append_assoc (head shape) written (final ++ time (10 * (last_cycle all + 1)))
     ∙ ap (λ t. head shape ++ t) (sym (append_assoc written final (time (10 * (last_cycle all + 1)))) ∙ ap₂ (λ (t : List ℕ) (n : ℕ). t ++ time n) (sym both) after)
-    ∙ sym (append_assoc (head shape) (edges vs 0 (no_levels shape) (moments shape inputs 0 all)) (time (10 * length all)))

@@ -20,7 +20,7 @@ use Rattle.wave_text.proofs.Turns.{turned}
 
 -- ---- how many there are
 
-length_numbered : (kind : Kind) (number : ℕ) (named : List NameWidth) → length (numbered kind number named) ≡ length named
+pub length_numbered : (kind : Kind) (number : ℕ) (named : List NameWidth) → length (numbered kind number named) ≡ length named
 length_numbered kind number [] = refl
 length_numbered kind number (one ∷ more) = ap suc (length_numbered kind (number + 1) more)
 
@@ -31,7 +31,7 @@ length_variables shape =
     (length-append (numbered Input 0 shape.inputs) (numbered Register 0 shape.registers) ∙ ap₂ (λ (a b : ℕ). a + b) (length_numbered Input 0 shape.inputs) (length_numbered Register 0 shape.registers))
     (length_numbered Rule 0 (map of_rule shape.rules) ∙ length-map shape.rules of_rule)
 
-length_levels : (inputs regs : List BitVector) (fired : List Bool) → length (levels inputs regs fired) ≡ length inputs + length regs + length fired
+pub length_levels : (inputs regs : List BitVector) (fired : List Bool) → length (levels inputs regs fired) ≡ length inputs + length regs + length fired
 length_levels inputs regs fired =
     length-append (map known inputs ++ map known regs) (map flag fired)
     ∙ ap₂ (λ (a b : ℕ). a + b)

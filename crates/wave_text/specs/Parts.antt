@@ -1,4 +1,5 @@
--- A dump that is made in batches of rows: what is written of the rows so far, and what is left to write after the last one.
+-- A dump that is made in batches of rows: what is written of the rows so far, and what is left to write after the last
+-- one.
 use Rattle.std.specs.Prelude.{◌≡◌, ℕ, ⊤, ◌+◌, ◌*◌, ◌≤◌, List, [], ◌∷◌, ◌++◌, length}
 use Rattle.kw_bits.specs.BitVector.{BitVector}
 use Rattle.one_rule.specs.Run.{InputsByCycle}
@@ -24,7 +25,8 @@ abbrev pub last_of : List Level → List (List Level) → List Level
 last_of before [] = before
 last_of before (now ∷ later) = last_of now later
 
--- what is known of the rows so far: their last cycle, the values that were written last, and the registers of the last row
+-- what is known of the rows so far: their last cycle, the values that were written last, and the registers of the last
+-- row
 pub record Progress : Type 0 where
   pub cycle : ℕ
   pub levels : List Level
@@ -43,7 +45,8 @@ GoesOn [] batch = ⊤
 GoesOn (row ∷ rows) [] = ⊤
 GoesOn (row ∷ rows) (first ∷ batch) = first.regs ≡ last_values (row ∷ rows)
 
--- after a batch that goes on from rows these and the batch are the rows so far, and the text is what is written of the batch
+-- after a batch that goes on from rows, these and the batch are the rows so far, and the text is what is written of the
+-- batch
 pub record TakesRows (shape : Shape) (inputs : InputsByCycle) (before batch : List Row) (now : Progress) (text : List ℕ) : Type 0 where
   pub rows : now ≡ progress shape inputs (joined before batch)
   pub written : part shape inputs (joined before batch) ≡ part shape inputs before ++ text

@@ -1,6 +1,6 @@
 -- The value change dump of a run (IEEE 1364-2005, clause 18, the four-state form): the text that shows the inputs, the
--- registers and the rules of a run as signals over time. A cycle is ten units of time. It begins at a rising edge of the clock,
--- at which the registers change, and the clock falls in its middle.
+-- registers and the rules of a run as signals over time. A cycle is ten units of time. It begins at a rising edge of the
+-- clock, at which the registers change, and the clock falls in its middle.
 use Rattle.std.specs.Prelude.{ℕ, zero, suc, ◌+◌, ◌*◌, ◌/◌, ◌%◌, ◌^◌, ◌==◌, if◌then◌else◌, Bool, true, false, List, [], ◌∷◌, ◌++◌, length, map, replicate, codes, decimal}
 use Rattle.kw_bits.specs.BitVector.{BitVector}
 use Rattle.one_rule.specs.Run.{InputsByCycle}
@@ -170,7 +170,10 @@ moments shape inputs cycle [] = []
 moments shape inputs cycle (row ∷ []) = last_levels shape row.regs ∷ []
 moments shape inputs cycle (row ∷ next ∷ rows) = levels (inputs (cycle + 1)) row.regs next.fired ∷ moments shape inputs (cycle + 1) (next ∷ rows)
 
+-- the changes of a run, up to the end of the cycle after the last one
+unfoldable pub body : Shape → InputsByCycle → List Row → List ℕ
+body shape inputs rows = edges (variables shape) 0 (no_levels shape) (moments shape inputs 0 rows) ++ time (10 * length rows)
+
 -- the dump of a run
 unfoldable pub dump : Shape → InputsByCycle → List Row → List ℕ
-dump shape inputs rows =
-    head shape ++ edges (variables shape) 0 (no_levels shape) (moments shape inputs 0 rows) ++ time (10 * length rows)
+dump shape inputs rows = head shape ++ body shape inputs rows

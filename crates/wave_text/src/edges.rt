@@ -95,7 +95,8 @@ pub(crate) fn edges(
     requires rows { RowsFit shape.now rows.now }
     ensures text { IfOk result (λ written. written.text ≡ texts.edges (texts.variables shape.now) cycle before.now
         (moments_before_last (inputs_of stimulus.now) cycle rows.now)) }
-    ensures levels { IfOk result (λ written. written.levels ≡ last_of before.now (moments_before_last (inputs_of stimulus.now) cycle rows.now)) }
+    ensures levels { IfOk result (λ written. written.levels ≡ last_of before.now
+        (moments_before_last (inputs_of stimulus.now) cycle rows.now)) }
     ensures count { IfOk result (λ written. length written.levels ≡ length before.now) }
 {
     let variables = variables(alloc, shape)?;

@@ -49,8 +49,8 @@ impl Waves {
         })
     }
 
-    /// Takes the rows of a batch, which begins with the row that the rows so far end with, and gives the text that is written
-    /// of it. An `Err` leaves it as it was.
+    /// Takes the rows of a batch, which begins with the row that the rows so far end with, and gives the text that is
+    /// written of it. An `Err` leaves it as it was.
     pub fn take(
         &mut self,
         alloc: Global,
@@ -63,8 +63,9 @@ impl Waves {
         requires few { self.old.cycle + length rows.now ≤ 2 ^ 32 }
         requires rows { RowsFit shape.now rows.now }
         requires inputs { stimulus.now.widths ≡ widths_of shape.now.inputs }
-        ensures takes { IfOk result (λ text. (before : List RowOf) → self.old ≡ progress shape.now (inputs_of stimulus.now) before
-            → GoesOn before rows.now → TakesRows shape.now (inputs_of stimulus.now) before rows.now self.new text) }
+        ensures takes { IfOk result (λ text. (before : List RowOf)
+            → self.old ≡ progress shape.now (inputs_of stimulus.now) before → GoesOn before rows.now
+            → TakesRows shape.now (inputs_of stimulus.now) before rows.now self.new text) }
         ensures fits { OnOk result (length self.new.levels ≡ length (texts.variables shape.now)) }
         ensures same { OnErr result (self.new ≡ self.old) }
     {
