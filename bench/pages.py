@@ -39,7 +39,7 @@ module top(input clk, input reset, input we, input [3:0] at, input [7:0] data, o
   assign bad = count == 10;
 endmodule
 END"""
-WRITES = "echo %%; for at in 0 1 2 3 4 5; do echo we=1 at=$at data=7; done"
+WRITES = "for at in 0 1 2 3 4 5; do echo we=1 at=$at data=7; done"
 
 # What a reader has where a page begins: commands that make it.
 BEFORE = {
@@ -63,10 +63,12 @@ head -c $(($(wc -c < journal) * 3 / 4)) journal > part""",
 # and what all these write.
 SCRIPTS = [
     ("AIGER.md", "yosys -p 'read_verilog design.v; prep",
-     "{} > /dev/null; ( cat design.aag; " + WRITES + " ) | ./koika aigsim --cycles 6 --summary | grep -e fired.bad -e ^count",
+     "{} > /dev/null; ( " + WRITES + " ) > writes; ./koika aigsim --cycles 6 --summary design.aag writes |"
+     " grep -e fired.bad -e ^count",
      "fired bad 1\ncount=b"),
     ("CIRCUITS.md", "yosys -p 'read_verilog -sv design.v; prep",
-     "{} > /dev/null; ( cat design.btor2; " + WRITES + " ) | ./koika btorsim --cycles 6 --summary | grep -e fired -e ^count",
+     "{} > /dev/null; ( " + WRITES + " ) > writes; ./koika btorsim --cycles 6 --summary design.btor2 writes |"
+     " grep -e fired.bad -e ^count",
      "fired bad 1\ncount=b"),
     ("JOURNAL.md", "./koika recheck --cycles 1000 design.koika stimulus",
      "{} > report; ./koika sim --cycles 1000 design.koika | cmp - report", ""),
@@ -77,10 +79,13 @@ SCRIPTS = [
      "{} > report; ./koika sim --cycles 1000 design.koika | cmp - report", ""),
     ("JOURNAL.md", "awk '{ text = text $0",
      "{} > report; ./koika sim --cycles $cycles design.koika | cmp - report; [ $cycles -ge 512 ] || echo $cycles", ""),
-    ("LIMITS.md", "./koika compile design.koika | ./koika btorsim", "{}", "cycles 1000000\nfired incr 1000000\ncount=40"),
-    ("SWEEPS.md", "bin/sweep examples/limit.koika stimuli | awk", "{}", "1.txt ten@16\n10.txt ten@20\n11.txt ten@22\n.."),
+    ("LIMITS.md", "./koika compile design.koika | ./koika btorsim", "{}",
+     "cycles 1000000\nfired incr 1000000\ncount=40"),
+    ("SWEEPS.md", "bin/sweep examples/limit.koika stimuli | awk", "{}",
+     "1.txt ten@16\n10.txt ten@20\n11.txt ten@22\n.."),
     ("SWEEPS.md", "parallel -k -j 4",
-     "{}; bin/sweep examples/limit.koika stimuli | tail -n +2 | LC_ALL=C sort | cmp - <(LC_ALL=C sort rows); wc -l < rows", "40"),
+     "{}; bin/sweep examples/limit.koika stimuli | tail -n +2 | LC_ALL=C sort > sorted"
+     "; LC_ALL=C sort rows | cmp - sorted; wc -l < rows", "40"),
     ("SWEEPS.md", "sbatch --wait", "{}", ".."),
 ]
 
@@ -94,7 +99,8 @@ module top(input clk, input [3:0] data, output [3:0] q);
 endmodule
 END
 yosys -q -p 'read_verilog -sv counter.v; prep -top top; flatten; techmap; opt; dfflegalize -cell $_DFF_P_ 01; aigmap;
-             clean; write_aiger OPTIONS -ascii -symbols counter.aag' && ./koika aigsim --cycles 0 counter.aag 2> /dev/null"""
+             clean; write_aiger OPTIONS -ascii -symbols counter.aag'
+./koika aigsim --cycles 0 counter.aag 2> /dev/null"""
 
 
 def counter(first="", assertion="", options=""):
@@ -104,19 +110,22 @@ def counter(first="", assertion="", options=""):
 
 CLAIMS = [
     ("AIGER.md", "`write_aiger` refuses the cell `$mem_v2`",
-     "yosys -q -p 'read_verilog design.v; prep -top top; flatten; techmap; opt; dfflegalize -cell $_DFF_P_ 01; aigmap; clean;"
-     " write_aiger -ascii x.aag' 2>&1 |"
-     " grep -o 'mem_v2'", "mem_v2"),
+     "yosys -q -p 'read_verilog design.v; prep -top top; flatten; techmap; opt; dfflegalize -cell $_DFF_P_ 01; aigmap;"
+     " clean; write_aiger -ascii x.aag' 2>&1 | grep -o 'mem_v2'", "mem_v2"),
     ("AIGER.md", "Without it such a register is its own reset (75)", counter(), "fault 75 at 7:1"),
-    ("AIGER.md", "and writes a `!` before their names", counter("= 4'd1", "", "-zinit") + " | grep -o '!count.0'", "!count[0"),
+    ("AIGER.md", "and writes a `!` before their names",
+     counter("= 4'd1", "", "-zinit") + " | grep -o '!count.0'", "!count[0"),
     ("AIGER.md", "An assertion makes a header of more numbers (70)",
      counter("= 4'd1", "always @* assert(count != 10);"), "fault 70 at 1:1"),
-    ("AIGER.md", "A register that is also a port has both names", counter("= 4'd1") + " | cut -c 1-17", "@0 - count[0] q=1"),
+    ("AIGER.md", "A register that is also a port has both names",
+     counter("= 4'd1") + " | cut -c 1-17", "@0 - count[0] q=1"),
     ("CIRCUITS.md", "there is a `write_btor` and no `read_btor`",
      "yosys -p 'help read_btor' | grep -o '^No such command'", "No such command"),
     ("FORMATS.md", "A file that can't be read is status 3", "./koika check none 2> /dev/null; echo $?", "3"),
-    ("FORMATS.md", "`-` names that", "./koika check - < examples/counter.koika", "ok registers=1 rules=1 nodes=1 weight=10"),
-    ("FORMATS.md", "`/dev/null` is an empty part", "./koika sim --cycles 0 examples/counter.koika /dev/null", "@0 - count=00"),
+    ("FORMATS.md", "`-` names that",
+     "./koika check - < examples/counter.koika", "ok registers=1 rules=1 nodes=1 weight=10"),
+    ("FORMATS.md", "`/dev/null` is an empty part",
+     "./koika sim --cycles 0 examples/counter.koika /dev/null", "@0 - count=00"),
     ("FROM-BLUESPEC.md", "producer first at port 0, then consumer at port 1", """cat > fifo.koika <<'END'
 input put : bits 1; input get : bits 1; reg full : bits 1 = 1'd0;
 rule enqueue { if ~put | read0(full) { abort }; write0(full, 1'd1) }
@@ -155,7 +164,8 @@ def blocks_of(page):
         for number, line in enumerate(text.read().split("\n"), 1):
             is_code = line.startswith("    ") and (block or blank_before)
             # A transcript has no empty line, a listing may have some.
-            ends = blank_before and (not is_code or line.startswith("    $ ") or block[:1] and block[0].startswith("$ "))
+            after_transcript = block[:1] and block[0].startswith("$ ")
+            ends = blank_before and (not is_code or line.startswith("    $ ") or after_transcript)
             if block and (ends or not is_code and line != ""):
                 found.append((start, strip_end(block)))
                 block = []
@@ -317,8 +327,9 @@ class Pages:
         for target in re.findall(r"\]\(([^)#]+)\)", text):
             if not os.path.exists(os.path.join(folder, target)):
                 self.say(os.path.basename(page), f"there is no {target}")
+        folders = [os.path.join(top, part) for part in ("", "docs", "docs/measured", "editors")]
         for target in re.findall(r"`([A-Za-z_/-]+\.md)`", text):
-            if not any(os.path.exists(os.path.join(top, part, target)) for part in ("", "docs", "docs/measured", "editors")):
+            if not any(os.path.exists(os.path.join(there, target)) for there in folders):
                 self.say(os.path.basename(page), f"there is no {target}")
         for target in re.findall(r"`((?:bin|bench|examples|editors|crates|docs)/[A-Za-z0-9_./-]+)`", text):
             if not os.path.exists(os.path.join(top, target)):
@@ -417,11 +428,13 @@ LIMITS = {
     "cycles, counted up to 256, times the states of a BTOR2 file":
         ("btorsim --summary --cycles 300", lambda n: repeated((n + 255) // 256, "a#\n", "1 sort bitvec 1\n", "")),
     "cycles, counted up to 256, times its outputs of one bit":
-        ("btorsim --summary --cycles 300", lambda n: repeated((n + 255) // 256, "b#\n", "1 sort bitvec 1\n2 zero 1\n", "")),
+        ("btorsim --summary --cycles 300",
+         lambda n: repeated((n + 255) // 256, "b#\n", "1 sort bitvec 1\n2 zero 1\n", "")),
     "cycles, counted up to 256, times the words of latches of an AIGER file":
         ("aigsim --summary --cycles 300", lambda n: latches((n + 255) // 256, lambda k: f"x{k}")),
     "cycles, counted up to 256, times its outputs":
-        ("aigsim --summary --cycles 300", lambda n: repeated((n + 255) // 256, "0\n", f"aag 0 0 0 {(n + 255) // 256} 0\n", "")),
+        ("aigsim --summary --cycles 300",
+         lambda n: repeated((n + 255) // 256, "0\n", f"aag 0 0 0 {(n + 255) // 256} 0\n", "")),
     "the number after `--cycles`": ("sim --cycles N", lambda n: "schedule { }"),
     "digits of that number, with leading zeros": ("sim --cycles DIGITS", lambda n: "schedule { }"),
     "workers": ("sim --cycles 1 --workers N", lambda n: "schedule { }"),
@@ -440,9 +453,11 @@ LIMITS = {
 
 def numbered(source):
     """The lines `aK` and `bK` of a BTOR2 text, K a number: a state with a next value, and an output."""
-    source = re.sub(r"^a(\d+)$", lambda m: f"{2 * int(m[1]) + 3} state 1\n{2 * int(m[1]) + 4} next 1 {2 * int(m[1]) + 3} "
-                    f"{2 * int(m[1]) + 3}", source, flags=re.M)
-    return re.sub(r"^b(\d+)$", lambda m: f"{int(m[1]) + 3} output 2", source, flags=re.M)
+    def state(match):
+        line = 2 * int(match[1]) + 3
+        return f"{line} state 1\n{line + 1} next 1 {line} {line}"
+    source = re.sub(r"^a(\d+)$", state, source, flags=re.M)
+    return re.sub(r"^b(\d+)$", lambda match: f"{int(match[1]) + 3} output 2", source, flags=re.M)
 
 
 class Tables:
@@ -516,8 +531,9 @@ class Tables:
         """The gates of operators at each width."""
         for operator, gates in rows_of(page, "| operator at w bits"):
             for width, wanted in zip((8, 32, 64, 128), gates.split(", ")):
-                design = f"reg r : bits {width} = {width}'d0; input a : bits {width}; rule x {{ write0(r, EXPRESSION) }} schedule {{ x; }}"
-                said = self.answer("aiger", design.replace("EXPRESSION", ticked(operator)[0])).split("\n")[0]
+                design = (f"reg r : bits {width} = {width}'d0; input a : bits {width};"
+                          f"rule x {{ write0(r, {ticked(operator)[0]}) }} schedule {{ x; }}")
+                said = self.answer("aiger", design).split("\n")[0]
                 self.same(f"AIGER.md, {operator} of {width}", said.split(" ")[-1], wanted.replace(",", ""))
         self.words(page)
 
