@@ -9,7 +9,7 @@ _koika_options() {
     esac
 }
 
-# The files that a word may become: those that the command can read, and folders; all files where there is none of these.
+# The files that a word may become: those that the command reads, and folders; all files where there is none of these.
 _koika_files() {
     local name all=() fitting=()
     mapfile -t all < <(compgen -f -- "$2" | sort)
