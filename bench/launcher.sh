@@ -78,7 +78,12 @@ name=$(basename "$PWD")
 case $1 in
     version) echo a kit ;;
     check) echo "check $name" >>"$ROOM/asked"; mkdir -p out; echo "$name" >out/proof ;;
-    run) shift; echo "run $name $*: $(cat)" >>"$ROOM/asked"; mkdir -p out; cp "$ROOM/program" "out/$name"; chmod +x "out/$name" ;;
+    run)
+        shift
+        echo "run $name $*: $(cat)" >>"$ROOM/asked"
+        mkdir -p out
+        cp "$ROOM/program" "out/$name"
+        chmod +x "out/$name" ;;
     try) shift; echo "run=ended by stand-in" >&2; echo "try $name $*: $(cat)" ;;
 esac
 KIT
@@ -129,7 +134,8 @@ same "sim writes" "$(tr '\n' ' ' <"$room/out")" "koika_cli sim --cycles 2 "
 "$tree/koika" sim --cycles 2 <"$room/empty" >/dev/null
 same "the second call asks for" "$(cat "$room/asked")" ""
 "$tree/koika" why --cycle 3 <"$room/empty" >"$room/out" 2>"$room/said"
-same "why asks for" "$(tr '\n' ' ' <"$room/asked")" "check low check lab_cli run lab_cli -- why --cycle 1: schedule { } "
+same "why asks for" "$(tr '\n' ' ' <"$room/asked")" \
+    "check low check lab_cli run lab_cli -- why --cycle 1: schedule { } "
 same "why writes" "$(tr '\n' ' ' <"$room/out")" "lab_cli why --cycle 3 "
 
 # Which program a word belongs to, with and without the second one in the tree.
@@ -193,7 +199,8 @@ reads "three of obligation" 'a\n%%\n%%\nb' obligation whole none broken
 same "standard input as a file" "$(echo i | "$tree/koika" sim --cycles 2 whole - | tail -n 1 | tr -s ' ')" \
     " a \n % % \n i \n"
 same "standard input alone" "$(echo i | "$tree/koika" check - | tail -n 1 | tr -s ' ')" " i \n"
-same "the words without files" "$("$tree/koika" sim --cycles 2 whole --summary none --engine plain | head -n 7 | tr '\n' ' ')" \
+same "the words without files" \
+    "$("$tree/koika" sim --cycles 2 whole --summary none --engine plain | head -n 7 | tr '\n' ' ')" \
     "koika_cli sim --cycles 2 --summary --engine plain "
 same "gen has no file" "$("$tree/koika" gen 3 | tr '\n' ' ')" "koika_cli gen 3 "
 ln -s "$tree/koika" "$room/link"
@@ -238,8 +245,10 @@ places "after an empty file" "whole:1:1: fault 30:" "30 at 2:1" sim --cycles 2 n
 places "no place" "whole: fault 45:" "45 at 0:0" sim --cycles 2 whole broken
 places "a mark of its own" "both:2:1: fault 30:" "30 at 4:1" sim --cycles 2 both whole
 places "a rule's name" "whole: fault 90:" "90 at 0:0" why --cycle 2 --rule zero whole
-same "no explanation" "$(KOIKA_EXPLAIN=0 FAULT="11 at 1:1" WITH=2 "$tree/koika" check whole 2>&1 || true)" "fault 11 at 1:1"
-same "no explanation without files" "$(FAULT="11 at 1:1" WITH=2 "$tree/koika" check <whole 2>&1 || true)" "fault 11 at 1:1"
+same "no explanation" "$(KOIKA_EXPLAIN=0 FAULT="11 at 1:1" WITH=2 "$tree/koika" check whole 2>&1 || true)" \
+    "fault 11 at 1:1"
+same "no explanation without files" "$(FAULT="11 at 1:1" WITH=2 "$tree/koika" check <whole 2>&1 || true)" \
+    "fault 11 at 1:1"
 has "asked for" "$(KOIKA_EXPLAIN=1 FAULT="11 at 1:1" WITH=2 "$tree/koika" check <whole 2>&1 || true)" \
     "koika: fault 11 at line 1, column 1: "
 status=0
