@@ -121,6 +121,8 @@ CLAIMS = [
      counter("= 4'd1") + " | cut -c 1-17", "@0 - count[0] q=1"),
     ("CIRCUITS.md", "there is a `write_btor` and no `read_btor`",
      "yosys -p 'help read_btor' | grep -o '^No such command'", "No such command"),
+    ("CIRCUITS.md", "With `bad 9` the answer is `unsat`",
+     "./koika compile examples/limit.koika | bin/smt bad 9 | z3 -in > said; echo $?; head -n 1 said", "1\nunsat"),
     ("FORMATS.md", "A file that can't be read is status 3", "./koika check none 2> /dev/null; echo $?", "3"),
     ("FORMATS.md", "`-` names that",
      "./koika check - < examples/counter.koika", "ok registers=1 rules=1 nodes=1 weight=10"),

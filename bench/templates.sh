@@ -204,7 +204,7 @@ refused '//@ parameter n 1\n//@ parameter n 2' 'template:2: there is a n already
 refused '//@ parameter bits 1' 'template:1: not understood: //@ parameter bits 1'
 refused '//@ parameter n 1 2' 'template:1: not understood: //@ parameter n 1 2'
 refused '//@ repeat i 0 1\n//@ parameter n 1\n//@ end' 'template:2: a parameter is declared outside of what is repeated'
-refused 'a\nb${i}' 'template:2: ${i}: there is no parameter i here, and nothing is repeated by it'
+refused 'a\nb${i}' 'template:2: ${i}: no parameter and no repeat is named i here'
 refused '${1' 'template:1: a } is missing after ${'
 refused '${}' 'template:1: ${} is no formula: numbers, names, + - * / %, parentheses and bits(..)'
 refused '${1 2}' 'template:1: ${1 2} is no formula: numbers, names, + - * / %, parentheses and bits(..)'
