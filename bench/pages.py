@@ -462,6 +462,38 @@ def numbered(source):
     return re.sub(r"^b(\d+)$", lambda match: f"{int(match[1]) + 3} output 2", source, flags=re.M)
 
 
+# A habit in words: the source.
+HABITS = {
+    "a byte order mark at the file's start": "\ufeffschedule { }",
+    "a rule, function or type that is declared below its use": "rule x { g() } fun g() : unit { } schedule { x; }",
+    "a function that calls itself": "fun g() : unit { g() } schedule { }",
+}
+
+
+def habit(example, is_stimulus):
+    """A source with an example: a declaration, a statement, an expression, or a line of a stimulus."""
+    if example in HABITS:
+        return HABITS[example]
+    example = example.replace("\\|", "|").replace("..", "")
+    names = "input a : bits 8; input b : bits 8; input d : bits 8; input c : bits 1; reg count : bits 8 = 8'd0;"
+    names += "fun f(x : bits 8) : bits 8 { x }"
+    if is_stimulus:
+        return names + "schedule { }\n%%\n" + example
+    if example.startswith(("reg ", "rule ")):
+        return names + ("reg r : bits 8 = 8'd0;" if "read0(r)" in example else "") + example + " schedule { }"
+    if example.startswith("assert"):
+        return names + "reg r : bits 8 = 8'd0; rule bad { } " + example + " schedule { }"
+    names += "reg r : bits 8 = 8'd0;"
+    is_choice = example.startswith("if c") and "else" in example
+    if not is_choice and example.startswith(("if c ", "c = d", "let v = if c", "else ")) or example.endswith(";"):
+        before = "if c { abort } " if example.startswith("else") else "let v = a; "
+        return names + "rule x { " + before + example + " } schedule { x; }"
+    if example in ("!a", "~a"):
+        example = example[0] + "c"
+    value = example if example.startswith("write") else "let z = " + example + ";"
+    return names + "rule x { " + value + " } schedule { x; }"
+
+
 class Tables:
     """Tries the rows of tables."""
 
@@ -545,6 +577,19 @@ class Tables:
             for example in ticked(examples):
                 self.same(f"LANGUAGE.md, {example}", self.answer("check", example).split(" ")[1], number)
 
+    def habits(self, page):
+        """Each habit is refused as its row says, and what is to be written instead isn't, where it is code."""
+        for written, number, instead in rows_of(page, "| written | fault"):
+            number = number.split(" ")[0]
+            for example in ticked(written) if written.startswith("`") else [written]:
+                said = self.answer("check", habit(example, "stimulus" in written))
+                self.same(f"FAULTS.md, {example}", said.split(" ")[1], number)
+            for example in ticked(instead):
+                is_code = re.search(r"\w[ (\[=]", example) and ".." not in example and "stimulus" not in written
+                if is_code and not example.startswith("write0(c"):
+                    said = self.answer("check", habit(example, False))
+                    self.same(f"FAULTS.md, {example}", said.split(" ")[0], "ok")
+
     def words(self, page):
         """Each example of latches that are words."""
         for symbols, words in rows_of(page, "| symbols of latches"):
@@ -596,8 +641,8 @@ def main():
     """Tries each page that is named."""
     pages = Pages(sys.argv[1])
     tables = Tables(pages, sys.argv[1])
-    of_tables = {"LANGUAGE.md": tables.tokens, "LIMITS.md": tables.limits, "BTOR2.md": tables.forms,
-                 "AIGER.md": tables.gates, "JOURNAL.md": tables.journals}
+    of_tables = {"FAULTS.md": tables.habits, "LANGUAGE.md": tables.tokens, "LIMITS.md": tables.limits,
+                 "BTOR2.md": tables.forms, "AIGER.md": tables.gates, "JOURNAL.md": tables.journals}
     for page in sys.argv[2:]:
         name = os.path.basename(page)
         pages.page(page)
