@@ -24,6 +24,7 @@ FILES = [
     ("JOURNAL.md", "reg x : bits 8 = 8'd0;", "clash.koika"),
     ("JOURNAL.md", "journal workers=2", "clash.journal"),
     ("LANGUAGE.md", "input go : bits 1;", "watch.koika"),
+    ("SWEEPS.md", "#!/bin/sh", "sweep.sbatch"),
 ]
 
 # A design in Verilog with a memory, a register without a first value, and one with reset and enable.
@@ -57,7 +58,27 @@ yes '' | head -n 5 > stimulus
 ./koika sim --cycles 1000 --workers 2 --journal < design.koika > journal
 head -c $(($(wc -c < journal) * 3 / 4)) journal > part""",
     "LIMITS.md": "cp examples/counter.koika design.koika; : > long.stimulus",
+    # Stand-ins: an ssh that stays on this machine, and an sbatch that runs the tasks of an array one after another.
+    "SWEEPS.md": """mkdir fake
+cat > fake/ssh <<'END'
+#!/bin/bash
+while [ "${1#-}" != "$1" ]; do case $1 in -o | -l | -p) shift ;; esac; shift; done
+[ "$1" = first ] || [ "$1" = second ] || exit 255
+shift
+[ "$1" != -- ] || shift
+exec bash -c "$*"
+END
+cat > fake/sbatch <<'END'
+#!/bin/bash
+[ "$1" = --wait ] || exit 1
+tasks=$(sed -n 's/^#SBATCH --array=1-//p' "$2")
+for task in $(seq 1 $tasks); do SLURM_ARRAY_TASK_ID=$task sh "$2"; done
+END
+chmod +x fake/*""",
 }
+# Whether the rows are those of a sweep, in whichever order.
+SORTED = ("bin/sweep examples/limit.koika stimuli | tail -n +2 | LC_ALL=C sort > sorted"
+          "; LC_ALL=C sort rows | cmp - sorted")
 
 # Listings that are commands: the page, how the first line begins, the commands that they are among, at the place of {},
 # and what all these write.
@@ -84,9 +105,9 @@ SCRIPTS = [
     ("SWEEPS.md", "bin/sweep examples/limit.koika stimuli | awk", "{}",
      "1.txt ten@16\n10.txt ten@20\n11.txt ten@22\n.."),
     ("SWEEPS.md", "parallel -k -j 4",
-     "{}; bin/sweep examples/limit.koika stimuli | tail -n +2 | LC_ALL=C sort > sorted"
-     "; LC_ALL=C sort rows | cmp - sorted; wc -l < rows", "40"),
-    ("SWEEPS.md", "sbatch --wait", "{}", ".."),
+     "{}; " + SORTED + "; wc -l < rows", "40"),
+    ("SWEEPS.md", "parallel -k --sshdelay", "PATH=$PWD/fake:$PATH; {}; " + SORTED + "; wc -l < rows", "40"),
+    ("SWEEPS.md", "sbatch --wait", "rm rows; PATH=$PWD/fake:$PATH; ( {} ) > joined; mv joined rows; " + SORTED, ""),
 ]
 
 # What a page says in a sentence: the page, words of it, commands that show it, and what they write. They come after the
@@ -154,7 +175,7 @@ ENVIRONMENT = {name: value for name, value in os.environ.items() if name not in 
 # What isn't installed everywhere: a word of a command, and the program that it needs.
 TOOLS = {
     "yosys": "yosys", "berkeley-abc": "berkeley-abc", "iverilog": "iverilog", "z3": "z3", "cvc5": "cvc5",
-    "nextpnr-ice40": "nextpnr-ice40", "icepack": "icepack", "parallel": "parallel", "sbatch": "sbatch",
+    "nextpnr-ice40": "nextpnr-ice40", "icepack": "icepack", "parallel": "parallel",
     "qemu-riscv32": "qemu-riscv32", "examples/riscv/build": "riscv64-unknown-elf-gcc",
 }
 
