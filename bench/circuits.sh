@@ -19,7 +19,7 @@ row() {
 
 echo "| design | weight | lines | of them operators |"
 echo "|---|---|---|---|"
-for example in examples/*.koika examples/riscv/designs/*.koika; do
+for example in examples/*.koika examples/systolic/*.koika examples/riscv/designs/*.koika; do
     name=${example#examples/}
     row "${name%.koika}" "$example"
 done
