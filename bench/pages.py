@@ -25,6 +25,8 @@ FILES = [
     ("JOURNAL.md", "journal workers=2", "clash.journal"),
     ("LANGUAGE.md", "input go : bits 1;", "watch.koika"),
     ("SWEEPS.md", "#!/bin/sh", "sweep.sbatch"),
+    ("THREADS.md", "reg x : bits 8 = 8'd1;", "two.koika"),
+    ("THREADS.md", "journal workers=2", "two.journal"),
 ]
 
 # A design in Verilog with a memory, a register without a first value, and one with reset and enable.
