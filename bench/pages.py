@@ -595,7 +595,10 @@ class Tables:
         self.words(page)
 
     def tokens(self, page):
-        """Each example of a fault of tokens."""
+        """Each example of a fault of tokens, and whether all designs of examples/ are in their table."""
+        named = {name for designs, _ in rows_of(page, "| design | what it shows") for name in ticked(designs)}
+        there = {name[:-6] for name in os.listdir(os.path.join(self.pages.top, "examples")) if name.endswith(".koika")}
+        self.same("LANGUAGE.md, the examples", sorted(named), sorted(there | {"systolic/array", "riscv/core.koika.in"}))
         for number, _, examples in rows_of(page, "| fault | where | examples"):
             for example in ticked(examples):
                 self.same(f"LANGUAGE.md, {example}", self.answer("check", example).split(" ")[1], number)
