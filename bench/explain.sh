@@ -184,6 +184,17 @@ done <<'HABITS'
 11|table t : bits 1 -> bits 2 { 2'd0; 2'd1 } schedule { }|commas between entries
 11|host popcount(bits 8) : bits 4; schedule { }|a host function is
 11|schedule {\n%%\nk=1|a `}` is missing
+11|reg r : bits 8 = 8'd0; rule q { if read0(r == 8'd1 { abort } } schedule { }|a `)` is missing
+11|reg r : bits 8 = 8'd0; rule q { write0r, 8'd1) } schedule { }|a `(` is missing after `write0`
+11|reg r : bits 8 = 8'd0; rule q { (r, 8'd1) } schedule { }|a call has its name
+11|input a : bits 1; rule q { a { abort } } schedule { }|an `if` is missing
+11|input a : bits 1; rule q { if a { abort } { a; } } schedule { }|an `else` or a `;`
+11|input a : bits 1; rule q { if a { abort }; else { a; } } schedule { }|no `;` before `else`
+11|enum E : bits 1 { A = 1'd0 B = 1'd1 } schedule { }|a `,` is missing
+11|struct S { a bits 4 } schedule { }|a `:` is missing
+11|reg r : bits 8 = ; schedule { }|a first value is missing
+11|rule { } schedule { }|a name is missing
+11|rule q { let x = [1, 2]; } schedule { }|8'd1
 13|reg r : bits 8 = 8'd256; schedule { }|8 bits is 255
 20|reg count : bits 8 = 8'd0; rule a { count <= count; } schedule { }|<=
 20|reg count : bits 8 = 8'd0;\nrule a { let x = count; } schedule { }|read0

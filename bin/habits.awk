@@ -173,6 +173,7 @@ function range_hint(    width) {
 function schedule_hint() {
     if (open == 0 && byte == ";") return "there is no `;` after the schedule"
     if (open == 0 && before == "schedule") return "the schedule has braces: `schedule { a; b; }`"
+    if (word == "else" && front !~ / then ?\{[^{}]*\}$/ && open > 0) return "a `}` is missing before it"
     if (open == 0) return "the schedule is last: declarations come before it, a stimulus after a line `%%`"
     if (at == "") return "a `}` is missing"
     if (front ~ /(^|[ {;])try [A-Za-z_0-9]+( then ?\{ ?\})?$/ || front ~ / then ?\{[^{}]*\}$/ && word != "else")
@@ -180,7 +181,6 @@ function schedule_hint() {
     if (before ~ /^(then|else)$/) return "a branch has braces: `try a then { b; } else { }`"
     if (last == "}" && byte == ";") return "there is no `;` after a `try`"
     if (last == "}") return "a `try` is the last item of its braces: what follows goes into both branches"
-    if (word == "else") return "a `}` is missing before it"
     if (word == "if") return "a schedule has no `if`: a rule aborts where it has nothing to do"
     if (before != "" && byte ~ /[,}()|>&+]/ || byte == "[" || word != "" && last != "{" && last != ";")
         return "each rule here ends with `;`: `schedule { a; b; }`"
@@ -197,6 +197,8 @@ function token_hint(    said) {
         return "`assert` takes a rule that must not fire: `rule bad { if ok { abort } }`, `assert bad;`"
     if (before ~ /^(reg|input|rule|fun|enum|struct|let|table|host)$/ && is_keyword(word))
         return "`" word "` is a keyword, and no name"
+    if (before ~ /^(reg|input|rule|fun|enum|struct|let|table|host)$/ && byte ~ /[:=({]/)
+        return "a name is missing before it"
     if (word == "begin" || word ~ /^end/) return "blocks are in braces: `{ .. }`"
     if (open == 0 && (front == "" || last == ";" || last == "}") && word != "") return declaration_hint()
     if (word == "assert" && open > 0)
@@ -224,18 +226,26 @@ function caller_is_fun() { return bracket == "(" && substr(front, 1, inner) ~ /(
 # The shapes of declarations.
 function shape_hint() {
     if (open > 0 && front !~ /(^|[ ;}])(enum|struct|table) [^}]*$/) return ""
+    if (front ~ /(^|[ ;}])reg [^=]*=$/ && byte == ";") return "a first value is missing: `reg r : bits 8 = 8'd0;`"
+    if (front ~ /(^|[ ;}])enum [A-Za-z_0-9]+ ?: ?bits [0-9]+$/)
+        return "the members are in braces: `{ A = 1'd0, B = 1'd1 }`"
+    if (front ~ /(^|[ ;}])(enum|struct) [^{}]*\{[^}]*[A-Za-z_0-9]$/ && word != "" && before != "bits")
+        return "a `" (word == "bits" ? ":" : ",") "` is missing before it"
+    if (front ~ /(^|[ ;}])enum [^{}]*\{[^}]*$/ && byte == "=") return "a member's name is missing before it"
     if (before ~ /^(reg|input)$/ && byte == "[") return "the type follows the name: `r : bits 8`"
     if (before ~ /^(bit|Bit|u?int|UInt|SInt|logic)$/ && byte ~ /[[<(#]/) return "bits are `bits 8`"
     if (before == "bits") return "a width is a number without brackets: `bits 8`"
     if (front ~ /(^|[ ;}])reg [A-Za-z_0-9]+ ?: ?[^=;]*[]A-Za-z_0-9]$/ && (byte == "<" || byte == ":"))
         return "a first value follows `=`: `reg r : bits 8 = 8'd0;`"
+    if (front ~ /(^|[ ;}])reg [A-Za-z_0-9]+ ?: ?[A-Za-z_0-9]+$/ && word != "" && before != "bits")
+        return "a `=` is missing before it"
     if (front ~ /(^|[ ;}])reg [A-Za-z_0-9]+$/)
         return "a register has a type and a first value: `reg r : bits 8 = 8'd0;`"
     if (front ~ /(^|[ ;}])input [A-Za-z_0-9]+$/) return "each input is declared by itself: `input a : bits 8;`"
     if (front ~ /(^|[ ;}])input [A-Za-z_0-9]+ ?:[^;]*$/ && byte == "=")
         return "an input has no first value: the stimulus gives its values"
     if (last == ":" && at ~ /^[0-9]/) return "bits are `bits 8`"
-    if (front ~ /bits [0-9]+$/ && byte == "[" || last == "[" && front ~ /: ?\[$/ && at ~ /^[0-9]/)
+    if (front ~ /bits [0-9]+$/ && byte == "[" || front ~ /: ?\[[^];=]*$/ && at ~ /^[0-9]/)
         return "an array is `[bits 8; 4]`"
     if (front ~ /(^|[ ;}])reg [^=;]*(; ?[0-9]+ ?\])?$/ && byte == ";")
         return "a register has a first value: `reg r : bits 8 = 8'd0;`"
@@ -258,6 +268,8 @@ function shape_hint_2() {
         return "a parameter has its type after its name: `a : bits 8`"
     if (front ~ /(^|[ ;}])fun [A-Za-z_0-9]+ ?\([^)]*\)$/)
         return "the result's type is missing: `fun f(a : bits 8) : bits 8 { .. }`, or `: unit`"
+    if (front ~ /(^|[ ;}])fun [A-Za-z_0-9]+ ?\([^)]*\) ?: ?(bits [0-9]+|[A-Za-z_0-9]+)$/ && before != "bits")
+        return "a function's body is in braces"
     if (front ~ /(^|[ ;}])(fun [A-Za-z_0-9]+ ?\(|struct [A-Za-z_0-9]+ ?\{)([^)}]*,)?$/ && word == "bits")
         return "the type follows the name: `a : bits 8`"
     if (front ~ /(^|[ ;}])struct [A-Za-z_0-9]+ ?\{[^}]*$/ && byte == ";") return "there are commas between fields"
@@ -276,6 +288,12 @@ function call_hint() {
         return "a register's name comes first: `" caller "(r" further(caller) ")`"
     if (caller ~ /^write[0-3]$/ && bracket == "(" && byte ~ /[.[]/ && front ~ /write[0-3] ?\( ?[A-Za-z_0-9]+$/)
         return "a register is written whole: an item or field by `update(read0(r), f, value)`, bits by `++`"
+    if (caller ~ /^read[0-3]$/ && bracket == "(" && byte !~ /[.[]/ && front ~ /read[0-3] ?\( ?[A-Za-z_0-9]+$/)
+        return "a `)` is missing before it"
+    if (byte ~ /[,)]/ && before ~ /^(read|write)[0-3][A-Za-z_]/)
+        return "a `(` is missing after `" substr(before, 1, before ~ /^r/ ? 5 : 6) "`"
+    if (byte == "," && bracket == "(" && caller == "" && substr(front, inner - 1, 1) !~ /[A-Za-z_0-9]/)
+        return "parentheses hold one value; a call has its name before them"
     if (caller ~ /^read[0-3]$/ && bracket == "(" && byte ~ /[.[]/)
         return "the whole register is read: `read0(r)[2]`, `read0(r).f`"
     if (caller ~ /^write[0-3]$/ && byte == ")" && front ~ /write[0-3] ?\( ?[A-Za-z_0-9]+$/)
@@ -288,7 +306,7 @@ function call_hint() {
         return "`" before "` has parentheses: `" before "(r" further(before) ")`"
     if (byte == ")" && caller ~ /^(slt|sle|sgt|sge)$/) return "it compares two values: `" caller "(a, b)`"
     if (byte ~ /[])}]/ && last == ",") return "there is no comma after the last item"
-    if (bracket == "[" && last == "[" || bracket == "[" && last == ":" && front ~ /\[ ?[0-9]+ ?:$/)
+    if (bracket == "[" && ends_value(substr(front, 1, inner - 1)) && front ~ /\[( ?[0-9]+ ?:)?$/)
         return "an index is a number; an item at a computed index is picked by `if`s, by a table or by a shift"
     if (bracket == "[" && byte == "." && front ~ /[0-9]$/ || bracket == "[" && at ~ /^[-+]?:/ && front !~ /[0-9]$/)
         return "a slice is `a[7:4]`, the high bit first"
@@ -334,8 +352,9 @@ function operator_hint() {
     if (byte == "=" && last ~ /[-+*&|^]/) return written()
     if (byte ~ /[;}]/ && front ~ /(\+\+|--)$/)
         return "`++` joins bits; a register is counted up by `write0(r, read0(r) + 8'd1)`"
+    if (byte == "=" && after_byte() == "=") return
     if (byte == "=" && front ~ /(^|[^A-Za-z_0-9])if[^A-Za-z_0-9][^;{]*$/) return "a test is `==`"
-    if (byte == "=") return written()
+    if (byte == "=" && ends_value(front)) return written()
 }
 # What stands for an assignment to the name before the fault.
 function written(    name, operator) {
@@ -356,23 +375,30 @@ function bound_again(name, value) {
 # What else is in a block.
 function expression_hint() {
     if (front ~ /(^|[ ;{])let [A-Za-z_0-9]+$/ && byte == ":") return "a `let` has no type: `let a = b;`"
-    if (before ~ /^(var|mut|auto|const|logic|wire|bit|int|reg)$/ || front ~ /(^|[ ;{])let [A-Za-z_0-9]+$/ && word != "")
+    if (open > 0 && word != "" && front ~ /(^|[ ;{])(var|mut|auto|const|logic|wire|bit|int|reg|let [A-Za-z_0-9]+)$/)
         return "a name is bound by `let a = b;`, once"
     if (front ~ /(^|[ ;{])let [A-Za-z_0-9]+ ?=[^;]*[^;]$/ && byte == "}") return "a `let` ends with `;`"
     if (byte == ";" && last ~ /[;{]/) return "there is a `;` too many"
     if (byte == "," && front ~ /[(,=+*&|^~<>-] ?\{[^{};]*$/) return "bits are joined by `a ++ b`"
     if (before == "else") return "an arm has braces: `else { .. }`"
+    if (word == "else" && front ~ /\} ?;$/) return "there is no `;` before `else`"
+    if (word == "else") return "a `}` is missing before it"
+    if (byte == "{" && last == "}" && open > 0) return "an `else` or a `;` is missing before it"
+    if (byte == "{" && bracket == "{" && ends_value(front)) return "an `if` is missing before the condition"
     if (last == "." && word ~ /^(zext|sext|pack|unpack)$/)
         return "`" word "` is written before its value: `" word "(a" further(word) ")`"
+    if (last == "." && word == "") return "a field's name is missing before it"
     if (last == ".") return "ports are `read0(r)` to `read3(r)` and `write0(r, value)` to `write3(r, value)`"
     if (word == "bits" && bracket != "")
         return "a value has its width in its literal or its declaration; it is widened by `zext(a, 16)`"
+    if (joined != "" && word != "" && ends_value(front)) return "an operator is missing before it"
     if (front ~ /(^|[^A-Za-z_0-9])if[^A-Za-z_0-9][^;{}]*$/ && (word != "" || byte == ";") && ends_value(front))
         return "an arm has braces: `if c { .. }`"
     if (before == "return") return "the last expression of a block, without `;`, is its value"
     if (last == "}" && (word != "" || byte == "("))
         return "an `if` or a block in the middle of a block ends with `;`"
     if (word == "" || last !~ /[])A-Za-z_0-9]/ || is_keyword(before)) return
+    if (bracket == "{" && substr(front, 1, inner - 1) ~ /:: ?$/) return "a `,` is missing before it"
     return bracket == "{" ? "a `;` is missing before it" : "a `)`, a `,` or an operator is missing before it"
 }
 function declaration_hint() {
@@ -588,7 +614,8 @@ function greatest_hint(    bits) {
     bits = said_of[word]
     if (kind_of(word) == "input" && match(bits, /^[ \t]*:[ \t]*bits[ \t]+[0-9]+[ \t]*$/)) {
         gsub(/[^0-9]/, "", bits)
-        return "`" word "` has " bits (bits == 1 ? " bit" : " bits") (bits + 0 <= 31 ? ": at most " power(bits) - 1 : "")
+        return "`" word "` has " bits " bit" (bits + 0 == 1 ? "" : "s") \
+            (bits + 0 <= 31 ? ": at most " power(bits) - 1 : "")
     }
 }
 # A form of BTOR2 that isn't supported: the word at fault in the line.
