@@ -9,6 +9,7 @@ cd "$(dirname "$0")/.."
 program=${1:-crates/koika_cli/out/koika_cli}
 [ $# = 1 ] || ./koika check <examples/counter.koika >/dev/null # builds the program if need be
 
+export FINDINGS_SECONDS=600 # an unproved program is slow
 room=$(mktemp -d)
 trap 'rm -rf "$room"' EXIT
 tried=0 wrong=0

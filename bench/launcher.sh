@@ -244,7 +244,17 @@ places "the third file" "dos:1:1: fault 80:" "80 at 4:1" recheck --cycles 2 whol
 places "after an empty file" "whole:1:1: fault 30:" "30 at 2:1" sim --cycles 2 none whole
 places "no place" "whole: fault 45:" "45 at 0:0" sim --cycles 2 whole broken
 places "a mark of its own" "both:2:1: fault 30:" "30 at 4:1" sim --cycles 2 both whole
+places "in a file's own part before it" "both:3:1: fault 30:" "30 at 3:1" sim --cycles 2 both whole
+places "in a file after its own parts" "whole:1:1: fault 80:" "80 at 5:1" recheck --cycles 2 both whole
+places "no place, with a mark of its own" "both: fault 45:" "45 at 0:0" sim --cycles 2 both whole
 places "a rule's name" "whole: fault 90:" "90 at 0:0" why --cycle 2 --rule zero whole
+has "a part too many" "$(FAULT="30 at 4:1" WITH=2 "$tree/koika" sim --cycles 2 both whole 2>&1 || true)" \
+    "hint: line 2 of both is"
+has "a part too many, later" "$(FAULT="80 at 5:1" WITH=2 "$tree/koika" recheck --cycles 2 both none whole 2>&1 || true)" \
+    "hint: line 2 of both is"
+case $(FAULT="30 at 3:1" WITH=2 "$tree/koika" sim --cycles 2 both whole 2>&1) in
+    *"is \`%%\`"*) complain "a file's own line isn't of a part too many" ;;
+esac
 same "no explanation" "$(KOIKA_EXPLAIN=0 FAULT="11 at 1:1" WITH=2 "$tree/koika" check whole 2>&1 || true)" \
     "fault 11 at 1:1"
 same "no explanation without files" "$(FAULT="11 at 1:1" WITH=2 "$tree/koika" check <whole 2>&1 || true)" \
