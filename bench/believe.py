@@ -3,6 +3,7 @@
 `bench/believe.sh` says how."""
 import collections
 import re
+import signal
 import sys
 
 from sources import HOLE, TOP, WORD, crates, definitions_of, files, functions_of, imports_of, lines_of
@@ -230,4 +231,5 @@ def main(words):
 
 
 if __name__ == "__main__":
+    signal.signal(signal.SIGPIPE, signal.SIG_DFL)  # a reader may stop early
     sys.exit(main(sys.argv[1:]))

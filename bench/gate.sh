@@ -5,12 +5,11 @@
 # it takes about as long as the gate on one processor.
 set -eu
 cd "$(dirname "$0")/.."
+. bench/copy.sh
 
 room=$(mktemp -d)
 trap 'rm -rf "$room"' EXIT
-git ls-files -z --cached --others --exclude-standard -- crates crates.txt HANDLES |
-    while IFS= read -r -d '' file; do [ -e "$file" ] && printf '%s\0' "$file"; done |
-    tar -c --null -T - | tar -x -C "$room"
+copy_tree "$room"
 
 # The crates of the repository that a crate uses, directly or not.
 below() {

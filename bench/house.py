@@ -1,6 +1,7 @@
 """Prints what the house measures of itself: `bench/house.sh` says what."""
 import collections
 import re
+import signal
 import sys
 
 from sources import TOP, crates, definitions_of, files, functions_of, lines_of
@@ -153,4 +154,5 @@ def main(words):
 
 
 if __name__ == "__main__":
+    signal.signal(signal.SIGPIPE, signal.SIG_DFL)  # a reader may stop early
     main(sys.argv[1:])

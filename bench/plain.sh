@@ -1,12 +1,13 @@
 #!/usr/bin/env bash
 # Measures the plain engine: what a cycle costs of a counter, of pipelines, and of wide arithmetic with a table and a
-# tree of tries, in all and for each node of an action that it evaluates. It is run by hand.
+# tree of tries, in all and for each node of an action that it evaluates. It proves and builds a program in a copy of the
+# tree if need be (bench/costs/plain_bench), and is run by hand.
 set -eu
 cd "$(dirname "$0")/.."
 . bench/cost.sh
+. bench/costs.sh
 
-program=crates/plain_bench/out/plain_bench
-[ -x "$program" ] || (cd crates/plain_bench && rt run >/dev/null)
+program=$(measuring plain_bench pipeline 3 10)
 
 # The first cycles, in which a pipeline fills, are left out.
 first=200
