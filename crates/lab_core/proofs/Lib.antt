@@ -1,0 +1,10 @@
+pub mod Agreeing
+pub mod Cycles
+pub mod Grown
+pub mod Kept
+pub mod Refusals
+pub mod Tables
+pub mod Texts
+pub mod Tops
+pub mod Verdicts
+pub mod Visits

@@ -1,0 +1,195 @@
+//! The lab: the walk through a cycle, trial by trial.
+
+ghost use Rattle.std.specs.Prelude.{◌≡◌, ◌<◌, ◌++◌, ◌∷◌, [], IfOk, OnOk, length};
+ghost use Rattle.one_rule.specs.Cycle.{cycle, fire, system_of};
+ghost use Rattle.one_rule.specs.Externs.{kept};
+ghost use Rattle.one_rule.specs.Walk.{goes_on, is_at, pass, root};
+ghost use Rattle.typed_core.specs.Alone.{after, after_one};
+ghost use Rattle.typed_core.specs.Fits.{EventsFit};
+ghost use Rattle.typed_core.specs.Valid.{externs_of};
+ghost use Rattle.typed_core.specs.Widths.{HaveWidths, input_widths, register_widths};
+ghost use Rattle.lab_core.specs.Trials.{trial_at, trial_of, trials};
+ghost use Rattle.lab_core.specs.inner.Steps.{state_of, walk_at};
+
+use crate::judge::judge;
+use crate::trial::{Trial, Verdict};
+use crate::tried::Tried;
+use kw_bits::{NoMemory, Sequence};
+use one_rule::{Environment, Externs, Inputs, Regs, alone};
+use std::alloc::Global;
+use typed_core::{Design, Event, Events, Next, Node};
+
+/// The trials of a cycle, in the order of the walk. It leaves the registers of the cycle's row; an `Err` leaves any.
+pub fn trials(
+    alloc: Global,
+    design: &Design,
+    externs: &Externs,
+    inputs: &Inputs,
+    regs: &mut Regs,
+) -> Result<Sequence<Trial>, NoMemory>
+    requires externs { kept externs.now ≡ externs_of design.now }
+    requires inputs { HaveWidths (input_widths design.now) inputs.now }
+    requires registers { HaveWidths (register_widths design.now) regs.old }
+    ensures trials { IfOk result (λ list. list ≡ trials (system_of design.now) inputs.now regs.old) }
+    ensures registers { OnOk result (regs.new ≡ (cycle (system_of design.now) inputs.now regs.old).regs) }
+    ensures fits { OnOk result (HaveWidths (register_widths design.now) regs.new) }
+{
+    let env = Environment {
+        design,
+        externs,
+        inputs,
+    };
+    let mut tried = Tried::new(alloc, design.regs.len())?;
+    walk(alloc, &env, regs, &mut tried)?;
+    Ok(tried.into_list())
+}
+
+/// The trials of a cycle, as a plain program finds them: it compares each access with all that were made before.
+pub fn slow_trials(
+    alloc: Global,
+    design: &Design,
+    externs: &Externs,
+    inputs: &Inputs,
+    regs: &Regs,
+) -> Result<Sequence<Trial>, NoMemory>
+    requires externs { kept externs.now ≡ externs_of design.now }
+    requires inputs { HaveWidths (input_widths design.now) inputs.now }
+    requires registers { HaveWidths (register_widths design.now) regs.now }
+    ensures { IfOk result (λ list. list ≡ trials (system_of design.now) inputs.now regs.now) }
+{
+    let env = Environment {
+        design,
+        externs,
+        inputs,
+    };
+    let mut regs = Sequence::from_slice(alloc, regs.as_slice())?;
+    let mut tried = Tried::new(alloc, 0)?;
+    walk(alloc, &env, &mut regs, &mut tried)?;
+    Ok(tried.into_list())
+}
+
+// Walks through a cycle in which nothing is tried yet.
+fn walk(
+    alloc: Global,
+    env: &Environment<Externs>,
+    regs: &mut Regs,
+    tried: &mut Tried,
+) -> Result<(), NoMemory>
+    requires externs { kept env.now.externs.now ≡ externs_of env.now.design.now }
+    requires inputs { HaveWidths (input_widths env.now.design.now) env.now.inputs.now }
+    requires registers { HaveWidths (register_widths env.now.design.now) regs.old }
+    requires none { tried.old ≡ [] }
+    ensures trials { OnOk result (tried.new ≡ trials (system_of env.now.design.now) env.now.inputs.now regs.old) }
+    ensures registers { OnOk result (regs.new ≡ (cycle (system_of env.now.design.now) env.now.inputs.now regs.old).regs) }
+    ensures fits { OnOk result (HaveWidths (register_widths env.now.design.now) regs.new) }
+{
+    let design = env.design;
+    let nodes = design.nodes.as_slice();
+    let mut at = root(nodes);
+    for (number, node) in nodes.iter().enumerate() {
+        at = pass(alloc, env, number, node, at, regs, tried)?;
+    }
+    Ok(())
+}
+
+fn root(nodes: &[Node]) -> Next
+    ensures { result ≡ root nodes.now }
+{
+    if nodes.is_empty() {
+        Next::End
+    } else {
+        Next::Node(0)
+    }
+}
+
+fn is_at(number: usize, at: Next) -> bool
+    ensures { result ≡ is_at number at }
+{
+    match at {
+        Next::Node(to) => number == to as usize,
+        Next::End => false,
+    }
+}
+
+// Tries the rule of the node of this number if the walk is at it, and returns where the walk is then.
+fn pass(
+    alloc: Global,
+    env: &Environment<Externs>,
+    number: usize,
+    node: &Node,
+    at: Next,
+    regs: &mut Regs,
+    tried: &mut Tried,
+) -> Result<Next, NoMemory>
+    requires externs { kept env.now.externs.now ≡ externs_of env.now.design.now }
+    requires rule { node.now.rule < length env.now.design.now.rules }
+    requires inputs { HaveWidths (input_widths env.now.design.now) env.now.inputs.now }
+    requires registers { HaveWidths (register_widths env.now.design.now) regs.old }
+    ensures pass { IfOk result (λ next. pass (fire (system_of env.now.design.now) env.now.inputs.now) number node.now (walk_at regs.old tried.old at) ≡ walk_at regs.new tried.new next) }
+    ensures trials { OnOk result (tried.new ≡ tried.old ++ trial_at (system_of env.now.design.now) env.now.inputs.now number node.now (walk_at regs.old tried.old at)) }
+    ensures fits { OnOk result (HaveWidths (register_widths env.now.design.now) regs.new) }
+{
+    if is_at(number, at) {
+        visit(alloc, env, node, regs, tried)
+    } else {
+        Ok(at)
+    }
+}
+
+// Tries the rule of a node, and returns where the walk goes on.
+fn visit(
+    alloc: Global,
+    env: &Environment<Externs>,
+    node: &Node,
+    regs: &mut Regs,
+    tried: &mut Tried,
+) -> Result<Next, NoMemory>
+    requires externs { kept env.now.externs.now ≡ externs_of env.now.design.now }
+    requires rule { node.now.rule < length env.now.design.now.rules }
+    requires inputs { HaveWidths (input_widths env.now.design.now) env.now.inputs.now }
+    requires registers { HaveWidths (register_widths env.now.design.now) regs.old }
+    ensures visit { IfOk result (λ next. goes_on node.now (state_of regs.old tried.old) (fire (system_of env.now.design.now) env.now.inputs.now node.now.rule (state_of regs.old tried.old)) ≡ walk_at regs.new tried.new next) }
+    ensures trials { OnOk result (tried.new ≡ tried.old ++ trial_of (system_of env.now.design.now) env.now.inputs.now node.now.rule (state_of regs.old tried.old) ∷ []) }
+    ensures fits { OnOk result (HaveWidths (register_widths env.now.design.now) regs.new) }
+{
+    let run = alone(alloc, env.design, env.externs, node.rule, env.inputs, regs)?;
+    let judged = judge(tried, &run);
+    let mut events = run.events;
+    events.truncate(judged.shown);
+    let trial = Trial {
+        rule: node.rule,
+        verdict: judged.verdict,
+        events,
+    };
+    match judged.verdict {
+        Verdict::Fired => {
+            apply(env.design, &trial.events, regs);
+            tried.push(trial)?;
+            Ok(node.yes)
+        }
+        Verdict::Refused(_) => {
+            tried.push(trial)?;
+            Ok(node.no)
+        }
+    }
+}
+
+// Gives each register that was written the value of its last write.
+fn apply(design: &Design, events: &Events, regs: &mut Regs)
+    requires events { EventsFit (register_widths design.now) events.now }
+    requires registers { HaveWidths (register_widths design.now) regs.old }
+    ensures { regs.new ≡ after events.now regs.old }
+{
+    for event in events.as_slice() {
+        apply_one(event, regs);
+    }
+}
+
+fn apply_one(event: &Event, regs: &mut Regs)
+    requires { event.now.access.register < length regs.old }
+    ensures { regs.new ≡ after_one regs.old event.now }
+{
+    if event.access.write {
+        regs.set(event.access.register as usize, event.value);
+    }
+}
