@@ -1,0 +1,11 @@
+pub mod Checking
+pub mod Cutting
+pub mod Databases
+pub mod Digits
+pub mod Flat
+pub mod Propagating
+pub mod ReadingLists
+pub mod Refusals
+pub mod Soundness
+pub mod StepsRead
+pub mod TokensRead

@@ -1,0 +1,23 @@
+use Rattle.std.proofs.Common.{ℕ, List, ◌∷◌, ◌++◌, append-nil, sym, ap, ap₂, ◌∙◌}
+use Rattle.clause_check.specs.Lines.{lines_of}
+use Rattle.clause_check.specs.inner.Cuts.{bytes_after, pieces_of}
+use Rattle.clause_check.proofs.Cutting.{lines_of-last, lines_of-more, lines_of-nil, none_by_test, some_by_test}
+use Rattle.clause_check.proofs.cut.next_line.Goals as goal
+
+pub returns-then-is_empty-clause-absent : goal.returns-then-is_empty-clause-absent
+returns-then-is_empty-clause-absent c = ap lines_of (none_by_test _ _ c.is_empty.ensures c.if-is_empty.true) ∙ lines_of-nil
+
+pub returns-in_default-clause-found : goal.returns-in_default-clause-found
+returns-in_default-clause-found c =
+    let line = c.split_line.result.0.now in
+    let text = c.args.text.now in
+    let whole = c.split_line.ensures.bytes ∙ ap (λ after. line ++ bytes_after after) c.in_default.is ∙ append-nil line in
+    lines_of-last text line (c.split_line.ensures.pieces ∙ ap (λ after. line ∷ pieces_of after) c.in_default.is)
+    (λ none. some_by_test text _ c.is_empty.ensures c.if-is_empty.false (whole ∙ none))
+    ∙ ap₂ (λ (bytes : List ℕ) (rest : List (List ℕ)). bytes ∷ rest) (sym c.without_return-line.ensures) (sym lines_of-nil)
+
+pub returns-clause-found : goal.returns-clause-found
+returns-clause-found c =
+    let line = c.split_line.result.0.now in
+    lines_of-more c.args.text.now line c.in-Some.rest.now (c.split_line.ensures.pieces ∙ ap (λ after. line ∷ pieces_of after) c.in-Some.is)
+    ∙ ap (λ (bytes : List ℕ). bytes ∷ lines_of c.in-Some.rest.now) (sym c.without_return-line.ensures)

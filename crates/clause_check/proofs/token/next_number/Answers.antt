@@ -1,0 +1,19 @@
+use Rattle.std.proofs.Common.{ap, subst, sym, ◌∙◌}
+use Rattle.clause_check.specs.Lines.{is_blank, tokens_of}
+use Rattle.clause_check.specs.inner.Cuts.{StopsAt}
+use Rattle.clause_check.specs.inner.Tokens.{GivesNumber}
+use Rattle.clause_check.proofs.Cutting.{rest_stops, tokens_of-rest}
+use Rattle.clause_check.proofs.TokensRead.{closing_token}
+use Rattle.clause_check.proofs.token.next_number.Goals as goal
+
+pub letter_here-requires : goal.letter_here-requires
+letter_here-requires c = subst (StopsAt is_blank) (sym c.without_blanks-token.ensures.rest) (rest_stops is_blank c.args.bytes.now)
+
+pub returns-in-Some-clause-gives : goal.returns-in-Some-clause-gives
+returns-in-Some-clause-gives c = closing_token _ _ (tokens_of-rest c.args.bytes.now ∙ sym (ap tokens_of c.without_blanks-token.ensures.rest) ∙ c.in-Some.ensures.found)
+
+pub number_here-requires-clause-stops : goal.number_here-requires-clause-stops
+number_here-requires-clause-stops c = subst (StopsAt is_blank) (sym c.without_blanks-token.ensures.rest) (rest_stops is_blank c.args.bytes.now)
+
+pub returns-clause-gives : goal.returns-clause-gives
+returns-clause-gives c = subst (GivesNumber c.number_here.result) (sym (tokens_of-rest c.args.bytes.now ∙ sym (ap tokens_of c.without_blanks-token.ensures.rest))) c.number_here.ensures.gives

@@ -1,0 +1,7 @@
+pub mod Clauses
+pub mod Dimacs
+pub mod Lines
+pub mod Propagation
+pub mod Refutations
+pub mod Steps
+pub mod inner
