@@ -73,6 +73,8 @@ def definitions_of(crate, path):
     is_within, end = False, 0
     for number, line in enumerate(lines, 1):
         indent = len(line) - len(line.lstrip(" "))
+        # (what isn't indented is after the module)
+        is_within = is_within and (indent > 0 or not line.strip())
         level = 2 if is_within and indent >= 2 else 0
         if line.startswith("module "):
             close()
