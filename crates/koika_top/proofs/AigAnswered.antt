@@ -6,9 +6,9 @@ use Rattle.aiger_text.specs.Reading.{aig_of}
 use Rattle.one_rule.specs.Stimulus.{InputVectors}
 use Rattle.koika_top.specs.Aigsim.{AnswersAigsim, HoldsAig, HoldsRun, is_too_long, shown_run, stimulus_in}
 use Rattle.koika_top.specs.Btorsim.{longest_circuit}
-use Rattle.koika_top.specs.Sources.{design_part, fault_of_source}
-use Rattle.koika_top.specs.declared.answer.Answer.{Answer}
-use Rattle.koika_top.specs.declared.answer.Answer.TheVariants.{Refused, Written}
+use Rattle.front_end.specs.Sources.{design_part, fault_of_source}
+use Rattle.front_end.specs.declared.answer.Answer.{Answer}
+use Rattle.front_end.specs.declared.answer.Answer.TheVariants.{Refused, Written}
 use Rattle.koika_top.specs.declared.shown.Shown.{Shown}
 use Rattle.koika_top.proofs.CircuitAnswered.{told, yes_or_no}
 

@@ -22,7 +22,7 @@ use Rattle.stim_report.specs.declared.shape.NameWidth.{NameWidth}
 use Rattle.stim_report.specs.declared.shape.Shape.{Shape}
 use Rattle.koika_top.specs.Aigsim.{HasNoStimulus, HoldsAig, IsRefusal, RunsTooLong, is_too_long, stimulus_in}
 use Rattle.koika_top.specs.Btorsim.{longest_circuit}
-use Rattle.koika_top.specs.Lengths as lengths
+use Rattle.front_end.specs.Lengths as lengths
 use Rattle.koika_top.proofs.AigTexts.{few-words}
 use Rattle.koika_top.proofs.CircuitTexts.{stimulus-widths}
 

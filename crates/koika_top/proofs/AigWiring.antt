@@ -11,14 +11,14 @@ use Rattle.aig_blast.specs.Blasted.{HasSymbols, HasWires, RunsAs, flag_wires}
 use Rattle.btor2_text.specs.Printable.{IsToken}
 use Rattle.koika_check.specs.declared.checked.Checked.{Checked}
 use Rattle.koika_top.specs.Aiger.{IsAigOf}
-use Rattle.koika_top.specs.PlainNames.{HasPlainNames}
+use Rattle.front_end.specs.Names.{HasWordNames}
 use Rattle.koika_top.specs.Wired.{IsWiredAs}
 use Rattle.koika_top.proofs.BadLines.{all-ones}
 use Rattle.koika_top.proofs.SymbolNames.{token-symbol}
 use Rattle.koika_top.proofs.Wiring.{has-tokens}
 
 -- a circuit that has the names of a design can be written where they can
-pub has-symbols : (d : Checked) (c : Wires) → HasPlainNames d → IsWiredAs d c → HasSymbols c
+pub has-symbols : (d : Checked) (c : Wires) → HasWordNames d → IsWiredAs d c → HasSymbols c
 has-symbols d c names is =
     let tokens = has-tokens d c names is in
     record {

@@ -32,99 +32,22 @@ use Rattle.koika_top.specs.Generator.{pipeline}
 use Rattle.koika_top.specs.Journal.{AnswersJournal, HasJournal, is_too_heavy}
 use Rattle.koika_top.specs.Reads.{AnswersCheck, AnswersPrint, counts_line}
 use Rattle.koika_top.specs.Recheck as recheck
-use Rattle.koika_top.specs.Sim.{AnswersSim, is_too_long, marks_of, text_of_rows}
-use Rattle.koika_top.specs.Sources.{IsIllTyped, IsUnread, IsUnspelled, Spells, SpellsDesign, SpellsTree, design_part, fault_of_source, longest_source, shape_of, stimulus_in}
-use Rattle.koika_top.specs.Systems.{run_of}
+use Rattle.koika_top.specs.Sim.{AnswersSim, text_of_rows}
+use Rattle.front_end.specs.Lengths.{is_too_long_for}
+use Rattle.front_end.specs.Marks.{marks_of}
+use Rattle.front_end.specs.Sources.{IsIllTyped, IsUnread, IsUnspelled, Spells, SpellsDesign, SpellsTree, design_part, fault_of_source, longest_source, shape_of, stimulus_in}
+use Rattle.front_end.specs.Systems.{run_of}
 use Rattle.koika_top.specs.Words.{command_of}
-use Rattle.koika_top.specs.declared.answer.Answer.{Answer}
-use Rattle.koika_top.specs.declared.answer.Answer.TheVariants.{Usage, Refused, Written}
+use Rattle.front_end.specs.declared.answer.Answer.{Answer}
+use Rattle.front_end.specs.declared.answer.Answer.TheVariants.{Usage, Refused, Written}
 use Rattle.koika_top.specs.declared.shown.Shown.{Shown}
 use Rattle.koika_top.specs.declared.words.Command.{Command}
 use Rattle.koika_top.specs.declared.words.Command.TheVariants.{Check, Print, Sim, Compile, Btorsim, Gen, Aiger, Aigsim, Journal, Recheck}
+use Rattle.front_end.proofs.SomeSource.{stimulus_told, tree_or_fault, design_or_fault, spelled_or_fault}
 use Rattle.koika_top.proofs.AigAnswered.{aigsim_answer}
 use Rattle.koika_top.proofs.CircuitAnswered.{btorsim_answer, yes_or_no}
 
--- a stimulus, or the fault of it
-stimulus_told : (r : Result InputVectors Fault) → ((stimulus : InputVectors) × (r ≡ Ok stimulus)) ⊎ ((fault : Fault) × (r ≡ Err fault))
-stimulus_told (Ok stimulus) = inl (stimulus, refl)
-stimulus_told (Err fault) = inr (fault, refl)
-
--- a design, or the fault of it
-design_told : (o : Outcome Checked) → ((d : Checked) × (o ≡ Gives d)) ⊎ ((w : Wrong) × (o ≡ Fails w))
-design_told (Gives d) = inl (d, refl)
-design_told (Fails w) = inr (w, refl)
-
--- the design of a source is no longer than the source and a line feed
-marked_length : (mark : ℕ) (lines : List (List ℕ)) → length (flat_map with_line_feed (take mark lines)) ≤ length (join_with_byte 10 lines) + 1
-marked_length zero lines = omega arith
-marked_length (suc mark) [] = omega arith
-marked_length (suc mark) (line ∷ []) = of mark
-  where
-    of : (mark : ℕ) → length (flat_map with_line_feed (take (suc mark) (line ∷ []))) ≤ length line + 1
-    of zero = omega (arith, length-append (line ++ 10 ∷ []) [], length-append line (10 ∷ []))
-    of (suc mark) = omega (arith, length-append (line ++ 10 ∷ []) [], length-append line (10 ∷ []))
-marked_length (suc mark) (line ∷ next ∷ lines) =
-    let behind = next ∷ lines in
-    let front : flat_map with_line_feed (take (suc mark) (line ∷ behind)) ≡ (line ++ 10 ∷ []) ++ flat_map with_line_feed (take mark behind) = refl in
-    let whole : join_with_byte 10 (line ∷ behind) ≡ line ++ (10 ∷ join_with_byte 10 behind) = refl in
-    omega (
-      arith,
-      ap length front,
-      ap length whole,
-      length-append line (10 ∷ []),
-      length-append (line ++ 10 ∷ []) (flat_map with_line_feed (take mark behind)),
-      length-append line (10 ∷ join_with_byte 10 behind),
-      marked_length mark behind,
-    )
-
-design_length : (source : List ℕ) → length (design_part source) ≤ length source + 1
-unfolding parts_of
-design_length source = of (position is_mark (slice_split ends_line source))
-  where
-    of : (mark : Option ℕ) → length (cut_at (slice_split ends_line source) mark source).design ≤ length source + 1
-    of None = omega arith
-    of (Some mark) = omega (arith, marked_length mark (slice_split ends_line source), ap length (join_with_byte-slice_split 10 source))
-
--- the tokens of its design are a tree's, or have a fault of the grammar
-parsed : (source : List ℕ) (tokens : List Token) → AreTokensOf tokens (design_part source) → length source ≤ longest_source → IsParsed (design_part source) tokens
-parsed source tokens are short = each_text (design_part source) tokens are (omega (arith, design_length source, short))
-
 module _ (hosts : List HostSpec) (source : List ℕ) where
-  -- a short source spells a tree, or there is a fault of its tokens or of the grammar
-  tree_or_fault : length source ≤ longest_source → ((t : Tree) × SpellsTree source t) ⊎ ((f : Fault) × IsUnread source f)
-  tree_or_fault short =
-      ⊎_elim
-      (λ cut.
-      ⊎_elim
-      (λ found. inl (found.0, record { short = short; tokens = cut.0; are = cut.1; derived = found.1; few = found.2 }))
-      (λ wrong. inr (wrong.0, inr (short, (cut.0, cut.1, wrong.1))))
-      (parsed source cut.0 cut.1 short))
-      (λ first. inr (first.0, inl (short, first.1)))
-      (tokens_or_first_fault (design_part source))
-
-  design_of : (t : Tree) → SpellsTree source t → ((d : Checked) × SpellsDesign hosts source d) ⊎ ((f : Fault) × IsIllTyped hosts source f)
-  design_of t spelled =
-      ⊎_elim
-      (λ found. inl (found.0, record { tree = t; spelled = spelled; typed = found.1 }))
-      (λ wrong. inr (fault_at wrong.0.number (place_at (design_part source) wrong.0.place), inr (t, wrong.0, spelled, wrong.1, refl)))
-      (design_told (checked hosts t))
-
-  design_or_fault : length source ≤ longest_source → ((d : Checked) × SpellsDesign hosts source d) ⊎ ((f : Fault) × IsIllTyped hosts source f)
-  design_or_fault short = ⊎_elim (λ found. design_of found.0 found.1) (λ wrong. inr (wrong.0, inl wrong.1)) (tree_or_fault short)
-
-  abbrev Found : Type 0
-  Found = (d : Checked) × (s : InputVectors) × Spells hosts source d s
-
-  stimulus_of_design : (d : Checked) → SpellsDesign hosts source d → Found ⊎ ((f : Fault) × IsUnspelled hosts source f)
-  stimulus_of_design d spelled =
-      ⊎_elim
-      (λ given. inl (d, given.0, record { spelled = spelled; given = given.1 }))
-      (λ wrong. inr (wrong.0, inr (d, spelled, wrong.1)))
-      (stimulus_told (stimulus_in source d))
-
-  spelled_or_fault : length source ≤ longest_source → Found ⊎ ((f : Fault) × IsUnspelled hosts source f)
-  spelled_or_fault short = ⊎_elim (λ found. stimulus_of_design found.0 found.1) (λ wrong. inr (wrong.0, inl wrong.1)) (design_or_fault short)
-
   print_answer : (answer : Answer) × AnswersPrint source answer
   print_answer =
       ⊎_elim
@@ -133,7 +56,7 @@ module _ (hosts : List HostSpec) (source : List ℕ) where
       ⊎_elim
       (λ found. (Written (printed (tree_leaves found.0)), record { tree = found.0; spelled = found.1; told = refl }))
       (λ wrong. (Refused wrong.0, inr wrong.1))
-      (tree_or_fault short))
+      (tree_or_fault hosts source short))
       (cases_lt longest_source (length source))
 
   check_answer : (answer : Answer) × AnswersCheck hosts source answer
@@ -144,7 +67,7 @@ module _ (hosts : List HostSpec) (source : List ℕ) where
       ⊎_elim
       (λ found. (Written (counts_line (counts_of found.0)), record { design = found.0; stimulus = found.1; spelled = found.2; told = refl }))
       (λ wrong. (Refused wrong.0, inr wrong.1))
-      (spelled_or_fault short))
+      (spelled_or_fault hosts source short))
       (cases_lt longest_source (length source))
 
   module _ (cycles : ℕ) (shown : Shown) where
@@ -156,7 +79,7 @@ module _ (hosts : List HostSpec) (source : List ℕ) where
           Written (text_of_rows shown (shape_of d) (marks_of d) (run_of d (inputs_of s) cycles)),
           record { design = d; stimulus = s; spelled = spelled; within = within; told = refl },
         ))
-        (yes_or_no (is_too_long cycles d))
+        (yes_or_no (is_too_long_for cycles d))
 
     sim_answer : (answer : Answer) × AnswersSim hosts cycles shown source answer
     sim_answer =
@@ -166,7 +89,7 @@ module _ (hosts : List HostSpec) (source : List ℕ) where
         ⊎_elim
         (λ found. run_answer found.0 found.1 found.2)
         (λ wrong. (Refused wrong.0, inr (inl wrong.1)))
-        (spelled_or_fault short))
+        (spelled_or_fault hosts source short))
         (cases_lt longest_source (length source))
 
 command_answer : (hosts : List HostSpec) (command : Command) (source : List ℕ) → is_answered (Some command) ≡ true → (answer : Answer) × Answers hosts command source answer
@@ -229,7 +152,7 @@ module _ (hosts : List HostSpec) (cycles workers : ℕ) (source : List ℕ) wher
       (λ heavy. inl (fault_of_source 49, inr (inr (refl, (d, s, spelled, within, heavy)))))
       (λ light. inr (d, s, record { spelled = spelled; within = within; light = light }))
       (yes_or_no (is_too_heavy cycles d)))
-      (yes_or_no (is_too_long cycles d))
+      (yes_or_no (is_too_long_for cycles d))
 
   pub some_journal : IsOrHas
   some_journal =
@@ -256,7 +179,7 @@ module _ (hosts : List HostSpec) (cycles : ℕ) (source : List ℕ) where
       (λ heavy. inl (fault_of_source 49, inr (d, s, spelled, inr (refl, within, heavy))))
       (λ light. inr (d, s, record { spelled = spelled; within = within; light = light }))
       (yes_or_no (is_too_heavy cycles d)))
-      (yes_or_no (is_too_long cycles d))
+      (yes_or_no (is_too_long_for cycles d))
 
   first_part : (d : Checked) → recheck.SpellsFirst hosts source d → IsOrMay
   first_part d first =

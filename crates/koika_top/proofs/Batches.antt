@@ -11,19 +11,19 @@ use Rattle.stim_report.specs.declared.shape.Shape.{Shape}
 use Rattle.stim_report.proofs.BatchesJoined.{parts_join}
 use Rattle.koika_assert.specs.Violations.{violations, watched, watched_text}
 use Rattle.koika_top.specs.Engines.{AreRows}
-use Rattle.koika_top.specs.Sim.{Marks}
-use Rattle.koika_top.specs.Streams.{Stream}
+use Rattle.front_end.specs.Marks.{Marks}
+use Rattle.front_end.specs.Streams.{Stream}
 use Rattle.koika_top.specs.Telling.{FormGoesOn, FormHasRows, GoesOnFrom, HasRows, TakesRows, all_told, ending_of, ending_of_form, part_of_batch, shown_by, shown_by_form, shown_text, told_of}
-use Rattle.koika_top.specs.Told.{Told}
+use Rattle.front_end.specs.Told.{Told}
 use Rattle.koika_top.specs.declared.shown.Shown.{Shown}
 use Rattle.koika_top.specs.declared.shown.Shown.TheVariants.{Report, Summary}
 use Rattle.koika_top.specs.declared.teller.Form.{Form}
 use Rattle.koika_top.specs.declared.teller.Form.TheVariants.{OfReport, OfSummary, OfNothing}
 use Rattle.koika_top.specs.declared.teller.Teller.{Teller}
-use Rattle.koika_top.specs.declared.untold.Untold.{Untold}
-use Rattle.koika_top.specs.declared.untold.Untold.TheVariants as untold
+use Rattle.front_end.specs.declared.untold.Untold.{Untold}
+use Rattle.front_end.specs.declared.untold.Untold.TheVariants as untold
 use Rattle.koika_top.proofs.CircuitRows.{drop-none}
-use Rattle.koika_top.proofs.Told.{at, told-as, told-cut, told-so-far, told-then}
+use Rattle.front_end.proofs.Told.{at, told-as, told-cut, told-so-far, told-then}
 
 -- ---- rows in two parts
 

@@ -6,9 +6,9 @@ use Rattle.btor2_model.specs.Acceptance.{first_fault}
 use Rattle.btor2_text.specs.declared.line.Line.{Line}
 use Rattle.btor2_text.proofs.LinesOrFault.{lines_or_first_fault}
 use Rattle.koika_top.specs.Btorsim.{AnswersBtorsim, HoldsLines, HoldsRun, HoldsText, is_too_long, longest_circuit, shown_run, stimulus_in}
-use Rattle.koika_top.specs.Sources.{design_part, fault_of_source}
-use Rattle.koika_top.specs.declared.answer.Answer.{Answer}
-use Rattle.koika_top.specs.declared.answer.Answer.TheVariants.{Refused, Written}
+use Rattle.front_end.specs.Sources.{design_part, fault_of_source}
+use Rattle.front_end.specs.declared.answer.Answer.{Answer}
+use Rattle.front_end.specs.declared.answer.Answer.TheVariants.{Refused, Written}
 use Rattle.koika_top.specs.declared.shown.Shown.{Shown}
 
 pub yes_or_no : (b : Bool) → (b ≡ true) ⊎ (b ≡ false)

@@ -13,14 +13,14 @@ use Rattle.koika_top.specs.Btorsim.{shown_run}
 use Rattle.koika_top.specs.CircuitRuns.{AreCircuitsOf, violations_by}
 use Rattle.koika_top.specs.CircuitShapes as circuit
 use Rattle.koika_top.specs.Sim.{rows_text}
-use Rattle.koika_top.specs.Streams.{Stream}
-use Rattle.koika_top.specs.Told.{Told}
+use Rattle.front_end.specs.Streams.{Stream}
+use Rattle.front_end.specs.Told.{Told}
 use Rattle.koika_top.specs.declared.bad_flags.BadFlags.{BadFlags}
 use Rattle.koika_top.specs.declared.shown.Shown.{Shown}
-use Rattle.koika_top.specs.declared.untold.Untold.{Untold}
+use Rattle.front_end.specs.declared.untold.Untold.{Untold}
 use Rattle.koika_top.proofs.CircuitViolations.{bads-told}
 use Rattle.koika_top.proofs.Shapes.{shape-of-text}
-use Rattle.koika_top.proofs.Told.{at, told-as, told-cut, told-then}
+use Rattle.front_end.proofs.Told.{at, told-as, told-cut, told-then}
 
 module _
     (lines : List Line) (c : Wires) (bads : Option BadFlags) (are : AreCircuitsOf lines c bads) (shape : Shape) (is : shape ≡ circuit.shape_of c)

@@ -31,18 +31,15 @@ use Rattle.koika_top.specs.Btorsim as text
 use Rattle.koika_top.specs.Btorsim.{HasNoLines, HasNoStimulus, HasNoText, HoldsLines, HoldsText, IsRefusal, RunsTooLong, is_too_long, longest_circuit}
 use Rattle.koika_top.specs.CircuitRuns.{AreBadsOf, HasFewLines, ShowsBads}
 use Rattle.koika_top.specs.CircuitShapes as circuit
-use Rattle.koika_top.specs.Lengths as lengths
+use Rattle.front_end.specs.Lengths as lengths
 use Rattle.koika_top.specs.declared.bad_flags.BadFlags.{BadFlags}
+use Rattle.front_end.proofs.FewCycles.{or-sides}
 use Rattle.koika_top.proofs.Shapes.{inputs-count, widths-told}
 
 -- a fault of a part is one of the whole
 pub fault-of-part : (P Q : Fault → Type 0) (e : Refusal) → ((fault : Fault) → P fault → Q fault) → IfFault {X = Unit {0}} (Err e) P → IfFault {X = Unit {0}} (Err e) Q
 fault-of-part P Q (refusals.Fault fault) f h = f fault h
 fault-of-part P Q refusals.NoMemory f h = tt
-
-or-sides : (b c : Bool) → (b || c) ≡ false → (b ≡ false) × (c ≡ false)
-or-sides true c e = absurd cc
-or-sides false c e = (refl, e)
 
 -- ---- lines
 
@@ -142,14 +139,6 @@ refused-later cycles source (Err (refusals.Fault fault)) h = ⊎_elim (λ a. inr
 refused-later cycles source (Err refusals.NoMemory) h = tt
 
 -- ---- lengths
-
--- a run that isn't too long has few cycles
-pub few-cycles : (cycles registers rules : ℕ) → lengths.is_too_long cycles registers rules ≡ false → cycles ≤ 16777216
-few-cycles cycles registers rules e =
-    let states = nat_lt 4194304 (min cycles 256 * registers) in
-    let flags = nat_lt 4194304 (min cycles 256 * rules) in
-    let short = or-sides (nat_lt 16777216 cycles || states) flags e in
-    ltb-false 16777216 cycles (or-sides (nat_lt 16777216 cycles) states short.0).0
 
 -- a run of the shape is too long, or isn't, where one of the text is
 pub long-as : (cycles : ℕ) (lines : List Line) (shape : Shape) (long : Bool) → shape ≡ text.shape_of lines → lengths.is_too_long cycles (length shape.registers) (length shape.rules) ≡ long → is_too_long cycles lines ≡ long

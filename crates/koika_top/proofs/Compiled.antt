@@ -29,19 +29,19 @@ use Rattle.kw_bits.specs.declared.host.HostSpec.{HostSpec}
 use Rattle.koika_top.specs.Btorsim as text
 use Rattle.koika_top.specs.Btorsim.{AnswersBtorsim, HoldsRun, HoldsText, longest_circuit}
 use Rattle.koika_top.specs.Compile.{AreCircuitOf, IsStimulusFor, ShowsCircuit}
-use Rattle.koika_top.specs.Lengths as lengths
-use Rattle.koika_top.specs.Sim as design
-use Rattle.koika_top.specs.Sim.{AnswersSim, marks_of, rows_text, text_of_run}
-use Rattle.koika_top.specs.Sources as sources
-use Rattle.koika_top.specs.Sources.{Spells}
-use Rattle.koika_top.specs.Systems as typed
-use Rattle.koika_top.specs.declared.answer.Answer.{Answer}
-use Rattle.koika_top.specs.declared.answer.Answer.TheVariants.{Usage, Refused, Written}
+use Rattle.front_end.specs.Lengths as lengths
+use Rattle.koika_top.specs.Sim.{AnswersSim, rows_text, text_of_run}
+use Rattle.front_end.specs.Marks.{marked_name, marks_of}
+use Rattle.front_end.specs.Sources as sources
+use Rattle.front_end.specs.Sources.{Spells}
+use Rattle.front_end.specs.Systems as typed
+use Rattle.front_end.specs.declared.answer.Answer.{Answer}
+use Rattle.front_end.specs.declared.answer.Answer.TheVariants.{Usage, Refused, Written}
 use Rattle.koika_top.specs.declared.shown.Shown.{Shown}
 use Rattle.koika_top.proofs.BadLines.{flags-all}
 use Rattle.koika_top.proofs.CircuitRows.{drop-none}
-use Rattle.koika_top.proofs.OneAnswer.{long_or_spelled, same_design, spelled_or_not}
-use Rattle.koika_top.proofs.Reading.{stimulus-fits, widths-valid}
+use Rattle.front_end.proofs.OneSource.{long_or_spelled, same_design, spelled_or_not}
+use Rattle.front_end.proofs.Reading.{stimulus-fits, widths-valid}
 use Rattle.koika_top.proofs.Shapes.{both-agree}
 use Rattle.koika_top.proofs.StimuliFit.{stimulus-always, stimulus-free}
 
@@ -89,7 +89,7 @@ module _ (d : Checked) (lines : List Line) (are : AreCircuitOf d lines) where
       let shape : List NameWidth → List NameWidth → List (List ℕ) → Shape = λ is ss rs. record { inputs = is; registers = ss; rules = rs } in
       λ i. shape (inputs i) (registers i) (rules i)
 
-  long-same : (cycles : ℕ) → text.is_too_long cycles lines ≡ design.is_too_long cycles d
+  long-same : (cycles : ℕ) → text.is_too_long cycles lines ≡ lengths.is_too_long_for cycles d
   long-same cycles =
       let states : length (lines_of is_state lines) ≡ length d.registers =
       sym (length-map (lines_of is_state lines) name_of) ∙ ap length are.parts.states ∙ length-map d.registers (λ (r : Register). r.name)
@@ -114,7 +114,7 @@ module _ (d : Checked) (lines : List Line) (are : AreCircuitOf d lines) where
         let bads = lines_of is_bad lines in
         let is : Line → ℕ → Bool = λ bad step. is_violated lines (inputs_of stimulus) step bad in
         let rows = typed.run_of d (inputs_of stimulus) n in
-        let lens : length bads ≡ length d.asserts = sym (length-map bads name_of) ∙ ap length are.parts.bads ∙ length-map d.asserts (design.marked_name d) in
+        let lens : length bads ≡ length d.asserts = sym (length-map bads name_of) ∙ ap length are.parts.bads ∙ length-map d.asserts (marked_name d) in
         let same : (j : ℕ) (row : Row) → slice_get rest j ≡ Some row → map (λ bad. is bad j) bads ≡ map (λ mark. has_fired mark row) d.asserts =
         λ j row e. let at : j + 1 ≡ suc j = omega arith in are.violated stimulus n j row fits (ap (slice_get rows) at ∙ e)
         in

@@ -23,17 +23,16 @@ use Rattle.koika_top.specs.Aigsim as bits
 use Rattle.koika_top.specs.Aigsim.{AnswersAigsim, HoldsAig, HoldsRun}
 use Rattle.koika_top.specs.Btorsim.{longest_circuit}
 use Rattle.koika_top.specs.Compile.{IsStimulusFor}
-use Rattle.koika_top.specs.Lengths as lengths
-use Rattle.koika_top.specs.Sim as design
+use Rattle.front_end.specs.Lengths as lengths
 use Rattle.koika_top.specs.Sim.{rows_text}
-use Rattle.koika_top.specs.Sources as sources
-use Rattle.koika_top.specs.Sources.{Spells}
-use Rattle.koika_top.specs.Systems as typed
-use Rattle.koika_top.specs.declared.answer.Answer.{Answer}
-use Rattle.koika_top.specs.declared.answer.Answer.TheVariants.{Usage, Refused, Written}
+use Rattle.front_end.specs.Sources as sources
+use Rattle.front_end.specs.Sources.{Spells}
+use Rattle.front_end.specs.Systems as typed
+use Rattle.front_end.specs.declared.answer.Answer.{Answer}
+use Rattle.front_end.specs.declared.answer.Answer.TheVariants.{Usage, Refused, Written}
 use Rattle.koika_top.specs.declared.shown.Shown.{Shown}
-use Rattle.koika_top.proofs.OneAnswer.{long_or_spelled, same_design, spelled_or_not}
-use Rattle.koika_top.proofs.Reading.{stimulus-fits, widths-valid}
+use Rattle.front_end.proofs.OneSource.{long_or_spelled, same_design, spelled_or_not}
+use Rattle.front_end.proofs.Reading.{stimulus-fits, widths-valid}
 use Rattle.koika_top.proofs.Shapes.{both-agree}
 use Rattle.koika_top.proofs.StimuliFit.{stimulus-always, stimulus-free}
 
@@ -46,7 +45,7 @@ module _ (d : Checked) (aig : AigParts) (are : IsAigOf d aig) where
       let shape : List NameWidth → List NameWidth → List (List ℕ) → Shape = λ is rs names. record { inputs = is; registers = rs; rules = names } in
       λ i. shape (inputs i) (registers i) (are.outputs i)
 
-  long-same : (cycles : ℕ) → bits.is_too_long cycles aig ≡ design.is_too_long cycles d
+  long-same : (cycles : ℕ) → bits.is_too_long cycles aig ≡ lengths.is_too_long_for cycles d
   long-same cycles =
       let latches : length aig.latches ≡ length d.registers =
       sym (length-map aig.latches (λ (w : LatchWord). w.name)) ∙ ap length are.latches ∙ length-map d.registers (λ (r : Register). r.name)

@@ -10,7 +10,7 @@ use Rattle.kw_base.specs.Place.{capped}
 use Rattle.stim_report.specs.Cuts.{cut_at, ends_line, is_mark, lines_of, parts_of, with_line_feed}
 use Rattle.journal_check.specs.Reading.{number_after}
 use Rattle.koika_top.specs.Recheck.{journal_line}
-use Rattle.koika_top.specs.Sources.{design_part}
+use Rattle.front_end.specs.Sources.{design_part}
 
 -- ---- lengths
 

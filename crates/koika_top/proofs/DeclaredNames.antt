@@ -44,8 +44,9 @@ use Rattle.koika_check.specs.declared.checked.Checked.{Checked}
 use Rattle.koika_check.specs.declared.checked.Register.{Register}
 use Rattle.koika_check.specs.declared.checked.Rule.{Rule}
 use Rattle.koika_lower.specs.Lowering.{IsLowered, register_of as lowered_register}
-use Rattle.koika_top.proofs.LoweredRuns.{twice}
-use Rattle.koika_top.proofs.PlainNames.{GivesSuch, and-left, and-right, behind, behind-any, given, unless-such}
+use Rattle.front_end.proofs.LoweredRuns.{twice}
+use Rattle.front_end.proofs.WordNames.{GivesSuch, behind, behind-any, given, unless-such}
+use Rattle.koika_top.proofs.PlainNames.{and-left, and-right}
 
 -- ---- names one after another
 

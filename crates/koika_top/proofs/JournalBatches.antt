@@ -31,12 +31,12 @@ use Rattle.journal_check.specs.declared.journal.Journal.{Journal}
 use Rattle.koika_top.specs.Histories.{IsWhole, board_of}
 use Rattle.koika_top.specs.Journal.{IsJournalOf, IsMadeBy}
 use Rattle.koika_top.specs.Journaling.{IsBatch, WritesBatch, WritesJournal}
-use Rattle.koika_top.specs.Streams.{Stream}
-use Rattle.koika_top.specs.Told.{Told}
-use Rattle.koika_top.specs.declared.untold.Untold.{Untold}
-use Rattle.koika_top.specs.declared.untold.Untold.TheVariants as untold
+use Rattle.front_end.specs.Streams.{Stream}
+use Rattle.front_end.specs.Told.{Told}
+use Rattle.front_end.specs.declared.untold.Untold.{Untold}
+use Rattle.front_end.specs.declared.untold.Untold.TheVariants as untold
 use Rattle.koika_top.proofs.SomeHistories.{last_fit, some_history}
-use Rattle.koika_top.proofs.Told.{at, told-as, told-cut, told-none, told-so-far, told-then}
+use Rattle.front_end.proofs.Told.{at, told-as, told-cut, told-none, told-so-far, told-then}
 
 -- a batch that stands in no source yet
 abbrev pub batch_of : ℕ → ℕ → List Entry → Batch

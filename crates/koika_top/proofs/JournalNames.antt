@@ -13,9 +13,9 @@ use Rattle.koika_check.specs.declared.checked.Checked.{Checked}
 use Rattle.koika_check.specs.declared.checked.Register.{Register}
 use Rattle.koika_check.specs.declared.checked.Rule.{Rule}
 use Rattle.koika_lower.specs.Lowering.{IsLowered, register_of}
-use Rattle.koika_top.specs.PlainNames.{HasPlainNames}
-use Rattle.koika_top.proofs.LoweredRuns.{twice}
-use Rattle.koika_top.proofs.PlainNames.{and-left, and-right}
+use Rattle.front_end.specs.Names.{HasWordNames}
+use Rattle.front_end.proofs.LoweredRuns.{twice}
+use Rattle.koika_top.proofs.PlainNames.{and-left, and-right, words-tokens}
 
 -- a plain byte is no space
 byte-plain : (b : ℕ) → is_plain b ≡ true → not (b == 32) ≡ true
@@ -40,11 +40,11 @@ all-plain name [] all = tt
 all-plain name (x ∷ xs) all = (token-plain (name x) all.0, all-plain name xs all.1)
 
 -- the names of registers and rules are those of the typed design
-pub lowered-plain : (d : Checked) (core : Parts) → IsLowered d core → HasPlainNames d → reading.HasPlainNames core
+pub lowered-plain : (d : Checked) (core : Parts) → IsLowered d core → HasWordNames d → reading.HasPlainNames core
 lowered-plain d core lowered names =
     let registers : register_names core ≡ map (λ (r : Register). r.name) d.registers =
     ap (map (λ (decl : RegDecl). decl.name)) lowered.registers ∙ twice register_of (λ (decl : RegDecl). decl.name) d.registers in
     record {
-      registers = subst (AllByRecursion reading.IsPlain) (sym registers) (all-plain (λ (r : Register). r.name) d.registers (recursion_from_All (λ (r : Register). IsToken r.name) d.registers names.registers));
-      rules = subst (AllByRecursion reading.IsPlain) (sym lowered.names) (all-plain (λ (r : Rule). r.name) d.rules (recursion_from_All (λ (r : Rule). IsToken r.name) d.rules names.rules));
+      registers = subst (AllByRecursion reading.IsPlain) (sym registers) (all-plain (λ (r : Register). r.name) d.registers (recursion_from_All (λ (r : Register). IsToken r.name) d.registers (words-tokens (λ (r : Register). r.name) d.registers names.registers)));
+      rules = subst (AllByRecursion reading.IsPlain) (sym lowered.names) (all-plain (λ (r : Rule). r.name) d.rules (recursion_from_All (λ (r : Rule). IsToken r.name) d.rules (words-tokens (λ (r : Rule). r.name) d.rules names.rules)));
     }

@@ -39,16 +39,17 @@ use Rattle.koika_lower.proofs.Values.{constant-stands}
 use Rattle.koika_top.specs.Journal.{IsMadeBy}
 use Rattle.koika_top.specs.Recheck.{AnswersRecheck, HasPartsOf, IsJournaledOf, SpellsJournal, SpellsSame, parts_of}
 use Rattle.koika_top.specs.Sim.{AnswersSim, text_of_run}
-use Rattle.koika_top.specs.Sources.{Spells, SpellsDesign, design_part, longest_source, shape_of}
-use Rattle.koika_top.specs.declared.answer.Answer.{Answer}
-use Rattle.koika_top.specs.declared.answer.Answer.TheVariants.{Usage, Refused, Written}
+use Rattle.front_end.specs.Sources.{Spells, SpellsDesign, design_part, longest_source, shape_of}
+use Rattle.front_end.specs.declared.answer.Answer.{Answer}
+use Rattle.front_end.specs.declared.answer.Answer.TheVariants.{Usage, Refused, Written}
 use Rattle.koika_top.specs.declared.shown.Shown.TheVariants.{Report}
-use Rattle.koika_top.proofs.CircuitTexts.{few-cycles}
+use Rattle.front_end.proofs.FewCycles.{few-cycles}
 use Rattle.koika_top.proofs.CutAgain.{design_part-again}
 use Rattle.koika_top.proofs.DeclaredNames.{HasDeclaredNames, declared-names, lowered-own, lowered-shown}
 use Rattle.koika_top.proofs.EmptyLines.{longer, longer-equal, longer-same, longer-text}
 use Rattle.koika_top.proofs.LineFeeds.{HasTokens, has_feeds}
-use Rattle.koika_top.proofs.OneAnswer.{journaled_or_refused, same_design, same_stimulus}
+use Rattle.koika_top.proofs.OneAnswer.{journaled_or_refused}
+use Rattle.front_end.proofs.OneSource.{same_design, same_stimulus}
 use Rattle.koika_top.proofs.SameStimuli.{good-same, journal-same, text-same}
 
 -- what a source spells, a design part spells that has line feeds more and isn't too long

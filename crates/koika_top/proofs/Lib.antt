@@ -1,7 +1,3 @@
-pub mod Senses
-pub mod SensesOfTypes
-pub mod SensesOfExpressions
-pub mod SameChecked
 pub mod SamePrinted
 pub mod Generated
 pub mod OneAnswer
@@ -18,15 +14,13 @@ pub mod Batches
 pub mod ReadAgain
 pub mod PlainRows
 pub mod TypedRows
+pub mod Answering
 pub mod Promises
 pub mod ReadWords
-pub mod LoweredRuns
 pub mod Wiring
 pub mod AigWiring
 pub mod Options
 pub mod Reading
-pub mod Told
-pub mod Results
 pub mod Shapes
 pub mod CircuitRows
 pub mod CircuitFits

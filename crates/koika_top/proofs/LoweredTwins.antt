@@ -16,7 +16,7 @@ use Rattle.journal_check.specs.Twins.{AreTwins}
 use Rattle.koika_check.specs.declared.checked.Checked.{Checked}
 use Rattle.koika_lower.specs.Lowering.{IsLowered, input_widths, register_widths}
 use Rattle.koika_lower.proofs.TwoLowerings.{lowerings_do_alike}
-use Rattle.koika_top.proofs.LoweredRuns.{not_past, registers-wide, rules-count}
+use Rattle.front_end.proofs.LoweredRuns.{not_past, registers-wide, rules-count}
 
 module _ (d : Checked) (wide : All IsWidth (register_widths d)) (inputs : List BitVector) (fit : HaveWidths (input_widths d) inputs) (rule : ℕ) (a b : Parts) (left : IsLowered d a) (right : IsLowered d b) where
   -- as many rules

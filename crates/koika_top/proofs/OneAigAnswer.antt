@@ -8,10 +8,10 @@ use Rattle.stim_report.specs.Cuts as cuts
 use Rattle.koika_top.specs.Aigsim.{AnswersAigsim, HasNoAig, HasNoStimulus, HoldsAig, HoldsRun, IsRefusal, RunsTooLong, ShowsRun, is_too_long, shown_run, stimulus_in}
 use Rattle.koika_top.specs.Answer.{IsSameAnswer, text_of}
 use Rattle.koika_top.specs.Btorsim.{longest_circuit}
-use Rattle.koika_top.specs.declared.answer.Answer.{Answer}
-use Rattle.koika_top.specs.declared.answer.Answer.TheVariants.{Usage, Refused, Written}
+use Rattle.front_end.specs.declared.answer.Answer.{Answer}
+use Rattle.front_end.specs.declared.answer.Answer.TheVariants.{Usage, Refused, Written}
 use Rattle.koika_top.specs.declared.shown.Shown.{Shown}
-use Rattle.koika_top.proofs.Results.{err-same, ok-same, ok_or_err}
+use Rattle.front_end.proofs.Results.{err-same, ok-same, ok_or_err}
 
 module _ (source : List ℕ) where
   abbrev read : Result AigParts Fault

@@ -1,4 +1,4 @@
--- A source spells one design and has one answer to each command, by its status and its text.
+-- A source has one answer to each command, by its status and its text.
 use Rattle.std.proofs.Common.{◌≡◌, ℕ, ◌<◌, ◌≤◌, inl, inr, true, false, List, length, refl, sym, ap, subst, ◌∙◌, arith}
 use Rattle.kw_base.specs.Fault.{fault_at}
 use Rattle.kw_base.specs.Place.{place_at}
@@ -25,25 +25,17 @@ use Rattle.koika_top.specs.Answer.{IsLikeAnswer, IsSameAnswer, text_of}
 use Rattle.koika_top.specs.Compile.{AnswersCompile, ShowsCircuit}
 use Rattle.koika_top.specs.Journal.{AnswersJournal, HasJournal, HasNoJournal, is_too_heavy}
 use Rattle.koika_top.specs.Reads.{AnswersCheck, AnswersPrint, ShowsTree, TellsCounts, counts_line}
-use Rattle.koika_top.specs.Sim.{AnswersSim, HasNoRun, ShowsRun, is_too_long, marks_of, text_of_rows}
-use Rattle.koika_top.specs.Sources.{HasNoTree, IsIllTyped, IsTooLong, IsUnread, IsUnspelled, Spells, SpellsDesign, SpellsTree, design_part, longest_source, shape_of, stimulus_in}
-use Rattle.koika_top.specs.Systems.{run_of}
-use Rattle.koika_top.specs.declared.answer.Answer.{Answer}
-use Rattle.koika_top.specs.declared.answer.Answer.TheVariants.{Usage, Refused, Written}
+use Rattle.koika_top.specs.Sim.{AnswersSim, ShowsRun, text_of_rows}
+use Rattle.front_end.specs.Lengths.{HasNoRun, is_too_long_for}
+use Rattle.front_end.specs.Marks.{marks_of}
+use Rattle.front_end.specs.Sources.{HasNoTree, IsIllTyped, IsTooLong, IsUnread, IsUnspelled, Spells, SpellsDesign, SpellsTree, design_part, longest_source, shape_of, stimulus_in}
+use Rattle.front_end.specs.Systems.{run_of}
+use Rattle.front_end.specs.declared.answer.Answer.{Answer}
+use Rattle.front_end.specs.declared.answer.Answer.TheVariants.{Usage, Refused, Written}
 use Rattle.koika_top.specs.declared.shown.Shown.{Shown}
-use Rattle.koika_top.specs.declared.status.Status.TheVariants as status
-use Rattle.koika_top.proofs.Results.{err-same, ok-same, ok_or_err}
-use Rattle.koika_top.proofs.SameChecked.{same_checked}
+use Rattle.front_end.specs.declared.status.Status.TheVariants as status
+use Rattle.front_end.proofs.OneSource.{not_both_lengths, derived-by, unread-same, read_or_not, long_or_unread, same_design, same_stimulus, spelled_or_not, long_or_spelled, long_or_unspelled, unspelled-same, no_run-same, long_or_no_run, run_or_long}
 use Rattle.koika_top.proofs.SamePrinted.{same_printed}
-
-gives-same : {X : Type 0} (x y : X) (o : Outcome X) → o ≡ Gives x → o ≡ Gives y → x ≡ y
-gives-same x y o h k = let e : Gives x ≡ Gives y = sym h ∙ k in cc
-
-fails-same : {X : Type 0} (w v : Wrong) (o : Outcome X) → o ≡ Fails w → o ≡ Fails v → w ≡ v
-fails-same {X} w v o h k = let e : ◌≡◌ {A = Outcome X} (Fails w) (Fails v) = sym h ∙ k in cc
-
-gives_or_fails : {X : Type 0} (x : X) (w : Wrong) (o : Outcome X) → o ≡ Gives x → o ≡ Fails w → ⊥
-gives_or_fails x w o h k = let e : Gives x ≡ Fails w = sym h ∙ k in absurd cc
 
 -- answers that can't be told apart have one status
 pub same-like : (a b : Answer) → IsSameAnswer a b → IsLikeAnswer a b
@@ -52,128 +44,43 @@ same-like a b same = record { status = same.status; refusal = λ _. same.text }
 refused_or_written : (f : Fault) (text : List ℕ) → IsSameAnswer (Refused f) (Written text) → ⊥
 refused_or_written f text same = let bad : status.Refused ≡ status.Done = same.status in absurd cc
 
--- ---- tokens and trees
-
-not_both_lengths : (n : ℕ) → longest_source < n → n ≤ longest_source → ⊥
-not_both_lengths n a b = omega arith
+-- ---- print
 
 module _ (source : List ℕ) where
-  -- what is derived by one list of tokens is derived by the other
-  derived-by : (t u : Tree) (h : SpellsTree source t) (k : SpellsTree source u) → Derives (design_part source) u h.tokens
-  derived-by t u h k =
-      subst (Derives (design_part source) u) (one_list (design_part source) k.tokens h.tokens k.are h.are) k.derived
-
-  same_tree : (t u : Tree) → SpellsTree source t → SpellsTree source u → SameTree t u
-  same_tree t u h k = one_tree (design_part source) h.tokens t u h.derived (derived-by t u h k)
-
-  unread-short : (f : Fault) → IsUnread source f → length source ≤ longest_source
-  unread-short f (inl a) = a.0
-  unread-short f (inr a) = a.0
-
-  stands-same : (f : Fault) (tokens : List Token) → AreTokensOf tokens (design_part source) → (a : HasNoTree source f) → StandsBetween (design_part source) tokens f
-  stands-same f tokens are a =
-      subst (λ ts. StandsBetween (design_part source) ts f) (one_list (design_part source) a.1.0 tokens a.1.1 are) a.1.2
-
-  unread-same : (f g : Fault) → IsUnread source f → IsUnread source g → f ≡ g
-  unread-same f g (inl a) (inl b) = one_fault (design_part source) f g a.1 b.1
-  unread-same f g (inl a) (inr b) = absurd (tokens_or_fault (design_part source) b.1.0 f b.1.1 a.1)
-  unread-same f g (inr a) (inl b) = absurd (tokens_or_fault (design_part source) a.1.0 g a.1.1 b.1)
-  unread-same f g (inr a) (inr b) = grammar.one_fault (design_part source) b.1.0 f g (stands-same f b.1.0 b.1.1 a) b.1.2
-
-  -- a source that spells a tree has no fault of its tokens or of the grammar
-  read_or_not : (f : Fault) (t : Tree) → IsUnread source f → SpellsTree source t → ⊥
-  read_or_not f t (inl a) h = tokens_or_fault (design_part source) h.tokens f h.are a.1
-  read_or_not f t (inr a) h = grammar.no_fault (design_part source) h.tokens t f h.derived h.few (stands-same f h.tokens h.are a)
-
   printed-same : (a b : List ℕ) → ShowsTree source a → ShowsTree source b → a ≡ b
-  printed-same a b h k = h.told ∙ same_printed (design_part source) h.spelled.tokens h.tree k.tree h.spelled.derived (derived-by h.tree k.tree h.spelled k.spelled) ∙ sym k.told
-
-  long_or_unread : (f g : Fault) → IsTooLong source f → IsUnread source g → ⊥
-  long_or_unread f g a b = not_both_lengths (length source) a.1 (unread-short g b)
+  printed-same a b h k = h.told ∙ same_printed (design_part source) h.spelled.tokens h.tree k.tree h.spelled.derived (derived-by source h.tree k.tree h.spelled k.spelled) ∙ sym k.told
 
   pub print-same : (a b : Answer) → AnswersPrint source a → AnswersPrint source b → IsSameAnswer a b
   print-same Usage b h k = absurd h
   print-same (Refused f) Usage h k = absurd k
   print-same (Refused f) (Refused g) (inl h) (inl k) = record { status = refl; text = ap (λ fault. text_of (Refused fault)) (h.0 ∙ sym k.0) }
-  print-same (Refused f) (Refused g) (inl h) (inr k) = absurd (long_or_unread f g h k)
-  print-same (Refused f) (Refused g) (inr h) (inl k) = absurd (long_or_unread g f k h)
-  print-same (Refused f) (Refused g) (inr h) (inr k) = record { status = refl; text = ap (λ fault. text_of (Refused fault)) (unread-same f g h k) }
+  print-same (Refused f) (Refused g) (inl h) (inr k) = absurd (long_or_unread source f g h k)
+  print-same (Refused f) (Refused g) (inr h) (inl k) = absurd (long_or_unread source g f k h)
+  print-same (Refused f) (Refused g) (inr h) (inr k) = record { status = refl; text = ap (λ fault. text_of (Refused fault)) (unread-same source f g h k) }
   print-same (Refused f) (Written text) (inl h) k = absurd (not_both_lengths (length source) h.1 k.spelled.short)
-  print-same (Refused f) (Written text) (inr h) k = absurd (read_or_not f k.tree h k.spelled)
+  print-same (Refused f) (Written text) (inr h) k = absurd (read_or_not source f k.tree h k.spelled)
   print-same (Written text) Usage h k = absurd k
   print-same (Written text) (Refused g) h (inl k) = absurd (not_both_lengths (length source) k.1 h.spelled.short)
-  print-same (Written text) (Refused g) h (inr k) = absurd (read_or_not g h.tree k h.spelled)
+  print-same (Written text) (Refused g) h (inr k) = absurd (read_or_not source g h.tree k h.spelled)
   print-same (Written text) (Written other) h k = record { status = refl; text = printed-same text other h k }
 
--- ---- typed designs
-
 module _ (hosts : List HostSpec) (source : List ℕ) where
-  same_outcome : (t u : Tree) → SpellsTree source t → SpellsTree source u → checked hosts t ≡ checked hosts u
-  same_outcome t u h k = same_checked hosts t u h.derived.design k.derived.design (same_tree source t u h k)
-
-  pub same_design : (d e : Checked) → SpellsDesign hosts source d → SpellsDesign hosts source e → d ≡ e
-  same_design d e h k = gives-same d e (checked hosts k.tree) (sym (same_outcome h.tree k.tree h.spelled k.spelled) ∙ h.typed) k.typed
-
-  pub ill-short : (f : Fault) → IsIllTyped hosts source f → length source ≤ longest_source
-  ill-short f (inl a) = unread-short source f a
-  ill-short f (inr a) = a.2.short
-
-  pub ill-same : (f g : Fault) → IsIllTyped hosts source f → IsIllTyped hosts source g → f ≡ g
-  ill-same f g (inl a) (inl b) = unread-same source f g a b
-  ill-same f g (inl a) (inr b) = absurd (read_or_not source f b.0 a b.2)
-  ill-same f g (inr a) (inl b) = absurd (read_or_not source g a.0 b a.2)
-  ill-same f g (inr a) (inr b) =
-      let same = fails-same a.1 b.1 (checked hosts b.0) (sym (same_outcome a.0 b.0 a.2 b.2) ∙ a.3) b.3 in
-      a.4 ∙ ap (λ (w : Wrong). fault_at w.number (place_at (design_part source) w.place)) same ∙ sym b.4
-
-  pub typed_or_not : (f : Fault) (d : Checked) → IsIllTyped hosts source f → SpellsDesign hosts source d → ⊥
-  typed_or_not f d (inl a) h = read_or_not source f h.tree a h.spelled
-  typed_or_not f d (inr a) h = gives_or_fails d a.1 (checked hosts h.tree) h.typed (sym (same_outcome a.0 h.tree a.2 h.spelled) ∙ a.3)
-
-  -- ---- stimuli
-
-  stimulus-same : (d e : Checked) → SpellsDesign hosts source d → SpellsDesign hosts source e → stimulus_in source d ≡ stimulus_in source e
-  stimulus-same d e h k = ap (stimulus_in source) (same_design d e h k)
-
-  unspelled-short : (f : Fault) → IsUnspelled hosts source f → length source ≤ longest_source
-  unspelled-short f (inl a) = ill-short f a
-  unspelled-short f (inr a) = a.1.spelled.short
-
-  unspelled-same : (f g : Fault) → IsUnspelled hosts source f → IsUnspelled hosts source g → f ≡ g
-  unspelled-same f g (inl a) (inl b) = ill-same f g a b
-  unspelled-same f g (inl a) (inr b) = absurd (typed_or_not f b.0 a b.1)
-  unspelled-same f g (inr a) (inl b) = absurd (typed_or_not g a.0 b a.1)
-  unspelled-same f g (inr a) (inr b) = err-same f g (stimulus_in source b.0) (sym (stimulus-same a.0 b.0 a.1 b.1) ∙ a.2) b.2
-
-  pub spelled_or_not : (f : Fault) (d : Checked) (s : InputVectors) → IsUnspelled hosts source f → Spells hosts source d s → ⊥
-  spelled_or_not f d s (inl a) h = typed_or_not f d a h.spelled
-  spelled_or_not f d s (inr a) h = ok_or_err s f (stimulus_in source d) h.given (sym (stimulus-same a.0 d a.1 h.spelled) ∙ a.2)
-
-  pub same_stimulus : (d e : Checked) (s r : InputVectors) → Spells hosts source d s → Spells hosts source e r → s ≡ r
-  same_stimulus d e s r h k = ok-same s r (stimulus_in source e) (sym (stimulus-same d e h.spelled k.spelled) ∙ h.given) k.given
-
   -- ---- check
-
-  long_or_unspelled : (f g : Fault) → IsTooLong source f → IsUnspelled hosts source g → ⊥
-  long_or_unspelled f g a b = not_both_lengths (length source) a.1 (unspelled-short g b)
-
-  pub long_or_spelled : (f : Fault) (d : Checked) → IsTooLong source f → SpellsDesign hosts source d → ⊥
-  long_or_spelled f d a h = not_both_lengths (length source) a.1 h.spelled.short
 
   pub check-same : (a b : Answer) → AnswersCheck hosts source a → AnswersCheck hosts source b → IsSameAnswer a b
   check-same Usage b h k = absurd h
   check-same (Refused f) Usage h k = absurd k
   check-same (Refused f) (Refused g) (inl h) (inl k) = record { status = refl; text = ap (λ fault. text_of (Refused fault)) (h.0 ∙ sym k.0) }
-  check-same (Refused f) (Refused g) (inl h) (inr k) = absurd (long_or_unspelled f g h k)
-  check-same (Refused f) (Refused g) (inr h) (inl k) = absurd (long_or_unspelled g f k h)
-  check-same (Refused f) (Refused g) (inr h) (inr k) = record { status = refl; text = ap (λ fault. text_of (Refused fault)) (unspelled-same f g h k) }
-  check-same (Refused f) (Written text) (inl h) k = absurd (long_or_spelled f k.design h k.spelled.spelled)
-  check-same (Refused f) (Written text) (inr h) k = absurd (spelled_or_not f k.design k.stimulus h k.spelled)
+  check-same (Refused f) (Refused g) (inl h) (inr k) = absurd (long_or_unspelled hosts source f g h k)
+  check-same (Refused f) (Refused g) (inr h) (inl k) = absurd (long_or_unspelled hosts source g f k h)
+  check-same (Refused f) (Refused g) (inr h) (inr k) = record { status = refl; text = ap (λ fault. text_of (Refused fault)) (unspelled-same hosts source f g h k) }
+  check-same (Refused f) (Written text) (inl h) k = absurd (long_or_spelled hosts source f k.design h k.spelled.spelled)
+  check-same (Refused f) (Written text) (inr h) k = absurd (spelled_or_not hosts source f k.design k.stimulus h k.spelled)
   check-same (Written text) Usage h k = absurd k
-  check-same (Written text) (Refused g) h (inl k) = absurd (long_or_spelled g h.design k h.spelled.spelled)
-  check-same (Written text) (Refused g) h (inr k) = absurd (spelled_or_not g h.design h.stimulus k h.spelled)
+  check-same (Written text) (Refused g) h (inl k) = absurd (long_or_spelled hosts source g h.design k h.spelled.spelled)
+  check-same (Written text) (Refused g) h (inr k) = absurd (spelled_or_not hosts source g h.design h.stimulus k h.spelled)
   check-same (Written text) (Written other) h k =
-      record { status = refl; text = h.told ∙ ap (λ d. counts_line (counts_of d)) (same_design h.design k.design h.spelled.spelled k.spelled.spelled) ∙ sym k.told }
+      record { status = refl; text = h.told ∙ ap (λ d. counts_line (counts_of d)) (same_design hosts source h.design k.design h.spelled.spelled k.spelled.spelled) ∙ sym k.told }
 
   -- ---- compile
 
@@ -183,8 +90,8 @@ module _ (hosts : List HostSpec) (source : List ℕ) where
 
   -- no source both spells a design and a stimulus and is refused
   pub spelled_or_refused : (f : Fault) (d : Checked) (s : InputVectors) → Spells hosts source d s → AnswersCompile hosts source (Refused f) → ⊥
-  spelled_or_refused f d s spelled (inl long) = long_or_spelled f d long spelled.spelled
-  spelled_or_refused f d s spelled (inr fault) = spelled_or_not f d s fault spelled
+  spelled_or_refused f d s spelled (inl long) = long_or_spelled hosts source f d long spelled.spelled
+  spelled_or_refused f d s spelled (inr fault) = spelled_or_not hosts source f d s fault spelled
 
   pub compile-like : (a b : Answer) → AnswersCompile hosts source a → AnswersCompile hosts source b → IsLikeAnswer a b
   compile-like Usage b h k = absurd h
@@ -201,24 +108,24 @@ module _ (hosts : List HostSpec) (source : List ℕ) where
   light_or_heavy n a b = omega (arith, a, b)
 
   long_or_heavy : (f g : Fault) → IsTooLong source f → HasTooManyBits hosts source g → ⊥
-  long_or_heavy f g a b = long_or_spelled f b.1.0 a b.1.2.spelled
+  long_or_heavy f g a b = long_or_spelled hosts source f b.1.0 a b.1.2.spelled
 
   -- no source both spells a design with few bits and a stimulus and is refused
   pub light_or_refused : (f : Fault) (d : Checked) (s : InputVectors) → Spells hosts source d s → bit_weight d ≤ most_bits → AnswersAiger hosts source (Refused f) → ⊥
-  light_or_refused f d s spelled light (inl long) = long_or_spelled f d long spelled.spelled
-  light_or_refused f d s spelled light (inr (inl fault)) = spelled_or_not f d s fault spelled
+  light_or_refused f d s spelled light (inl long) = long_or_spelled hosts source f d long spelled.spelled
+  light_or_refused f d s spelled light (inr (inl fault)) = spelled_or_not hosts source f d s fault spelled
   light_or_refused f d s spelled light (inr (inr heavy)) =
-      light_or_heavy (bit_weight d) light (subst (λ (e : Checked). most_bits < bit_weight e) (same_design heavy.1.0 d heavy.1.2.spelled spelled.spelled) heavy.1.3)
+      light_or_heavy (bit_weight d) light (subst (λ (e : Checked). most_bits < bit_weight e) (same_design hosts source heavy.1.0 d heavy.1.2.spelled spelled.spelled) heavy.1.3)
 
   aiger-refused : (f g : Fault) → AnswersAiger hosts source (Refused f) → AnswersAiger hosts source (Refused g) → f ≡ g
   aiger-refused f g (inl a) (inl b) = a.0 ∙ sym b.0
-  aiger-refused f g (inl a) (inr (inl b)) = absurd (long_or_unspelled f g a b)
+  aiger-refused f g (inl a) (inr (inl b)) = absurd (long_or_unspelled hosts source f g a b)
   aiger-refused f g (inl a) (inr (inr b)) = absurd (long_or_heavy f g a b)
-  aiger-refused f g (inr (inl a)) (inl b) = absurd (long_or_unspelled g f b a)
-  aiger-refused f g (inr (inl a)) (inr (inl b)) = unspelled-same f g a b
-  aiger-refused f g (inr (inl a)) (inr (inr b)) = absurd (spelled_or_not f b.1.0 b.1.1 a b.1.2)
+  aiger-refused f g (inr (inl a)) (inl b) = absurd (long_or_unspelled hosts source g f b a)
+  aiger-refused f g (inr (inl a)) (inr (inl b)) = unspelled-same hosts source f g a b
+  aiger-refused f g (inr (inl a)) (inr (inr b)) = absurd (spelled_or_not hosts source f b.1.0 b.1.1 a b.1.2)
   aiger-refused f g (inr (inr a)) (inl b) = absurd (long_or_heavy g f b a)
-  aiger-refused f g (inr (inr a)) (inr (inl b)) = absurd (spelled_or_not g a.1.0 a.1.1 b a.1.2)
+  aiger-refused f g (inr (inr a)) (inr (inl b)) = absurd (spelled_or_not hosts source g a.1.0 a.1.1 b a.1.2)
   aiger-refused f g (inr (inr a)) (inr (inr b)) = a.0 ∙ sym b.0
 
   pub aiger-like : (a b : Answer) → AnswersAiger hosts source a → AnswersAiger hosts source b → IsLikeAnswer a b
@@ -233,74 +140,54 @@ module _ (hosts : List HostSpec) (source : List ℕ) where
   -- ---- sim
 
   module _ (cycles : ℕ) where
-    no_run-short : (f : Fault) → HasNoRun hosts cycles source f → length source ≤ longest_source
-    no_run-short f (inl a) = unspelled-short f a
-    no_run-short f (inr a) = a.1.2.spelled.spelled.short
-
-    no_run-same : (f g : Fault) → HasNoRun hosts cycles source f → HasNoRun hosts cycles source g → f ≡ g
-    no_run-same f g (inl a) (inl b) = unspelled-same f g a b
-    no_run-same f g (inl a) (inr b) = absurd (spelled_or_not f b.1.0 b.1.1 a b.1.2)
-    no_run-same f g (inr a) (inl b) = absurd (spelled_or_not g a.1.0 a.1.1 b a.1.2)
-    no_run-same f g (inr a) (inr b) = a.0 ∙ sym b.0
-
     run_or_not : (f : Fault) (shown : Shown) (text : List ℕ) → HasNoRun hosts cycles source f → ShowsRun hosts cycles shown source text → ⊥
-    run_or_not f shown text (inl a) r = spelled_or_not f r.design r.stimulus a r.spelled
+    run_or_not f shown text (inl a) r = spelled_or_not hosts source f r.design r.stimulus a r.spelled
     run_or_not f shown text (inr a) r =
-        let both : true ≡ false = sym a.1.3 ∙ ap (is_too_long cycles) (same_design a.1.0 r.design a.1.2.spelled r.spelled.spelled) ∙ r.within in
+        let both : true ≡ false = sym a.1.3 ∙ ap (is_too_long_for cycles) (same_design hosts source a.1.0 r.design a.1.2.spelled r.spelled.spelled) ∙ r.within in
         absurd cc
 
     shown-same : (shown : Shown) (a b : List ℕ) → ShowsRun hosts cycles shown source a → ShowsRun hosts cycles shown source b → a ≡ b
     shown-same shown a b r q =
-        let design = same_design r.design q.design r.spelled.spelled q.spelled.spelled in
-        let stimulus = same_stimulus r.design q.design r.stimulus q.stimulus r.spelled q.spelled in
+        let design = same_design hosts source r.design q.design r.spelled.spelled q.spelled.spelled in
+        let stimulus = same_stimulus hosts source r.design q.design r.stimulus q.stimulus r.spelled q.spelled in
         r.told
         ∙ ap (λ (d : Checked). text_of_rows shown (shape_of d) (marks_of d) (run_of d (inputs_of r.stimulus) cycles)) design
         ∙ ap (λ (s : InputVectors). text_of_rows shown (shape_of q.design) (marks_of q.design) (run_of q.design (inputs_of s) cycles)) stimulus
         ∙ sym q.told
 
-    long_or_no_run : (f g : Fault) → IsTooLong source f → HasNoRun hosts cycles source g → ⊥
-    long_or_no_run f g a b = not_both_lengths (length source) a.1 (no_run-short g b)
-
     pub sim-same : (shown : Shown) (a b : Answer) → AnswersSim hosts cycles shown source a → AnswersSim hosts cycles shown source b → IsSameAnswer a b
     sim-same shown Usage b h k = absurd h
     sim-same shown (Refused f) Usage h k = absurd k
     sim-same shown (Refused f) (Refused g) (inl h) (inl k) = record { status = refl; text = ap (λ fault. text_of (Refused fault)) (h.0 ∙ sym k.0) }
-    sim-same shown (Refused f) (Refused g) (inl h) (inr k) = absurd (long_or_no_run f g h k)
-    sim-same shown (Refused f) (Refused g) (inr h) (inl k) = absurd (long_or_no_run g f k h)
-    sim-same shown (Refused f) (Refused g) (inr h) (inr k) = record { status = refl; text = ap (λ fault. text_of (Refused fault)) (no_run-same f g h k) }
-    sim-same shown (Refused f) (Written text) (inl h) k = absurd (long_or_spelled f k.design h k.spelled.spelled)
+    sim-same shown (Refused f) (Refused g) (inl h) (inr k) = absurd (long_or_no_run hosts source cycles f g h k)
+    sim-same shown (Refused f) (Refused g) (inr h) (inl k) = absurd (long_or_no_run hosts source cycles g f k h)
+    sim-same shown (Refused f) (Refused g) (inr h) (inr k) = record { status = refl; text = ap (λ fault. text_of (Refused fault)) (no_run-same hosts source cycles f g h k) }
+    sim-same shown (Refused f) (Written text) (inl h) k = absurd (long_or_spelled hosts source f k.design h k.spelled.spelled)
     sim-same shown (Refused f) (Written text) (inr h) k = absurd (run_or_not f shown text h k)
     sim-same shown (Written text) Usage h k = absurd k
-    sim-same shown (Written text) (Refused g) h (inl k) = absurd (long_or_spelled g h.design k h.spelled.spelled)
+    sim-same shown (Written text) (Refused g) h (inl k) = absurd (long_or_spelled hosts source g h.design k h.spelled.spelled)
     sim-same shown (Written text) (Refused g) h (inr k) = absurd (run_or_not g shown text k h)
     sim-same shown (Written text) (Written other) h k = record { status = refl; text = shown-same shown text other h k }
 
     -- ---- journals
 
-    -- a design whose run isn't too long has no run that is
-    run_or_long : (f : Fault) (d : Checked) → HasNoRun hosts cycles source f → (s : InputVectors) → Spells hosts source d s → is_too_long cycles d ≡ false → ⊥
-    run_or_long f d (inl a) s spelled within = spelled_or_not f d s a spelled
-    run_or_long f d (inr a) s spelled within =
-        let both : true ≡ false = sym a.1.3 ∙ ap (is_too_long cycles) (same_design a.1.0 d a.1.2.spelled spelled.spelled) ∙ within in
-        absurd cc
-
     -- no source both spells a design with a stimulus that has a journal and is refused
     pub journaled_or_refused : (workers : ℕ) (f : Fault) (d : Checked) (s : InputVectors) → HasJournal hosts cycles source d s → AnswersJournal hosts cycles workers source (Refused f) → ⊥
-    journaled_or_refused workers f d s h (inl long) = long_or_spelled f d long h.spelled.spelled
-    journaled_or_refused workers f d s h (inr (inl none)) = run_or_long f d none s h.spelled h.within
+    journaled_or_refused workers f d s h (inl long) = long_or_spelled hosts source f d long h.spelled.spelled
+    journaled_or_refused workers f d s h (inr (inl none)) = run_or_long hosts source cycles f d none s h.spelled h.within
     journaled_or_refused workers f d s h (inr (inr heavy)) =
-        let both : true ≡ false = sym heavy.1.4 ∙ ap (is_too_heavy cycles) (same_design heavy.1.0 d heavy.1.2.spelled h.spelled.spelled) ∙ h.light in
+        let both : true ≡ false = sym heavy.1.4 ∙ ap (is_too_heavy cycles) (same_design hosts source heavy.1.0 d heavy.1.2.spelled h.spelled.spelled) ∙ h.light in
         absurd cc
 
     no_journal-same : (f g : Fault) → HasNoJournal hosts cycles source f → HasNoJournal hosts cycles source g → f ≡ g
-    no_journal-same f g (inl a) (inl b) = no_run-same f g a b
-    no_journal-same f g (inl a) (inr b) = absurd (run_or_long f b.1.0 a b.1.1 b.1.2 b.1.3)
-    no_journal-same f g (inr a) (inl b) = absurd (run_or_long g a.1.0 b a.1.1 a.1.2 a.1.3)
+    no_journal-same f g (inl a) (inl b) = no_run-same hosts source cycles f g a b
+    no_journal-same f g (inl a) (inr b) = absurd (run_or_long hosts source cycles f b.1.0 a b.1.1 b.1.2 b.1.3)
+    no_journal-same f g (inr a) (inl b) = absurd (run_or_long hosts source cycles g a.1.0 b a.1.1 a.1.2 a.1.3)
     no_journal-same f g (inr a) (inr b) = a.0 ∙ sym b.0
 
     long_or_no_journal : (f g : Fault) → IsTooLong source f → HasNoJournal hosts cycles source g → ⊥
-    long_or_no_journal f g a (inl b) = long_or_no_run f g a b
-    long_or_no_journal f g a (inr b) = long_or_spelled f b.1.0 a b.1.2.spelled
+    long_or_no_journal f g a (inl b) = long_or_no_run hosts source cycles f g a b
+    long_or_no_journal f g a (inr b) = long_or_spelled hosts source f b.1.0 a b.1.2.spelled
 
     journal-refused : (workers : ℕ) (f g : Fault) → AnswersJournal hosts cycles workers source (Refused f) → AnswersJournal hosts cycles workers source (Refused g) → f ≡ g
     journal-refused workers f g (inl a) (inl b) = a.0 ∙ sym b.0

@@ -9,10 +9,10 @@ use Rattle.btor2_text.proofs.Readings.{lines_or_fault, same_faults, same_reading
 use Rattle.stim_report.specs.Cuts as cuts
 use Rattle.koika_top.specs.Answer.{IsSameAnswer, text_of}
 use Rattle.koika_top.specs.Btorsim.{AnswersBtorsim, HasNoLines, HasNoStimulus, HasNoText, HoldsLines, HoldsRun, HoldsText, IsRefusal, RunsTooLong, ShowsRun, is_too_long, longest_circuit, shown_run, stimulus_in}
-use Rattle.koika_top.specs.declared.answer.Answer.{Answer}
-use Rattle.koika_top.specs.declared.answer.Answer.TheVariants.{Usage, Refused, Written}
+use Rattle.front_end.specs.declared.answer.Answer.{Answer}
+use Rattle.front_end.specs.declared.answer.Answer.TheVariants.{Usage, Refused, Written}
 use Rattle.koika_top.specs.declared.shown.Shown.{Shown}
-use Rattle.koika_top.proofs.Results.{err-same, ok-same, ok_or_err, some-same, some_or_none}
+use Rattle.front_end.proofs.Results.{err-same, ok-same, ok_or_err, some-same, some_or_none}
 
 module _ (source : List ℕ) where
   abbrev text_lines : List (List ℕ)

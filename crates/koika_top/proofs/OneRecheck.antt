@@ -20,17 +20,18 @@ use Rattle.koika_top.specs.Answer.{IsSameAnswer, text_of}
 use Rattle.koika_top.specs.Btorsim.{longest_circuit}
 use Rattle.koika_top.specs.Journal.{is_too_heavy}
 use Rattle.koika_top.specs.Recheck.{AnswersRecheck, HasNoDesign, HasNoLength, HasNoLines, HasNoParts, IsRefusedBefore, IsTooLong, IsWrong, MayHaveJournal, ShowsChecked, SpellsBoth, SpellsFirst, parts_of, stimulus_in}
-use Rattle.koika_top.specs.Sim.{is_too_long, text_of_run}
-use Rattle.koika_top.specs.Sources.{longest_source, shape_of}
-use Rattle.koika_top.specs.declared.answer.Answer.{Answer}
-use Rattle.koika_top.specs.declared.answer.Answer.TheVariants.{Usage, Refused, Written}
+use Rattle.front_end.specs.Lengths.{is_too_long_for}
+use Rattle.koika_top.specs.Sim.{text_of_run}
+use Rattle.front_end.specs.Sources.{longest_source, shape_of}
+use Rattle.front_end.specs.declared.answer.Answer.{Answer}
+use Rattle.front_end.specs.declared.answer.Answer.TheVariants.{Usage, Refused, Written}
 use Rattle.koika_top.specs.declared.shown.Shown.TheVariants.{Report}
 use Rattle.koika_top.proofs.JournalNames.{lowered-plain}
 use Rattle.koika_top.proofs.LoweredTwins.{lowered-twins}
-use Rattle.koika_top.proofs.OneAnswer.{ill-same, ill-short, same_design, typed_or_not}
-use Rattle.koika_top.proofs.PlainNames.{plain-names}
-use Rattle.koika_top.proofs.Reading.{stimulus-fits}
-use Rattle.koika_top.proofs.Results.{err-same, ok-same, ok_or_err}
+use Rattle.front_end.proofs.OneSource.{ill-same, ill-short, same_design, typed_or_not}
+use Rattle.front_end.proofs.WordNames.{word-names}
+use Rattle.front_end.proofs.Reading.{stimulus-fits}
+use Rattle.front_end.proofs.Results.{err-same, ok-same, ok_or_err}
 use Rattle.koika_top.proofs.StimuliFit.{stimulus-always}
 use Rattle.koika_top.proofs.ValidWidths.{registers-valid, shape-valid}
 
@@ -84,8 +85,8 @@ module _ (hosts : List HostSpec) (cycles : ℕ) (bytes : List ℕ) where
 
   -- ---- lengths
 
-  long_or_within : (d e : Checked) → SpellsFirst hosts bytes d → SpellsFirst hosts bytes e → is_too_long cycles d ≡ true → is_too_long cycles e ≡ false → ⊥
-  long_or_within d e h k long within = let bad : true ≡ false = sym long ∙ ap (is_too_long cycles) (one_design d e h k) ∙ within in absurd cc
+  long_or_within : (d e : Checked) → SpellsFirst hosts bytes d → SpellsFirst hosts bytes e → is_too_long_for cycles d ≡ true → is_too_long_for cycles e ≡ false → ⊥
+  long_or_within d e h k long within = let bad : true ≡ false = sym long ∙ ap (is_too_long_for cycles) (one_design d e h k) ∙ within in absurd cc
 
   heavy_or_light : (d e : Checked) → SpellsFirst hosts bytes d → SpellsFirst hosts bytes e → is_too_heavy cycles d ≡ true → is_too_heavy cycles e ≡ false → ⊥
   heavy_or_light d e h k heavy light = let bad : true ≡ false = sym heavy ∙ ap (is_too_heavy cycles) (one_design d e h k) ∙ light in absurd cc
@@ -114,7 +115,7 @@ module _ (hosts : List HostSpec) (cycles : ℕ) (bytes : List ℕ) where
   core-plain : (d : Checked) (core : Core) → SpellsFirst hosts bytes d → IsLowered d core → reading.HasPlainNames core
   core-plain d core first lowered =
       let design = first.spelled in
-      lowered-plain d core lowered (plain-names hosts design.tree d design.spelled.derived.design.declarations design.typed)
+      lowered-plain d core lowered (word-names hosts design.tree d design.spelled.derived.design.declarations design.typed)
 
   -- the stimulus fits
   fits : (d : Checked) (s : InputVectors) → SpellsBoth hosts bytes d s → (cycle : ℕ) → HaveWidths (input_widths d) (inputs_of s cycle)

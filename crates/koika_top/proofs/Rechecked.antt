@@ -6,14 +6,14 @@ use Rattle.one_rule.specs.Stimulus.{InputVectors}
 use Rattle.journal_check.specs.Checking.{IsGood}
 use Rattle.koika_check.specs.declared.checked.Checked.{Checked}
 use Rattle.koika_lower.specs.Lowering.{IsLowered}
-use Rattle.koika_top.specs.Answer.{IsFailure, status_of}
+use Rattle.front_end.specs.Program.{IsFailure, status_of}
 use Rattle.koika_top.specs.Calls.{IsDecided}
 use Rattle.koika_top.specs.Journal.{AnswersJournal, HasJournal}
 use Rattle.koika_top.specs.Recheck.{AnswersRecheck, MayHaveJournal, parts_of}
-use Rattle.koika_top.specs.declared.answer.Answer.{Answer}
-use Rattle.koika_top.specs.declared.answer.Answer.TheVariants.{Usage, Refused, Written}
-use Rattle.koika_top.specs.declared.status.Status.{Status}
-use Rattle.koika_top.specs.declared.status.Status.TheVariants as status
+use Rattle.front_end.specs.declared.answer.Answer.{Answer}
+use Rattle.front_end.specs.declared.answer.Answer.TheVariants.{Usage, Refused, Written}
+use Rattle.front_end.specs.declared.status.Status.{Status}
+use Rattle.front_end.specs.declared.status.Status.TheVariants as status
 use Rattle.koika_top.proofs.OneAnswer.{journaled_or_refused}
 use Rattle.koika_top.proofs.OneRecheck.{before_or_may, good_or_not, here, one_read, pass-across, read-across}
 

@@ -18,9 +18,10 @@ use Rattle.koika_check.specs.declared.checked.Checked.{Checked}
 use Rattle.koika_lower.specs.Lowering.{IsLowered, input_widths}
 use Rattle.stim_report.specs.Shapes.{RowsFit}
 use Rattle.stim_report.specs.declared.shape.Shape.{Shape}
-use Rattle.koika_top.specs.Sim.{Marks, text_of_rows}
-use Rattle.koika_top.specs.Sources.{shape_of}
-use Rattle.koika_top.specs.Systems.{run_of}
+use Rattle.front_end.specs.Marks.{Marks}
+use Rattle.koika_top.specs.Sim.{text_of_rows}
+use Rattle.front_end.specs.Sources.{shape_of}
+use Rattle.front_end.specs.Systems.{run_of}
 use Rattle.koika_top.specs.Telling.{HasRows, TakesRows, ending_of, ending_of_form, part_of_batch, shown_by, shown_by_form}
 use Rattle.koika_top.specs.declared.shown.Shown.{Shown}
 use Rattle.koika_top.specs.declared.shown.Shown.TheVariants.{Report, Summary}

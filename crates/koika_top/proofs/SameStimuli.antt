@@ -19,9 +19,10 @@ use Rattle.journal_check.specs.Reading.{IsJournal}
 use Rattle.journal_check.specs.declared.journal.Batch.{Batch}
 use Rattle.journal_check.specs.declared.journal.Journal.{Journal}
 use Rattle.koika_check.specs.declared.checked.Checked.{Checked}
-use Rattle.koika_top.specs.Sim.{marks_of, text_of_rows, text_of_run}
-use Rattle.koika_top.specs.Sources.{shape_of}
-use Rattle.koika_top.specs.Systems.{run_of}
+use Rattle.front_end.specs.Marks.{marks_of}
+use Rattle.koika_top.specs.Sim.{text_of_rows, text_of_run}
+use Rattle.front_end.specs.Sources.{shape_of}
+use Rattle.front_end.specs.Systems.{run_of}
 use Rattle.koika_top.specs.declared.shown.Shown.{Shown}
 
 module _ (a b : InputVectors) (same : AreSame a b) where

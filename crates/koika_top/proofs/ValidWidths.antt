@@ -26,7 +26,7 @@ use Rattle.koika_check.proofs.TypedParts.{gives-same, type-valid, unless-gives, 
 use Rattle.koika_lower.specs.Lowering.{register_widths}
 use Rattle.stim_report.specs.Shapes.{widths_of}
 use Rattle.stim_report.specs.declared.shape.NameWidth.{NameWidth}
-use Rattle.koika_top.specs.Sources.{of_input, shape_of}
+use Rattle.front_end.specs.Sources.{of_input, shape_of}
 
 -- each register and each input has a width of bit vectors
 record HasWidths (d : Checked) : Type 0 where

@@ -38,14 +38,15 @@ use Rattle.koika_check.specs.declared.checked.Register.{Register}
 use Rattle.koika_check.specs.declared.checked.Rule.{Rule}
 use Rattle.koika_lower.specs.Lowering.{IsLowered, input_of, register_of}
 use Rattle.koika_top.specs.Compile.{AreCircuitOf, HasPartsOf, IsStimulusFor}
-use Rattle.koika_top.specs.PlainNames.{HasPlainNames}
-use Rattle.koika_top.specs.Sim.{marks_of}
-use Rattle.koika_top.specs.Sources as sources
-use Rattle.koika_top.specs.Systems as typed
+use Rattle.front_end.specs.Names.{HasWordNames}
+use Rattle.front_end.specs.Marks.{marks_of}
+use Rattle.front_end.specs.Sources as sources
+use Rattle.front_end.specs.Systems as typed
 use Rattle.koika_top.specs.Wired.{IsWiredAs}
+use Rattle.koika_top.proofs.PlainNames.{words-tokens}
 use Rattle.koika_top.proofs.BadLines.{bads-have-names, flags-all, row-of-run, with-bads-numbered}
 use Rattle.koika_top.proofs.CircuitLines.{AreNumbered, HasSymbol, lines-numbered, no-bads, numbered-anew, outputs-named}
-use Rattle.koika_top.proofs.LoweredRuns.{inputs-wide, registers-wide, run-same, twice}
+use Rattle.front_end.proofs.LoweredRuns.{inputs-wide, registers-wide, run-same, twice}
 
 abbrev one : {Z : Type 0} → Z → ℕ
 one z = 1
@@ -97,11 +98,11 @@ named-so {X} {Y} {Z} P f g xs ys e all =
         (subst P (sym head) all.0, each xs ys tail all.1)
 
 -- a circuit that has the names of a design can be written where they can
-pub has-tokens : (d : Checked) (c : Wires) → HasPlainNames d → IsWiredAs d c → HasTokens c
+pub has-tokens : (d : Checked) (c : Wires) → HasWordNames d → IsWiredAs d c → HasTokens c
 has-tokens d c names is = record {
-  inputs = named-so IsToken (λ (wire : InputWire). wire.name) (λ (i : Input). i.name) c.inputs d.inputs is.inputs names.inputs;
-  states = named-so IsToken (λ (wire : StateWire). wire.name) (λ (r : Register). r.name) c.states d.registers is.states names.registers;
-  outputs = named-so IsToken (λ (wire : OutputWire). wire.name) (λ (r : Rule). r.name) c.outputs d.rules is.outputs names.rules;
+  inputs = named-so IsToken (λ (wire : InputWire). wire.name) (λ (i : Input). i.name) c.inputs d.inputs is.inputs (words-tokens (λ (i : Input). i.name) d.inputs names.inputs);
+  states = named-so IsToken (λ (wire : StateWire). wire.name) (λ (r : Register). r.name) c.states d.registers is.states (words-tokens (λ (r : Register). r.name) d.registers names.registers);
+  outputs = named-so IsToken (λ (wire : OutputWire). wire.name) (λ (r : Rule). r.name) c.outputs d.rules is.outputs (words-tokens (λ (r : Rule). r.name) d.rules names.rules);
 }
 
 -- ---- lines

@@ -19,11 +19,12 @@ use Rattle.one_rule.specs.Stimulus.{InputVectors, inputs_of}
 use Rattle.stim_report.specs.Cuts as cuts
 use Rattle.koika_top.specs.Btorsim.{longest_circuit}
 use Rattle.koika_top.specs.Compile.{IsStimulusFor, input_widths}
-use Rattle.koika_top.specs.Sim.{AnswersSim, is_too_long, rows_text}
-use Rattle.koika_top.specs.Sources.{IsTooLong, IsUnspelled, Spells, fault_of_source, name_of, shape_of}
-use Rattle.koika_top.specs.Systems as typed
-use Rattle.koika_top.specs.declared.answer.Answer.{Answer}
-use Rattle.koika_top.specs.declared.answer.Answer.TheVariants.{Usage, Refused, Written}
+use Rattle.koika_top.specs.Sim.{AnswersSim, rows_text}
+use Rattle.front_end.specs.Lengths.{is_too_long_for}
+use Rattle.front_end.specs.Sources.{IsTooLong, IsUnspelled, Spells, fault_of_source, name_of, shape_of}
+use Rattle.front_end.specs.Systems as typed
+use Rattle.front_end.specs.declared.answer.Answer.{Answer}
+use Rattle.front_end.specs.declared.answer.Answer.TheVariants.{Usage, Refused, Written}
 use Rattle.koika_top.specs.declared.shown.Shown.{Shown}
 
 -- the greatest bit weight of a design that `aiger` takes
@@ -87,7 +88,7 @@ pub record ShowsRows (hosts : List HostSpec) (cycles : ℕ) (shown : Shown) (sou
   pub design : Checked
   pub stimulus : InputVectors
   pub spelled : Spells hosts source design stimulus
-  pub within : is_too_long cycles design ≡ false
+  pub within : is_too_long_for cycles design ≡ false
   pub told : text ≡ rows_text shown (shape_of design) (typed.run_of design (inputs_of stimulus) cycles)
 
 -- the answer of `sim` without these lines

@@ -11,11 +11,11 @@ use Rattle.one_rule.specs.Stimulus.{InputVectors, inputs_of}
 use Rattle.stim_report.specs.Cuts as cuts
 use Rattle.stim_report.specs.Stimuli.{stimulus_of}
 use Rattle.koika_top.specs.Btorsim.{IsTooLong, longest_circuit}
-use Rattle.koika_top.specs.Lengths as lengths
+use Rattle.front_end.specs.Lengths as lengths
 use Rattle.koika_top.specs.Sim.{rows_text}
-use Rattle.koika_top.specs.Sources.{fault_of_source}
-use Rattle.koika_top.specs.declared.answer.Answer.{Answer}
-use Rattle.koika_top.specs.declared.answer.Answer.TheVariants.{Usage, Refused, Written}
+use Rattle.front_end.specs.Sources.{fault_of_source}
+use Rattle.front_end.specs.declared.answer.Answer.{Answer}
+use Rattle.front_end.specs.declared.answer.Answer.TheVariants.{Usage, Refused, Written}
 use Rattle.koika_top.specs.declared.shown.Shown.{Shown}
 
 -- whether a run of the circuit for these cycles is longer than runs may be: words of latches stand for registers, and

@@ -1,7 +1,6 @@
 -- What the program answers to the words of its command line and to the bytes of its source, and the text of an
 -- answer. A command's own answers are in the file of its name; later commands are further cases of these definitions.
-use Rattle.std.specs.Prelude.{◌≡◌, ℕ, ◌⊎◌, Bool, false, true, List, [], ◌∷◌, ◌++◌, codes, MatchOption, Option, None, Some, if◌then◌else◌}
-use Rattle.kw_base.specs.FaultLine.{line_of_fault}
+use Rattle.std.specs.Prelude.{◌≡◌, ℕ, Bool, false, true, List, [], ◌∷◌, ◌++◌, codes, Option, None, Some}
 use Rattle.kw_bits.specs.declared.host.HostSpec.{HostSpec}
 use Rattle.koika_top.specs.Aiger.{AnswersAiger}
 use Rattle.koika_top.specs.Aigsim.{AnswersAigsim}
@@ -12,12 +11,14 @@ use Rattle.koika_top.specs.Journal.{AnswersJournal}
 use Rattle.koika_top.specs.Reads.{AnswersCheck, AnswersPrint}
 use Rattle.koika_top.specs.Recheck.{AnswersRecheck}
 use Rattle.koika_top.specs.Sim.{AnswersSim}
-use Rattle.koika_top.specs.Sources.{longest_source}
+use Rattle.front_end.specs.Program as program
+use Rattle.front_end.specs.Program.{Program, status_of}
+use Rattle.front_end.specs.Sources.{longest_source}
 use Rattle.koika_top.specs.Words.{command_of}
-use Rattle.koika_top.specs.declared.answer.Answer.{Answer}
-use Rattle.koika_top.specs.declared.answer.Answer.TheVariants.{Usage, Refused, Written}
-use Rattle.koika_top.specs.declared.status.Status.{Status}
-use Rattle.koika_top.specs.declared.status.Status.TheVariants as status
+use Rattle.front_end.specs.declared.answer.Answer.{Answer}
+use Rattle.front_end.specs.declared.answer.Answer.TheVariants.{Usage, Refused, Written}
+use Rattle.front_end.specs.declared.status.Status.{Status}
+use Rattle.front_end.specs.declared.status.Status.TheVariants as status
 use Rattle.koika_top.specs.declared.words.Command.{Command}
 use Rattle.koika_top.specs.declared.words.Command.TheVariants.{Check, Print, Sim, Compile, Btorsim, Gen, Aiger, Aigsim, Journal, Recheck}
 
@@ -34,18 +35,10 @@ Answers hosts (Aigsim cycles shown) source answer = AnswersAigsim cycles shown s
 Answers hosts (Journal cycles workers) source answer = AnswersJournal hosts cycles workers source answer
 Answers hosts (Recheck cycles) source answer = AnswersRecheck hosts cycles source answer
 
--- the answer to words and a source; where the words aren't understood it is how to use the program
-abbrev pub IsAnswer : List HostSpec → List (List ℕ) → List ℕ → Answer → Type 0
-IsAnswer hosts words source answer = MatchOption (command_of words) (answer ≡ Usage) (λ command. Answers hosts command source answer)
-
 -- whether an answer depends on the source
 abbrev pub is_of_source : Command → Bool
 is_of_source (Gen stages) = false
 is_of_source other = true
-
-abbrev pub reads_source : Option Command → Bool
-reads_source None = false
-reads_source (Some command) = is_of_source command
 
 -- how many bytes the source of a command may have
 abbrev pub longest_of : Command → ℕ
@@ -54,27 +47,9 @@ longest_of (Aigsim cycles shown) = longest_circuit
 longest_of (Recheck cycles) = longest_circuit
 longest_of other = longest_source
 
--- what is known of the bytes that an answer depends on, where these are known of the source
-abbrev pub known_source : Option Command → Option (List ℕ) → Option (List ℕ)
-known_source command left = if reads_source command then left else Some []
-
+-- how to use the program
 abbrev pub usage_line : List ℕ
 usage_line = codes "usage: koika check|print|sim|compile|btorsim|gen|aiger|aigsim|recheck" ++ 10 ∷ []
-
--- the text of an answer
-abbrev pub text_of : Answer → List ℕ
-text_of Usage = usage_line
-text_of (Refused fault) = line_of_fault fault
-text_of (Written text) = text
-
-abbrev pub status_of : Answer → Status
-status_of Usage = status.Usage
-status_of (Refused fault) = status.Refused
-status_of (Written text) = status.Done
-
--- reading or writing failed, or memory ran out
-abbrev pub IsFailure : Status → Type 0
-IsFailure result = (result ≡ status.ReadFault) ⊎ ((result ≡ status.WriteFault) ⊎ (result ≡ status.NoMemory))
 
 -- whether there is one text at most that is written: a design has several circuits, of words and of bits, and journals
 abbrev pub has_one_text : Option Command → Bool
@@ -82,6 +57,34 @@ has_one_text (Some Compile) = false
 has_one_text (Some Aiger) = false
 has_one_text (Some (Journal cycles workers)) = false
 has_one_text other = true
+
+-- the program
+abbrev pub koika : Program Command Answer Status
+koika =
+    record {
+      command_of = command_of;
+      is_of_source = is_of_source;
+      Answers = Answers;
+      has_one_text = has_one_text;
+      usage_line = usage_line;
+      plain = λ answer. answer;
+      refused = λ fault. Refused fault;
+      written = λ s text. Written text;
+      answered = status_of;
+      ends = λ s. s;
+    }
+
+-- the answer to words and a source; where the words aren't understood it is how to use the program
+abbrev pub IsAnswer : List HostSpec → List (List ℕ) → List ℕ → Answer → Type 0
+IsAnswer = program.IsAnswer koika
+
+-- whether words that ask for this are answered by the source
+abbrev pub reads_source : Option Command → Bool
+reads_source = program.reads_source koika
+
+-- the text of an answer
+abbrev pub text_of : Answer → List ℕ
+text_of = program.text_of usage_line
 
 -- whether definitions alone make an answer: circuits, journals and lowered designs are made by the program's functions
 abbrev pub is_answered : Option Command → Bool

@@ -20,11 +20,11 @@ use Rattle.btor2_model.specs.declared.rule.Rule.{Rule}
 use Rattle.btor2_net.specs.Translations.{name_of}
 use Rattle.koika_assert.specs.Bads.{is_violated}
 use Rattle.koika_assert.specs.Violations.{violated_line}
-use Rattle.koika_top.specs.Lengths as lengths
-use Rattle.koika_top.specs.Sources.{fault_of_source}
+use Rattle.front_end.specs.Lengths as lengths
+use Rattle.front_end.specs.Sources.{fault_of_source}
 use Rattle.koika_top.specs.Sim.{rows_text}
-use Rattle.koika_top.specs.declared.answer.Answer.{Answer}
-use Rattle.koika_top.specs.declared.answer.Answer.TheVariants.{Usage, Refused, Written}
+use Rattle.front_end.specs.declared.answer.Answer.{Answer}
+use Rattle.front_end.specs.declared.answer.Answer.TheVariants.{Usage, Refused, Written}
 use Rattle.koika_top.specs.declared.shown.Shown.{Shown}
 
 -- a source with a BTOR2 file may have this many bytes

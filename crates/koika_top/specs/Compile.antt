@@ -22,11 +22,11 @@ use Rattle.stim_report.specs.Cuts as cuts
 use Rattle.stim_report.specs.Summary.{has_fired}
 use Rattle.kw_bits.specs.declared.host.HostSpec.{HostSpec}
 use Rattle.koika_top.specs.Btorsim.{longest_circuit}
-use Rattle.koika_top.specs.Sim.{marks_of}
-use Rattle.koika_top.specs.Sources.{IsTooLong, IsUnspelled, Spells, name_of}
-use Rattle.koika_top.specs.Systems as typed
-use Rattle.koika_top.specs.declared.answer.Answer.{Answer}
-use Rattle.koika_top.specs.declared.answer.Answer.TheVariants.{Usage, Refused, Written}
+use Rattle.front_end.specs.Marks.{marks_of}
+use Rattle.front_end.specs.Sources.{IsTooLong, IsUnspelled, Spells, name_of}
+use Rattle.front_end.specs.Systems as typed
+use Rattle.front_end.specs.declared.answer.Answer.{Answer}
+use Rattle.front_end.specs.declared.answer.Answer.TheVariants.{Usage, Refused, Written}
 
 abbrev pub input_widths : Checked → List ℕ
 input_widths d = map (λ (i : Input). i.width) d.inputs

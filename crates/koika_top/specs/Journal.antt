@@ -16,10 +16,10 @@ use Rattle.journal_check.specs.declared.journal.Journal.{Journal}
 use Rattle.koika_check.specs.Counts.{counts_of}
 use Rattle.koika_check.specs.declared.checked.Checked.{Checked}
 use Rattle.koika_lower.specs.Lowering.{IsLowered}
-use Rattle.koika_top.specs.Sim.{HasNoRun, is_too_long}
-use Rattle.koika_top.specs.Sources.{IsTooLong, Spells, fault_of_source}
-use Rattle.koika_top.specs.declared.answer.Answer.{Answer}
-use Rattle.koika_top.specs.declared.answer.Answer.TheVariants.{Usage, Refused, Written}
+use Rattle.front_end.specs.Lengths.{HasNoRun, is_too_long_for}
+use Rattle.front_end.specs.Sources.{IsTooLong, Spells, fault_of_source}
+use Rattle.front_end.specs.declared.answer.Answer.{Answer}
+use Rattle.front_end.specs.declared.answer.Answer.TheVariants.{Usage, Refused, Written}
 
 -- whether that many cycles of the design are too many for a journal: more than 16,384 times one more than its weight
 abbrev pub is_too_heavy : ℕ → Checked → Bool
@@ -28,7 +28,7 @@ is_too_heavy cycles d = nat_lt 16384 (cycles * ((counts_of d).weight + 1))
 -- the source spells a design and a stimulus, and that many cycles have a journal
 pub record HasJournal (hosts : List HostSpec) (cycles : ℕ) (source : List ℕ) (design : Checked) (stimulus : InputVectors) : Type 0 where
   pub spelled : Spells hosts source design stimulus
-  pub within : is_too_long cycles design ≡ false
+  pub within : is_too_long_for cycles design ≡ false
   pub light : is_too_heavy cycles design ≡ false
 
 -- its entries are by workers with at most this number, and their attempts for cycles of the batch
@@ -58,7 +58,7 @@ pub record ShowsJournal (hosts : List HostSpec) (cycles workers : ℕ) (source t
 abbrev pub RunsTooHeavy : List HostSpec → ℕ → List ℕ → Fault → Type 0
 RunsTooHeavy hosts cycles source fault =
     (fault ≡ fault_of_source 49)
-    × ((design : Checked) × (stimulus : InputVectors) × Spells hosts source design stimulus × (is_too_long cycles design ≡ false) × (is_too_heavy cycles design ≡ true))
+    × ((design : Checked) × (stimulus : InputVectors) × Spells hosts source design stimulus × (is_too_long_for cycles design ≡ false) × (is_too_heavy cycles design ≡ true))
 
 -- the source has no journal of that many cycles, and this is why
 abbrev pub HasNoJournal : List HostSpec → ℕ → List ℕ → Fault → Type 0

@@ -10,10 +10,10 @@ use Rattle.journal_check.specs.Printing.{journal_text, text_of}
 use Rattle.journal_check.specs.declared.journal.Batch.{Batch}
 use Rattle.journal_check.specs.declared.journal.Journal.{Journal}
 use Rattle.koika_top.specs.Journal.{IsJournalOf, IsMadeBy}
-use Rattle.koika_top.specs.Streams.{Stream}
-use Rattle.koika_top.specs.Told.{Told}
-use Rattle.koika_top.specs.declared.untold.Untold.{Untold}
-use Rattle.koika_top.specs.declared.untold.Untold.TheVariants as untold
+use Rattle.front_end.specs.Streams.{Stream}
+use Rattle.front_end.specs.Told.{Told}
+use Rattle.front_end.specs.declared.untold.Untold.{Untold}
+use Rattle.front_end.specs.declared.untold.Untold.TheVariants as untold
 
 -- the batch is of these cycles, and its entries are by these workers and a legal history that closes them all
 pub record IsBatch (core : Parts) (stimulus : InputVectors) (workers : ℕ) (regs : List BitVector) (from to : ℕ) (batch : Batch) : Type 0 where

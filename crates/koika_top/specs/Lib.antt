@@ -1,12 +1,9 @@
-pub mod Sources
-pub mod Systems
 pub mod Words
 pub mod Given
 pub mod Generator
 pub mod Reads
 pub mod RoundTrip
 pub mod Sim
-pub mod Lengths
 pub mod CircuitShapes
 pub mod Btorsim
 pub mod CircuitRuns
@@ -18,12 +15,9 @@ pub mod Histories
 pub mod Journal
 pub mod Journaling
 pub mod Recheck
-pub mod PlainNames
 pub mod Wired
-pub mod Streams
 pub mod Answer
 pub mod Calls
-pub mod Told
 pub mod Works
 pub mod Steps
 pub mod Telling

@@ -1,13 +1,10 @@
--- The number of each fault and each limit, beside the constant of the code that other definitions have for it, and that of
--- each exit status.
-use Rattle.std.specs.Prelude.{◌≡◌, ℕ}
+-- The number of each fault and each limit, beside the constant of the code that other definitions have for it.
+use Rattle.std.specs.Prelude.{◌≡◌}
 use Rattle.board_core.specs.declared.kept.TheConstants.{MAX_CYCLES, MAX_WINDOW}
 use Rattle.kw_base.specs.declared.fault_number.TheConstants.{NO_TOKEN, UNEXPECTED_TOKEN, BRACKETS_TOO_DEEP, NUMBER_OUT_OF_RANGE, NAME_TOO_LONG, UNKNOWN_NAME, REPEATED_NAME, WRONG_TYPE, WRONG_WIDTH, WRONG_FIELD, WRONG_ARGUMENT_COUNT, RULE_TWICE_ON_A_PATH, WRONG_ENTRY_COUNT, UNKNOWN_HOST_FUNCTION, MALFORMED_ASSIGNMENT, UNKNOWN_INPUT, INPUT_TOO_WIDE, SOURCE_TOO_LONG, TOO_MANY_REGISTERS, TOO_MANY_RULES, TOO_MANY_NODES, TOO_HEAVY, RUN_TOO_LONG, TOO_DEEP, TOO_MANY_INPUTS, TOO_MANY_BITS, JOURNAL_TOO_LONG, MALFORMED_LINE, REPEATED_ID, UNDEFINED_ID, WRONG_SORT, FORM_LEFT_OUT, SORT_OUT_OF_RANGE, STATE_WITHOUT_NEXT, REPEATED_INIT_OR_NEXT, CONSTANT_TOO_GREAT, INIT_NOT_CONSTANT, MALFORMED_AIGER, VARIABLE_TOO_GREAT, VARIABLE_DEFINED_TWICE, NO_VARIABLE, UNDEFINED_VARIABLE, RESET_LEFT_OUT, MALFORMED_JOURNAL, NO_TRACE, WRONG_ANSWER, WRONG_BATCH}
 use Rattle.typed_core.specs.declared.limits.TheConstants.{MAX_REGISTERS, MAX_INPUTS, MAX_RULES, MAX_NODES, MAX_TABLE_IN_WIDTH, PORTS}
 use Rattle.koika_check.specs.declared.measure.TheConstants.{MAX_WEIGHT, MAX_DEPTH}
 use Rattle.koika_top.specs.declared.aiger.TheConstants.{MOST_BITS}
-use Rattle.koika_top.specs.declared.status.Status.{Status}
-use Rattle.koika_top.specs.declared.status.Status.TheVariants as status
 
 -- tokens and grammar; names and types; stimuli; sources, limits and runs; BTOR2 texts; AIGER texts; journals
 pub record AreFaultNumbers : Type 0 where
@@ -72,12 +69,3 @@ pub record AreLimits : Type 0 where
   pub most_bits : MOST_BITS ≡ 1048576
   pub max_cycles : MAX_CYCLES ≡ 16777216
   pub max_window : MAX_WINDOW ≡ 16
-
--- the exit status of the program
-abbrev pub exit_status : Status → ℕ
-exit_status status.Done = 0
-exit_status status.Usage = 1
-exit_status status.Refused = 2
-exit_status status.ReadFault = 3
-exit_status status.WriteFault = 4
-exit_status status.NoMemory = 5

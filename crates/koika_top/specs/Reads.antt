@@ -8,9 +8,9 @@ use Rattle.koika_check.specs.declared.counts.Counts.{Counts}
 use Rattle.koika_print.specs.Printed.{printed}
 use Rattle.one_rule.specs.Stimulus.{InputVectors}
 use Rattle.kw_bits.specs.declared.host.HostSpec.{HostSpec}
-use Rattle.koika_top.specs.Sources.{IsTooLong, IsUnread, IsUnspelled, Spells, SpellsTree}
-use Rattle.koika_top.specs.declared.answer.Answer.{Answer}
-use Rattle.koika_top.specs.declared.answer.Answer.TheVariants.{Usage, Refused, Written}
+use Rattle.front_end.specs.Sources.{IsTooLong, IsUnread, IsUnspelled, Spells, SpellsTree}
+use Rattle.front_end.specs.declared.answer.Answer.{Answer}
+use Rattle.front_end.specs.declared.answer.Answer.TheVariants.{Usage, Refused, Written}
 
 -- ok registers=R rules=Q nodes=M weight=W
 abbrev pub counts_line : Counts → List ℕ

@@ -17,10 +17,11 @@ use Rattle.stim_report.specs.Cuts as cuts
 use Rattle.stim_report.specs.Stimuli.{stimulus_of}
 use Rattle.koika_top.specs.Btorsim.{longest_circuit}
 use Rattle.koika_top.specs.Journal.{ShowsJournal, is_too_heavy}
-use Rattle.koika_top.specs.Sim.{is_too_long, text_of_run}
-use Rattle.koika_top.specs.Sources.{IsIllTyped, SpellsDesign, fault_of_source, longest_source, shape_of}
-use Rattle.koika_top.specs.declared.answer.Answer.{Answer}
-use Rattle.koika_top.specs.declared.answer.Answer.TheVariants.{Usage, Refused, Written}
+use Rattle.front_end.specs.Lengths.{is_too_long_for}
+use Rattle.koika_top.specs.Sim.{text_of_run}
+use Rattle.front_end.specs.Sources.{IsIllTyped, SpellsDesign, fault_of_source, longest_source, shape_of}
+use Rattle.front_end.specs.declared.answer.Answer.{Answer}
+use Rattle.front_end.specs.declared.answer.Answer.TheVariants.{Usage, Refused, Written}
 use Rattle.koika_top.specs.declared.shown.Shown.TheVariants.{Report}
 
 -- ---- sources
@@ -73,7 +74,7 @@ pub record SpellsBoth (hosts : List HostSpec) (source : List ℕ) (design : Chec
 -- that many cycles may have a journal
 pub record MayHaveJournal (hosts : List HostSpec) (cycles : ℕ) (source : List ℕ) (design : Checked) (stimulus : InputVectors) : Type 0 where
   pub spelled : SpellsBoth hosts source design stimulus
-  pub within : is_too_long cycles design ≡ false
+  pub within : is_too_long_for cycles design ≡ false
   pub light : is_too_heavy cycles design ≡ false
 
 -- its third part is this journal of the design, lowered
@@ -110,8 +111,8 @@ HasNoStimulus hosts source fault = (design : Checked) × SpellsFirst hosts sourc
 abbrev pub HasNoLength : List HostSpec → ℕ → List ℕ → Fault → Type 0
 HasNoLength hosts cycles source fault =
     (design : Checked) × (stimulus : InputVectors) × SpellsBoth hosts source design stimulus
-    × (((fault ≡ fault_of_source 45) × (is_too_long cycles design ≡ true))
-    ⊎ ((fault ≡ fault_of_source 49) × (is_too_long cycles design ≡ false) × (is_too_heavy cycles design ≡ true)))
+    × (((fault ≡ fault_of_source 45) × (is_too_long_for cycles design ≡ true))
+    ⊎ ((fault ≡ fault_of_source 49) × (is_too_long_for cycles design ≡ false) × (is_too_heavy cycles design ≡ true)))
 
 -- the first two parts spell no design with a stimulus, and this is why; no journal is looked at, and this is why
 abbrev pub HasNoParts : List HostSpec → List ℕ → Fault → Type 0

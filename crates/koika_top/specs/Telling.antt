@@ -7,7 +7,8 @@ use Rattle.stim_report.specs.Report.{report, report_part}
 use Rattle.stim_report.specs.Shapes.{RowsFit}
 use Rattle.stim_report.specs.Summary.{totals_of, totals_text}
 use Rattle.stim_report.specs.declared.shape.Shape.{Shape}
-use Rattle.koika_top.specs.Sim.{Marks, rows_text}
+use Rattle.front_end.specs.Marks.{Marks}
+use Rattle.koika_top.specs.Sim.{rows_text}
 use Rattle.koika_top.specs.declared.shown.Shown.{Shown}
 use Rattle.koika_top.specs.declared.shown.Shown.TheVariants.{Report, Summary}
 use Rattle.koika_top.specs.declared.teller.Form.{Form}

@@ -13,8 +13,8 @@ use Rattle.koika_check.specs.declared.checked.Register.{Register}
 use Rattle.koika_check.specs.declared.checked.Rule.{Rule}
 use Rattle.one_rule.specs.Stimulus.{InputVectors, inputs_of}
 use Rattle.koika_top.specs.Compile.{IsStimulusFor, input_widths}
-use Rattle.koika_top.specs.Sources.{name_of}
-use Rattle.koika_top.specs.Systems as typed
+use Rattle.front_end.specs.Sources.{name_of}
+use Rattle.front_end.specs.Systems as typed
 
 -- the circuit has the design's names and widths, and on every stimulus for its inputs its run
 pub record IsWiredAs (d : Checked) (c : Wires) : Type 0 where

@@ -1,8 +1,7 @@
 -- Which arguments are valid, as words of the command line, and what they ask for. The program's own name isn't among them.
-use Rattle.std.specs.Prelude.{ℕ, ◌+◌, ◌-◌, ◌*◌, ◌&&◌, ◌||◌, nat_le, Bool, true, false, List, [], ◌∷◌, length, fold, codes, take, drop, Option, Some, None, if◌then◌else◌}
-use Rattle.std.specs.List.{list_all}
-use Rattle.std.specs.Char.{is_ascii_digit}
+use Rattle.std.specs.Prelude.{ℕ, ◌&&◌, ◌||◌, nat_le, Bool, true, false, List, [], ◌∷◌, codes, take, drop, Option, Some, None, if◌then◌else◌}
 use Rattle.std.specs.Str.{bytes_eq}
+use Rattle.front_end.specs.NumberWords.{number_of}
 use Rattle.koika_top.specs.declared.engine_kind.EngineKind.{EngineKind}
 use Rattle.koika_top.specs.declared.engine_kind.EngineKind.TheVariants.{Plain, Circuit, Workers}
 use Rattle.koika_top.specs.declared.shown.Shown.{Shown}
@@ -10,18 +9,6 @@ use Rattle.koika_top.specs.declared.shown.Shown.TheVariants.{Report, Summary}
 use Rattle.koika_top.specs.declared.words.Command.{Command}
 use Rattle.koika_top.specs.declared.words.Command.TheVariants.{Check, Print, Sim, Compile, Btorsim, Gen, Aiger, Aigsim, Journal, Recheck}
 use Rattle.koika_top.specs.declared.words.Options.{Options}
-
--- the number that decimal digits write
-abbrev pub value_of : List ℕ → ℕ
-value_of digits = fold (λ value digit. 10 * value + (digit - 48)) 0 digits
-
--- one to ten decimal digits
-abbrev pub are_few_digits : List ℕ → Bool
-are_few_digits word = nat_le 1 (length word) && nat_le (length word) 10 && list_all is_ascii_digit word
-
--- the number that one to ten digits write, if 32 bits hold it
-abbrev pub number_of : List ℕ → Option ℕ
-number_of word = if are_few_digits word && nat_le (value_of word) 4294967295 then Some (value_of word) else None
 
 -- the engine that a word names
 abbrev pub engine_of : List ℕ → Option EngineKind

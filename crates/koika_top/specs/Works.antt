@@ -4,13 +4,13 @@ use Rattle.std.specs.Arc.{arc_value}
 use Rattle.koika_check.specs.Typing.{IsTypedDesign}
 use Rattle.koika_top.specs.Journaling.{WritesJournal}
 use Rattle.koika_top.specs.Sim.{text_of_run}
-use Rattle.koika_top.specs.Streams.{Stream}
-use Rattle.koika_top.specs.Told.{Told}
+use Rattle.front_end.specs.Streams.{Stream}
+use Rattle.front_end.specs.Told.{Told}
 use Rattle.koika_top.specs.declared.crew.Work.{Work}
 use Rattle.koika_top.specs.declared.crew.Work.TheVariants.{Shown, Journal}
 use Rattle.koika_top.specs.declared.engine_kind.EngineKind.{EngineKind}
 use Rattle.koika_top.specs.declared.engine_kind.EngineKind.TheVariants.{Workers}
-use Rattle.koika_top.specs.declared.untold.Untold.{Untold}
+use Rattle.front_end.specs.declared.untold.Untold.{Untold}
 
 -- the engine that makes the run
 abbrev pub engine_of : Work → EngineKind

@@ -6,12 +6,12 @@ ghost use Rattle.koika_check.specs.BitWeights.{bit_weight};
 ghost use Rattle.koika_check.specs.Typing.{IsTypedDesign};
 ghost use Rattle.one_rule.specs.Hosts.{host_specs};
 ghost use Rattle.koika_top.specs.Aiger.{HasNoAig, ShowsAig, most_bits};
-ghost use Rattle.koika_top.specs.Sources.{longest_source};
-ghost use Rattle.koika_top.specs.Sources as sources;
+ghost use Rattle.front_end.specs.Sources.{longest_source};
+ghost use Rattle.front_end.specs.Sources as sources;
 
-use crate::lowered::Lowered;
-use crate::source::{fault_of_source, read_source};
+use crate::circuits::aig_of;
 use aiger_text::print_aiger;
+use front_end::{Lowered, fault_of_source, read_source};
 use host_fn::HostFn;
 use koika_check::Checked;
 use kw_base::{Refusal, fault_number};
@@ -34,7 +34,7 @@ pub(crate) fn convert_source(
     let spelled = read_source(alloc, hosts, source)?;
     has_few_bits(&spelled.design)?;
     let lowered = Lowered::new(alloc, spelled, hosts)?;
-    let aig = lowered.aig(alloc)?;
+    let aig = aig_of(alloc, &lowered)?;
     let text = print_aiger(alloc, &aig)?;
     Ok(text)
 }

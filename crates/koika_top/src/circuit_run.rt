@@ -13,28 +13,26 @@ ghost use Rattle.stim_report.specs.Cuts.{parts_of};
 ghost use Rattle.koika_top.specs.Btorsim.{HasNoLines, HasNoStimulus, HasNoText, HoldsRun, HoldsText, IsRefusal, RunsTooLong, is_too_long, longest_circuit, shown_run};
 ghost use Rattle.koika_top.specs.CircuitRuns.{AreCircuitsOf, HasFewLines, violations_by};
 ghost use Rattle.koika_top.specs.CircuitShapes as circuits;
-ghost use Rattle.koika_top.specs.Lengths as lengths;
+ghost use Rattle.front_end.specs.Lengths as lengths;
 ghost use Rattle.koika_top.specs.Sim.{rows_text};
-ghost use Rattle.koika_top.specs.Sources.{fault_of_source};
-ghost use Rattle.koika_top.specs.Streams.{stream};
+ghost use Rattle.front_end.specs.Sources.{fault_of_source};
+ghost use Rattle.front_end.specs.Streams.{stream};
 ghost use Rattle.koika_top.specs.Telling.{HasRows, all_told, marks_in, shown_by};
-ghost use Rattle.koika_top.specs.Told.{Told};
+ghost use Rattle.front_end.specs.Told.{Told};
 
 use crate::bad_flags::{BadFlags, bad_watch};
 use crate::circuit_engine::CircuitEngine;
 use crate::circuit_shapes::circuit_shape;
-use crate::lengths::is_too_long;
-use crate::recall::{always_fits, has_valid_wires};
+use crate::recall::has_valid_wires;
 use crate::shown::Shown;
-use crate::source::fault_of_source;
 use crate::tell::tell;
 use crate::teller::Teller;
-use crate::untold::Untold;
 use attempt_log::NoGate;
 use btor2_model::{Btor, accept};
 use btor2_net::to_circuit;
 use btor2_text::read_lines;
 use circuit_eval::Circuit;
+use front_end::{Untold, always_fits, fault_of_source, is_too_long};
 use koika_assert::Watch;
 use kw_base::{Refusal, fault_number};
 use kw_bits::Sequence;
@@ -216,7 +214,7 @@ pub(crate) fn fits(cycles: u32, shape: &Shape) -> Result<(), Refusal>
     ensures refused { IfFault result (λ fault. (fault ≡ fault_of_source 45)
         × (lengths.is_too_long cycles (length shape.now.registers) (length shape.now.rules) ≡ true)) }
 {
-    if is_too_long(cycles, shape.registers.len(), shape.rules.len()) {
+    if is_too_long(cycles as u64, shape.registers.len(), shape.rules.len()) {
         return Err(Refusal::Fault(fault_of_source(fault_number::RUN_TOO_LONG)));
     }
     Ok(())

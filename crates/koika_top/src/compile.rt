@@ -4,11 +4,11 @@ ghost use Rattle.std.specs.Prelude.{◌≤◌, IfOk, length};
 ghost use Rattle.kw_base.specs.Fault.{IfFault};
 ghost use Rattle.one_rule.specs.Hosts.{host_specs};
 ghost use Rattle.koika_top.specs.Compile.{ShowsCircuit};
-ghost use Rattle.koika_top.specs.Sources.{IsUnspelled, longest_source};
+ghost use Rattle.front_end.specs.Sources.{IsUnspelled, longest_source};
 
-use crate::lowered::Lowered;
-use crate::source::read_source;
+use crate::circuits::lines_of;
 use btor2_text::print_lines;
+use front_end::{Lowered, read_source};
 use host_fn::HostFn;
 use kw_base::Refusal;
 use kw_bits::Text;
@@ -26,7 +26,7 @@ pub(crate) fn compile_source(
 {
     let spelled = read_source(alloc, hosts, source)?;
     let lowered = Lowered::new(alloc, spelled, hosts)?;
-    let lines = lowered.lines(alloc)?;
+    let lines = lines_of(alloc, &lowered)?;
     let text = print_lines(alloc, &lines)?;
     Ok(text)
 }

@@ -1,13 +1,13 @@
 //! Engines: who makes the run of a design.
 
-ghost use Rattle.koika_top.specs.Streams.{stream};
+ghost use Rattle.front_end.specs.Streams.{stream};
 ghost use Rattle.koika_top.specs.Works.{IsReady, IsWritten, engine_of};
 
 use crate::design_run::Run;
 use crate::engine_kind::EngineKind;
 use crate::journal_run::JournalRun;
-use crate::untold::Untold;
 use attempt_log::Gate;
+use front_end::Untold;
 use kw_io::Sink;
 use std::alloc::Global;
 use std::sync::Wait;

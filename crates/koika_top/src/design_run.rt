@@ -6,30 +6,29 @@ ghost use Rattle.kw_base.specs.Fault.{IfFault};
 ghost use Rattle.koika_check.specs.Typing.{IsTypedDesign};
 ghost use Rattle.one_rule.specs.Hosts.{host_specs};
 ghost use Rattle.one_rule.specs.Stimulus.{inputs_of};
-ghost use Rattle.koika_top.specs.Sim.{HasNoRun, is_too_long, text_of_run};
-ghost use Rattle.koika_top.specs.Sources.{Spells, longest_source};
-ghost use Rattle.koika_top.specs.Streams.{stream};
-ghost use Rattle.koika_top.specs.Systems.{run_of};
-ghost use Rattle.koika_top.specs.Told.{Told};
+ghost use Rattle.koika_top.specs.Sim.{text_of_run};
+ghost use Rattle.front_end.specs.Lengths.{HasNoRun, is_too_long_for};
+ghost use Rattle.front_end.specs.Sources.{Spells, longest_source};
+ghost use Rattle.front_end.specs.Streams.{stream};
+ghost use Rattle.front_end.specs.Systems.{run_of};
+ghost use Rattle.front_end.specs.Told.{Told};
 
 use crate::circuit_engine::CircuitEngine;
 use crate::circuit_read::read_again;
+use crate::circuits::lines_of;
 use crate::engine::Engine;
 use crate::engine_kind::EngineKind;
-use crate::lengths;
-use crate::lowered::Lowered;
 use crate::plain_engine::PlainEngine;
-use crate::recall::{always_fits, is_valid};
-use crate::shape::watch_of;
 use crate::shown::Shown;
-use crate::source::{fault_of_source, read_source};
 use crate::tell::tell;
 use crate::teller::Teller;
-use crate::untold::Untold;
+use crate::watch::watch_of;
 use crate::workers_engine::WorkersEngine;
 use attempt_log::{Gate, NoGate};
+use front_end::{
+    Lowered, Untold, always_fits, fault_of_source, is_too_long_for, is_valid, read_source,
+};
 use host_fn::HostFn;
-use koika_check::Checked;
 use kw_base::{Refusal, fault_number};
 use kw_io::Sink;
 use one_rule::{Externs, Stimulus};
@@ -45,7 +44,7 @@ pub(crate) struct Run {
     pub(crate) cycles: u32,
     pub(crate) shown: Shown,
     pub(crate) engine: EngineKind,
-    ghost within: { is_too_long cycles lowered.checked ≡ false },
+    ghost within: { is_too_long_for cycles lowered.checked ≡ false },
 }
 
 impl Run {
@@ -68,7 +67,7 @@ impl Run {
         ensures refused { IfFault result (HasNoRun (host_specs hosts.now) cycles source.now) }
     {
         let spelled = read_source(alloc, hosts, source)?;
-        if is_too_long(cycles, &spelled.design) {
+        if is_too_long_for(cycles as u64, &spelled.design) {
             return Err(Refusal::Fault(fault_of_source(fault_number::RUN_TOO_LONG)));
         }
         let lowered = Lowered::new(alloc, spelled, hosts)?;
@@ -105,7 +104,7 @@ impl Run {
     {
         let stimulus: &Stimulus = &self.lowered.stimulus;
         always_fits(alloc, stimulus);
-        let lines = self.lowered.lines(alloc)?;
+        let lines = lines_of(alloc, &self.lowered)?;
         let circuit = read_again(alloc, &lines)?;
         let mut engine = CircuitEngine::begin(alloc, &circuit, stimulus)?;
         self.write_by(alloc, &NoGate, &mut engine, sink)
@@ -177,11 +176,4 @@ impl Run {
             sink,
         )
     }
-}
-
-/// Whether a run of the design for these cycles is longer than runs may be.
-pub(crate) fn is_too_long(cycles: u32, design: &Checked) -> bool
-    ensures { result ≡ is_too_long cycles design.now }
-{
-    lengths::is_too_long(cycles, design.registers.len(), design.rules.len())
 }

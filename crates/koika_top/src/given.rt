@@ -8,9 +8,10 @@ ghost use Rattle.koika_top.specs.declared.words.Options.{Options as AnyOptions};
 
 use crate::engine_kind::EngineKind;
 use crate::shown::Shown;
-use crate::words::{Options, engine_of, number_of};
+use crate::words::{Options, engine_of};
 use clap::error::ErrorKind;
 use clap::{Arg, ArgAction, ArgMatches, Command, Error};
+use front_end::number_of;
 use kw_bits::NoMemory;
 use std::alloc::Global;
 

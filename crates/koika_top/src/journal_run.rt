@@ -14,19 +14,16 @@ ghost use Rattle.one_rule.specs.Stimulus.{AlwaysFits, StimulusFits, inputs_of};
 ghost use Rattle.koika_top.specs.Histories.{IsWhole, board_of};
 ghost use Rattle.koika_top.specs.Journal.{HasJournal, HasNoJournal, is_too_heavy};
 ghost use Rattle.koika_top.specs.Journaling.{WritesBatch, WritesJournal};
-ghost use Rattle.koika_top.specs.Sim.{is_too_long};
-ghost use Rattle.koika_top.specs.Sources.{longest_source};
-ghost use Rattle.koika_top.specs.Streams.{stream};
+ghost use Rattle.front_end.specs.Lengths.{is_too_long_for};
+ghost use Rattle.front_end.specs.Sources.{longest_source};
+ghost use Rattle.front_end.specs.Streams.{stream};
 
-use crate::answer::write_text;
-use crate::design_run::is_too_long;
 use crate::journaled::{Journaled, run_journal};
-use crate::lengths::BATCH;
-use crate::lowered::Lowered;
-use crate::recall::{always_fits, is_valid};
-use crate::source::{fault_of_source, read_source};
-use crate::untold::Untold;
 use attempt_log::{Entry, Gate};
+use front_end::{
+    BATCH, Lowered, Untold, always_fits, fault_of_source, is_too_long_for, is_valid, read_source,
+    write_text,
+};
 use host_fn::HostFn;
 use journal_check::{Batch, print_batch, print_begin};
 use koika_check::Checked;
@@ -47,7 +44,7 @@ pub(crate) struct JournalRun {
     pub(crate) lowered: Lowered,
     pub(crate) cycles: u32,
     pub(crate) workers: u32,
-    ghost within: { is_too_long cycles lowered.checked ≡ false },
+    ghost within: { is_too_long_for cycles lowered.checked ≡ false },
     ghost light: { is_too_heavy cycles lowered.checked ≡ false },
     ghost some: { 1 ≤ workers },
     ghost most: { workers ≤ 8 },
@@ -73,7 +70,7 @@ impl JournalRun {
         ensures refused { IfFault result (HasNoJournal (host_specs hosts.now) cycles source.now) }
     {
         let spelled = read_source(alloc, hosts, source)?;
-        if is_too_long(cycles, &spelled.design) {
+        if is_too_long_for(cycles as u64, &spelled.design) {
             return Err(Refusal::Fault(fault_of_source(fault_number::RUN_TOO_LONG)));
         }
         if is_too_heavy(cycles, &spelled.design) {

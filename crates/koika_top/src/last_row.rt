@@ -4,7 +4,7 @@ ghost use Rattle.std.specs.Prelude.{◌≡◌, ◌-◌, ◌<◌, IfOk, OnOk, len
 ghost use Rattle.one_rule.specs.Stimulus.{InputVectors};
 ghost use Rattle.koika_top.specs.Engines.{HasRun};
 
-use crate::recall::is_valid;
+use front_end::is_valid;
 use kw_bits::NoMemory;
 use one_rule::{FiredSet, Regs, Row, Rows, first_values, opening};
 use std::alloc::Global;

@@ -12,8 +12,8 @@ ghost use Rattle.koika_syntax.specs.Tokens.{AreTokensOf};
 ghost use Rattle.koika_syntax.specs.declared.token.Token.{Token};
 ghost use Rattle.koika_syntax.specs.declared.tree.Tree.{Tree};
 ghost use Rattle.one_rule.specs.Stimulus.{InputVectors};
-ghost use Rattle.koika_top.specs.declared.answer.Answer.{Answer};
-ghost use Rattle.koika_top.specs.declared.answer.Answer.TheVariants.{Refused};
+ghost use Rattle.front_end.specs.declared.answer.Answer.{Answer};
+ghost use Rattle.front_end.specs.declared.answer.Answer.TheVariants.{Refused};
 ghost use Rattle.koika_top.specs.declared.shown.Shown.{Shown};
 ghost use Rattle.koika_top.specs.declared.shown.Shown.TheVariants.{Report};
 ghost use Rattle.koika_top.specs.Answer.{IsAnswer, IsLikeAnswer, IsSameAnswer, has_one_text, is_answered};
@@ -27,7 +27,7 @@ ghost use Rattle.koika_top.specs.Numbers.{AreFaultNumbers, AreLimits};
 ghost use Rattle.koika_top.specs.Recheck.{AnswersRecheck, HasPartsOf, IsJournaledOf, IsRefusedBefore, MayHaveJournal, SpellsSame};
 ghost use Rattle.koika_top.specs.RoundTrip.{PrintedIsReadAgain};
 ghost use Rattle.koika_top.specs.Sim.{AnswersSim};
-ghost use Rattle.koika_top.specs.Sources.{Spells};
+ghost use Rattle.front_end.specs.Sources.{Spells};
 ghost use Rattle.koika_top.specs.Words.{command_of};
 
 /// Arguments and a source have one answer at most, where the same host functions are handed in, but for `compile`,

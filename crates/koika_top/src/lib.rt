@@ -1,19 +1,19 @@
 //! The commands of the program: arguments and a source's bytes in, a text or a refusal out.
 //!
 //! `specs/Answer.antt` says what the program answers, and `specs/Calls.antt` how the status, what was read and what was
-//! written are tied to it: each clause of `run` is a definition there, and of `run_here`, which is proved to return.
+//! written are tied to it: the contract of `run`, and of `run_here`, which is proved to return, is one record there.
 //! The program's `main` calls `run`.
 #![tactic(auto)]
 
 mod aig_engine;
 mod aig_run;
 mod aiger;
-mod answer;
 mod bad_flags;
 mod circuit_engine;
 mod circuit_read;
 mod circuit_run;
 mod circuit_shapes;
+mod circuits;
 mod compile;
 mod crew;
 mod design_run;
@@ -25,26 +25,22 @@ mod journal_run;
 mod journaled;
 mod last_row;
 mod laws;
-mod lengths;
-mod lowered;
 mod plain_engine;
 mod program;
 mod reads;
 mod recall;
 mod recheck;
-mod shape;
 mod shown;
-mod source;
-mod status;
 mod tell;
 mod teller;
-mod untold;
+mod usage;
+mod watch;
 mod words;
 mod workers_engine;
 
-pub use answer::Answer;
 pub use circuit_shapes::circuit_shape;
 pub use engine_kind::EngineKind;
+pub use front_end::{Answer, Status};
 pub use journaled::{Journaled, run_journal};
 pub use laws::{
     a_printed_tree_is_read_again, compiled_runs_the_same, converted_runs_the_same,
@@ -54,5 +50,4 @@ pub use laws::{
 };
 pub use program::{run, run_here};
 pub use shown::Shown;
-pub use status::Status;
 pub use words::Command;

@@ -3,23 +3,24 @@
 ghost use Rattle.std.specs.Prelude.{◌≡◌, ◌≤◌, List, [], ℕ, Some, false, true, IfSome, map, string_bytes, length};
 ghost use Rattle.kw_bits.specs.Faults.{Rose};
 ghost use Rattle.one_rule.specs.Hosts.{host_specs};
+ghost use Rattle.front_end.specs.Calls.{call};
+ghost use Rattle.front_end.specs.Sources.{longest_source};
+ghost use Rattle.front_end.specs.Streams.{stream};
+ghost use Rattle.front_end.specs.declared.answer.Answer.TheVariants.{Written};
+ghost use Rattle.front_end.specs.inner.Steps.{IsReply, Makes};
 ghost use Rattle.koika_top.specs.Aigsim.{AnswersAigsim};
 ghost use Rattle.koika_top.specs.Answer.{Answers, is_of_source, longest_of};
 ghost use Rattle.koika_top.specs.Btorsim.{AnswersBtorsim, longest_circuit};
-ghost use Rattle.koika_top.specs.Calls.{CompilesSpelled, ConvertsSpelled, CountsReadFault, CountsWriteFault, HasStatusOfAnswer, IsKept, JournalsSpelled, LeavesUnread, ReadsAll, RechecksSpelled, RejectsWords, WritesFaultLine, WritesFront, WritesNothing, WritesRefusal, WritesSomeFront, WritesText, WritesUsage, WritesUsageFront, call};
+ghost use Rattle.koika_top.specs.Calls.{IsKept};
 ghost use Rattle.koika_top.specs.Generator.{pipeline};
 ghost use Rattle.koika_top.specs.Journal.{AnswersJournal};
 ghost use Rattle.koika_top.specs.Sim.{AnswersSim};
-ghost use Rattle.koika_top.specs.Sources.{longest_source};
-ghost use Rattle.koika_top.specs.Steps.{AskFor, IsInRange, IsReply, Makes, RunsBy, TellsRead};
-ghost use Rattle.koika_top.specs.Streams.{stream};
-ghost use Rattle.koika_top.specs.Told.{Tells};
+ghost use Rattle.koika_top.specs.Steps.{AskFor, IsInRange, RunsBy, Tells, TellsRead};
 ghost use Rattle.koika_top.specs.Words.{asks_workers};
 ghost use Rattle.koika_top.specs.declared.engine_kind.EngineKind.TheVariants.{Workers};
 
 use crate::aig_run::AigRun;
 use crate::aiger::convert_source;
-use crate::answer::{Answer, write_answer, write_made, write_refusal};
 use crate::circuit_run::CircuitRun;
 use crate::compile::compile_source;
 use crate::crew::{Alone, Crew, InThreads, Work};
@@ -30,11 +31,10 @@ use crate::journal_run::JournalRun;
 use crate::reads::{check_source, print_source};
 use crate::recheck::recheck_source;
 use crate::shown::Shown;
-use crate::source::fault_of_source;
-use crate::status::Status;
-use crate::untold::status_by;
+use crate::usage::write_usage;
 use crate::words::{Command, asks_workers, command_of};
 use attempt_log::{Gate, NoGate};
+use front_end::{Status, fault_of_source, status_by, write_made, write_refusal};
 use host_fn::HostFn;
 use kw_base::{Refusal, fault_number};
 use kw_bits::{NoMemory, Text};
@@ -57,50 +57,7 @@ pub fn run<S: Source, K: Sink, R: Threads + Wait + Sync>(
     source: &mut S,
     sink: &mut K,
 ) -> Status
-    // Status 0.
-    ensures done { WritesText (call (map string_bytes words.now) (host_specs hosts.now)
-        (stream S.left S.faults source.old source.new) (stream K.written K.faults sink.old sink.new) result) }
-    ensures whole { ReadsAll (call (map string_bytes words.now) (host_specs hosts.now)
-        (stream S.left S.faults source.old source.new) (stream K.written K.faults sink.old sink.new) result) }
-
-    // Status 1.
-    ensures usage { WritesUsage (call (map string_bytes words.now) (host_specs hosts.now)
-        (stream S.left S.faults source.old source.new) (stream K.written K.faults sink.old sink.new) result) }
-    ensures usage_only { RejectsWords (call (map string_bytes words.now) (host_specs hosts.now)
-        (stream S.left S.faults source.old source.new) (stream K.written K.faults sink.old sink.new) result) }
-    ensures usage_front { WritesUsageFront (call (map string_bytes words.now) (host_specs hosts.now)
-        (stream S.left S.faults source.old source.new) (stream K.written K.faults sink.old sink.new) result) }
-    ensures unread { LeavesUnread (source.new ≡ source.old) (call (map string_bytes words.now) (host_specs hosts.now)
-        (stream S.left S.faults source.old source.new) (stream K.written K.faults sink.old sink.new) result) }
-
-    // Status 2.
-    ensures refused { WritesRefusal (call (map string_bytes words.now) (host_specs hosts.now)
-        (stream S.left S.faults source.old source.new) (stream K.written K.faults sink.old sink.new) result) }
-    ensures refused_line { WritesFaultLine (call (map string_bytes words.now) (host_specs hosts.now)
-        (stream S.left S.faults source.old source.new) (stream K.written K.faults sink.old sink.new) result) }
-
-    // Every status.
-    ensures exact { HasStatusOfAnswer (call (map string_bytes words.now) (host_specs hosts.now)
-        (stream S.left S.faults source.old source.new) (stream K.written K.faults sink.old sink.new) result) }
-    ensures compiles { CompilesSpelled (call (map string_bytes words.now) (host_specs hosts.now)
-        (stream S.left S.faults source.old source.new) (stream K.written K.faults sink.old sink.new) result) }
-    ensures converts { ConvertsSpelled (call (map string_bytes words.now) (host_specs hosts.now)
-        (stream S.left S.faults source.old source.new) (stream K.written K.faults sink.old sink.new) result) }
-    ensures journals { JournalsSpelled (call (map string_bytes words.now) (host_specs hosts.now)
-        (stream S.left S.faults source.old source.new) (stream K.written K.faults sink.old sink.new) result) }
-    ensures rechecks { RechecksSpelled (call (map string_bytes words.now) (host_specs hosts.now)
-        (stream S.left S.faults source.old source.new) (stream K.written K.faults sink.old sink.new) result) }
-    ensures front { WritesFront (call (map string_bytes words.now) (host_specs hosts.now)
-        (stream S.left S.faults source.old source.new) (stream K.written K.faults sink.old sink.new) result) }
-    ensures some { WritesSomeFront (call (map string_bytes words.now) (host_specs hosts.now)
-        (stream S.left S.faults source.old source.new) (stream K.written K.faults sink.old sink.new) result) }
-
-    // Status 3 and status 4.
-    ensures read_fault { CountsReadFault (call (map string_bytes words.now) (host_specs hosts.now)
-        (stream S.left S.faults source.old source.new) (stream K.written K.faults sink.old sink.new) result) }
-    ensures nothing_written { WritesNothing (call (map string_bytes words.now) (host_specs hosts.now)
-        (stream S.left S.faults source.old source.new) (stream K.written K.faults sink.old sink.new) result) }
-    ensures write_fault { CountsWriteFault (call (map string_bytes words.now) (host_specs hosts.now)
+    ensures { IsKept (source.new ≡ source.old) (call (map string_bytes words.now) (host_specs hosts.now)
         (stream S.left S.faults source.old source.new) (stream K.written K.faults sink.old sink.new) result) }
 {
     if asks_workers(words) {
@@ -119,51 +76,7 @@ pub fn run_here<S: Source, K: Sink>(
     sink: &mut K,
 ) -> Status
     requires alone { asks_workers (map string_bytes words.now) ≡ false }
-
-    // Status 0.
-    ensures done { WritesText (call (map string_bytes words.now) (host_specs hosts.now)
-        (stream S.left S.faults source.old source.new) (stream K.written K.faults sink.old sink.new) result) }
-    ensures whole { ReadsAll (call (map string_bytes words.now) (host_specs hosts.now)
-        (stream S.left S.faults source.old source.new) (stream K.written K.faults sink.old sink.new) result) }
-
-    // Status 1.
-    ensures usage { WritesUsage (call (map string_bytes words.now) (host_specs hosts.now)
-        (stream S.left S.faults source.old source.new) (stream K.written K.faults sink.old sink.new) result) }
-    ensures usage_only { RejectsWords (call (map string_bytes words.now) (host_specs hosts.now)
-        (stream S.left S.faults source.old source.new) (stream K.written K.faults sink.old sink.new) result) }
-    ensures usage_front { WritesUsageFront (call (map string_bytes words.now) (host_specs hosts.now)
-        (stream S.left S.faults source.old source.new) (stream K.written K.faults sink.old sink.new) result) }
-    ensures unread { LeavesUnread (source.new ≡ source.old) (call (map string_bytes words.now) (host_specs hosts.now)
-        (stream S.left S.faults source.old source.new) (stream K.written K.faults sink.old sink.new) result) }
-
-    // Status 2.
-    ensures refused { WritesRefusal (call (map string_bytes words.now) (host_specs hosts.now)
-        (stream S.left S.faults source.old source.new) (stream K.written K.faults sink.old sink.new) result) }
-    ensures refused_line { WritesFaultLine (call (map string_bytes words.now) (host_specs hosts.now)
-        (stream S.left S.faults source.old source.new) (stream K.written K.faults sink.old sink.new) result) }
-
-    // Every status.
-    ensures exact { HasStatusOfAnswer (call (map string_bytes words.now) (host_specs hosts.now)
-        (stream S.left S.faults source.old source.new) (stream K.written K.faults sink.old sink.new) result) }
-    ensures compiles { CompilesSpelled (call (map string_bytes words.now) (host_specs hosts.now)
-        (stream S.left S.faults source.old source.new) (stream K.written K.faults sink.old sink.new) result) }
-    ensures converts { ConvertsSpelled (call (map string_bytes words.now) (host_specs hosts.now)
-        (stream S.left S.faults source.old source.new) (stream K.written K.faults sink.old sink.new) result) }
-    ensures journals { JournalsSpelled (call (map string_bytes words.now) (host_specs hosts.now)
-        (stream S.left S.faults source.old source.new) (stream K.written K.faults sink.old sink.new) result) }
-    ensures rechecks { RechecksSpelled (call (map string_bytes words.now) (host_specs hosts.now)
-        (stream S.left S.faults source.old source.new) (stream K.written K.faults sink.old sink.new) result) }
-    ensures front { WritesFront (call (map string_bytes words.now) (host_specs hosts.now)
-        (stream S.left S.faults source.old source.new) (stream K.written K.faults sink.old sink.new) result) }
-    ensures some { WritesSomeFront (call (map string_bytes words.now) (host_specs hosts.now)
-        (stream S.left S.faults source.old source.new) (stream K.written K.faults sink.old sink.new) result) }
-
-    // Status 3 and status 4.
-    ensures read_fault { CountsReadFault (call (map string_bytes words.now) (host_specs hosts.now)
-        (stream S.left S.faults source.old source.new) (stream K.written K.faults sink.old sink.new) result) }
-    ensures nothing_written { WritesNothing (call (map string_bytes words.now) (host_specs hosts.now)
-        (stream S.left S.faults source.old source.new) (stream K.written K.faults sink.old sink.new) result) }
-    ensures write_fault { CountsWriteFault (call (map string_bytes words.now) (host_specs hosts.now)
+    ensures { IsKept (source.new ≡ source.old) (call (map string_bytes words.now) (host_specs hosts.now)
         (stream S.left S.faults source.old source.new) (stream K.written K.faults sink.old sink.new) result) }
 {
     answer_words(&Alone, alloc, words, hosts, &NoGate, source, sink)
@@ -184,7 +97,7 @@ fn answer_words<S: Source, K: Sink, C: Crew>(
         (stream S.left S.faults source.old source.new) (stream K.written K.faults sink.old sink.new) result) }
 {
     match command_of(alloc, words) {
-        Ok(None) => write_answer(alloc, &Answer::Usage, sink),
+        Ok(None) => write_usage(sink),
         Ok(Some(command)) => {
             if command.reads_source() {
                 answer_source(crew, alloc, command, hosts, gate, source, sink)
@@ -218,7 +131,7 @@ fn answer_source<S: Source, K: Sink, C: Crew>(
         Ok(bytes) => answer_bytes(crew, alloc, command, hosts, gate, &bytes, sink),
         Err(ReadAll::TooLong) => {
             let fault = fault_of_source(fault_number::SOURCE_TOO_LONG);
-            write_answer(alloc, &Answer::Refused(fault), sink)
+            write_refusal(alloc, Refusal::Fault(fault), sink)
         }
         Err(ReadAll::Fault) => Status::ReadFault,
         Err(ReadAll::NoMemory) => Status::NoMemory,
@@ -268,7 +181,7 @@ fn answer_bytes<K: Sink, C: Crew>(
 // The pipeline design of that many stages.
 fn generate(alloc: Global, stages: u32) -> Result<Text, Refusal>
     requires { stages ≤ 100 }
-    ensures { Makes (λ answer. answer ≡ Answer.Written (pipeline stages)) result }
+    ensures { Makes (λ answer. answer ≡ Written (pipeline stages)) result }
 {
     Ok(pipeline(alloc, stages)?)
 }

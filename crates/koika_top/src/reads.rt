@@ -5,9 +5,9 @@ ghost use Rattle.kw_base.specs.Fault.{IfFault};
 ghost use Rattle.one_rule.specs.Hosts.{host_specs};
 ghost use Rattle.koika_top.specs.Reads as reads;
 ghost use Rattle.koika_top.specs.Reads.{ShowsTree, TellsCounts};
-ghost use Rattle.koika_top.specs.Sources.{IsUnread, IsUnspelled, longest_source};
+ghost use Rattle.front_end.specs.Sources.{IsUnread, IsUnspelled, longest_source};
 
-use crate::source::{read_source, read_tree};
+use front_end::{read_source, read_tree};
 use host_fn::HostFn;
 use itoa::Buffer;
 use koika_check::Counts;

@@ -13,18 +13,19 @@ ghost use Rattle.stim_report.specs.Shapes.{RowsFit};
 ghost use Rattle.koika_top.specs.Btorsim.{longest_circuit};
 ghost use Rattle.koika_top.specs.Recheck as rechecks;
 ghost use Rattle.koika_top.specs.Recheck.{HasNoParts, IsRefusedBefore, IsUncertified, MayHaveJournal, ShowsChecked, SpellsBoth};
-ghost use Rattle.koika_top.specs.Sim.{marks_of, text_of_rows};
-ghost use Rattle.koika_top.specs.Systems.{run_of};
+ghost use Rattle.front_end.specs.Marks.{marks_of};
+ghost use Rattle.koika_top.specs.Sim.{text_of_rows};
+ghost use Rattle.front_end.specs.Systems.{run_of};
 ghost use Rattle.koika_top.specs.declared.shown.Shown.TheVariants as showns;
 
-use crate::design_run::is_too_long;
 use crate::journal_run::is_too_heavy;
-use crate::lowered::Lowered;
-use crate::recall::{always_fits, is_valid};
-use crate::shape::{shape_of, watch_of};
 use crate::shown::Shown;
-use crate::source::{Spelled, fault_of_source, read_design};
 use crate::teller::Teller;
+use crate::watch::watch_of;
+use front_end::{
+    Lowered, Spelled, always_fits, fault_of_source, is_too_long_for, is_valid, read_design,
+    shape_of,
+};
 use host_fn::HostFn;
 use journal_check::{Journal, line_after, read_journal, recheck};
 use kw_base::{Refusal, fault_number};
@@ -87,7 +88,7 @@ fn lower_parts(
     ensures refused { IfFault result (IsRefusedBefore (host_specs hosts.now) cycles source.now) }
 {
     let spelled = spell_parts(alloc, hosts, source, parts)?;
-    if is_too_long(cycles, &spelled.design) {
+    if is_too_long_for(cycles as u64, &spelled.design) {
         return Err(Refusal::Fault(fault_of_source(fault_number::RUN_TOO_LONG)));
     }
     if is_too_heavy(cycles, &spelled.design) {

@@ -3,17 +3,15 @@
 ghost use Rattle.std.specs.Prelude.{◌≡◌, ◌≤◌, ℕ, [], OnOk, drop};
 ghost use Rattle.stim_report.specs.Shapes.{RowsFit};
 ghost use Rattle.koika_top.specs.Engines.{AreRows};
-ghost use Rattle.koika_top.specs.Sim.{Marks};
-ghost use Rattle.koika_top.specs.Streams.{stream};
+ghost use Rattle.front_end.specs.Marks.{Marks};
+ghost use Rattle.front_end.specs.Streams.{stream};
 ghost use Rattle.koika_top.specs.Telling.{GoesOnFrom, HasRows, TakesRows, all_told, marks_in, part_of_batch, shown_by};
-ghost use Rattle.koika_top.specs.Told.{Told};
+ghost use Rattle.front_end.specs.Told.{Told};
 
-use crate::answer::write_text;
 use crate::engine::Engine;
-use crate::lengths::BATCH;
 use crate::teller::Teller;
-use crate::untold::Untold;
 use attempt_log::Gate;
+use front_end::{BATCH, Untold, write_text};
 use kw_io::Sink;
 use std::alloc::Global;
 use stim_report::Shape;

@@ -1,15 +1,14 @@
 //! Program: the arguments, and what they ask for.
 
-ghost use Rattle.std.specs.Prelude.{◌≡◌, ◌≤◌, map, string_bytes, length, All, IfOk, IfSome, IsTrue, is_some};
-ghost use Rattle.std.specs.List.{list_all};
-ghost use Rattle.std.specs.Char.{IsAsciiDigit, is_ascii_digit};
+ghost use Rattle.std.specs.Prelude.{◌≡◌, map, string_bytes, IfOk, IfSome, is_some};
 ghost use Rattle.koika_top.specs.Steps.{HasFewWorkers, IsInRange};
 ghost use Rattle.koika_top.specs.Answer.{is_of_source, longest_of};
-ghost use Rattle.koika_top.specs.Words.{aigsim_of, alone_of, are_few_digits, asks_workers, btorsim_of, by_workers, command_of, engine_by, engine_of, gen_by, gen_of, is_of_workers, journal_by, number_of, options_of, recheck_of, sim_of, value_of, with_cycles, with_engine, with_journal, with_summary, with_word, with_workers};
+ghost use Rattle.koika_top.specs.Words.{aigsim_of, alone_of, asks_workers, btorsim_of, by_workers, command_of, engine_by, engine_of, gen_by, gen_of, is_of_workers, journal_by, options_of, recheck_of, sim_of, with_cycles, with_engine, with_journal, with_summary, with_word, with_workers};
 
 use crate::engine_kind::EngineKind;
 use crate::given::{read_options, read_stages};
 use crate::shown::Shown;
+use front_end::number_of;
 use kw_bits::NoMemory;
 use std::alloc::Global;
 
@@ -470,51 +469,4 @@ pub(crate) fn engine_of(word: &[u8]) -> Option<EngineKind>
         return Some(EngineKind::Circuit);
     }
     None
-}
-
-/// The number that a word of one to ten digits writes, if 32 bits hold it.
-pub(crate) fn number_of(word: &[u8]) -> Option<u32>
-    ensures { result ≡ number_of word.now }
-{
-    if !are_few_digits(word) {
-        return None;
-    }
-    let value = value_of(word);
-    if value <= u64::from(u32::MAX) {
-        Some(value as u32)
-    } else {
-        None
-    }
-}
-
-// Whether a word is one to ten digits.
-fn are_few_digits(word: &[u8]) -> bool
-    ensures test { result ≡ are_few_digits word.now }
-    ensures few { IsTrue result → length word.now ≤ 10 }
-    ensures digits { IsTrue result → All IsAsciiDigit word.now }
-{
-    if word.is_empty() || word.len() > 10 {
-        return false;
-    }
-    are_digits(word)
-}
-
-fn are_digits(word: &[u8]) -> bool
-    ensures test { result ≡ list_all is_ascii_digit word.now }
-    ensures digits { IsTrue result → All IsAsciiDigit word.now }
-{
-    word.iter().all(|byte| byte.is_ascii_digit())
-}
-
-// The number that decimal digits write.
-fn value_of(digits: &[u8]) -> u64
-    requires few { length digits.now ≤ 10 }
-    requires digits { All IsAsciiDigit digits.now }
-    ensures { result ≡ value_of digits.now }
-{
-    let mut value = 0;
-    for digit in digits {
-        value = 10 * value + u64::from(digit - b'0');
-    }
-    value
 }

@@ -1,7 +1,8 @@
 use Rattle.std.proofs.Common.{inl, inr}
 use Rattle.std.proofs.lemmas.Result.{err_from_is_err_and}
 use Rattle.koika_top.proofs.AigRuns.{aig-given, aig-long-as, aig-stimulus-fits, aig-widths-valid, few-inputs-told}
-use Rattle.koika_top.proofs.CircuitTexts.{fault-of-part, few-cycles}
+use Rattle.front_end.proofs.FewCycles.{few-cycles}
+use Rattle.koika_top.proofs.CircuitTexts.{fault-of-part}
 use Rattle.koika_top.proofs.aig_run.run_of.Goals as goal
 
 pub read_stimulus-requires-clause-few : goal.read_stimulus-requires-clause-few

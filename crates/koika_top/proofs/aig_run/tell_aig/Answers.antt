@@ -9,7 +9,7 @@ use Rattle.stim_report.specs.declared.shape.Shape.{Shape}
 use Rattle.koika_top.specs.Telling.{all_told, marks_in, shown_by}
 use Rattle.koika_top.proofs.AigFits.{aig-rows-fit}
 use Rattle.koika_top.proofs.AigRows.{aig-rows}
-use Rattle.koika_top.proofs.Told.{told-as, told-none}
+use Rattle.front_end.proofs.Told.{told-as, told-none}
 use Rattle.koika_top.proofs.aig_run.tell_aig.Goals as goal
 
 pub returns-in_err-engine : goal.returns-in_err-engine

@@ -4,7 +4,8 @@ use Rattle.btor2_model.specs.Rules.{is_input, is_state}
 use Rattle.stim_report.specs.Shapes.{widths_of}
 use Rattle.stim_report.specs.declared.shape.Shape.{Shape}
 use Rattle.typed_core.specs.Valid.{IsWidth}
-use Rattle.koika_top.proofs.CircuitTexts.{bads-fit, fault-of-part, few-bads, few-cycles, few-inputs, given-to, long-as, stimulus-fits}
+use Rattle.front_end.proofs.FewCycles.{few-cycles}
+use Rattle.koika_top.proofs.CircuitTexts.{bads-fit, fault-of-part, few-bads, few-inputs, given-to, long-as, stimulus-fits}
 use Rattle.koika_top.proofs.Shapes.{shape-of-text, widths-valid}
 use Rattle.koika_top.proofs.circuit_run.run_of.Goals as goal
 

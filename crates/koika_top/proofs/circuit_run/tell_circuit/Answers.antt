@@ -9,7 +9,7 @@ use Rattle.koika_top.specs.CircuitShapes.{shape_of}
 use Rattle.koika_top.specs.Telling.{all_told, marks_in, shown_by}
 use Rattle.koika_top.proofs.CircuitFits.{rows-fit}
 use Rattle.koika_top.proofs.CircuitRows.{are-rows}
-use Rattle.koika_top.proofs.Told.{told-as, told-none}
+use Rattle.front_end.proofs.Told.{told-as, told-none}
 use Rattle.koika_top.proofs.circuit_run.tell_circuit.Goals as goal
 
 pub returns-in_err-engine : goal.returns-in_err-engine

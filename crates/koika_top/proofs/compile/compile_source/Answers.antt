@@ -5,8 +5,8 @@ use Rattle.koika_check.specs.declared.checked.Checked.{Checked}
 use Rattle.koika_top.specs.Compile.{AreCircuitOf}
 use Rattle.koika_top.proofs.compile.compile_source.Goals as goal
 
-pub lines-requires : goal.lines-requires
-lines-requires g c = rw c.in_ok-lowered.ensures.checked c.in_ok-spelled.ensures.typed
+pub lines_of-requires : goal.lines_of-requires
+lines_of-requires g c = rw c.in_ok-lowered.ensures.checked c.in_ok-spelled.ensures.typed
 
 pub returns-clause-text : goal.returns-clause-text
 returns-clause-text g c =

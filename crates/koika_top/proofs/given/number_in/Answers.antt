@@ -2,7 +2,7 @@ use Rattle.std.proofs.Common.{rules, ◌≡◌, ◌∙◌, ap}
 use Rattle.std.specs.Prelude.{option_and_then}
 use Rattle.clap.specs.Words.{found_of}
 use Rattle.clap.proofs.WalkLemmas.{first_value-rows}
-use Rattle.koika_top.specs.Words.{number_of}
+use Rattle.front_end.specs.NumberWords.{number_of}
 use Rattle.koika_top.proofs.given.number_in.Goals as goal
 
 pub returns-in-Some : goal.returns-in-Some

@@ -2,7 +2,7 @@ use Rattle.one_rule.specs.Hosts.{host_specs}
 use Rattle.koika_top.specs.Answer.{Answers}
 use Rattle.koika_top.specs.declared.words.Command.TheVariants.{Aiger, Check, Compile, Gen, Print, Recheck}
 use Rattle.koika_top.proofs.Reading.{makes-aiger, makes-check, makes-compile, makes-print, makes-recheck}
-use Rattle.koika_top.proofs.Told.{tells-made}
+use Rattle.koika_top.proofs.Answering.{tells-made}
 use Rattle.koika_top.proofs.program.answer_bytes.Goals as goal
 
 pub returns-in-Check : goal.returns-in-Check

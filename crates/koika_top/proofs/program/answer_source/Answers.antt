@@ -1,7 +1,10 @@
 use Rattle.std.proofs.Common.{Err, ap, inl, inr, refl}
 use Rattle.one_rule.specs.Hosts.{host_specs}
-use Rattle.koika_top.proofs.Promises.{nothing-left, tells-long, tells-read}
-use Rattle.koika_top.proofs.Told.{keeps-known}
+use Rattle.front_end.specs.declared.answer.Answer.TheVariants.{Refused}
+use Rattle.koika_top.proofs.Answering.{tells-one}
+use Rattle.front_end.proofs.Promises.{nothing-left}
+use Rattle.koika_top.proofs.Promises.{tells-long, tells-read}
+use Rattle.front_end.proofs.Told.{keeps-known}
 use Rattle.koika_top.proofs.program.answer_source.Goals as goal
 
 pub returns-in-Ok-clause-tells : goal.returns-in-Ok-clause-tells
@@ -13,7 +16,7 @@ returns-in-Ok-clause-whole g c done = nothing-left _ _ _ c.in-Ok.ensures.all
 
 pub returns-in-Err-TooLong-clause-tells : goal.returns-in-Err-TooLong-clause-tells
 returns-in-Err-TooLong-clause-tells g c =
-    tells-long (host_specs c.args.hosts.now) c.args.command _ c.requires.reads c.fault_of_source-fault.ensures _ _ _ (rw c.longest_source.ensures at c.in-Err-TooLong.ensures.longer (ap (λ e. Err e) c.in-Err-TooLong.field-0-is)) c.write_answer.ensures
+    tells-long (host_specs c.args.hosts.now) c.args.command _ c.requires.reads c.fault_of_source-fault.ensures _ _ _ (rw c.longest_source.ensures at c.in-Err-TooLong.ensures.longer (ap (λ e. Err e) c.in-Err-TooLong.field-0-is)) (tells-one (Refused _) _ _ c.write_refusal.ensures)
 
 pub returns-in-Err-Fault-clause-tells : goal.returns-in-Err-Fault-clause-tells
 returns-in-Err-Fault-clause-tells g c = inr (keeps-known _, inl refl)

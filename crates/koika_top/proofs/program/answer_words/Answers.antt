@@ -1,16 +1,16 @@
 use Rattle.std.proofs.Common.{ap, map, refl, string_bytes, sym, ◌∙◌}
 use Rattle.one_rule.specs.Hosts.{host_specs}
 use Rattle.koika_top.specs.Answer.{reads_source}
-use Rattle.koika_top.specs.declared.answer.Answer.TheVariants.{Usage}
+use Rattle.front_end.specs.declared.answer.Answer.TheVariants.{Usage}
 use Rattle.koika_top.proofs.Promises.{kept-out_of_memory, kept-source, kept-unread, never-read, never-read-told, tells-alone, tells-source, tells-usage}
-use Rattle.koika_top.proofs.Told.{keeps-known}
+use Rattle.front_end.proofs.Told.{keeps-known}
 use Rattle.koika_top.proofs.program.answer_words.Goals as goal
 
 pub returns-in-Ok-None : goal.returns-in-Ok-None
 returns-in-Ok-None g c =
     let asked = rw c.in-Ok-None.field-0-is at c.in-Ok-None.ensures.command in
-    kept-unread _ _ (ap reads_source (sym asked)) refl (never-read _ _ Usage c.write_answer.ensures)
-    (tells-usage (host_specs c.args.hosts.now) (map string_bytes c.args.words.now) _ _ _ asked c.write_answer.ensures)
+    kept-unread _ _ (ap reads_source (sym asked)) refl (never-read _ _ Usage c.write_usage.ensures)
+    (tells-usage (host_specs c.args.hosts.now) (map string_bytes c.args.words.now) _ _ _ asked c.write_usage.ensures)
 
 pub answer_source-requires-clause-crew : goal.answer_source-requires-clause-crew
 answer_source-requires-clause-crew g c =

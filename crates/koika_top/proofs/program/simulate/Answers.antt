@@ -2,8 +2,8 @@ use Rattle.std.proofs.Common.{inr}
 use Rattle.one_rule.specs.Hosts.{host_specs}
 use Rattle.koika_top.specs.Sim.{AnswersSim}
 use Rattle.koika_top.proofs.Promises.{tells-run}
-use Rattle.koika_top.proofs.Reading.{fault-of-part}
-use Rattle.koika_top.proofs.Told.{tells-refusal}
+use Rattle.front_end.proofs.Reading.{fault-of-part}
+use Rattle.koika_top.proofs.Answering.{tells-refusal}
 use Rattle.koika_top.proofs.program.simulate.Goals as goal
 
 pub returns-in-Ok : goal.returns-in-Ok

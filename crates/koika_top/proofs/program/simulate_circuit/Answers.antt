@@ -1,6 +1,6 @@
 use Rattle.koika_top.specs.Btorsim.{AnswersBtorsim}
 use Rattle.koika_top.proofs.Promises.{tells-circuit-run}
-use Rattle.koika_top.proofs.Told.{tells-refusal}
+use Rattle.koika_top.proofs.Answering.{tells-refusal}
 use Rattle.koika_top.proofs.program.simulate_circuit.Goals as goal
 
 pub returns-in-Ok : goal.returns-in-Ok

@@ -3,8 +3,8 @@ use Rattle.std.specs.Arc.{arc_value}
 use Rattle.one_rule.specs.Hosts.{host_specs}
 use Rattle.koika_top.specs.Journal.{AnswersJournal}
 use Rattle.koika_top.proofs.Promises.{tells-journal}
-use Rattle.koika_top.proofs.Reading.{fault-of-part}
-use Rattle.koika_top.proofs.Told.{tells-refusal}
+use Rattle.front_end.proofs.Reading.{fault-of-part}
+use Rattle.koika_top.proofs.Answering.{tells-refusal}
 use Rattle.koika_top.proofs.program.write_journal.Goals as goal
 
 pub returns-in-Ok : goal.returns-in-Ok

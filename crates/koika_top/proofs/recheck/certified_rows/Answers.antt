@@ -7,7 +7,7 @@ use Rattle.typed_core.specs.declared.design.Parts.{Parts}
 use Rattle.one_rule.specs.Externs.{kept}
 use Rattle.one_rule.specs.Stimulus.{AlwaysFits, InputVectors}
 use Rattle.journal_check.specs.Checking.{BatchFits}
-use Rattle.koika_top.proofs.LoweredRuns.{inputs-wide}
+use Rattle.front_end.proofs.LoweredRuns.{inputs-wide}
 use Rattle.koika_top.proofs.Rechecking.{fault-at, fit-at, good-at, run-at}
 use Rattle.koika_top.proofs.recheck.certified_rows.Goals as goal
 

@@ -1,6 +1,6 @@
 use Rattle.std.proofs.Common.{inl, sym, ◌∙◌}
 use Rattle.std.proofs.lemmas.Result.{err_from_is_err_and}
-use Rattle.koika_top.proofs.Reading.{fault-of-part}
+use Rattle.front_end.proofs.Reading.{fault-of-part}
 use Rattle.koika_top.proofs.recheck.lower_parts.Goals as goal
 
 pub returns-in_err-spelled-clause-refused : goal.returns-in_err-spelled-clause-refused
@@ -13,7 +13,7 @@ returns-clause-lowered g c =
     let lowered = c.in_ok-lowered.ensures in
     record {
       spelled = rw (lowered.checked, lowered.stimulus) c.in_ok-spelled.ensures.spelled;
-      within = rw lowered.checked (sym c.is_too_long.ensures ∙ c.if-is_too_long.false);
+      within = rw lowered.checked (sym c.is_too_long_for.ensures ∙ c.if-is_too_long_for.false);
       light = rw lowered.checked (sym c.is_too_heavy.ensures ∙ c.if-is_too_heavy.false);
     }
 

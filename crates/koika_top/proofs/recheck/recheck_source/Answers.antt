@@ -5,10 +5,11 @@ use Rattle.one_rule.specs.Hosts.{host_specs}
 use Rattle.one_rule.specs.Stimulus.{inputs_of}
 use Rattle.journal_check.proofs.ReadFits.{read_journals_fit}
 use Rattle.koika_top.specs.Recheck.{SpellsJournal}
-use Rattle.koika_top.specs.Sim.{marks_of, text_of_rows}
+use Rattle.front_end.specs.Marks.{marks_of}
+use Rattle.koika_top.specs.Sim.{text_of_rows}
 use Rattle.koika_top.specs.declared.shown.Shown.TheVariants.{Report}
-use Rattle.koika_top.proofs.CircuitTexts.{few-cycles}
-use Rattle.koika_top.proofs.Reading.{fault-of-part}
+use Rattle.front_end.proofs.FewCycles.{few-cycles}
+use Rattle.front_end.proofs.Reading.{fault-of-part}
 use Rattle.koika_top.proofs.Rechecking.{journal-at, malformed-at, some-row}
 use Rattle.koika_top.proofs.recheck.recheck_source.Goals as goal
 

@@ -1,5 +1,5 @@
 use Rattle.std.proofs.Common.{[], refl, ◌∙◌}
-use Rattle.koika_top.specs.Sim.{marks_of}
+use Rattle.front_end.specs.Marks.{marks_of}
 use Rattle.koika_top.proofs.Batches.{goes-on}
 use Rattle.koika_top.proofs.Rechecking.{told-at-once}
 use Rattle.koika_top.proofs.recheck.report_rows.Goals as goal

@@ -1,10 +1,10 @@
 use Rattle.std.proofs.Common.{List, ℕ, sym, ap, subst, ◌∙◌}
 use Rattle.one_rule.specs.Hosts.{host_specs}
 use Rattle.stim_report.specs.Stimuli.{stimulus_of}
-use Rattle.koika_top.specs.Sources.{SpellsDesign, design_part}
+use Rattle.front_end.specs.Sources.{SpellsDesign, design_part}
 use Rattle.koika_top.proofs.CutAgain.{design_part-again}
-use Rattle.koika_top.proofs.PlainNames.{plain-names}
-use Rattle.koika_top.proofs.Reading.{stimulus-fits, widths-valid}
+use Rattle.front_end.proofs.WordNames.{word-names}
+use Rattle.front_end.proofs.Reading.{stimulus-fits, widths-valid}
 use Rattle.koika_top.proofs.recheck.spell_parts.Goals as goal
 
 pub read_design-requires-clause-cut : goal.read_design-requires-clause-cut
@@ -20,10 +20,10 @@ returns-clause-spelled g c =
       given = sym (λ i. stimulus_of (c.in_ok-shape.ensures i) (c.requires.stimulus_line i) (c.requires.stimulus i)) ∙ c.in_ok-stimulus.ensures.stimulus;
     }
 
-pub invariant_of-result-clause-plain : goal.invariant_of-result-clause-plain
-invariant_of-result-clause-plain g c =
+pub invariant_of-result-clause-names : goal.invariant_of-result-clause-names
+invariant_of-result-clause-names g c =
     let design = c.in_ok-design.ensures.spelled in
-    plain-names (host_specs c.args.hosts.now) design.tree c.in_ok-design.design design.spelled.derived.design.declarations design.typed
+    word-names (host_specs c.args.hosts.now) design.tree c.in_ok-design.design design.spelled.derived.design.declarations design.typed
 
 pub invariant_of-result-clause-stimulus_fits : goal.invariant_of-result-clause-stimulus_fits
 invariant_of-result-clause-stimulus_fits g c = stimulus-fits c.in_ok-design.design c.in_ok-shape.shape _ _ _ c.in_ok-shape.ensures c.in_ok-stimulus.ensures.stimulus

@@ -1,7 +1,7 @@
 use Rattle.std.proofs.Common.{◌≡◌, ◌-◌, ◌≤◌, Ok}
-use Rattle.koika_top.specs.Streams.{stream}
+use Rattle.front_end.specs.Streams.{stream}
 use Rattle.koika_top.specs.Telling.{HasRows, marks_in, shown_by, told_of}
-use Rattle.koika_top.specs.Told.{Told}
+use Rattle.front_end.specs.Told.{Told}
 use Rattle.koika_top.proofs.tell.tell.Given as goal
 
 -- what was told so far is what is told of the rows so far

@@ -3,9 +3,10 @@ use Rattle.std.proofs.lemmas.Result.{err_from_is_err_and}
 use Rattle.aig_blast.specs.AigRun.{run_of}
 use Rattle.one_rule.specs.Stimulus.{inputs_of}
 use Rattle.stim_report.specs.declared.shape.Shape.{Shape}
-use Rattle.koika_top.specs.Sim.{Marks, rows_text}
+use Rattle.front_end.specs.Marks.{Marks}
+use Rattle.koika_top.specs.Sim.{rows_text}
 use Rattle.koika_top.proofs.CircuitTold.{has-own, nothing-after}
-use Rattle.koika_top.proofs.Told.{told-as, told-none}
+use Rattle.front_end.proofs.Told.{told-as, told-none}
 use Rattle.koika_top.proofs.aig_run.AigRun.write.Goals as goal
 
 pub returns-in_err-none : goal.returns-in_err-none

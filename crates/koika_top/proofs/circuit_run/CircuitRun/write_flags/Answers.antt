@@ -4,9 +4,9 @@ use Rattle.std.specs.List.{range_with_len}
 use Rattle.circuit_eval.specs.Run.{run_of}
 use Rattle.koika_assert.specs.Violations.{violations}
 use Rattle.one_rule.specs.Stimulus.{inputs_of}
-use Rattle.koika_top.specs.Sim.{Marks}
+use Rattle.front_end.specs.Marks.{Marks}
 use Rattle.koika_top.proofs.CircuitTold.{has-own, marks-alone}
-use Rattle.koika_top.proofs.Told.{told-as, told-none}
+use Rattle.front_end.proofs.Told.{told-as, told-none}
 use Rattle.koika_top.proofs.circuit_run.CircuitRun.write_flags.Goals as goal
 
 pub returns-in_err-shape : goal.returns-in_err-shape

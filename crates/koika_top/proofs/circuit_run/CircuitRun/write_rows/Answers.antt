@@ -1,7 +1,7 @@
 use Rattle.std.proofs.lemmas.Result.{err_from_is_err_and}
-use Rattle.koika_top.specs.Sim.{Marks}
+use Rattle.front_end.specs.Marks.{Marks}
 use Rattle.koika_top.proofs.CircuitTold.{has-own, nothing-after}
-use Rattle.koika_top.proofs.Told.{told-as, told-none}
+use Rattle.front_end.proofs.Told.{told-as, told-none}
 use Rattle.koika_top.proofs.circuit_run.CircuitRun.write_rows.Goals as goal
 
 pub returns-in_err-none : goal.returns-in_err-none

@@ -4,7 +4,7 @@ use Rattle.circuit_eval.specs.Circuits.{input_widths}
 use Rattle.one_rule.specs.Stimulus.{inputs_of}
 use Rattle.koika_top.specs.CircuitRuns.{violations_by}
 use Rattle.koika_top.specs.declared.bad_flags.BadFlags.{BadFlags}
-use Rattle.koika_top.proofs.Told.{told-as, told-empty}
+use Rattle.front_end.proofs.Told.{told-as, told-empty}
 use Rattle.koika_top.proofs.circuit_run.CircuitRun.write_violations.Goals as goal
 
 pub returns-in-None : goal.returns-in-None

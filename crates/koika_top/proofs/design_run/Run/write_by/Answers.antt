@@ -6,12 +6,12 @@ use Rattle.stim_report.specs.Shapes.{RowsFit}
 use Rattle.stim_report.specs.declared.shape.Shape.{Shape}
 use Rattle.typed_core.specs.Valid.{IsValid}
 use Rattle.koika_top.specs.Engines.{AreRows}
-use Rattle.koika_top.specs.Sim.{marks_of}
-use Rattle.koika_top.specs.Systems.{run_of}
+use Rattle.front_end.specs.Marks.{marks_of}
+use Rattle.front_end.specs.Systems.{run_of}
 use Rattle.koika_top.specs.Telling.{all_told}
-use Rattle.koika_top.proofs.CircuitTexts.{few-cycles}
+use Rattle.front_end.proofs.FewCycles.{few-cycles}
 use Rattle.koika_top.proofs.CircuitTold.{has-own, marks-same}
-use Rattle.koika_top.proofs.Told.{told-as, told-none}
+use Rattle.front_end.proofs.Told.{told-as, told-none}
 use Rattle.koika_top.proofs.TypedRows.{typed-fit, typed-rows}
 use Rattle.koika_top.proofs.design_run.Run.write_by.Goals as goal
 

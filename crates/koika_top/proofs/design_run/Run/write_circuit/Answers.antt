@@ -4,7 +4,7 @@ use Rattle.std.specs.Arc.{arc_value}
 use Rattle.circuit_eval.specs.Run.{run_of}
 use Rattle.one_rule.specs.Stimulus.{AlwaysFits, InputVectors, inputs_of}
 use Rattle.koika_top.proofs.ReadAgain.{wired-again}
-use Rattle.koika_top.proofs.Told.{told-none}
+use Rattle.front_end.proofs.Told.{told-none}
 use Rattle.koika_top.proofs.design_run.Run.write_circuit.Goals as goal
 
 pub begin-requires : goal.begin-requires

@@ -4,8 +4,8 @@ use Rattle.std.specs.Arc.{arc_value}
 use Rattle.one_rule.specs.Run.{run_of}
 use Rattle.one_rule.specs.Stimulus.{AlwaysFits, inputs_of}
 use Rattle.typed_core.specs.Valid.{IsValid}
-use Rattle.koika_top.proofs.LoweredRuns.{inputs-wide}
-use Rattle.koika_top.proofs.Told.{told-none}
+use Rattle.front_end.proofs.LoweredRuns.{inputs-wide}
+use Rattle.front_end.proofs.Told.{told-none}
 use Rattle.koika_top.proofs.TypedRows.{same-rows}
 use Rattle.koika_top.proofs.design_run.Run.write_workers.Goals as goal
 

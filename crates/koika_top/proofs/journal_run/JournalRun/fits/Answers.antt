@@ -1,7 +1,7 @@
 use Rattle.std.proofs.Common.{sym, ◌∙◌}
 use Rattle.std.specs.Arc.{arc_value}
-use Rattle.koika_top.proofs.CircuitTexts.{few-cycles}
-use Rattle.koika_top.proofs.LoweredRuns.{inputs-wide}
+use Rattle.front_end.proofs.FewCycles.{few-cycles}
+use Rattle.front_end.proofs.LoweredRuns.{inputs-wide}
 use Rattle.koika_top.proofs.journal_run.JournalRun.fits.Goals as goal
 
 pub returns-clause-stimulus : goal.returns-clause-stimulus

@@ -6,7 +6,7 @@ returns-clause-run g c =
     let lowered = c.in_ok-lowered.ensures in
     record {
       spelled = rw (lowered.checked, lowered.stimulus) c.in_ok-spelled.ensures.spelled;
-      within = rw lowered.checked (sym c.is_too_long.ensures ∙ c.if-is_too_long.false);
+      within = rw lowered.checked (sym c.is_too_long_for.ensures ∙ c.if-is_too_long_for.false);
       light = rw lowered.checked (sym c.is_too_heavy.ensures ∙ c.if-is_too_heavy.false);
     }
 
@@ -17,7 +17,7 @@ pub invariant_of-result : goal.invariant_of-result
 invariant_of-result g c =
     let lowered = c.in_ok-lowered.ensures in
     record {
-      within = rw lowered.checked (sym c.is_too_long.ensures ∙ c.if-is_too_long.false);
+      within = rw lowered.checked (sym c.is_too_long_for.ensures ∙ c.if-is_too_long_for.false);
       light = rw lowered.checked (sym c.is_too_heavy.ensures ∙ c.if-is_too_heavy.false);
       some = c.requires.some;
       most = c.requires.most;

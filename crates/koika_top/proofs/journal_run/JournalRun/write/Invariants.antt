@@ -1,7 +1,7 @@
 use Rattle.std.proofs.Common.{◌-◌, ◌≤◌, Ok}
 use Rattle.std.specs.Arc.{arc_value}
 use Rattle.typed_core.specs.Widths.{HaveWidths, register_widths}
-use Rattle.koika_top.specs.Streams.{stream}
+use Rattle.front_end.specs.Streams.{stream}
 use Rattle.koika_top.proofs.JournalBatches.{Written}
 use Rattle.koika_top.proofs.journal_run.JournalRun.write.Given as goal
 

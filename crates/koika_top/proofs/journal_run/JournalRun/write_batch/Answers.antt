@@ -9,7 +9,7 @@ use Rattle.journal_check.specs.Journals.{lines_of_batch}
 use Rattle.journal_check.specs.Printing.{text_of}
 use Rattle.koika_top.specs.Histories.{board_of}
 use Rattle.koika_top.proofs.JournalBatches.{left_wide, some-row, wrote, wrote_front}
-use Rattle.koika_top.proofs.Told.{told-none}
+use Rattle.front_end.proofs.Told.{told-none}
 use Rattle.koika_top.proofs.journal_run.JournalRun.write_batch.Goals as goal
 
 pub last_registers-requires : goal.last_registers-requires

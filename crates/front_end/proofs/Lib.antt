@@ -1,0 +1,13 @@
+pub mod Senses
+pub mod SensesOfTypes
+pub mod SensesOfExpressions
+pub mod SameChecked
+pub mod Results
+pub mod OneSource
+pub mod SomeSource
+pub mod WordNames
+pub mod FewCycles
+pub mod Reading
+pub mod LoweredRuns
+pub mod Told
+pub mod Promises

@@ -1,0 +1,12 @@
+pub mod Sources
+pub mod Systems
+pub mod Marks
+pub mod Names
+pub mod Lengths
+pub mod NumberWords
+pub mod Numbers
+pub mod Streams
+pub mod Told
+pub mod Program
+pub mod Calls
+pub mod inner

@@ -1,0 +1,28 @@
+//! What the programs share: what they read of a source, and what they write to a sink.
+//!
+//! `specs/Sources.antt` says which design and stimulus a source spells, or with which fault it is refused.
+//! `specs/Program.antt` says what a program is: its commands, its answers and its statuses. `specs/Calls.antt` says what
+//! is promised of each call of a program, whatever its commands are. `koika_top` and `lab_top` call this crate.
+#![tactic(auto)]
+
+mod answer;
+mod lengths;
+mod lowered;
+mod number_words;
+mod recall;
+mod shape;
+mod source;
+mod status;
+mod untold;
+mod writing;
+
+pub use answer::Answer;
+pub use lengths::{BATCH, is_too_long, is_too_long_for};
+pub use lowered::Lowered;
+pub use number_words::number_of;
+pub use recall::{always_fits, is_valid};
+pub use shape::{marked_names, shape_of};
+pub use source::{Spelled, fault_of_source, read_design, read_source, read_tree};
+pub use status::Status;
+pub use untold::{Untold, status_by};
+pub use writing::{write_fault, write_made, write_refusal, write_text};
