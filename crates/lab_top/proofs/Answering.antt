@@ -1,0 +1,82 @@
+-- The lab is a program whose answers and statuses agree, and each call has one answer.
+use Rattle.std.proofs.Common.{◌≡◌, ℕ, Bool, true, false, List, [], Option, refl, ap}
+use Rattle.kw_base.specs.declared.fault.Fault.{Fault}
+use Rattle.kw_bits.specs.declared.host.HostSpec.{HostSpec}
+use Rattle.front_end.specs.Program.{status_of, text_in}
+use Rattle.front_end.specs.declared.answer.Answer.{Answer}
+use Rattle.front_end.specs.declared.answer.Answer.TheVariants as plain_answers
+use Rattle.front_end.specs.declared.status.Status.{Status}
+use Rattle.front_end.specs.declared.status.Status.TheVariants as plain_statuses
+use Rattle.front_end.specs.inner.Steps.{IsReply}
+use Rattle.front_end.proofs.Promises.{Agrees, IsDefinite}
+use Rattle.front_end.proofs.Told.{Embeds}
+use Rattle.lab_top.specs.Answer.{Answers, answered, ends, lab, plain, written}
+use Rattle.lab_top.specs.Words.{command_of}
+use Rattle.lab_top.specs.inner.Steps.{answer_if, status_if}
+use Rattle.lab_top.specs.declared.answer.LabAnswer.{LabAnswer}
+use Rattle.lab_top.specs.declared.answer.LabAnswer.TheVariants.{Usage, Refused, Written, Failed}
+use Rattle.lab_top.specs.declared.words.Command.{Command}
+use Rattle.lab_top.specs.declared.words.Command.TheVariants.{Why, Profile}
+use Rattle.lab_top.proofs.OneAnswer.{asked-same}
+
+ends-agree : (a : LabAnswer) → ends (answered a) ≡ status_of (plain a)
+ends-agree Usage = refl
+ends-agree (Refused fault) = refl
+ends-agree (Written text) = refl
+ends-agree (Failed text) = refl
+
+written-agree : (a : LabAnswer) (text : List ℕ) → plain a ≡ plain_answers.Written text → a ≡ written (answered a) text
+written-agree Usage text e = let bad : plain_answers.Usage ≡ plain_answers.Written text = e in absurd cc
+written-agree (Refused fault) text e = let bad : plain_answers.Refused fault ≡ plain_answers.Written text = e in absurd cc
+written-agree (Written own) text e = let same : own ≡ text = cc in ap (λ x. Written x) same
+written-agree (Failed own) text e = let same : own ≡ text = cc in ap (λ x. Failed x) same
+
+refused-agree : (a : LabAnswer) (fault : Fault) → plain a ≡ plain_answers.Refused fault → a ≡ Refused fault
+refused-agree Usage fault e = let bad : plain_answers.Usage ≡ plain_answers.Refused fault = e in absurd cc
+refused-agree (Refused own) fault e = let same : own ≡ fault = cc in ap (λ x. Refused x) same
+refused-agree (Written text) fault e = let bad : plain_answers.Written text ≡ plain_answers.Refused fault = e in absurd cc
+refused-agree (Failed text) fault e = let bad : plain_answers.Written text ≡ plain_answers.Refused fault = e in absurd cc
+
+pub agrees : Agrees lab
+agrees = record { ends = ends-agree; written = written-agree; refused = refused-agree; is_refused = λ fault. refl }
+
+replies : (hosts : List HostSpec) (command : Command) (bytes : List ℕ) (a : LabAnswer) → Answers hosts command bytes a → IsReply (plain a)
+replies hosts (Why cycle cycles name) bytes Usage h = h
+replies hosts (Profile cycles is_strict) bytes Usage h = h
+replies hosts command bytes (Refused fault) h = tt
+replies hosts command bytes (Written text) h = tt
+replies hosts command bytes (Failed text) h = tt
+
+pub definite : IsDefinite lab
+definite = record {
+  status = λ hosts words bytes a b h k. ap answered (asked-same hosts (command_of words) bytes a b h k);
+  text = λ hosts words bytes a b one h k. ap (text_in lab) (asked-same hosts (command_of words) bytes a b h k);
+  reply = replies;
+}
+
+-- ---- what is shared by programs, in the lab
+
+pub ends-if : (fails : Bool) (s : Status) → ends (status_if fails s) ≡ s
+ends-if false plain_statuses.Done = refl
+ends-if true plain_statuses.Done = refl
+ends-if fails plain_statuses.Usage = refl
+ends-if fails plain_statuses.Refused = refl
+ends-if fails plain_statuses.ReadFault = refl
+ends-if fails plain_statuses.WriteFault = refl
+ends-if fails plain_statuses.NoMemory = refl
+
+pub plain-if : (fails : Bool) (a : Answer) → plain (answer_if fails a) ≡ a
+plain-if fails plain_answers.Usage = refl
+plain-if fails (plain_answers.Refused fault) = refl
+plain-if false (plain_answers.Written text) = refl
+plain-if true (plain_answers.Written text) = refl
+
+pub answered-if : (fails : Bool) (a : Answer) → answered (answer_if fails a) ≡ status_if fails (status_of a)
+answered-if fails plain_answers.Usage = refl
+answered-if fails (plain_answers.Refused fault) = refl
+answered-if false (plain_answers.Written text) = refl
+answered-if true (plain_answers.Written text) = refl
+
+-- a text is a failure's, or isn't
+abbrev pub embeds : Bool → Embeds lab
+embeds fails = record { of = status_if fails; answer = answer_if fails; ends = ends-if fails; plain = plain-if fails; answered = answered-if fails }

@@ -1,0 +1,13 @@
+pub mod Options
+pub mod ReadWords
+pub mod Registers
+pub mod SameTrials
+pub mod NamedAlike
+pub mod LabRuns
+pub mod OneAnswer
+pub mod SomeAnswer
+pub mod Answering
+pub mod Reading
+pub mod WhyTexts
+pub mod Counts
+pub mod Telling

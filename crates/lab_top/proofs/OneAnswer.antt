@@ -1,0 +1,122 @@
+-- Words and a source have one answer.
+use Rattle.std.proofs.Common.{◌≡◌, ◌⊎◌, ◌&&◌, ℕ, inl, inr, Bool, true, false, true≢false, List, Option, Some, None, refl, sym, ap, ◌∙◌}
+use Rattle.std.specs.Prelude.{MatchOption}
+use Rattle.kw_base.specs.declared.fault.Fault.{Fault}
+use Rattle.kw_bits.specs.declared.host.HostSpec.{HostSpec}
+use Rattle.koika_check.specs.declared.checked.Checked.{Checked}
+use Rattle.one_rule.specs.Stimulus.{InputVectors, inputs_of}
+use Rattle.front_end.specs.Lengths.{HasNoRun, is_too_long_for}
+use Rattle.front_end.specs.Sources.{IsTooLong, Spells}
+use Rattle.front_end.specs.declared.answer.Answer.{Answer}
+use Rattle.front_end.specs.declared.answer.Answer.TheVariants as plain_answers
+use Rattle.front_end.proofs.OneSource.{long_or_no_run, long_or_spelled, no_run-same, run_or_long, same_design, same_stimulus}
+use Rattle.lab_top.specs.Answer.{Answers, plain}
+use Rattle.lab_top.specs.Profile.{AnswersProfile, ShowsProfile}
+use Rattle.lab_top.specs.Runs.{asked_of, is_in_doubt, profile_in, why_text}
+use Rattle.lab_top.specs.Why.{AnswersWhy, NamesNoRule, ShowsWhy, last_of}
+use Rattle.lab_top.specs.declared.answer.LabAnswer.{LabAnswer}
+use Rattle.lab_top.specs.declared.answer.LabAnswer.TheVariants.{Usage, Refused, Written, Failed}
+use Rattle.lab_top.specs.declared.words.Command.{Command}
+use Rattle.lab_top.specs.declared.words.Command.TheVariants.{Why, Profile}
+
+module _ (hosts : List HostSpec) (source : List ℕ) where
+  -- two sources' designs and stimuli are one
+  designs : (d e : Checked) (s r : InputVectors) → Spells hosts source d s → Spells hosts source e r → d ≡ e
+  designs d e s r h k = same_design hosts source d e h.spelled k.spelled
+
+  -- ---- runs
+
+  module _ (cycles : ℕ) where
+    abbrev IsRefused : Fault → Type 0
+    IsRefused f = IsTooLong source f ⊎ HasNoRun hosts cycles source f
+
+    refused-same : (f g : Fault) → IsRefused f → IsRefused g → f ≡ g
+    refused-same f g (inl a) (inl b) = a.0 ∙ sym b.0
+    refused-same f g (inl a) (inr b) = absurd (long_or_no_run hosts source cycles f g a b)
+    refused-same f g (inr a) (inl b) = absurd (long_or_no_run hosts source cycles g f b a)
+    refused-same f g (inr a) (inr b) = no_run-same hosts source cycles f g a b
+
+    -- no source both has a run of that many cycles and is refused
+    refused_or_run : (f : Fault) (d : Checked) (s : InputVectors) → IsRefused f → Spells hosts source d s → is_too_long_for cycles d ≡ false → ⊥
+    refused_or_run f d s (inl a) spelled within = long_or_spelled hosts source f d a spelled.spelled
+    refused_or_run f d s (inr a) spelled within = run_or_long hosts source cycles f d a s spelled within
+
+  -- ---- why
+
+  module _ (cycle cycles : ℕ) (name : Option (List ℕ)) where
+    -- the rule that is asked for is there, or it isn't
+    named_or_not : (f : Fault) (text : List ℕ) → NamesNoRule hosts (last_of cycle cycles) name source f → ShowsWhy hosts cycle cycles name source text → ⊥
+    named_or_not f text h k =
+        let bad : None ≡ Some k.only = sym h.unknown ∙ ap (λ (d : Checked). asked_of d name) (designs h.design k.design h.stimulus k.stimulus h.spelled k.spelled) ∙ k.asked in
+        absurd cc
+
+    texts : (a b : List ℕ) → ShowsWhy hosts cycle cycles name source a → ShowsWhy hosts cycle cycles name source b → a ≡ b
+    texts a b h k =
+        let same : h.design ≡ k.design = designs h.design k.design h.stimulus k.stimulus h.spelled k.spelled in
+        let given : h.stimulus ≡ k.stimulus = same_stimulus hosts source h.design k.design h.stimulus k.stimulus h.spelled k.spelled in
+        let both : Some h.only ≡ Some k.only = sym h.asked ∙ ap (λ (d : Checked). asked_of d name) same ∙ k.asked in
+        let only : h.only ≡ k.only = cc in
+        h.told ∙ (λ i. why_text (same i) (only i) (inputs_of (given i)) cycle cycles) ∙ sym k.told
+
+    why-same : (a b : LabAnswer) → AnswersWhy hosts cycle cycles name source a → AnswersWhy hosts cycle cycles name source b → a ≡ b
+    why-same Usage b h k = absurd h
+    why-same (Failed text) b h k = absurd h
+    why-same (Refused f) Usage h k = absurd k
+    why-same (Refused f) (Failed text) h k = absurd k
+    why-same (Refused f) (Refused g) (inl h) (inl k) = ap (λ x. Refused x) (refused-same (last_of cycle cycles) f g h k)
+    why-same (Refused f) (Refused g) (inl h) (inr k) = absurd (refused_or_run (last_of cycle cycles) f k.design k.stimulus h k.spelled k.within)
+    why-same (Refused f) (Refused g) (inr h) (inl k) = absurd (refused_or_run (last_of cycle cycles) g h.design h.stimulus k h.spelled h.within)
+    why-same (Refused f) (Refused g) (inr h) (inr k) = ap (λ x. Refused x) (h.is ∙ sym k.is)
+    why-same (Refused f) (Written text) (inl h) k = absurd (refused_or_run (last_of cycle cycles) f k.design k.stimulus h k.spelled k.within)
+    why-same (Refused f) (Written text) (inr h) k = absurd (named_or_not f text h k)
+    why-same (Written text) Usage h k = absurd k
+    why-same (Written text) (Failed other) h k = absurd k
+    why-same (Written text) (Refused g) h (inl k) = absurd (refused_or_run (last_of cycle cycles) g h.design h.stimulus k h.spelled h.within)
+    why-same (Written text) (Refused g) h (inr k) = absurd (named_or_not g text k h)
+    why-same (Written text) (Written other) h k = ap (λ x. Written x) (texts text other h k)
+
+  -- ---- profile
+
+  module _ (cycles : ℕ) (is_strict : Bool) where
+    profiles : (a b : List ℕ) (f g : Bool) → ShowsProfile hosts cycles is_strict source a f → ShowsProfile hosts cycles is_strict source b g → (a ≡ b) × (f ≡ g)
+    profiles a b f g (x, h, fails) (y, k, fails') =
+        let same : h.design ≡ k.design = designs h.design k.design h.stimulus k.stimulus h.spelled k.spelled in
+        let given : h.stimulus ≡ k.stimulus = same_stimulus hosts source h.design k.design h.stimulus k.stimulus h.spelled k.spelled in
+        let doubt : x ≡ y = h.doubt ∙ (λ i. is_in_doubt (same i) (inputs_of (given i)) cycles) ∙ sym k.doubt in (
+          h.told ∙ (λ i. profile_in (same i) (inputs_of (given i)) cycles) ∙ sym k.told,
+          fails ∙ ap (λ (one : Bool). is_strict && one) doubt ∙ sym fails',
+        )
+
+    profile-same : (a b : LabAnswer) → AnswersProfile hosts cycles is_strict source a → AnswersProfile hosts cycles is_strict source b → a ≡ b
+    profile-same Usage b h k = absurd h
+    profile-same (Refused f) Usage h k = absurd k
+    profile-same (Refused f) (Refused g) h k = ap (λ x. Refused x) (refused-same cycles f g h k)
+    profile-same (Refused f) (Written text) h k = absurd (refused_or_run cycles f k.1.design k.1.stimulus h k.1.spelled k.1.within)
+    profile-same (Refused f) (Failed text) h k = absurd (refused_or_run cycles f k.1.design k.1.stimulus h k.1.spelled k.1.within)
+    profile-same (Written text) Usage h k = absurd k
+    profile-same (Written text) (Refused g) h k = absurd (refused_or_run cycles g h.1.design h.1.stimulus k h.1.spelled h.1.within)
+    profile-same (Written text) (Written other) h k = ap (λ x. Written x) (profiles text other false false h k).0
+    profile-same (Written text) (Failed other) h k = absurd (true≢false (sym (profiles text other false true h k).1))
+    profile-same (Failed text) Usage h k = absurd k
+    profile-same (Failed text) (Refused g) h k = absurd (refused_or_run cycles g h.1.design h.1.stimulus k h.1.spelled h.1.within)
+    profile-same (Failed text) (Written other) h k = absurd (true≢false (profiles text other true false h k).1)
+    profile-same (Failed text) (Failed other) h k = ap (λ x. Failed x) (profiles text other true true h k).0
+
+-- ---- words
+
+-- only how to use the lab is written as such
+plain-usage : (a : LabAnswer) → plain a ≡ plain_answers.Usage → a ≡ Usage
+plain-usage Usage e = refl
+plain-usage (Refused fault) e = let bad : plain_answers.Refused fault ≡ plain_answers.Usage = e in absurd cc
+plain-usage (Written text) e = let bad : plain_answers.Written text ≡ plain_answers.Usage = e in absurd cc
+plain-usage (Failed text) e = let bad : plain_answers.Written text ≡ plain_answers.Usage = e in absurd cc
+
+command-same : (hosts : List HostSpec) (command : Command) (source : List ℕ) (a b : LabAnswer) → Answers hosts command source a → Answers hosts command source b → a ≡ b
+command-same hosts (Why cycle cycles name) source a b h k = why-same hosts source cycle cycles name a b h k
+command-same hosts (Profile cycles is_strict) source a b h k = profile-same hosts source cycles is_strict a b h k
+
+-- all answers are one
+pub asked-same : (hosts : List HostSpec) (command : Option Command) (source : List ℕ) (a b : LabAnswer) → MatchOption command (plain a ≡ plain_answers.Usage) (λ asked. Answers hosts asked source a)
+    → MatchOption command (plain b ≡ plain_answers.Usage) (λ asked. Answers hosts asked source b) → a ≡ b
+asked-same hosts None source a b h k = plain-usage a h ∙ sym (plain-usage b k)
+asked-same hosts (Some command) source a b h k = command-same hosts command source a b h k

@@ -1,0 +1,40 @@
+-- What was read of a source is what the lab answers of it.
+use Rattle.std.proofs.Common.{◌≡◌, ◌<◌, ◌&&◌, ℕ, Bool, true, false, List, length, Option, Some, refl, sym, ap, subst, ◌∙◌, inl}
+use Rattle.kw_base.specs.declared.fault.Fault.{Fault}
+use Rattle.kw_bits.specs.declared.host.HostSpec.{HostSpec}
+use Rattle.koika_check.specs.declared.checked.Checked.{Checked}
+use Rattle.one_rule.specs.Stimulus.{InputVectors, inputs_of}
+use Rattle.front_end.specs.Lengths.{is_too_long_for}
+use Rattle.front_end.specs.Sources.{Spells, fault_of_source, longest_source}
+use Rattle.lab_top.specs.Answer.{Answers}
+use Rattle.lab_top.specs.Profile.{AnswersProfile, CountsRun}
+use Rattle.lab_top.specs.Runs.{asked_of, why_text}
+use Rattle.lab_top.specs.Why.{AnswersWhy, last_of}
+use Rattle.lab_top.specs.inner.Steps.{text_if}
+use Rattle.lab_top.specs.declared.answer.LabAnswer.TheVariants.{Refused, Written}
+use Rattle.lab_top.specs.declared.words.Command.{Command}
+use Rattle.lab_top.specs.declared.words.Command.TheVariants.{Why, Profile}
+
+-- a source that is too long is refused by each command
+pub refuses-long : (hosts : List HostSpec) (command : Command) (fault : Fault) → fault ≡ fault_of_source 40 → (bytes : List ℕ) → longest_source < length bytes → Answers hosts command bytes (Refused fault)
+refuses-long hosts (Why cycle cycles name) fault is bytes long = inl (inl (is, long))
+refuses-long hosts (Profile cycles is_strict) fault is bytes long = inl (is, long)
+
+-- the text of a run that was read
+pub shows-why : (hosts : List HostSpec) (cycle cycles : ℕ) (name : Option (List ℕ)) (source : List ℕ) (d : Checked) (s : InputVectors) (c n : ℕ) (only : Option ℕ) → Spells hosts source d s → c ≡ cycle → n ≡ cycles
+    → is_too_long_for (last_of c n) d ≡ false → asked_of d name ≡ Some only → AnswersWhy hosts cycle cycles name source (Written (why_text d only (inputs_of s) c n))
+shows-why hosts cycle cycles name source d s c n only spelled from count within asked = record {
+  design = d;
+  stimulus = s;
+  spelled = spelled;
+  within = (λ i. is_too_long_for (last_of (sym from i) (sym count i)) d) ∙ within;
+  only = only;
+  asked = asked;
+  told = λ i. why_text d only (inputs_of s) (from i) (count i);
+}
+
+-- the text of numbers that were counted
+pub shows-profile : (hosts : List HostSpec) (cycles : ℕ) (is_strict : Bool) (source text : List ℕ) (in_doubt fails : Bool) → fails ≡ (is_strict && in_doubt) → CountsRun hosts cycles source text in_doubt
+    → AnswersProfile hosts cycles is_strict source (text_if fails text)
+shows-profile hosts cycles is_strict source text in_doubt false is counts = (in_doubt, counts, is)
+shows-profile hosts cycles is_strict source text in_doubt true is counts = (in_doubt, counts, is)

@@ -1,0 +1,79 @@
+-- Words and a source have an answer.
+use Rattle.std.proofs.Common.{◌≡◌, ◌⊎◌, ◌≤◌, ◌&&◌, ℕ, inl, inr, Bool, true, false, List, length, Option, Some, None, refl, ⊎_elim}
+use Rattle.std.specs.Prelude.{MatchOption}
+use Rattle.std.proofs.lemmas.Bool.{cases_lt}
+use Rattle.kw_base.specs.declared.fault.Fault.{Fault}
+use Rattle.kw_bits.specs.declared.host.HostSpec.{HostSpec}
+use Rattle.koika_check.specs.declared.checked.Checked.{Checked}
+use Rattle.one_rule.specs.Stimulus.{InputVectors, inputs_of}
+use Rattle.front_end.specs.Lengths.{HasNoRun, is_too_long_for}
+use Rattle.front_end.specs.Program.{IsAnswer}
+use Rattle.front_end.specs.Sources.{IsTooLong, Spells, fault_of_source, longest_source}
+use Rattle.front_end.specs.declared.answer.Answer.TheVariants as plain_answers
+use Rattle.front_end.proofs.SomeSource.{spelled_or_fault}
+use Rattle.lab_top.specs.Answer.{Answers, lab, plain}
+use Rattle.lab_top.specs.Profile.{AnswersProfile, CountsRun}
+use Rattle.lab_top.specs.Runs.{asked_of, is_in_doubt, profile_in, why_text}
+use Rattle.lab_top.specs.Why.{AnswersWhy, last_of}
+use Rattle.lab_top.specs.Words.{command_of}
+use Rattle.lab_top.specs.declared.answer.LabAnswer.{LabAnswer}
+use Rattle.lab_top.specs.declared.answer.LabAnswer.TheVariants.{Usage, Refused, Written, Failed}
+use Rattle.lab_top.specs.declared.words.Command.{Command}
+use Rattle.lab_top.specs.declared.words.Command.TheVariants.{Why, Profile}
+
+module _ (hosts : List HostSpec) (source : List ℕ) where
+  -- the source has a run of that many cycles, or is refused
+  abbrev IsRun : ℕ → Type 0
+  IsRun cycles = (d : Checked) × (s : InputVectors) × Spells hosts source d s × (is_too_long_for cycles d ≡ false)
+
+  abbrev IsNone : ℕ → Type 0
+  IsNone cycles = (f : Fault) × (IsTooLong source f ⊎ HasNoRun hosts cycles source f)
+
+  of_length : (cycles : ℕ) (d : Checked) (s : InputVectors) → Spells hosts source d s → (long : Bool) → is_too_long_for cycles d ≡ long → IsRun cycles ⊎ IsNone cycles
+  of_length cycles d s spelled true long = inr (fault_of_source 45, inr (inr (refl, (d, s, spelled, long))))
+  of_length cycles d s spelled false within = inl (d, s, spelled, within)
+
+  run_or_fault : (cycles : ℕ) → IsRun cycles ⊎ IsNone cycles
+  run_or_fault cycles =
+      ⊎_elim
+      (λ long. inr (fault_of_source 40, inl (refl, long)))
+      (λ short.
+      ⊎_elim
+      (λ found. of_length cycles found.0 found.1 found.2 (is_too_long_for cycles found.0) refl)
+      (λ wrong. inr (wrong.0, inr (inl wrong.1)))
+      (spelled_or_fault hosts source short))
+      (cases_lt longest_source (length source))
+
+  module _ (cycle cycles : ℕ) (name : Option (List ℕ)) where
+    named : (run : IsRun (last_of cycle cycles)) (asked : Option (Option ℕ)) → asked_of run.0 name ≡ asked → (answer : LabAnswer) × AnswersWhy hosts cycle cycles name source answer
+    named run None e = (Refused (fault_of_source 90), inr (record { is = refl; design = run.0; stimulus = run.1; spelled = run.2; within = run.3; unknown = e }))
+    named run (Some only) e = (
+      Written (why_text run.0 only (inputs_of run.1) cycle cycles),
+      record { design = run.0; stimulus = run.1; spelled = run.2; within = run.3; only = only; asked = e; told = refl },
+    )
+
+    why_answer : (answer : LabAnswer) × AnswersWhy hosts cycle cycles name source answer
+    why_answer = ⊎_elim (λ run. named run (asked_of run.0 name) refl) (λ none. (Refused none.0, inl none.1)) (run_or_fault (last_of cycle cycles))
+
+  module _ (cycles : ℕ) (is_strict : Bool) where
+    counted : (run : IsRun cycles) → CountsRun hosts cycles source (profile_in run.0 (inputs_of run.1) cycles) (is_in_doubt run.0 (inputs_of run.1) cycles)
+    counted run = record { design = run.0; stimulus = run.1; spelled = run.2; within = run.3; told = refl; doubt = refl }
+
+    ended : (run : IsRun cycles) (fails : Bool) → fails ≡ (is_strict && is_in_doubt run.0 (inputs_of run.1) cycles) → (answer : LabAnswer) × AnswersProfile hosts cycles is_strict source answer
+    ended run false e = (Written (profile_in run.0 (inputs_of run.1) cycles), (is_in_doubt run.0 (inputs_of run.1) cycles, counted run, e))
+    ended run true e = (Failed (profile_in run.0 (inputs_of run.1) cycles), (is_in_doubt run.0 (inputs_of run.1) cycles, counted run, e))
+
+    profile_answer : (answer : LabAnswer) × AnswersProfile hosts cycles is_strict source answer
+    profile_answer =
+        ⊎_elim (λ run. ended run (is_strict && is_in_doubt run.0 (inputs_of run.1) cycles) refl) (λ none. (Refused none.0, none.1)) (run_or_fault cycles)
+
+command_answer : (hosts : List HostSpec) (command : Command) (source : List ℕ) → (answer : LabAnswer) × Answers hosts command source answer
+command_answer hosts (Why cycle cycles name) source = why_answer hosts source cycle cycles name
+command_answer hosts (Profile cycles is_strict) source = profile_answer hosts source cycles is_strict
+
+asked_answer : (hosts : List HostSpec) (command : Option Command) (source : List ℕ) → (answer : LabAnswer) × MatchOption command (plain answer ≡ plain_answers.Usage) (λ asked. Answers hosts asked source answer)
+asked_answer hosts None source = (Usage, refl)
+asked_answer hosts (Some command) source = command_answer hosts command source
+
+pub some_answer : (hosts : List HostSpec) (words : List (List ℕ)) (source : List ℕ) → (answer : LabAnswer) × IsAnswer lab hosts words source answer
+some_answer hosts words source = asked_answer hosts (command_of words) source

@@ -1,0 +1,29 @@
+use Rattle.std.proofs.Common.{false, inl}
+use Rattle.std.specs.Arc.{arc_value}
+use Rattle.one_rule.specs.Hosts.{host_specs}
+use Rattle.one_rule.specs.Stimulus.{inputs_of}
+use Rattle.front_end.proofs.Told.{tells-refusal}
+use Rattle.lab_top.specs.Answer.{lab}
+use Rattle.lab_top.specs.Runs.{why_text}
+use Rattle.lab_top.specs.Why.{AnswersWhy}
+use Rattle.lab_top.specs.declared.answer.LabAnswer.TheVariants.{Written}
+use Rattle.lab_top.proofs.Answering.{embeds}
+use Rattle.lab_top.proofs.Reading.{shows-why}
+use Rattle.lab_top.proofs.Telling.{text-told}
+use Rattle.lab_top.proofs.program.explain.Goals as goal
+
+pub returns-in-Ok : goal.returns-in-Ok
+returns-in-Ok g c =
+    let run = c.in-Ok.run' in
+    let is = c.in-Ok.ensures in
+    let text = why_text run.lowered.checked run.only (inputs_of (arc_value run.lowered.stimulus)) run.cycle run.cycles in
+    inl (
+      Written text,
+      shows-why (host_specs c.args.hosts.now) c.args.cycle c.args.cycles c.args.name c.args.source.now run.lowered.checked (arc_value run.lowered.stimulus) run.cycle run.cycles run.only is.run is.cycle is.cycles run.within is.asked,
+      text-told _ c.write.result c.status_by.result _ false text c.write.ensures c.status_by.ensures c.of.ensures,
+    )
+
+pub returns-in-Err : goal.returns-in-Err
+returns-in-Err g c =
+    rw c.of-in-Err.ensures
+    (tells-refusal lab (embeds false) (AnswersWhy (host_specs c.args.hosts.now) c.args.cycle c.args.cycles c.args.name c.args.source.now) _ _ c.in-Err.refusal c.in-Err.ensures.refused c.write_refusal.ensures)

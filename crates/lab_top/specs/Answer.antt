@@ -1,0 +1,79 @@
+-- What the lab answers to the words of its command line and to the bytes of its source, as a program. A command's own answers
+-- are in the file of its name.
+use Rattle.std.specs.Prelude.{ℕ, Bool, true, List, [], ◌∷◌, ◌++◌, codes, Option}
+use Rattle.kw_base.specs.declared.fault.Fault.{Fault}
+use Rattle.kw_bits.specs.declared.host.HostSpec.{HostSpec}
+use Rattle.front_end.specs.Program.{Program}
+use Rattle.front_end.specs.declared.answer.Answer.{Answer}
+use Rattle.front_end.specs.declared.answer.Answer.TheVariants as plain_answers
+use Rattle.front_end.specs.declared.status.Status.{Status}
+use Rattle.front_end.specs.declared.status.Status.TheVariants as plain_statuses
+use Rattle.lab_top.specs.Profile.{AnswersProfile}
+use Rattle.lab_top.specs.Why.{AnswersWhy}
+use Rattle.lab_top.specs.Words.{command_of}
+use Rattle.lab_top.specs.declared.answer.LabAnswer.{LabAnswer}
+use Rattle.lab_top.specs.declared.answer.LabAnswer.TheVariants.{Usage, Refused, Written, Failed}
+use Rattle.lab_top.specs.declared.status.LabStatus.{LabStatus}
+use Rattle.lab_top.specs.declared.status.LabStatus.TheVariants as statuses
+use Rattle.lab_top.specs.declared.words.Command.{Command}
+use Rattle.lab_top.specs.declared.words.Command.TheVariants.{Why, Profile}
+
+-- the answer to a command, where these host functions are handed in
+abbrev pub Answers : List HostSpec → Command → List ℕ → LabAnswer → Type 0
+Answers hosts (Why cycle cycles name) source answer = AnswersWhy hosts cycle cycles name source answer
+Answers hosts (Profile cycles is_strict) source answer = AnswersProfile hosts cycles is_strict source answer
+
+abbrev pub usage_line : List ℕ
+usage_line = codes "usage: koika_lab why|profile|lint|waves|step|verilog|obligation|certify" ++ 10 ∷ []
+
+-- what is written of an answer: of a failure its text
+abbrev pub plain : LabAnswer → Answer
+plain Usage = plain_answers.Usage
+plain (Refused fault) = plain_answers.Refused fault
+plain (Written text) = plain_answers.Written text
+plain (Failed text) = plain_answers.Written text
+
+-- the status of a call that wrote the answer
+abbrev pub answered : LabAnswer → LabStatus
+answered Usage = statuses.Usage
+answered (Refused fault) = statuses.Refused
+answered (Written text) = statuses.Done
+answered (Failed text) = statuses.Failed
+
+-- the answer that is this text, of a call that ends with this status
+abbrev pub written : LabStatus → List ℕ → LabAnswer
+written statuses.Failed text = Failed text
+written other text = Written text
+
+-- what a status says of reading and writing: a failure's text was written too
+abbrev pub ends : LabStatus → Status
+ends statuses.Done = plain_statuses.Done
+ends statuses.Usage = plain_statuses.Usage
+ends statuses.Refused = plain_statuses.Refused
+ends statuses.ReadFault = plain_statuses.ReadFault
+ends statuses.WriteFault = plain_statuses.WriteFault
+ends statuses.NoMemory = plain_statuses.NoMemory
+ends statuses.Failed = plain_statuses.Done
+
+-- each command is answered by its source, and has one text
+abbrev pub is_of_source : Command → Bool
+is_of_source command = true
+
+abbrev pub has_one_text : Option Command → Bool
+has_one_text command = true
+
+-- the lab
+abbrev pub lab : Program Command LabAnswer LabStatus
+lab =
+    record {
+      command_of = command_of;
+      is_of_source = is_of_source;
+      Answers = Answers;
+      has_one_text = has_one_text;
+      usage_line = usage_line;
+      plain = plain;
+      refused = λ (fault : Fault). Refused fault;
+      written = written;
+      answered = answered;
+      ends = ends;
+    }

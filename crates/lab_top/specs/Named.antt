@@ -1,0 +1,16 @@
+-- A typed design's declarations, by which texts name registers, inputs and rules, in the form that the core's texts take.
+-- What rules do is no part of it: their bodies are left empty.
+use Rattle.std.specs.Prelude.{ℕ, List, [], map}
+use Rattle.typed_core.specs.declared.action.Action.TheVariants.{Unit as DoesNothing}
+use Rattle.typed_core.specs.declared.design.Parts.{Parts}
+use Rattle.typed_core.specs.declared.design.Rule.{Rule as CoreRule}
+use Rattle.koika_check.specs.declared.checked.Checked.{Checked}
+use Rattle.koika_check.specs.declared.checked.Rule.{Rule}
+use Rattle.koika_lower.specs.Lowering.{input_of, register_of}
+
+-- a rule by its name alone
+abbrev pub named : Rule → CoreRule
+named r = record { name = r.name; body = DoesNothing }
+
+abbrev pub declared : Checked → Parts
+declared d = record { regs = map register_of d.registers; inputs = map input_of d.inputs; tables = []; hosts = []; rules = map named d.rules; nodes = d.nodes }

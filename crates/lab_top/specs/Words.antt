@@ -1,0 +1,113 @@
+-- Which arguments of the lab are valid, as words of the command line, and what they ask for. The program's own name isn't
+-- among them. This project's own.
+use Rattle.std.specs.Prelude.{ℕ, ◌&&◌, ◌||◌, ◌==◌, nat_le, Bool, true, false, List, [], ◌∷◌, codes, take, drop, Option, Some, None, unwrap_or, if◌then◌else◌}
+use Rattle.std.specs.List.{list_all}
+use Rattle.std.specs.Char.{is_ascii_alphabetic, is_ascii_digit}
+use Rattle.std.specs.Str.{bytes_eq}
+use Rattle.front_end.specs.NumberWords.{number_of}
+use Rattle.lab_top.specs.declared.words.Command.{Command}
+use Rattle.lab_top.specs.declared.words.Command.TheVariants.{Why, Profile}
+use Rattle.lab_top.specs.declared.words.Options.{Options}
+
+-- a name begins with an ASCII letter or `_`, and goes on with these and digits
+abbrev pub begins_name : ℕ → Bool
+begins_name byte = is_ascii_alphabetic byte || byte == 95
+
+abbrev pub continues_name : ℕ → Bool
+continues_name byte = begins_name byte || is_ascii_digit byte
+
+abbrev pub is_name : List ℕ → Bool
+is_name [] = false
+is_name (first ∷ rest) = begins_name first && list_all continues_name rest
+
+-- the name that a word is; what it names is another question
+abbrev pub name_of : List ℕ → Option (List ℕ)
+name_of word = if is_name word then Some word else None
+
+-- no option is given
+abbrev pub no_options : Options
+no_options = record { cycle = None; cycles = None; rule = None; is_strict = false }
+
+-- options with a value that is given once, and is valid: there is no earlier one, and there is this one
+abbrev pub given_once : {X : Type 0} → Option X → (X → Options) → Option X → Option Options
+given_once None put None = None
+given_once None put (Some value) = Some (put value)
+given_once (Some earlier) put value = None
+
+-- options, if they are valid, with a value of `--cycle`
+abbrev pub with_cycle : List ℕ → Option Options → Option Options
+with_cycle word None = None
+with_cycle word (Some options) = given_once options.cycle (λ n. record options { cycle = Some n }) (number_of word)
+
+-- options, if they are valid, with a value of `--cycles`
+abbrev pub with_cycles : List ℕ → Option Options → Option Options
+with_cycles word None = None
+with_cycles word (Some options) = given_once options.cycles (λ n. record options { cycles = Some n }) (number_of word)
+
+-- options, if they are valid, with a name that is valid, if it is
+abbrev pub with_name : Option (List ℕ) → Option Options → Option Options
+with_name name None = None
+with_name name (Some options) = given_once options.rule (λ given. record options { rule = Some given }) name
+
+-- options, if they are valid, with a value of `--rule`
+abbrev pub with_rule : List ℕ → Option Options → Option Options
+with_rule word others = with_name (name_of word) others
+
+-- nothing is strict where nothing is asked for
+abbrev pub asked_flag : Bool → Option Bool
+asked_flag false = None
+asked_flag true = Some true
+
+-- options, if they are valid, with `--strict`
+abbrev pub with_strict : Option Options → Option Options
+with_strict None = None
+with_strict (Some options) = given_once (asked_flag options.is_strict) (λ strict. record options { is_strict = strict }) (Some true)
+
+-- the other options, if they are valid, with one that is a word of its own
+abbrev pub with_word : List ℕ → Option Options → Option Options
+with_word word others =
+    if bytes_eq word (codes "--strict") then with_strict others
+    else if bytes_eq (take 8 word) (codes "--cycle=") then with_cycle (drop 8 word) others
+    else if bytes_eq (take 9 word) (codes "--cycles=") then with_cycles (drop 9 word) others
+    else if bytes_eq (take 7 word) (codes "--rule=") then with_rule (drop 7 word) others
+    else None
+
+-- what options ask for: each is given at most once, in any order, and a value follows its option or `=`
+abbrev pub options_of : List (List ℕ) → Option Options
+options_of [] = Some no_options
+options_of (word ∷ []) = with_word word (Some no_options)
+options_of (word ∷ value ∷ rest) =
+    if bytes_eq word (codes "--cycle") then with_cycle value (options_of rest)
+    else if bytes_eq word (codes "--cycles") then with_cycles value (options_of rest)
+    else if bytes_eq word (codes "--rule") then with_rule value (options_of rest)
+    else with_word word (options_of (value ∷ rest))
+
+-- `why` from a cycle on, for some cycles: both numbers are 1 or more
+abbrev pub why_from : ℕ → ℕ → Option (List ℕ) → Option Command
+why_from cycle cycles rule = if nat_le 1 cycle && nat_le 1 cycles then Some (Why cycle cycles rule) else None
+
+-- `why` with options: the first cycle has to be given, and it is for one cycle where no number is given
+abbrev pub why_by : Option ℕ → Option ℕ → Option (List ℕ) → Bool → Option Command
+why_by (Some cycle) cycles rule false = why_from cycle (unwrap_or cycles 1) rule
+why_by cycle cycles rule is_strict = None
+
+abbrev pub why_of : Option Options → Option Command
+why_of None = None
+why_of (Some options) = why_by options.cycle options.cycles options.rule options.is_strict
+
+-- `profile` with options: the cycles have to be given, and may be strict
+abbrev pub profile_by : Option ℕ → Option ℕ → Option (List ℕ) → Bool → Option Command
+profile_by None (Some cycles) None is_strict = Some (Profile cycles is_strict)
+profile_by cycle cycles rule is_strict = None
+
+abbrev pub profile_of : Option Options → Option Command
+profile_of None = None
+profile_of (Some options) = profile_by options.cycle options.cycles options.rule options.is_strict
+
+-- the command that words ask for; no other words are valid
+abbrev pub command_of : List (List ℕ) → Option Command
+command_of [] = None
+command_of (word ∷ rest) =
+    if bytes_eq word (codes "why") then why_of (options_of rest)
+    else if bytes_eq word (codes "profile") then profile_of (options_of rest)
+    else None

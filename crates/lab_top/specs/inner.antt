@@ -1,0 +1,4 @@
+-- What only contracts of private functions cite.
+pub mod Given
+pub mod Registers
+pub mod Steps

@@ -1,0 +1,199 @@
+//! Commands: the call of the lab, and what each command does.
+
+ghost use Rattle.std.specs.Prelude.{◌≡◌, ◌≤◌, List, ℕ, Some, [], IfSome, map, string_bytes, length};
+ghost use Rattle.kw_bits.specs.Faults.{Rose};
+ghost use Rattle.one_rule.specs.Hosts.{host_specs};
+ghost use Rattle.front_end.specs.Calls.{CountsReadFault, CountsWriteFault, HasStatusOfAnswer, IsKept, LeavesUnread, ReadsAll, RejectsWords, WritesFaultLine, WritesFront, WritesNothing, WritesRefusal, WritesSomeFront, WritesText, WritesUsage, WritesUsageFront, call};
+ghost use Rattle.front_end.specs.Sources.{longest_source};
+ghost use Rattle.front_end.specs.Streams.{stream};
+ghost use Rattle.front_end.specs.inner.Steps.{IsReply, Tells, TellsRead};
+ghost use Rattle.lab_top.specs.Answer.{Answers, ends, lab, plain};
+ghost use Rattle.lab_top.specs.Profile.{AnswersProfile};
+ghost use Rattle.lab_top.specs.Why.{AnswersWhy};
+ghost use Rattle.lab_top.specs.inner.Steps.{HasSomeCycles};
+
+use crate::profile::count_source;
+use crate::status::LabStatus;
+use crate::why::WhyRun;
+use crate::words::{Command, command_of};
+use front_end::{Status, fault_of_source, status_by, write_fault, write_refusal, write_text};
+use host_fn::HostFn;
+use kw_base::fault_number;
+use kw_bits::{NoMemory, Text};
+use kw_io::{ReadAll, Sink, Source, read_all};
+use std::alloc::Global;
+
+// How to call the lab.
+const USAGE_LINE: &[u8] =
+    b"usage: koika_lab why|profile|lint|waves|step|verilog|obligation|certify\n";
+
+// A source may have this many bytes.
+const LONGEST_SOURCE: usize = 1_048_576;
+
+/// Runs the lab on its arguments, without the program's own name: reads the source if the arguments are valid, and writes
+/// the answer to the sink. Designs may declare the host functions. The clauses on content hold where the bytes that the
+/// source has left, or that were written to the sink, are known; `front_end`'s `specs/Calls.antt` has each clause in words.
+/// It is proved to return.
+pub fn lab<S: Source, K: Sink>(
+    alloc: Global,
+    words: &[String],
+    hosts: &[HostFn],
+    source: &mut S,
+    sink: &mut K,
+) -> LabStatus
+    // Status 0 and status 8.
+    ensures done { WritesText lab (call (map string_bytes words.now) (host_specs hosts.now)
+        (stream S.left S.faults source.old source.new) (stream K.written K.faults sink.old sink.new) result) }
+    ensures whole { ReadsAll lab (call (map string_bytes words.now) (host_specs hosts.now)
+        (stream S.left S.faults source.old source.new) (stream K.written K.faults sink.old sink.new) result) }
+
+    // Status 1.
+    ensures usage { WritesUsage lab (call (map string_bytes words.now) (host_specs hosts.now)
+        (stream S.left S.faults source.old source.new) (stream K.written K.faults sink.old sink.new) result) }
+    ensures usage_only { RejectsWords lab (call (map string_bytes words.now) (host_specs hosts.now)
+        (stream S.left S.faults source.old source.new) (stream K.written K.faults sink.old sink.new) result) }
+    ensures usage_front { WritesUsageFront lab (call (map string_bytes words.now) (host_specs hosts.now)
+        (stream S.left S.faults source.old source.new) (stream K.written K.faults sink.old sink.new) result) }
+    ensures unread { LeavesUnread lab (source.new ≡ source.old) (call (map string_bytes words.now) (host_specs hosts.now)
+        (stream S.left S.faults source.old source.new) (stream K.written K.faults sink.old sink.new) result) }
+
+    // Status 2.
+    ensures refused { WritesRefusal lab (call (map string_bytes words.now) (host_specs hosts.now)
+        (stream S.left S.faults source.old source.new) (stream K.written K.faults sink.old sink.new) result) }
+    ensures refused_line { WritesFaultLine lab (call (map string_bytes words.now) (host_specs hosts.now)
+        (stream S.left S.faults source.old source.new) (stream K.written K.faults sink.old sink.new) result) }
+
+    // Every status.
+    ensures exact { HasStatusOfAnswer lab (call (map string_bytes words.now) (host_specs hosts.now)
+        (stream S.left S.faults source.old source.new) (stream K.written K.faults sink.old sink.new) result) }
+    ensures front { WritesFront lab (call (map string_bytes words.now) (host_specs hosts.now)
+        (stream S.left S.faults source.old source.new) (stream K.written K.faults sink.old sink.new) result) }
+    ensures some { WritesSomeFront lab (call (map string_bytes words.now) (host_specs hosts.now)
+        (stream S.left S.faults source.old source.new) (stream K.written K.faults sink.old sink.new) result) }
+
+    // Status 3 and status 4.
+    ensures read_fault { CountsReadFault lab (call (map string_bytes words.now) (host_specs hosts.now)
+        (stream S.left S.faults source.old source.new) (stream K.written K.faults sink.old sink.new) result) }
+    ensures nothing_written { WritesNothing lab (call (map string_bytes words.now) (host_specs hosts.now)
+        (stream S.left S.faults source.old source.new) (stream K.written K.faults sink.old sink.new) result) }
+    ensures write_fault { CountsWriteFault lab (call (map string_bytes words.now) (host_specs hosts.now)
+        (stream S.left S.faults source.old source.new) (stream K.written K.faults sink.old sink.new) result) }
+{
+    answer_words(alloc, words, hosts, source, sink)
+}
+
+// Does what the words ask for, and writes the answer.
+fn answer_words<S: Source, K: Sink>(
+    alloc: Global,
+    words: &[String],
+    hosts: &[HostFn],
+    source: &mut S,
+    sink: &mut K,
+) -> LabStatus
+    ensures { IsKept lab (source.new ≡ source.old) (call (map string_bytes words.now) (host_specs hosts.now)
+        (stream S.left S.faults source.old source.new) (stream K.written K.faults sink.old sink.new) result) }
+{
+    match command_of(alloc, words) {
+        Ok(None) => {
+            let ended = status_by(write_text(sink, USAGE_LINE), Status::Usage);
+            LabStatus::of(ended, false)
+        }
+        Ok(Some(command)) => answer_source(alloc, command, hosts, source, sink),
+        Err(NoMemory) => LabStatus::NoMemory,
+    }
+}
+
+// Reads the source and does what the command asks for, or writes that the source is too long.
+fn answer_source<S: Source, K: Sink>(
+    alloc: Global,
+    command: Command,
+    hosts: &[HostFn],
+    source: &mut S,
+    sink: &mut K,
+) -> LabStatus
+    requires { HasSomeCycles command }
+    ensures tells { TellsRead lab (λ answer. IsReply (plain answer)) (S.left source.old)
+        (Answers (host_specs hosts.now) command) (stream K.written K.faults sink.old sink.new) result }
+    ensures whole { ends result ≡ Status.Done → IfSome (S.left source.old) (λ _. S.left source.new ≡ Some []) }
+    ensures read_fault { ends result ≡ Status.ReadFault → Rose (S.faults source.old) (S.faults source.new) }
+{
+    match read_all(alloc, source, LONGEST_SOURCE) {
+        Ok(bytes) => answer_bytes(alloc, command, hosts, &bytes, sink),
+        Err(ReadAll::TooLong) => {
+            let fault = fault_of_source(fault_number::SOURCE_TOO_LONG);
+            let ended = status_by(write_fault(alloc, fault, sink), Status::Refused);
+            LabStatus::of(ended, false)
+        }
+        Err(ReadAll::Fault) => LabStatus::ReadFault,
+        Err(ReadAll::NoMemory) => LabStatus::NoMemory,
+    }
+}
+
+// Does what the command asks for, given the bytes of the source.
+fn answer_bytes<K: Sink>(
+    alloc: Global,
+    command: Command,
+    hosts: &[HostFn],
+    source: &[u8],
+    sink: &mut K,
+) -> LabStatus
+    requires short { length source.now ≤ longest_source }
+    requires some { HasSomeCycles command }
+    ensures { Tells lab (Answers (host_specs hosts.now) command source.now)
+        (stream K.written K.faults sink.old sink.new) result }
+{
+    match command {
+        Command::Why {
+            cycle,
+            cycles,
+            rule,
+        } => explain(alloc, cycle, cycles, rule, hosts, source, sink),
+        Command::Profile { cycles, is_strict } => {
+            profile(alloc, cycles, is_strict, hosts, source, sink)
+        }
+    }
+}
+
+// Writes why the rules of the source's run fired or didn't, or the line of the source's fault.
+fn explain<K: Sink>(
+    alloc: Global,
+    cycle: u32,
+    cycles: u32,
+    name: Option<Text>,
+    hosts: &[HostFn],
+    source: &[u8],
+    sink: &mut K,
+) -> LabStatus
+    requires short { length source.now ≤ longest_source }
+    requires first { 1 ≤ cycle }
+    requires some { 1 ≤ cycles }
+    ensures { Tells lab (AnswersWhy (host_specs hosts.now) cycle cycles name source.now)
+        (stream K.written K.faults sink.old sink.new) result }
+{
+    match WhyRun::read(alloc, cycle, cycles, name, hosts, source) {
+        Ok(run) => LabStatus::of(status_by(run.write(alloc, sink), Status::Done), false),
+        Err(refusal) => LabStatus::of(write_refusal(alloc, refusal, sink), false),
+    }
+}
+
+// Writes how often the rules of the source's run fired or didn't, or the line of the source's fault.
+fn profile<K: Sink>(
+    alloc: Global,
+    cycles: u32,
+    is_strict: bool,
+    hosts: &[HostFn],
+    source: &[u8],
+    sink: &mut K,
+) -> LabStatus
+    requires { length source.now ≤ longest_source }
+    ensures { Tells lab (AnswersProfile (host_specs hosts.now) cycles is_strict source.now)
+        (stream K.written K.faults sink.old sink.new) result }
+{
+    match count_source(alloc, cycles, hosts, source) {
+        Ok(counted) => {
+            let ended = status_by(write_text(sink, counted.text.as_slice()), Status::Done);
+            LabStatus::of(ended, counted.fails(is_strict))
+        }
+        Err(refusal) => LabStatus::of(write_refusal(alloc, refusal, sink), false),
+    }
+}

@@ -1,0 +1,273 @@
+//! Program: the arguments, and what they ask for.
+
+ghost use Rattle.std.specs.Prelude.{◌≡◌, Some, map, string_bytes, IfOk, IfSome};
+ghost use Rattle.std.specs.List.{list_all};
+ghost use Rattle.lab_top.specs.inner.Steps.{HasSomeCycles};
+ghost use Rattle.lab_top.specs.Words.{begins_name, command_of, continues_name, is_name, name_of, options_of, profile_of, why_from, why_of, with_cycle, with_cycles, with_name, with_rule, with_strict, with_word};
+
+use crate::given::read_options;
+use front_end::number_of;
+use kw_bits::{NoMemory, Text};
+use std::alloc::Global;
+
+/// What the arguments ask for.
+#[derive(Debug, Drop)]
+pub enum Command {
+    /// Why the rules fired or didn't, for so many cycles of a run from this one on; of one rule, if it is named.
+    Why {
+        cycle: u32,
+        cycles: u32,
+        rule: Option<Text>,
+    },
+    /// How often the rules of a run fired or didn't in that many cycles, and whether a failed assertion is a failure.
+    Profile {
+        cycles: u32,
+        is_strict: bool,
+    },
+}
+
+/// The options that are given.
+#[derive(Debug, Drop)]
+pub(crate) struct Options {
+    pub(crate) cycle: Option<u32>,
+    pub(crate) cycles: Option<u32>,
+    pub(crate) rule: Option<Text>,
+    pub(crate) is_strict: bool,
+}
+
+// Options are at most this many words, since each is at most once.
+const MOST_WORDS: usize = 7;
+
+/// The command that the words of the command line ask for, if they are understood.
+pub(crate) fn command_of(alloc: Global, words: &[String]) -> Result<Option<Command>, NoMemory>
+    ensures command { IfOk result (λ command. command ≡ command_of (map string_bytes words.now)) }
+    ensures some { IfOk result (λ command. IfSome command HasSomeCycles) }
+{
+    match words {
+        [command, options @ ..] if command.as_str() == "why" => {
+            Ok(why_of(given(alloc, "why", options)?))
+        }
+        [command, options @ ..] if command.as_str() == "profile" => {
+            Ok(profile_of(given(alloc, "profile", options)?))
+        }
+        _ => Ok(None),
+    }
+}
+
+// The options that words give to the command of this name, if they are valid: the own test comes first.
+fn given(alloc: Global, name: &str, words: &[String]) -> Result<Option<Options>, NoMemory>
+    ensures { IfOk result (λ found. found ≡ options_of (map string_bytes words.now)) }
+{
+    if few_options_of(alloc, words)?.is_none() {
+        return Ok(None);
+    }
+    Ok(Some(read_options(alloc, name, words)?))
+}
+
+// The options that words give, of which more than are ever valid aren't looked at.
+fn few_options_of(alloc: Global, words: &[String]) -> Result<Option<Options>, NoMemory>
+    ensures { IfOk result (λ found. found ≡ options_of (map string_bytes words.now)) }
+{
+    if words.len() > MOST_WORDS {
+        return Ok(None);
+    }
+    options_of(alloc, words)
+}
+
+// `why` with options, if they are valid: it needs the first cycle, and isn't strict.
+fn why_of(options: Option<Options>) -> Option<Command>
+    ensures command { result ≡ why_of options }
+    ensures some { IfSome result HasSomeCycles }
+{
+    let options = options?;
+    if options.is_strict {
+        return None;
+    }
+    why_from(options.cycle?, options.cycles.unwrap_or(1), options.rule)
+}
+
+// `why` from a cycle on, for some cycles.
+fn why_from(cycle: u32, cycles: u32, rule: Option<Text>) -> Option<Command>
+    ensures command { result ≡ why_from cycle cycles rule }
+    ensures some { IfSome result HasSomeCycles }
+{
+    if 1 <= cycle && 1 <= cycles {
+        Some(Command::Why {
+            cycle,
+            cycles,
+            rule,
+        })
+    } else {
+        None
+    }
+}
+
+// `profile` with options, if they are valid: it needs the cycles, and takes no first one and no rule.
+fn profile_of(options: Option<Options>) -> Option<Command>
+    ensures command { result ≡ profile_of options }
+    ensures some { IfSome result HasSomeCycles }
+{
+    let options = options?;
+    if options.cycle.is_some() || options.rule.is_some() {
+        return None;
+    }
+    Some(Command::Profile {
+        cycles: options.cycles?,
+        is_strict: options.is_strict,
+    })
+}
+
+// The options that words give, each at most once. It calls itself for each word.
+fn options_of(alloc: Global, words: &[String]) -> Result<Option<Options>, NoMemory>
+    ensures { IfOk result (λ found. found ≡ options_of (map string_bytes words.now)) }
+{
+    match words {
+        [] => Ok(Some(Options {
+            cycle: None,
+            cycles: None,
+            rule: None,
+            is_strict: false,
+        })),
+        [word, value, rest @ ..] if word.as_str() == "--cycle" => {
+            Ok(with_cycle(value.as_bytes(), options_of(alloc, rest)?))
+        }
+        [word, value, rest @ ..] if word.as_str() == "--cycles" => {
+            Ok(with_cycles(value.as_bytes(), options_of(alloc, rest)?))
+        }
+        [word, value, rest @ ..] if word.as_str() == "--rule" => {
+            with_rule(alloc, value.as_bytes(), options_of(alloc, rest)?)
+        }
+        [word, rest @ ..] => with_word(alloc, word.as_bytes(), options_of(alloc, rest)?),
+    }
+}
+
+// Other options, if they are understood, and one that is a word of its own.
+fn with_word(
+    alloc: Global,
+    word: &[u8],
+    others: Option<Options>,
+) -> Result<Option<Options>, NoMemory>
+    ensures { IfOk result (λ found. found ≡ with_word word.now others) }
+{
+    if word == b"--strict".as_slice() {
+        return Ok(with_strict(others));
+    }
+    if let Some(value) = word.strip_prefix(b"--cycle=") {
+        return Ok(with_cycle(value, others));
+    }
+    if let Some(value) = word.strip_prefix(b"--cycles=") {
+        return Ok(with_cycles(value, others));
+    }
+    match word.strip_prefix(b"--rule=") {
+        Some(value) => with_rule(alloc, value, others),
+        None => Ok(None),
+    }
+}
+
+// Other options and the first cycle, which isn't given yet.
+fn with_cycle(value: &[u8], others: Option<Options>) -> Option<Options>
+    ensures { result ≡ with_cycle value.now others }
+{
+    let mut others = others?;
+    let cycle = number_of(value)?;
+    match others.cycle {
+        None => {
+            others.cycle = Some(cycle);
+            Some(others)
+        }
+        Some(_) => None,
+    }
+}
+
+// Other options and the number of cycles, which isn't given yet.
+fn with_cycles(value: &[u8], others: Option<Options>) -> Option<Options>
+    ensures { result ≡ with_cycles value.now others }
+{
+    let mut others = others?;
+    let cycles = number_of(value)?;
+    match others.cycles {
+        None => {
+            others.cycles = Some(cycles);
+            Some(others)
+        }
+        Some(_) => None,
+    }
+}
+
+// Other options and the name of a rule, which isn't given yet.
+fn with_rule(
+    alloc: Global,
+    value: &[u8],
+    others: Option<Options>,
+) -> Result<Option<Options>, NoMemory>
+    ensures { IfOk result (λ found. found ≡ with_rule value.now others) }
+{
+    match name_of(alloc, value)? {
+        Some(name) => Ok(with_name(name, others)),
+        None => Ok(None),
+    }
+}
+
+fn with_name(name: Text, others: Option<Options>) -> Option<Options>
+    ensures { result ≡ with_name (Some name) others }
+{
+    let mut others = others?;
+    match others.rule {
+        None => {
+            others.rule = Some(name);
+            Some(others)
+        }
+        Some(_) => None,
+    }
+}
+
+// Other options and that a failed assertion is a failure, which isn't said yet.
+fn with_strict(others: Option<Options>) -> Option<Options>
+    ensures { result ≡ with_strict others }
+{
+    let mut others = others?;
+    if others.is_strict {
+        return None;
+    }
+    others.is_strict = true;
+    Some(others)
+}
+
+/// The name that a word is.
+pub(crate) fn name_of(alloc: Global, word: &[u8]) -> Result<Option<Text>, NoMemory>
+    ensures { IfOk result (λ name. name ≡ name_of word.now) }
+{
+    if is_name(word) {
+        Ok(Some(Text::from_slice(alloc, word)?))
+    } else {
+        Ok(None)
+    }
+}
+
+// Whether a word is a name.
+fn is_name(word: &[u8]) -> bool
+    ensures { result ≡ is_name word.now }
+{
+    match word {
+        [first, rest @ ..] => begins_name(*first) && continue_name(rest),
+        [] => false,
+    }
+}
+
+fn continue_name(bytes: &[u8]) -> bool
+    ensures { result ≡ list_all continues_name bytes.now }
+{
+    bytes.iter().all(|byte| continues_name(*byte))
+}
+
+fn begins_name(byte: u8) -> bool
+    ensures { result ≡ begins_name byte }
+{
+    byte.is_ascii_alphabetic() || byte == b'_'
+}
+
+fn continues_name(byte: u8) -> bool
+    ensures { result ≡ continues_name byte }
+{
+    begins_name(byte) || byte.is_ascii_digit()
+}
