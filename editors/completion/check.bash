@@ -20,12 +20,12 @@ try() {
         echo "wrong: $* is completed by ${COMPREPLY[*]}, and not by $wanted"
     }
 }
-try "check print sim compile btorsim gen aiger aigsim recheck help --help --version --unproved" koika ""
+try "check print sim compile btorsim gen aiger aigsim recheck why profile help --help --version --unproved" koika ""
 try "check compile" koika c
 try "aiger aigsim" koika a
 try "recheck" koika r
 try "--help --version --unproved" koika "--"
-try "check print sim compile btorsim gen aiger aigsim recheck" koika help ""
+try "check print sim compile btorsim gen aiger aigsim recheck why profile" koika help ""
 try "--cycles --summary --engine --workers --journal" koika sim "--"
 try "--summary --engine --workers --journal" koika sim --cycles 4 "--"
 try "--summary --engine --workers" koika sim --cycles 4 a.koika --journal "--"
@@ -34,6 +34,11 @@ try "" koika sim --cycles ""
 try "--cycles --summary" koika btorsim "--"
 try "--cycles --summary" koika aigsim "--"
 try "--cycles" koika recheck "--"
+try "--cycle --cycles --rule" koika why "--"
+try "--cycles --rule" koika why --cycle 3 "--"
+try "" koika why --rule ""
+try "--cycles --strict" koika profile "--"
+try "profile" koika pro
 try "" koika check "--"
 try "a.koika b.koika parts" koika check ""
 try "a.koika b.koika parts --cycles" koika recheck ""

@@ -6,6 +6,8 @@ _koika_options() {
         sim) echo "--cycles --summary --engine --workers --journal" ;;
         btorsim | aigsim) echo "--cycles --summary" ;;
         recheck) echo "--cycles" ;;
+        why) echo "--cycle --cycles --rule" ;;
+        profile) echo "--cycles --strict" ;;
     esac
 }
 
@@ -30,16 +32,16 @@ _koika() {
     local word=${COMP_WORDS[COMP_CWORD]} before=${COMP_WORDS[COMP_CWORD - 1]} command=${COMP_WORDS[1]-} words='' given
     COMPREPLY=()
     if [ "$COMP_CWORD" = 1 ]; then
-        words="check print sim compile btorsim gen aiger aigsim recheck help --help --version --unproved"
+        words="check print sim compile btorsim gen aiger aigsim recheck why profile help --help --version --unproved"
     else
         case $command:$before in
             *:"<")
                 _koika_files "$command" "$word"
                 return ;;
             *:--engine) words="plain circuit" ;;
-            *:--cycles | *:--workers) return ;;
+            *:--cycle | *:--cycles | *:--workers | *:--rule) return ;;
             gen:*) words="1 10 100" ;;
-            help:*) words="check print sim compile btorsim gen aiger aigsim recheck" ;;
+            help:*) words="check print sim compile btorsim gen aiger aigsim recheck why profile" ;;
             *)
                 # each option is given once
                 words=" $(_koika_options "$command") "
