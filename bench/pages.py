@@ -159,6 +159,17 @@ schedule { enqueue; dequeue; }
 END
 printf 'put=1 get=1\\nput=1\\nput=1 get=1\\n' > stimulus; ./koika sim --cycles 3 fifo.koika stimulus""",
      "@0 - full=0\n@1 enqueue,dequeue full=0\n@2 enqueue full=1\n@3 dequeue full=0"),
+    ("LAB.md", "So it is in a design without assertions, and for N = 0",
+     "./koika profile --strict --cycles 9 examples/uart.koika > counts; echo $?; "
+     "./koika profile --strict --cycles 0 examples/limit.koika > counts; echo $?", "0\n0"),
+    ("LAB.md", "Status 8 came exactly where `--strict` is given",
+     "yes go=1 | head -n 12 > stimulus; for words in '' --strict; do "
+     "./koika profile --cycles 12 $words examples/limit.koika stimulus 2> /dev/null | tail -n 1; "
+     "echo ${PIPESTATUS[0]}; done",
+     "assert ten held 11 violated 1 unwatched 0\n0\nassert ten held 11 violated 1 unwatched 0\n8"),
+    ("LAB.md", "Everything else is status 1, with the lab's usage line",
+     "./koika why --cycle 0 examples/limit.koika 2> /dev/null; echo $?",
+     "usage: koika_lab why|profile|lint|waves|step|verilog|obligation|certify\n1"),
     ("LANGUAGE.md", "the old value and another rule's new value in one rule | not possible", """cat > both.koika <<'END'
 reg x : bits 8 = 8'd0; reg old : bits 8 = 8'd0; reg new : bits 8 = 8'd0;
 rule write { write0(x, 8'd1) }
@@ -448,6 +459,8 @@ LIMITS = {
     "depth": ("check", lambda n: f"rule a {statements(n - 1)} schedule {{ }}"),
     "bit weight, for `aiger` (`AIGER.md`)": ("aiger", lambda n: weighing((n + 127) // 128)),
     "cycles": ("sim --summary --cycles N", lambda n: "schedule { }"),
+    "cycles of `profile`": ("profile --cycles N", lambda n: "schedule { }"),
+    "the last cycle of `why`": ("why --cycles 2 --cycle LAST", lambda n: "schedule { }"),
     "cycles times one more than the weight, for a journal":
         ("sim --workers 1 --journal --cycles N", lambda n: "schedule { }"),
     "cycles, counted up to 256, times the states of a BTOR2 file":
@@ -559,6 +572,7 @@ class Tables:
         refusal = "usage:" if above == "status 1" else f"fault {above} "
         for number in (most, most + 1):
             words = command.replace("DIGITS", str(1).zfill(min(number, 20))).replace("N", str(number))
+            words = words.replace("LAST", str(number - 1))  # the second of two cycles is the one with the number
             # A run that isn't refused at once needn't end.
             said = self.answer(words, numbered(source(number)), 5 if number == most else 600)
             if said.startswith(refusal) != (number > most):
@@ -616,6 +630,13 @@ class Tables:
                     said = self.answer("check", habit(example, False))
                     self.same(f"FAULTS.md, {example}", said.split(" ")[0], "ok")
 
+    def small_sources(self, page):
+        """Each fault of the lab with its small source."""
+        with open(page, encoding="utf-8") as text:
+            command = re.search(r"small source for `([^`]*)`", text.read())[1]
+        for number, _, _, source, place, _ in rows_of(page, "| fault | meaning"):
+            self.same(f"LAB.md, {source}", self.answer(command, ticked(source)[0]), f"fault {number} at {place}\n")
+
     def words(self, page):
         """Each example of latches that are words."""
         for symbols, words in rows_of(page, "| symbols of latches"):
@@ -668,7 +689,8 @@ def main():
     pages = Pages(sys.argv[1])
     tables = Tables(pages, sys.argv[1])
     of_tables = {"FAULTS.md": tables.habits, "LANGUAGE.md": tables.tokens, "LIMITS.md": tables.limits,
-                 "BTOR2.md": tables.forms, "AIGER.md": tables.gates, "JOURNAL.md": tables.journals}
+                 "BTOR2.md": tables.forms, "AIGER.md": tables.gates, "JOURNAL.md": tables.journals,
+                 "LAB.md": tables.small_sources}
     for page in sys.argv[2:]:
         name = os.path.basename(page)
         pages.page(page)
