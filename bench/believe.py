@@ -1,4 +1,4 @@
-"""Prints the definitions that the contract of `run` rests on, or one command's part of it.
+"""Prints the definitions that the contract of `run` or of `lab` rests on, or one command's part of it.
 
 `bench/believe.sh` says how."""
 import collections
@@ -8,8 +8,8 @@ import sys
 
 from sources import HOLE, TOP, WORD, crates, definitions_of, files, functions_of, imports_of, lines_of
 
-# The top call, and what each command's answer is.
-TOP_CALL = {("koika_top", "run"), ("koika_top", "run_here")}
+# The top call of each program, and what each command's answer is.
+CALLS = {"run": {("koika_top", "run"), ("koika_top", "run_here")}, "lab": {("lab_top", "lab")}}
 COMMANDS = {
     "check": "AnswersCheck",
     "print": "AnswersPrint",
@@ -21,6 +21,8 @@ COMMANDS = {
     "journal": "AnswersJournal",
     "recheck": "AnswersRecheck",
     "gen": "pipeline",
+    "why": "AnswersWhy",
+    "profile": "AnswersProfile",
 }
 BEGINS_TYPE = r"^ *(?:pub(?:\([a-z]+\))? )?(?:struct|enum|const|type) "
 # The commands whose definitions docs/DEFINITIONS.md has to list.
@@ -121,11 +123,11 @@ class House:
                 left += self.uses[key]
         return seen
 
-    def of_contracts(self, of_top=False):
-        """What the contracts of public functions rest on, or that of the top call alone."""
+    def of_contracts(self, of=None):
+        """What the contracts of these public functions rest on, or those of all."""
         found = set()
         for one in self.functions:
-            if one.is_public and (not of_top or (one.crate, one.name) in TOP_CALL):
+            if one.is_public and (of is None or (one.crate, one.name) in of):
                 found |= self.named(one.clauses, one.imports)[0]
         return self.reached(found)
 
@@ -171,10 +173,11 @@ class House:
 def check(house):
     """Whether what has to be believed is where it says: prints what is not."""
     wrong = []
-    for key in house.ordered(house.of_contracts(of_top=True)):
-        one = house.definitions[key]
-        if key[1].startswith("inner."):
-            wrong.append(f"{one.path}:{one.first} {key[2]} is in inner/, and `run` rests on it")
+    for call, functions in CALLS.items():
+        for key in house.ordered(house.of_contracts(functions)):
+            one = house.definitions[key]
+            if key[1].startswith("inner."):
+                wrong.append(f"{one.path}:{one.first} {key[2]} is in inner/, and `{call}` rests on it")
     public = house.of_contracts()
     for (crate, module), names in house.modules.items():
         if not module.startswith("inner.") and not any((crate, module, name) in public for name in names):
@@ -207,15 +210,16 @@ def main(words):
         for command in COMMANDS:
             keys = house.reached(roots(house, command))
             print(f"| `{command}` | {len(keys):,} | {house.size(keys):,} | {len({key[:2] for key in keys})} |")
-        keys = house.of_contracts(of_top=True)
-        print(f"| all that `run` says | {len(keys):,} | {house.size(keys):,} | {len({key[:2] for key in keys})} |")
+        for call, functions in CALLS.items():
+            keys = house.of_contracts(functions)
+            print(f"| all that `{call}` says | {len(keys):,} | {house.size(keys):,} | {len({key[:2] for key in keys})} |")
         return 0
-    if len(words) > 1 or words and words[0] not in COMMANDS:
-        sys.exit(f"usage: bench/believe.sh [--check | --counts | {' | '.join(COMMANDS)}]")
-    if words:
+    if len(words) > 1 or words and words[0] not in COMMANDS and words[0] not in CALLS:
+        sys.exit(f"usage: bench/believe.sh [--check | --counts | {' | '.join([*CALLS, *COMMANDS])}]")
+    if words and words[0] in COMMANDS:
         reached = house.reached(roots(house, words[0]))
     else:
-        reached = house.of_contracts(of_top=True)
+        reached = house.of_contracts(CALLS[words[0] if words else "run"])
     order = house.ordered(reached)
     types = house.types_of(reached)
     what = words[0] if words else "run"

@@ -1,9 +1,11 @@
 #!/usr/bin/env bash
-# Prints what one must believe: the definitions that the contract of `run` rests on, or those of one command's answer,
-# each with its file and lines, after those that it uses itself, with the program's types first. It proves nothing.
+# Prints what one must believe: the definitions that the contract of a top call rests on, or those of one command's
+# answer, each with its file and lines, after those that it uses itself, with the program's types first. It proves
+# nothing.
 #
-#     bench/believe.sh             all that `run` says
-#     bench/believe.sh sim         the answer of one command
+#     bench/believe.sh             all that `run` says, the call of `koika`
+#     bench/believe.sh lab         all that `lab` says, the call of the lab
+#     bench/believe.sh sim         the answer of one command of either program
 #     bench/believe.sh --counts    how much that is for each command
 #     bench/believe.sh --check     fails where one of them is in specs/inner/, where no public contract rests on a file
 #                                  of specs/ that isn't in inner/, or where docs/DEFINITIONS.md names no file of one
