@@ -6,7 +6,7 @@ import re
 import signal
 import sys
 
-from sources import HOLE, TOP, WORD, crates, definitions_of, files, functions_of, imports_of, lines_of
+from sources import HOLE, TOP, WORD, crates, definitions_of, files, functions_of, ghosts_of, imports_of, lines_of
 
 # The top call of each program, and what each command's answer is.
 CALLS = {"run": {("koika_top", "run"), ("koika_top", "run_here")}, "lab": {("lab_top", "lab")}}
@@ -25,8 +25,11 @@ COMMANDS = {
     "profile": "AnswersProfile",
 }
 BEGINS_TYPE = r"^ *(?:pub(?:\([a-z]+\))? )?(?:struct|enum|const|type) "
-# The commands whose definitions docs/DEFINITIONS.md has to list.
-LISTED = ["sim", "compile"]
+# The commands in the order in which docs/DEFINITIONS.md lists what they rest on: each brings what those before it don't.
+LISTED = ["sim", "compile", "why", "profile", "check", "print", "gen", "journal", "recheck", "aiger", "aigsim", "btorsim"]
+PAGE = "docs/DEFINITIONS.md"
+# The lines of the page between which the order stands.
+BEGIN, END = "<!-- made by bench/believe.sh --page -->", "<!-- end of what is made -->"
 
 
 class House:
@@ -124,11 +127,16 @@ class House:
         return seen
 
     def of_contracts(self, of=None):
-        """What the contracts of these public functions rest on, or those of all."""
+        """What the contracts of these public functions rest on, or those of all, with what public types say of
+        themselves."""
         found = set()
         for one in self.functions:
             if one.is_public and (of is None or (one.crate, one.name) in of):
                 found |= self.named(one.clauses, one.imports)[0]
+        if of is None:
+            for crate in crates():
+                for text, imports in ghosts_of(crate):
+                    found |= self.named(text, imports)[0]
         return self.reached(found)
 
     def ordered(self, reached):
@@ -182,16 +190,82 @@ def check(house):
     for (crate, module), names in house.modules.items():
         if not module.startswith("inner.") and not any((crate, module, name) in public for name in names):
             wrong.append(f"crates/{crate}/specs/{module.replace('.', '/')}.antt: no public contract rests on it")
-    with open(f"{TOP}/docs/DEFINITIONS.md", encoding="utf-8") as file:
-        page = file.read()
-    for command in LISTED:
-        paths = collections.Counter(house.definitions[key].path for key in house.reached(roots(house, command)))
-        for path, count in sorted(paths.items()):
-            if path[len("crates/") :] in page:
-                continue
-            wrong.append(f"{path} isn't in docs/DEFINITIONS.md, and {command} rests on {count} of its definitions")
-    print("\n".join(wrong) if wrong else "all that has to be believed is in specs/ and in docs/DEFINITIONS.md")
+    if order_of(house) != page_parts()[1]:
+        wrong.append(f"{PAGE} isn't what `bench/believe.sh --page` makes of the sources")
+    print("\n".join(wrong) if wrong else f"all that has to be believed is in specs/ and in {PAGE}")
     return 1 if wrong else 0
+
+
+def sentence(path):
+    """What a file says of itself: the first sentence of the comment that it begins with."""
+    said = []
+    for line in lines_of(path):
+        if not line.startswith("--"):
+            break
+        said.append(line[2:].strip())
+    found = re.match(r"(.*?[.:])(?= [A-Z`]|$)", " ".join(said))
+    said = (found[1] if found else " ".join(said)).rstrip(":")
+    return said.replace("|", "\\|").replace("*", "\\*")
+
+
+def order_of(house):
+    """The order in which to read what is believed, as Markdown: a row for each file, with its definitions."""
+    said, seen = [], set()
+    said += ["| to believe | definitions | lines | files |", "|---|---|---|---|", *counts_of(house), ""]
+    for command in LISTED:
+        keys = house.reached(roots(house, command))
+        new = keys - seen
+        what = "read in this order" if not seen else "read besides"
+        said += [f"### `{command}`", ""]
+        if new:
+            said += [f"To believe it, {what}, {len(new):,} definitions, {house.size(new):,} lines:", "", "| file | what it says | definitions |", "|---|---|---|"]
+        else:
+            said += ["It rests on nothing else."]
+        of = collections.defaultdict(list)
+        for key in house.ordered(new):
+            of[house.definitions[key].path].append(key[2])
+        for path, names in of.items():
+            listed = ", ".join(f"`{name}`" for name in names).replace("|", "\\|")
+            said.append(f"| `{path[len('crates/'):]}` | {sentence(path)} | {listed} |")
+        said.append("")
+        seen |= keys
+    rest = set().union(*(house.of_contracts(functions) for functions in CALLS.values())) - seen
+    said += ["### The calls", "", f"What `run` and `lab` say of each command alike, {len(rest):,} definitions, {house.size(rest):,} lines:", "", "| file | what it says | definitions |", "|---|---|---|"]
+    of = collections.defaultdict(list)
+    for key in house.ordered(rest):
+        of[house.definitions[key].path].append(key[2])
+    for path, names in of.items():
+        listed = ", ".join(f"`{name}`" for name in names).replace("|", "\\|")
+        said.append(f"| `{path[len('crates/'):]}` | {sentence(path)} | {listed} |")
+    return "\n".join(said)
+
+
+def page_parts():
+    """The page before the order, the order, and what comes after it."""
+    with open(f"{TOP}/{PAGE}", encoding="utf-8") as file:
+        page = file.read()
+    if BEGIN not in page or END not in page:
+        return page, "", ""
+    before, _, rest = page.partition(f"{BEGIN}\n\n")
+    made, _, after = rest.partition(f"\n\n{END}")
+    return before, made, after
+
+
+def write_page(house):
+    before, _, after = page_parts()
+    with open(f"{TOP}/{PAGE}", "w", encoding="utf-8") as file:
+        file.write(f"{before}{BEGIN}\n\n{order_of(house)}\n\n{END}{after}")
+
+
+def counts_of(house):
+    """A row for each command and call: how much it is to believe."""
+    rows = []
+    for name, keys in [
+        *((f"`{it}`", house.reached(roots(house, it))) for it in COMMANDS),
+        *((f"all that `{it}` says", house.of_contracts(functions)) for it, functions in CALLS.items()),
+    ]:
+        rows.append(f"| {name} | {len(keys):,} | {house.size(keys):,} | {len({key[:2] for key in keys})} |")
+    return rows
 
 
 def roots(house, command):
@@ -205,17 +279,17 @@ def main(words):
     house = House()
     if words == ["--check"]:
         return check(house)
+    if words == ["--page"]:
+        return write_page(house)
+    if words == ["--move"]:
+        import inner
+
+        return inner.main(house)
     if words == ["--counts"]:
-        print("| to believe | definitions | lines | files |\n|---|---|---|---|")
-        for command in COMMANDS:
-            keys = house.reached(roots(house, command))
-            print(f"| `{command}` | {len(keys):,} | {house.size(keys):,} | {len({key[:2] for key in keys})} |")
-        for call, functions in CALLS.items():
-            keys = house.of_contracts(functions)
-            print(f"| all that `{call}` says | {len(keys):,} | {house.size(keys):,} | {len({key[:2] for key in keys})} |")
+        print("\n".join(["| to believe | definitions | lines | files |", "|---|---|---|---|", *counts_of(house)]))
         return 0
     if len(words) > 1 or words and words[0] not in COMMANDS and words[0] not in CALLS:
-        sys.exit(f"usage: bench/believe.sh [--check | --counts | {' | '.join([*CALLS, *COMMANDS])}]")
+        sys.exit(f"usage: bench/believe.sh [--check | --counts | --page | --move | {' | '.join([*CALLS, *COMMANDS])}]")
     if words and words[0] in COMMANDS:
         reached = house.reached(roots(house, words[0]))
     else:

@@ -8,8 +8,9 @@
 #     bench/believe.sh sim         the answer of one command of either program
 #     bench/believe.sh --counts    how much that is for each command
 #     bench/believe.sh --check     fails where one of them is in specs/inner/, where no public contract rests on a file
-#                                  of specs/ that isn't in inner/, or where docs/DEFINITIONS.md names no file of one
-#                                  that `sim` or `compile` rests on
+#                                  of specs/ that isn't in inner/, or where docs/DEFINITIONS.md isn't what --page makes
+#     bench/believe.sh --page      makes the order in docs/DEFINITIONS.md anew
+#     bench/believe.sh --move      moves what no public contract rests on to specs/inner/, and follows the imports
 set -eu
 cd "$(dirname "$0")/.."
 exec python3 -B bench/believe.py "$@"

@@ -94,11 +94,13 @@ def definitions_of(crate, path):
 
 
 def functions_of(crate, path):
-    """The functions of a file, with their parameters and clauses."""
+    """The functions of a file, with their parameters and clauses. Those of a trait and of its impls are public."""
     lines = lines_of(path)
     imports = imports_of(lines)
-    found = []
+    found, is_of_trait = [], False
     for number, line in enumerate(lines, 1):
+        if line[:1] not in ("", " "):
+            is_of_trait = bool(re.match(r"(pub )?(unsafe )?trait |impl\b.*\bfor\b", line))
         begins = re.match(r"\s*(pub )?(?:pub\([a-z ]+\) )?(?:const )?(?:unsafe )?fn (\w+)", line)
         if not begins:
             continue
@@ -135,5 +137,43 @@ def functions_of(crate, path):
             elif re.match(r"\s*(\{|\}|pub |fn |impl\b|struct\b|enum\b|trait\b|use |mod |#\[)", clause):
                 break
         parts = [it for it in parts if it]
-        found.append(Function(crate, path, number, begins[2], bool(begins[1]), parts, "\n".join(clauses), imports))
+        is_public = bool(begins[1]) or is_of_trait
+        found.append(Function(crate, path, number, begins[2], is_public, parts, "\n".join(clauses), imports))
+    return found
+
+
+def public_names(crate):
+    """The names that a crate hands out: those that its root names by `pub use`, and all of its public modules'."""
+    try:
+        text = "\n".join(lines_of(f"crates/{crate}/src/lib.rt"))
+    except FileNotFoundError:
+        return set()
+    found = set()
+    for used in re.findall(r"^pub use ([^;]*);", text, re.M):
+        found |= set(re.findall(r"\w+", used))
+    for module in re.findall(r"^pub mod (\w+);", text, re.M):
+        for path in (f"crates/{crate}/src/{module}.rt", f"crates/{crate}/src/{module}/mod.rt"):
+            if os.path.exists(f"{TOP}/{path}"):
+                found |= set(re.findall(r"^pub (?:struct|enum|trait|fn) (\w+)", "\n".join(lines_of(path)), re.M))
+    return found | set(re.findall(r"^pub (?:struct|enum|trait|fn) (\w+)", text, re.M))
+
+
+def ghosts_of(crate):
+    """The ghost fields and items of the types and traits that a crate hands out: texts, with the imports of their files.
+    Its contracts are read with them."""
+    public, found = public_names(crate), []
+    for path in files(crate, "src", ".rt"):
+        lines, of = lines_of(path), None
+        imports = imports_of(lines)
+        for number, line in enumerate(lines):
+            begins = re.match(r"(?:pub )?(?:struct|enum|trait|unsafe trait) (\w+)|(?:unsafe )?impl\b(?:<.*?>)? ?(?:.* for )?&?(?:mut )?(\w+)", line)
+            if begins:
+                of = begins[1] or begins[2]
+            if of not in public or not re.match(r"\s+(pub )?ghost (?!use\b)", line):
+                continue
+            text, last = line, number
+            while text.count("{") > text.count("}"):
+                last += 1
+                text += "\n" + lines[last]
+            found.append((text, imports))
     return found
