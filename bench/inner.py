@@ -1,12 +1,14 @@
 """Moves definitions on which no public contract rests from specs/ to specs/inner/, file by file, and follows their imports.
+Then it writes the lines of bench/meanings.txt above the definitions that they are of.
 
-`bench/believe.sh --move` calls it. It changes files of crates/ alone, and proves nothing: look at what it did with
-`git diff`, and prove the crates again. A file of specs/ that holds some of both is cut into two of the same name. What
-it can't cut, a file with a module inside, it names and leaves."""
+`bench/believe.sh --move` calls it. It proves nothing: look at what it did with `git diff`, and prove the crates again.
+A file of specs/ that holds some of both is cut into two of the same name. What it can't cut, a file with a module
+inside, it names and leaves."""
 import collections
 import os
 import re
 import sys
+import textwrap
 
 from sources import HOLE, TOP, WORD, lines_of
 
@@ -221,3 +223,41 @@ def followed(text, whole, parts, own):
             text = "\n".join(lines)
     return text
 
+
+MEANINGS = f"{TOP}/bench/meanings.txt"
+
+
+def write_meanings(house):
+    """Writes each meaning above its definition, and empties the file of them."""
+    with open(MEANINGS, encoding="utf-8") as file:
+        lines = file.read().split("\n")
+    of, module = collections.defaultdict(dict), None
+    for line in lines:
+        if line.startswith("## "):
+            module = tuple(line[3:].split("/"))
+        elif line and not line.startswith("#"):
+            name, _, said = line.partition(": ")
+            of[module][name] = said
+    count = 0
+    for (crate, module), said in of.items():
+        ones = {one.name: one for key, one in house.definitions.items() if key[:2] == (crate, module)}
+        path = f"crates/{crate}/specs/{module.replace('.', '/')}.antt"
+        text = lines_of(path)
+        for one in sorted((ones[name] for name in said if name in ones), key=lambda it: -it.first):
+            if one.comment:
+                continue
+            at = one.first - 1
+            while text[at - 1].startswith("infix"):
+                at -= 1
+            indent = " " * (len(text[one.first - 1]) - len(text[one.first - 1].lstrip()))
+            text[at:at] = [f"{indent}-- {line}" for line in wrapped(said[one.name], 116 - len(indent))]
+            count += 1
+        with open(f"{TOP}/{path}", "w", encoding="utf-8") as file:
+            file.write("\n".join(text) + "\n")
+    with open(MEANINGS, "w", encoding="utf-8") as file:
+        file.write("\n".join(line for line in lines if line.startswith("# ")) + "\n")
+    print(f"{count} comment lines written")
+
+
+def wrapped(text, width):
+    return textwrap.wrap(text, width, break_long_words=False, break_on_hyphens=False)

@@ -79,7 +79,9 @@ def definitions_of(crate, path):
         if line.startswith("module "):
             close()
             is_within, opened, comment = True, None, []
-        elif not line.strip() or re.match(r"(pub )?(use|mod) |infix", line):
+        elif line.startswith("infix"):
+            pass
+        elif not line.strip() or re.match(r"(pub )?(use|mod) ", line):
             comment = []
         elif line.strip().startswith("--") and indent <= level:
             comment.append(line.strip()[2:].strip())
