@@ -1,5 +1,5 @@
 -- The lab is a program whose answers and statuses agree, and each call has one answer.
-use Rattle.std.proofs.Common.{◌≡◌, ℕ, Bool, true, false, List, [], Option, refl, ap}
+use Rattle.std.proofs.Common.{◌≡◌, ℕ, Bool, true, false, List, refl, ap}
 use Rattle.kw_base.specs.declared.fault.Fault.{Fault}
 use Rattle.kw_bits.specs.declared.host.HostSpec.{HostSpec}
 use Rattle.front_end.specs.Program.{status_of, text_in}
@@ -16,7 +16,7 @@ use Rattle.lab_top.specs.inner.Steps.{answer_if, status_if}
 use Rattle.lab_top.specs.declared.answer.LabAnswer.{LabAnswer}
 use Rattle.lab_top.specs.declared.answer.LabAnswer.TheVariants.{Usage, Refused, Written, Failed}
 use Rattle.lab_top.specs.declared.words.Command.{Command}
-use Rattle.lab_top.specs.declared.words.Command.TheVariants.{Why, Profile}
+use Rattle.lab_top.specs.declared.words.Command.TheVariants.{Why, Profile, Waves}
 use Rattle.lab_top.proofs.OneAnswer.{asked-same}
 
 ends-agree : (a : LabAnswer) → ends (answered a) ≡ status_of (plain a)
@@ -43,6 +43,7 @@ agrees = record { ends = ends-agree; written = written-agree; refused = refused-
 replies : (hosts : List HostSpec) (command : Command) (bytes : List ℕ) (a : LabAnswer) → Answers hosts command bytes a → IsReply (plain a)
 replies hosts (Why cycle cycles name) bytes Usage h = h
 replies hosts (Profile cycles is_strict) bytes Usage h = h
+replies hosts (Waves cycles) bytes Usage h = h
 replies hosts command bytes (Refused fault) h = tt
 replies hosts command bytes (Written text) h = tt
 replies hosts command bytes (Failed text) h = tt

@@ -1,7 +1,6 @@
 -- What the lab says of a run of a lowered design is what it says of the typed design.
-use Rattle.std.proofs.Common.{◌≡◌, ℕ, ◌-◌, List, length, map, Option, Some, None, refl, sym, ap, ap₂, subst, ◌∙◌, ◌++◌}
+use Rattle.std.proofs.Common.{◌≡◌, ℕ, ◌-◌, List, map, Option, Some, None, sym, ap, ap₂, subst, ◌∙◌, ◌++◌}
 use Rattle.std.specs.Prelude.{option_map}
-use Rattle.std.specs.List.{flat_map, range_with_len}
 use Rattle.kw_bits.specs.BitVector.{BitVector}
 use Rattle.typed_core.specs.Valid.{IsValid}
 use Rattle.typed_core.specs.Widths as core
@@ -13,19 +12,17 @@ use Rattle.one_rule.specs.Run as core_run
 use Rattle.one_rule.specs.Run.{InputsByCycle, last_registers}
 use Rattle.one_rule.specs.Stimulus.{AlwaysFits, InputVectors, inputs_of}
 use Rattle.koika_check.specs.declared.checked.Checked.{Checked}
-use Rattle.koika_check.specs.declared.checked.Rule.{Rule}
 use Rattle.koika_lower.specs.Lowering.{IsLowered, input_widths, register_widths}
 use Rattle.front_end.specs.Systems.{system_of}
-use Rattle.front_end.proofs.LoweredRuns.{first-same, inputs-wide, registers-wide, rules-count, run-same, same-alone, twice}
-use Rattle.lab_core.specs.Numbers.{Numbers, fails_strictly, numbers_of}
+use Rattle.front_end.proofs.LoweredRuns.{first-same, inputs-wide, registers-wide, run-same, same-alone, twice}
+use Rattle.lab_core.specs.Numbers.{Numbers}
 use Rattle.lab_core.specs.Profiles.{profile_text}
 use Rattle.lab_core.specs.Trials.{trials}
 use Rattle.journal_check.specs.Tokens.{number_named}
 use Rattle.front_end.specs.Sources.{name_of}
 use Rattle.lab_core.specs.Why.{cycle_line, rule_named, trials_text}
-use Rattle.lab_core.specs.declared.trial.Trial.{Trial}
 use Rattle.lab_top.specs.Named.{declared, named}
-use Rattle.lab_top.specs.Runs.{asked_of, numbers_in, profile_in, registers_before, text_in, trials_in}
+use Rattle.lab_top.specs.Runs.{asked_of, registers_before, text_in, trials_in}
 use Rattle.lab_top.proofs.NamedAlike.{cycle_line-same, names_in, profile_text-same, trials_text-same}
 use Rattle.lab_top.proofs.Registers.{left, left-fit}
 use Rattle.lab_top.proofs.SameTrials.{same-trials}

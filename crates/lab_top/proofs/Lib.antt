@@ -11,3 +11,7 @@ pub mod Reading
 pub mod WhyTexts
 pub mod Counts
 pub mod Telling
+pub mod Failing
+pub mod WaveRuns
+pub mod WavesOfSources
+pub mod WaveTexts

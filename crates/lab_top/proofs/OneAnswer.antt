@@ -7,17 +7,17 @@ use Rattle.koika_check.specs.declared.checked.Checked.{Checked}
 use Rattle.one_rule.specs.Stimulus.{InputVectors, inputs_of}
 use Rattle.front_end.specs.Lengths.{HasNoRun, is_too_long_for}
 use Rattle.front_end.specs.Sources.{IsTooLong, Spells}
-use Rattle.front_end.specs.declared.answer.Answer.{Answer}
 use Rattle.front_end.specs.declared.answer.Answer.TheVariants as plain_answers
 use Rattle.front_end.proofs.OneSource.{long_or_no_run, long_or_spelled, no_run-same, run_or_long, same_design, same_stimulus}
 use Rattle.lab_top.specs.Answer.{Answers, plain}
 use Rattle.lab_top.specs.Profile.{AnswersProfile, ShowsProfile}
-use Rattle.lab_top.specs.Runs.{asked_of, is_in_doubt, profile_in, why_text}
+use Rattle.lab_top.specs.Runs.{asked_of, is_in_doubt, profile_in, waves_in, why_text}
+use Rattle.lab_top.specs.Waves.{AnswersWaves, ShowsWaves}
 use Rattle.lab_top.specs.Why.{AnswersWhy, NamesNoRule, ShowsWhy, last_of}
 use Rattle.lab_top.specs.declared.answer.LabAnswer.{LabAnswer}
 use Rattle.lab_top.specs.declared.answer.LabAnswer.TheVariants.{Usage, Refused, Written, Failed}
 use Rattle.lab_top.specs.declared.words.Command.{Command}
-use Rattle.lab_top.specs.declared.words.Command.TheVariants.{Why, Profile}
+use Rattle.lab_top.specs.declared.words.Command.TheVariants.{Why, Profile, Waves}
 
 module _ (hosts : List HostSpec) (source : List ℕ) where
   -- two sources' designs and stimuli are one
@@ -102,6 +102,31 @@ module _ (hosts : List HostSpec) (source : List ℕ) where
     profile-same (Failed text) (Written other) h k = absurd (true≢false (profiles text other true false h k).1)
     profile-same (Failed text) (Failed other) h k = ap (λ x. Failed x) (profiles text other true true h k).0
 
+  -- ---- waves
+
+  module _ (cycles : ℕ) where
+    dumps : (a b : List ℕ) → ShowsWaves hosts cycles source a → ShowsWaves hosts cycles source b → a ≡ b
+    dumps a b h k =
+        let same : h.design ≡ k.design =
+        designs h.design k.design h.stimulus k.stimulus h.spelled k.spelled in
+        let given : h.stimulus ≡ k.stimulus =
+        same_stimulus hosts source h.design k.design h.stimulus k.stimulus h.spelled k.spelled in
+        h.told ∙ (λ i. waves_in (same i) (inputs_of (given i)) cycles) ∙ sym k.told
+
+    waves-same : (a b : LabAnswer) → AnswersWaves hosts cycles source a → AnswersWaves hosts cycles source b → a ≡ b
+    waves-same Usage b h k = absurd h
+    waves-same (Failed text) b h k = absurd h
+    waves-same (Refused f) Usage h k = absurd k
+    waves-same (Refused f) (Failed text) h k = absurd k
+    waves-same (Refused f) (Refused g) h k = ap (λ x. Refused x) (refused-same cycles f g h k)
+    waves-same (Refused f) (Written text) h k =
+        absurd (refused_or_run cycles f k.design k.stimulus h k.spelled k.within)
+    waves-same (Written text) Usage h k = absurd k
+    waves-same (Written text) (Failed other) h k = absurd k
+    waves-same (Written text) (Refused g) h k =
+        absurd (refused_or_run cycles g h.design h.stimulus k h.spelled h.within)
+    waves-same (Written text) (Written other) h k = ap (λ x. Written x) (dumps text other h k)
+
 -- ---- words
 
 -- only how to use the lab is written as such
@@ -114,6 +139,7 @@ plain-usage (Failed text) e = let bad : plain_answers.Written text ≡ plain_ans
 command-same : (hosts : List HostSpec) (command : Command) (source : List ℕ) (a b : LabAnswer) → Answers hosts command source a → Answers hosts command source b → a ≡ b
 command-same hosts (Why cycle cycles name) source a b h k = why-same hosts source cycle cycles name a b h k
 command-same hosts (Profile cycles is_strict) source a b h k = profile-same hosts source cycles is_strict a b h k
+command-same hosts (Waves cycles) source a b h k = waves-same hosts source cycles a b h k
 
 -- all answers are one
 pub asked-same : (hosts : List HostSpec) (command : Option Command) (source : List ℕ) (a b : LabAnswer) → MatchOption command (plain a ≡ plain_answers.Usage) (λ asked. Answers hosts asked source a)

@@ -1,8 +1,7 @@
 -- What is found in valid words is what they give, in whatever order their options stand: the reader goes from one option to the
 -- next, and behind each it has found what was given so far.
-use Rattle.std.proofs.Common.{◌≡◌, ◌∙◌, ◌⊎◌, ℕ, ◌==◌, ◌&&◌, ◌||◌, Bool, true, false, cond, List, [], ◌∷◌, ◌++◌, take, drop, length, Option, Some, None, is_some, refl, sym, ap, ap₂, subst, inl, inr, codes, nat_le, true≢false, append-nil}
+use Rattle.std.proofs.Common.{◌≡◌, ◌∙◌, ℕ, ◌==◌, ◌&&◌, Bool, true, false, cond, List, [], ◌∷◌, ◌++◌, take, drop, length, Option, Some, None, is_some, refl, sym, ap, ap₂, subst, codes, nat_le, true≢false, append-nil}
 use Rattle.std.specs.Prelude.{if◌then◌else◌, find, fold, option_and_then, option_map, slice_get, unwrap_or}
-use Rattle.std.specs.List.{list_all}
 use Rattle.std.specs.Option.{option_or}
 use Rattle.std.specs.Str.{bytes_eq}
 use Rattle.std.proofs.lemmas.Bool.{eqb-true}
@@ -10,7 +9,7 @@ use Rattle.std.proofs.lemmas.List.{take-append-drop}
 use Rattle.std.proofs.lemmas.List.Folds.{find-append}
 use Rattle.std.proofs.lemmas.Option.{none-some}
 use Rattle.std.proofs.lemmas.Slice.Eq.{bytes_eq-Decides}
-use Rattle.clap.specs.Walk.{Held, Row, Rule, Text, Walk, at_row, finished, first_of, has_row, idle, more_values, nothing_held, one_of, reading_by, rule_of, row_text, settled_rows, walk, walk_from, walked, with_default, with_values, without}
+use Rattle.clap.specs.Walk.{Held, Row, Rule, Text, Walk, at_row, finished, has_row, idle, more_values, nothing_held, one_of, reading_by, rule_of, row_text, settled_rows, walk, walk_from, walked, with_default, with_values, without}
 use Rattle.clap.specs.Simple.{Shape, app_of, built, filled, is_simple, matches_of, with_rule}
 use Rattle.clap.specs.Built.{AddsArg}
 use Rattle.clap.specs.declared.builder.arg.Arg.{Arg}
@@ -18,11 +17,11 @@ use Rattle.clap.specs.declared.builder.command.Command.{Command}
 use Rattle.clap.specs.declared.parser.matches.ValueSource.{ValueSource}
 use Rattle.clap.specs.declared.parser.matches.ValueSource.TheVariants.{CommandLine, DefaultValue}
 use Rattle.clap.specs.declared.builder.value_parser.Reading.{Reading}
-use Rattle.clap.specs.Takes.{is_given, settle_passes, takes, turn_passes, walk_passes}
+use Rattle.clap.specs.Takes.{settle_passes, takes, turn_passes, walk_passes}
 use Rattle.clap.proofs.OnLiterals.{clap_on_literals}
 use Rattle.front_end.specs.NumberWords.{number_of, value_of}
 use Rattle.lab_top.specs.Words.{asked_flag, given_once, name_of, no_options, options_of, with_cycle, with_cycles, with_rule as with_named, with_strict, with_word}
-use Rattle.lab_top.specs.inner.Given.{Give, bare, cycle_rule, cycles_rule, flag_text, name_in, name_rule, number_in, options_app, strict_rule}
+use Rattle.lab_top.specs.inner.Given.{Give, bare, cycle_rule, cycles_rule, flag_text, name_rule, options_app, strict_rule}
 use Rattle.lab_top.specs.declared.words.Options.{Options}
 
 some_is : {X : Type 0} (x y : X) → Some x ≡ Some y → x ≡ y

@@ -1,5 +1,5 @@
 -- What was read of a source is what the lab answers of it.
-use Rattle.std.proofs.Common.{◌≡◌, ◌<◌, ◌&&◌, ℕ, Bool, true, false, List, length, Option, Some, refl, sym, ap, subst, ◌∙◌, inl}
+use Rattle.std.proofs.Common.{◌≡◌, ◌<◌, ◌&&◌, ℕ, Bool, true, false, List, length, Option, Some, sym, ◌∙◌, inl}
 use Rattle.kw_base.specs.declared.fault.Fault.{Fault}
 use Rattle.kw_bits.specs.declared.host.HostSpec.{HostSpec}
 use Rattle.koika_check.specs.declared.checked.Checked.{Checked}
@@ -8,17 +8,19 @@ use Rattle.front_end.specs.Lengths.{is_too_long_for}
 use Rattle.front_end.specs.Sources.{Spells, fault_of_source, longest_source}
 use Rattle.lab_top.specs.Answer.{Answers}
 use Rattle.lab_top.specs.Profile.{AnswersProfile, CountsRun}
-use Rattle.lab_top.specs.Runs.{asked_of, why_text}
+use Rattle.lab_top.specs.Runs.{asked_of, waves_in, why_text}
+use Rattle.lab_top.specs.Waves.{AnswersWaves}
 use Rattle.lab_top.specs.Why.{AnswersWhy, last_of}
 use Rattle.lab_top.specs.inner.Steps.{text_if}
 use Rattle.lab_top.specs.declared.answer.LabAnswer.TheVariants.{Refused, Written}
 use Rattle.lab_top.specs.declared.words.Command.{Command}
-use Rattle.lab_top.specs.declared.words.Command.TheVariants.{Why, Profile}
+use Rattle.lab_top.specs.declared.words.Command.TheVariants.{Why, Profile, Waves}
 
 -- a source that is too long is refused by each command
 pub refuses-long : (hosts : List HostSpec) (command : Command) (fault : Fault) → fault ≡ fault_of_source 40 → (bytes : List ℕ) → longest_source < length bytes → Answers hosts command bytes (Refused fault)
 refuses-long hosts (Why cycle cycles name) fault is bytes long = inl (inl (is, long))
 refuses-long hosts (Profile cycles is_strict) fault is bytes long = inl (is, long)
+refuses-long hosts (Waves cycles) fault is bytes long = inl (is, long)
 
 -- the text of a run that was read
 pub shows-why : (hosts : List HostSpec) (cycle cycles : ℕ) (name : Option (List ℕ)) (source : List ℕ) (d : Checked) (s : InputVectors) (c n : ℕ) (only : Option ℕ) → Spells hosts source d s → c ≡ cycle → n ≡ cycles
@@ -38,3 +40,14 @@ pub shows-profile : (hosts : List HostSpec) (cycles : ℕ) (is_strict : Bool) (s
     → AnswersProfile hosts cycles is_strict source (text_if fails text)
 shows-profile hosts cycles is_strict source text in_doubt false is counts = (in_doubt, counts, is)
 shows-profile hosts cycles is_strict source text in_doubt true is counts = (in_doubt, counts, is)
+
+-- the dump of a run that was read
+pub shows-waves : (hosts : List HostSpec) (cycles : ℕ) (source : List ℕ) (d : Checked) (s : InputVectors) (n : ℕ) → Spells hosts source d s → n ≡ cycles → is_too_long_for n d ≡ false
+    → AnswersWaves hosts cycles source (Written (waves_in d (inputs_of s) n))
+shows-waves hosts cycles source d s n spelled count within = record {
+  design = d;
+  stimulus = s;
+  spelled = spelled;
+  within = (λ i. is_too_long_for (sym count i) d) ∙ within;
+  told = λ i. waves_in d (inputs_of s) (count i);
+}

@@ -5,8 +5,8 @@ use Rattle.typed_core.specs.Valid.{IsValid}
 use Rattle.typed_core.specs.Widths.{HaveWidths, input_widths, register_widths}
 use Rattle.typed_core.specs.declared.design.Parts.{Parts}
 use Rattle.one_rule.specs.Cycle.{System, cycle, system_of}
-use Rattle.one_rule.specs.Rows.{RowFits, RowsFit}
-use Rattle.one_rule.specs.Run.{InputsByCycle, first_values, last_registers, opening, rows_after, run, run_of}
+use Rattle.one_rule.specs.Rows.{RowsFit}
+use Rattle.one_rule.specs.Run.{InputsByCycle, first_values, last_registers, rows_after, run, run_of}
 use Rattle.one_rule.specs.declared.rows.Row.{Row}
 use Rattle.one_rule.proofs.Fitting.{first_values_fit}
 use Rattle.one_rule.proofs.Runs.{runs_fit, runs_in_parts}

@@ -1,9 +1,8 @@
 -- Systems whose rules do the same alone have the same trials.
-use Rattle.std.proofs.Common.{◌≡◌, ℕ, ◌+◌, Bool, true, false, List, [], ◌∷◌, ◌++◌, Option, Some, None, refl, ap, ap₂, subst, ◌∙◌}
+use Rattle.std.proofs.Common.{◌≡◌, ℕ, ◌+◌, Bool, true, false, List, [], ◌∷◌, ◌++◌, Option, Some, None, refl, ap, subst, ◌∙◌}
 use Rattle.std.specs.Prelude.{if◌then◌else◌}
 use Rattle.std.proofs.lemmas.Option.{none-some}
 use Rattle.kw_bits.specs.BitVector.{BitVector}
-use Rattle.typed_core.specs.Alone.{after}
 use Rattle.typed_core.specs.Widths.{HaveWidths}
 use Rattle.typed_core.specs.declared.design.Node.{Node}
 use Rattle.typed_core.specs.declared.outcome.Alone.{Alone}

@@ -1,5 +1,5 @@
 -- Words and a source have an answer.
-use Rattle.std.proofs.Common.{◌≡◌, ◌⊎◌, ◌≤◌, ◌&&◌, ℕ, inl, inr, Bool, true, false, List, length, Option, Some, None, refl, ⊎_elim}
+use Rattle.std.proofs.Common.{◌≡◌, ◌⊎◌, ◌&&◌, ℕ, inl, inr, Bool, true, false, List, length, Option, Some, None, refl, ⊎_elim}
 use Rattle.std.specs.Prelude.{MatchOption}
 use Rattle.std.proofs.lemmas.Bool.{cases_lt}
 use Rattle.kw_base.specs.declared.fault.Fault.{Fault}
@@ -13,13 +13,14 @@ use Rattle.front_end.specs.declared.answer.Answer.TheVariants as plain_answers
 use Rattle.front_end.proofs.SomeSource.{spelled_or_fault}
 use Rattle.lab_top.specs.Answer.{Answers, lab, plain}
 use Rattle.lab_top.specs.Profile.{AnswersProfile, CountsRun}
-use Rattle.lab_top.specs.Runs.{asked_of, is_in_doubt, profile_in, why_text}
+use Rattle.lab_top.specs.Runs.{asked_of, is_in_doubt, profile_in, waves_in, why_text}
+use Rattle.lab_top.specs.Waves.{AnswersWaves}
 use Rattle.lab_top.specs.Why.{AnswersWhy, last_of}
 use Rattle.lab_top.specs.Words.{command_of}
 use Rattle.lab_top.specs.declared.answer.LabAnswer.{LabAnswer}
 use Rattle.lab_top.specs.declared.answer.LabAnswer.TheVariants.{Usage, Refused, Written, Failed}
 use Rattle.lab_top.specs.declared.words.Command.{Command}
-use Rattle.lab_top.specs.declared.words.Command.TheVariants.{Why, Profile}
+use Rattle.lab_top.specs.declared.words.Command.TheVariants.{Why, Profile, Waves}
 
 module _ (hosts : List HostSpec) (source : List ℕ) where
   -- the source has a run of that many cycles, or is refused
@@ -67,9 +68,19 @@ module _ (hosts : List HostSpec) (source : List ℕ) where
     profile_answer =
         ⊎_elim (λ run. ended run (is_strict && is_in_doubt run.0 (inputs_of run.1) cycles) refl) (λ none. (Refused none.0, none.1)) (run_or_fault cycles)
 
+  drawn : (cycles : ℕ) (run : IsRun cycles) → (answer : LabAnswer) × AnswersWaves hosts cycles source answer
+  drawn cycles run = (
+    Written (waves_in run.0 (inputs_of run.1) cycles),
+    record { design = run.0; stimulus = run.1; spelled = run.2; within = run.3; told = refl },
+  )
+
+  waves_answer : (cycles : ℕ) → (answer : LabAnswer) × AnswersWaves hosts cycles source answer
+  waves_answer cycles = ⊎_elim (λ run. drawn cycles run) (λ none. (Refused none.0, none.1)) (run_or_fault cycles)
+
 command_answer : (hosts : List HostSpec) (command : Command) (source : List ℕ) → (answer : LabAnswer) × Answers hosts command source answer
 command_answer hosts (Why cycle cycles name) source = why_answer hosts source cycle cycles name
 command_answer hosts (Profile cycles is_strict) source = profile_answer hosts source cycles is_strict
+command_answer hosts (Waves cycles) source = waves_answer hosts source cycles
 
 asked_answer : (hosts : List HostSpec) (command : Option Command) (source : List ℕ) → (answer : LabAnswer) × MatchOption command (plain answer ≡ plain_answers.Usage) (λ asked. Answers hosts asked source answer)
 asked_answer hosts None source = (Usage, refl)

@@ -1,10 +1,9 @@
 -- What `why` writes of a run, cycle by cycle.
-use Rattle.std.proofs.Common.{◌≡◌, ℕ, zero, suc, ◌+◌, ◌-◌, ◌≤◌, List, [], ◌∷◌, ◌++◌, Option, Result, Ok, Err, refl, sym, ap, ◌∙◌, append-nil, arith}
+use Rattle.std.proofs.Common.{◌≡◌, ℕ, zero, suc, ◌+◌, ◌-◌, ◌≤◌, List, ◌∷◌, ◌++◌, Option, Result, Ok, Err, sym, ap, ◌∙◌, append-nil, arith}
 use Rattle.std.specs.List.{flat_map, range_with_len}
 use Rattle.std.proofs.lemmas.Grind.{flat_map-append}
 use Rattle.koika_check.specs.declared.checked.Checked.{Checked}
 use Rattle.one_rule.specs.Run.{InputsByCycle}
-use Rattle.front_end.specs.Streams.{Stream}
 use Rattle.front_end.specs.Told.{Told}
 use Rattle.front_end.specs.declared.untold.Untold.{Untold}
 use Rattle.front_end.proofs.Told.{at, told-as, told-cut, told-then}

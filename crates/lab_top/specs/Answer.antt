@@ -1,5 +1,5 @@
--- What the lab answers to the words of its command line and to the bytes of its source, as a program. A command's own answers
--- are in the file of its name.
+-- What the lab answers to the words of its command line and to the bytes of its source, as a program. A command's own
+-- answers are in the file of its name.
 use Rattle.std.specs.Prelude.{ℕ, Bool, true, List, [], ◌∷◌, ◌++◌, codes, Option}
 use Rattle.kw_base.specs.declared.fault.Fault.{Fault}
 use Rattle.kw_bits.specs.declared.host.HostSpec.{HostSpec}
@@ -9,6 +9,7 @@ use Rattle.front_end.specs.declared.answer.Answer.TheVariants as plain_answers
 use Rattle.front_end.specs.declared.status.Status.{Status}
 use Rattle.front_end.specs.declared.status.Status.TheVariants as plain_statuses
 use Rattle.lab_top.specs.Profile.{AnswersProfile}
+use Rattle.lab_top.specs.Waves.{AnswersWaves}
 use Rattle.lab_top.specs.Why.{AnswersWhy}
 use Rattle.lab_top.specs.Words.{command_of}
 use Rattle.lab_top.specs.declared.answer.LabAnswer.{LabAnswer}
@@ -16,12 +17,13 @@ use Rattle.lab_top.specs.declared.answer.LabAnswer.TheVariants.{Usage, Refused, 
 use Rattle.lab_top.specs.declared.status.LabStatus.{LabStatus}
 use Rattle.lab_top.specs.declared.status.LabStatus.TheVariants as statuses
 use Rattle.lab_top.specs.declared.words.Command.{Command}
-use Rattle.lab_top.specs.declared.words.Command.TheVariants.{Why, Profile}
+use Rattle.lab_top.specs.declared.words.Command.TheVariants.{Why, Profile, Waves}
 
 -- the answer to a command, where these host functions are handed in
 abbrev pub Answers : List HostSpec → Command → List ℕ → LabAnswer → Type 0
 Answers hosts (Why cycle cycles name) source answer = AnswersWhy hosts cycle cycles name source answer
 Answers hosts (Profile cycles is_strict) source answer = AnswersProfile hosts cycles is_strict source answer
+Answers hosts (Waves cycles) source answer = AnswersWaves hosts cycles source answer
 
 abbrev pub usage_line : List ℕ
 usage_line = codes "usage: koika_lab why|profile|lint|waves|step|verilog|obligation|certify" ++ 10 ∷ []

@@ -3,6 +3,8 @@ pub mod Named
 pub mod Runs
 pub mod Why
 pub mod Profile
+pub mod Waves
 pub mod Answer
+pub mod Calls
 pub mod Numbers
 pub mod inner

@@ -1,6 +1,6 @@
--- A typed design's declarations, by which texts name registers, inputs and rules, in the form that the core's texts take.
--- What rules do is no part of it: their bodies are left empty.
-use Rattle.std.specs.Prelude.{ℕ, List, [], map}
+-- A typed design's declarations, by which texts name registers, inputs and rules, in the form that the core's texts
+-- take. What rules do is no part of it: their bodies are left empty.
+use Rattle.std.specs.Prelude.{[], map}
 use Rattle.typed_core.specs.declared.action.Action.TheVariants.{Unit as DoesNothing}
 use Rattle.typed_core.specs.declared.design.Parts.{Parts}
 use Rattle.typed_core.specs.declared.design.Rule.{Rule as CoreRule}
@@ -13,4 +13,11 @@ abbrev pub named : Rule → CoreRule
 named r = record { name = r.name; body = DoesNothing }
 
 abbrev pub declared : Checked → Parts
-declared d = record { regs = map register_of d.registers; inputs = map input_of d.inputs; tables = []; hosts = []; rules = map named d.rules; nodes = d.nodes }
+declared d = record {
+  regs = map register_of d.registers;
+  inputs = map input_of d.inputs;
+  tables = [];
+  hosts = [];
+  rules = map named d.rules;
+  nodes = d.nodes;
+}

@@ -20,11 +20,13 @@ pub record CountsRun (hosts : List HostSpec) (cycles : ℕ) (source text : List 
 
 -- a strict call fails where one is
 abbrev pub ShowsProfile : List HostSpec → ℕ → Bool → List ℕ → List ℕ → Bool → Type 0
-ShowsProfile hosts cycles is_strict source text fails = (in_doubt : Bool) × CountsRun hosts cycles source text in_doubt × (fails ≡ (is_strict && in_doubt))
+ShowsProfile hosts cycles is_strict source text fails =
+    (in_doubt : Bool) × CountsRun hosts cycles source text in_doubt × (fails ≡ (is_strict && in_doubt))
 
 -- the answer of `profile`
 abbrev pub AnswersProfile : List HostSpec → ℕ → Bool → List ℕ → LabAnswer → Type 0
 AnswersProfile hosts cycles is_strict source Usage = ⊥
-AnswersProfile hosts cycles is_strict source (Refused fault) = IsTooLong source fault ⊎ HasNoRun hosts cycles source fault
+AnswersProfile hosts cycles is_strict source (Refused fault) =
+    IsTooLong source fault ⊎ HasNoRun hosts cycles source fault
 AnswersProfile hosts cycles is_strict source (Written text) = ShowsProfile hosts cycles is_strict source text false
 AnswersProfile hosts cycles is_strict source (Failed text) = ShowsProfile hosts cycles is_strict source text true

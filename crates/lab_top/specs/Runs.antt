@@ -1,17 +1,19 @@
--- What the lab says of a run of a typed design: why its rules fired or didn't, cycle by cycle, and how often.
+-- What the lab says of a run of a typed design: why its rules fired or didn't, cycle by cycle, and how often; and its
+-- waves.
 use Rattle.std.specs.Prelude.{ℕ, ◌-◌, Bool, List, ◌++◌, length, map, Option, None, Some, option_map}
 use Rattle.std.specs.List.{flat_map, range_with_len}
 use Rattle.kw_bits.specs.BitVector.{BitVector}
 use Rattle.koika_check.specs.declared.checked.Checked.{Checked}
 use Rattle.one_rule.specs.Run.{InputsByCycle, last_registers}
 use Rattle.journal_check.specs.Tokens.{number_named}
-use Rattle.front_end.specs.Sources.{name_of}
+use Rattle.front_end.specs.Sources.{name_of, shape_of}
 use Rattle.front_end.specs.Systems.{first_values, run_of, system_of}
 use Rattle.lab_core.specs.Numbers.{Numbers, fails_strictly, numbers_of}
 use Rattle.lab_core.specs.Profiles.{profile_text}
 use Rattle.lab_core.specs.Trials.{trials}
 use Rattle.lab_core.specs.Why.{cycle_line, trials_text}
 use Rattle.lab_core.specs.declared.trial.Trial.{Trial}
+use Rattle.wave_text.specs.Waves.{dump}
 use Rattle.lab_top.specs.Named.{declared}
 
 -- the registers that a cycle of the run finds: those that the cycles before it leave
@@ -34,7 +36,8 @@ asked_of d (Some name) = option_map (λ rule. Some rule) (rule_named d name)
 -- what `why` writes of a cycle: its inputs and registers, and the trials in it, of all rules or of one
 abbrev pub text_in : Checked → Option ℕ → InputsByCycle → ℕ → List ℕ
 text_in d only inputs cycle =
-    cycle_line (declared d) cycle (inputs cycle) (registers_before d inputs cycle) ++ trials_text (declared d) only (trials_in d inputs cycle)
+    cycle_line (declared d) cycle (inputs cycle) (registers_before d inputs cycle)
+    ++ trials_text (declared d) only (trials_in d inputs cycle)
 
 -- and of that many cycles from this one on
 abbrev pub why_text : Checked → Option ℕ → InputsByCycle → ℕ → ℕ → List ℕ
@@ -51,3 +54,7 @@ profile_in d inputs n = profile_text (declared d) d.asserts (numbers_in d inputs
 -- some assertion was violated, or a cycle says nothing of it
 abbrev pub is_in_doubt : Checked → InputsByCycle → ℕ → Bool
 is_in_doubt d inputs n = fails_strictly d.asserts (numbers_in d inputs n)
+
+-- the value change dump of its first n cycles
+abbrev pub waves_in : Checked → InputsByCycle → ℕ → List ℕ
+waves_in d inputs n = dump (shape_of d) inputs (run_of d inputs n)

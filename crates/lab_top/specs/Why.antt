@@ -15,7 +15,8 @@ abbrev pub last_of : ℕ → ℕ → ℕ
 last_of cycle cycles = cycle + cycles - 1
 
 -- 90 where no rule has the name, else the source would be answered
-pub record NamesNoRule (hosts : List HostSpec) (last : ℕ) (name : Option (List ℕ)) (source : List ℕ) (fault : Fault) : Type 0 where
+pub record NamesNoRule (hosts : List HostSpec) (last : ℕ) (name : Option (List ℕ)) (source : List ℕ) (fault : Fault)
+    : Type 0 where
   pub is : fault ≡ fault_of_source 90
   pub design : Checked
   pub stimulus : InputVectors
@@ -24,7 +25,8 @@ pub record NamesNoRule (hosts : List HostSpec) (last : ℕ) (name : Option (List
   pub unknown : asked_of design name ≡ None
 
 -- the text says why the rules of the source's design, or one of them, fired or didn't, on the source's stimulus
-pub record ShowsWhy (hosts : List HostSpec) (cycle cycles : ℕ) (name : Option (List ℕ)) (source text : List ℕ) : Type 0 where
+pub record ShowsWhy (hosts : List HostSpec) (cycle cycles : ℕ) (name : Option (List ℕ)) (source text : List ℕ)
+    : Type 0 where
   pub design : Checked
   pub stimulus : InputVectors
   pub spelled : Spells hosts source design stimulus
@@ -37,6 +39,7 @@ pub record ShowsWhy (hosts : List HostSpec) (cycle cycles : ℕ) (name : Option 
 abbrev pub AnswersWhy : List HostSpec → ℕ → ℕ → Option (List ℕ) → List ℕ → LabAnswer → Type 0
 AnswersWhy hosts cycle cycles name source Usage = ⊥
 AnswersWhy hosts cycle cycles name source (Refused fault) =
-    (IsTooLong source fault ⊎ HasNoRun hosts (last_of cycle cycles) source fault) ⊎ NamesNoRule hosts (last_of cycle cycles) name source fault
+    (IsTooLong source fault ⊎ HasNoRun hosts (last_of cycle cycles) source fault)
+    ⊎ NamesNoRule hosts (last_of cycle cycles) name source fault
 AnswersWhy hosts cycle cycles name source (Written text) = ShowsWhy hosts cycle cycles name source text
 AnswersWhy hosts cycle cycles name source (Failed text) = ⊥

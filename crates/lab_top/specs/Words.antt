@@ -1,12 +1,13 @@
--- Which arguments of the lab are valid, as words of the command line, and what they ask for. The program's own name isn't
--- among them. This project's own.
-use Rattle.std.specs.Prelude.{ℕ, ◌&&◌, ◌||◌, ◌==◌, nat_le, Bool, true, false, List, [], ◌∷◌, codes, take, drop, Option, Some, None, unwrap_or, if◌then◌else◌}
+-- Which arguments of the lab are valid, as words of the command line, and what they ask for. The program's own name
+-- isn't among them. This project's own.
+use Rattle.std.specs.Prelude.{ℕ, ◌&&◌, ◌||◌, ◌==◌, nat_le, Bool, true, false, if◌then◌else◌}
+use Rattle.std.specs.Prelude.{List, [], ◌∷◌, codes, take, drop, Option, Some, None, unwrap_or}
 use Rattle.std.specs.List.{list_all}
 use Rattle.std.specs.Char.{is_ascii_alphabetic, is_ascii_digit}
 use Rattle.std.specs.Str.{bytes_eq}
 use Rattle.front_end.specs.NumberWords.{number_of}
 use Rattle.lab_top.specs.declared.words.Command.{Command}
-use Rattle.lab_top.specs.declared.words.Command.TheVariants.{Why, Profile}
+use Rattle.lab_top.specs.declared.words.Command.TheVariants.{Why, Profile, Waves}
 use Rattle.lab_top.specs.declared.words.Options.{Options}
 
 -- a name begins with an ASCII letter or `_`, and goes on with these and digits
@@ -61,7 +62,8 @@ asked_flag true = Some true
 -- options, if they are valid, with `--strict`
 abbrev pub with_strict : Option Options → Option Options
 with_strict None = None
-with_strict (Some options) = given_once (asked_flag options.is_strict) (λ strict. record options { is_strict = strict }) (Some true)
+with_strict (Some options) =
+    given_once (asked_flag options.is_strict) (λ strict. record options { is_strict = strict }) (Some true)
 
 -- the other options, if they are valid, with one that is a word of its own
 abbrev pub with_word : List ℕ → Option Options → Option Options
@@ -104,10 +106,20 @@ abbrev pub profile_of : Option Options → Option Command
 profile_of None = None
 profile_of (Some options) = profile_by options.cycle options.cycles options.rule options.is_strict
 
+-- `waves` with options: the cycles have to be given, and nothing else is
+abbrev pub waves_by : Option ℕ → Option ℕ → Option (List ℕ) → Bool → Option Command
+waves_by None (Some cycles) None false = Some (Waves cycles)
+waves_by cycle cycles rule is_strict = None
+
+abbrev pub waves_of : Option Options → Option Command
+waves_of None = None
+waves_of (Some options) = waves_by options.cycle options.cycles options.rule options.is_strict
+
 -- the command that words ask for; no other words are valid
 abbrev pub command_of : List (List ℕ) → Option Command
 command_of [] = None
 command_of (word ∷ rest) =
     if bytes_eq word (codes "why") then why_of (options_of rest)
     else if bytes_eq word (codes "profile") then profile_of (options_of rest)
+    else if bytes_eq word (codes "waves") then waves_of (options_of rest)
     else None

@@ -2,3 +2,4 @@
 pub mod Given
 pub mod Registers
 pub mod Steps
+pub mod Waves

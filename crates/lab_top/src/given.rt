@@ -64,7 +64,8 @@ fn bare<'a>(alloc: Global, name: &'a str) -> Command<'a>
 
 // The options that were found.
 fn options_in(alloc: Global, matches: &ArgMatches<'_>) -> Result<Options, NoMemory>
-    ensures { IfOk result (λ found. (options : AnyOptions) → Give (rows_of (found_of matches.now)) options → found ≡ options) }
+    ensures { IfOk result (λ found.
+        (options : AnyOptions) → Give (rows_of (found_of matches.now)) options → found ≡ options) }
 {
     Ok(Options {
         cycle: number_in(matches, "cycle"),

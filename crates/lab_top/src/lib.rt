@@ -1,7 +1,9 @@
-//! The lab: arguments and a source's bytes in, a text or a refusal out. It says why rules fire or don't.
+//! The lab: arguments and a source's bytes in, a text or a refusal out. It says why rules fire or don't, and writes
+//! waves.
 //!
-//! `specs/Answer.antt` says what the lab is as a program: its words, its answers and its statuses. The clauses of `lab` are
-//! those of every program (`front_end`, `specs/Calls.antt`). The lab's `main` calls `lab`, which is proved to return.
+//! `specs/Answer.antt` says what the lab is as a program: its words, its answers and its statuses. `specs/Calls.antt`
+//! says what is promised of each call: what `front_end` says of every program, and by which words a call fails. The
+//! lab's `main` calls `lab`, which is proved to return.
 #![tactic(auto)]
 
 mod answer;
@@ -12,6 +14,7 @@ mod profile;
 mod program;
 mod runs;
 mod status;
+mod waves;
 mod why;
 mod words;
 

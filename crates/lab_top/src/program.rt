@@ -1,19 +1,22 @@
 //! Commands: the call of the lab, and what each command does.
 
-ghost use Rattle.std.specs.Prelude.{◌≡◌, ◌≤◌, List, ℕ, Some, [], IfSome, map, string_bytes, length};
+ghost use Rattle.std.specs.Prelude.{◌≡◌, ◌≢◌, ◌≤◌, Some, [], true, IfSome, map, string_bytes, length};
 ghost use Rattle.kw_bits.specs.Faults.{Rose};
 ghost use Rattle.one_rule.specs.Hosts.{host_specs};
-ghost use Rattle.front_end.specs.Calls.{CountsReadFault, CountsWriteFault, HasStatusOfAnswer, IsKept, LeavesUnread, ReadsAll, RejectsWords, WritesFaultLine, WritesFront, WritesNothing, WritesRefusal, WritesSomeFront, WritesText, WritesUsage, WritesUsageFront, call};
+ghost use Rattle.front_end.specs.Calls.{call};
 ghost use Rattle.front_end.specs.Sources.{longest_source};
 ghost use Rattle.front_end.specs.Streams.{stream};
 ghost use Rattle.front_end.specs.inner.Steps.{IsReply, Tells, TellsRead};
 ghost use Rattle.lab_top.specs.Answer.{Answers, ends, lab, plain};
+ghost use Rattle.lab_top.specs.Calls.{IsKept};
 ghost use Rattle.lab_top.specs.Profile.{AnswersProfile};
+ghost use Rattle.lab_top.specs.Waves.{AnswersWaves};
 ghost use Rattle.lab_top.specs.Why.{AnswersWhy};
-ghost use Rattle.lab_top.specs.inner.Steps.{HasSomeCycles};
+ghost use Rattle.lab_top.specs.inner.Steps.{FailsBy, HasSomeCycles};
 
 use crate::profile::count_source;
 use crate::status::LabStatus;
+use crate::waves::WavesRun;
 use crate::why::WhyRun;
 use crate::words::{Command, command_of};
 use front_end::{Status, fault_of_source, status_by, write_fault, write_refusal, write_text};
@@ -30,9 +33,9 @@ const USAGE_LINE: &[u8] =
 // A source may have this many bytes.
 const LONGEST_SOURCE: usize = 1_048_576;
 
-/// Runs the lab on its arguments, without the program's own name: reads the source if the arguments are valid, and writes
-/// the answer to the sink. Designs may declare the host functions. The clauses on content hold where the bytes that the
-/// source has left, or that were written to the sink, are known; `front_end`'s `specs/Calls.antt` has each clause in words.
+/// Runs the lab on its arguments, without the program's own name: reads the source if the arguments are valid, and
+/// writes the answer to the sink. Designs may declare the host functions. The clauses on content hold where the bytes
+/// that the source has left, or that were written to the sink, are known; `specs/Calls.antt` has each clause in words.
 /// It is proved to return.
 pub fn lab<S: Source, K: Sink>(
     alloc: Global,
@@ -41,42 +44,7 @@ pub fn lab<S: Source, K: Sink>(
     source: &mut S,
     sink: &mut K,
 ) -> LabStatus
-    // Status 0 and status 8.
-    ensures done { WritesText lab (call (map string_bytes words.now) (host_specs hosts.now)
-        (stream S.left S.faults source.old source.new) (stream K.written K.faults sink.old sink.new) result) }
-    ensures whole { ReadsAll lab (call (map string_bytes words.now) (host_specs hosts.now)
-        (stream S.left S.faults source.old source.new) (stream K.written K.faults sink.old sink.new) result) }
-
-    // Status 1.
-    ensures usage { WritesUsage lab (call (map string_bytes words.now) (host_specs hosts.now)
-        (stream S.left S.faults source.old source.new) (stream K.written K.faults sink.old sink.new) result) }
-    ensures usage_only { RejectsWords lab (call (map string_bytes words.now) (host_specs hosts.now)
-        (stream S.left S.faults source.old source.new) (stream K.written K.faults sink.old sink.new) result) }
-    ensures usage_front { WritesUsageFront lab (call (map string_bytes words.now) (host_specs hosts.now)
-        (stream S.left S.faults source.old source.new) (stream K.written K.faults sink.old sink.new) result) }
-    ensures unread { LeavesUnread lab (source.new ≡ source.old) (call (map string_bytes words.now) (host_specs hosts.now)
-        (stream S.left S.faults source.old source.new) (stream K.written K.faults sink.old sink.new) result) }
-
-    // Status 2.
-    ensures refused { WritesRefusal lab (call (map string_bytes words.now) (host_specs hosts.now)
-        (stream S.left S.faults source.old source.new) (stream K.written K.faults sink.old sink.new) result) }
-    ensures refused_line { WritesFaultLine lab (call (map string_bytes words.now) (host_specs hosts.now)
-        (stream S.left S.faults source.old source.new) (stream K.written K.faults sink.old sink.new) result) }
-
-    // Every status.
-    ensures exact { HasStatusOfAnswer lab (call (map string_bytes words.now) (host_specs hosts.now)
-        (stream S.left S.faults source.old source.new) (stream K.written K.faults sink.old sink.new) result) }
-    ensures front { WritesFront lab (call (map string_bytes words.now) (host_specs hosts.now)
-        (stream S.left S.faults source.old source.new) (stream K.written K.faults sink.old sink.new) result) }
-    ensures some { WritesSomeFront lab (call (map string_bytes words.now) (host_specs hosts.now)
-        (stream S.left S.faults source.old source.new) (stream K.written K.faults sink.old sink.new) result) }
-
-    // Status 3 and status 4.
-    ensures read_fault { CountsReadFault lab (call (map string_bytes words.now) (host_specs hosts.now)
-        (stream S.left S.faults source.old source.new) (stream K.written K.faults sink.old sink.new) result) }
-    ensures nothing_written { WritesNothing lab (call (map string_bytes words.now) (host_specs hosts.now)
-        (stream S.left S.faults source.old source.new) (stream K.written K.faults sink.old sink.new) result) }
-    ensures write_fault { CountsWriteFault lab (call (map string_bytes words.now) (host_specs hosts.now)
+    ensures { IsKept (source.new ≡ source.old) (call (map string_bytes words.now) (host_specs hosts.now)
         (stream S.left S.faults source.old source.new) (stream K.written K.faults sink.old sink.new) result) }
 {
     answer_words(alloc, words, hosts, source, sink)
@@ -90,7 +58,7 @@ fn answer_words<S: Source, K: Sink>(
     source: &mut S,
     sink: &mut K,
 ) -> LabStatus
-    ensures { IsKept lab (source.new ≡ source.old) (call (map string_bytes words.now) (host_specs hosts.now)
+    ensures { IsKept (source.new ≡ source.old) (call (map string_bytes words.now) (host_specs hosts.now)
         (stream S.left S.faults source.old source.new) (stream K.written K.faults sink.old sink.new) result) }
 {
     match command_of(alloc, words) {
@@ -116,6 +84,7 @@ fn answer_source<S: Source, K: Sink>(
         (Answers (host_specs hosts.now) command) (stream K.written K.faults sink.old sink.new) result }
     ensures whole { ends result ≡ Status.Done → IfSome (S.left source.old) (λ _. S.left source.new ≡ Some []) }
     ensures read_fault { ends result ≡ Status.ReadFault → Rose (S.faults source.old) (S.faults source.new) }
+    ensures fails { FailsBy command result }
 {
     match read_all(alloc, source, LONGEST_SOURCE) {
         Ok(bytes) => answer_bytes(alloc, command, hosts, &bytes, sink),
@@ -139,8 +108,9 @@ fn answer_bytes<K: Sink>(
 ) -> LabStatus
     requires short { length source.now ≤ longest_source }
     requires some { HasSomeCycles command }
-    ensures { Tells lab (Answers (host_specs hosts.now) command source.now)
+    ensures tells { Tells lab (Answers (host_specs hosts.now) command source.now)
         (stream K.written K.faults sink.old sink.new) result }
+    ensures fails { FailsBy command result }
 {
     match command {
         Command::Why {
@@ -151,6 +121,7 @@ fn answer_bytes<K: Sink>(
         Command::Profile { cycles, is_strict } => {
             profile(alloc, cycles, is_strict, hosts, source, sink)
         }
+        Command::Waves { cycles } => draw(alloc, cycles, hosts, source, sink),
     }
 }
 
@@ -167,8 +138,9 @@ fn explain<K: Sink>(
     requires short { length source.now ≤ longest_source }
     requires first { 1 ≤ cycle }
     requires some { 1 ≤ cycles }
-    ensures { Tells lab (AnswersWhy (host_specs hosts.now) cycle cycles name source.now)
+    ensures tells { Tells lab (AnswersWhy (host_specs hosts.now) cycle cycles name source.now)
         (stream K.written K.faults sink.old sink.new) result }
+    ensures fails { result ≢ LabStatus.Failed }
 {
     match WhyRun::read(alloc, cycle, cycles, name, hosts, source) {
         Ok(run) => LabStatus::of(status_by(run.write(alloc, sink), Status::Done), false),
@@ -186,14 +158,34 @@ fn profile<K: Sink>(
     sink: &mut K,
 ) -> LabStatus
     requires { length source.now ≤ longest_source }
-    ensures { Tells lab (AnswersProfile (host_specs hosts.now) cycles is_strict source.now)
+    ensures tells { Tells lab (AnswersProfile (host_specs hosts.now) cycles is_strict source.now)
         (stream K.written K.faults sink.old sink.new) result }
+    ensures fails { result ≡ LabStatus.Failed → is_strict ≡ true }
 {
     match count_source(alloc, cycles, hosts, source) {
         Ok(counted) => {
             let ended = status_by(write_text(sink, counted.text.as_slice()), Status::Done);
             LabStatus::of(ended, counted.fails(is_strict))
         }
+        Err(refusal) => LabStatus::of(write_refusal(alloc, refusal, sink), false),
+    }
+}
+
+// Writes the waves of the source's run, or the line of the source's fault.
+fn draw<K: Sink>(
+    alloc: Global,
+    cycles: u32,
+    hosts: &[HostFn],
+    source: &[u8],
+    sink: &mut K,
+) -> LabStatus
+    requires { length source.now ≤ longest_source }
+    ensures tells { Tells lab (AnswersWaves (host_specs hosts.now) cycles source.now)
+        (stream K.written K.faults sink.old sink.new) result }
+    ensures fails { result ≢ LabStatus.Failed }
+{
+    match WavesRun::read(alloc, cycles, hosts, source) {
+        Ok(run) => LabStatus::of(status_by(run.write(alloc, sink), Status::Done), false),
         Err(refusal) => LabStatus::of(write_refusal(alloc, refusal, sink), false),
     }
 }

@@ -29,8 +29,8 @@ use one_rule::{Externs, Regs, Stimulus};
 use std::alloc::Global;
 use typed_core::Design;
 
-/// What is asked of a run: that many of its cycles from one on, and the rule that is asked for, or none where it is all of
-/// them.
+/// What is asked of a run: that many of its cycles from one on, and the rule that is asked for, or none where it is all
+/// of them.
 #[derive(Drop)]
 pub(crate) struct WhyRun {
     pub(crate) lowered: Lowered,
@@ -109,13 +109,13 @@ impl WhyRun {
         sink: &mut K,
     ) -> Result<(), Untold>
         requires first { 1 ≤ cycle }
-        requires registers { regs.old
-            ≡ registers_after (arc_value self.now.lowered.design) (inputs_of (arc_value self.now.lowered.stimulus)) (cycle - 1) }
+        requires registers { regs.old ≡ registers_after
+            (arc_value self.now.lowered.design) (inputs_of (arc_value self.now.lowered.stimulus)) (cycle - 1) }
         ensures told { Told
             (text_in self.now.lowered.checked self.now.only (inputs_of (arc_value self.now.lowered.stimulus)) cycle)
             (stream K.written K.faults sink.old sink.new) result }
-        ensures registers { OnOk result (regs.new
-            ≡ registers_after (arc_value self.now.lowered.design) (inputs_of (arc_value self.now.lowered.stimulus)) cycle) }
+        ensures registers { OnOk result (regs.new ≡ registers_after
+            (arc_value self.now.lowered.design) (inputs_of (arc_value self.now.lowered.stimulus)) cycle) }
     {
         let design: &Design = &self.lowered.design;
         let externs: &Externs = &self.lowered.externs;

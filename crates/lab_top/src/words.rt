@@ -3,7 +3,9 @@
 ghost use Rattle.std.specs.Prelude.{◌≡◌, Some, map, string_bytes, IfOk, IfSome};
 ghost use Rattle.std.specs.List.{list_all};
 ghost use Rattle.lab_top.specs.inner.Steps.{HasSomeCycles};
-ghost use Rattle.lab_top.specs.Words.{begins_name, command_of, continues_name, is_name, name_of, options_of, profile_of, why_from, why_of, with_cycle, with_cycles, with_name, with_rule, with_strict, with_word};
+ghost use Rattle.lab_top.specs.Words.{begins_name, command_of, continues_name, is_name, name_of, options_of};
+ghost use Rattle.lab_top.specs.Words.{profile_of, waves_of, why_from, why_of};
+ghost use Rattle.lab_top.specs.Words.{with_cycle, with_cycles, with_name, with_rule, with_strict, with_word};
 
 use crate::given::read_options;
 use front_end::number_of;
@@ -23,6 +25,10 @@ pub enum Command {
     Profile {
         cycles: u32,
         is_strict: bool,
+    },
+    /// The waves of a run of that many cycles.
+    Waves {
+        cycles: u32,
     },
 }
 
@@ -49,6 +55,9 @@ pub(crate) fn command_of(alloc: Global, words: &[String]) -> Result<Option<Comma
         }
         [command, options @ ..] if command.as_str() == "profile" => {
             Ok(profile_of(given(alloc, "profile", options)?))
+        }
+        [command, options @ ..] if command.as_str() == "waves" => {
+            Ok(waves_of(given(alloc, "waves", options)?))
         }
         _ => Ok(None),
     }
@@ -114,6 +123,20 @@ fn profile_of(options: Option<Options>) -> Option<Command>
     Some(Command::Profile {
         cycles: options.cycles?,
         is_strict: options.is_strict,
+    })
+}
+
+// `waves` with options, if they are valid: it needs the cycles, and takes nothing else.
+fn waves_of(options: Option<Options>) -> Option<Command>
+    ensures command { result ≡ waves_of options }
+    ensures some { IfSome result HasSomeCycles }
+{
+    let options = options?;
+    if options.cycle.is_some() || options.rule.is_some() || options.is_strict {
+        return None;
+    }
+    Some(Command::Waves {
+        cycles: options.cycles?,
     })
 }
 

@@ -32,7 +32,8 @@ strict_rule = flag_rule (codes "strict")
 
 -- the options of a command
 abbrev pub options_app : Text → App
-options_app name = with_rule (with_rule (with_rule (with_rule (bare name) cycle_rule) cycles_rule) name_rule) strict_rule
+options_app name =
+    with_rule (with_rule (with_rule (with_rule (bare name) cycle_rule) cycles_rule) name_rule) strict_rule
 
 -- the number that the first value of an argument writes
 abbrev pub number_in : Text → List Row → Option ℕ

@@ -1,5 +1,5 @@
 -- How the lab ends and answers where what is shared by programs ended and answered so.
-use Rattle.std.specs.Prelude.{ℕ, ◌≤◌, ⊤, List, Bool, true, false}
+use Rattle.std.specs.Prelude.{◌≡◌, ℕ, ◌≤◌, ⊤, List, Bool, true, false}
 use Rattle.front_end.specs.declared.answer.Answer.{Answer}
 use Rattle.front_end.specs.declared.answer.Answer.TheVariants as plain_answers
 use Rattle.front_end.specs.declared.status.Status.{Status}
@@ -9,7 +9,7 @@ use Rattle.lab_top.specs.declared.answer.LabAnswer.TheVariants.{Usage, Refused, 
 use Rattle.lab_top.specs.declared.status.LabStatus.{LabStatus}
 use Rattle.lab_top.specs.declared.status.LabStatus.TheVariants as statuses
 use Rattle.lab_top.specs.declared.words.Command.{Command}
-use Rattle.lab_top.specs.declared.words.Command.TheVariants.{Why, Profile}
+use Rattle.lab_top.specs.declared.words.Command.TheVariants.{Why, Profile, Waves}
 
 -- done, or a failure
 abbrev pub done_if : Bool → LabStatus
@@ -40,3 +40,8 @@ answer_if fails (plain_answers.Written text) = text_if fails text
 abbrev pub HasSomeCycles : Command → Type 0
 HasSomeCycles (Why cycle cycles name) = (1 ≤ cycle) × (1 ≤ cycles)
 HasSomeCycles (Profile cycles is_strict) = ⊤
+HasSomeCycles (Waves cycles) = ⊤
+
+-- a call fails only by a strict profile
+abbrev pub FailsBy : Command → LabStatus → Type 0
+FailsBy command result = result ≡ statuses.Failed → (cycles : ℕ) × (command ≡ Profile cycles true)

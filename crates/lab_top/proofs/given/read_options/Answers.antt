@@ -1,6 +1,5 @@
 use Rattle.std.proofs.Common.{◌≡◌, ◌∙◌, IfOk, Option, Some, Result, Ok, Err, ap, map, string_bytes, subst, sym}
 use Rattle.clap.specs.Words.{is_simple, matches_of, takes}
-use Rattle.clap.specs.Walk.{Row}
 use Rattle.lab_top.specs.Words.{options_of}
 use Rattle.lab_top.specs.inner.Given.{Give}
 use Rattle.lab_top.specs.declared.words.Options.{Options}

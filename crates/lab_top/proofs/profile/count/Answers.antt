@@ -1,12 +1,10 @@
 use Rattle.std.proofs.Common.{◌≡◌, ◌+◌, List, [], ◌∷◌, ◌++◌, length, ℕ, ap, sym, subst, ◌∙◌, arith}
-use Rattle.kw_bits.specs.BitVector.{BitVector}
 use Rattle.one_rule.specs.Cycle.{cycle, system_of}
 use Rattle.one_rule.specs.Run.{first_values}
 use Rattle.one_rule.specs.Stimulus.{inputs_of}
 use Rattle.typed_core.specs.Widths.{HaveWidths, register_widths}
-use Rattle.lab_core.specs.Numbers.{Numbers, numbers_of}
+use Rattle.lab_core.specs.Numbers.{numbers_of}
 use Rattle.lab_core.specs.Trials.{trials}
-use Rattle.lab_core.specs.declared.trial.Trial.{Trial}
 use Rattle.lab_top.specs.Runs.{numbers_in}
 use Rattle.lab_top.proofs.Counts.{numbers-cycles, numbers-first, numbers-next, numbers-rules}
 use Rattle.lab_top.proofs.LabRuns.{core-fit, stimulus-fit, stimulus-wide}

@@ -5,13 +5,14 @@ use Rattle.front_end.proofs.Told.{keeps-known}
 use Rattle.lab_top.specs.Answer.{lab}
 use Rattle.lab_top.specs.declared.answer.LabAnswer.TheVariants.{Refused}
 use Rattle.lab_top.proofs.Answering.{definite}
+use Rattle.lab_top.proofs.Failing.{never-failed}
 use Rattle.lab_top.proofs.Reading.{refuses-long}
 use Rattle.lab_top.proofs.Telling.{fault-told}
 use Rattle.lab_top.proofs.program.answer_source.Goals as goal
 
 pub returns-in-Ok-clause-tells : goal.returns-in-Ok-clause-tells
 returns-in-Ok-clause-tells g c =
-    tells-read lab definite (host_specs c.args.hosts.now) c.args.command _ _ _ _ _ c.in-Ok.ensures.all (rw (← c.deref.ensures.value) c.answer_bytes.ensures)
+    tells-read lab definite (host_specs c.args.hosts.now) c.args.command _ _ _ _ _ c.in-Ok.ensures.all (rw (← c.deref.ensures.value) c.answer_bytes.ensures.tells)
 
 pub returns-in-Ok-clause-whole : goal.returns-in-Ok-clause-whole
 returns-in-Ok-clause-whole g c done = nothing-left _ _ _ c.in-Ok.ensures.all
@@ -25,3 +26,7 @@ returns-in-Err-TooLong-clause-tells g c =
 
 pub returns-in-Err-Fault-clause-tells : goal.returns-in-Err-Fault-clause-tells
 returns-in-Err-Fault-clause-tells g c = inr (keeps-known _, inl refl)
+
+pub returns-in-Err-TooLong-clause-fails : goal.returns-in-Err-TooLong-clause-fails
+returns-in-Err-TooLong-clause-fails g c failed =
+    absurd (never-failed c.status_by-ended.result _ c.of.ensures failed)

@@ -8,12 +8,13 @@ use Rattle.lab_top.specs.Runs.{why_text}
 use Rattle.lab_top.specs.Why.{AnswersWhy}
 use Rattle.lab_top.specs.declared.answer.LabAnswer.TheVariants.{Written}
 use Rattle.lab_top.proofs.Answering.{embeds}
+use Rattle.lab_top.proofs.Failing.{never-failed}
 use Rattle.lab_top.proofs.Reading.{shows-why}
 use Rattle.lab_top.proofs.Telling.{text-told}
 use Rattle.lab_top.proofs.program.explain.Goals as goal
 
-pub returns-in-Ok : goal.returns-in-Ok
-returns-in-Ok g c =
+pub returns-in-Ok-clause-tells : goal.returns-in-Ok-clause-tells
+returns-in-Ok-clause-tells g c =
     let run = c.in-Ok.run' in
     let is = c.in-Ok.ensures in
     let text = why_text run.lowered.checked run.only (inputs_of (arc_value run.lowered.stimulus)) run.cycle run.cycles in
@@ -23,7 +24,13 @@ returns-in-Ok g c =
       text-told _ c.write.result c.status_by.result _ false text c.write.ensures c.status_by.ensures c.of.ensures,
     )
 
-pub returns-in-Err : goal.returns-in-Err
-returns-in-Err g c =
+pub returns-in-Ok-clause-fails : goal.returns-in-Ok-clause-fails
+returns-in-Ok-clause-fails g c failed = never-failed c.status_by.result _ c.of.ensures failed
+
+pub returns-in-Err-clause-tells : goal.returns-in-Err-clause-tells
+returns-in-Err-clause-tells g c =
     rw c.of-in-Err.ensures
     (tells-refusal lab (embeds false) (AnswersWhy (host_specs c.args.hosts.now) c.args.cycle c.args.cycles c.args.name c.args.source.now) _ _ c.in-Err.refusal c.in-Err.ensures.refused c.write_refusal.ensures)
+
+pub returns-in-Err-clause-fails : goal.returns-in-Err-clause-fails
+returns-in-Err-clause-fails g c failed = never-failed c.write_refusal.result _ c.of-in-Err.ensures failed

@@ -1,4 +1,4 @@
-use Rattle.std.proofs.Common.{◌≡◌, List, Option, Some, None, ap, sym, ◌∙◌}
+use Rattle.std.proofs.Common.{◌≡◌, Some, None, ap, sym, ◌∙◌}
 use Rattle.lab_core.specs.Why.{rule_named}
 use Rattle.lab_top.specs.Runs.{asked_of}
 use Rattle.lab_top.proofs.LabRuns.{asked-none, asked-some}

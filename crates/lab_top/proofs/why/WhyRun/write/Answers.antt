@@ -1,9 +1,7 @@
-use Rattle.std.proofs.Common.{◌≡◌, ◌+◌, ◌-◌, ◌≤◌, ℕ, sym, ap, subst, ◌∙◌, arith}
+use Rattle.std.proofs.Common.{◌≡◌, ◌+◌, ◌-◌, ap, ◌∙◌, arith}
 use Rattle.std.proofs.lemmas.Result.{err_from_is_err_and}
 use Rattle.std.specs.Arc.{arc_value}
-use Rattle.std.specs.Prelude.{length}
 use Rattle.one_rule.specs.Stimulus.{inputs_of}
-use Rattle.front_end.proofs.FewCycles.{few-cycles}
 use Rattle.front_end.proofs.Told.{told-as, told-empty, told-none}
 use Rattle.lab_top.specs.Runs.{why_text}
 use Rattle.lab_top.specs.inner.Registers.{registers_after}

@@ -1,6 +1,5 @@
 use Rattle.std.proofs.Common.{◌≡◌, ◌-◌, List, ℕ, ap, sym, subst, ◌∙◌}
 use Rattle.std.specs.Arc.{arc_value}
-use Rattle.kw_bits.specs.BitVector.{BitVector}
 use Rattle.one_rule.specs.Cycle.{cycle, system_of}
 use Rattle.one_rule.specs.Run.{first_values}
 use Rattle.one_rule.specs.Stimulus.{AlwaysFits, InputVectors, inputs_of}
