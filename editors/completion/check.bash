@@ -20,12 +20,12 @@ try() {
         echo "wrong: $* is completed by ${COMPREPLY[*]}, and not by $wanted"
     }
 }
-try "check print sim compile btorsim gen aiger aigsim recheck why profile help --help --version --unproved" koika ""
+try "check print sim compile btorsim gen aiger aigsim recheck why profile waves help --help --version --unproved" koika ""
 try "check compile" koika c
 try "aiger aigsim" koika a
 try "recheck" koika r
 try "--help --version --unproved" koika "--"
-try "check print sim compile btorsim gen aiger aigsim recheck why profile" koika help ""
+try "check print sim compile btorsim gen aiger aigsim recheck why profile waves" koika help ""
 try "--cycles --summary --engine --workers --journal" koika sim "--"
 try "--summary --engine --workers --journal" koika sim --cycles 4 "--"
 try "--summary --engine --workers" koika sim --cycles 4 a.koika --journal "--"
@@ -39,6 +39,9 @@ try "--cycles --rule" koika why --cycle 3 "--"
 try "" koika why --rule ""
 try "--cycles --strict" koika profile "--"
 try "profile" koika pro
+try "--cycles" koika waves "--"
+try "a.koika b.koika parts" koika waves --cycles 4 ""
+try "waves" koika wa
 try "" koika check "--"
 try "a.koika b.koika parts" koika check ""
 try "a.koika b.koika parts --cycles" koika recheck ""
