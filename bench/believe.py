@@ -23,10 +23,12 @@ COMMANDS = {
     "gen": "pipeline",
     "why": "AnswersWhy",
     "profile": "AnswersProfile",
+    "waves": "AnswersWaves",
 }
 BEGINS_TYPE = r"^ *(?:pub(?:\([a-z]+\))? )?(?:struct|enum|const|type) "
 # The commands in the order in which docs/DEFINITIONS.md lists what they rest on: each brings what those before it don't.
-LISTED = ["sim", "compile", "why", "profile", "check", "print", "gen", "journal", "recheck", "aiger", "aigsim", "btorsim"]
+LISTED = ["sim", "compile", "why", "profile", "waves", "check", "print", "gen", "journal", "recheck", "aiger", "aigsim",
+          "btorsim"]
 PAGE = "docs/DEFINITIONS.md"
 # The lines of the page between which the order stands.
 BEGIN, END = "<!-- made by bench/believe.sh --page -->", "<!-- end of what is made -->"

@@ -460,6 +460,7 @@ LIMITS = {
     "bit weight, for `aiger` (`AIGER.md`)": ("aiger", lambda n: weighing((n + 127) // 128)),
     "cycles": ("sim --summary --cycles N", lambda n: "schedule { }"),
     "cycles of `profile`": ("profile --cycles N", lambda n: "schedule { }"),
+    "cycles of `waves`": ("waves --cycles N", lambda n: "schedule { }"),
     "the last cycle of `why`": ("why --cycles 2 --cycle LAST", lambda n: "schedule { }"),
     "cycles times one more than the weight, for a journal":
         ("sim --workers 1 --journal --cycles N", lambda n: "schedule { }"),
