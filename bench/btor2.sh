@@ -1,13 +1,13 @@
 #!/usr/bin/env bash
 # Measures what it costs to read, to accept and to print a BTOR2 file of ten megabytes in lines of 20 to 40 bytes, by
-# tests that make the text. It proves and builds the tests if need be, and is run by hand.
+# tests that make the text (bench/costs/library_tests). It proves and builds them in a copy of the tree if need be, and
+# is run by hand.
 set -eu
 cd "$(dirname "$0")/.."
 . bench/cost.sh
+. bench/costs.sh
 
-program=crates/library_tests/out/library_tests_tests
-# The kit builds tests by running them.
-[ "$program" -nt crates/library_tests/src/circuit_texts.rt ] || (cd crates/library_tests && rt test >/dev/null)
+program=$(measuring library_tests)
 
 # What the test's text has: its first lines, and then a line for each id.
 bytes=$(awk 'BEGIN {
@@ -23,13 +23,13 @@ bytes=$(awk 'BEGIN {
 
 # The kilobytes that a test takes at most.
 memory() {
-    /usr/bin/time -f %M "$program" "circuit_texts::ten_megabytes_$1" 2>&1 >/dev/null | tail -1
+    /usr/bin/time -f %M "$program" "text_costs::ten_megabytes_$1" 2>&1 >/dev/null | tail -1
 }
 
 echo "| a text of $bytes bytes is | $of_run | $of_part per byte, the making (and for printing the reading) aside | bytes of memory per byte, the text aside |"
 echo "|---|---|---|---|"
 for what in made read accepted printed; do
-    taken=$(cost /dev/null /dev/null "$program" "circuit_texts::ten_megabytes_$what")
+    taken=$(cost /dev/null /dev/null "$program" "text_costs::ten_megabytes_$what")
     kilobytes=$(memory "$what")
     if [ "$what" = made ]; then
         start=$taken least=$kilobytes

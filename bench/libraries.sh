@@ -1,17 +1,20 @@
 #!/usr/bin/env bash
 # Measures what libraries cost, by tests of several sizes: the tokens of a text, its tree, the numbers of names, the
-# nodes of a net and their evaluation. It proves and builds the tests if need be, and is run by hand.
+# nodes of a net and their evaluation (bench/costs/syntax_tests and library_tests). It proves and builds the tests in
+# a copy of the tree if need be, and is run by hand.
 set -eu
 cd "$(dirname "$0")/.."
 . bench/cost.sh
+. bench/costs.sh
+
+declare -A programs
+programs[syntax_tests]=$(measuring syntax_tests)
+programs[library_tests]=$(measuring library_tests)
 
 echo "| what | how many | $of_run | $of_part for each, the making of them included |"
 echo "|---|---|---|---|"
 while IFS=: read -r crate what many module test; do
-    program=crates/$crate/out/${crate}_tests
-    # The kit builds tests by running them.
-    [ "$program" -nt "crates/$crate/src/$module.rt" ] || (cd "crates/$crate" && rt test >/dev/null)
-    taken=$(cost /dev/null /dev/null "$program" "$module::$test")
+    taken=$(cost /dev/null /dev/null "${programs[$crate]}" "$module::$test")
     echo "| $what | $many | $(columns "$taken" 0 "$many") |"
 done <<'TESTS'
 syntax_tests:bytes of a text, cut into tokens:262144:costs:a_quarter_of_a_megabyte
@@ -33,7 +36,7 @@ TESTS
 
 # The kilobytes that a test takes at most.
 memory() {
-    command time -o "$room/memory" -f %M crates/library_tests/out/library_tests_tests "circuit_costs::$1" >/dev/null
+    command time -o "$room/memory" -f %M "${programs[library_tests]}" "circuit_costs::$1" >/dev/null
     tail -n 1 "$room/memory"
 }
 

@@ -1,13 +1,12 @@
 #!/usr/bin/env bash
-# Measures what it costs to print a tree, for each byte of its text, by tests of syntax_tests that print the same tree
-# once and eleven times. It proves and builds the tests if need be, and is run by hand.
+# Measures what it costs to print a tree, for each byte of its text, by tests that print the same tree once and eleven
+# times (bench/costs/syntax_tests). It proves and builds them in a copy of the tree if need be, and is run by hand.
 set -eu
 cd "$(dirname "$0")/.."
 . bench/cost.sh
+. bench/costs.sh
 
-program=crates/syntax_tests/out/syntax_tests_tests
-# The kit builds tests by running them.
-[ "$program" -nt crates/syntax_tests/src/costs.rt ] || (cd crates/syntax_tests && rt test >/dev/null)
+program=$(measuring syntax_tests)
 
 echo "| what | bytes, ten texts | $of_run | $of_part for each byte, the making of the tree aside |"
 echo "|---|---|---|---|"

@@ -1,13 +1,12 @@
 #!/usr/bin/env bash
-# Measures what it costs to write reports and to read stimuli, for each byte, by tests of library_tests that do the same
-# once and more often. It proves and builds the tests if need be, and is run by hand.
+# Measures what it costs to write reports and to read stimuli, for each byte, by tests that do the same once and more
+# often (bench/costs/library_tests). It proves and builds them in a copy of the tree if need be, and is run by hand.
 set -eu
 cd "$(dirname "$0")/.."
 . bench/cost.sh
+. bench/costs.sh
 
-program=crates/library_tests/out/library_tests_tests
-# The kit builds tests by running them.
-[ "$program" -nt crates/library_tests/src/report_costs.rt ] || (cd crates/library_tests && rt test >/dev/null)
+program=$(measuring library_tests)
 
 echo "| what | bytes | $of_run | $of_part for each byte, the start aside |"
 echo "|---|---|---|---|"

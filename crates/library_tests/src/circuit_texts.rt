@@ -1,18 +1,17 @@
-//! Circuit texts, run line by line, and what long ones cost, which `bench/btor2.sh` counts.
+//! Circuit texts, run line by line.
 
 ghost use Rattle.std.specs.Prelude.{IfOk};
 ghost use Rattle.btor2_text.specs.Printable.{ArePrintable};
 
 use btor2_model::{accept, slow_run};
-use btor2_text::{Lines, print_lines, read_lines};
-use kw_bits::Text;
+use btor2_text::{Lines, read_lines};
 use one_rule::Stimulus;
 use std::alloc::Global;
 use std::process::Abort;
 use std::test::Fail;
 
-// The lines of a text that has no fault.
-fn lines_of(alloc: Global, text: &[u8]) -> Result<Lines, Fail>
+/// The lines of a text that has no fault.
+pub(crate) fn lines_of(alloc: Global, text: &[u8]) -> Result<Lines, Fail>
     ensures { IfOk result ArePrintable }
 {
     match read_lines(alloc, text) {
@@ -65,53 +64,4 @@ fn runs_of_small_texts(rt: HostRuntime) -> Result<(), Fail> {
             (&[9, 0x63], &[false]),
         ],
     )
-}
-
-// A text of lines of 20 to 40 bytes, as other tools write them, up to this id.
-fn long_text(alloc: Global, end: u32) -> Result<Text, Fail> {
-    let mut text = Text::new(alloc);
-    text.extend_from_slice(b"1 sort bitvec 8\n2 input 1 first\n3 input 1 second\n")?;
-    for id in 4..end {
-        let (last, other) = (id - 1, id - 2);
-        let line = match id % 4 {
-            0 => format!(in alloc; "{id} and 1 {last} {other}\n")?,
-            1 => format!(in alloc; "{id} not 1 {last}\n")?,
-            2 => format!(in alloc; "{id} xor 1 {other} 2 sum_{id}\n")?,
-            _ => format!(in alloc; "{id} add 1 {last} 3\n")?,
-        };
-        text.extend_from_slice(line.as_bytes())?;
-    }
-    Ok(text)
-}
-
-#[test]
-fn ten_megabytes_made(rt: HostRuntime) -> Result<(), Fail> {
-    let text = long_text(rt.alloc(), 410_000)?;
-    assert!(rt; text.len() > 10_000_000);
-    Ok(())
-}
-
-#[test]
-fn ten_megabytes_read(rt: HostRuntime) -> Result<(), Fail> {
-    let text = long_text(rt.alloc(), 410_000)?;
-    let lines = lines_of(rt.alloc(), text.as_slice())?;
-    assert_eq!(rt; lines.len(), 409_999);
-    Ok(())
-}
-
-#[test]
-fn ten_megabytes_accepted(rt: HostRuntime) -> Result<(), Fail> {
-    let text = long_text(rt.alloc(), 410_000)?;
-    let lines = lines_of(rt.alloc(), text.as_slice())?;
-    assert!(rt; accept(rt.alloc(), lines).is_ok());
-    Ok(())
-}
-
-#[test]
-fn ten_megabytes_printed(rt: HostRuntime) -> Result<(), Fail> {
-    let text = long_text(rt.alloc(), 410_000)?;
-    let lines = lines_of(rt.alloc(), text.as_slice())?;
-    let printed = print_lines(rt.alloc(), &lines)?;
-    assert!(rt; printed.as_slice() == text.as_slice());
-    Ok(())
 }

@@ -1,14 +1,13 @@
-//! Tests of the libraries from streams and bit vectors to engines, boards and circuits, by their public calls: outside vectors, and
-//! each call that no command makes, once where it goes well. They cite no definition, and nothing uses them. A library
-//! with tests of its own is proved twice at each merge, so those that need nothing private are here.
+//! Tests of the libraries from streams and bit vectors to engines, boards and circuits, by their public calls: outside
+//! vectors, and each call that no command makes, once where it goes well. They cite no definition, and nothing uses
+//! them. A library with tests of its own is proved twice at each merge, so those that need nothing private are here.
+//! What such calls cost is measured by `bench/costs/library_tests`.
 #![tactic(auto)]
 
 #[cfg(test)]
 mod attempts;
 #[cfg(test)]
 mod boards;
-#[cfg(test)]
-mod circuit_costs;
 #[cfg(test)]
 mod circuit_texts;
 #[cfg(test)]
@@ -17,12 +16,6 @@ mod designs;
 mod engines;
 #[cfg(test)]
 mod host_functions;
-#[cfg(test)]
-mod name_costs;
-#[cfg(test)]
-mod report_costs;
-#[cfg(test)]
-mod report_rows;
 #[cfg(test)]
 mod rule_runs;
 #[cfg(test)]
