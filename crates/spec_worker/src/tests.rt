@@ -18,7 +18,7 @@ use std::process::Abort;
 use std::sync::Arc;
 use std::sync::atomic::{AtomicU64, Ordering};
 use std::test::*;
-use typed_core::{Action, Design, Next, Node, Parts, Rule};
+use typed_core::{Action, Design, Parts, Rule};
 
 // What a seat says to a worker that asks for a job.
 #[derive(Clone, Copy)]
@@ -29,28 +29,19 @@ enum Says {
     NoMemory,
 }
 
-// A seat that answers by a list, last first. It stores every second attempt, from the first on, and hands the others
-// back. Each settle closes a cycle until the list is at its end, and from then on the board has finished.
+// A design of one rule or more, which asks nothing.
 #[derive(Drop)]
-struct ListSeat {
-    alloc: Global,
+struct Setting {
     design: Arc<Design>,
     externs: Arc<Externs>,
-    says: Vec<Says>,
-    counts: Counts,
-    // The numbers that jobs were asked for by.
-    picks: Vec<u64>,
-    has_stored: bool,
-    // The calls of the seat, and those of its gate if that notes them here too.
-    calls: Arc<AtomicU64>,
     ghost no_inputs: { (arc_value design).inputs ≡ [] },
     ghost externs_fit: { kept (arc_value externs) ≡ externs_of (arc_value design) },
     ghost has_rule: { 0 < length (arc_value design).rules },
 }
 
-impl ListSeat {
-    // The only job that it has.
-    fn make(&self) -> Result<Job, NoMemory>
+impl Setting {
+    // A job at its first rule.
+    fn job(&self, alloc: Global) -> Result<Job, NoMemory>
         ensures { IfOk result FitsItself }
     {
         Ok(Job {
@@ -58,11 +49,28 @@ impl ListSeat {
             externs: Arc::try_clone(&self.externs)?,
             cycle: 1,
             rule: 0,
-            inputs: Inputs::new(self.alloc),
-            regs: first_values(self.alloc, &self.design)?,
+            inputs: Inputs::new(alloc),
+            regs: first_values(alloc, &self.design)?,
         })
     }
+}
 
+// A seat that answers by a list, last first. It stores every second attempt, from the first on, and hands the others
+// back. Each settle closes a cycle until the list is at its end, and from then on the board has finished.
+#[derive(Drop)]
+struct ListSeat {
+    alloc: Global,
+    setting: Setting,
+    says: Vec<Says>,
+    counts: Counts,
+    // The numbers that jobs were asked for by.
+    picks: Vec<u64>,
+    has_stored: bool,
+    // The calls of the seat, and those of its gate if that notes them here too.
+    calls: Arc<AtomicU64>,
+}
+
+impl ListSeat {
     fn say(&mut self, pick: u64) -> Result<JobAnswer, NoMemory>
         ensures fits { IfOk result (λ told. IfJob told FitsItself) }
         ensures counts { self.new.counts ≡ self.old.counts }
@@ -70,7 +78,7 @@ impl ListSeat {
         note_call(&self.calls, 2);
         self.picks.push(pick)?;
         match self.says.pop() {
-            Some(Says::Job) => Ok(JobAnswer::Job(self.make()?)),
+            Some(Says::Job) => Ok(JobAnswer::Job(self.setting.job(self.alloc)?)),
             Some(Says::Idle) => Ok(JobAnswer::Idle),
             Some(Says::Finished) | None => Ok(JobAnswer::Finished),
             Some(Says::NoMemory) => Err(NoMemory),
@@ -135,36 +143,66 @@ impl BoardSeat for ListSeat {
     }
 }
 
-fn seat_that_says(rt: &impl Abort, alloc: Global, says: &[Says]) -> Result<ListSeat, NoMemory> {
-    let mut rules = Sequence::new(alloc);
-    rules.push(Rule {
+const MEMORY: &str = "memory";
+
+// One rule, which does nothing.
+fn rules(rt: &impl Abort, alloc: Global) -> Sequence<Rule>
+    ensures { 0 < length result }
+{
+    let rule = Rule {
         name: Text::new(alloc),
         body: Action::Unit,
-    })?;
+    };
+    let mut rules = Sequence::new(alloc);
+    rules.push(rule).expect(rt, MEMORY);
+    rules
+}
+
+fn lone_design(rt: &impl Abort, alloc: Global) -> Design
+    ensures inputs { result.inputs ≡ [] }
+    ensures hosts { result.hosts ≡ [] }
+    ensures rules { 0 < length result.rules }
+{
     let parts = Parts {
         regs: Sequence::new(alloc),
         inputs: Sequence::new(alloc),
         tables: Sequence::new(alloc),
         hosts: Sequence::new(alloc),
-        rules,
+        rules: rules(rt, alloc),
         nodes: Sequence::new(alloc),
     };
-    let design = Design::new(parts).expect(rt, "a valid design");
-    let externs = Externs::new(alloc, &design, &[])?;
+    Design::new(parts).expect(rt, "a valid design")
+}
+
+// The design that jobs are of, with its externs.
+fn setting_of_one(rt: &impl Abort, alloc: Global) -> Setting {
+    let design = lone_design(rt, alloc);
+    let externs = Externs::new(alloc, &design, &[]).expect(rt, MEMORY);
+    Setting {
+        design: Arc::new(alloc, design).expect(rt, MEMORY),
+        externs: Arc::new(alloc, externs).expect(rt, MEMORY),
+    }
+}
+
+// A list that is taken from its end.
+fn reversed(rt: &impl Abort, alloc: Global, says: &[Says]) -> Vec<Says> {
     let mut list = Vec::new(alloc);
     for say in says.iter().rev() {
-        list.push(*say)?;
+        list.push(*say).expect(rt, MEMORY);
     }
-    Ok(ListSeat {
+    list
+}
+
+fn seat_that_says(rt: &impl Abort, alloc: Global, says: &[Says]) -> ListSeat {
+    ListSeat {
         alloc,
-        design: Arc::new(alloc, design)?,
-        externs: Arc::new(alloc, externs)?,
-        says: list,
+        setting: setting_of_one(rt, alloc),
+        says: reversed(rt, alloc, says),
         counts: Counts::new(),
         picks: Vec::new(alloc),
         has_stored: false,
-        calls: Arc::new(alloc, AtomicU64::new(0))?,
-    })
+        calls: Arc::new(alloc, AtomicU64::new(0)).expect(rt, MEMORY),
+    }
 }
 
 // Notes a call by a decimal digit, last call last: 1 for a gate's `before`, 2 for a seat's `job`, 3 for its `submit`, 4
@@ -201,83 +239,163 @@ impl Gate for Noting {
     }
 }
 
-#[test]
-fn a_worker_ends_as_its_seat_says(rt: HostRuntime) -> Result<(), Fail> {
-    let job = Says::Job;
-    // Their turns, the attempts that are stored, the settles that go on, the ending, and how often it is said that the
-    // board has finished.
-    let cases: [(&[Says], u64, u64, u64, Ending, u64); 6] = [
-        (
-            &[job, Says::Idle, Says::Finished],
-            2,
-            1,
-            2,
-            Ending::Finished,
-            1,
-        ),
-        (&[job, job, Says::NoMemory], 2, 1, 2, Ending::NoMemory, 0),
-        (&[Says::Idle, job, job, job, job], 3, 1, 3, Ending::Turns, 0),
-        (&[job, job, job, job], 3, 2, 3, Ending::Turns, 0),
-        (&[job], 1, 1, 0, Ending::Finished, 2),
-        (&[], 0, 0, 0, Ending::Finished, 1),
-    ];
-    for (says, turns, submitted, settled, ending, ended) in cases {
-        let mut seat = seat_that_says(&rt, rt.alloc(), says)?;
-        let report = work(rt.alloc(), &mut seat, &NoGate, 3);
-        let want = Report {
-            worker: 5,
-            turns,
-            submitted,
-            settled,
-            ending,
-        };
-        assert_eq!(rt; report, want);
-        assert_eq!(rt; seat.counts.ended, ended);
-    }
-    Ok(())
+// What a seat says to a worker with three turns: the turns that it takes, the attempts that are stored, the settles that
+// go on, its ending, and how often it is said that the board has finished.
+#[derive(Clone, Copy)]
+struct EndCase {
+    says: &'static [Says],
+    turns: u64,
+    submitted: u64,
+    settled: u64,
+    ending: Ending,
+    ended: u64,
+}
+
+const END_CASES: [EndCase; 6] = [
+    EndCase {
+        says: &[Says::Job, Says::Idle, Says::Finished],
+        turns: 2,
+        submitted: 1,
+        settled: 2,
+        ending: Ending::Finished,
+        ended: 1,
+    },
+    EndCase {
+        says: &[Says::Job, Says::Job, Says::NoMemory],
+        turns: 2,
+        submitted: 1,
+        settled: 2,
+        ending: Ending::NoMemory,
+        ended: 0,
+    },
+    EndCase {
+        says: &[Says::Idle, Says::Job, Says::Job, Says::Job, Says::Job],
+        turns: 3,
+        submitted: 1,
+        settled: 3,
+        ending: Ending::Turns,
+        ended: 0,
+    },
+    EndCase {
+        says: &[Says::Job, Says::Job, Says::Job, Says::Job],
+        turns: 3,
+        submitted: 2,
+        settled: 3,
+        ending: Ending::Turns,
+        ended: 0,
+    },
+    EndCase {
+        says: &[Says::Job],
+        turns: 1,
+        submitted: 1,
+        settled: 0,
+        ending: Ending::Finished,
+        ended: 2,
+    },
+    EndCase {
+        says: &[],
+        turns: 0,
+        submitted: 0,
+        settled: 0,
+        ending: Ending::Finished,
+        ended: 1,
+    },
+];
+
+fn expect_work(rt: &impl Abort, alloc: Global, case: &EndCase) {
+    let mut seat = seat_that_says(rt, alloc, case.says);
+    let report = work(alloc, &mut seat, &NoGate, 3);
+    let want = Report {
+        worker: 5,
+        turns: case.turns,
+        submitted: case.submitted,
+        settled: case.settled,
+        ending: case.ending,
+    };
+    assert_eq!(rt; report, want);
+    assert_eq!(rt; seat.counts.ended, case.ended);
 }
 
 #[test]
-fn jobs_and_gates_are_called_by_worker_and_turn(rt: HostRuntime) -> Result<(), Fail> {
-    let job = Says::Job;
-    // The numbers that jobs are asked for by, what the gate notes before and after turns, and all calls in their order.
-    let cases: [(&[Says], &[u64], u64, u64, u64); 3] = [
-        (
-            &[job, Says::Idle, job, job],
-            &[5, 6, 7],
-            50_51_52,
-            50_51_52,
-            12345_1245_12345,
-        ),
-        (&[job, Says::Finished, job], &[5, 6], 50_51, 50, 12345_12),
-        (&[Says::NoMemory, job], &[5], 50, 0, 12),
-    ];
-    for (says, picks, before, after, calls) in cases {
-        let mut seat = seat_that_says(&rt, rt.alloc(), says)?;
-        let gate = Noting {
-            before: AtomicU64::new(0),
-            after: AtomicU64::new(0),
-            calls: Arc::try_clone(&seat.calls)?,
-        };
-        work(rt.alloc(), &mut seat, &gate, 3);
-        assert_eq!(rt; seat.picks.as_slice(), picks);
-        assert_eq!(rt; gate.before.load(Ordering::SeqCst), before);
-        assert_eq!(rt; gate.after.load(Ordering::SeqCst), after);
-        assert_eq!(rt; gate.calls.load(Ordering::SeqCst), calls);
+fn a_worker_ends_as_its_seat_says(rt: HostRuntime) {
+    for case in &END_CASES {
+        expect_work(&rt, rt.alloc(), case);
     }
-    Ok(())
+}
+
+// What a seat says to a worker with three turns: the numbers that jobs are asked for by, what the gate notes before and
+// after turns, and all calls in their order.
+#[derive(Clone, Copy)]
+struct CallCase {
+    says: &'static [Says],
+    picks: &'static [u64],
+    before: u64,
+    after: u64,
+    calls: u64,
+}
+
+const CALL_CASES: [CallCase; 3] = [
+    CallCase {
+        says: &[Says::Job, Says::Idle, Says::Job, Says::Job],
+        picks: &[5, 6, 7],
+        before: 50_51_52,
+        after: 50_51_52,
+        calls: 12345_1245_12345,
+    },
+    CallCase {
+        says: &[Says::Job, Says::Finished, Says::Job],
+        picks: &[5, 6],
+        before: 50_51,
+        after: 50,
+        calls: 12345_12,
+    },
+    CallCase {
+        says: &[Says::NoMemory, Says::Job],
+        picks: &[5],
+        before: 50,
+        after: 0,
+        calls: 12,
+    },
+];
+
+fn expect_calls(rt: &impl Abort, alloc: Global, case: &CallCase) {
+    let mut seat = seat_that_says(rt, alloc, case.says);
+    let gate = Noting {
+        before: AtomicU64::new(0),
+        after: AtomicU64::new(0),
+        calls: Arc::try_clone(&seat.calls).expect(rt, MEMORY),
+    };
+    work(alloc, &mut seat, &gate, 3);
+    assert_eq!(rt; seat.picks.as_slice(), case.picks);
+    assert_eq!(rt; gate.before.load(Ordering::SeqCst), case.before);
+    assert_eq!(rt; gate.after.load(Ordering::SeqCst), case.after);
+    assert_eq!(rt; gate.calls.load(Ordering::SeqCst), case.calls);
 }
 
 #[test]
-fn workers_work_side_by_side(rt: HostRuntime) -> Result<(), Fail> {
-    let mut workers = Vec::new(rt.alloc());
+fn jobs_and_gates_are_called_by_worker_and_turn(rt: HostRuntime) {
+    for case in &CALL_CASES {
+        expect_calls(&rt, rt.alloc(), case);
+    }
+}
+
+// Seats that have two jobs each, and where nothing is done yet.
+fn seats(rt: &impl Abort, alloc: Global) -> Vec<Working<ListSeat>> {
+    let mut workers = Vec::new(alloc);
     for _ in 0..3 {
-        let seat = seat_that_says(&rt, rt.alloc(), &[Says::Job, Says::Job])?;
-        workers.push(Working {
-            seat,
+        let working = Working {
+            seat: seat_that_says(rt, alloc, &[Says::Job, Says::Job]),
             report: Report::new(0),
-        })?;
+        };
+        workers.push(working).expect(rt, MEMORY);
     }
+    workers
+}
+
+#[test]
+fn workers_work_side_by_side(rt: HostRuntime) {
+    let mut workers = seats(&rt, rt.alloc());
+    assert_eq!(rt; workers.len(), 3);
     work_all(&rt, rt.alloc(), workers.as_mut_slice(), &NoGate, 2);
     for working in workers.as_slice() {
         assert_eq!(rt; working.report.submitted, 1);
@@ -286,5 +404,4 @@ fn workers_work_side_by_side(rt: HostRuntime) -> Result<(), Fail> {
         assert_eq!(rt; working.seat.counts.asked, 2);
         assert_eq!(rt; working.seat.counts.ended, 1);
     }
-    Ok(())
 }
