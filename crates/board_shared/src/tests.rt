@@ -1,6 +1,11 @@
 //! Tests on boards of two rules, of which one sends a number and the other copies it.
 
-ghost use Rattle.std.specs.Prelude.{◌≡◌, ◌≤◌, [], IfOk};
+ghost use Rattle.std.specs.Prelude.{◌≡◌, ◌≤◌, []};
+ghost use Rattle.std.specs.Arc.{arc_value};
+ghost use Rattle.typed_core.specs.Valid.{externs_of};
+ghost use Rattle.typed_core.specs.Widths.{HaveWidths, register_widths};
+ghost use Rattle.one_rule.specs.Externs.{kept};
+ghost use Rattle.one_rule.specs.Stimulus.{StimulusFits};
 ghost use Rattle.attempt_log.specs.Seats.{IfJob};
 ghost use Rattle.attempt_log.specs.Setting.{FitsItself};
 
@@ -11,7 +16,7 @@ use crate::shared::{SharedBoard, SharedSeat};
 use attempt_log::{Attempt, JobAnswer, attempt};
 use board_core::Core;
 use kw_bits::{Bits, NoMemory, Sequence, Text};
-use one_rule::{Externs, Stimulus, first_values};
+use one_rule::{Externs, Regs, Stimulus, first_values};
 use std::alloc::{AllocError, Global};
 use std::marker::Brand;
 use std::process::Abort;
@@ -22,62 +27,107 @@ use std::thread;
 use std::thread::Threads;
 use typed_core::{Action, Design, Next, Node, Parts, RegDecl, Rule};
 
+const MEMORY: &str = "memory";
+
 fn bits(rt: &impl Abort, number: u128) -> Bits {
     Bits::new(8, number).expect(rt, "a bit vector")
 }
 
-fn rule_that_writes(alloc: Global, register: u32, value: Action) -> Result<Rule, NoMemory> {
-    Ok(Rule {
-        name: Text::new(alloc),
-        body: Action::Write(0, register, Box::new(alloc, value)?),
-    })
-}
-
-// One rule writes the number to register 1, and the next copies it to register 0.
-fn design_that_sends(rt: &impl Abort, alloc: Global, number: u128) -> Result<Design, NoMemory>
-    ensures inputs { IfOk result (λ design. design.inputs ≡ []) }
-    ensures hosts { IfOk result (λ design. design.hosts ≡ []) }
-{
-    let mut regs = Sequence::new(alloc);
+// Two registers, of 1 and 2.
+fn registers(rt: &impl Abort, alloc: Global) -> Sequence<RegDecl> {
+    let mut registers = Sequence::new(alloc);
     for first in [1, 2] {
-        regs.push(RegDecl {
+        let register = RegDecl {
             name: Text::new(alloc),
             width: 8,
             first: bits(rt, first),
-        })?;
+        };
+        registers.push(register).expect(rt, MEMORY);
     }
+    registers
+}
+
+fn rule_that_writes(rt: &impl Abort, alloc: Global, register: u32, value: Action) -> Rule {
+    let value = Box::new(alloc, value).expect(rt, MEMORY);
+    Rule {
+        name: Text::new(alloc),
+        body: Action::Write(0, register, value),
+    }
+}
+
+// One rule writes the number to register 1, and the next copies it to register 0.
+fn rules(rt: &impl Abort, alloc: Global, number: u128) -> Sequence<Rule> {
     let mut rules = Sequence::new(alloc);
-    rules.push(rule_that_writes(alloc, 1, Action::Const(bits(rt, number)))?)?;
-    rules.push(rule_that_writes(alloc, 0, Action::Read(1, 1))?)?;
+    let sends = rule_that_writes(rt, alloc, 1, Action::Const(bits(rt, number)));
+    rules.push(sends).expect(rt, MEMORY);
+    let copies = rule_that_writes(rt, alloc, 0, Action::Read(1, 1));
+    rules.push(copies).expect(rt, MEMORY);
+    rules
+}
+
+fn nodes(rt: &impl Abort, alloc: Global) -> Sequence<Node> {
     let mut nodes = Sequence::new(alloc);
     for (rule, next) in [(0, Next::Node(1)), (1, Next::End)] {
-        nodes.push(Node {
+        let node = Node {
             rule,
             yes: next,
             no: next,
-        })?;
+        };
+        nodes.push(node).expect(rt, MEMORY);
     }
+    nodes
+}
+
+fn design_that_sends(rt: &impl Abort, alloc: Global, number: u128) -> Design
+    ensures inputs { result.inputs ≡ [] }
+    ensures hosts { result.hosts ≡ [] }
+{
     let parts = Parts {
-        regs,
+        regs: registers(rt, alloc),
         inputs: Sequence::new(alloc),
         tables: Sequence::new(alloc),
         hosts: Sequence::new(alloc),
-        rules,
-        nodes,
+        rules: rules(rt, alloc, number),
+        nodes: nodes(rt, alloc),
     };
-    Ok(Design::new(parts).expect(rt, "a valid design"))
+    Design::new(parts).expect(rt, "a valid design")
 }
 
-fn core_that_sends(rt: &impl Abort, alloc: Global, number: u128, to: u32) -> Result<Core, NoMemory>
+// What a core is begun with: a design on its first registers, and externs and a stimulus that fit it.
+#[derive(Drop)]
+struct Setting {
+    design: Arc<Design>,
+    externs: Arc<Externs>,
+    stimulus: Arc<Stimulus>,
+    regs: Regs,
+    ghost externs_fit: { kept (arc_value externs) ≡ externs_of (arc_value design) },
+    ghost stimulus_fits: { StimulusFits (arc_value design) (arc_value stimulus) },
+    ghost regs_fit: { HaveWidths (register_widths (arc_value design)) regs },
+}
+
+fn setting_that_sends(rt: &impl Abort, alloc: Global, number: u128) -> Setting {
+    let design = design_that_sends(rt, alloc, number);
+    let externs = Externs::new(alloc, &design, &[]).expect(rt, MEMORY);
+    let regs = first_values(alloc, &design).expect(rt, MEMORY);
+    let stimulus = Stimulus::new(alloc, Vec::new(alloc));
+    Setting {
+        design: Arc::new(alloc, design).expect(rt, MEMORY),
+        externs: Arc::new(alloc, externs).expect(rt, MEMORY),
+        stimulus: Arc::new(alloc, stimulus).expect(rt, MEMORY),
+        regs,
+    }
+}
+
+fn core_that_sends(rt: &impl Abort, alloc: Global, number: u128, to: u32) -> Core
     requires { to ≤ 1000 }
 {
-    let design = design_that_sends(rt, alloc, number)?;
-    let externs = Externs::new(alloc, &design, &[])?;
-    let regs = first_values(alloc, &design)?;
-    let design = Arc::new(alloc, design)?;
-    let externs = Arc::new(alloc, externs)?;
-    let stimulus = Arc::new(alloc, Stimulus::new(alloc, Vec::new(alloc)))?;
-    Core::begin(alloc, design, externs, stimulus, regs, 0, to, 1)
+    let Setting {
+        design,
+        externs,
+        stimulus,
+        regs,
+    } = setting_that_sends(rt, alloc, number);
+    Core::begin(alloc, design, externs, stimulus, regs, 0, to, 1).expect(rt, MEMORY)
 }
 
 // The attempt of the job, if there is one.
@@ -88,6 +138,13 @@ fn made(alloc: Global, answer: JobAnswer) -> Result<Option<Attempt>, NoMemory>
         JobAnswer::Job(job) => Ok(Some(attempt(alloc, &job)?)),
         JobAnswer::Idle | JobAnswer::Finished => Ok(None),
     }
+}
+
+// The attempt of the job, which there is.
+fn attempt_of(rt: &impl Abort, alloc: Global, answer: JobAnswer) -> Attempt
+    requires { IfJob answer FitsItself }
+{
+    made(alloc, answer).expect(rt, MEMORY).expect(rt, "a job")
 }
 
 fn name(answer: &SharedSubmitted) -> &'static str {
@@ -108,62 +165,60 @@ fn hand_in<L: Ledger, R: Abort + Wait>(
     seat: &mut SharedSeat<L, R>,
     rule: u32,
     want: &'static str,
-) -> Result<(), NoMemory> {
-    let attempt = made(alloc, seat.job(0)?)?.expect(rt, "a job");
+) {
+    let answer = seat.job(0).expect(rt, MEMORY);
+    let attempt = attempt_of(rt, alloc, answer);
     assert_eq!(rt; attempt.rule(), rule);
     assert_eq!(rt; name(&seat.submit(attempt)), want);
-    Ok(())
 }
 
 // An attempt at the second rule, of a design that sends 8.
-fn stranger(rt: &impl Abort, alloc: Global) -> Result<Attempt, NoMemory> {
-    let core = core_that_sends(rt, alloc, 8, 1)?;
-    let attempt = made(alloc, core.job(1)?)?.expect(rt, "a job");
+fn stranger(rt: &impl Abort, alloc: Global) -> Attempt {
+    let core = core_that_sends(rt, alloc, 8, 1);
+    let answer = core.job(1).expect(rt, MEMORY);
+    let attempt = attempt_of(rt, alloc, answer);
     assert_eq!(rt; attempt.rule(), 1);
-    Ok(attempt)
+    attempt
 }
 
-fn fill<L: Ledger, R: Abort + Wait>(rt: &R, alloc: Global, blank: Blank) -> Result<(), NoMemory>
+fn fill<L: Ledger, R: Abort + Wait>(rt: &R, alloc: Global, blank: Blank)
     requires name { blank.name ≡ L.name }
     requires parts { blank.parts ≡ L.parts }
     requires some { 1 ≤ blank.parts }
 {
-    let core = core_that_sends(rt, alloc, 7, 1)?;
-    let mut counts = Vec::with_capacity(alloc, 1)?;
+    let core = core_that_sends(rt, alloc, 7, 1);
+    let mut counts = Vec::with_capacity(alloc, 1).expect(rt, MEMORY);
     let (board, count) = SharedBoard::<L>::new(blank, core, 1);
     let mut seat = board.seat(rt, 5, count);
-    hand_in(rt, alloc, &mut seat, 0, "stored")?;
-    hand_in(rt, alloc, &mut seat, 1, "full")?;
-    let strange = stranger(rt, alloc)?;
+    hand_in(rt, alloc, &mut seat, 0, "stored");
+    hand_in(rt, alloc, &mut seat, 1, "full");
+    let strange = stranger(rt, alloc);
     assert_eq!(rt; name(&seat.submit(strange)), "stranger");
     counts.push_reserved(seat.finish());
     assert_eq!(rt; board.stored(counts).1, 1);
-    Ok(())
 }
 
 #[test]
-fn a_full_board_still_tells_strangers(rt: HostRuntime) -> Result<(), Fail> {
-    fill::<Brand, HostRuntime>(&rt, rt.alloc(), Blank::new(1))?;
-    Ok(())
+fn a_full_board_still_tells_strangers(rt: HostRuntime) {
+    fill::<Brand, HostRuntime>(&rt, rt.alloc(), Blank::new(1));
 }
 
-fn ask<L: Ledger>(rt: &impl Abort, alloc: Global, blank: Blank) -> Result<(), NoMemory>
+fn ask<L: Ledger>(rt: &impl Abort, alloc: Global, blank: Blank)
     requires name { blank.name ≡ L.name }
     requires parts { blank.parts ≡ L.parts }
     requires some { 1 ≤ blank.parts }
 {
-    let core = core_that_sends(rt, alloc, 7, 1)?;
+    let core = core_that_sends(rt, alloc, 7, 1);
     let (locked, _) = Locked::<L>::new(blank, core, 1);
-    let copied = made(alloc, locked.job(1)?)?.expect(rt, "a job");
+    let answer = locked.job(1).expect(rt, MEMORY);
+    let copied = attempt_of(rt, alloc, answer);
     assert_eq!(rt; copied.cycle(), 1);
     assert_eq!(rt; copied.rule(), 1);
-    Ok(())
 }
 
 #[test]
-fn a_locked_board_gives_jobs(rt: HostRuntime) -> Result<(), Fail> {
-    ask::<Brand>(&rt, rt.alloc(), Blank::new(1))?;
-    Ok(())
+fn a_locked_board_gives_jobs(rt: HostRuntime) {
+    ask::<Brand>(&rt, rt.alloc(), Blank::new(1));
 }
 
 // Takes turns.
@@ -195,33 +250,42 @@ fn share<L: Ledger + Send + Sync, R: Abort + Threads + Wait + Sync>(
     rt: &R,
     alloc: Global,
     blank: Blank,
-) -> Result<(), NoMemory>
+)
     requires name { blank.name ≡ L.name }
     requires parts { blank.parts ≡ L.parts }
     requires two { blank.parts ≡ 2 }
 {
-    let core = core_that_sends(rt, alloc, 7, 8)?;
+    let core = core_that_sends(rt, alloc, 7, 8);
     let (board, mut mine) = SharedBoard::<L>::new(blank, core, 1000);
-    let mut seats = Vec::with_capacity(alloc, 2)?;
+    let mut seats = Vec::with_capacity(alloc, 2).expect(rt, MEMORY);
     let theirs = mine.split();
     seats.push_reserved(board.seat(rt, 0, mine));
     seats.push_reserved(board.seat(rt, 1, theirs));
-    let counts = take_turns_at(rt, alloc, seats)?;
-    let mut sum: u64 = 0;
-    for count in &counts {
-        sum = sum.wrapping_add(count.amount());
-    }
+    let counts = take_turns_at(rt, alloc, seats).expect(rt, MEMORY);
+    let sum = sum_of(&counts);
     let (core, stored) = board.stored(counts);
     assert_eq!(rt; stored, sum);
+    expect_sevens(rt, &core);
+}
+
+// What these counts add up to.
+fn sum_of<L: Ledger>(counts: &Vec<SeatCount<L>>) -> u64 {
+    let mut sum: u64 = 0;
+    for count in counts {
+        sum = sum.wrapping_add(count.amount());
+    }
+    sum
+}
+
+// Eight cycles are closed, and both registers are 7.
+fn expect_sevens(rt: &impl Abort, core: &Core) {
     let rows = core.rows();
     assert_eq!(rt; rows.len(), 9);
     let seven = bits(rt, 7);
     assert_eq!(rt; rows[8].regs.as_slice(), [seven, seven].as_slice());
-    Ok(())
 }
 
 #[test]
-fn the_counts_of_two_threads_add_up(rt: HostRuntime) -> Result<(), Fail> {
-    share::<Brand, HostRuntime>(&rt, rt.alloc(), Blank::new(2))?;
-    Ok(())
+fn the_counts_of_two_threads_add_up(rt: HostRuntime) {
+    share::<Brand, HostRuntime>(&rt, rt.alloc(), Blank::new(2));
 }
