@@ -1,7 +1,8 @@
 //! Tests with boards of their own, which work by themselves or are begun round another core.
 
-ghost use Rattle.std.specs.Prelude.{◌≡◌, [], ◌∷◌, IfOk};
+ghost use Rattle.std.specs.Prelude.{◌≡◌, ◌≤◌, [], ◌∷◌, IfOk, map};
 ghost use Rattle.std.specs.Arc.{arc_value};
+ghost use Rattle.kw_bits.specs.Laws.{HasWidth};
 ghost use Rattle.typed_core.specs.Valid.{externs_of};
 ghost use Rattle.typed_core.specs.Widths.{HaveWidths, register_widths};
 ghost use Rattle.one_rule.specs.Externs.{kept};
@@ -11,7 +12,7 @@ use super::{run_batch, run_threaded};
 use attempt_log::{Gate, JobAnswer, NoGate, Report, attempt};
 use board_core::{Board, Core};
 use kw_bits::{Bits, NoMemory, Sequence, Text};
-use one_rule::{Externs, Regs, Row, Stimulus, first_values};
+use one_rule::{Externs, Regs, Row, Rows, Stimulus};
 use std::alloc::Global;
 use std::process::Abort;
 use std::sync::atomic::{AtomicU64, Ordering};
@@ -20,81 +21,129 @@ use std::test::*;
 use std::thread::Threads;
 use typed_core::{Action, Design, Next, Node, Parts, RegDecl, Rule, TwoOp};
 
+const MEMORY: &str = "memory";
+
 // A number of 8 bits.
-fn byte(number: u8) -> Result<Bits, NoMemory> {
+fn byte(number: u8) -> Result<Bits, NoMemory>
+    ensures { IfOk result (λ bits. HasWidth bits 8) }
+{
     match Bits::new(8, u128::from(number)) {
         Some(bits) => Ok(bits),
         None => Err(NoMemory),
     }
 }
 
-// One register with this first value, and one rule, which adds 1 to it in every cycle.
-fn counter_parts(alloc: Global, first: u8) -> Result<Parts, NoMemory>
-    ensures inputs { IfOk result (λ parts. parts.inputs ≡ []) }
-    ensures hosts { IfOk result (λ parts. parts.hosts ≡ []) }
-    ensures widths { IfOk result (λ parts. register_widths parts ≡ 8 ∷ []) }
+// One register with this first value.
+fn registers(alloc: Global, first: u8) -> Result<Sequence<RegDecl>, NoMemory>
+    ensures { IfOk result (λ registers. map (λ decl. decl.width) registers ≡ 8 ∷ []) }
 {
-    let one = Box::new(alloc, Action::Const(byte(1)?))?;
-    let sum = Action::Two(TwoOp::Add, Box::new(alloc, Action::Read(0, 0))?, one);
-    let mut regs = Sequence::new(alloc);
-    regs.push(RegDecl {
+    let register = RegDecl {
         name: Text::new(alloc),
         width: 8,
         first: byte(first)?,
-    })?;
-    let mut rules = Sequence::new(alloc);
-    rules.push(Rule {
+    };
+    let mut registers = Sequence::new(alloc);
+    registers.push(register)?;
+    Ok(registers)
+}
+
+// Writes one more than it reads.
+fn one_more(alloc: Global) -> Result<Action, NoMemory> {
+    let one = Box::new(alloc, Action::Const(byte(1)?))?;
+    let old = Box::new(alloc, Action::Read(0, 0))?;
+    let sum = Box::new(alloc, Action::Two(TwoOp::Add, old, one))?;
+    Ok(Action::Write(0, 0, sum))
+}
+
+// One rule, which adds 1 to the register.
+fn rules(alloc: Global) -> Result<Sequence<Rule>, NoMemory> {
+    let rule = Rule {
         name: Text::new(alloc),
-        body: Action::Write(0, 0, Box::new(alloc, sum)?),
-    })?;
+        body: one_more(alloc)?,
+    };
+    let mut rules = Sequence::new(alloc);
+    rules.push(rule)?;
+    Ok(rules)
+}
+
+// It is tried in every cycle.
+fn nodes(alloc: Global) -> Result<Sequence<Node>, NoMemory> {
     let mut nodes = Sequence::new(alloc);
     nodes.push(Node {
         rule: 0,
         yes: Next::End,
         no: Next::End,
     })?;
-    Ok(Parts {
+    Ok(nodes)
+}
+
+// The counter. There is always one: its parts are valid.
+fn counter(alloc: Global, first: u8) -> Result<Design, NoMemory>
+    ensures inputs { IfOk result (λ design. design.inputs ≡ []) }
+    ensures hosts { IfOk result (λ design. design.hosts ≡ []) }
+    ensures widths { IfOk result (λ design. register_widths design ≡ 8 ∷ []) }
+{
+    let regs = registers(alloc, first)?;
+    let rules = rules(alloc)?;
+    let nodes = nodes(alloc)?;
+    let parts = Parts {
         regs,
         inputs: Sequence::new(alloc),
         tables: Sequence::new(alloc),
         hosts: Sequence::new(alloc),
         rules,
         nodes,
-    })
-}
-
-// What a run is made of, for a design that asks nothing.
-#[derive(Drop)]
-struct Setting {
-    design: Arc<Design>,
-    externs: Arc<Externs>,
-    stimulus: Arc<Stimulus>,
-    ghost externs_fit: { kept (arc_value externs) ≡ externs_of (arc_value design) },
-    ghost stimulus_fits: { StimulusFits (arc_value design) (arc_value stimulus) },
-    ghost one_byte: { register_widths (arc_value design) ≡ 8 ∷ [] },
+    };
+    match Design::new(parts) {
+        Some(design) => Ok(design),
+        None => Err(NoMemory),
+    }
 }
 
 // The counter's register with this value.
 fn count_of(alloc: Global, count: u8) -> Result<Regs, NoMemory>
     ensures { IfOk result (HaveWidths (8 ∷ [])) }
 {
-    let Some(design) = Design::new(counter_parts(alloc, count)?) else {
-        return Err(NoMemory);
-    };
-    first_values(alloc, &design)
+    let mut regs = Regs::new(alloc);
+    regs.push(byte(count)?)?;
+    Ok(regs)
 }
 
-// The counter. There is always one: its parts are valid.
-fn counter(alloc: Global, first: u8) -> Result<Setting, NoMemory> {
-    let Some(design) = Design::new(counter_parts(alloc, first)?) else {
-        return Err(NoMemory);
-    };
+// What a run is made of: a design that asks nothing, with what it is given, and the registers that it goes on from.
+#[derive(Drop)]
+struct Setting {
+    design: Arc<Design>,
+    externs: Arc<Externs>,
+    stimulus: Arc<Stimulus>,
+    regs: Regs,
+    ghost externs_fit: { kept (arc_value externs) ≡ externs_of (arc_value design) },
+    ghost stimulus_fits: { StimulusFits (arc_value design) (arc_value stimulus) },
+    ghost regs_fit: { HaveWidths (register_widths (arc_value design)) regs },
+}
+
+// The counter from one number, which has come to another.
+fn setting_of(alloc: Global, first: u8, count: u8) -> Result<Setting, NoMemory> {
+    let design = counter(alloc, first)?;
     let externs = Externs::new(alloc, &design, &[])?;
+    let stimulus = Stimulus::new(alloc, Vec::new(alloc));
+    let regs = count_of(alloc, count)?;
     Ok(Setting {
         design: Arc::new(alloc, design)?,
         externs: Arc::new(alloc, externs)?,
-        stimulus: Arc::new(alloc, Stimulus::new(alloc, Vec::new(alloc)))?,
+        stimulus: Arc::new(alloc, stimulus)?,
+        regs,
     })
+}
+
+// A core of two cycles of a counter from this number.
+fn core_of(alloc: Global, first: u8) -> Result<Core, NoMemory> {
+    let Setting {
+        design,
+        externs,
+        stimulus,
+        regs,
+    } = setting_of(alloc, first, first)?;
+    Core::begin(alloc, design, externs, stimulus, regs, 0, 2, 4)
 }
 
 // A board that drops its core and keeps another, on which nothing is done.
@@ -116,13 +165,7 @@ impl Board for StrayBoard {
 
     fn begin(alloc: Global, core: Core, _workers: u32) -> Result<StrayBoard, NoMemory> {
         drop(core);
-        let Setting {
-            design,
-            externs,
-            stimulus,
-        } = counter(alloc, 255)?;
-        let regs = first_values(alloc, &design)?;
-        let core = Core::begin(alloc, design, externs, stimulus, regs, 0, 2, 4)?;
+        let core = core_of(alloc, 255)?;
         Ok(StrayBoard { core })
     }
 
@@ -141,19 +184,38 @@ impl Board for StrayBoard {
     }
 }
 
+// The cycle of a core's job for this pick, or 0 if it has none.
+fn cycle_of(core: &Core, pick: u64) -> Result<u32, NoMemory> {
+    match core.job(pick)? {
+        JobAnswer::Job(job) => Ok(job.cycle),
+        JobAnswer::Idle | JobAnswer::Finished => Ok(0),
+    }
+}
+
 // How many cycles a core has jobs for, of a design with one rule.
 fn cycles_ahead(core: &Core) -> Result<u32, NoMemory> {
-    let JobAnswer::Job(head) = core.job(0)? else {
+    let head = cycle_of(core, 0)?;
+    if head == 0 {
         return Ok(0);
-    };
+    }
     for pick in 1..17_u32 {
-        if let JobAnswer::Job(job) = core.job(u64::from(pick))? {
-            if job.cycle == head.cycle {
-                return Ok(pick);
-            }
+        if cycle_of(core, u64::from(pick))? == head {
+            return Ok(pick);
         }
     }
     Ok(17)
+}
+
+// Does and submits the job for this pick, if there is one, and settles.
+fn take_turn(alloc: Global, core: &mut Core, pick: u64) -> Result<(), NoMemory>
+    ensures { core.new.opening ≡ core.old.opening }
+{
+    if let JobAnswer::Job(job) = core.job(pick)? {
+        let made = attempt(alloc, &job)?;
+        let _ = core.submit(made);
+    }
+    core.settle();
+    Ok(())
 }
 
 // A board that takes one turn for each worker, all by itself, so that attempts are left that were made on registers of
@@ -189,11 +251,7 @@ impl Board for LoneBoard {
         gate.before(self.workers, turns);
         gate.after(cycles_ahead(&self.core)?, 0);
         for turn in 0..self.workers {
-            if let JobAnswer::Job(job) = self.core.job(u64::from(turn))? {
-                let made = attempt(alloc, &job)?;
-                let _ = self.core.submit(made);
-            }
-            self.core.settle();
+            take_turn(alloc, &mut self.core, u64::from(turn))?;
         }
         Ok(Vec::new(alloc))
     }
@@ -233,81 +291,91 @@ impl Gate for Noting {
 }
 
 // The rows count up from a number, and the rule fires in all but the first.
-fn assert_counts(rt: &impl Abort, rows: &[Row], first: u8, cycles: u8) -> Result<(), NoMemory> {
+fn assert_counts(rt: &impl Abort, rows: &[Row], first: u8, cycles: u8) {
     assert_eq!(rt; rows.len(), usize::from(cycles) + 1);
     for (cycle, row) in rows.iter().enumerate() {
-        let count = byte(first.wrapping_add(cycle as u8))?;
+        let count = byte(first.wrapping_add(cycle as u8)).expect(rt, MEMORY);
         assert_eq!(rt; row.regs.as_slice(), [count].as_slice());
         assert_eq!(rt; row.fired.as_slice(), [cycle > 0].as_slice());
     }
-    Ok(())
 }
 
-#[test]
-fn rows_are_those_of_the_closed_core(rt: HostRuntime) -> Result<(), Fail> {
-    let alloc = rt.alloc();
+// The rows that workers make of a counter from this number.
+fn threaded<B: Board, R: Abort + Threads + Wait + Sync>(
+    rt: &R,
+    alloc: Global,
+    first: u8,
+    n: u32,
+    workers: u32,
+    gate: &(dyn Gate + Sync),
+) -> Rows
+    requires last { n ≤ 1000 }
+    requires some { 1 ≤ workers }
+    requires most { workers ≤ 64 }
+{
     let Setting {
         design,
         externs,
         stimulus,
-    } = counter(alloc, 0)?;
-    let rows = run_threaded::<StrayBoard, HostRuntime>(
-        &rt,
-        alloc,
-        Arc::try_clone(&design)?,
-        Arc::try_clone(&externs)?,
-        Arc::try_clone(&stimulus)?,
-        2,
-        1,
-        &NoGate,
-    )?;
-    assert_counts(&rt, rows.as_slice(), 255, 2)?;
-    let regs = first_values(alloc, &design)?;
-    let rows = run_batch::<StrayBoard, HostRuntime>(
-        &rt, alloc, design, externs, stimulus, regs, 0, 2, 1, &NoGate,
-    )?;
-    assert_counts(&rt, rows.as_slice(), 255, 2)?;
-    Ok(())
+        ..
+    } = setting_of(alloc, first, first).expect(rt, MEMORY);
+    run_threaded::<B, R>(rt, alloc, design, externs, stimulus, n, workers, gate).expect(rt, MEMORY)
+}
+
+// The rows that workers make of a counter from 0 that has come to this number.
+fn batch<B: Board, R: Abort + Threads + Wait + Sync>(
+    rt: &R,
+    alloc: Global,
+    count: u8,
+    from: u32,
+    to: u32,
+    workers: u32,
+    gate: &(dyn Gate + Sync),
+) -> Rows
+    requires order { from ≤ to }
+    requires last { to ≤ 1000 }
+    requires some { 1 ≤ workers }
+    requires most { workers ≤ 64 }
+{
+    let Setting {
+        design,
+        externs,
+        stimulus,
+        regs,
+    } = setting_of(alloc, 0, count).expect(rt, MEMORY);
+    run_batch::<B, R>(
+        rt, alloc, design, externs, stimulus, regs, from, to, workers, gate,
+    )
+    .expect(rt, MEMORY)
 }
 
 #[test]
-fn what_a_board_leaves_is_finished(rt: HostRuntime) -> Result<(), Fail> {
-    let alloc = rt.alloc();
+fn rows_are_those_of_the_closed_core(rt: HostRuntime) {
+    let rows = threaded::<StrayBoard, HostRuntime>(&rt, rt.alloc(), 0, 2, 1, &NoGate);
+    assert_counts(&rt, rows.as_slice(), 255, 2);
+    let rows = batch::<StrayBoard, HostRuntime>(&rt, rt.alloc(), 0, 0, 2, 1, &NoGate);
+    assert_counts(&rt, rows.as_slice(), 255, 2);
+}
+
+#[test]
+fn what_a_board_leaves_is_finished(rt: HostRuntime) {
     for workers in [1, 2, 3, 5, 8, 13, 64] {
-        let Setting {
-            design,
-            externs,
-            stimulus,
-        } = counter(alloc, 250)?;
         let gate = Noting::new();
-        let rows = run_threaded::<LoneBoard, HostRuntime>(
-            &rt, alloc, design, externs, stimulus, 9, workers, &gate,
-        )?;
-        assert_counts(&rt, rows.as_slice(), 250, 9)?;
+        let rows = threaded::<LoneBoard, HostRuntime>(&rt, rt.alloc(), 250, 9, workers, &gate);
+        assert_counts(&rt, rows.as_slice(), 250, 9);
         assert_eq!(rt; gate.workers.load(Ordering::SeqCst), u64::from(workers));
         assert_eq!(rt; gate.turns.load(Ordering::SeqCst), 88);
         assert_eq!(rt; gate.ahead.load(Ordering::SeqCst), 4);
     }
-    Ok(())
 }
 
 #[test]
-fn a_batch_goes_on_from_its_registers(rt: HostRuntime) -> Result<(), Fail> {
-    let alloc = rt.alloc();
+fn a_batch_goes_on_from_its_registers(rt: HostRuntime) {
     // The first cycle that is run before, the last one, and the turns of each worker.
     for (from, to, turns) in [(0, 3, 40), (7, 7, 16), (254, 259, 56)] {
-        let Setting {
-            design,
-            externs,
-            stimulus,
-        } = counter(alloc, 0)?;
-        let regs = count_of(alloc, 100)?;
         let gate = Noting::new();
-        let rows = run_batch::<LoneBoard, HostRuntime>(
-            &rt, alloc, design, externs, stimulus, regs, from, to, 3, &gate,
-        )?;
-        assert_counts(&rt, rows.as_slice(), 100, (to - from) as u8)?;
+        let rows = batch::<LoneBoard, HostRuntime>(&rt, rt.alloc(), 100, from, to, 3, &gate);
+        assert_counts(&rt, rows.as_slice(), 100, (to - from) as u8);
         assert_eq!(rt; gate.turns.load(Ordering::SeqCst), turns);
     }
-    Ok(())
 }
