@@ -1,0 +1,17 @@
+pub mod Heads
+pub mod Rows
+pub mod Known
+pub mod Replies
+pub mod Writing
+pub mod Taking
+pub mod Coming
+pub mod Going
+pub mod HeadsTaken
+pub mod LineInputs
+pub mod Cycles
+pub mod RowLines
+pub mod Places
+pub mod Answering
+pub mod OneReply
+pub mod Promises
+pub mod Joining

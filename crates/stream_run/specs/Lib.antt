@@ -1,0 +1,4 @@
+pub mod Lines
+pub mod Replies
+pub mod Sessions
+pub mod inner
