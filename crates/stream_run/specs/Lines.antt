@@ -1,6 +1,7 @@
--- How the bytes of a session are cut: a design up to its line `%%`, and after it a line for each cycle; and which values the
--- lines give to the inputs, up to the first line that has a fault. This project's own text form.
-use Rattle.std.specs.Prelude.{ℕ, ◌+◌, ◌-◌, nat_lt, if◌then◌else◌, List, [], ◌∷◌, length, take, Option, None, Some, Result, Ok, Err}
+-- How the bytes of a session are cut: a design up to its line `%%`, and after it a line for each cycle; and which
+-- values the lines give to the inputs, up to the first line that has a fault. This project's own text form.
+use Rattle.std.specs.Prelude.{ℕ, ◌+◌, ◌-◌, nat_lt, if◌then◌else◌, List, [], ◌∷◌, length, take, Option, None, Some}
+use Rattle.std.specs.Prelude.{Result, Ok, Err}
 use Rattle.std.specs.List.{slice_split}
 use Rattle.kw_base.specs.declared.fault.Fault.{Fault}
 use Rattle.kw_bits.specs.BitVector.{BitVector}
@@ -30,7 +31,8 @@ abbrev pub inputs_on : List NameWidth → (cycle number : ℕ) → List ℕ → 
 inputs_on inputs cycle number line =
     if nat_lt longest_source (length line) then Err (fault_of_source 40)
     else if nat_lt most_cycles cycle then Err (fault_of_source 45)
-    else after (line_of inputs number (without_return line)) (λ (given : List Assignment). Ok (inputs_by (widths_of inputs) given))
+    else after (line_of inputs number (without_return line))
+    (λ (given : List Assignment). Ok (inputs_by (widths_of inputs) given))
 
 -- the values of the inputs in cycle 1 and so on, and the fault that ends them, if there is one
 pub record Heard : Type 0 where

@@ -1,5 +1,5 @@
--- What a session writes: the report of the run whose cycles are the lines that were read, and after it which marked rules
--- fired; or the rows before a line that has a fault, and the line of that fault.
+-- What a session writes: the report of the run whose cycles are the lines that were read, and after it which marked
+-- rules fired; or the rows before a line that has a fault, and the line of that fault.
 use Rattle.std.specs.Prelude.{◌≡◌, ◌⊎◌, ℕ, List, [], ◌++◌, length, Option, None, Some}
 use Rattle.kw_base.specs.FaultLine.{line_of_fault}
 use Rattle.kw_base.specs.declared.fault.Fault.{Fault}
@@ -46,7 +46,8 @@ reply_to d heard = record {
 -- the head is too long, or spells no design
 abbrev pub RefusesHead : List HostSpec → List ℕ → Reply → Type 0
 RefusesHead hosts bytes reply =
-    (fault : Fault) × (IsTooLong (head_of bytes) fault ⊎ IsIllTyped hosts (head_of bytes) fault) × (reply ≡ refusal fault)
+    (fault : Fault) × (IsTooLong (head_of bytes) fault ⊎ IsIllTyped hosts (head_of bytes) fault)
+    × (reply ≡ refusal fault)
 
 -- the head spells a design, and the lines after it make its cycles
 abbrev pub RunsLines : List HostSpec → List ℕ → Reply → Type 0

@@ -1,5 +1,5 @@
--- What is promised of a session: a call that reads a design and then a line for each cycle, and writes each row before it
--- reads on. Nothing is said of what is left of the source after a fault.
+-- What is promised of a session: a call that reads a design and then a line for each cycle, and writes each row before
+-- it reads on. Nothing is said of what is left of the source after a fault.
 use Rattle.std.specs.Prelude.{◌≡◌, ◌≢◌, ◌⊎◌, ℕ, List, [], Option, None, Some, IfSome}
 use Rattle.kw_base.specs.declared.fault.Fault.{Fault}
 use Rattle.kw_bits.specs.Faults.{Rose}
@@ -27,7 +27,8 @@ MayGive left bytes = IfSome left (λ all. all ≡ bytes)
 -- the reply to bytes that the source may give was written, with this fault or none
 abbrev pub WritesReply : Session → Option Fault → Type 0
 WritesReply s fault =
-    (bytes : List ℕ) × MayGive s.source.before bytes × ((reply : Reply) × Answers s.hosts bytes reply × (reply.fault ≡ fault) × Gains s.sink reply.text)
+    (bytes : List ℕ) × MayGive s.source.before bytes
+    × ((reply : Reply) × Answers s.hosts bytes reply × (reply.fault ≡ fault) × Gains s.sink reply.text)
 
 -- With status 0 the report was written, and nothing else.
 abbrev pub WritesReport : Session → Type 0
@@ -44,17 +45,20 @@ WritesRefusal s = s.status ≡ Refused → (fault : Fault) × WritesReply s (Som
 -- The status is that of each reply, unless reading or writing fails or memory runs out.
 abbrev pub HasStatusOfReply : Session → Type 0
 HasStatusOfReply s =
-    IfSome s.source.before (λ bytes. (reply : Reply) → Answers s.hosts bytes reply → (s.status ≡ status_of reply) ⊎ IsFailure s.status)
+    IfSome s.source.before
+    (λ bytes. (reply : Reply) → Answers s.hosts bytes reply → (s.status ≡ status_of reply) ⊎ IsFailure s.status)
 
 -- In all cases the first bytes of each reply were written.
 abbrev pub WritesFront : Session → Type 0
-WritesFront s = IfSome s.source.before (λ bytes. (reply : Reply) → Answers s.hosts bytes reply → GainsFront s.sink reply.text)
+WritesFront s =
+    IfSome s.source.before (λ bytes. (reply : Reply) → Answers s.hosts bytes reply → GainsFront s.sink reply.text)
 
--- Where the bytes of the source aren't known too, the first bytes of a reply to some bytes were written; or nothing was, since
--- reading failed or memory ran out.
+-- Where the bytes of the source aren't known too, the first bytes of a reply to some bytes were written; or nothing
+-- was, since reading failed or memory ran out.
 abbrev pub WritesSomeFront : Session → Type 0
 WritesSomeFront s =
-    ((bytes : List ℕ) × MayGive s.source.before bytes × ((reply : Reply) × Answers s.hosts bytes reply × GainsFront s.sink reply.text))
+    ((bytes : List ℕ) × MayGive s.source.before bytes
+    × ((reply : Reply) × Answers s.hosts bytes reply × GainsFront s.sink reply.text))
     ⊎ (GainsNothing s.sink × ((s.status ≡ ReadFault) ⊎ (s.status ≡ NoMemory)))
 
 -- The status is never that of invalid words.

@@ -6,7 +6,8 @@ ghost use Rattle.stream_run.specs.Replies.{Answers, Reply};
 
 /// Bytes have one reply at most, where the same host functions are handed in.
 pub fn one_reply()
-    ensures { (hosts : List HostSpec) (bytes : List ℕ) (a b : Reply) → Answers hosts bytes a → Answers hosts bytes b → a ≡ b }
+    ensures { (hosts : List HostSpec) (bytes : List ℕ) (a b : Reply) →
+        Answers hosts bytes a → Answers hosts bytes b → a ≡ b }
 {}
 
 /// Bytes have a reply.

@@ -1,6 +1,7 @@
 //! Sessions: a source read line by line. A byte that was read is used before the next read.
 
-ghost use Rattle.std.specs.Prelude.{◌≡◌, ◌≤◌, ◌<◌, ◌+◌, ◌++◌, ◌∷◌, [], ℕ, List, true, false, length, position, vec_len, IfOk, OnErr, OnOk, OnSome, IsErrOf, ◌⊎◌};
+ghost use Rattle.std.specs.Prelude.{◌≡◌, ◌≤◌, ◌<◌, ◌+◌, ◌++◌, ◌∷◌, ◌⊎◌, [], ℕ, List, true, false, length, position};
+ghost use Rattle.std.specs.Prelude.{vec_len, IfOk, OnErr, OnOk, OnSome, IsErrOf};
 ghost use Rattle.std.specs.Io.KnownBytes.{Consumes, IsAtEnd};
 ghost use Rattle.kw_bits.specs.Faults.{Rose};
 ghost use Rattle.stim_report.specs.Cuts.{ends_line};
@@ -132,11 +133,11 @@ impl Reader {
         Ok(count > 0)
     }
 
-    // Moves what comes before the next line feed, or all that was read, to the end of a line, and says whether the line feed
-    // was there.
+    // Moves what comes before the next line feed, or all that was read, to the end of a line, and says whether the line
+    // feed was there.
     fn take_line(&mut self, line: &mut Vec<u8>) -> Result<bool, AllocError>
-        ensures whole { IfOk result (λ is_whole. is_whole ≡ true → (piece : List ℕ) × (line.new.items ≡ line.old.items ++ piece)
-            × (self.old ≡ piece ++ 10 ∷ self.new) × IsOneLine piece) }
+        ensures whole { IfOk result (λ is_whole. is_whole ≡ true → (piece : List ℕ)
+            × (line.new.items ≡ line.old.items ++ piece) × (self.old ≡ piece ++ 10 ∷ self.new) × IsOneLine piece) }
         ensures broken { IfOk result (λ is_whole. is_whole ≡ false → (line.new.items ≡ line.old.items ++ self.old)
             × (vec_len line.new ≡ vec_len line.old + length self.old) × (self.new ≡ []) × IsOneLine self.old) }
     {

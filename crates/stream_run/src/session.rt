@@ -10,7 +10,9 @@ ghost use Rattle.stim_report.specs.Cuts.{parts_of};
 ghost use Rattle.typed_core.specs.Widths.{HaveWidths, register_widths};
 ghost use Rattle.front_end.specs.Sources.{IsIllTyped, SpellsDesign, longest_source};
 ghost use Rattle.front_end.specs.Streams.{stream};
-ghost use Rattle.stream_run.specs.Sessions.{CountsReadFault, CountsWriteFault, HasNoWords, HasStatusOfReply, IsKept, ReadsAll, WritesFront, WritesRefusal, WritesReport, WritesSomeFront, session};
+ghost use Rattle.stream_run.specs.Sessions.{CountsReadFault, CountsWriteFault, HasNoWords, HasStatusOfReply, IsKept};
+ghost use Rattle.stream_run.specs.Sessions.{ReadsAll, WritesFront, WritesRefusal, WritesReport, WritesSomeFront};
+ghost use Rattle.stream_run.specs.Sessions.{session};
 ghost use Rattle.stream_run.specs.inner.Reading.{to_come};
 ghost use Rattle.stream_run.specs.inner.Telling.{Finishes, FinishesDesign, FinishesSession, place_of};
 
@@ -25,9 +27,9 @@ use kw_io::{Sink, Source};
 use std::alloc::Global;
 use stim_report::source_parts;
 
-/// Reads a design from a source, and then a line of its stimulus for each cycle. Each row of the run is written before the
-/// next read. At the end of the source it is written which marked rules fired. The clauses are in `specs/Sessions.antt`, in
-/// words. It is proved to return.
+/// Reads a design from a source, and then a line of its stimulus for each cycle. Each row of the run is written before
+/// the next read. At the end of the source it is written which marked rules fired. The clauses are in
+/// `specs/Sessions.antt`, in words. It is proved to return.
 pub fn step<S: Source, K: Sink>(
     alloc: Global,
     hosts: &[HostFn],
@@ -124,8 +126,8 @@ fn lowered_of(alloc: Global, hosts: &[HostFn], head: &[u8]) -> Result<Lowered, R
     Ok(lowered)
 }
 
-// Writes the first row of a design, and answers its lines, of which the first has this number in the source. There is none
-// where its line `%%` didn't come.
+// Writes the first row of a design, and answers its lines, of which the first has this number in the source. There is
+// none where its line `%%` didn't come.
 fn answer_design<S: Source, K: Sink>(
     alloc: Global,
     lowered: &Lowered,

@@ -53,7 +53,8 @@ pub(crate) struct Stand {
 }
 
 impl Stand {
-    ghost use Rattle.stream_run.specs.inner.Telling.{AnswersLine, Writes, first_place, next_place, next_row, place_of, told_from};
+    ghost use Rattle.stream_run.specs.inner.Telling.{AnswersLine, Writes, first_place, next_place, next_row};
+    ghost use Rattle.stream_run.specs.inner.Telling.{place_of, told_from};
 
     /// Before the first cycle of a design.
     pub(crate) fn first(alloc: Global, lowered: &Lowered, line: u32) -> Result<Stand, NoMemory>

@@ -12,7 +12,7 @@ use std::test::Fail;
 
 // A design of two lines, of which the second is `%%`.
 const DESIGN: &[u8] =
-    b"input k : bits 4; reg x : bits 4 = 4'd0; rule a { write0(x, k) } rule b { if read1(x) != 4'd2 { abort } } assert b; schedule { a; b; }\n%%\n";
+    b"input k:bits 4;reg x:bits 4=4'd0;rule a{write0(x,k)}rule b{if read1(x)!=4'd2{abort}}assert b;schedule{a;b;}\n%%\n";
 
 // A source that finds out whether a line of the stimulus waits for its row when the next read is made.
 #[derive(Drop)]

@@ -13,7 +13,8 @@ use Rattle.stream_run.specs.declared.stop.Stop.TheVariants as stops
 abbrev pub IsOneLine : List ℕ → Type 0
 IsOneLine bytes = All (λ b. ends_line b ≡ false) bytes
 
--- the bytes that are still to come, where they are known: those that were read and not used, and those that the source has left
+-- the bytes that are still to come, where they are known: those that were read and not used, and those that the source
+-- has left
 abbrev pub to_come : List ℕ → Option (List ℕ) → Option (List ℕ)
 to_come unread left = prepend_known unread left
 

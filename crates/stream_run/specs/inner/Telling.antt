@@ -1,5 +1,7 @@
--- What is left to write of a session, by where its run stands and the lines that are left. This serves private functions alone.
-use Rattle.std.specs.Prelude.{◌≡◌, ◌⊎◌, ℕ, ◌+◌, Bool, true, false, List, [], ◌∷◌, ◌++◌, Option, None, Some, Result, Ok, Err}
+-- What is left to write of a session, by where its run stands and the lines that are left. This serves private
+-- functions alone.
+use Rattle.std.specs.Prelude.{◌≡◌, ◌⊎◌, ℕ, ◌+◌, Bool, true, false, List, [], ◌∷◌, ◌++◌, Option, None, Some, Result, Ok}
+use Rattle.std.specs.Prelude.{Err}
 use Rattle.std.specs.Io.KnownBytes.{Appends, Keeps}
 use Rattle.kw_base.specs.FaultLine.{line_of_fault}
 use Rattle.kw_base.specs.declared.fault.Fault.{Fault}
@@ -26,7 +28,8 @@ use Rattle.stream_run.specs.declared.stand.Stand.{Stand}
 use Rattle.stream_run.specs.declared.stop.Stop.{Stop}
 use Rattle.stream_run.specs.declared.stop.Stop.TheVariants as stops
 
--- where a run is: how many cycles it had, the number of the next line in the source, the registers, and what is known of marks
+-- where a run is: how many cycles it had, the number of the next line in the source, the registers, and what is known
+-- of marks
 pub record Place : Type 0 where
   pub cycle : ℕ
   pub line : ℕ
@@ -71,9 +74,11 @@ abbrev pub told_from : Checked → Place → List (List ℕ) → Reply
 told_from d place [] = record { text = watched_text place.known; fault = None }
 told_from d place (line ∷ lines) =
     told_then (inputs_on (shape_of d).inputs (place.cycle + 1) place.line line) (λ (values : List BitVector).
-    after_text (line_of (shape_of d) (place.cycle + 1) (next_row d place values)) (told_from d (next_place d place values) lines))
+    after_text (line_of (shape_of d) (place.cycle + 1) (next_row d place values))
+    (told_from d (next_place d place values) lines))
 
--- a part of a session that ended so wrote this of a reply: all of it; all before the line of its fault; or its first bytes
+-- a part of a session that ended so wrote this of a reply: all of it; all before the line of its fault; or its first
+-- bytes
 abbrev pub Writes : Reply → Option (List ℕ) → Option (List ℕ) → Result (Unit {0}) Stop → Type 0
 Writes reply old new (Ok done) = (reply.fault ≡ None) × Appends old new reply.text
 Writes reply old new (Err (stops.Fault fault)) =
@@ -83,29 +88,38 @@ Writes reply old new (Err stops.WriteFault) = AppendsFront old new reply.text
 Writes reply old new (Err stops.NoMemory) = AppendsFront old new reply.text
 
 -- a line was answered, and the run goes on; or the session ends with it
-abbrev pub AnswersLine : Checked → Place → Place → List ℕ → Option (List ℕ) → Option (List ℕ) → Result (Unit {0}) Stop → Type 0
+abbrev pub AnswersLine : Checked → Place → Place → List ℕ → Option (List ℕ) → Option (List ℕ) → Result (Unit {0}) Stop
+    → Type 0
 AnswersLine d before behind line old new (Ok done) =
-    (text : List ℕ) × Appends old new text × ((lines : List (List ℕ)) → told_from d before (line ∷ lines) ≡ after_text text (told_from d behind lines))
-AnswersLine d before behind line old new (Err stop) = (lines : List (List ℕ)) → Writes (told_from d before (line ∷ lines)) old new (Err stop)
+    (text : List ℕ) × Appends old new text
+    × ((lines : List (List ℕ)) → told_from d before (line ∷ lines) ≡ after_text text (told_from d behind lines))
+AnswersLine d before behind line old new (Err stop) =
+    (lines : List (List ℕ)) → Writes (told_from d before (line ∷ lines)) old new (Err stop)
 
 -- the session went on from a place with the bytes that were to come
-abbrev pub Finishes : Checked → Place → Option (List ℕ) → Option (List ℕ) → Option (List ℕ) → Result (Unit {0}) Stop → Type 0
-Finishes d place coming old new result = (rest : List ℕ) × MayGive coming rest × Writes (told_from d place (lines_in rest)) old new result
+abbrev pub Finishes : Checked → Place → Option (List ℕ) → Option (List ℕ) → Option (List ℕ) → Result (Unit {0}) Stop
+    → Type 0
+Finishes d place coming old new result =
+    (rest : List ℕ) × MayGive coming rest × Writes (told_from d place (lines_in rest)) old new result
 
 -- the same from the row that a design begins with, where no lines are left unless some may come
 abbrev pub whole_reply : Checked → ℕ → List ℕ → Reply
 whole_reply d line rest =
-    after_text (line_of (shape_of d) 0 (opening (system_of d).rules (first_values d))) (told_from d (first_place d line) (lines_in rest))
+    after_text (line_of (shape_of d) 0 (opening (system_of d).rules (first_values d)))
+    (told_from d (first_place d line) (lines_in rest))
 
-pub record FinishesDesign (d : Checked) (line : ℕ) (is_open : Bool) (coming old new : Option (List ℕ)) (result : Result (Unit {0}) Stop) : Type 0 where
+pub record FinishesDesign (d : Checked) (line : ℕ) (is_open : Bool) (coming old new : Option (List ℕ))
+    (result : Result (Unit {0}) Stop) : Type 0 where
   pub rest : List ℕ
   pub some : is_open ≡ true → MayGive coming rest
   pub none : is_open ≡ false → rest ≡ []
   pub writes : Writes (whole_reply d line rest) old new result
 
--- a whole session: a part of the reply to bytes that the source may give was written; or nothing was, since reading failed or
--- memory ran out
-abbrev pub FinishesSession : List HostSpec → Option (List ℕ) → Option (List ℕ) → Option (List ℕ) → Result (Unit {0}) Stop → Type 0
+-- a whole session: a part of the reply to bytes that the source may give was written; or nothing was, since reading
+-- failed or memory ran out
+abbrev pub FinishesSession : List HostSpec → Option (List ℕ) → Option (List ℕ) → Option (List ℕ)
+    → Result (Unit {0}) Stop → Type 0
 FinishesSession hosts left old new result =
-    ((bytes : List ℕ) × MayGive left bytes × ((reply : Reply) × Answers hosts bytes reply × Writes reply old new result))
+    ((bytes : List ℕ) × MayGive left bytes
+    × ((reply : Reply) × Answers hosts bytes reply × Writes reply old new result))
     ⊎ (Keeps old new × ((result ≡ Err stops.ReadFault) ⊎ (result ≡ Err stops.NoMemory)))
