@@ -261,12 +261,25 @@ same "no explanation without files" "$(FAULT="11 at 1:1" WITH=2 "$tree/koika" ch
     "fault 11 at 1:1"
 has "asked for" "$(KOIKA_EXPLAIN=1 FAULT="11 at 1:1" WITH=2 "$tree/koika" check <whole 2>&1 || true)" \
     "koika: fault 11 at line 1, column 1: "
+# A session has a file, a line `%%` where the file has none, and then standard input as it comes.
+read_by_step() { "$tree/koika" step "$@" | tail -n +3 | tr -d ' \n'; }
+printf 'rule' >"$room/open"
+printf 'rule\n%%%%\r\na=1\n' >"$room/marked"
+same "step with a design" "$(printf 'a=2\n' | read_by_step "$room/open")" 'rule\n%%\na=2\n'
+same "step with lines in the file" "$(printf 'a=2\n' | read_by_step "$room/marked")" 'rule\n%%\r\na=1\na=2\n'
+same "step without a file" "$(printf 'rule\n%%%%\n' | read_by_step)" 'rule\n%%\n'
+status=0
+said=$(WITH=1 timeout 20 "$tree/koika" step "$room/open" 2>&1 < <(sleep 60)) || status=$?
+same "a session that ends before its input" "$status $said" "1 usage: .."
+status=0
+said=$("$tree/koika" step nowhere 2>&1 <"$room/empty") || status=$?
+same "step without its file" "$status $said" "3 koika: nowhere can't be read: there is no such file"
 status=0
 said=$(KOIKA_EXPLAIN=1 WITH=8 "$tree/koika" profile --strict --cycles 2 whole 2>&1 >/dev/null) || status=$?
 has "status 8" "$status $said" "8 koika: an assertion was violated"
 for words in "why:--cycle C" "why --cycle 0:counted from 1" "why --cycle 1 --rule 1a:no name" "profile:--cycles N" \
     "profile --cycles 1 --strict --strict:given twice" "profile --cycles 1 --summary:no option" "waves:--cycles N" \
-    "waves --cycles 1 --strict:no option" "lint:no command"; do
+    "waves --cycles 1 --strict:no option" "step --cycles 1:no option" "lint:no command"; do
     # shellcheck disable=SC2086
     said=$(KOIKA_EXPLAIN=1 WITH=1 "$tree/koika" ${words%:*} 2>&1 >/dev/null <"$room/empty" || true)
     has "${words%:*}" "$said" "${words#*:}"

@@ -5,6 +5,7 @@ pub mod Why
 pub mod Profile
 pub mod Waves
 pub mod Answer
+pub mod Step
 pub mod Calls
 pub mod Numbers
 pub mod inner

@@ -1,6 +1,6 @@
 //! Commands: the call of the lab, and what each command does.
 
-ghost use Rattle.std.specs.Prelude.{◌≡◌, ◌≢◌, ◌≤◌, Some, [], true, IfSome, map, string_bytes, length};
+ghost use Rattle.std.specs.Prelude.{◌≡◌, ◌≢◌, ◌≤◌, Some, [], false, true, IfSome, map, string_bytes, length};
 ghost use Rattle.kw_bits.specs.Faults.{Rose};
 ghost use Rattle.one_rule.specs.Hosts.{host_specs};
 ghost use Rattle.front_end.specs.Calls.{call};
@@ -10,6 +10,7 @@ ghost use Rattle.front_end.specs.inner.Steps.{IsReply, Tells, TellsRead};
 ghost use Rattle.lab_top.specs.Answer.{Answers, ends, lab, plain};
 ghost use Rattle.lab_top.specs.Calls.{IsKept};
 ghost use Rattle.lab_top.specs.Profile.{AnswersProfile};
+ghost use Rattle.lab_top.specs.Step.{IsSession, asks_step};
 ghost use Rattle.lab_top.specs.Waves.{AnswersWaves};
 ghost use Rattle.lab_top.specs.Why.{AnswersWhy};
 ghost use Rattle.lab_top.specs.inner.Steps.{FailsBy, HasSomeCycles};
@@ -25,6 +26,7 @@ use kw_base::fault_number;
 use kw_bits::{NoMemory, Text};
 use kw_io::{ReadAll, Sink, Source, read_all};
 use std::alloc::Global;
+use stream_run::step;
 
 // How to call the lab.
 const USAGE_LINE: &[u8] =
@@ -35,8 +37,8 @@ const LONGEST_SOURCE: usize = 1_048_576;
 
 /// Runs the lab on its arguments, without the program's own name: reads the source if the arguments are valid, and
 /// writes the answer to the sink. Designs may declare the host functions. The clauses on content hold where the bytes
-/// that the source has left, or that were written to the sink, are known; `specs/Calls.antt` has each clause in words.
-/// It is proved to return.
+/// that the source has left, or that were written to the sink, are known; `specs/Calls.antt` has each clause in words,
+/// and of `step`, which reads its source line by line, `stream_run`'s `specs/Sessions.antt`. It is proved to return.
 pub fn lab<S: Source, K: Sink>(
     alloc: Global,
     words: &[String],
@@ -44,10 +46,27 @@ pub fn lab<S: Source, K: Sink>(
     source: &mut S,
     sink: &mut K,
 ) -> LabStatus
-    ensures { IsKept (source.new ≡ source.old) (call (map string_bytes words.now) (host_specs hosts.now)
-        (stream S.left S.faults source.old source.new) (stream K.written K.faults sink.old sink.new) result) }
+    ensures kept { asks_step (map string_bytes words.now) ≡ false → IsKept (source.new ≡ source.old)
+        (call (map string_bytes words.now) (host_specs hosts.now) (stream S.left S.faults source.old source.new)
+        (stream K.written K.faults sink.old sink.new) result) }
+    ensures session { asks_step (map string_bytes words.now) ≡ true → IsSession (host_specs hosts.now)
+        (stream S.left S.faults source.old source.new) (stream K.written K.faults sink.old sink.new) result }
 {
-    answer_words(alloc, words, hosts, source, sink)
+    if asks_step(words) {
+        LabStatus::of(step(alloc, hosts, source, sink), false)
+    } else {
+        answer_words(alloc, words, hosts, source, sink)
+    }
+}
+
+// Whether the words ask for `step`.
+fn asks_step(words: &[String]) -> bool
+    ensures { result ≡ asks_step (map string_bytes words.now) }
+{
+    match words {
+        [word] => word.as_str() == "step",
+        _ => false,
+    }
 }
 
 // Does what the words ask for, and writes the answer.
