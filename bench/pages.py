@@ -189,8 +189,14 @@ ENVIRONMENT = {name: value for name, value in os.environ.items() if name not in 
 TOOLS = {
     "yosys": "yosys", "berkeley-abc": "berkeley-abc", "iverilog": "iverilog", "z3": "z3", "cvc5": "cvc5",
     "nextpnr-ice40": "nextpnr-ice40", "icepack": "icepack", "parallel": "parallel",
-    "qemu-riscv32": "qemu-riscv32", "examples/riscv/build": "riscv64-unknown-elf-gcc",
+    "qemu-riscv32": "qemu-riscv32", "examples/riscv/build": "riscv64-unknown-elf-gcc", "pytest": "pytest",
 }
+
+# Commands that are left out where the lab has no such command yet: its words, and what of a command of a page needs it.
+LATER = [
+    (["step"], r"koika step|clients/python|examples/testbench|broken\.stimulus|drive\.sh"),
+    (["waves", "--cycles", "0"], r"koika waves"),
+]
 
 
 def blocks_of(page):
@@ -283,6 +289,7 @@ class Pages:
         self.top = top
         self.tried = self.wrong = 0
         self.skipped = {}
+        self.unknown = {}
         self.used = set()
 
     def say(self, where, what):
@@ -295,7 +302,18 @@ class Pages:
         for word, tool in TOOLS.items():
             if re.search(r"(^|[\s(;|$])" + re.escape(word) + r"(\s|$)", command) and not shutil.which(tool):
                 return tool
+        for words, pattern in LATER:
+            if re.search(pattern, command) and self.is_unknown(words):
+                return f"the command `{words[0]}`"
         return None
+
+    def is_unknown(self, words):
+        """Whether the program refuses these words."""
+        if words[0] not in self.unknown:
+            done = subprocess.run([os.path.join(self.top, "koika"), *words], stdin=subprocess.DEVNULL, check=False,
+                                  stdout=subprocess.DEVNULL, stderr=subprocess.DEVNULL, env=ENVIRONMENT)
+            self.unknown[words[0]] = done.returncode == 1
+        return self.unknown[words[0]]
 
     def run(self, where, command, wanted, room):
         """Runs a command and compares the lines that it writes."""
@@ -321,7 +339,7 @@ class Pages:
         """Runs what a page has, in a folder of its own."""
         name = os.path.basename(page)
         with tempfile.TemporaryDirectory() as room:
-            for part in ("koika", "bin", "examples", "docs", "editors", "crates"):
+            for part in ("koika", "bin", "examples", "docs", "editors", "crates", "clients"):
                 os.symlink(os.path.join(self.top, part), os.path.join(room, part))
             if name in BEFORE:
                 subprocess.run(["bash", "-c", BEFORE[name]], cwd=room, check=True)
@@ -367,7 +385,7 @@ class Pages:
         for target in re.findall(r"`([A-Za-z_/-]+\.md)`", text):
             if not any(os.path.exists(os.path.join(there, target)) for there in folders):
                 self.say(os.path.basename(page), f"there is no {target}")
-        for target in re.findall(r"`((?:bin|bench|examples|editors|crates|docs)/[A-Za-z0-9_./-]+)`", text):
+        for target in re.findall(r"`((?:bin|bench|examples|editors|crates|clients|docs)/[A-Za-z0-9_./-]+)`", text):
             if not os.path.exists(os.path.join(top, target)):
                 self.say(os.path.basename(page), f"there is no {target}")
 

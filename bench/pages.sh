@@ -31,9 +31,9 @@ if [ -z "$lab_cli" ]; then
 fi
 if [ $# = 0 ]; then
     set -- README.md docs/LANGUAGE.md docs/FROM-BLUESPEC.md docs/FAULTS.md docs/LIMITS.md docs/FORMATS.md \
-        docs/GENERATING.md docs/SWEEPS.md docs/LAB.md docs/BTOR2.md docs/AIGER.md docs/CIRCUITS.md docs/JOURNAL.md \
-        docs/THREADS.md docs/GLOSSARY.md docs/PERFORMANCE.md docs/ARCHITECTURE.md docs/CONTRIBUTING.md docs/GATE.md \
-        docs/PROOFS.md docs/DEFINITIONS.md docs/DECISIONS.md editors/README.md CHANGELOG.md
+        docs/GENERATING.md docs/SWEEPS.md docs/LAB.md docs/TESTBENCH.md docs/BTOR2.md docs/AIGER.md docs/CIRCUITS.md \
+        docs/JOURNAL.md docs/THREADS.md docs/GLOSSARY.md docs/PERFORMANCE.md docs/ARCHITECTURE.md docs/CONTRIBUTING.md \
+        docs/GATE.md docs/PROOFS.md docs/DEFINITIONS.md docs/DECISIONS.md editors/README.md CHANGELOG.md
 fi
 room=$(mktemp -d)
 trap 'rm -rf "$room"' EXIT
@@ -41,8 +41,7 @@ trap 'rm -rf "$room"' EXIT
 # The launcher takes a program for current: no source is there, and nothing was touched since `seen` was written.
 copy=$room/koika
 mkdir -p "$copy/crates"
-cp -a koika bin examples docs editors crates.txt README.md CHANGELOG.md "$copy"
-if [ -d clients ]; then cp -a clients "$copy"; fi
+cp -a koika bin clients examples docs editors crates.txt README.md CHANGELOG.md "$copy"
 for name in koika_cli lab_cli; do
     mkdir -p "$copy/crates/$name/out"
     cp "${!name}" "$copy/crates/$name/out/$name"

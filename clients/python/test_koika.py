@@ -97,14 +97,14 @@ def test_types():
         assert d.row["last_light"] == light["Red"] and d.row["last_light"].name == "Red"
         pixel = {"x": 255, "on": 0, "light": "Amber"}
         row = d.step(at=pixel, row=[pixel, 0, d.row["last"]], grid=[(3, 2), (1, 0)], light="Light::Amber")
-        assert row["last"] == pixel | {"light": 1} and int(row["last"]) == row.bits("last") == 255 << 3 | 1
+        assert row["last"] == {**pixel, "light": 1} and int(row["last"]) == row.bits("last") == 255 << 3 | 1
         assert row["last_row"][1].x == 0 and row["last_row"][2].on == 1 and row["last_grid"] == ((3, 2), (1, 0))
         row = d.step(at=row["last"].replaced(on=1), light=3)
         assert row["last"].on == 1 and row["last"].x == 255 and row["last_light"].name == "" and row["last_light"] == 3
         assert repr(row["last_light"]) == "Light::?3" and repr(row["last"]).startswith("Pixel::{ x: 255, on: 1, ")
         raised(KeyError, d.step, nothing=1)
         for what in [{"light": 4}, {"light": -1}, {"light": "Blue"}, {"light": "Pixel::Red"}, {"at": {"x": 1}},
-                     {"at": pixel | {"x": 256}}, {"at": pixel | {"y": 0}}, {"at": 1 << 11}, {"row": [0, 0]},
+                     {"at": {**pixel, "x": 256}}, {"at": {**pixel, "y": 0}}, {"at": 1 << 11}, {"row": [0, 0]},
                      {"grid": [[0, 0], [0, 4]]}]:
             raised(ValueError, d.step, what)
         raised(TypeError, d.step, light=1.0)
