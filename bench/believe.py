@@ -24,10 +24,11 @@ COMMANDS = {
     "why": "AnswersWhy",
     "profile": "AnswersProfile",
     "waves": "AnswersWaves",
+    "step": "stream_run.Sessions.IsKept",
 }
 BEGINS_TYPE = r"^ *(?:pub(?:\([a-z]+\))? )?(?:struct|enum|const|type) "
 # The commands in the order in which docs/DEFINITIONS.md lists what they rest on: each brings what those before it don't.
-LISTED = ["sim", "compile", "why", "profile", "waves", "check", "print", "gen", "journal", "recheck", "aiger", "aigsim",
+LISTED = ["sim", "compile", "why", "profile", "waves", "step", "check", "print", "gen", "journal", "recheck", "aiger", "aigsim",
           "btorsim"]
 PAGE = "docs/DEFINITIONS.md"
 # The lines of the page between which the order stands.
@@ -272,7 +273,7 @@ def counts_of(house):
 
 
 def roots(house, command):
-    found = [key for key in house.definitions if key[2] == COMMANDS[command]]
+    found = [key for key in house.definitions if COMMANDS[command] in (key[2], ".".join(key))]
     if len(found) != 1:
         sys.exit(f"{len(found)} definitions are called {COMMANDS[command]}")
     return found
