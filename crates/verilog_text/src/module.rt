@@ -1,0 +1,105 @@
+//! Verilog: modules, as far as circuits need them.
+
+use kw_bits::{Bits, Sequence, Text};
+
+/// What stands in an expression: a constant, or an input, a register or a wire by its number.
+#[derive(Clone, Copy)]
+pub(crate) enum Operand {
+    Constant(Bits),
+    Input(u32),
+    Register(u32),
+    Wire(u64),
+}
+
+/// The operators on one operand.
+#[derive(Clone, Copy)]
+pub(crate) enum Prefix {
+    Not,
+    Neg,
+    RedAnd,
+    RedOr,
+    RedXor,
+}
+
+/// The expressions over two operands.
+#[derive(Clone, Copy)]
+pub(crate) enum Infix {
+    And,
+    Or,
+    Xor,
+    Nand,
+    Nor,
+    Xnor,
+    Add,
+    Sub,
+    Mul,
+    ShiftLeft,
+    ShiftRight,
+    ShiftSigned,
+    Equal,
+    Unequal,
+    Below,
+    AtMost,
+    SignedBelow,
+    SignedAtMost,
+    Join,
+}
+
+/// The expression of a wire.
+#[derive(Clone, Copy)]
+pub(crate) enum Form {
+    /// An operator on one operand.
+    One(Prefix, Operand),
+    /// An expression over two operands.
+    Two(Infix, Operand, Operand),
+    /// The second operand where the first isn't 0, else the third.
+    Choice(Operand, Operand, Operand),
+    /// The bits of a signal from the lower bound to the upper, which comes first. Both are included.
+    Slice(Operand, u32, u32),
+    /// A signal with its highest bit, which has this index, repeated above it this many times.
+    Extension(Operand, u32, u32),
+}
+
+/// A wire: its width and its expression. Its number is how many wires are before it.
+#[derive(Clone, Copy)]
+pub(crate) struct Wire {
+    pub(crate) width: u32,
+    pub(crate) form: Form,
+}
+
+/// An input: its name and its width.
+#[derive(Drop)]
+pub(crate) struct Port {
+    pub(crate) name: Text,
+    pub(crate) width: u32,
+}
+
+/// An output of one bit: its name and its value.
+#[derive(Drop)]
+pub(crate) struct Output {
+    pub(crate) name: Text,
+    pub(crate) value: Operand,
+}
+
+/// A register: its name, whether it is an output too, its first value and the value that it takes at a rising edge of
+/// the clock.
+#[derive(Drop)]
+pub(crate) struct Register {
+    pub(crate) name: Text,
+    pub(crate) is_port: bool,
+    pub(crate) first: Bits,
+    pub(crate) next: Operand,
+}
+
+/// A module. Names are as they are written.
+#[derive(Drop)]
+pub(crate) struct Module {
+    pub(crate) name: Text,
+    pub(crate) clock: Text,
+    /// The input that gives registers their first values, if there is one.
+    pub(crate) reset: Option<Text>,
+    pub(crate) inputs: Sequence<Port>,
+    pub(crate) outputs: Sequence<Output>,
+    pub(crate) registers: Sequence<Register>,
+    pub(crate) wires: Sequence<Wire>,
+}
