@@ -4,7 +4,7 @@ use Rattle.std.proofs.lemmas.List.{drop-append-le, length-drop, nil_from_length,
 use Rattle.std.proofs.lemmas.List.Sums.{sum_by-cons}
 use Rattle.clause_check.specs.Clauses.{Clause, Cnf}
 use Rattle.clause_check.specs.declared.literal.Literal.{Literal}
-use Rattle.clause_check.specs.inner.Flat.{clauses_by}
+use Rattle.clause_check.specs.Flat.{clauses_by}
 
 -- as many clauses as lengths
 pub length-clauses_by : (literals : List Literal) (lengths : List ℕ) → length (clauses_by literals lengths) ≡ length lengths

@@ -1,5 +1,6 @@
 pub mod Clauses
 pub mod Dimacs
+pub mod Flat
 pub mod Lines
 pub mod Propagation
 pub mod Refutations

@@ -1,7 +1,6 @@
 -- What only contracts of private functions cite.
 pub mod Cuts
 pub mod Databases
-pub mod Flat
 pub mod Progresses
 pub mod Tokens
 pub mod Values

@@ -8,13 +8,13 @@ ghost use Rattle.clause_check.specs.inner.Cuts.{StopsAt, bytes_after, pieces_of,
 
 /// A line of a text, and the bytes after it.
 #[derive(Clone, Copy)]
-pub(crate) struct Cut<'a> {
-    pub(crate) line: &'a [u8],
-    pub(crate) rest: &'a [u8],
+pub struct Cut<'a> {
+    pub line: &'a [u8],
+    pub rest: &'a [u8],
 }
 
 /// The first line of a text, if it has a byte.
-pub(crate) fn next_line(text: &[u8]) -> Option<Cut<'_>>
+pub fn next_line(text: &[u8]) -> Option<Cut<'_>>
     ensures found { IfSome result (λ cut. lines_of text.now ≡ cut.line.now ∷ lines_of cut.rest.now) }
     ensures shorter { IfSome result (λ cut. length cut.rest.now < length text.now) }
     ensures absent { IfNone result (lines_of text.now ≡ []) }
@@ -78,7 +78,7 @@ pub(crate) fn without_blanks(bytes: &[u8]) -> &[u8]
 }
 
 /// Whether a byte is a space or a tab.
-pub(crate) fn is_space(byte: u8) -> bool
+pub fn is_space(byte: u8) -> bool
     ensures { result ≡ is_blank byte }
 {
     byte == b' ' || byte == b'\t'

@@ -2,7 +2,7 @@
 
 ghost use Rattle.std.specs.Prelude.{◌≡◌, ◌++◌, decimal, flat_map, OnOk};
 ghost use Rattle.clause_check.specs.Dimacs.{clause_line, dimacs_of, literal_text, problem_line};
-ghost use Rattle.clause_check.specs.inner.Flat.{clauses_by};
+ghost use Rattle.clause_check.specs.Flat.{clauses_by};
 
 use crate::formula::{Clauses, Formula, first_clause};
 use crate::literal::Literal;

@@ -2,7 +2,7 @@
 
 ghost use Rattle.std.specs.Prelude.{◌≡◌, ◌<◌, ◌++◌, ◌∷◌, ◌↔◌, [], IsTrue, length, sum, All, OnOk, OnErr, IfSome, IfNone};
 ghost use Rattle.clause_check.specs.Clauses.{IsLiteral};
-ghost use Rattle.clause_check.specs.inner.Flat.{clauses_by};
+ghost use Rattle.clause_check.specs.Flat.{clauses_by};
 
 use crate::literal::Literal;
 use kw_bits::NoMemory;
@@ -19,7 +19,7 @@ pub struct Formula {
 
 impl Model for Formula {
     ghost use Rattle.clause_check.specs.Clauses.{Cnf};
-    ghost use Rattle.clause_check.specs.inner.Flat.{IsFlat, clauses_by};
+    ghost use Rattle.clause_check.specs.Flat.{IsFlat, clauses_by};
 
     ghost Value = { Cnf };
 
@@ -77,7 +77,7 @@ impl Formula {
     }
 
     /// All clauses, in order.
-    pub(crate) fn clauses(&self) -> Clauses<'_>
+    pub fn clauses(&self) -> Clauses<'_>
         ensures clauses { clauses_by result.literals.now result.lengths.now ≡ self.now.clauses }
         ensures literals { All (IsLiteral self.now.variables) result.literals.now }
     {
@@ -90,21 +90,21 @@ impl Formula {
 
 /// Clauses, one after another: all their literals, and how many of them each has.
 #[derive(Clone, Copy)]
-pub(crate) struct Clauses<'a> {
-    pub(crate) literals: &'a [Literal],
-    pub(crate) lengths: &'a [usize],
+pub struct Clauses<'a> {
+    pub literals: &'a [Literal],
+    pub lengths: &'a [usize],
     ghost whole: { sum lengths.now ≡ length literals.now },
 }
 
 /// A clause, and the clauses after it.
 #[derive(Clone, Copy)]
-pub(crate) struct First<'a> {
-    pub(crate) clause: &'a [Literal],
-    pub(crate) rest: Clauses<'a>,
+pub struct First<'a> {
+    pub clause: &'a [Literal],
+    pub rest: Clauses<'a>,
 }
 
 /// The first clause, if there is one.
-pub(crate) fn first_clause(clauses: Clauses<'_>) -> Option<First<'_>>
+pub fn first_clause(clauses: Clauses<'_>) -> Option<First<'_>>
     ensures found { IfSome result (λ first. clauses_by clauses.entry.literals.now clauses.entry.lengths.now
         ≡ first.clause.now ∷ clauses_by first.rest.literals.now first.rest.lengths.now) }
     ensures literals { IfSome result (λ first. clauses.entry.literals.now ≡ first.clause.now ++ first.rest.literals.now) }

@@ -21,8 +21,9 @@ mod tests;
 mod token;
 mod values;
 
+pub use cut::{Cut, is_space, next_line};
 pub use dimacs::push_dimacs;
-pub use formula::Formula;
+pub use formula::{Clauses, First, Formula, first_clause};
 pub use laws::a_refuted_formula_is_unsatisfiable;
 pub use literal::Literal;
 pub use refutation::check_refutation;

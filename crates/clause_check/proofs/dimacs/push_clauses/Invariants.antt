@@ -1,6 +1,6 @@
 use Rattle.std.proofs.Common.{◌≡◌, ◌++◌, flat_map, length}
 use Rattle.clause_check.specs.Dimacs.{clause_line}
-use Rattle.clause_check.specs.inner.Flat.{clauses_by}
+use Rattle.clause_check.specs.Flat.{clauses_by}
 use Rattle.clause_check.proofs.dimacs.push_clauses.Given as goal
 
 abbrev pub invariant-loop-first : goal.invariant-loop-first

@@ -1,7 +1,7 @@
 use Rattle.std.proofs.Common.{◌≡◌, ◌++◌, List, length}
 use Rattle.clause_check.specs.Clauses.{Clause}
 use Rattle.clause_check.specs.Refutations.{begin}
-use Rattle.clause_check.specs.inner.Flat.{clauses_by}
+use Rattle.clause_check.specs.Flat.{clauses_by}
 use Rattle.clause_check.specs.inner.Progresses.{progress_of}
 use Rattle.clause_check.specs.inner.Tokens.{AreWithin}
 use Rattle.clause_check.proofs.database.Database.of_formula.Given as goal

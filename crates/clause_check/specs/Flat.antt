@@ -1,4 +1,4 @@
--- Clauses in one list of literals, with the length of each. Only contracts of private functions cite it.
+-- Clauses in one list of literals, with the length of each.
 use Rattle.std.specs.Prelude.{◌≡◌, ℕ, List, [], ◌∷◌, All, drop, length, sum, take}
 use Rattle.clause_check.specs.Clauses.{Clause, IsLiteral}
 use Rattle.clause_check.specs.declared.literal.Literal.{Literal}
