@@ -1,0 +1,16 @@
+pub mod Lists
+pub mod Folding
+pub mod Cones
+pub mod Tseitin
+pub mod BitsOfWords
+pub mod Broken
+pub mod Breaking
+pub mod Runs
+pub mod Bounds
+pub mod Idle
+pub mod Obliging
+pub mod CuttingWords
+pub mod FirstOfBits
+pub mod Reading
+pub mod Drafting
+pub mod Texts

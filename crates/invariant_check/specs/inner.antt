@@ -1,0 +1,5 @@
+-- What only contracts of private functions cite.
+pub mod Cuts
+pub mod FirstNames
+pub mod Parts
+pub mod Reading
