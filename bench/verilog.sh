@@ -1,6 +1,6 @@
 #!/usr/bin/env bash
-# Shows that other tools read what `verilog` writes as it is defined, and measures it. The lab has no such command so far;
-# the crate verilog_text, which writes the text, is proved, and bench/verilog_forms.sh tries it:
+# Shows that other tools read what `verilog` writes as it is defined, and measures it. The lab has no such command so
+# far; the crate verilog_text, which writes the text, is proved, and bench/verilog_forms.sh tries it:
 #
 #     bench/verilog.sh [--part PART].. [--design NAME].. [PROGRAM LAB_PROGRAM]
 #
@@ -210,7 +210,7 @@ sat -verify -tempinduct -prove trigger 0 -timeout 100 miter
 YOSYS
     if (cd "$room" && yosys -q -s script) >"$room/said" 2>&1; then
         echo "| \`$name\` | equal |"
-    elif grep -q 'timeout' "$room/said" || grep -qi 'interrupted' "$room/said"; then
+    elif grep -q 'did time out' "$room/said"; then
         echo "| \`$name\` | not decided in 100 seconds |"
     else
         complain "$name: $(grep -m 1 -i 'error' "$room/said")"
