@@ -1,0 +1,16 @@
+pub mod Among
+pub mod Bodies
+pub mod Clashes
+pub mod Counting
+pub mod Does
+pub mod Filtered
+pub mod Layers
+pub mod Listed
+pub mod Meanings
+pub mod Meets
+pub mod Preceding
+pub mod Sweeping
+pub mod Trials
+pub mod Turns
+pub mod Typed
+pub mod Watched
