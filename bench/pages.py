@@ -479,6 +479,8 @@ LIMITS = {
     "cycles": ("sim --summary --cycles N", lambda n: "schedule { }"),
     "cycles of `profile`": ("profile --cycles N", lambda n: "schedule { }"),
     "cycles of `waves`": ("waves --cycles N", lambda n: "schedule { }"),
+    "bytes of a line of the stimulus of `step`":
+        ("step", lambda n: f"input k : bits 1; schedule {{ }}\n%%\nk=0{' ' * (n - 3)}\n"),
     "the last cycle of `why`": ("why --cycles 2 --cycle LAST", lambda n: "schedule { }"),
     "cycles times one more than the weight, for a journal":
         ("sim --workers 1 --journal --cycles N", lambda n: "schedule { }"),
@@ -594,6 +596,8 @@ class Tables:
             words = words.replace("LAST", str(number - 1))  # the second of two cycles is the one with the number
             # A run that isn't refused at once needn't end.
             said = self.answer(words, numbered(source(number)), 5 if number == most else 600)
+            if command == "step":
+                said = said.split("\n", 1)[-1]  # the row before all cycles comes first
             if said.startswith(refusal) != (number > most):
                 self.pages.say("LIMITS.md", f"{of}: {number}: {said[:60]!r}")
 
