@@ -212,36 +212,35 @@ def sentence(path):
     return said.replace("|", "\\|").replace("*", "\\*")
 
 
+def table_of(house, keys):
+    """A row for each file that these definitions are in, in the order in which to read them."""
+    of = collections.defaultdict(list)
+    for key in house.ordered(keys):
+        of[house.definitions[key].path].append(f"`{key[2]}`".replace("|", "\\|"))
+    rows = ["| file | what it says | definitions |", "|---|---|---|"]
+    return rows + [f"| `{path[len('crates/'):]}` | {sentence(path)} | {', '.join(names)} |" for path, names in of.items()]
+
+
+def how_much(house, keys):
+    return f"{len(keys):,} definitions, {house.size(keys):,} lines:"
+
+
 def order_of(house):
     """The order in which to read what is believed, as Markdown: a row for each file, with its definitions."""
-    said, seen = [], set()
-    said += ["| to believe | definitions | lines | files |", "|---|---|---|---|", *counts_of(house), ""]
+    said, seen = ["| to believe | definitions | lines | files |", "|---|---|---|---|", *counts_of(house), ""], set()
     for command in LISTED:
         keys = house.reached(roots(house, command))
         new = keys - seen
-        what = "read in this order" if not seen else "read besides"
+        what = "read besides" if seen else "read in this order"
         said += [f"### `{command}`", ""]
         if new:
-            said += [f"To believe it, {what}, {len(new):,} definitions, {house.size(new):,} lines:", "", "| file | what it says | definitions |", "|---|---|---|"]
+            said += [f"To believe it, {what}, {how_much(house, new)}", "", *table_of(house, new), ""]
         else:
-            said += ["It rests on nothing else."]
-        of = collections.defaultdict(list)
-        for key in house.ordered(new):
-            of[house.definitions[key].path].append(key[2])
-        for path, names in of.items():
-            listed = ", ".join(f"`{name}`" for name in names).replace("|", "\\|")
-            said.append(f"| `{path[len('crates/'):]}` | {sentence(path)} | {listed} |")
-        said.append("")
+            said += ["It rests on nothing else.", ""]
         seen |= keys
     rest = set().union(*(house.of_contracts(functions) for functions in CALLS.values())) - seen
-    said += ["### The calls", "", f"What `run` and `lab` say of each command alike, {len(rest):,} definitions, {house.size(rest):,} lines:", "", "| file | what it says | definitions |", "|---|---|---|"]
-    of = collections.defaultdict(list)
-    for key in house.ordered(rest):
-        of[house.definitions[key].path].append(key[2])
-    for path, names in of.items():
-        listed = ", ".join(f"`{name}`" for name in names).replace("|", "\\|")
-        said.append(f"| `{path[len('crates/'):]}` | {sentence(path)} | {listed} |")
-    return "\n".join(said)
+    said += ["### The calls", "", f"What `run` and `lab` say of each command alike, {how_much(house, rest)}", ""]
+    return "\n".join(said + table_of(house, rest))
 
 
 def page_parts():

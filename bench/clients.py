@@ -92,7 +92,7 @@ def line_by_line(program, lab):
         step.send(design[cut:] + "%%")
         step.must_wait(0.05)
         step.send("\n")
-        same(f"{name}, row 0", step.line(), wanted[0])
+        same(f"{name}, the first row", step.line(), wanted[0])
         for cycle, line in enumerate(lines, 1):
             step.send(line)
             step.must_wait(0.002)

@@ -500,7 +500,7 @@ def programs(program: Optional[str], lab: Optional[str]) -> Tuple[str, str]:
 class Row(Mapping[str, Any]):
     """One cycle of a run: `row["count"]` is a register after the cycle.
 
-    cycle: its number; row 0 has the first values.
+    cycle: its number; that of the first values is 0.
     fired: the rules that fired, in order of declaration.
     text: the line of the report.
     stimulus: the line of inputs.
