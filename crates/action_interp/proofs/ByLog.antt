@@ -23,11 +23,11 @@ use Rattle.typed_core.proofs.Events.{EventsFit-append, seen_fits}
 use Rattle.typed_core.proofs.Readings.{Relates, evaluate_related}
 use Rattle.typed_core.proofs.Values.{ValueFits-unit, ValueFits-bits}
 use Rattle.one_rule.specs.PortRun.{ports_behind}
-use Rattle.rule_log.specs.OneRegister.{written_below}
+use Rattle.rule_log.specs.inner.OneRegister.{written_below}
 use Rattle.rule_log.specs.StandsFor.{RegisterLog, StandsFor, WritesFollow, is_access, is_set, registers, written}
 use Rattle.rule_log.proofs.Logs.{below_is_seen, below_none, no_flag, nothing_set}
 use Rattle.rule_log.proofs.Telling.{access_parts, all_append, refused_by_flags, unrefused}
-use Rattle.action_interp.specs.ByLog.{any_from, ports_by, read_by, refused_by, seen_by, write_by}
+use Rattle.action_interp.specs.inner.ByLog.{any_from, ports_by, read_by, refused_by, seen_by, write_by}
 
 -- ---- flags from a port on
 

@@ -16,7 +16,7 @@ use Rattle.one_rule.specs.PortRun.{port_run_if}
 use Rattle.one_rule.specs.declared.evaluation.Interrupt.{Interrupt}
 use Rattle.one_rule.specs.declared.evaluation.Interrupt.TheVariants as interrupt
 use Rattle.rule_log.specs.StandsFor.{RegisterLog, StandsFor, WritesFollow}
-use Rattle.action_interp.specs.ByLog.{Ends, ports_by}
+use Rattle.action_interp.specs.inner.ByLog.{Ends, ports_by}
 use Rattle.action_interp.specs.Runs.{end_of}
 use Rattle.action_interp.specs.declared.run.RuleEnd.{RuleEnd}
 use Rattle.action_interp.proofs.ByLog.{evaluates_alike, writes_follow}

@@ -15,7 +15,7 @@ use Rattle.typed_core.specs.declared.outcome.Stopped.{Stopped}
 use Rattle.typed_core.specs.declared.outcome.Stopped.TheVariants.{Refused}
 use Rattle.typed_core.proofs.Events.{seen_fits}
 use Rattle.rule_log.specs.StandsFor.{RegisterLog, StandsFor}
-use Rattle.action_interp.specs.ByLog.{IsRunning, read_by, refused_by, seen_by, widths_of, write_by}
+use Rattle.action_interp.specs.inner.ByLog.{IsRunning, read_by, refused_by, seen_by, widths_of, write_by}
 use Rattle.action_interp.proofs.ByLog.{refused_alike, seen_alike}
 
 -- the answer to an access is this, from these events

@@ -1,2 +1,2 @@
-pub mod ByLog
 pub mod Runs
+pub mod inner

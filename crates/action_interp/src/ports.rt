@@ -2,7 +2,7 @@
 
 ghost use Rattle.std.specs.Prelude.{◌≡◌, length};
 ghost use Rattle.rule_log.specs.StandsFor.{registers};
-ghost use Rattle.action_interp.specs.ByLog.{IsRunning, ports_by, widths_of};
+ghost use Rattle.action_interp.specs.inner.ByLog.{IsRunning, ports_by, widths_of};
 
 use kw_bits::Bits;
 use one_rule::{Interrupt, Ports, Regs};

@@ -9,7 +9,7 @@ ghost use Rattle.one_rule.specs.Externs.{kept};
 ghost use Rattle.one_rule.specs.PortRun.{port_run_if};
 ghost use Rattle.rule_log.specs.StandsFor.{StandsFor, WritesFollow};
 ghost use Rattle.action_interp.specs.Runs.{IsLoggedRun, IsRun};
-ghost use Rattle.action_interp.specs.ByLog.{Ends};
+ghost use Rattle.action_interp.specs.inner.ByLog.{Ends};
 
 use crate::ports::RulePorts;
 use kw_bits::{Bits, NoMemory};

@@ -31,8 +31,8 @@ use Rattle.aig_blast.specs.AigRun.{bits_of, first_words, next_words, outputs_in,
 use Rattle.aig_blast.specs.BitLists.{as_bits}
 use Rattle.aig_blast.specs.Blasted.{HasSymbols, HasWires, RunsAs}
 use Rattle.aig_blast.specs.Graphs.{AllStand, lit_value, value, values_over, variables, Gates, IsGraph}
-use Rattle.aig_blast.specs.Nodes.{AreWords, has_one_bit, input_word, input_words_of, IsWord, Made, latch_word, lengths, MakesNodes, output_bit, output_bits, source_count, state_words_of, word_at, words_bits}
-use Rattle.aig_blast.specs.Sources.{source_words}
+use Rattle.aig_blast.specs.inner.Nodes.{AreWords, has_one_bit, input_word, input_words_of, IsWord, Made, latch_word, lengths, MakesNodes, output_bit, output_bits, source_count, state_words_of, word_at, words_bits}
+use Rattle.aig_blast.specs.inner.Sources.{source_words}
 use Rattle.aig_blast.specs.Words.{bits, word}
 use Rattle.aig_blast.specs.declared.aig.InputWord.{InputWord}
 use Rattle.aig_blast.specs.declared.aig.LatchWord.{LatchWord}

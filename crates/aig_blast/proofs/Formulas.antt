@@ -8,6 +8,7 @@ use Rattle.kw_bits.specs.Operators as op
 use Rattle.kw_bits.proofs.Signs.{HasSign, int_lt-signed, sra-low, sra-high, sext-low, sext-high}
 use Rattle.aig_blast.specs.BitLists.{number, as_bits, xor, choice, zip_with}
 use Rattle.aig_blast.specs.Steps as s
+use Rattle.aig_blast.specs.inner.Steps as inner_s
 use Rattle.aig_blast.proofs.Numbers.{number-lt, number-not, number-append, number-zeros, number-take, number-drop}
 use Rattle.aig_blast.proofs.Sums.{length-sum_after, number-add, number-sub, number-neg, ult-ltb}
 use Rattle.aig_blast.proofs.Products.{length-product_after, number-mul}
@@ -21,28 +22,28 @@ use Rattle.aig_blast.proofs.Signed.{HasSign-sign}
 pub same_bits : (a b : BitVector) → a.width ≡ b.width → a.number ≡ b.number → a ≡ b
 same_bits a b e f = ap₂ (λ w n. record { width = w; number = n }) e f
 
-pub add-formula : (xs ys : List Bool) → length xs ≡ length ys → as_bits (s.add xs ys) ≡ op.add (as_bits xs) (as_bits ys)
+pub add-formula : (xs ys : List Bool) → length xs ≡ length ys → as_bits (inner_s.add xs ys) ≡ op.add (as_bits xs) (as_bits ys)
 unfolding op.add
 add-formula xs ys same = same_bits _ _ (length-sum_after false xs ys (length xs)) (number-add xs ys same)
 
-pub sub-formula : (xs ys : List Bool) → length xs ≡ length ys → as_bits (s.sub xs ys) ≡ op.sub (as_bits xs) (as_bits ys)
+pub sub-formula : (xs ys : List Bool) → length xs ≡ length ys → as_bits (inner_s.sub xs ys) ≡ op.sub (as_bits xs) (as_bits ys)
 unfolding op.sub
 sub-formula xs ys same = same_bits _ _ (length-sum_after true xs (map not ys) (length xs)) (number-sub xs ys same)
 
-pub neg-formula : (xs : List Bool) → as_bits (s.neg xs) ≡ op.neg (as_bits xs)
+pub neg-formula : (xs : List Bool) → as_bits (inner_s.neg xs) ≡ op.neg (as_bits xs)
 unfolding op.neg
 neg-formula xs =
-    same_bits _ _ (length-sum_after true (s.zeros (length xs)) (map not xs) (length (s.zeros (length xs))) ∙ length-replicate (length xs) false) (number-neg xs)
+    same_bits _ _ (length-sum_after true (inner_s.zeros (length xs)) (map not xs) (length (inner_s.zeros (length xs))) ∙ length-replicate (length xs) false) (number-neg xs)
 
-pub mul-formula : (xs ys : List Bool) → as_bits (s.mul xs ys) ≡ op.mul (as_bits xs) (as_bits ys)
+pub mul-formula : (xs ys : List Bool) → as_bits (inner_s.mul xs ys) ≡ op.mul (as_bits xs) (as_bits ys)
 unfolding op.mul
 mul-formula xs ys = same_bits _ _ (length-product_after xs ys (length ys)) (number-mul xs ys)
 
-pub sll-formula : (xs ys : List Bool) → as_bits (s.sll xs ys) ≡ op.sll (as_bits xs) (as_bits ys)
+pub sll-formula : (xs ys : List Bool) → as_bits (inner_s.sll xs ys) ≡ op.sll (as_bits xs) (as_bits ys)
 unfolding op.sll
 sll-formula xs ys = same_bits _ _ (length-up_after xs ys (length ys)) (number-sll xs ys)
 
-pub srl-formula : (xs ys : List Bool) → as_bits (s.srl xs ys) ≡ op.srl (as_bits xs) (as_bits ys)
+pub srl-formula : (xs ys : List Bool) → as_bits (inner_s.srl xs ys) ≡ op.srl (as_bits xs) (as_bits ys)
 unfolding op.srl
 srl-formula xs ys = same_bits _ _ (length-down_after false xs ys (length ys)) (number-srl xs ys)
 
@@ -55,14 +56,14 @@ not_not [] = refl
 not_not (true ∷ xs) = ap (λ zs. true ∷ zs) (not_not xs)
 not_not (false ∷ xs) = ap (λ zs. false ∷ zs) (not_not xs)
 
-sra-by_sign : (b : Bool) (xs ys : List Bool) → HasSign b (as_bits xs) → as_bits (s.down_after b xs ys (length ys)) ≡ op.sra (as_bits xs) (as_bits ys)
+sra-by_sign : (b : Bool) (xs ys : List Bool) → HasSign b (as_bits xs) → as_bits (inner_s.down_after b xs ys (length ys)) ≡ op.sra (as_bits xs) (as_bits ys)
 sra-by_sign false xs ys low = srl-formula xs ys ∙ sym (sra-low (as_bits xs) (as_bits ys) (number-lt xs) low)
 sra-by_sign true xs ys high =
-    ap as_bits (sym (not_not (s.down_after true xs ys (length ys)))) ∙ not-formula (map not (s.down_after true xs ys (length ys)))
+    ap as_bits (sym (not_not (inner_s.down_after true xs ys (length ys)))) ∙ not-formula (map not (inner_s.down_after true xs ys (length ys)))
     ∙ ap (λ zs. op.not (as_bits zs)) (not-down_after xs ys (length ys)) ∙ ap op.not (srl-formula (map not xs) ys) ∙ ap (λ a. op.not (op.srl a (as_bits ys))) (not-formula xs)
     ∙ sym (sra-high (as_bits xs) (as_bits ys) (number-lt xs) high)
 
-pub sra-formula : (xs ys : List Bool) → 1 ≤ length xs → as_bits (s.sra xs ys) ≡ op.sra (as_bits xs) (as_bits ys)
+pub sra-formula : (xs ys : List Bool) → 1 ≤ length xs → as_bits (inner_s.sra xs ys) ≡ op.sra (as_bits xs) (as_bits ys)
 sra-formula xs ys some = sra-by_sign (s.sign xs) xs ys (HasSign-sign xs some)
 
 -- ---- tests
@@ -72,9 +73,9 @@ unfolding op.flag
 flag-bit true = refl
 flag-bit false = refl
 
-pub eq_bits-formula : (xs ys : List Bool) → length xs ≡ length ys → as_bits (s.equal xs ys ∷ []) ≡ op.eq_bits (as_bits xs) (as_bits ys)
+pub eq_bits-formula : (xs ys : List Bool) → length xs ≡ length ys → as_bits (inner_s.equal xs ys ∷ []) ≡ op.eq_bits (as_bits xs) (as_bits ys)
 unfolding op.eq_bits
-eq_bits-formula xs ys same = flag-bit (s.equal xs ys) ∙ ap op.flag (equal-eqb xs ys same)
+eq_bits-formula xs ys same = flag-bit (inner_s.equal xs ys) ∙ ap op.flag (equal-eqb xs ys same)
 
 pub ult-formula : (xs ys : List Bool) → length xs ≡ length ys → as_bits (s.ult xs ys ∷ []) ≡ op.ult (as_bits xs) (as_bits ys)
 unfolding op.ult
@@ -99,9 +100,9 @@ pub redand-formula : (xs : List Bool) → as_bits (all_ones xs ∷ []) ≡ op.re
 unfolding op.redand
 redand-formula xs = flag-bit (all_ones xs) ∙ ap op.flag (all_ones-eqb xs)
 
-pub redor-formula : (xs : List Bool) → as_bits (s.some_one xs ∷ []) ≡ op.redor (as_bits xs)
+pub redor-formula : (xs : List Bool) → as_bits (inner_s.some_one xs ∷ []) ≡ op.redor (as_bits xs)
 unfolding op.redor
-redor-formula xs = flag-bit (s.some_one xs) ∙ ap op.flag (some_one-ltb xs)
+redor-formula xs = flag-bit (inner_s.some_one xs) ∙ ap op.flag (some_one-ltb xs)
 
 pub redxor-formula : (xs : List Bool) → as_bits (odd_ones xs ∷ []) ≡ op.redxor (as_bits xs)
 unfolding op.redxor
@@ -109,20 +110,20 @@ redxor-formula xs = same_bits _ _ refl (omega (arith, odd_ones-count xs))
 
 -- ---- parts
 
-pub concat-formula : (xs ys : List Bool) → as_bits (s.concat xs ys) ≡ op.concat (as_bits xs) (as_bits ys)
+pub concat-formula : (xs ys : List Bool) → as_bits (inner_s.concat xs ys) ≡ op.concat (as_bits xs) (as_bits ys)
 unfolding op.concat
 concat-formula xs ys = same_bits _ _ (omega (arith, length-append ys xs)) (omega (arith, number-append ys xs))
 
-pub slice-formula : (xs : List Bool) (upper lower : ℕ) → lower ≤ upper → upper < length xs → as_bits (s.slice xs upper lower) ≡ op.slice (as_bits xs) upper lower
+pub slice-formula : (xs : List Bool) (upper lower : ℕ) → lower ≤ upper → upper < length xs → as_bits (inner_s.slice xs upper lower) ≡ op.slice (as_bits xs) upper lower
 unfolding op.slice
 slice-formula xs upper lower order within =
     same_bits _ _ (length-take-le (upper - lower + 1) (drop lower xs) (omega (arith, length-drop lower xs)))
     (number-take (upper - lower + 1) (drop lower xs) ∙ ap (λ n. n % 2 ^ (upper - lower + 1)) (number-drop lower xs))
 
-pub zext-formula : (xs : List Bool) (added : ℕ) → as_bits (s.zext xs added) ≡ op.zext (as_bits xs) (length xs + added)
+pub zext-formula : (xs : List Bool) (added : ℕ) → as_bits (inner_s.zext xs added) ≡ op.zext (as_bits xs) (length xs + added)
 unfolding op.zext
 zext-formula xs added =
-    same_bits _ _ (omega (arith, length-append xs (s.zeros added), length-replicate added false)) (number-append xs (s.zeros added) ∙ ap (λ n. number xs + 2 ^ length xs * n) (number-zeros added) ∙ omega arith)
+    same_bits _ _ (omega (arith, length-append xs (inner_s.zeros added), length-replicate added false)) (number-append xs (inner_s.zeros added) ∙ ap (λ n. number xs + 2 ^ length xs * n) (number-zeros added) ∙ omega arith)
 
 map_not-ones : (n : ℕ) → map not (replicate n true) ≡ replicate n false
 map_not-ones zero = refl
@@ -132,12 +133,12 @@ sext-by_sign : (b : Bool) (xs : List Bool) (added : ℕ) → HasSign b (as_bits 
 sext-by_sign false xs added low =
     zext-formula xs added ∙ sym (sext-low (as_bits xs) (length xs + added) (number-lt xs) (omega arith) low)
 sext-by_sign true xs added high =
-    let turned : map not (xs ++ replicate added true) ≡ s.zext (map not xs) added = map-append not xs (replicate added true) ∙ ap (λ zs. map not xs ++ zs) (map_not-ones added) in
+    let turned : map not (xs ++ replicate added true) ≡ inner_s.zext (map not xs) added = map-append not xs (replicate added true) ∙ ap (λ zs. map not xs ++ zs) (map_not-ones added) in
     ap as_bits (sym (not_not (xs ++ replicate added true))) ∙ not-formula (map not (xs ++ replicate added true)) ∙ ap (λ zs. op.not (as_bits zs)) turned
     ∙ ap op.not (zext-formula (map not xs) added) ∙ ap₂ (λ a w. op.not (op.zext a (w + added))) (not-formula xs) (length-map xs not)
     ∙ sym (sext-high (as_bits xs) (length xs + added) (number-lt xs) (omega arith) high)
 
-pub sext-formula : (xs : List Bool) (added : ℕ) → 1 ≤ length xs → as_bits (s.sext xs added) ≡ op.sext (as_bits xs) (length xs + added)
+pub sext-formula : (xs : List Bool) (added : ℕ) → 1 ≤ length xs → as_bits (inner_s.sext xs added) ≡ op.sext (as_bits xs) (length xs + added)
 sext-formula xs added some = sext-by_sign (s.sign xs) xs added (HasSign-sign xs some)
 
 -- ---- gates at each place

@@ -16,7 +16,7 @@ use Rattle.net_graph.proofs.OperatorWidths.{op_value-HasWidth}
 use Rattle.net_graph.proofs.Values.{stands_over}
 use Rattle.aig_blast.specs.BitLists.{as_bits, bit}
 use Rattle.aig_blast.specs.Graphs.{value, Gates, Keeps}
-use Rattle.aig_blast.specs.Nodes.{AreWords, IsWord, lengths, MakesNodes, sources_of, words_bits, word_at}
+use Rattle.aig_blast.specs.inner.Nodes.{AreWords, IsWord, lengths, MakesNodes, sources_of, words_bits, word_at}
 use Rattle.aig_blast.specs.Words.{AreLits, bits, word, MakesBits}
 use Rattle.aig_blast.proofs.Making.{AreLits-kept, width, word-kept}
 use Rattle.aig_blast.proofs.Numbers.{number-lt}

@@ -6,14 +6,16 @@ use Rattle.std.proofs.lemmas.Bool.{cases_lt, cases_eq, eq-eqb, ne_eqb}
 use Rattle.aig_blast.proofs.Making.{Makes-like}
 use Rattle.kw_bits.specs.BitVector.{BitVector}
 use Rattle.aig_blast.specs.BitLists.{as_bits}
-use Rattle.aig_blast.specs.Steps.{zeros, up, down, gated, choose, sum_after}
+use Rattle.aig_blast.specs.Steps.{gated, choose, sum_after}
+use Rattle.aig_blast.specs.inner.Steps.{zeros, up, down}
 use Rattle.aig_blast.proofs.Sums.{length-sum_after}
 use Rattle.aig_blast.specs.Graphs.{value, negation, IsLit, Keeps, Makes}
 use Rattle.aig_blast.specs.Graphs.{Gates}
 use Rattle.aig_blast.proofs.Gates.{value-negation, value-false, value-true, IsLit-negation}
 use Rattle.aig_blast.proofs.Values.{Keeps-refl, Keeps-trans}
 use Rattle.std.proofs.lemmas.Bool.Decides.{nat_tests}
-use Rattle.aig_blast.specs.Words.{stages, word, AreLits, MakesWord, MakesBits}
+use Rattle.aig_blast.specs.Words.{word, AreLits, MakesWord, MakesBits}
+use Rattle.aig_blast.specs.inner.Words.{stages}
 
 -- ---- lists of literals that stand
 

@@ -3,7 +3,8 @@ use Rattle.std.proofs.Common.{◌≡◌, ℕ, zero, suc, ◌+◌, ◌*◌, ◌%�
 use Rattle.std.proofs.Math.Nat.{zero-mod, mod-mod, add-mod}
 use Rattle.std.proofs.lemmas.List.{length-append, length-replicate, length-map, length-take-le, take_all}
 use Rattle.aig_blast.specs.BitLists.{bit, number}
-use Rattle.aig_blast.specs.Steps.{bit_of, zeros, gated, up, product_after, mul}
+use Rattle.aig_blast.specs.Steps.{bit_of, gated}
+use Rattle.aig_blast.specs.inner.Steps.{zeros, up, product_after, mul}
 use Rattle.aig_blast.proofs.Numbers.{number-append, number-zeros, number-take, number-take-suc, bit-and}
 use Rattle.aig_blast.proofs.Sums.{length-sum_after, number-add}
 

@@ -4,7 +4,8 @@ use Rattle.std.proofs.Math.Nat.{mod-eq_of_lt, mul_assoc}
 use Rattle.std.proofs.lemmas.Nat.{pow-add, shr-shr, mul-mod_first}
 use Rattle.std.proofs.lemmas.List.{length-append, length-replicate, length-drop, take_all, map-append, drop-map, length-map}
 use Rattle.aig_blast.specs.BitLists.{bit, number}
-use Rattle.aig_blast.specs.Steps.{bit_of, zeros, choose, up, down, up_after, down_after, sll, srl}
+use Rattle.aig_blast.specs.Steps.{bit_of, choose}
+use Rattle.aig_blast.specs.inner.Steps.{zeros, up, down, up_after, down_after, sll, srl}
 use Rattle.aig_blast.proofs.Numbers.{number-append, number-zeros, number-drop, number-take-suc, number-lt}
 use Rattle.aig_blast.proofs.Products.{length-up, number-up}
 

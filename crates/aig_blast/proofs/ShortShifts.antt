@@ -7,7 +7,8 @@ use Rattle.kw_bits.proofs.Words.{shifted_out, shifted_down_out}
 use Rattle.kw_bits.specs.Operators as op
 use Rattle.kw_bits.proofs.Signs.{HasSign, sra-low, sra-high}
 use Rattle.aig_blast.specs.BitLists.{number, as_bits}
-use Rattle.aig_blast.specs.Steps.{choose, zeros, some_one, sll, srl, sign, down_after, down_short}
+use Rattle.aig_blast.specs.Steps.{choose, sign}
+use Rattle.aig_blast.specs.inner.Steps.{zeros, some_one, sll, srl, down_after, down_short}
 use Rattle.aig_blast.proofs.Numbers.{number-split, number-zeros, number-lt}
 use Rattle.aig_blast.proofs.Shifting.{length-up_after, length-down_after, number-sll, number-srl, not-down_after, not-choose, map_not-replicate}
 use Rattle.aig_blast.proofs.TestsOfBits.{some_one-ltb}

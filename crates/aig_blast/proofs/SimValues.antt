@@ -8,7 +8,7 @@ use Rattle.kw_bits.specs.BitVector.{BitVector, IsBits}
 use Rattle.circuit_eval.specs.Circuits.{AreBits}
 use Rattle.aig_blast.specs.Aigs.{AigParts, IsLatchWord, latch_widths}
 use Rattle.aig_blast.specs.AigRun.{bits_of, first_words, next_words, values_in}
-use Rattle.aig_blast.specs.AigSims.{IsReadable}
+use Rattle.aig_blast.specs.inner.AigSims.{IsReadable}
 use Rattle.aig_blast.specs.BitLists.{as_bits, bit, number}
 use Rattle.aig_blast.specs.BitLists.{number as number_of}
 use Rattle.aig_blast.specs.Graphs.{Below, gate_value, lit_value, values_after}

@@ -10,8 +10,8 @@ use Rattle.net_graph.specs.Values.{widths}
 use Rattle.aig_blast.specs.AigRun.{bits_of}
 use Rattle.aig_blast.specs.BitLists.{xor, as_bits}
 use Rattle.aig_blast.specs.Graphs.{fitted, value, variables_of, Gates, IsLit}
-use Rattle.aig_blast.specs.Nodes.{AreWords, lengths, words_bits}
-use Rattle.aig_blast.specs.Sources.{source_word, source_words}
+use Rattle.aig_blast.specs.inner.Nodes.{AreWords, lengths, words_bits}
+use Rattle.aig_blast.specs.inner.Sources.{source_word, source_words}
 use Rattle.aig_blast.specs.Steps.{digits}
 use Rattle.aig_blast.specs.Words.{AreLits, word}
 use Rattle.aig_blast.proofs.Digits.{digits-formula, length-digits}

@@ -4,7 +4,8 @@ use Rattle.std.proofs.Math.Nat.{pow-suc}
 use Rattle.std.proofs.lemmas.Bool.{lt-ltb, le-ltb}
 use Rattle.std.proofs.lemmas.List.{length_push, take_all, length-map, length-replicate}
 use Rattle.aig_blast.specs.BitLists.{bit, number, xor, carry}
-use Rattle.aig_blast.specs.Steps.{bit_of, zeros, carry_after, sum_after, add, sub, neg, ult}
+use Rattle.aig_blast.specs.Steps.{bit_of, carry_after, sum_after, ult}
+use Rattle.aig_blast.specs.inner.Steps.{zeros, add, sub, neg}
 use Rattle.aig_blast.proofs.Numbers.{number-push, number-take-suc, number-lt, number-not, number-zeros, mod_from}
 
 pub full_adder : (x y c : Bool) → bit (xor (xor x y) c) + 2 * bit (carry x y c) ≡ bit x + bit y + bit c

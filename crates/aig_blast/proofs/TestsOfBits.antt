@@ -6,7 +6,8 @@ use Rattle.std.proofs.lemmas.Bool.Decides.{nat_tests}
 use Rattle.std.proofs.lemmas.List.{take_all}
 use Rattle.std.proofs.lemmas.Nat.{pow_pos, ones_cat}
 use Rattle.aig_blast.specs.BitLists.{bit, number, xor}
-use Rattle.aig_blast.specs.Steps.{bit_of, joined_after, some_one, equal_after, equal}
+use Rattle.aig_blast.specs.Steps.{bit_of, joined_after}
+use Rattle.aig_blast.specs.inner.Steps.{some_one, equal_after, equal}
 use Rattle.aig_blast.proofs.Numbers.{number-take-suc, number-take-lt}
 
 all_step : (a b : Bool) (t p : ℕ) → t < p → a ≡ eqb (t + 1) p → (a && b) ≡ eqb (t + p * bit b + 1) (p * 2)

@@ -24,6 +24,7 @@ values_in a inputs states = values_over (bits_of inputs ++ bits_of states) a.gat
 abbrev pub next_words : List LatchWord → List Bool → List BitVector
 next_words latches values = map (λ (word : LatchWord). as_bits (map (lit_value values) word.nexts)) latches
 
+-- the values of outputs, by those of all variables
 abbrev pub outputs_in : List OutputBit → List Bool → List Bool
 outputs_in outputs values = map (λ (output : OutputBit). lit_value values output.lit) outputs
 

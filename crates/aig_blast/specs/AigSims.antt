@@ -1,12 +1,11 @@
 -- A bit-level circuit at a moment between two steps, and its rows from there on.
-use Rattle.std.specs.Prelude.{◌≡◌, ℕ, zero, suc, ◌+◌, ◌-◌, ◌/◌, ◌<◌, ◌≤◌, List, ◌∷◌, [], length, Bool, map, All}
+use Rattle.std.specs.Prelude.{◌≡◌, ℕ, zero, suc, ◌+◌, ◌-◌, ◌≤◌, List, ◌∷◌, Bool, map}
 use Rattle.kw_bits.specs.BitVector.{BitVector, zero_at}
 use Rattle.circuit_eval.specs.Run.{is_one}
 use Rattle.aig_blast.specs.AigRun.{first_words, next_words, rows_after, values_in}
 use Rattle.aig_blast.specs.Aigs.{AigParts}
 use Rattle.aig_blast.specs.BitLists.{as_bits}
 use Rattle.aig_blast.specs.Graphs.{lit_value}
-use Rattle.aig_blast.specs.declared.aig.LatchWord.{LatchWord}
 use Rattle.aig_blast.specs.declared.aig.OutputBit.{OutputBit}
 use Rattle.one_rule.specs.Run.{InputsByCycle}
 use Rattle.one_rule.specs.declared.rows.Row.{Row}
@@ -26,12 +25,6 @@ flags_in outputs values = map (λ (output : OutputBit). flag_bits (lit_value val
 
 abbrev pub no_flags : List OutputBit → List BitVector
 no_flags outputs = map (λ (output : OutputBit). zero_at 1) outputs
-
--- the next literals of a word of latches can be read from values of variables
-pub record IsReadable (values : List Bool) (word : LatchWord) : Type 0 where
-  pub some : 1 ≤ length word.nexts
-  pub most : length word.nexts ≤ 128
-  pub nexts : All (λ lit. lit / 2 < length values) word.nexts
 
 -- before all steps
 abbrev pub beginning : AigParts → Simulation

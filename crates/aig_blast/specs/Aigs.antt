@@ -18,6 +18,7 @@ pub record AigParts : Type 0 where
 abbrev pub input_widths : List InputWord → List ℕ
 input_widths words = map (λ (word : InputWord). word.width) words
 
+-- the widths of words of latches
 abbrev pub latch_widths : List LatchWord → List ℕ
 latch_widths words = map (λ (word : LatchWord). word.first.width) words
 
@@ -25,6 +26,7 @@ latch_widths words = map (λ (word : LatchWord). word.first.width) words
 abbrev pub sources : AigParts → ℕ
 sources a = sum (input_widths a.inputs) + sum (latch_widths a.latches)
 
+-- how many variables a graph has: its inputs, its latches and its gates
 abbrev pub variables : AigParts → ℕ
 variables a = sources a + length a.gates
 

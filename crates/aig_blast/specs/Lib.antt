@@ -4,7 +4,6 @@ pub mod Aigs
 pub mod BitLists
 pub mod Blasted
 pub mod Graphs
-pub mod Nodes
-pub mod Sources
 pub mod Steps
 pub mod Words
+pub mod inner

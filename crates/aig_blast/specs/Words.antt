@@ -1,5 +1,5 @@
 -- Words of literals, bit 0 first.
-use Rattle.std.specs.Prelude.{◌≡◌, ℕ, Bool, ◌&&◌, ◌||◌, List, map, All, nat_le, if◌then◌else◌}
+use Rattle.std.specs.Prelude.{◌≡◌, ℕ, Bool, ◌&&◌, ◌||◌, List, map, All}
 use Rattle.kw_bits.specs.BitVector.{BitVector}
 use Rattle.kw_bits.specs.Operators as op
 use Rattle.aig_blast.specs.BitLists.{xor, as_bits}
@@ -48,13 +48,3 @@ abbrev pub reduced_bits : Pair → BitVector → BitVector
 reduced_bits And a = op.redand a
 reduced_bits Or a = op.redor a
 reduced_bits Xor a = op.redxor a
-
--- the literal that a reduction starts from
-abbrev pub start_lit : Pair → ℕ
-start_lit And = 1
-start_lit Or = 0
-start_lit Xor = 0
-
--- how many bits of a shift's amount count at a width up to 128
-abbrev pub stages : ℕ → ℕ
-stages w = if nat_le w 1 then 0 else if nat_le w 2 then 1 else if nat_le w 4 then 2 else if nat_le w 8 then 3 else if nat_le w 16 then 4 else if nat_le w 32 then 5 else if nat_le w 64 then 6 else 7

@@ -3,7 +3,7 @@
 ghost use Rattle.std.specs.Prelude.{◌≡◌, ◌<◌, ◌≤◌, ◌^◌, IfOk, length, map, All};
 ghost use Rattle.circuit_eval.specs.Circuits as circuits;
 ghost use Rattle.aig_blast.specs.Blasted.{HasSymbols, HasWires, RunsAs};
-ghost use Rattle.aig_blast.specs.Nodes.{input_words_of, Made, source_count, state_words_of, input_word, latch_word, output_bits as output_bits_lem};
+ghost use Rattle.aig_blast.specs.inner.Nodes.{input_words_of, Made, source_count, state_words_of, input_word, latch_word, output_bits as output_bits_lem};
 
 use crate::aig::{Aig, InputWord, LatchWord, OutputBit};
 use crate::graph::Graph;

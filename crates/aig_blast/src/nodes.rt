@@ -6,7 +6,7 @@ ghost use Rattle.net_graph.specs.Operators.{ite_value, one_at, one_value, sext_v
 ghost use Rattle.net_graph.specs.Values.{AllRead, op_value, Reads, values_of};
 ghost use Rattle.kw_bits.specs.Operators as op;
 ghost use Rattle.aig_blast.specs.Graphs.{IsLit};
-ghost use Rattle.aig_blast.specs.Nodes.{AreWords, IsWord, lengths, MakesNodes, sources_of, words_bits};
+ghost use Rattle.aig_blast.specs.inner.Nodes.{AreWords, IsWord, lengths, MakesNodes, sources_of, words_bits};
 ghost use Rattle.aig_blast.specs.Words.{bits, MakesBits};
 
 use crate::arithmetic::{add, mul, neg, sub};

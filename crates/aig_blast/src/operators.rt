@@ -4,7 +4,8 @@ ghost use Rattle.std.specs.Prelude.{◌≡◌, ◌+◌, ◌<◌, ◌≤◌, leng
 ghost use Rattle.kw_bits.specs.Operators as op;
 ghost use Rattle.aig_blast.specs.Graphs.{IsLit, value};
 ghost use Rattle.aig_blast.specs.Graphs.{Gates};
-ghost use Rattle.aig_blast.specs.Words.{AreLits, MakesBits, bits, pair_bits, reduced_bits, start_lit};
+ghost use Rattle.aig_blast.specs.Words.{AreLits, MakesBits, bits, pair_bits, reduced_bits};
+ghost use Rattle.aig_blast.specs.inner.Words.{start_lit};
 
 use crate::bitwise::{Pair, choose, zip};
 use crate::gate::{Lit, not};

@@ -3,8 +3,10 @@
 ghost use Rattle.std.specs.Prelude.{◌≡◌, ◌+◌, ◌≤◌, length, min, IfOk};
 ghost use Rattle.kw_bits.specs.Operators as op;
 ghost use Rattle.aig_blast.specs.Steps as step;
+ghost use Rattle.aig_blast.specs.inner.Steps as inner_step;
 ghost use Rattle.aig_blast.specs.Graphs.{IsLit, value};
-ghost use Rattle.aig_blast.specs.Words.{AreLits, MakesBits, MakesWord, bits, stages as stages_lem, word};
+ghost use Rattle.aig_blast.specs.Words.{AreLits, MakesBits, MakesWord, bits, word};
+ghost use Rattle.aig_blast.specs.inner.Words.{stages as stages_lem};
 
 use crate::bitwise::{Pair, choose};
 use crate::gate::Lit;
@@ -43,7 +45,7 @@ fn short_down(
     requires fill { IsLit graph.old fill }
     requires a { AreLits graph.old a.now }
     requires b { AreLits graph.old b.now }
-    ensures { IfOk result (λ r. MakesWord graph.old graph.new r.items (λ i. step.down_short (value i graph.old fill) (stages_lem (length a.now)) (word i graph.old a.now) (word i graph.old b.now))) }
+    ensures { IfOk result (λ r. MakesWord graph.old graph.new r.items (λ i. inner_step.down_short (value i graph.old fill) (stages_lem (length a.now)) (word i graph.old a.now) (word i graph.old b.now))) }
 {
     let (amount, above) = b.split_at(stages(a.len()));
     let low = down(graph, alloc, fill, a, amount)?;
@@ -82,7 +84,7 @@ pub fn sra(graph: &mut Graph, alloc: Global, a: &[Lit], b: &[Lit]) -> Result<Vec
 fn up(graph: &mut Graph, alloc: Global, a: &[Lit], b: &[Lit]) -> Result<Vec<Lit>, NoMemory>
     requires a { AreLits graph.old a.now }
     requires b { AreLits graph.old b.now }
-    ensures { IfOk result (λ r. MakesWord graph.old graph.new r.items (λ i. step.up_after (word i graph.old a.now) (word i graph.old b.now) (length b.now))) }
+    ensures { IfOk result (λ r. MakesWord graph.old graph.new r.items (λ i. inner_step.up_after (word i graph.old a.now) (word i graph.old b.now) (length b.now))) }
 {
     let mut made = Vec::with_capacity(alloc, a.len())?;
     made.extend_from_slice(a)?;
@@ -107,7 +109,7 @@ fn down(
     requires fill { IsLit graph.old fill }
     requires a { AreLits graph.old a.now }
     requires b { AreLits graph.old b.now }
-    ensures { IfOk result (λ r. MakesWord graph.old graph.new r.items (λ i. step.down_after (value i graph.old fill) (word i graph.old a.now) (word i graph.old b.now) (length b.now))) }
+    ensures { IfOk result (λ r. MakesWord graph.old graph.new r.items (λ i. inner_step.down_after (value i graph.old fill) (word i graph.old a.now) (word i graph.old b.now) (length b.now))) }
 {
     let mut made = Vec::with_capacity(alloc, a.len())?;
     made.extend_from_slice(a)?;

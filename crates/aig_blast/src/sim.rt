@@ -4,7 +4,8 @@ ghost use Rattle.std.specs.Prelude.{◌≡◌, ◌+◌, ◌*◌, ◌/◌, ◌^�
 ghost use Rattle.circuit_eval.specs.Circuits.{AreBits};
 ghost use Rattle.aig_blast.specs.Aigs.{input_widths, latch_widths, variables};
 ghost use Rattle.aig_blast.specs.AigRun.{bits_of, first_words as first_words_lem, next_words, values_in};
-ghost use Rattle.aig_blast.specs.AigSims.{flags_in, IsReadable, no_flags as no_flags_lem};
+ghost use Rattle.aig_blast.specs.AigSims.{flags_in, no_flags as no_flags_lem};
+ghost use Rattle.aig_blast.specs.inner.AigSims.{IsReadable};
 ghost use Rattle.aig_blast.specs.BitLists.{as_bits, bit};
 ghost use Rattle.aig_blast.specs.Graphs.{AllStand, gate_value as gate_value_lem, lit_value as lit_value_lem, values_after};
 ghost use Rattle.aig_blast.specs.Steps.{digits};

@@ -1,7 +1,7 @@
 //! The literals of sources, word after word.
 
 ghost use Rattle.std.specs.Prelude.{◌≡◌, ◌+◌, ◌≤◌, ◌^◌, IfOk, sum};
-ghost use Rattle.aig_blast.specs.Sources.{source_word as source_word_lem, source_words as source_words_lem};
+ghost use Rattle.aig_blast.specs.inner.Sources.{source_word as source_word_lem, source_words as source_words_lem};
 
 use crate::gate::Lit;
 use crate::graph::Graph;

@@ -15,7 +15,7 @@ use Rattle.aiger_text.specs.Drafts.{Draft}
 use Rattle.aiger_text.specs.Places.{place_of}
 use Rattle.aiger_text.specs.Reading.{all_placed, gate_by, gates_of, gates_placed, known, literal_at, lits_of, nexts_of, parts_by, placed, placed_gate}
 use Rattle.aiger_text.specs.Runs.{words_of}
-use Rattle.aiger_text.specs.Sound.{IsDraft}
+use Rattle.aiger_text.specs.inner.Sound.{IsDraft}
 use Rattle.aiger_text.proofs.Naming.{latch_words-width, latch_words-words, output_bits-bits, words_of-width, words_of-words}
 
 -- a literal with a place

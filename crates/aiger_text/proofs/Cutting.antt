@@ -5,7 +5,7 @@ use Rattle.std.proofs.lemmas.Bool.{eqb-true, eqb-false}
 use Rattle.std.proofs.lemmas.List.{nil_from_length}
 use Rattle.std.proofs.lemmas.List.Splits.{length-slice_split, slice_split-cons_yes, slice_split_none, slice_split_at}
 use Rattle.aiger_text.specs.Cuts.{before_bytes, but_empty_last, ends_line, front_of, has_bytes, is_blank, is_return, lines_of, not_blank, rest_of, without_returns, words_of}
-use Rattle.aiger_text.specs.Classes.{StopsAt}
+use Rattle.aiger_text.specs.inner.Classes.{StopsAt}
 
 not-true : (b : Bool) → not b ≡ true → b ≡ false
 not-true true h = absurd (true≢false (sym h))

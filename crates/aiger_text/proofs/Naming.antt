@@ -16,7 +16,7 @@ use Rattle.aig_blast.specs.declared.aig.InputWord.{InputWord}
 use Rattle.aig_blast.specs.declared.aig.LatchWord.{LatchWord}
 use Rattle.aig_blast.proofs.Numbers.{number-lt}
 use Rattle.aiger_text.specs.Runs.{begins_run, begun, begun_by, goes_on, latch_words, name_or, output_bits, Run, wider, words_from, words_of}
-use Rattle.aiger_text.specs.Sound.{AreSymbols}
+use Rattle.aiger_text.specs.inner.Sound.{AreSymbols}
 use Rattle.aiger_text.proofs.Running.{goes_on-below}
 
 -- ---- names

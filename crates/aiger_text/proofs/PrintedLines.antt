@@ -7,7 +7,7 @@ use Rattle.std.specs.Str.Parse.{AllDigits, digits_value}
 use Rattle.std.proofs.lemmas.Bool.{eqb-true, lt-ltb, not_from_false}
 use Rattle.std.proofs.lemmas.Fmt.{decimal_is_IsNumeral}
 use Rattle.std.proofs.lemmas.List.Elements.{All-from_recursion}
-use Rattle.aiger_text.specs.Classes.{StopsAt}
+use Rattle.aiger_text.specs.inner.Classes.{StopsAt}
 use Rattle.aiger_text.specs.Cuts.{before_bytes, ends_line, is_numeral, joined, lines_of, not_blank, number_of, numbers_of, without_returns, words_of}
 use Rattle.aiger_text.specs.Printing.{line_text, spaced}
 use Rattle.aiger_text.proofs.Cutting.{lines_of-more, lines_of-nil, not_return, pieces_first, words_of-blank, words_of-nil, words_of-word}

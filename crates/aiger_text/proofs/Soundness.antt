@@ -9,7 +9,7 @@ use Rattle.stim_report.specs.Stimuli.{after, next_line}
 use Rattle.aiger_text.specs.Cuts.{lines_of, number_of, words_of}
 use Rattle.aiger_text.specs.Drafts.{Draft, defined, draft_by, draft_from, draft_in, draft_of, ended, flaw_of, has_above, in_line, is_end, more_gates, more_inputs, more_latches, more_outputs, name_after, named_at, no_lines, output_by, put_symbol, section_of, symbol_at, symbol_by, symbol_of, unless, with_gate, with_input, with_latch, with_line, with_line_in, with_output, word_before}
 use Rattle.aiger_text.specs.Headers.{header_of, numbers_in}
-use Rattle.aiger_text.specs.Sound.{AreSymbols, IsDraft}
+use Rattle.aiger_text.specs.inner.Sound.{AreSymbols, IsDraft}
 use Rattle.aiger_text.specs.declared.header.Header.{Header}
 use Rattle.aiger_text.specs.declared.header.Section.{Section}
 use Rattle.aiger_text.specs.declared.header.Section.TheVariants as sections

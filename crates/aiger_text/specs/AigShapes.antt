@@ -8,12 +8,15 @@ use Rattle.aig_blast.specs.declared.aig.OutputBit.{OutputBit}
 use Rattle.stim_report.specs.declared.shape.NameWidth.{NameWidth}
 use Rattle.stim_report.specs.declared.shape.Shape.{Shape}
 
+-- an input's name and width
 abbrev pub of_input : InputWord → NameWidth
 of_input word = record { name = word.name; width = word.width }
 
+-- a latch word's name and width
 abbrev pub of_latch : LatchWord → NameWidth
 of_latch word = record { name = word.name; width = word.first.width }
 
+-- an output's name
 abbrev pub name_of : OutputBit → List ℕ
 name_of output = output.name
 

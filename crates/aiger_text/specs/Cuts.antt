@@ -9,9 +9,11 @@ use Rattle.std.specs.Str.Parse.{digits_value}
 abbrev pub ends_line : ℕ → Bool
 ends_line b = b == 10
 
+-- the carriage return
 abbrev pub is_return : ℕ → Bool
 is_return b = b == 13
 
+-- a space or a tab
 abbrev pub is_blank : ℕ → Bool
 is_blank b = (b == 32) || (b == 9)
 
@@ -49,6 +51,7 @@ abbrev pub front_of : (ℕ → Bool) → List ℕ → List ℕ
 front_of passes [] = []
 front_of passes (b ∷ bytes) = if passes b then b ∷ front_of passes bytes else []
 
+-- what comes after the first bytes that pass a test
 abbrev pub rest_of : (ℕ → Bool) → List ℕ → List ℕ
 rest_of passes [] = []
 rest_of passes (b ∷ bytes) = if passes b then rest_of passes bytes else b ∷ bytes
@@ -57,6 +60,7 @@ rest_of passes (b ∷ bytes) = if passes b then rest_of passes bytes else b ∷ 
 abbrev pub without_blanks : List ℕ → List ℕ
 without_blanks bytes = rest_of is_blank bytes
 
+-- a byte of a word
 abbrev pub not_blank : ℕ → Bool
 not_blank b = not (is_blank b)
 
@@ -64,6 +68,7 @@ not_blank b = not (is_blank b)
 abbrev pub is_numeral : List ℕ → Bool
 is_numeral word = has_bytes word && list_all (λ b. is_digit b 10) word
 
+-- the number that a word of decimal digits is, below 2^63
 unfoldable pub number_of : List ℕ → Option ℕ
 number_of word = if is_numeral word && nat_lt (digits_value 10 word) (2 ^ 63) then Some (digits_value 10 word) else None
 
@@ -73,6 +78,7 @@ joined (Some number) (Some numbers) = Some (number ∷ numbers)
 joined (Some number) None = None
 joined None numbers = None
 
+-- the numbers that words are, if all are numbers
 abbrev pub numbers_of : List (List ℕ) → Option (List ℕ)
 numbers_of [] = Some []
 numbers_of (word ∷ words) = joined (number_of word) (numbers_of words)

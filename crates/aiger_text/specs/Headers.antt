@@ -13,6 +13,7 @@ numbers_by (Some (a ∷ b ∷ [])) = numbers.Two a b
 numbers_by (Some (a ∷ b ∷ c ∷ [])) = numbers.Three a b c
 numbers_by _ = numbers.Other
 
+-- the numbers of a line, by how many there are
 abbrev pub numbers_in : List ℕ → Numbers
 numbers_in line = numbers_by (numbers_of (words_of line))
 
@@ -22,6 +23,7 @@ header_by (Some (m ∷ i ∷ l ∷ o ∷ a ∷ [])) =
     if nat_le (i + l + a) m then Some (record { most = m; inputs = i; latches = l; outputs = o; gates = a }) else None
 header_by _ = None
 
+-- the header that the words of the first line are
 abbrev pub header_of : List (List ℕ) → Option Header
 header_of [] = None
 header_of (word ∷ words) = if bytes_eq word (codes "aag") then header_by (numbers_of words) else None

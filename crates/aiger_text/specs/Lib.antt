@@ -1,13 +1,9 @@
 pub mod AigShapes
-pub mod Classes
 pub mod Cuts
 pub mod Drafts
 pub mod Headers
-pub mod Numerals
 pub mod Places
 pub mod Printing
 pub mod Reading
 pub mod Runs
-pub mod RunsSoFar
-pub mod Sound
-pub mod Steps
+pub mod inner

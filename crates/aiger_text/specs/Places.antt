@@ -11,5 +11,6 @@ abbrev pub place_after : Option ℕ → Option ℕ
 place_after None = None
 place_after (Some k) = Some (k + 1)
 
+-- the place of a variable in the graph: 0 is the constant, and the others are numbered in order of their lines
 abbrev pub place_of : List ℕ → ℕ → Option ℕ
 place_of variables variable = if nat_eq variable 0 then Some 0 else place_after (position (nat_eq variable) variables)

@@ -1,7 +1,7 @@
 -- The AIGER text of a bit-level circuit, in AIGER ASCII (Biere, Heljanko and Wieringa, 2011): a header, a line for
 -- each input, latch, output and gate, in order, and a symbol for each input, latch and output. Bit k of the word `x`
 -- has the symbol `x[k]`.
-use Rattle.std.specs.Prelude.{◌≡◌, ℕ, Bool, zero, suc, ◌+◌, ◌*◌, ◌/◌, ◌%◌, ◌^◌, nat_eq, if◌then◌else◌, List, [], ◌∷◌, ◌++◌, codes, decimal, length, slice_index_or}
+use Rattle.std.specs.Prelude.{ℕ, Bool, zero, suc, ◌+◌, ◌*◌, ◌/◌, ◌%◌, ◌^◌, nat_eq, if◌then◌else◌, List, ◌∷◌, ◌++◌, codes, decimal, length, slice_index_or}
 use Rattle.std.specs.List.{flat_map}
 use Rattle.aig_blast.specs.Aigs.{AigParts, input_widths, latch_widths, sources, variables}
 use Rattle.std.specs.Prelude.{sum}
@@ -15,6 +15,7 @@ use Rattle.aig_blast.specs.declared.gate.Gate.{Gate}
 abbrev pub spaced : ℕ → List ℕ
 spaced number = 32 ∷ decimal number
 
+-- numbers, each after a space, and a line feed
 abbrev pub rest_text : List ℕ → List ℕ
 rest_text numbers = flat_map spaced numbers ++ 10 ∷ []
 
@@ -36,6 +37,7 @@ laid width f number (x ∷ xs) = f number x ++ laid width f (number + width x) x
 abbrev pub input_lines : ℕ → ℕ → List ℕ
 input_lines variable width = texts_below (λ k. line_text (2 * (variable + k)) []) width
 
+-- the lines of an input word, one for each bit
 abbrev pub input_word_text : ℕ → InputWord → List ℕ
 input_word_text variable word = input_lines variable word.width
 
@@ -43,18 +45,23 @@ input_word_text variable word = input_lines variable word.width
 abbrev pub reset_text : Bool → List ℕ
 reset_text reset = if reset then 1 ∷ [] else []
 
+-- the line of a latch: its literal, its next literal, and its reset value where it is 1
 abbrev pub latch_line : ℕ → ℕ → List ℕ → ℕ → List ℕ
 latch_line variable resets nexts k = line_text (2 * (variable + k)) (slice_index_or nexts k 0 ∷ reset_text (nat_eq (resets / 2 ^ k % 2) 1))
 
+-- the lines of the latches of a word, bit 0 first
 abbrev pub latch_lines : ℕ → BitVector → List ℕ → List ℕ
 latch_lines variable first nexts = texts_below (latch_line variable first.number nexts) first.width
 
+-- the lines of a latch word
 abbrev pub latch_word_text : ℕ → LatchWord → List ℕ
 latch_word_text variable word = latch_lines variable word.first word.nexts
 
+-- the line of an output
 abbrev pub output_text : OutputBit → List ℕ
 output_text output = line_text output.lit []
 
+-- the line of a gate
 abbrev pub gate_text : ℕ → Gate → List ℕ
 gate_text variable gate = line_text (2 * variable) (gate.left ∷ gate.right ∷ [])
 
@@ -70,27 +77,29 @@ bit_name name k = name ++ 91 ∷ decimal k ++ 93 ∷ []
 abbrev pub word_symbols : ℕ → ℕ → List ℕ → ℕ → List ℕ
 word_symbols kind index name width = texts_below (λ k. symbol_text kind (index + k) (bit_name name k)) width
 
+-- how many input lines an input word has
 abbrev pub width_of : InputWord → ℕ
 width_of word = word.width
 
+-- how many latch lines a latch word has
 abbrev pub latch_width_of : LatchWord → ℕ
 latch_width_of word = word.first.width
 
+-- an output has one line
 abbrev pub one_of : {X : Type 0} → X → ℕ
 one_of x = 1
 
+-- the symbol lines of an input word
 abbrev pub input_symbols : ℕ → InputWord → List ℕ
 input_symbols index word = word_symbols 105 index word.name word.width
 
+-- the symbol lines of a latch word
 abbrev pub latch_symbols : ℕ → LatchWord → List ℕ
 latch_symbols index word = word_symbols 108 index word.name word.first.width
 
+-- the symbol line of an output
 abbrev pub output_symbol : ℕ → OutputBit → List ℕ
 output_symbol index output = symbol_text 111 index output.name
-
--- a word of latches has a next literal for each
-abbrev pub HasNexts : LatchWord → Type 0
-HasNexts word = length word.nexts ≡ word.first.width
 
 -- the text of a bit-level circuit
 abbrev pub text_of : AigParts → List ℕ

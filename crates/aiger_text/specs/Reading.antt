@@ -16,6 +16,7 @@ abbrev pub literal_at : ℕ → Option ℕ → ℕ → Option ℕ
 literal_at bound None sign = None
 literal_at bound (Some place) sign = if nat_lt place bound then Some (2 * place + sign) else None
 
+-- a literal over the variables' places, if its variable is defined and below a bound
 abbrev pub placed : List ℕ → ℕ → ℕ → Option ℕ
 placed variables bound lit = literal_at bound (place_of variables (lit / 2)) (lit % 2)
 
@@ -37,9 +38,11 @@ gate_by (Some left) (Some right) = Some (record { left = left; right = right })
 gate_by (Some left) None = None
 gate_by None right = None
 
+-- a gate over the variables' places
 abbrev pub placed_gate : List ℕ → ℕ → Gate → Option Gate
 placed_gate variables bound gate = gate_by (placed variables bound gate.left) (placed variables bound gate.right)
 
+-- gates over the variables' places, each over those before it; the first one that isn't is a fault
 abbrev pub gates_placed : List ℕ → ℕ → ℕ → List Gate → Result (List Gate) Fault
 gates_placed variables bound number [] = Ok []
 gates_placed variables bound number (gate ∷ gates) =
@@ -61,14 +64,17 @@ parts_by d nexts lits gates =
 abbrev pub nexts_of : Draft → Result (List ℕ) Fault
 nexts_of d = all_placed d.variables (1 + length d.variables) (capped (2 + length d.inputs)) d.nexts
 
+-- the literals of outputs over the variables' places
 abbrev pub lits_of : Draft → Result (List ℕ) Fault
 lits_of d = all_placed d.variables (1 + length d.variables) (capped (2 + (length d.inputs + length d.nexts))) d.lits
 
+-- the gates of a draft over the variables' places
 abbrev pub gates_of : Draft → Result (List Gate) Fault
 gates_of d =
     let sources : ℕ = length d.inputs + length d.nexts in
     gates_placed d.variables (1 + sources) (capped (2 + sources + length d.lits)) d.gates
 
+-- the graph of a draft, or its first fault
 unfoldable pub aig_by : Draft → Result AigParts Fault
 aig_by d = after (nexts_of d) (λ nexts. after (lits_of d) (λ lits. after (gates_of d) (λ gates. Ok (parts_by d nexts lits gates))))
 

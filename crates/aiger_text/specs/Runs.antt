@@ -16,6 +16,7 @@ pub record Run : Type 0 where
 abbrev pub alone : List ℕ → Run
 alone name = record { word = record { name = name; width = 1 }; is_run = false }
 
+-- a run of symbols that begins with bit 0 of a name
 abbrev pub first_of : List ℕ → Run
 first_of name = record { word = record { name = name; width = 1 }; is_run = true }
 
@@ -28,9 +29,11 @@ abbrev pub name_or : ℕ → ℕ → Option (List ℕ) → List ℕ
 name_or kind index None = kind ∷ decimal index
 name_or kind index (Some symbol) = symbol
 
+-- the run that a symbol begins: of several bits, or alone
 abbrev pub begun_by : List ℕ → Run
 begun_by symbol = if begins_run symbol then first_of (take (length symbol - 3) symbol) else alone symbol
 
+-- the run that a symbol or none begins; without one the name is a letter and the index
 abbrev pub begun : ℕ → ℕ → Option (List ℕ) → Run
 begun kind index None = alone (kind ∷ decimal index)
 begun kind index (Some symbol) = begun_by symbol
@@ -40,9 +43,11 @@ abbrev pub has_symbol : Option (List ℕ) → List ℕ → Bool
 has_symbol None name = false
 has_symbol (Some symbol) name = bytes_eq symbol name
 
+-- whether a symbol is the next bit of a run
 abbrev pub goes_on : Run → Option (List ℕ) → Bool
 goes_on run symbol = run.is_run && (nat_lt run.word.width 128 && has_symbol symbol (bit_name run.word.name run.word.width))
 
+-- a run that is one bit wider
 abbrev pub wider : Run → Run
 wider run = record run { word = record { name = run.word.name; width = run.word.width + 1 } }
 

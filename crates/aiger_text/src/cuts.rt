@@ -4,7 +4,7 @@ ghost use Rattle.std.specs.Prelude.{◌≡◌, ◌<◌, ◌++◌, ◌∷◌, [],
 ghost use Rattle.std.specs.List.{AllPass, slice_split};
 ghost use Rattle.aiger_text.specs.Cuts as cuts;
 ghost use Rattle.aiger_text.specs.Cuts.{ends_line, front_of, is_blank, lines_of, not_blank, rest_of, words_of};
-ghost use Rattle.aiger_text.specs.Classes.{bytes_behind, is_of, pieces_of, StopsAt};
+ghost use Rattle.aiger_text.specs.inner.Classes.{bytes_behind, is_of, pieces_of, StopsAt};
 
 /// A class of bytes that follow one another.
 #[derive(Clone, Copy, Debug, PartialEq, Eq)]

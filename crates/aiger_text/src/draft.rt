@@ -3,7 +3,7 @@
 ghost use Rattle.std.specs.Prelude.{◌≡◌, ◌<◌, ◌++◌, ◌∷◌, [], length, OnOk, Some};
 ghost use Rattle.aiger_text.specs.Drafts as drafts;
 ghost use Rattle.aiger_text.specs.Drafts.{flaw_of, named_at, no_lines, put_symbol, section_of};
-ghost use Rattle.aiger_text.specs.Steps.{parts_of, ReadsLine, ReadsSymbol};
+ghost use Rattle.aiger_text.specs.inner.Steps.{parts_of, ReadsLine, ReadsSymbol};
 
 use crate::cuts::{first_word, without_blanks};
 use crate::header::{Header, Section};

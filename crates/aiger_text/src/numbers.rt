@@ -9,7 +9,7 @@ ghost use Rattle.aiger_text.specs.Cuts.{joined, number_of as number_of_word, num
 ghost use Rattle.aiger_text.specs.Cuts as cuts;
 ghost use Rattle.aiger_text.specs.Headers as headers;
 ghost use Rattle.aiger_text.specs.Headers.{numbers_by};
-ghost use Rattle.aiger_text.specs.Numerals.{GivesNumber};
+ghost use Rattle.aiger_text.specs.inner.Numerals.{GivesNumber};
 
 use crate::cuts::next_word;
 

@@ -4,7 +4,8 @@ ghost use Rattle.std.specs.Prelude.{◌≡◌, ◌+◌, ◌<◌, ◌≤◌, ◌^
 ghost use Rattle.std.specs.List.{flat_map};
 ghost use Rattle.aig_blast.specs.Aigs.{input_widths, latch_widths};
 ghost use Rattle.aiger_text.specs.Reading.{aig_of};
-ghost use Rattle.aiger_text.specs.Printing.{bit_name, gate_text, HasNexts, input_lines, input_symbols, input_word_text, laid, latch_lines, latch_symbols, latch_width_of, latch_word_text, line_text, one_of, output_symbol, output_text, reset_text, rest_text, spaced, symbol_text, text_of, width_of, word_symbols};
+ghost use Rattle.aiger_text.specs.Printing.{bit_name, gate_text, input_lines, input_symbols, input_word_text, laid, latch_lines, latch_symbols, latch_width_of, latch_word_text, line_text, one_of, output_symbol, output_text, reset_text, rest_text, spaced, symbol_text, text_of, width_of, word_symbols};
+ghost use Rattle.aiger_text.specs.inner.Printing.{HasNexts};
 
 use aig_blast::{Aig, Gate, InputWord, LatchWord, Lit, OutputBit};
 use itoa::Buffer;

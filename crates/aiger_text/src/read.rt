@@ -6,8 +6,8 @@ ghost use Rattle.aiger_text.specs.Cuts.{lines_of};
 ghost use Rattle.aiger_text.specs.Drafts as drafts;
 ghost use Rattle.aiger_text.specs.Drafts.{draft_from, draft_of, in_line, no_lines, with_line};
 ghost use Rattle.aiger_text.specs.Reading.{aig_by, aig_of, gates_of, lits_of, nexts_of, parts_by};
-ghost use Rattle.aiger_text.specs.Steps.{parts_of};
-ghost use Rattle.aiger_text.specs.Sound.{IsDraft};
+ghost use Rattle.aiger_text.specs.inner.Steps.{parts_of};
+ghost use Rattle.aiger_text.specs.inner.Sound.{IsDraft};
 ghost use Rattle.aig_blast.specs.Aigs.{IsAig};
 
 use crate::cuts::next_line;

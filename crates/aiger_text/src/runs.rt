@@ -4,7 +4,7 @@ ghost use Rattle.std.specs.Prelude.{◌≡◌, ◌+◌, ◌*◌, ◌≤◌, ◌<
 ghost use Rattle.aig_blast.specs.Aigs.{input_widths};
 ghost use Rattle.aig_blast.specs.BitLists.{as_bits, bit};
 ghost use Rattle.aiger_text.specs.Printing.{bit_name};
-ghost use Rattle.aiger_text.specs.RunsSoFar.{run_of};
+ghost use Rattle.aiger_text.specs.inner.RunsSoFar.{run_of};
 ghost use Rattle.aiger_text.specs.Runs as runs;
 ghost use Rattle.aiger_text.specs.Runs.{words_from};
 

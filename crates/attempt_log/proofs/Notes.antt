@@ -10,7 +10,7 @@ use Rattle.typed_core.specs.Fits.{EventFits, EventsFit}
 use Rattle.typed_core.specs.Valid.{IsPort}
 use Rattle.typed_core.specs.declared.access.Access.{Access}
 use Rattle.typed_core.specs.declared.access.Event.{Event}
-use Rattle.attempt_log.specs.Firsts.{noted, noted_all, place_of}
+use Rattle.attempt_log.specs.inner.Firsts.{noted, noted_all, place_of}
 use Rattle.attempt_log.specs.Past.{Commits, StandsFor, first_from, has_access, is_access, kinds, place}
 use Rattle.one_rule.specs.declared.cycle.Fired.{Fired}
 use Rattle.attempt_log.specs.declared.first.Commit.{Commit}

@@ -9,7 +9,7 @@ use Rattle.typed_core.specs.Valid.{IsPort}
 use Rattle.typed_core.specs.declared.access.Access.{Access}
 use Rattle.typed_core.specs.declared.access.Event.{Event}
 use Rattle.typed_core.specs.declared.limits.TheConstants.{PORTS}
-use Rattle.attempt_log.specs.Firsts.{access_of, clash_of, earlier_of, in_the_way, is_write_kind, port_of_kind, row, earliest_below}
+use Rattle.attempt_log.specs.inner.Firsts.{access_of, clash_of, earlier_of, in_the_way, is_write_kind, port_of_kind, row, earliest_below}
 use Rattle.attempt_log.specs.Past.{Commits, StandsFor, first_from, has_access, is_access, kind, kinds}
 use Rattle.one_rule.specs.declared.cycle.Fired.{Fired}
 use Rattle.attempt_log.specs.Verdict.{clash, clash_or, first_clash, first_of, kind_before}

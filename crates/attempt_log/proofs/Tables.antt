@@ -7,7 +7,7 @@ use Rattle.std.proofs.lemmas.List.{get_or_default, get_or-replicate, get_or-set_
 use Rattle.std.proofs.lemmas.List.Elements.{All-append}
 use Rattle.std.proofs.lemmas.List.Sums.{count_by-le-length, sum_by-set}
 use Rattle.std.proofs.lemmas.List.Folds.{list_any-append, list_any_more}
-use Rattle.attempt_log.specs.Firsts.{IsSound, is_listed}
+use Rattle.attempt_log.specs.inner.Firsts.{IsSound, is_listed}
 use Rattle.attempt_log.specs.declared.first.Commit.{Commit}
 
 abbrev pub Table : Type 0

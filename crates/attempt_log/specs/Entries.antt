@@ -38,6 +38,7 @@ entries_by worker entries = filter (λ (e : Entry). worker_of e == worker) entri
 
 -- ---- kinds of entries, to be counted
 
+-- whether an entry is a submit's
 abbrev pub is_submit : Entry → Bool
 is_submit (entry.Submit worker cycle rule inputs events outcome answer) = true
 is_submit (entry.Settle worker answer) = false

@@ -2,9 +2,9 @@ pub mod Trace
 pub mod Attempt
 pub mod Verdict
 pub mod Past
-pub mod Firsts
 pub mod Setting
 pub mod Entries
 pub mod Seats
 pub mod Sources
 pub mod Laws
+pub mod inner

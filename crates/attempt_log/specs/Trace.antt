@@ -48,6 +48,7 @@ retrace env widths trace None = record { events = []; outcome = Done }
 abbrev pub ReadFits : List ℕ → Event → Type 0
 ReadFits widths e = e.access.write ≡ false → (width : ℕ) × (slice_get widths e.access.register ≡ Some width) × HasWidth e.value width
 
+-- each read's value has its register's width
 abbrev pub ReadsFit : List ℕ → List Event → Type 0
 ReadsFit widths events = All (ReadFits widths) events
 

@@ -50,6 +50,7 @@ clash access (f ∷ fired) = clash_or access f.rule (first_clash access f.events
 
 -- ---- reads
 
+-- two bit vectors are equal
 abbrev pub is_same : BitVector → BitVector → Bool
 is_same a b = (a.width == b.width) && (a.number == b.number)
 

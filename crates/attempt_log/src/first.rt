@@ -1,7 +1,7 @@
 //! Engines: the first commit with each kind of access.
 
 ghost use Rattle.std.specs.Prelude.{◌≡◌, ◌<◌, ◌⊎◌, ℕ, List, Option, Some, None, length, replicate, slice_index_or, slice_set, false, IfOk, All};
-ghost use Rattle.attempt_log.specs.Firsts.{is_listed};
+ghost use Rattle.attempt_log.specs.inner.Firsts.{is_listed};
 
 use kw_bits::{NoMemory, Reserved};
 use std::alloc::Global;
@@ -30,7 +30,7 @@ impl Model for Firsts {
 
     ghost view = { λ f. f.commits.items };
 
-    ghost use Rattle.attempt_log.specs.Firsts.{IsSound};
+    ghost use Rattle.attempt_log.specs.inner.Firsts.{IsSound};
 
     ghost invariant = { λ f. IsSound f.commits.items f.touched.items f.touched.capacity };
 }

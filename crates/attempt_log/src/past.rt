@@ -3,7 +3,7 @@
 ghost use Rattle.std.specs.Prelude.{◌≡◌, ◌+◌, ◌*◌, ◌<◌, ℕ, List, [], ◌∷◌, ◌++◌, Option, length, IfOk, All};
 ghost use Rattle.typed_core.specs.Widths.{register_widths};
 ghost use Rattle.typed_core.specs.declared.access.Event.{Event};
-ghost use Rattle.attempt_log.specs.Firsts.{access_of, clash_of, earlier_of, in_the_way, noted, noted_all, place_of, row, earliest_below};
+ghost use Rattle.attempt_log.specs.inner.Firsts.{access_of, clash_of, earlier_of, in_the_way, noted, noted_all, place_of, row, earliest_below};
 ghost use Rattle.attempt_log.specs.Past.{HasPlaces, StandsFor, kinds};
 ghost use Rattle.one_rule.specs.declared.cycle.Fired.{Fired};
 ghost use Rattle.attempt_log.specs.Verdict.{clash};

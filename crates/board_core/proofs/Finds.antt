@@ -21,7 +21,7 @@ use Rattle.board_core.specs.Candidates.{Picks, first, is_further, pair_at, pair_
 use Rattle.board_core.specs.Kept.{Kept, StandsFor, slots_from}
 use Rattle.board_core.proofs.Flags.{flag_at}
 use Rattle.board_core.proofs.Sound.{some_home}
-use Rattle.board_core.specs.Search.{Finds, comes_further}
+use Rattle.board_core.specs.inner.Search.{Finds, comes_further}
 use Rattle.board_core.specs.declared.candidate.Candidate.{Candidate}
 use Rattle.board_core.specs.declared.candidate.Search.{Search}
 

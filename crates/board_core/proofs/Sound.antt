@@ -29,7 +29,8 @@ use Rattle.attempt_log.specs.declared.cause.Verdict.TheVariants.{Commit, Skip, S
 use Rattle.attempt_log.specs.declared.entry.Settled.TheVariants as settled
 use Rattle.attempt_log.specs.declared.entry.Submitted.TheVariants as submitted
 use Rattle.board_core.specs.Board.{Board, Opening, Step, closed, head, is_ahead, is_late, judged, node_at, opened, replaced, setting_of, settle, settle_at, settle_with, stands, stays, stored, submit}
-use Rattle.board_core.specs.Kept.{Does, HasSlots, HoldsSame, IsAt, IsBlank, IsNear, IsShaped, IsSound, Kept, StandsFor, comes_ahead, comes_late, opened_on, slots_from}
+use Rattle.board_core.specs.Kept.{Does, IsAt, Kept, StandsFor, slots_from}
+use Rattle.board_core.specs.inner.Kept.{HasSlots, HoldsSame, IsBlank, IsNear, IsShaped, IsSound, comes_ahead, comes_late, opened_on}
 use Rattle.board_core.specs.Position.{IsOpening, IsPlain, StandsRight}
 use Rattle.board_core.specs.declared.blank.Blank.{Blank}
 use Rattle.board_core.specs.declared.event.BoardAnswer.{BoardAnswer}

@@ -21,6 +21,7 @@ pub data Told : Type 0 where
   Submit : (taken : Taken) → Told
   Settle : (settled : Settled) → Told
 
+-- what a board's answer tells
 abbrev pub told_of : BoardAnswer → Told
 told_of (answer.Submit s) = Submit (taken_of s)
 told_of (answer.Settle s) = Settle s
@@ -31,6 +32,7 @@ event_of design (entry.Submit worker cycle rule inputs events outcome answer) =
     event.Submit (record { design = design; cycle = cycle; rule = rule; inputs = inputs; run = record { events = events; outcome = outcome } })
 event_of design (entry.Settle worker answer) = event.Settle
 
+-- what an entry says that a call was told
 abbrev pub told_by : Entry → Told
 told_by (entry.Submit worker cycle rule inputs events outcome answer) = Submit answer
 told_by (entry.Settle worker answer) = Settle answer
@@ -40,6 +42,7 @@ pub record IsAttemptFor (o : Opening) (a : Attempted) : Type 0 where
   pub attempt : IsAttempt a
   pub is_for : IsFor (setting_of o) a
 
+-- an event submits an attempt for this board's design and stimulus, or settles
 abbrev pub SubmitsFor : Opening → BoardEvent → Type 0
 SubmitsFor o (event.Submit a) = IsAttemptFor o a
 SubmitsFor o event.Settle = Unit {0}
@@ -48,9 +51,11 @@ SubmitsFor o event.Settle = Unit {0}
 abbrev pub events_of : Opening → List Entry → List BoardEvent
 events_of o entries = map (event_of o.design) entries
 
+-- a board's answers to the calls of entries
 abbrev pub answers_after : Opening → List Entry → List BoardAnswer
 answers_after o entries = (run_events o (opened o) (events_of o entries)).answers
 
+-- the board that the calls of entries leave
 abbrev pub board_after : Opening → List Entry → Board
 board_after o entries = (run_events o (opened o) (events_of o entries)).board
 

@@ -4,4 +4,4 @@ pub mod History
 pub mod Kept
 pub mod Laws
 pub mod Candidates
-pub mod Search
+pub mod inner

@@ -1,7 +1,7 @@
 //! Engines: rows whose memory is allocated when a board begins.
 
 ghost use Rattle.std.specs.Prelude.{◌≡◌, [], length, IfOk};
-ghost use Rattle.board_core.specs.Kept.{IsBlank};
+ghost use Rattle.board_core.specs.inner.Kept.{IsBlank};
 
 use kw_bits::{Bits, NoMemory, Reserved};
 use one_rule::{Regs, Row};

@@ -1,7 +1,7 @@
 //! Engines: the candidates for a job, in order.
 
 ghost use Rattle.std.specs.Prelude.{ℕ, ◌<◌, List, length, [], ◌∷◌, ◌++◌, if◌then◌else◌};
-ghost use Rattle.board_core.specs.Search.{Finds, HasRule};
+ghost use Rattle.board_core.specs.inner.Search.{Finds, HasRule};
 ghost use Rattle.typed_core.specs.declared.design.Rule.{Rule};
 ghost use Rattle.board_core.specs.declared.candidate.Candidate.{Candidate};
 

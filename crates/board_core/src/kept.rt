@@ -13,9 +13,10 @@ ghost use Rattle.one_rule.specs.Externs.{kept};
 ghost use Rattle.typed_core.specs.Valid.{externs_of};
 ghost use Rattle.attempt_log.specs.declared.entry.Submitted.TheVariants as submitted;
 ghost use Rattle.board_core.specs.Board.{Board, judged, node_at, opened, setting_of, settle, stored, submit};
-ghost use Rattle.board_core.specs.Kept.{AtPlain, Does, IsBlank, IsNear, StandsFor, comes_ahead, comes_late, is_still, slots_from};
+ghost use Rattle.board_core.specs.Kept.{AtPlain, Does, StandsFor, is_still, slots_from};
+ghost use Rattle.board_core.specs.inner.Kept.{IsBlank, IsNear, comes_ahead, comes_late};
 ghost use Rattle.board_core.specs.Candidates.{IsJobOf, Picks, candidates, first, further, pair_at, pairs};
-ghost use Rattle.board_core.specs.Search.{FindsIn, HasRule, comes_further};
+ghost use Rattle.board_core.specs.inner.Search.{FindsIn, HasRule, comes_further};
 ghost use Rattle.board_core.specs.declared.candidate.Candidate.{Candidate};
 ghost use Rattle.one_rule.specs.Walk.{is_at};
 ghost use Rattle.board_core.specs.declared.event.BoardAnswer.TheVariants as answer;
@@ -60,7 +61,8 @@ impl Model for KeptBoard {
     ghost use Rattle.std.specs.Arc.{arc_value};
     ghost use Rattle.std.specs.Coded.{codes};
     ghost use Rattle.typed_core.specs.contracts.action.Action as action;
-    ghost use Rattle.board_core.specs.Kept.{IsSound, Kept, kept_by};
+    ghost use Rattle.board_core.specs.Kept.{Kept};
+    ghost use Rattle.board_core.specs.inner.Kept.{IsSound, kept_by};
 
     ghost Value = { Kept };
 

@@ -10,7 +10,8 @@ ghost use Rattle.one_rule.specs.Walk.{Walk, root, start};
 ghost use Rattle.one_rule.specs.declared.cycle.State.{State};
 ghost use Rattle.attempt_log.specs.Verdict.{verdict};
 ghost use Rattle.board_core.specs.Board.{Board, judged};
-ghost use Rattle.board_core.specs.Kept.{IsAt, IsShaped};
+ghost use Rattle.board_core.specs.Kept.{IsAt};
+ghost use Rattle.board_core.specs.inner.Kept.{IsShaped};
 
 use attempt_log::{Attempt, Past, Verdict, verdict};
 use kw_bits::NoMemory;

@@ -10,7 +10,7 @@ use Rattle.board_core.specs.Board.{Opening, opened}
 use Rattle.board_core.specs.History.{IsLegal}
 use Rattle.board_core.specs.Kept.{Kept, StandsFor}
 use Rattle.board_lock.specs.Histories.{Leaves}
-use Rattle.board_lock.specs.Rule.{any_of, any_ticket, live_of, is_holding, Fits, AllOutside, RoleFits, Rule}
+use Rattle.board_lock.specs.inner.Rule.{any_of, any_ticket, live_of, is_holding, Fits, AllOutside, RoleFits, Rule}
 use Rattle.board_lock.specs.Plays.{IsOwner, owning}
 use Rattle.board_lock.specs.declared.view.View.{View}
 use Rattle.board_lock.specs.declared.view.Stage.{Stage}

@@ -14,7 +14,7 @@ use Rattle.board_core.specs.History.{IsLegal}
 use Rattle.board_core.specs.Kept.{Kept}
 use Rattle.board_lock.specs.Histories.{Leaves, StartsWith, by}
 use Rattle.attempt_log.specs.Entries.{worker_of}
-use Rattle.board_lock.specs.Rule.{total, has_ticket, any_ticket, is_holding, Knows, Fits, ticket_of, any_of, live_of, owner_of, number_of, RoleFits, AllOutside, Rule}
+use Rattle.board_lock.specs.inner.Rule.{total, has_ticket, any_ticket, is_holding, Knows, Fits, ticket_of, any_of, live_of, owner_of, number_of, RoleFits, AllOutside, Rule}
 use Rattle.board_lock.specs.Plays.{at_stage, having_seen, held, grown, knowing, IsWorker, drew, looked, added, gave, gave_seen}
 use Rattle.board_lock.specs.declared.view.Part.{Part}
 use Rattle.board_lock.proofs.Own.{by_same, by_other, starts_later, starts_through}

@@ -6,7 +6,7 @@ use native.Mathlib.Decide.{ℕ_discrete}
 use Rattle.attempt_log.specs.Entries.{worker_of}
 use Rattle.attempt_log.specs.declared.entry.Entry.{Entry}
 use Rattle.board_lock.specs.declared.notes.Note.{Note}
-use Rattle.board_lock.specs.Notes.{noted, heads, AreNotes, IsNext}
+use Rattle.board_lock.specs.inner.Notes.{noted, heads, AreNotes, IsNext}
 
 mine : (n place : ℕ) (e : Entry) (es : List Entry) → worker_of e ≡ n → noted n place (e ∷ es) ≡ record { place = place; entry = e } ∷ noted n (place + 1) es
 mine n place e es is = ap (λ b. cond b (record { place = place; entry = e } ∷ noted n (place + 1) es) (noted n (place + 1) es)) (eq-eqb (worker_of e) n is)

@@ -8,7 +8,7 @@ use native.Mathlib.Decide.{ℕ_discrete, dec_le}
 use Rattle.attempt_log.specs.Entries.{worker_of}
 use Rattle.attempt_log.specs.declared.entry.Entry.{Entry}
 use Rattle.board_lock.specs.declared.notes.Note.{Note}
-use Rattle.board_lock.specs.Notes.{noted, AreNotes}
+use Rattle.board_lock.specs.inner.Notes.{noted, AreNotes}
 use Rattle.board_core.specs.Board.{Opening}
 use Rattle.board_lock.specs.Histories.{Each, InRun, StartsWith, by}
 use mathlib.Core.Option.{some, some-injective}
@@ -17,7 +17,7 @@ use Rattle.attempt_log.specs.declared.report.Report.{Report}
 use Rattle.board_lock.specs.declared.view.Done.{Done}
 use Rattle.board_lock.specs.Plays.{Mine, Extends, KnowsAll, Stands, done_of}
 use Rattle.board_lock.specs.Work.{Told}
-use Rattle.board_lock.specs.Receipts.{wrapped, receipts, HasNoted, Noting}
+use Rattle.board_lock.specs.inner.Receipts.{wrapped, receipts, HasNoted, Noting}
 use Rattle.board_lock.specs.declared.view.View.{View}
 use Rattle.board_lock.specs.declared.view.Part.{Part}
 use Rattle.board_lock.proofs.Ranges.{all_of, by_all, each_of, every-map, every_by}

@@ -13,7 +13,7 @@ use Rattle.board_core.specs.Board.{Opening}
 use Rattle.board_core.specs.History.{IsLegal}
 use Rattle.board_core.specs.Kept.{Kept}
 use Rattle.board_lock.specs.Histories.{StartsWith, by}
-use Rattle.board_lock.specs.Rule.{total, any_of, any_ticket, live_of, owner_of, number_of, ticket_of, is_holding, Fits, AllOutside, RoleFits, WorkerFits, OwnerFits, DoneFits, Rule}
+use Rattle.board_lock.specs.inner.Rule.{total, any_of, any_ticket, live_of, owner_of, number_of, ticket_of, is_holding, Fits, AllOutside, RoleFits, WorkerFits, OwnerFits, DoneFits, Rule}
 use Rattle.board_lock.specs.Plays.{IsWorker, IsOwner, CanSplit, CanJoin, KnowsAll, left, newcomer, longer, done_of, joined, spent, learned}
 use Rattle.board_lock.specs.declared.view.View.{View}
 use Rattle.board_lock.specs.declared.view.Part.{Part}

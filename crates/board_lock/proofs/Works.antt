@@ -14,7 +14,8 @@ use Rattle.spec_worker.specs.Work.{Counted, Ends, Gains}
 use Rattle.spec_worker.proofs.Gaining.{all_kinds}
 use Rattle.board_lock.specs.Histories.{IsPast, StartsWith, by}
 use Rattle.board_lock.specs.Plays.{IsOwner, CanSplit, Stands, KnowsAll, done_of, left, newcomer, joined}
-use Rattle.board_lock.specs.Work.{HasWorked, IsReady, JoinedFrom, Matches, Reports, SplitBy, Told, Worked}
+use Rattle.board_lock.specs.Work.{Told, Worked}
+use Rattle.board_lock.specs.inner.Work.{HasWorked, IsReady, JoinedFrom, Matches, Reports, SplitBy}
 use Rattle.board_lock.specs.declared.view.View.{View}
 use Rattle.board_lock.specs.declared.view.Done.{Done}
 use Rattle.board_lock.proofs.Own.{by-append}

@@ -7,7 +7,8 @@ ghost use Rattle.board_core.specs.Kept.{StandsFor};
 ghost use Rattle.spec_worker.specs.Work.{WorksAt};
 ghost use Rattle.board_lock.specs.Histories.{Leaves};
 ghost use Rattle.board_lock.specs.Plays.{IsOutside, IsOwner};
-ghost use Rattle.board_lock.specs.Work.{HasWorked, IsReady, JoinedFrom, SplitBy, Worked};
+ghost use Rattle.board_lock.specs.Work.{Worked};
+ghost use Rattle.board_lock.specs.inner.Work.{HasWorked, IsReady, JoinedFrom, SplitBy};
 
 use crate::lock::{Lock, Place};
 use crate::seat::LockSeat;

@@ -12,8 +12,9 @@ ghost use Rattle.board_core.specs.Candidates.{Chooses};
 ghost use Rattle.board_core.specs.History.{board_after};
 ghost use Rattle.board_lock.specs.Histories.{Each, InRun, IsCycle, StartsWith};
 ghost use Rattle.board_lock.specs.Plays.{IsOutside, IsOwner};
-ghost use Rattle.board_lock.specs.Receipts.{IsCopy, Noting, receipts};
-ghost use Rattle.board_lock.specs.Work.{HasWorked, HaveWorked, IsReady, JoinedFrom, SplitBy, Worked};
+ghost use Rattle.board_lock.specs.inner.Receipts.{IsCopy, Noting, receipts};
+ghost use Rattle.board_lock.specs.Work.{HaveWorked, Worked};
+ghost use Rattle.board_lock.specs.inner.Work.{HasWorked, IsReady, JoinedFrom, SplitBy};
 
 use crate::board::{LockBoard, work_seats};
 use crate::call::Receipt;

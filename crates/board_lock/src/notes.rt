@@ -1,7 +1,7 @@
 //! The entries that workers noted, each with its place, and all of them in one order.
 ghost use Rattle.std.specs.Prelude.{◌≡◌, ◌-◌, ◌^◌, ◌<◌, ℕ, List, [], ◌∷◌, false, true, length, slice_index_or, IfOk, MatchOption};
 ghost use Rattle.attempt_log.specs.declared.entry.Entry.{Entry};
-ghost use Rattle.board_lock.specs.Notes.{AreNotes, heads, IsNext};
+ghost use Rattle.board_lock.specs.inner.Notes.{AreNotes, heads, IsNext};
 
 use attempt_log::Entry;
 use kw_bits::{NoMemory, Sequence};

@@ -24,7 +24,7 @@ impl Entered for Brand {
 pub struct Law;
 
 impl TableRule<Option<Core>, View, Snapshot<Core>> for Law {
-    ghost use Rattle.board_lock.specs.Rule.{Rule};
+    ghost use Rattle.board_lock.specs.inner.Rule.{Rule};
     ghost use Rattle.board_lock.specs.Plays.{owning};
 
     ghost holds = { λ key. Rule key.value.opening };

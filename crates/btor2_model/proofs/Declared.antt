@@ -15,7 +15,7 @@ use Rattle.btor2_model.specs.Acceptance.{IsAccepted, fault_in, lacks_next, line_
 use Rattle.btor2_model.specs.Rules.{is_input, is_next, is_output, is_state, role_of, rule_of}
 use Rattle.btor2_model.specs.Run.{lines_of, width_in}
 use Rattle.btor2_model.specs.Scope.{Scope, behind, behind_all, id_at, meaning_of, measures, no_lines, value_width, width_wanted}
-use Rattle.btor2_model.specs.SlowRun.{sets}
+use Rattle.btor2_model.specs.inner.SlowRun.{sets}
 use Rattle.btor2_model.specs.declared.meaning.Meaning.{Meaning}
 use Rattle.btor2_model.specs.declared.meaning.Role.{Role}
 use Rattle.btor2_model.specs.declared.meaning.Role.TheVariants as roles

@@ -13,7 +13,7 @@ use Rattle.std.specs.List.{list_all}
 use Rattle.btor2_model.specs.Acceptance.{agree, fault_in, init_is_fixed, is_fresh, is_known, line_fault, lines_fault, names_state, numeral_fits, passes, sets_first}
 use Rattle.btor2_model.specs.Rules.{bounds_fit, is_init, is_next, rule_of, widths_agree}
 use Rattle.btor2_model.specs.Scope.{Scope, behind, behind_all, id_at, meaning_depends, measures, measures_of, width_wanted}
-use Rattle.btor2_model.specs.SlowRun.{sets}
+use Rattle.btor2_model.specs.inner.SlowRun.{sets}
 use Rattle.btor2_model.specs.declared.meaning.Meaning.{Meaning}
 use Rattle.btor2_model.specs.declared.rule.Measures.{Measures}
 use Rattle.btor2_model.specs.declared.rule.Rule.{Rule}

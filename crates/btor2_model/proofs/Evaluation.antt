@@ -8,11 +8,11 @@ use Rattle.kw_base.specs.declared.fault.Fault.{Fault}
 use Rattle.kw_bits.specs.BitVector.{BitVector}
 use Rattle.btor2_text.specs.declared.line.Line.{Line}
 use Rattle.btor2_model.specs.Acceptance.{lines_fault, line_fault, fault_in}
-use Rattle.btor2_model.specs.Known.{AreNarrow}
+use Rattle.btor2_model.specs.inner.Known.{AreNarrow}
 use Rattle.btor2_model.specs.Rules.{rule_of, is_input}
 use Rattle.btor2_model.specs.Run.{Step, Values, ids_of, no_bits, value_by, values_behind, values_with}
 use Rattle.btor2_model.specs.Scope.{Scope, no_lines, behind}
-use Rattle.btor2_model.specs.SlowRun.{Knows, known_value, step_with}
+use Rattle.btor2_model.specs.inner.SlowRun.{Knows, known_value, step_with}
 use Rattle.btor2_model.specs.declared.known_values.KnownValues.{KnownValues}
 
 -- what holds of a value that is there

@@ -18,7 +18,8 @@ use Rattle.btor2_model.specs.Acceptance.{agree, init_is_fixed, is_fresh, is_know
 use Rattle.btor2_model.specs.Rules.{rule_of, bounds_fit, widths_agree}
 use Rattle.btor2_model.specs.Run.{base_of}
 use Rattle.btor2_model.specs.Scope.{Scope, argument_depends, measures, measures_from, measures_of, meaning_depends, sort_width_in, width_wanted}
-use Rattle.btor2_model.specs.SlowRun.{GivesValue, HasValue, computes, IsFilled, known_value, takes_one, takes_alike, is_constant, width_by}
+use Rattle.btor2_model.specs.SlowRun.{HasValue, is_constant}
+use Rattle.btor2_model.specs.inner.SlowRun.{GivesValue, computes, IsFilled, known_value, takes_one, takes_alike, width_by}
 use Rattle.btor2_model.specs.declared.known_values.KnownValues.{KnownValues}
 use Rattle.btor2_model.specs.declared.rule.Measures.{Measures}
 use Rattle.btor2_model.specs.declared.rule.Rule.{Rule}

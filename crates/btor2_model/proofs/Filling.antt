@@ -13,7 +13,8 @@ use Rattle.btor2_model.specs.Acceptance.{agree, fault_in, init_is_fixed, is_fres
 use Rattle.btor2_model.specs.Rules.{bounds_fit, is_input, is_state, role_of, rule_of}
 use Rattle.btor2_model.specs.Run.{ids_of, width_in}
 use Rattle.btor2_model.specs.Scope.{Scope, argument_depends, behind, behind_all, meaning_depends, meaning_of, measures_of, no_lines, sort_width, value_width, width_or_none, width_wanted}
-use Rattle.btor2_model.specs.SlowRun.{GivesValue, HasValue, InputsHave, IsFilled, StatesHave, computes, known_value}
+use Rattle.btor2_model.specs.SlowRun.{HasValue}
+use Rattle.btor2_model.specs.inner.SlowRun.{GivesValue, InputsHave, IsFilled, StatesHave, computes, known_value}
 use Rattle.btor2_model.specs.declared.known_values.KnownValues.{KnownValues}
 use Rattle.btor2_model.specs.declared.meaning.Meaning.{Meaning}
 use Rattle.btor2_model.specs.declared.rule.Measures.{Measures}

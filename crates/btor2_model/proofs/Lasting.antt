@@ -15,7 +15,8 @@ use Rattle.btor2_model.specs.Acceptance.{IsAccepted, lines_fault}
 use Rattle.btor2_model.specs.Rules.{is_init, is_input, is_next, is_output, is_state, rule_of}
 use Rattle.btor2_model.specs.Run.{flag_ids, ids_of, lines_of, width_in}
 use Rattle.btor2_model.specs.Scope.{Scope, behind, behind_all, id_at, measures, measures_of, meaning_of, no_lines, width_or_none, width_wanted}
-use Rattle.btor2_model.specs.SlowRun.{HasValue, InputsHave, IsFilled, known_value, sets}
+use Rattle.btor2_model.specs.SlowRun.{HasValue}
+use Rattle.btor2_model.specs.inner.SlowRun.{InputsHave, IsFilled, known_value, sets}
 use Rattle.btor2_model.specs.declared.known_values.KnownValues.{KnownValues}
 use Rattle.btor2_model.specs.declared.meaning.Meaning.{Meaning}
 use Rattle.btor2_model.specs.declared.rule.Rule.{Rule}

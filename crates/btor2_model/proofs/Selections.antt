@@ -14,7 +14,7 @@ use Rattle.btor2_text.specs.declared.line.Line.{Line}
 use Rattle.btor2_model.specs.Rules.{is_input, is_output, rule_of}
 use Rattle.btor2_model.specs.Run.{Values, ids_of, input_values, lines_of, next_values, no_bits, row_behind, rows_behind, states_at, value_set, values_in, width_in}
 use Rattle.btor2_model.specs.Scope.{id_at}
-use Rattle.btor2_model.specs.SlowRun.{sets}
+use Rattle.btor2_model.specs.inner.SlowRun.{sets}
 use Rattle.btor2_model.specs.declared.rule.Rule.{Rule}
 
 more-lines : (lines : List Line) (place : ℕ) (line : Line) → place < length lines → line ≡ get_or lines place line → take (place + 1) lines ≡ take place lines ++ line ∷ []

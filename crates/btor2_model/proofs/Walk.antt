@@ -7,7 +7,7 @@ use Rattle.std.specs.Option.{option_map, option_or}
 use Rattle.kw_base.specs.declared.fault.Fault.{Fault}
 use Rattle.btor2_text.specs.declared.line.Line.{Line}
 use Rattle.btor2_model.specs.Acceptance.{lines_fault, line_fault, fault_in}
-use Rattle.btor2_model.specs.Known.{AreNarrow}
+use Rattle.btor2_model.specs.inner.Known.{AreNarrow}
 use Rattle.btor2_model.specs.Scope.{Scope, no_lines, behind, behind_all}
 
 -- the lines before this place have no fault and declare this

@@ -37,6 +37,7 @@ abbrev pub means_state : Role → Bool
 means_state roles.State = true
 means_state other = false
 
+-- an id names a state
 abbrev pub stands_for_state : Option Meaning → Bool
 stands_for_state None = false
 stands_for_state (Some meaning) = means_state meaning.role

@@ -81,26 +81,32 @@ abbrev pub is_sort : Rule → Bool
 is_sort forms.Sort = true
 is_sort other = false
 
+-- a line of an input
 abbrev pub is_input : Rule → Bool
 is_input forms.Input = true
 is_input other = false
 
+-- a line of a state
 abbrev pub is_state : Rule → Bool
 is_state forms.State = true
 is_state other = false
 
+-- a line of a state's first value
 abbrev pub is_init : Rule → Bool
 is_init forms.Init = true
 is_init other = false
 
+-- a line of a state's next value
 abbrev pub is_next : Rule → Bool
 is_next forms.Next = true
 is_next other = false
 
+-- a line of an output
 abbrev pub is_output : Rule → Bool
 is_output forms.Output = true
 is_output other = false
 
+-- a line of a bad state
 abbrev pub is_bad : Rule → Bool
 is_bad forms.Bad = true
 is_bad other = false

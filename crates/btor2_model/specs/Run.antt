@@ -185,5 +185,6 @@ abbrev pub rows_behind : List Line → InputsByCycle → ℕ → List Row
 rows_behind lines inputs zero = []
 rows_behind lines inputs (suc steps) = rows_behind lines inputs steps ++ row_behind lines inputs steps ∷ []
 
+-- the run of a text: a row before the first cycle, and one for each cycle
 abbrev pub run_of : List Line → InputsByCycle → ℕ → List Row
 run_of lines inputs n = first_row lines ∷ rows_behind lines inputs n

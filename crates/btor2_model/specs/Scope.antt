@@ -31,6 +31,7 @@ abbrev pub id_of : Option Argument → ℕ
 id_of (Some (arguments.Id id)) = id
 id_of other = 0
 
+-- the id at a place of a line's arguments
 abbrev pub id_at : List Argument → ℕ → ℕ
 id_at given place = id_of (slice_get given place)
 
@@ -44,6 +45,7 @@ abbrev pub sort_width : Role → ℕ → Option ℕ
 sort_width roles.Sort width = Some width
 sort_width other width = None
 
+-- the width of what an id names, where it is a value
 abbrev pub value_width : Role → ℕ → Option ℕ
 value_width roles.Value width = Some width
 value_width roles.State width = Some width
@@ -80,6 +82,7 @@ measures scope kinds given =
     (measure scope (slice_get kinds 2) (slice_get given 2))
     (measure scope (slice_get kinds 3) (slice_get given 3))
 
+-- the measures of a line in a scope, if its arguments fit its keyword
 abbrev pub measures_of : Scope → Line → Option Measures
 measures_of scope line = measures scope (kinds_of line.keyword) line.arguments
 
@@ -88,6 +91,7 @@ abbrev pub meaning_depends : Option Meaning → Bool
 meaning_depends None = false
 meaning_depends (Some meaning) = meaning.depends
 
+-- whether an argument names what depends on an input or a state
 abbrev pub argument_depends : Scope → Argument → Bool
 argument_depends scope (arguments.Id id) = meaning_depends (scope.meanings id)
 argument_depends scope other = false

@@ -5,7 +5,7 @@ ghost use Rattle.kw_base.specs.Fault.{IfFault, IsOkUnlessNoMemory, IsFaultUnless
 ghost use Rattle.kw_base.specs.declared.fault.Fault.{Fault as FaultOf};
 ghost use Rattle.btor2_text.specs.Printable.{ArePrintable};
 ghost use Rattle.btor2_model.specs.Acceptance as acceptance;
-ghost use Rattle.btor2_model.specs.Known.{scope_of};
+ghost use Rattle.btor2_model.specs.inner.Known.{scope_of};
 ghost use Rattle.btor2_model.specs.Scope as scope;
 
 use crate::Btor;

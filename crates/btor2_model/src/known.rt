@@ -7,7 +7,7 @@ ghost use Rattle.std.specs.Ordering.{nat_cmp};
 ghost use Rattle.kw_base.specs.Fault.{IfFault};
 ghost use Rattle.btor2_text.specs.Forms.{kinds_of};
 ghost use Rattle.btor2_model.specs.Acceptance as acceptance;
-ghost use Rattle.btor2_model.specs.Known.{scope_of, AreNarrow};
+ghost use Rattle.btor2_model.specs.inner.Known.{scope_of, AreNarrow};
 ghost use Rattle.btor2_model.specs.Rules.{rule_of};
 ghost use Rattle.btor2_model.specs.Scope as scope;
 ghost use Rattle.btor2_model.specs.declared.meaning.Meaning.{Meaning as MeaningOf};

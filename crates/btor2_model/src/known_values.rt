@@ -2,7 +2,7 @@
 
 ghost use Rattle.std.specs.Prelude.{◌≡◌, OnOk, None, nat_eq};
 ghost use Rattle.std.specs.Map.{update};
-ghost use Rattle.btor2_model.specs.SlowRun.{known_value};
+ghost use Rattle.btor2_model.specs.inner.SlowRun.{known_value};
 
 use kw_bits::{Bits, NoMemory};
 use std::alloc::Global;

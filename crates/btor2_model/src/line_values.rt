@@ -7,11 +7,11 @@ ghost use Rattle.std.specs.Map.{lookup};
 ghost use Rattle.kw_bits.specs.BitVector.{BitVector};
 ghost use Rattle.btor2_text.specs.Printable.{ArePrintable};
 ghost use Rattle.btor2_model.specs.Acceptance as acceptance;
-ghost use Rattle.btor2_model.specs.Known.{scope_of, AreNarrow};
+ghost use Rattle.btor2_model.specs.inner.Known.{scope_of, AreNarrow};
 ghost use Rattle.btor2_model.specs.Rules as form;
 ghost use Rattle.btor2_model.specs.Run as run;
 ghost use Rattle.btor2_model.specs.Scope as scope;
-ghost use Rattle.btor2_model.specs.SlowRun.{computes, known_value, step_with, GivesValue, InputsHave, IsFilled, Knows, StatesHave};
+ghost use Rattle.btor2_model.specs.inner.SlowRun.{computes, known_value, step_with, GivesValue, InputsHave, IsFilled, Knows, StatesHave};
 
 use crate::known::Known;
 use crate::known_values::KnownValues;

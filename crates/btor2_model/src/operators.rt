@@ -8,7 +8,8 @@ ghost use Rattle.btor2_text.specs.declared.keyword.Keyword.TheVariants as keywor
 ghost use Rattle.kw_bits.specs.Operators as vector;
 ghost use Rattle.btor2_model.specs.Rules.{rule_of};
 ghost use Rattle.btor2_model.specs.Run as run;
-ghost use Rattle.btor2_model.specs.SlowRun.{HasValue, takes_one, takes_alike, compares, is_constant, width_by};
+ghost use Rattle.btor2_model.specs.SlowRun.{HasValue, is_constant};
+ghost use Rattle.btor2_model.specs.inner.SlowRun.{takes_one, takes_alike, compares, width_by};
 ghost use Rattle.btor2_model.specs.declared.rule.Rule.TheVariants as forms;
 
 use crate::numeral::value_below;

@@ -6,11 +6,11 @@ ghost use Rattle.kw_bits.specs.BitVector.{BitVector};
 ghost use Rattle.btor2_text.specs.Printable.{ArePrintable};
 ghost use Rattle.one_rule.specs.Stimulus.{inputs_of};
 ghost use Rattle.btor2_model.specs.Acceptance as acceptance;
-ghost use Rattle.btor2_model.specs.Known.{scope_of};
+ghost use Rattle.btor2_model.specs.inner.Known.{scope_of};
 ghost use Rattle.btor2_model.specs.Rules as form;
 ghost use Rattle.btor2_model.specs.Run as run;
 ghost use Rattle.btor2_model.specs.Scope as scope;
-ghost use Rattle.btor2_model.specs.SlowRun.{is_flag, known_value, IsFilled, Knows, StatesHave};
+ghost use Rattle.btor2_model.specs.inner.SlowRun.{is_flag, known_value, IsFilled, Knows, StatesHave};
 
 use crate::acceptance::declared;
 use crate::arguments::id_at;

@@ -6,11 +6,12 @@ ghost use Rattle.std.specs.List.{find};
 ghost use Rattle.kw_bits.specs.BitVector.{BitVector, zero_at};
 ghost use Rattle.btor2_text.specs.Printable.{ArePrintable};
 ghost use Rattle.btor2_model.specs.Acceptance as acceptance;
-ghost use Rattle.btor2_model.specs.Known.{scope_of};
+ghost use Rattle.btor2_model.specs.inner.Known.{scope_of};
 ghost use Rattle.btor2_model.specs.Rules as form;
 ghost use Rattle.btor2_model.specs.Run as run;
 ghost use Rattle.btor2_model.specs.Scope as scope;
-ghost use Rattle.btor2_model.specs.SlowRun.{HasValue, IsFilled, Knows, StatesHave, known_value, sets};
+ghost use Rattle.btor2_model.specs.SlowRun.{HasValue};
+ghost use Rattle.btor2_model.specs.inner.SlowRun.{IsFilled, Knows, StatesHave, known_value, sets};
 
 use crate::arguments::id_at;
 use crate::known::Known;

@@ -18,7 +18,7 @@ use Rattle.btor2_model.specs.declared.rule.Rule.{Rule}
 use Rattle.btor2_model.proofs.Conditions.{meets}
 use Rattle.btor2_model.proofs.Evaluation.{option_map-none, option_or-none}
 use Rattle.btor2_model.proofs.Filling.{nothing-there}
-use Rattle.btor2_net.specs.Values.{AreGiven}
+use Rattle.btor2_net.specs.inner.Values.{AreGiven}
 
 -- no id stands at two places
 unfoldable pub AreDistinct : List ℕ → Type 0

@@ -8,8 +8,8 @@ use Rattle.std.specs.Option.{option_map, option_or}
 use Rattle.btor2_text.specs.declared.line.Line.{Line}
 use Rattle.btor2_model.specs.Rules.{rule_of}
 use Rattle.btor2_model.specs.Scope.{id_at}
-use Rattle.btor2_model.specs.SlowRun.{sets}
-use Rattle.btor2_net.specs.Wires.{is_form, set_by}
+use Rattle.btor2_model.specs.inner.SlowRun.{sets}
+use Rattle.btor2_net.specs.inner.Wires.{is_form, set_by}
 use Rattle.btor2_net.specs.declared.form.Form.{Form}
 
 or-none : (o : Option ℕ) → option_or o None ≡ o

@@ -23,15 +23,15 @@ use Rattle.btor2_model.specs.Acceptance.{IsAccepted}
 use Rattle.btor2_model.specs.Rules.{is_init, is_input, is_next, is_output, is_state, rule_of}
 use Rattle.btor2_model.specs.Run as text
 use Rattle.btor2_model.specs.Scope.{Scope, behind_all, id_at, meaning_depends, no_lines}
-use Rattle.btor2_model.specs.SlowRun.{sets}
+use Rattle.btor2_model.specs.inner.SlowRun.{sets}
 use Rattle.btor2_model.specs.Table.{value_in}
 use Rattle.btor2_model.specs.declared.rule.Rule.{Rule}
 use Rattle.btor2_model.proofs.Ends.{SameWidth, init-found}
 use Rattle.btor2_model.proofs.Selections.{set-by}
-use Rattle.btor2_net.specs.Nodes.{numbering_of}
+use Rattle.btor2_net.specs.inner.Nodes.{numbering_of}
 use Rattle.btor2_net.specs.Translations.{HasLines, widths_in}
-use Rattle.btor2_net.specs.Values.{AreNodesOf, SameStep}
-use Rattle.btor2_net.specs.Wires.{AreWiresOf, Stand, first_of, input_wire, node_of, output_wire, set_by, state_wire, width_of, zero_of}
+use Rattle.btor2_net.specs.inner.Values.{AreNodesOf, SameStep}
+use Rattle.btor2_net.specs.inner.Wires.{AreWiresOf, Stand, first_of, input_wire, node_of, output_wire, set_by, state_wire, width_of, zero_of}
 use Rattle.btor2_net.specs.declared.form.Form.TheVariants as forms
 use Rattle.btor2_net.specs.declared.nodes.Nodes.{Nodes}
 use Rattle.btor2_model.proofs.Declared.{IsValue, all-passing, fine-lines, input-values, next-of, output-value, own-value, state-values}

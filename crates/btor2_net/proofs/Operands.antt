@@ -29,15 +29,15 @@ use Rattle.btor2_model.specs.Acceptance.{names_state, passes}
 use Rattle.btor2_model.specs.Rules.{rule_of, bounds_fit, widths_agree}
 use Rattle.btor2_model.specs.Run.{Values, base_of, binary, constant, extended, operator_value, unary}
 use Rattle.btor2_model.specs.Scope.{Scope, measures, measures_of, width_or_none, width_wanted}
-use Rattle.btor2_model.specs.SlowRun.{computes, takes_one, takes_alike, width_by}
+use Rattle.btor2_model.specs.inner.SlowRun.{computes, takes_one, takes_alike, width_by}
 use Rattle.btor2_model.specs.declared.rule.Measures.{Measures}
 use Rattle.btor2_model.specs.declared.rule.Rule.{Rule}
 use Rattle.btor2_model.specs.declared.rule.Rule.TheVariants as forms
 use Rattle.btor2_model.proofs.Filled.{both, each-measure, passes-at, passes-some, some-same, sort-alone, sort-bounds, sort-number, sort-numeral, sort-one, sort-three, sort-two}
 use Rattle.btor2_model.proofs.KindsByRule.{kinds-by, kinds_by}
 use Rattle.btor2_model.proofs.Conditions.{Meets}
-use Rattle.btor2_net.specs.Nodes.{Numbering, extension, node_at, one_of, op_by, two_of}
-use Rattle.btor2_net.specs.Values.{HasNodeOf}
+use Rattle.btor2_net.specs.inner.Nodes.{Numbering, extension, node_at, one_of, op_by, two_of}
+use Rattle.btor2_net.specs.inner.Values.{HasNodeOf}
 
 -- what is declared has sorts of 1 to 128 bits, and a node of its width for each value
 pub record Holds (scope : Scope) (n : Numbering) (net : List NetOp) : Type 0 where

@@ -10,7 +10,7 @@ use Rattle.net_graph.specs.declared.node.NetTwo.TheVariants as twos
 use Rattle.btor2_text.specs.declared.kind.Kind.TheVariants as kinds
 use Rattle.btor2_model.specs.Rules.{rule_of}
 use Rattle.btor2_model.specs.Run.{binary, unary}
-use Rattle.btor2_model.specs.SlowRun.{computes}
+use Rattle.btor2_model.specs.inner.SlowRun.{computes}
 use Rattle.btor2_model.specs.declared.rule.Rule.{Rule}
 use Rattle.btor2_model.specs.declared.rule.Rule.TheVariants as forms
 use Rattle.btor2_model.proofs.KindsByRule.{kinds_by}

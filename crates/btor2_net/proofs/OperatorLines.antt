@@ -14,7 +14,7 @@ use Rattle.btor2_text.specs.declared.keyword.Keyword.TheVariants as keywords
 use Rattle.btor2_text.specs.declared.line.Argument.{Argument}
 use Rattle.btor2_text.specs.declared.line.Argument.TheVariants as arguments
 use Rattle.btor2_model.specs.Rules.{rule_of}
-use Rattle.btor2_net.specs.Nodes.{extension, one_of, two_of}
+use Rattle.btor2_net.specs.inner.Nodes.{extension, one_of, two_of}
 use Rattle.btor2_net.specs.Pages.{Draft, arguments_of, id_in, keyword_of_one, keyword_of_two, with_node, with_node_line}
 use Rattle.btor2_net.specs.TidyLines.{is_operator, operand_ids}
 

@@ -24,7 +24,8 @@ use Rattle.btor2_model.specs.Acceptance.{digits_of, names_state, numeral_fits, p
 use Rattle.btor2_model.specs.Rules.{is_input, is_sort, is_state, role_of, rule_of, widths_agree}
 use Rattle.btor2_model.specs.Run.{Step, Values, base_of, operator_value, value_by}
 use Rattle.btor2_model.specs.Scope.{Scope, behind, id_at, meaning_of, measures, measures_of, sort_width, sort_width_in, value_width, width_or_none, width_wanted}
-use Rattle.btor2_model.specs.SlowRun.{computes, is_constant}
+use Rattle.btor2_model.specs.SlowRun.{is_constant}
+use Rattle.btor2_model.specs.inner.SlowRun.{computes}
 use Rattle.btor2_model.specs.declared.meaning.Role.{Role}
 use Rattle.btor2_model.specs.declared.meaning.Role.TheVariants as roles
 use Rattle.btor2_model.specs.declared.rule.Measures.{Measures}
@@ -34,8 +35,8 @@ use Rattle.btor2_model.proofs.Conditions.{Meets}
 use Rattle.btor2_model.proofs.Filled.{both, each-measure, passes-some, some-same, sort-alone, sort-numeral}
 use Rattle.btor2_model.proofs.Filling.{nothing-there, sort-new}
 use Rattle.btor2_model.proofs.KindsByRule.{IsBaseOf, base-by, kinds-by, kinds_by}
-use Rattle.btor2_net.specs.Nodes.{AddsLine, HasConstant, Numbering, number_at, numeral_at, op_by, op_of, sort_at}
-use Rattle.btor2_net.specs.Values.{HasNodeOf}
+use Rattle.btor2_net.specs.inner.Nodes.{AddsLine, HasConstant, Numbering, number_at, numeral_at, op_by, op_of, sort_at}
+use Rattle.btor2_net.specs.inner.Values.{HasNodeOf}
 use Rattle.btor2_net.proofs.Growth.{Begins, grown, inside-more, node-follows, node-width, op-width-more, reads-more, value-more, width-more}
 use Rattle.btor2_net.proofs.Operands.{Follows, Holds, line-works}
 

@@ -21,9 +21,9 @@ use Rattle.btor2_model.specs.declared.rule.Rule.{Rule}
 use Rattle.btor2_model.proofs.Conditions.{Meets, meets}
 use Rattle.btor2_model.proofs.Evaluation.{accepted-next}
 use Rattle.btor2_model.proofs.Filling.{width-of-line}
-use Rattle.btor2_net.specs.Nodes.{AddsLine, HasConstant, IsFew, Numbering, op_of}
+use Rattle.btor2_net.specs.inner.Nodes.{AddsLine, HasConstant, IsFew, Numbering, op_of}
 use Rattle.btor2_net.specs.Translations.{widths_in}
-use Rattle.btor2_net.specs.Values.{AreNodesOf, SameStep}
+use Rattle.btor2_net.specs.inner.Values.{AreNodesOf, SameStep}
 use Rattle.btor2_net.proofs.Operands.{Follows, Holds}
 use Rattle.btor2_net.proofs.Passing.{absent-next, follows-next, has-constant, holds-next, inside-next, may-add, reads-next}
 

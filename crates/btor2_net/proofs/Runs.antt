@@ -24,7 +24,7 @@ use Rattle.btor2_model.specs.Run as text
 use Rattle.btor2_model.specs.Scope.{id_at, no_lines}
 use Rattle.btor2_model.proofs.Selections.{rows-next, states-next}
 use Rattle.btor2_net.specs.Translations.{GivesOutputs, HasLines, RunsAs, output_widths}
-use Rattle.btor2_net.specs.Values.{SameStep}
+use Rattle.btor2_net.specs.inner.Values.{SameStep}
 use Rattle.btor2_net.proofs.Distinct.{inputs-given, states-given}
 
 -- the circuit begins with the text's states, and in each step its next states and its outputs are the text's

@@ -25,7 +25,7 @@ use Rattle.btor2_model.specs.Scope.{Scope, id_at, no_lines, width_wanted}
 use Rattle.btor2_net.specs.Pages as pages
 use Rattle.btor2_net.specs.Pages.{Draft, Page, id_in}
 use Rattle.btor2_net.specs.Translations.{AreCounted, GivesOutputs, HasLines, HasTokens, RunsAs, name_of}
-use Rattle.btor2_net.specs.Values.{AreGiven, SameStep}
+use Rattle.btor2_net.specs.inner.Values.{AreGiven, SameStep}
 use Rattle.btor2_net.proofs.Adding.{scope_of}
 use Rattle.btor2_model.proofs.Declared.{width-is}
 use Rattle.btor2_net.proofs.Distinct.{AreDistinct, ids-distinct}

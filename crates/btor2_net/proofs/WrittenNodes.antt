@@ -24,12 +24,12 @@ use Rattle.btor2_text.specs.declared.line.Line.{Line}
 use Rattle.btor2_model.specs.Rules.{is_init, role_of, rule_of, width_given}
 use Rattle.btor2_model.specs.Run.{Step, Values, extended, lines_of, operator_value, value_by, values_at}
 use Rattle.btor2_model.specs.Scope.{Scope, value_width, width_wanted}
-use Rattle.btor2_model.specs.SlowRun.{computes}
+use Rattle.btor2_model.specs.inner.SlowRun.{computes}
 use Rattle.btor2_model.specs.declared.rule.Measures.{Measures}
 use Rattle.btor2_model.specs.declared.rule.Rule.{Rule}
 use Rattle.btor2_model.specs.declared.rule.Rule.TheVariants as forms
 use Rattle.btor2_net.specs.Pages.{Draft, Page, arguments_of, id_in, id_of_line, keyword_of_one, keyword_of_two, line_on, sort_id, with_node, with_node_line, with_nodes, with_sort}
-use Rattle.btor2_net.specs.Values.{AreGiven}
+use Rattle.btor2_net.specs.inner.Values.{AreGiven}
 use Rattle.btor2_net.proofs.Adding.{Asked, scope_of}
 use Rattle.btor2_net.proofs.Asking.{Agrees, asked-four, asked-three, asked-two, four, number-given, sort-given, value-given}
 use Rattle.btor2_net.proofs.Growth.{node-follows, node-width}

@@ -22,6 +22,7 @@ DifferInWidth a b = declared_width a ≢ declared_width b
 abbrev pub state_set : Line → ℕ
 state_set line = id_at line.arguments 1
 
+-- the id of the value that an `init` or a `next` line sets
 abbrev pub value_set : Line → ℕ
 value_set line = id_at line.arguments 2
 
@@ -38,6 +39,7 @@ is_named forms.Output = true
 is_named forms.Bad = true
 is_named other = false
 
+-- a line has a symbol
 abbrev pub HasSymbol : Line → Type 0
 HasSymbol line = line.symbol ≢ None
 

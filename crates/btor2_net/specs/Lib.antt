@@ -1,9 +1,6 @@
 pub mod Laws
 pub mod Layout
-pub mod Nodes
-pub mod PageFields
 pub mod Pages
 pub mod TidyLines
 pub mod Translations
-pub mod Values
-pub mod Wires
+pub mod inner

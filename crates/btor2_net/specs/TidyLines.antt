@@ -37,6 +37,7 @@ abbrev pub id_given : Argument → Option ℕ
 id_given (arguments.Id id) = Some id
 id_given other = None
 
+-- the ids that a line names after its sort
 abbrev pub operand_ids : List Argument → List ℕ
 operand_ids [] = []
 operand_ids (sort ∷ others) = filter_map id_given others
@@ -63,6 +64,7 @@ IsNeededBy lines keywords.Or given = id_at given 1 ≢ id_at given 2
 IsNeededBy lines keywords.Not given = (other : Line) → Contains lines other → other.keyword ≡ keywords.Not → other.id ≢ id_at given 1
 IsNeededBy lines other given = Unit {0}
 
+-- a line that an output, a state or another needed line names
 abbrev pub IsNeededLine : List Line → Line → Type 0
 IsNeededLine lines line = IsNeededBy lines line.keyword line.arguments
 

@@ -5,7 +5,7 @@ ghost use Rattle.btor2_model.specs.Acceptance.{IsAccepted};
 ghost use Rattle.btor2_model.specs.Rules.{is_input, is_state};
 ghost use Rattle.btor2_model.specs.Run.{lines_of};
 ghost use Rattle.btor2_net.specs.Translations.{GivesOutputs, HasLines, HasTokens, RunsAs};
-ghost use Rattle.btor2_net.specs.Wires.{AreWiresOf};
+ghost use Rattle.btor2_net.specs.inner.Wires.{AreWiresOf};
 
 use crate::form::Form;
 use crate::nodes::nodes_of;

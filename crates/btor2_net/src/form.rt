@@ -2,7 +2,7 @@
 
 ghost use Rattle.std.specs.Prelude.{◌≡◌};
 ghost use Rattle.btor2_model.specs.Rules.{rule_of};
-ghost use Rattle.btor2_net.specs.Wires.{is_form};
+ghost use Rattle.btor2_net.specs.inner.Wires.{is_form};
 
 use btor2_model::Rule;
 use btor2_text::Line;

@@ -4,7 +4,7 @@ ghost use Rattle.std.specs.Prelude.{◌≡◌, ◌∷◌, ◌++◌, ◌<◌, ◌
 ghost use Rattle.net_graph.specs.Nets.{widths_of};
 ghost use Rattle.circuit_eval.specs.Tidy.{IsTidy};
 ghost use Rattle.btor2_model.specs.Acceptance.{IsAccepted};
-ghost use Rattle.btor2_net.specs.PageFields.{page_of};
+ghost use Rattle.btor2_net.specs.inner.PageFields.{page_of};
 ghost use Rattle.btor2_net.specs.Layout.{AreLaidOut};
 ghost use Rattle.btor2_net.specs.Pages as pages;
 ghost use Rattle.btor2_net.specs.TidyLines.{AreTidy};

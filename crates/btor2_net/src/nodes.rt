@@ -11,9 +11,9 @@ ghost use Rattle.btor2_model.specs.Run as run;
 ghost use Rattle.btor2_model.specs.SlowRun.{is_constant};
 ghost use Rattle.btor2_model.specs.Table.{value_in};
 ghost use Rattle.btor2_model.specs.Scope.{id_at, no_lines};
-ghost use Rattle.btor2_net.specs.Nodes as numbering;
-ghost use Rattle.btor2_net.specs.Values.{AreNodesOf};
-ghost use Rattle.btor2_net.specs.Wires.{node_of};
+ghost use Rattle.btor2_net.specs.inner.Nodes as numbering;
+ghost use Rattle.btor2_net.specs.inner.Values.{AreNodesOf};
+ghost use Rattle.btor2_net.specs.inner.Wires.{node_of};
 
 use crate::operators::{one_of, two_of};
 use btor2_model::{Rule, Table, digits_at, id_at, named_constant, number_at, written_constant};

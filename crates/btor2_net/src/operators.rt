@@ -2,7 +2,7 @@
 
 // The operators on nodes that keywords name.
 ghost use Rattle.std.specs.Prelude.{◌≡◌};
-ghost use Rattle.btor2_net.specs.Nodes as nodes;
+ghost use Rattle.btor2_net.specs.inner.Nodes as nodes;
 
 use btor2_text::Keyword;
 use net_graph::{NetOne, NetTwo};

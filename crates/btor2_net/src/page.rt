@@ -2,7 +2,7 @@
 
 ghost use Rattle.std.specs.Prelude.{◌≡◌, ◌∷◌, ◌++◌, ◌<◌, ◌^◌, [], IfOk, OnOk, None, length, map};
 ghost use Rattle.btor2_text.specs.declared.line.Argument.TheVariants as arguments;
-ghost use Rattle.btor2_net.specs.PageFields.{page_of};
+ghost use Rattle.btor2_net.specs.inner.PageFields.{page_of};
 ghost use Rattle.btor2_net.specs.Pages as pages;
 
 use btor2_model::Table;

@@ -4,7 +4,7 @@
 ghost use Rattle.std.specs.Prelude.{◌≡◌, ◌∷◌, [], ℕ, IfOk, OnOk};
 ghost use Rattle.std.specs.Option.{option_or};
 ghost use Rattle.btor2_model.specs.Table.{value_in};
-ghost use Rattle.btor2_net.specs.Wires.{set_by};
+ghost use Rattle.btor2_net.specs.inner.Wires.{set_by};
 
 use crate::form::Form;
 use btor2_model::{Table, id_at};

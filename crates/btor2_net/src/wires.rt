@@ -7,7 +7,7 @@ ghost use Rattle.net_graph.specs.Values.{values_of};
 ghost use Rattle.btor2_model.specs.Rules.{is_input, is_output, is_state};
 ghost use Rattle.btor2_model.specs.Run.{lines_of};
 ghost use Rattle.btor2_model.specs.Table.{value_in};
-ghost use Rattle.btor2_net.specs.Wires as wires;
+ghost use Rattle.btor2_net.specs.inner.Wires as wires;
 ghost use Rattle.btor2_net.specs.declared.form.Form.TheVariants as forms;
 
 use crate::form::Form;

@@ -5,7 +5,7 @@ use Rattle.std.proofs.lemmas.Bool.{eqb-true, eqb-false}
 use Rattle.std.proofs.lemmas.List.{append-nil, nil_from_length}
 use Rattle.std.proofs.lemmas.List.Splits.{slice_split-cons_yes, slice_split_none, slice_split_at}
 use Rattle.btor2_text.specs.Cut.{is_blank, has_bytes, ends_line, words_of, lines_of}
-use Rattle.btor2_text.specs.Runs.{StopsAt}
+use Rattle.btor2_text.specs.inner.Runs.{StopsAt}
 
 not-true : (b : Bool) → not b ≡ true → b ≡ false
 not-true true h = absurd (true≢false (sym h))

@@ -3,7 +3,7 @@ use Rattle.std.proofs.Common.{◌≡◌, ℕ, ◌+◌, ◌<◌, ◌≤◌, List,
 use Rattle.std.specs.Prelude.{Contains}
 use Rattle.std.specs.Option.{option_to_list}
 use Rattle.std.proofs.lemmas.List.{length-drop}
-use Rattle.btor2_text.specs.Flaws.{MatchRead}
+use Rattle.btor2_text.specs.inner.Flaws.{MatchRead}
 use Rattle.btor2_text.specs.Forms.{keyword_text, kinds_of, left_out}
 use Rattle.btor2_text.specs.Lines.{IsId, BeginWithArguments, HasMinus, IsLine, IsArraySort, IsLeftOut, IsNegated, IsOutside, IsMalformed}
 use Rattle.btor2_text.specs.declared.keyword.Keyword.{Keyword}

@@ -7,7 +7,7 @@ use Rattle.kw_base.specs.declared.fault.Refusal.{Refusal}
 use Rattle.kw_base.specs.declared.fault.Refusal.TheVariants as refusals
 use Rattle.kw_base.specs.Fault.{IfFault, IsOkUnlessNoMemory, IsFaultUnlessNoMemory}
 use Rattle.btor2_text.specs.Cut.{lines_of, number_after, tokens_of}
-use Rattle.btor2_text.specs.Flaws.{GivesLine, IsRefusal}
+use Rattle.btor2_text.specs.inner.Flaws.{GivesLine, IsRefusal}
 use Rattle.btor2_text.specs.declared.reader.Flaw.{Flaw}
 use Rattle.btor2_text.specs.declared.reader.Flaw.TheVariants as flaws
 use Rattle.btor2_text.specs.Reading.{Gives, AreLines, IsFirstFault, AreLinesOf, IsFirstFaultOf}

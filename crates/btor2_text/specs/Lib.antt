@@ -1,8 +1,7 @@
 pub mod Cut
-pub mod Flaws
 pub mod Forms
 pub mod Lines
 pub mod Printable
 pub mod Printing
 pub mod Reading
-pub mod Runs
+pub mod inner

@@ -4,7 +4,7 @@ ghost use Rattle.std.specs.Prelude.{◌≡◌, ◌≤◌, ◌<◌, ◌↔◌, Is
 ghost use Rattle.std.specs.Option.{option_to_list};
 ghost use Rattle.btor2_text.specs.Cut.{words_of};
 ghost use Rattle.btor2_text.specs.Lines.{BeginWithArguments, HasMinus, IsArgument, IsId, IsNegative, IsNumber};
-ghost use Rattle.btor2_text.specs.Flaws.{IfRead};
+ghost use Rattle.btor2_text.specs.inner.Flaws.{IfRead};
 ghost use Rattle.btor2_text.specs.declared.line.Argument.{Argument as ArgumentOf};
 
 use crate::cut::next_token;

@@ -3,7 +3,7 @@
 ghost use Rattle.std.specs.Prelude.{◌≡◌, ◌++◌, ◌∷◌, [], IfSome, IfNone};
 ghost use Rattle.std.specs.List.{AllPass, before_first};
 ghost use Rattle.btor2_text.specs.Cut.{begins_comment, lines_of, words_of};
-ghost use Rattle.btor2_text.specs.Runs.{is_of, lines_behind, StopsAt};
+ghost use Rattle.btor2_text.specs.inner.Runs.{is_of, lines_behind, StopsAt};
 
 /// A class of bytes that follow one another.
 #[derive(Clone, Copy, Debug, PartialEq, Eq)]

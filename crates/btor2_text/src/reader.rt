@@ -4,7 +4,7 @@ ghost use Rattle.std.specs.Prelude.{◌≡◌, ◌∷◌, ◌↔◌, IsTrue, Lis
 ghost use Rattle.kw_base.specs.Fault.{IfFault, IsOkUnlessNoMemory, IsFaultUnlessNoMemory};
 ghost use Rattle.kw_base.specs.declared.fault.Fault.{Fault as FaultOf};
 ghost use Rattle.btor2_text.specs.Cut.{tokens_of, words_of};
-ghost use Rattle.btor2_text.specs.Flaws.{IsRefusal, GivesLine, GivesForm};
+ghost use Rattle.btor2_text.specs.inner.Flaws.{IsRefusal, GivesLine, GivesForm};
 ghost use Rattle.btor2_text.specs.declared.reader.Flaw.TheVariants as flaws;
 ghost use Rattle.btor2_text.specs.Forms.{keyword_text};
 ghost use Rattle.btor2_text.specs.Lines.{IsArraySort, IsLeftOut};

@@ -18,7 +18,8 @@ use Rattle.net_graph.proofs.OneByOne.{length-one_by_one}
 use Rattle.net_graph.proofs.OperatorWidths.{width-value_at}
 use Rattle.net_graph.proofs.Standing.{stands_at}
 use Rattle.net_graph.proofs.Values.{values-by_operators, values-widths}
-use Rattle.circuit_eval.specs.Programs.{Has, HasRoom, Keeps, node_width}
+use Rattle.circuit_eval.specs.Programs.{Has, HasRoom, node_width}
+use Rattle.circuit_eval.specs.inner.Programs.{Keeps}
 
 -- an operator stands over the nodes before it
 pub stands : (net : List NetOp) (id : ℕ) (op : NetOp) → IsNet net → Has net id op → Stands (take id (widths_of net)) op

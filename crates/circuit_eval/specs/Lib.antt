@@ -4,3 +4,4 @@ pub mod Run
 pub mod Simulations
 pub mod Tidy
 pub mod Words
+pub mod inner

@@ -1,10 +1,8 @@
 -- A net that is laid out to run on words of the machine, a step for each node. A node of up to 64 bits has its value's number
 -- as its word, and the values of wider nodes are kept apart. This serves private functions alone.
-use Rattle.std.specs.Prelude.{◌≡◌, ◌⊎◌, ℕ, ◌+◌, ◌-◌, ◌<◌, ◌≤◌, List, length, Some, slice_get, slice_index_or}
+use Rattle.std.specs.Prelude.{◌≡◌, ◌⊎◌, ℕ, ◌+◌, ◌-◌, ◌<◌, ◌≤◌, List, length, Some, slice_get}
 use Rattle.kw_bits.specs.BitVector.{BitVector}
-use Rattle.kw_bits.specs.Laws.{HasWidth}
 use Rattle.net_graph.specs.Nets.{IsNet, width_at, widths_of}
-use Rattle.net_graph.specs.Values.{value_at}
 use Rattle.net_graph.specs.declared.node.NetOne.TheVariants.{Not}
 use Rattle.net_graph.specs.declared.node.NetTwo.TheVariants.{And, Or, Xor, Add, Sub, Mul, EqBits, Neq, Ult, Ulte, Concat}
 use Rattle.net_graph.specs.declared.node.NetTwo.{NetTwo}
@@ -81,12 +79,6 @@ Makes net id (Choose condition a b) = Has net id (Ite condition a b) × IsNarrow
 Makes net id (Wide operator a b) = Has net id (Two operator a b) × (64 < node_width net a) × (64 < node_width net b)
 Makes net id Other = (op : NetOp) × Has net id op × HasNoStep net op
 
--- a step makes no word: its node's value is made by the operator
-abbrev pub MakesNoWord : Step → Type 0
-MakesNoWord (Wide operator a b) = Unit {0}
-MakesNoWord Other = Unit {0}
-MakesNoWord step = ⊥
-
 -- a step for each node of a net
 pub record IsLaidOut (net : List NetOp) (steps : List Step) : Type 0 where
   pub valid : IsNet net
@@ -97,16 +89,3 @@ pub record IsLaidOut (net : List NetOp) (steps : List Step) : Type 0 where
 pub record HasRoom (net : List NetOp) (words : List ℕ) (wides : List BitVector) : Type 0 where
   pub each : length words ≡ length net
   pub wide : (id : ℕ) → id < length net → 64 < node_width net id → id < length wides
-
-abbrev pub word_at : List ℕ → ℕ → ℕ
-word_at words id = slice_index_or words id 0
-
--- what is kept of a node is its value
-pub record KeepsAt (net : List NetOp) (words : List ℕ) (wides values : List BitVector) (id : ℕ) : Type 0 where
-  pub fits : HasWidth (value_at values id) (node_width net id)
-  pub narrow : IsNarrow net id → word_at words id ≡ (value_at values id).number
-  pub wide : 64 < node_width net id → value_at wides id ≡ value_at values id
-
--- and of each of that many first nodes
-abbrev pub Keeps : List NetOp → List ℕ → List BitVector → List BitVector → ℕ → Type 0
-Keeps net words wides values count = (id : ℕ) → id < count → KeepsAt net words wides values id

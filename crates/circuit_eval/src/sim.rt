@@ -4,7 +4,8 @@ ghost use Rattle.std.specs.Prelude.{◌≡◌, ◌<◌, ℕ, List, [], IfOk, len
 ghost use Rattle.kw_bits.specs.BitVector.{BitVector};
 ghost use Rattle.net_graph.specs.Nets.{widths_of};
 ghost use Rattle.circuit_eval.specs.Circuits.{AreBits, input_widths, IsOutput, state_widths};
-ghost use Rattle.circuit_eval.specs.Programs.{HasRoom, IsNarrow, Keeps, node_width};
+ghost use Rattle.circuit_eval.specs.Programs.{HasRoom, IsNarrow, node_width};
+ghost use Rattle.circuit_eval.specs.inner.Programs.{Keeps};
 ghost use Rattle.circuit_eval.specs.Run.{first_states, next_states, outputs_in, zero_outputs};
 
 use crate::circuit::{Circuit, OutputWire, StateWire};

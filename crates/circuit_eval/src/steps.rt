@@ -6,7 +6,8 @@ ghost use Rattle.kw_bits.specs.Laws.{HasWidth};
 ghost use Rattle.net_graph.specs.Laws.{Feeds};
 ghost use Rattle.net_graph.specs.Nets.{IsNet, width_at, widths_of};
 ghost use Rattle.net_graph.specs.Values.{node_value, value_at, values_of};
-ghost use Rattle.circuit_eval.specs.Programs.{HasRoom, IsLaidOut, IsNarrow, Keeps, KeepsAt, Makes, MakesNoWord, word_at};
+ghost use Rattle.circuit_eval.specs.Programs.{HasRoom, IsLaidOut, IsNarrow, Makes};
+ghost use Rattle.circuit_eval.specs.inner.Programs.{Keeps, KeepsAt, MakesNoWord, word_at};
 
 use crate::program::Step;
 use crate::words::{

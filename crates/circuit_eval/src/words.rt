@@ -4,7 +4,8 @@
 
 ghost use Rattle.std.specs.Prelude.{◌≤◌};
 ghost use Rattle.kw_bits.specs.Operators as op;
-ghost use Rattle.circuit_eval.specs.Words.{ChosenWord, IsMask, JoinedWord, MaskedWord, OneWord, SlicedWord, TwoWord};
+ghost use Rattle.circuit_eval.specs.Words.{IsMask};
+ghost use Rattle.circuit_eval.specs.inner.Words.{ChosenWord, JoinedWord, MaskedWord, OneWord, SlicedWord, TwoWord};
 
 /// The mask of a width.
 #[inline]

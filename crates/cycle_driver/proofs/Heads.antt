@@ -23,7 +23,7 @@ use Rattle.board_core.specs.Kept.{AtPlain, Does, Kept, StandsFor}
 use Rattle.board_core.specs.Laws.{IsRuleSettled, head_attempt}
 use Rattle.board_core.specs.declared.event.BoardAnswer.TheVariants as answer
 use Rattle.board_core.proofs.Heads.{head_comes_first, head_settles}
-use Rattle.cycle_driver.specs.Heads.{AwaitsHead}
+use Rattle.cycle_driver.specs.inner.Heads.{AwaitsHead}
 
 -- ---- answers
 

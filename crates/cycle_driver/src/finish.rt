@@ -6,7 +6,7 @@ ghost use Rattle.one_rule.specs.Rows.{RowsFit};
 ghost use Rattle.one_rule.specs.Run.{run};
 ghost use Rattle.one_rule.specs.Stimulus.{inputs_of};
 ghost use Rattle.board_core.specs.Kept.{AtPlain, left};
-ghost use Rattle.cycle_driver.specs.Heads.{AwaitsHead};
+ghost use Rattle.cycle_driver.specs.inner.Heads.{AwaitsHead};
 
 use attempt_log::{JobAnswer, Settled, attempt};
 use board_core::Core;

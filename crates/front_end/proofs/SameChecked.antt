@@ -25,13 +25,15 @@ use Rattle.koika_syntax.specs.declared.tree.Width.{Width}
 use Rattle.koika_parse.specs.Outline.{Outline, SameTree, node, listed, block_outline, choice_outline, choice_outline_step, constant_outline, declaration_outline, enum_member_outline, field_outline, literal_outline, name_outline, outline, result_outline, scheduler_outline, scheduler_outline_step, type_outline, width_outline}
 use Rattle.koika_check.proofs.TreeParts.{Such}
 use Rattle.koika_check.specs.Checks as checks
-use Rattle.koika_check.specs.Checks.{at_most, checked, choice_places, input_place, places_if, places_of, register_place, rule_place, scheduler_places, size_within}
+use Rattle.koika_check.specs.Checks.{at_most, checked, input_place, places_if, places_of, register_place, rule_place, scheduler_places, size_within}
+use Rattle.koika_check.specs.inner.Checks.{choice_places}
 use Rattle.koika_check.specs.Constants as constants
 use Rattle.koika_check.specs.Declarations.{add_parameter, declare, enum_with, host_with, input_typed, new_name, nothing, register_known, result_of, function_typed, rule_typed, struct_with, table_with, assert_with, other_name, add_field, struct_typed}
 use Rattle.koika_check.specs.Expressions.{Meaning, block_in}
 use Rattle.koika_check.specs.Outcomes.{Condition, Outcome, ◌>>=◌, Fails, Gives, earlier, first, one_by_one, unless, wrong}
 use Rattle.koika_check.specs.Schedule as schedules
-use Rattle.koika_check.specs.Schedule.{Nodes, at_the_end, choice_nodes, in_a_row, path_behind, scheduler_nodes}
+use Rattle.koika_check.specs.Schedule.{Nodes, at_the_end, in_a_row, path_behind, scheduler_nodes}
+use Rattle.koika_check.specs.inner.Schedule.{choice_nodes}
 use Rattle.koika_check.specs.Scopes.{Local}
 use Rattle.koika_check.specs.Sizes.{Size, design_size}
 use Rattle.koika_check.specs.Types.{type_of}

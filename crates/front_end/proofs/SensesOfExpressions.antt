@@ -4,7 +4,8 @@ use Rattle.std.specs.Prelude.{codes, if◌then◌else◌}
 use Rattle.std.specs.List.{AllByRecursion}
 use Rattle.std.specs.Str.{bytes_eq}
 use Rattle.kw_base.specs.declared.fault_number.TheConstants.{UNKNOWN_NAME}
-use Rattle.koika_syntax.specs.Grammar.{IsExpression, IsBlock, IsExpressionLayer, IsStatementLayer, IsArmLayer, IsBlockLayer, IsFieldValueLayer, IsOperandLayer}
+use Rattle.koika_syntax.specs.Grammar.{IsBlock, IsExpressionLayer, IsStatementLayer, IsArmLayer, IsBlockLayer, IsFieldValueLayer, IsOperandLayer}
+use Rattle.koika_syntax.specs.inner.Grammar.{IsExpression}
 use Rattle.koika_syntax.specs.Tree.{Terminal, binary_symbol, comparison_word, extension_word, read_word, symbol, unary_symbol, write_word}
 use Rattle.koika_syntax.specs.declared.keyword.Keyword.{Keyword}
 use Rattle.koika_syntax.specs.declared.keyword.Keyword.TheVariants as keywords
@@ -36,7 +37,8 @@ use Rattle.koika_syntax.specs.declared.tree.Suffix.TheVariants as suffixes
 use Rattle.koika_parse.specs.Outline.{Outline, node, arm_outline, arm_outline_step, block_outline, block_outline_step, expression_outline, expression_outline_step, field_value_outline, field_value_outline_step, name_outline, number_outline, operand_outline, operand_outline_step, part_outline, prefix_outline, statement_outline, statement_outline_step, suffix_outline, type_outline}
 use Rattle.koika_check.proofs.TreeParts.{Such, EachOfExpression, EachOfStatement, EachOfArm, EachOfBlock, EachOfFieldValue, EachOfOperand, each_of_expression, each_of_statement, each_of_arm, each_of_block, each_of_field_value, each_of_operand}
 use Rattle.koika_check.specs.Constructs.{abort_at, array_in, call, comparison, conditional, extended, literal, member_in, named, packed, postfix, read_in, struct_in, typing, unary, unpacked, updated, written}
-use Rattle.koika_check.specs.Expressions.{Armed, Fielded, Joining, Meaning, Stepped, all_in, arm_in, arm_step, block_from, block_in, block_step, chain_in, expression_in, expression_step, field_value_in, field_value_step, held, operand_in, operand_step, otherwise_in, statement_in, statement_step}
+use Rattle.koika_check.specs.Expressions.{Armed, Fielded, Joining, Meaning, Stepped, all_in, arm_step, block_from, block_in, block_step, chain_in, expression_step, field_value_step, held, operand_step, otherwise_in, statement_step}
+use Rattle.koika_check.specs.inner.Expressions.{arm_in, expression_in, field_value_in, operand_in, statement_in}
 use Rattle.koika_check.specs.Outcomes.{Outcome, ◌>>=◌, Fails, Gives, found, wrong}
 use Rattle.koika_check.specs.Scopes.{Scope, bound, called, register}
 use Rattle.koika_check.specs.Types.{struct_named, type_of, wrong_type}

@@ -14,7 +14,8 @@ use Rattle.koika_syntax.specs.declared.tree.TypeExpression.{TypeExpression, Bits
 use Rattle.koika_syntax.specs.declared.tree.Width.{Width}
 use Rattle.koika_parse.specs.Outline.{Outline, type_outline, constant_outline, constant_field_outline, constant_outline_step, constant_field_outline_step}
 use Rattle.koika_check.proofs.TreeParts.{Such, firsts}
-use Rattle.koika_check.specs.Constants.{Meaning, FieldMeaning, array_known, constant_field_of, constant_field_step, constant_of, constant_step, known_member, struct_known}
+use Rattle.koika_check.specs.Constants.{Meaning, FieldMeaning, array_known, constant_field_step, constant_of, constant_step, known_member, struct_known}
+use Rattle.koika_check.specs.inner.Constants.{constant_field_of}
 use Rattle.koika_check.specs.Composites.{member}
 use Rattle.koika_check.specs.Outcomes.{Outcome, ◌>>=◌, Fails, Gives, found, in_turn, wrong}
 use Rattle.koika_check.specs.Types.{array_type, bits, part, struct_named, type_of}

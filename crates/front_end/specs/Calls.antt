@@ -17,6 +17,7 @@ pub record Call (S : Type 0) : Type 0 where
   pub sink : Stream
   pub status : S
 
+-- the call with these words, host functions and streams, and with this status
 abbrev pub call : {S : Type 0} → List (List ℕ) → List HostSpec → Stream → Stream → S → Call S
 call words hosts source sink status = record { words = words; hosts = hosts; source = source; sink = sink; status = status }
 
@@ -49,6 +50,7 @@ module _ {C A S : Type 0} (p : Program C A S) where
   abbrev pub RejectsWords : Call S → Type 0
   RejectsWords c = command_in c ≡ None → (p.ends c.status ≡ Usage) ⊎ ((p.ends c.status ≡ WriteFault) ⊎ (p.ends c.status ≡ NoMemory))
 
+  -- Where the words are invalid, the first bytes of the usage line were written.
   abbrev pub WritesUsageFront : Call S → Type 0
   WritesUsageFront c = command_in c ≡ None → GainsFront c.sink p.usage_line
 
@@ -60,6 +62,7 @@ module _ {C A S : Type 0} (p : Program C A S) where
   abbrev pub WritesRefusal : Call S → Type 0
   WritesRefusal c = p.ends c.status ≡ Refused → IfSome (known_in c) (λ bytes. (fault : Fault) × IsAnswerTo c bytes (p.refused fault) × Gains c.sink (line_of_fault fault))
 
+  -- With status 2 the line of some fault was written, also where the bytes of the source aren't known.
   abbrev pub WritesFaultLine : Call S → Type 0
   WritesFaultLine c = p.ends c.status ≡ Refused → (fault : Fault) × Gains c.sink (line_of_fault fault)
 
@@ -81,9 +84,11 @@ module _ {C A S : Type 0} (p : Program C A S) where
   abbrev pub CountsReadFault : Call S → Type 0
   CountsReadFault c = p.ends c.status ≡ ReadFault → Rose c.source.faults_before c.source.faults_after
 
+  -- With status 3 nothing was written.
   abbrev pub WritesNothing : Call S → Type 0
   WritesNothing c = p.ends c.status ≡ ReadFault → GainsNothing c.sink
 
+  -- With status 4 the sink's count of faults rose.
   abbrev pub CountsWriteFault : Call S → Type 0
   CountsWriteFault c = p.ends c.status ≡ WriteFault → Rose c.sink.faults_before c.sink.faults_after
 

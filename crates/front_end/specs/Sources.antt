@@ -55,12 +55,15 @@ pub record SpellsDesign (hosts : List HostSpec) (source : List ℕ) (design : Ch
 abbrev pub of_input : Input → NameWidth
 of_input i = record { name = i.name; width = i.width }
 
+-- a register's name and width
 abbrev pub of_register : Register → NameWidth
 of_register r = record { name = r.name; width = r.width }
 
+-- a rule's name
 abbrev pub name_of : Rule → List ℕ
 name_of r = r.name
 
+-- the names and widths of a design, as reports show them
 abbrev pub shape_of : Checked → Shape
 shape_of d = record { inputs = map of_input d.inputs; registers = map of_register d.registers; rules = map name_of d.rules }
 
@@ -101,8 +104,10 @@ HasNoStimulus hosts source fault = (design : Checked) × SpellsDesign hosts sour
 abbrev pub IsUnread : List ℕ → Fault → Type 0
 IsUnread source fault = HasNoTokens source fault ⊎ HasNoTree source fault
 
+-- a source's design isn't read, or isn't well typed
 abbrev pub IsIllTyped : List HostSpec → List ℕ → Fault → Type 0
 IsIllTyped hosts source fault = IsUnread source fault ⊎ HasNoDesign hosts source fault
 
+-- a source has no design, or its stimulus has a fault
 abbrev pub IsUnspelled : List HostSpec → List ℕ → Fault → Type 0
 IsUnspelled hosts source fault = IsIllTyped hosts source fault ⊎ HasNoStimulus hosts source fault

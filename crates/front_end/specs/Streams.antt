@@ -21,8 +21,10 @@ AppendsFront old new text = (front : List ℕ) × (rest : List ℕ) × (front ++
 abbrev pub Gains : Stream → List ℕ → Type 0
 Gains sink text = Appends sink.before sink.after text
 
+-- the first bytes of a text were written, and nothing else
 abbrev pub GainsFront : Stream → List ℕ → Type 0
 GainsFront sink text = AppendsFront sink.before sink.after text
 
+-- nothing was written
 abbrev pub GainsNothing : Stream → Type 0
 GainsNothing sink = Keeps sink.before sink.after

@@ -18,6 +18,7 @@ abbrev pub typed_alone_if : Checked → List BitVector → List BitVector → Op
 typed_alone_if d inputs regs (Some rule) = typed_alone d inputs regs rule.body
 typed_alone_if d inputs regs None = record { events = []; outcome = ends.Done }
 
+-- a typed design's rules and nodes, as runs take them
 abbrev pub system_of : Checked → System
 system_of d =
     record {

@@ -9,7 +9,7 @@ use Rattle.clause_check.specs.Flat.{clauses_by}
 use Rattle.clause_check.specs.declared.literal.Literal.{Literal}
 use Rattle.aig_blast.specs.Aigs.{AigParts, IsAig, sources, variables}
 use Rattle.invariant_check.specs.Cones.{is_needed}
-use Rattle.invariant_check.specs.Kept.{IsClaim}
+use Rattle.invariant_check.specs.inner.Kept.{IsClaim}
 use Rattle.invariant_check.specs.Obligations.{broken_lits, claimed_lits, literals_in, needed_in, needed_lits, next_lit, next_lits, obligation_of, plain, top_of}
 use Rattle.invariant_check.proofs.Breaking.{below_top, needs, sources_below}
 use Rattle.invariant_check.proofs.Cones.{length-cone}

@@ -20,7 +20,8 @@ use Rattle.aig_blast.proofs.Growing.{get_or-values_after, length-values_after}
 use Rattle.aig_blast.proofs.SourceWords.{length-bits_of}
 use Rattle.invariant_check.specs.Bits.{bit_values}
 use Rattle.invariant_check.specs.Cones.{is_needed}
-use Rattle.invariant_check.specs.Kept.{Gives, IsClaim, SaysWhatBreaks, breaks, fires, is_true_of}
+use Rattle.invariant_check.specs.Kept.{Gives, SaysWhatBreaks, breaks, fires, is_true_of}
+use Rattle.invariant_check.specs.inner.Kept.{IsClaim}
 use Rattle.invariant_check.specs.Obligations.{all_broken_clauses, before_step, broken_lits, claimed_lits, graph_clauses, graph_obligation, literals_in, needed_in, needed_lits, next_lit, next_lits, obligation_of, plain, top_of}
 use Rattle.invariant_check.proofs.BitsOfWords.{bits_of-next}
 use Rattle.invariant_check.proofs.Broken.{Flags, clause_after, flags_hold, flags_in, flags_say, literal_after, some_broken}

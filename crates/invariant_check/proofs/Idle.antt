@@ -11,7 +11,8 @@ use Rattle.aig_blast.specs.Aigs.{AigParts, input_widths, latch_widths, sources}
 use Rattle.aig_blast.specs.Graphs.{negation}
 use Rattle.aig_blast.specs.declared.gate.Gate.{Gate}
 use Rattle.invariant_check.specs.Cones.{is_needed}
-use Rattle.invariant_check.specs.Kept.{HaveLiterals, IsClaim, IsIdle}
+use Rattle.invariant_check.specs.Kept.{HaveLiterals, IsIdle}
+use Rattle.invariant_check.specs.inner.Kept.{IsClaim}
 use Rattle.invariant_check.specs.Obligations.{after_step, all_broken_clauses, before_step, broken_clauses, broken_lits, claimed_lits, folded, gate_clauses, graph_clauses, literal_of, needed_in, negated, next_lits, obligation_of, plain, top_of}
 use Rattle.invariant_check.proofs.Breaking.{before_part, broken_part, broken_row, graph_part}
 use Rattle.invariant_check.proofs.Drafting.{flat_map-append}

@@ -7,7 +7,7 @@ use Rattle.aig_blast.specs.Aigs.{AigParts, IsAig, input_widths, sources, variabl
 use Rattle.aig_blast.specs.Graphs.{AllStand, Below}
 use Rattle.aig_blast.specs.declared.gate.Gate.{Gate}
 use Rattle.invariant_check.specs.Cones.{cone_of, greatest}
-use Rattle.invariant_check.specs.Kept.{IsClaim}
+use Rattle.invariant_check.specs.inner.Kept.{IsClaim}
 use Rattle.invariant_check.specs.Obligations.{claimed_lits, folded, graph_obligation, literals_in, needed_in, needed_lits, next_lit, next_lits, obligation_of, top_of}
 use Rattle.invariant_check.proofs.Breaking.{lits_below, nexts_long}
 use Rattle.invariant_check.proofs.Cones.{length-cone}

@@ -1,12 +1,12 @@
 -- What an obligation is about: an invariant that each step keeps, and outputs that are never 1 under it (inductive
 -- invariants: Bradley, VMCAI 2011).
-use Rattle.std.specs.Prelude.{◌≡◌, ◌≢◌, ℕ, suc, ◌<◌, ◌||◌, ◌↔◌, Bool, false, nat_eq, not, IsTrue, List, [], ◌++◌, length, All, slice_index_or, sum}
+use Rattle.std.specs.Prelude.{◌≡◌, ◌≢◌, ℕ, suc, ◌<◌, ◌||◌, ◌↔◌, Bool, false, nat_eq, not, IsTrue, List, ◌++◌, length, All, slice_index_or}
 use Rattle.std.specs.List.{list_all, list_any}
 use Rattle.kw_bits.specs.BitVector.{BitVector}
 use Rattle.circuit_eval.specs.Circuits.{AreBits}
 use Rattle.one_rule.specs.Stimulus.{AlwaysFits, InputVectors, inputs_of}
 use Rattle.one_rule.specs.declared.rows.Row.{Row}
-use Rattle.clause_check.specs.Clauses.{Assignment, Clause, Cnf, IsLiteral, Satisfies, clause_value}
+use Rattle.clause_check.specs.Clauses.{Assignment, Clause, Cnf, Satisfies, clause_value}
 use Rattle.aig_blast.specs.Aigs.{AigParts, input_widths, latch_widths}
 use Rattle.aig_blast.specs.AigRun.{bits_of, row_after, run_of}
 use Rattle.invariant_check.specs.Bits.{bit_values}
@@ -25,11 +25,6 @@ abbrev pub breaks : AigParts → List Clause → List ℕ → (inputs registers 
 breaks a invariant claimed inputs registers =
     let row : Row = row_after a inputs registers in
     fires claimed row.fired || not (is_true_of invariant row.regs)
-
--- the literals of an invariant are of bits of the registers, and the claimed outputs are there
-pub record IsClaim (a : AigParts) (invariant : List Clause) (claimed : List ℕ) : Type 0 where
-  pub literals : All (All (IsLiteral (sum (latch_widths a.latches)))) invariant
-  pub outputs : All (λ output. output < length a.outputs) claimed
 
 -- an assignment gives the inputs and the registers these values: a circuit's inputs have the variables from 1 on, its
 -- registers those after them

@@ -3,3 +3,4 @@ pub mod Cuts
 pub mod FirstNames
 pub mod Parts
 pub mod Reading
+pub mod Kept

@@ -2,7 +2,8 @@
 use Rattle.std.proofs.Common.{◌≡◌, ℕ, ◌≤◌, ◌%◌, ◌==◌, List, [], ◌∷◌, length, drop, get_or, Option, Some, Err, sym, ap, ◌∙◌, arith}
 use Rattle.typed_core.specs.declared.access.Access.{Access}
 use Rattle.typed_core.specs.declared.design.Parts.{Parts}
-use Rattle.journal_check.specs.Tokens.{◌>>=◌, Reads, access_read, number_named, register_names}
+use Rattle.journal_check.specs.Tokens.{number_named, register_names}
+use Rattle.journal_check.specs.inner.Tokens.{◌>>=◌, Reads, access_read}
 use Rattle.journal_check.specs.declared.flaw.Flaw.{Flaw}
 use Rattle.journal_check.specs.declared.flaw.Flaw.TheVariants as flaws
 

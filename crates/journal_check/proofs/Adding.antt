@@ -16,7 +16,7 @@ use Rattle.journal_check.specs.Fitting.{IsSmall, LineFits}
 use Rattle.journal_check.specs.Journals.{lines_in, lines_of_batch, numbers_of_batch}
 use Rattle.journal_check.specs.Printing.{ended, line_text, text_of}
 use Rattle.journal_check.specs.Reading.{AreLinesOf, IsFirstMalformed, IsNumbered, MayFollow, NoneFollows, malformed_at, number_after, numbers_from}
-use Rattle.journal_check.specs.Steps.{Adds, HasRead, IsMalformed, refusal_of}
+use Rattle.journal_check.specs.inner.Steps.{Adds, HasRead, IsMalformed, refusal_of}
 use Rattle.journal_check.specs.declared.flaw.Flaw.TheVariants as flaws
 use Rattle.journal_check.specs.declared.journal.Batch.{Batch}
 use Rattle.journal_check.specs.declared.journal.Journal.{Journal}

@@ -29,7 +29,8 @@ use Rattle.one_rule.specs.Stimulus.{InputVectors}
 use Rattle.journal_check.specs.Fitting.{CauseFits, EventFits, IsSmall, LineFits, OutcomeFits, SettledFits, StaleFits}
 use Rattle.journal_check.specs.Printing.{access_text, cause_tokens, event_text, joined, line_text, line_tokens, name_of_register, name_of_rule, outcome_tokens, register_name, settled_tokens, spaced, stale_tokens, taken_text, value_text}
 use Rattle.journal_check.specs.Reading.{HasPlainNames}
-use Rattle.journal_check.specs.Tokens.{is_space, register_names, rule_names, tokens_of}
+use Rattle.journal_check.specs.Tokens.{is_space, register_names, rule_names}
+use Rattle.journal_check.specs.inner.Tokens.{tokens_of}
 use Rattle.journal_check.specs.declared.line.Line.{Line}
 use Rattle.journal_check.specs.declared.line.Line.TheVariants as line
 

@@ -5,7 +5,7 @@ use Rattle.std.specs.Str.{bytes_eq}
 use Rattle.typed_core.specs.declared.access.Event.{Event}
 use Rattle.typed_core.specs.declared.design.Parts.{Parts}
 use denote.Ref.{Bor}
-use Rattle.journal_check.specs.Tokens.{◌>>=◌, Front, Reads, ReadsFront, event_read, events_at, tokens_left, tokens_of}
+use Rattle.journal_check.specs.inner.Tokens.{◌>>=◌, Front, Reads, ReadsFront, event_read, events_at, tokens_left, tokens_of}
 use Rattle.journal_check.specs.declared.flaw.Flaw.{Flaw}
 use Rattle.journal_check.specs.declared.flaw.Flaw.TheVariants as flaws
 

@@ -11,7 +11,7 @@ use Rattle.attempt_log.specs.declared.entry.Entry.{Entry}
 use Rattle.journal_check.specs.Fitting.{IsSmall, LineFits}
 use Rattle.journal_check.specs.Printing.{line_text}
 use Rattle.journal_check.specs.Reading.{HasPlainNames, MayFollow, malformed_at}
-use Rattle.journal_check.specs.Steps.{Adds, IsMalformed, NoneIs}
+use Rattle.journal_check.specs.inner.Steps.{Adds, IsMalformed, NoneIs}
 use Rattle.journal_check.specs.declared.journal.Batch.{Batch}
 use Rattle.journal_check.specs.declared.journal.Journal.{Journal}
 use Rattle.journal_check.specs.declared.line.Line.{Line}

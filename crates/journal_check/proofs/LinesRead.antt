@@ -7,12 +7,12 @@ use Rattle.one_rule.specs.Stimulus.{InputVectors}
 use Rattle.attempt_log.specs.declared.entry.Entry.TheVariants as entry
 use Rattle.attempt_log.specs.declared.entry.Settled.{Settled}
 use Rattle.attempt_log.specs.declared.entry.Settled.TheVariants as settled
-use Rattle.journal_check.specs.Allowed.{Differs, IsAllowed}
+use Rattle.journal_check.specs.inner.Allowed.{Differs, IsAllowed}
 use Rattle.journal_check.specs.Fitting.{IsSmall, LineFits, SettledFits}
 use Rattle.journal_check.specs.Printing.{line_text}
 use Rattle.journal_check.specs.Reading.{HasPlainNames}
-use Rattle.journal_check.specs.Steps.{IsMalformed, NoneIs, refusal_of}
-use Rattle.journal_check.specs.Tokens.{Reads, line_at, tokens_of}
+use Rattle.journal_check.specs.inner.Steps.{IsMalformed, NoneIs, refusal_of}
+use Rattle.journal_check.specs.inner.Tokens.{Reads, line_at, tokens_of}
 use Rattle.journal_check.specs.declared.flaw.Flaw.{Flaw}
 use Rattle.journal_check.specs.declared.flaw.Flaw.TheVariants as flaws
 use Rattle.journal_check.specs.declared.line.Line.{Line}

@@ -5,7 +5,7 @@ use Rattle.one_rule.specs.Stimulus.{InputVectors}
 use Rattle.journal_check.specs.Fitting.{IsSmall, LineFits}
 use Rattle.journal_check.specs.Printing.{line_text}
 use Rattle.journal_check.specs.Reading.{HasPlainNames}
-use Rattle.journal_check.specs.Tokens.{line_at, tokens_of}
+use Rattle.journal_check.specs.inner.Tokens.{line_at, tokens_of}
 use Rattle.journal_check.specs.declared.line.Line.{Line}
 use Rattle.journal_check.proofs.Cutting.{cut_line}
 use Rattle.journal_check.proofs.ReadBack.{line_back}

@@ -24,7 +24,7 @@ use Rattle.attempt_log.specs.declared.entry.Taken.TheVariants as taken
 use Rattle.stim_report.specs.Report.{hex_digit, hex_digits}
 use Rattle.journal_check.specs.Fitting.{AccessFits, CauseFits, EventFits, IsRule, IsSmall, LineFits, OutcomeFits, SettledFits, StaleFits, ValueFits}
 use Rattle.journal_check.specs.Printing.{access_text, cause_tokens, event_text, line_tokens, outcome_tokens, register_name, rule_name, settled_tokens, stale_tokens, taken_text, value_text}
-use Rattle.journal_check.specs.Tokens.{◌>>=◌, access_at, access_read, batch_at, begin_at, bits_of, cause_at, clash_cause, closed_at, committed_at, event_read, events_at, head_at, line_at, number_at, outcome_at, outdated_at, own_cause, rule_at, settle_at, settled_at, skipped_at, stale_at, submit_at, taken_read, value_of, waiting_at}
+use Rattle.journal_check.specs.inner.Tokens.{◌>>=◌, access_at, access_read, batch_at, begin_at, bits_of, cause_at, clash_cause, closed_at, committed_at, event_read, events_at, head_at, line_at, number_at, outcome_at, outdated_at, own_cause, rule_at, settle_at, settled_at, skipped_at, stale_at, submit_at, taken_read, value_of, waiting_at}
 use Rattle.journal_check.specs.declared.line.Line.{Line}
 use Rattle.journal_check.specs.declared.line.Line.TheVariants as line
 use Rattle.journal_check.proofs.Digits.{digit_not, number_read-decimal, value_read-hex}

@@ -36,7 +36,7 @@ use Rattle.board_core.proofs.Histories.{legal_goes_on}
 use Rattle.board_core.proofs.Legal.{traces_submit}
 use Rattle.journal_check.specs.Checking.{Closes, IsFirstWrong, IsWrong, SubmitsRule, at_line}
 use Rattle.journal_check.specs.declared.journal.Batch.{Batch}
-use Rattle.journal_check.specs.Replaying.{Answers, AnswersOtherwise, IsFaultAt, IsWrongAt, Leaves, Makes, run_in}
+use Rattle.journal_check.specs.inner.Replaying.{Answers, AnswersOtherwise, IsFaultAt, IsWrongAt, Leaves, Makes, run_in}
 
 -- ---- what an entry submits
 

@@ -20,7 +20,7 @@ use Rattle.board_core.specs.Board.{Opening}
 use Rattle.board_core.specs.History.{board_after}
 use Rattle.board_core.specs.Kept.{AtPlain, Kept}
 use Rattle.journal_check.specs.Checking.{AreGood, BatchFits, Closes, IsDue, IsFaultFrom, IsFaultOf, IsFirstFault, IsGood, IsGoodBatch, at_line, left_by, opening_of}
-use Rattle.journal_check.specs.Replaying.{Leaves, run_in}
+use Rattle.journal_check.specs.inner.Replaying.{Leaves, run_in}
 use Rattle.journal_check.specs.declared.journal.Batch.{Batch}
 use Rattle.journal_check.proofs.Replays.{closed_run}
 use Rattle.journal_check.specs.declared.journal.Journal.{Journal}

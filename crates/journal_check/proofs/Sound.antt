@@ -27,11 +27,12 @@ use Rattle.attempt_log.specs.declared.cause.StaleRead.{StaleRead}
 use Rattle.attempt_log.specs.declared.entry.Settled.{Settled}
 use Rattle.attempt_log.specs.declared.entry.Settled.TheVariants as settled
 use Rattle.stim_report.specs.Assignments.{name_and_value}
-use Rattle.journal_check.specs.Allowed.{Differs, IsAllowed}
+use Rattle.journal_check.specs.inner.Allowed.{Differs, IsAllowed}
 use Rattle.journal_check.specs.Fitting.{AccessFits, CauseFits, EventFits, IsRegister, IsRule, IsSmall, LineFits, OutcomeFits, SettledFits, ValueFits}
 use Rattle.journal_check.specs.Numbers.{number_read, value_read, with_decimal}
 use Rattle.journal_check.specs.Printing.{name_of_register, name_of_rule, register_name}
-use Rattle.journal_check.specs.Tokens.{◌>>=◌, access_at, access_read, batch_at, begin_at, bits_of, cause_at, clash_cause, closed_at, committed_at, event_read, events_at, head_at, line_at, number_at, number_named, outcome_at, outdated_at, own_at, own_cause, register_names, rule_at, rule_names, settle_at, settled_at, skipped_at, stale_at, submit_at, token_at, value_of, waiting_at}
+use Rattle.journal_check.specs.Tokens.{number_named, register_names, rule_names}
+use Rattle.journal_check.specs.inner.Tokens.{◌>>=◌, access_at, access_read, batch_at, begin_at, bits_of, cause_at, clash_cause, closed_at, committed_at, event_read, events_at, head_at, line_at, number_at, outcome_at, outdated_at, own_at, own_cause, rule_at, settle_at, settled_at, skipped_at, stale_at, submit_at, token_at, value_of, waiting_at}
 use Rattle.journal_check.specs.declared.head.Head.{Head}
 use Rattle.journal_check.specs.declared.line.Line.{Line}
 

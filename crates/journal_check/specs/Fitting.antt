@@ -31,6 +31,7 @@ use Rattle.journal_check.specs.declared.line.Line.TheVariants as line
 abbrev pub IsRegister : Parts → ℕ → Type 0
 IsRegister design number = number_named (register_names design) (register_name design number) ≡ Some number
 
+-- the number is that of a rule, which its name finds
 abbrev pub IsRule : Parts → ℕ → Type 0
 IsRule design number = number_named (rule_names design) (rule_name design number) ≡ Some number
 
@@ -38,22 +39,27 @@ IsRule design number = number_named (rule_names design) (rule_name design number
 abbrev pub IsSmall : ℕ → Type 0
 IsSmall number = number < 2 ^ 32
 
+-- an access is at a port and of a register that are there
 pub record AccessFits (design : Parts) (a : Access) : Type 0 where
   pub port : IsPort a.port
   pub register : IsRegister design a.register
 
+-- a value has its register's width
 abbrev pub ValueFits : Parts → ℕ → BitVector → Type 0
 ValueFits design register value = (width : ℕ) × (slice_get (register_widths design) register ≡ Some width) × HasWidth value width
 
+-- an event's access is there, and its value fits
 pub record EventFits (design : Parts) (e : Event) : Type 0 where
   pub access : AccessFits design e.access
   pub value : ValueFits design e.access.register e.value
 
+-- an outcome's access is there
 abbrev pub OutcomeFits : Parts → Outcome → Type 0
 OutcomeFits design outcome.Done = Unit {0}
 OutcomeFits design outcome.Abort = Unit {0}
 OutcomeFits design (outcome.OwnClash a) = AccessFits design a
 
+-- a cause's accesses and rule are there
 abbrev pub CauseFits : Parts → Cause → Type 0
 CauseFits design cause.Abort = Unit {0}
 CauseFits design (cause.OwnClash a) = AccessFits design a
@@ -66,6 +72,7 @@ pub record StaleFits (design : Parts) (read : StaleRead) : Type 0 where
   pub now_value : ValueFits design read.register read.now
   pub differ : read.held ≢ read.now
 
+-- what a settle answers names cycles, rules and causes that are there
 abbrev pub SettledFits : Parts → Settled → Type 0
 SettledFits design (settled.Committed cycle rule) = IsSmall cycle × IsRule design rule
 SettledFits design (settled.Skipped cycle rule why) = IsSmall cycle × IsRule design rule × CauseFits design why
@@ -80,6 +87,7 @@ EntryFits design stimulus workers (entry.Submit worker cycle rule inputs events 
     (worker ≤ workers) × (1 ≤ cycle) × (cycle ≤ MAX_CYCLES) × IsRule design rule × (inputs ≡ inputs_of stimulus cycle) × AllByRecursion (EventFits design) events × OutcomeFits design ending
 EntryFits design stimulus workers (entry.Settle worker answer) = (worker ≤ workers) × SettledFits design answer
 
+-- what a line says fits the design, the stimulus and the number of workers
 abbrev pub LineFits : Parts → InputVectors → ℕ → Line → Type 0
 LineFits design stimulus workers (line.Begins count) = (1 ≤ count) × (count ≤ 8)
 LineFits design stimulus workers (line.Batch from to) = IsSmall from × IsSmall to

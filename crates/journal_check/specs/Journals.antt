@@ -7,9 +7,11 @@ use Rattle.journal_check.specs.declared.journal.Journal.{Journal}
 use Rattle.journal_check.specs.declared.line.Line.{Line}
 use Rattle.journal_check.specs.declared.line.Line.TheVariants as line
 
+-- the lines of a batch: where it is in the run, and its entries
 abbrev pub lines_of_batch : Batch → List Line
 lines_of_batch batch = line.Batch batch.from batch.to ∷ map line.Entry batch.entries
 
+-- the lines of a journal
 abbrev pub lines_in : Journal → List Line
 lines_in journal = line.Begins journal.workers ∷ flat_map lines_of_batch journal.batches
 
@@ -17,5 +19,6 @@ lines_in journal = line.Begins journal.workers ∷ flat_map lines_of_batch journ
 abbrev pub numbers_of_batch : Batch → List ℕ
 numbers_of_batch batch = batch.line ∷ batch.lines
 
+-- the numbers of a journal's lines in its source
 abbrev pub numbers_in : Journal → List ℕ
 numbers_in journal = journal.line ∷ flat_map numbers_of_batch journal.batches

@@ -1,13 +1,10 @@
-pub mod Allowed
 pub mod Checking
 pub mod CheckingLaws
 pub mod Fitting
 pub mod Journals
-pub mod Naming
 pub mod Numbers
 pub mod Printing
 pub mod Reading
-pub mod Replaying
-pub mod Steps
 pub mod Tokens
 pub mod Twins
+pub mod inner

@@ -32,6 +32,7 @@ abbrev pub name_of_register : Option RegDecl → List ℕ
 name_of_register None = []
 name_of_register (Some decl) = decl.name
 
+-- a rule's name, if there is one
 abbrev pub name_of_rule : Option Rule → List ℕ
 name_of_rule None = []
 name_of_rule (Some rule) = rule.name
@@ -40,6 +41,7 @@ name_of_rule (Some rule) = rule.name
 abbrev pub register_name : Parts → ℕ → List ℕ
 register_name design number = name_of_register (slice_get design.regs number)
 
+-- the name of the rule of a number
 abbrev pub rule_name : Parts → ℕ → List ℕ
 rule_name design number = name_of_rule (slice_get design.rules number)
 
@@ -98,6 +100,7 @@ entry_tokens design (entry.Settle worker answer) = codes "t" ∷ decimal worker 
 abbrev pub begin_tokens : ℕ → List (List ℕ)
 begin_tokens workers = codes "journal" ∷ (codes "workers=" ++ decimal workers) ∷ []
 
+-- the tokens of a batch's first line
 abbrev pub batch_tokens : ℕ → ℕ → List (List ℕ)
 batch_tokens from to = codes "batch" ∷ decimal from ∷ decimal to ∷ []
 
@@ -124,6 +127,7 @@ line_text design l = joined (line_tokens design l)
 abbrev pub ended : List ℕ → List ℕ
 ended text = text ++ 10 ∷ []
 
+-- the text of lines
 abbrev pub text_of : Parts → List Line → List ℕ
 text_of design lines = flat_map (λ (l : Line). ended (line_text design l)) lines
 

@@ -65,6 +65,7 @@ MayFollow design stimulus (Some journal) (line.Entry e) = (0 < length journal.ba
 abbrev pub IsPlain : List ℕ → Type 0
 IsPlain name = IsTrue (list_all (λ b. not (is_space b)) name)
 
+-- no name has a space
 pub record HasPlainNames (design : Parts) : Type 0 where
   pub registers : AllByRecursion IsPlain (register_names design)
   pub rules : AllByRecursion IsPlain (rule_names design)

@@ -1,8 +1,8 @@
 //! Journals: accesses, values and events by their bytes.
 
 ghost use Rattle.std.specs.Prelude.{◌≡◌, ◌+◌, bytes_eq, codes, length};
-ghost use Rattle.journal_check.specs.Naming.{Knows};
-ghost use Rattle.journal_check.specs.Tokens.{Reads, ReadsFront, access_at, access_read, event_read, events_at, tokens_left, value_of};
+ghost use Rattle.journal_check.specs.inner.Naming.{Knows};
+ghost use Rattle.journal_check.specs.inner.Tokens.{Reads, ReadsFront, access_at, access_read, event_read, events_at, tokens_left, value_of};
 ghost use Rattle.stim_report.specs.Assignments.{behind_equals, name_and_value};
 
 use crate::cut::{next_token, split_token};

@@ -1,9 +1,10 @@
 //! Journals: outcomes and answers by their tokens.
 
 ghost use Rattle.std.specs.Prelude.{◌≡◌, drop};
-ghost use Rattle.journal_check.specs.Naming.{Knows};
+ghost use Rattle.journal_check.specs.inner.Naming.{Knows};
 ghost use Rattle.journal_check.specs.Tokens as tokens;
-ghost use Rattle.journal_check.specs.Tokens.{Reads, ReadsFront, cause_at, clash_cause, closed_at, committed_at, outcome_at, outdated_at, own_at, own_cause, settled_at, skipped_at, stale_at, tokens_left, waiting_at};
+ghost use Rattle.journal_check.specs.inner.Tokens as inner_tokens;
+ghost use Rattle.journal_check.specs.inner.Tokens.{Reads, ReadsFront, cause_at, clash_cause, closed_at, committed_at, outcome_at, outdated_at, own_at, own_cause, settled_at, skipped_at, stale_at, tokens_left, waiting_at};
 
 use crate::access::{access, value_of};
 use crate::cut::next_token;
@@ -45,7 +46,7 @@ fn own_clash<'a>(
 
 /// What was answered to an attempt, by its word.
 pub(crate) fn taken_read(word: &[u8]) -> Taken
-    ensures { result ≡ tokens.taken_read word.now }
+    ensures { result ≡ inner_tokens.taken_read word.now }
 {
     if word == b"stored".as_slice() {
         return Taken::Stored;

@@ -4,8 +4,8 @@ ghost use Rattle.std.specs.Prelude.{◌≡◌, ◌<◌, ◌++◌, ◌∷◌, ◌
 ghost use Rattle.std.specs.List.{AllPass, slice_split};
 ghost use Rattle.stim_report.specs.Cuts as cuts;
 ghost use Rattle.stim_report.specs.Cuts.{ends_line, lines_of};
-ghost use Rattle.stim_report.specs.Runs.{StopsAt, bytes_behind, pieces_of};
-ghost use Rattle.journal_check.specs.Tokens.{ReadsToken, token_at, tokens_left, tokens_of};
+ghost use Rattle.stim_report.specs.inner.Runs.{StopsAt, bytes_behind, pieces_of};
+ghost use Rattle.journal_check.specs.inner.Tokens.{ReadsToken, token_at, tokens_left, tokens_of};
 
 use crate::flaw::Flaw;
 

@@ -1,8 +1,8 @@
 //! Journals: lines by their tokens.
 
 ghost use Rattle.std.specs.Prelude.{◌≡◌};
-ghost use Rattle.journal_check.specs.Naming.{Knows};
-ghost use Rattle.journal_check.specs.Tokens.{Reads, batch_at, begin_at, line_at, settle_at, submit_at, tokens_left, tokens_of};
+ghost use Rattle.journal_check.specs.inner.Naming.{Knows};
+ghost use Rattle.journal_check.specs.inner.Tokens.{Reads, batch_at, begin_at, line_at, settle_at, submit_at, tokens_left, tokens_of};
 
 use crate::access::events;
 use crate::answer::{after, outcome, settled, taken_read};

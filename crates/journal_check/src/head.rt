@@ -1,7 +1,7 @@
 //! Journals: a cycle and a rule.
 
-ghost use Rattle.journal_check.specs.Naming.{Knows};
-ghost use Rattle.journal_check.specs.Tokens.{ReadsFront, head_at, number_at, tokens_left};
+ghost use Rattle.journal_check.specs.inner.Naming.{Knows};
+ghost use Rattle.journal_check.specs.inner.Tokens.{ReadsFront, head_at, number_at, tokens_left};
 
 use crate::cut::next_token;
 use crate::flaw::Flaw;

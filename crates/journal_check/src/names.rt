@@ -1,8 +1,9 @@
 //! Journals: a design's registers and rules, found by name.
 
 ghost use Rattle.std.specs.Prelude.{◌≡◌, ◌<◌, ◌≤◌, ◌^◌, ◌++◌, ◌∷◌, [], length, IfOk, IfSome, true};
-ghost use Rattle.journal_check.specs.Naming.{Knows, NamesOf};
-ghost use Rattle.journal_check.specs.Tokens.{Reads, ReadsFront, number_named, register_names, rule_names, rule_at, tokens_left};
+ghost use Rattle.journal_check.specs.inner.Naming.{Knows, NamesOf};
+ghost use Rattle.journal_check.specs.Tokens.{number_named, register_names, rule_names};
+ghost use Rattle.journal_check.specs.inner.Tokens.{Reads, ReadsFront, rule_at, tokens_left};
 
 use crate::cut::next_token;
 use crate::flaw::Flaw;

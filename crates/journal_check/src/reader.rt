@@ -4,12 +4,12 @@ ghost use Rattle.std.specs.Prelude.{◌≡◌, ◌≢◌, ◌<◌, ◌≤◌, �
 ghost use Rattle.kw_base.specs.Fault.{IfFault};
 ghost use Rattle.stim_report.specs.Cuts.{lines_of};
 ghost use Rattle.typed_core.specs.Valid.{IsValid};
-ghost use Rattle.journal_check.specs.Allowed.{Differs, IsAllowed};
+ghost use Rattle.journal_check.specs.inner.Allowed.{Differs, IsAllowed};
 ghost use Rattle.journal_check.specs.Fitting.{IsSmall, LineFits};
-ghost use Rattle.journal_check.specs.Naming.{Knows};
+ghost use Rattle.journal_check.specs.inner.Naming.{Knows};
 ghost use Rattle.journal_check.specs.Printing.{line_text};
 ghost use Rattle.journal_check.specs.Reading.{IsFirstMalformed, IsJournal, MayFollow, NoneFollows, malformed_at};
-ghost use Rattle.journal_check.specs.Steps.{Adds, IsMalformed, refusal_of};
+ghost use Rattle.journal_check.specs.inner.Steps.{Adds, IsMalformed, refusal_of};
 ghost use Rattle.journal_check.specs.declared.journal.Batch.{Batch as BatchOf};
 ghost use Rattle.journal_check.specs.declared.line.Line.{Line as LineOf};
 ghost use Rattle.journal_check.specs.declared.line.Line.TheVariants as lines;

@@ -17,7 +17,7 @@ ghost use Rattle.board_core.specs.Kept.{AtPlain, StandsFor};
 ghost use Rattle.board_core.specs.declared.event.BoardEvent.TheVariants as event;
 ghost use Rattle.board_core.specs.declared.kept.TheConstants.{MAX_CYCLES};
 ghost use Rattle.journal_check.specs.Checking.{BatchFits, Closes, IsFaultOfEntries, IsFirstWrong, SubmitsRule, at_line, opening_of};
-ghost use Rattle.journal_check.specs.Replaying.{Answers, AnswersOtherwise, IsFaultAt, Leaves, Makes};
+ghost use Rattle.journal_check.specs.inner.Replaying.{Answers, AnswersOtherwise, IsFaultAt, Leaves, Makes};
 
 use crate::journal::Batch;
 use attempt_log::{Attempt, Entry, Settled, Taken};

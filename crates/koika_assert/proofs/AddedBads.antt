@@ -18,7 +18,7 @@ use Rattle.btor2_model.specs.Acceptance.{IsAccepted, fault_in, lacks_next, lines
 use Rattle.btor2_model.specs.Rules.{is_bad, is_init, is_next, is_state, rule_of}
 use Rattle.btor2_model.specs.Run.{Step, Values, lines_of, no_bits, value_by, values_at, values_behind}
 use Rattle.btor2_model.specs.Scope.{Scope, behind, behind_all, meaning_of, no_lines, width_wanted}
-use Rattle.btor2_model.specs.SlowRun.{sets}
+use Rattle.btor2_model.specs.inner.SlowRun.{sets}
 use Rattle.btor2_model.specs.declared.meaning.Meaning.{Meaning}
 use Rattle.btor2_model.specs.declared.rule.Rule.{Rule}
 use Rattle.btor2_model.specs.declared.rule.Rule.TheVariants as forms

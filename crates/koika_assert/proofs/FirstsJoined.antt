@@ -7,7 +7,7 @@ use Rattle.std.proofs.lemmas.Slice.Zip.{get_or-zip}
 use Rattle.one_rule.specs.declared.rows.Row.{Row}
 use Rattle.stim_report.specs.Batches.{joined, last_cycle}
 use Rattle.stim_report.specs.Summary.{has_fired}
-use Rattle.koika_assert.specs.Marks.{AddsFirsts}
+use Rattle.koika_assert.specs.inner.Marks.{AddsFirsts}
 use Rattle.koika_assert.specs.Violations.{Watched, first_from, first_violated, watched, watched_on}
 
 or_later : (b : Bool) (i : ℕ) (x y : Option ℕ) → cond b (Some i) (option_or x y) ≡ option_or (cond b (Some i) x) y

@@ -27,7 +27,7 @@ use Rattle.btor2_net.specs.Translations.{AreCounted}
 use Rattle.btor2_model.proofs.Declared.{IsValue, each-fine, fine-lines, output-value}
 use Rattle.btor2_net.proofs.Keeping.{known-by}
 use Rattle.koika_assert.specs.Bads.{flag_lines}
-use Rattle.koika_assert.specs.Widths.{arguments_of, is_narrow, written_width}
+use Rattle.koika_assert.specs.inner.Widths.{arguments_of, is_narrow, written_width}
 
 -- the line that declared an id, behind what stood before it
 record IsDeclared (lines : List Line) (end : Scope) (id : ℕ) (m : Meaning) : Type 0 where

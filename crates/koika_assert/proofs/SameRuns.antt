@@ -12,7 +12,7 @@ use Rattle.btor2_model.specs.Acceptance.{IsAccepted, lines_fault}
 use Rattle.btor2_model.specs.Rules.{is_init, is_input, is_next, is_state}
 use Rattle.btor2_model.specs.Run.{Step, Values, first_values, ids_of, input_values, lines_of, next_values, no_bits, states_at, value_set, values_at, values_in, width_in}
 use Rattle.btor2_model.specs.Scope.{Scope, behind_all, id_at, no_lines}
-use Rattle.btor2_model.specs.SlowRun.{sets}
+use Rattle.btor2_model.specs.inner.SlowRun.{sets}
 use Rattle.btor2_model.specs.declared.rule.Rule.{Rule}
 use Rattle.btor2_model.specs.declared.rule.Rule.TheVariants as forms
 use Rattle.btor2_model.proofs.Ends.{SameWidth, init-found}

@@ -1,4 +1,4 @@
 pub mod Bads
 pub mod Marks
 pub mod Violations
-pub mod Widths
+pub mod inner

@@ -7,7 +7,7 @@ ghost use Rattle.btor2_net.specs.Layout.{AreLaidOut};
 ghost use Rattle.btor2_net.specs.TidyLines.{AreTidy};
 ghost use Rattle.btor2_net.specs.Translations.{AreCounted};
 ghost use Rattle.koika_assert.specs.Bads as bads;
-ghost use Rattle.koika_assert.specs.Widths as widths;
+ghost use Rattle.koika_assert.specs.inner.Widths as widths;
 
 use crate::copies::{copied_arguments, copied_line, copied_lines, copied_symbol};
 use btor2_model::{Rule, id_at, number_at};

@@ -2,7 +2,7 @@
 
 ghost use Rattle.std.specs.Prelude.{◌≡◌, ◌+◌, ◌<◌, ◌++◌, ◌^◌, ℕ, List, [], IfOk, OnOk, None, Some, length, replicate};
 ghost use Rattle.std.specs.List.{position_from};
-ghost use Rattle.koika_assert.specs.Marks.{AddsFirsts};
+ghost use Rattle.koika_assert.specs.inner.Marks.{AddsFirsts};
 ghost use Rattle.koika_assert.specs.Violations.{violated_line, violated_lines, watched, watched_on, watched_text};
 ghost use Rattle.one_rule.specs.declared.rows.Row.{Row as RowOf};
 ghost use Rattle.stim_report.specs.Batches.{joined};

@@ -7,12 +7,12 @@ use Rattle.kw_base.specs.Names.{number_of}
 use Rattle.kw_bits.specs.Host.{TakesWidth}
 use Rattle.koika_types.specs.declared.declarations.Member.{Member}
 use Rattle.kw_bits.specs.declared.host.HostSpec.{HostSpec}
-use Rattle.koika_check.specs.Checking.{AreTypes, AreWidths, IsChecker, IsDeclared, IsSignature, IsType, IsWidth, Stands, arrays_of}
+use Rattle.koika_check.specs.inner.Checking.{AreTypes, AreWidths, IsChecker, IsDeclared, IsSignature, IsType, IsWidth, Stands, arrays_of}
 use Rattle.koika_check.specs.Composites.{field_named, fields_of, members_of}
-use Rattle.koika_check.specs.Locals.{AreLocals, shapes_of}
-use Rattle.koika_check.specs.Settled.{IsSettled}
-use Rattle.koika_check.specs.Shapes.{AreShapes, type_of_shape}
-use Rattle.koika_check.specs.Things.{AreParts, AreThings, position_of, thing_named}
+use Rattle.koika_check.specs.inner.Locals.{AreLocals, shapes_of}
+use Rattle.koika_check.specs.inner.Settled.{IsSettled}
+use Rattle.koika_check.specs.inner.Shapes.{AreShapes, type_of_shape}
+use Rattle.koika_check.specs.inner.Things.{AreParts, AreThings, position_of, thing_named}
 use Rattle.koika_check.specs.Types.{bits, width_of}
 use Rattle.koika_check.specs.declared.checked.Field.{Field}
 use Rattle.koika_check.specs.declared.checked.Function.{Function}

@@ -6,13 +6,13 @@ use Rattle.std.proofs.lemmas.List.{length-map, map-append}
 use Rattle.std.proofs.lemmas.List.Sums.{sum_by-cons}
 use Rattle.kw_base.specs.Names.{number_of}
 use Rattle.koika_types.specs.declared.declarations.EnumDecl.{EnumDecl}
-use Rattle.koika_check.specs.Checking.{AreTypes, IsType, IsWidth, arrays_of}
+use Rattle.koika_check.specs.inner.Checking.{AreTypes, IsType, IsWidth, arrays_of}
 use Rattle.koika_check.specs.Composites.{fields_by, fields_of, members_by}
 use Rattle.koika_check.specs.Declarations.{names_of_fields, names_of_members}
-use Rattle.koika_check.specs.Listed.{Keeps, Lists}
-use Rattle.koika_check.specs.Settled.{IsSettled}
-use Rattle.koika_check.specs.Shapes.{type_of_shape}
-use Rattle.koika_check.specs.Things.{AreParts, position_of, thing_named}
+use Rattle.koika_check.specs.inner.Listed.{Keeps, Lists}
+use Rattle.koika_check.specs.inner.Settled.{IsSettled}
+use Rattle.koika_check.specs.inner.Shapes.{type_of_shape}
+use Rattle.koika_check.specs.inner.Things.{AreParts, position_of, thing_named}
 use Rattle.koika_check.specs.Types.{width_of}
 use Rattle.koika_check.specs.declared.checked.Checked.{Checked}
 use Rattle.koika_check.specs.declared.checked.Field.{Field}

@@ -2,7 +2,8 @@
 use Rattle.std.proofs.Common.{◌≡◌, ℕ, suc, ◌+◌, ◌<◌, ◌≤◌, List, [], ◌∷◌, length, drop, get_or, Option, Some, None, Ok, Err, refl, ap, sym, ◌∙◌, add-one}
 use Rattle.std.proofs.Math.Seq.{drop-cons}
 use Rattle.std.proofs.lemmas.List.{drop_all}
-use Rattle.koika_check.specs.Outcomes.{Condition, Ends, Gives, Fails, Outcome, Passes, Tells, ◌>>=◌, found, one_by_one, smaller, smallest, unless, where_all}
+use Rattle.koika_check.specs.Outcomes.{Condition, Gives, Fails, Outcome, ◌>>=◌, found, one_by_one, smaller, smallest, unless, where_all}
+use Rattle.koika_check.specs.inner.Outcomes.{Ends, Passes, Tells}
 use Rattle.koika_check.specs.declared.stop.Stop.{Stop}
 use Rattle.koika_check.specs.declared.stop.Stop.TheVariants as stops
 use Rattle.koika_check.specs.declared.stop.Wrong.{Wrong}

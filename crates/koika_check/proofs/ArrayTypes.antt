@@ -3,7 +3,7 @@ use Rattle.std.proofs.Common.{◌≡◌, ◌≢◌, ◌⊎◌, inl, inr, ℕ, ze
 use Rattle.std.specs.Int.{from_le_bytes, to_le_bytes, w32}
 use Rattle.std.proofs.lemmas.Nat.{from_le_bytes-to_le_bytes_4}
 use Rattle.std.proofs.lemmas.Bool.{ltb-true, ltb-false}
-use Rattle.koika_check.specs.Shapes.{AreArrays, AreShapes, Denotes, IsArray, IsNumbered, IsShape, array_types, key_of, number_in, tag_of, type_of_shape}
+use Rattle.koika_check.specs.inner.Shapes.{AreArrays, AreShapes, Denotes, IsArray, IsNumbered, IsShape, array_types, key_of, number_in, tag_of, type_of_shape}
 use Rattle.koika_check.specs.Types.{array, bits, of_base}
 use Rattle.koika_check.specs.declared.shapes.ArrayShape.{ArrayShape}
 use Rattle.koika_check.specs.declared.shapes.Shapes.{Shapes}

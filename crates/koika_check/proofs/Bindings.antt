@@ -6,9 +6,9 @@ use Rattle.std.proofs.lemmas.Bool.{eqb-true, eqb-false, ltb-true, ltb-false}
 use Rattle.std.proofs.lemmas.List.{length-set, get_or-set_other, get_or-set_same}
 use Rattle.std.proofs.lemmas.Option.{slice_get-get_or, slice_get-map}
 use Rattle.kw_base.specs.Names.{AreNumbered, number_of}
-use Rattle.koika_check.specs.Locals.{AllHide, AreLocals, inside_of, local_of, locals_of, place_of}
+use Rattle.koika_check.specs.inner.Locals.{AllHide, AreLocals, inside_of, local_of, locals_of, place_of}
 use Rattle.koika_check.specs.Scopes.{Local, local_named}
-use Rattle.koika_check.specs.Shapes.{type_of_shape}
+use Rattle.koika_check.specs.inner.Shapes.{type_of_shape}
 use Rattle.koika_check.specs.declared.locals.Bound.{Bound}
 use Rattle.koika_check.specs.declared.locals.Locals.{Locals}
 use Rattle.koika_check.specs.declared.typed.ValueType.{ValueType}

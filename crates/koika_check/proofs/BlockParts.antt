@@ -12,10 +12,11 @@ use Rattle.koika_syntax.specs.declared.tree.Operand.{Operand, out-Operand, fold_
 use Rattle.koika_syntax.specs.declared.tree.Statement.{Statement, fold-roll-Statement}
 use Rattle.koika_syntax.specs.declared.tree.Statement.TheVariants as statements
 use Rattle.koika_check.specs.Constructs.{ArmTyping, Joined, conditional}
-use Rattle.koika_check.specs.Expressions.{Armed, Fielded, Joining, Meaning, Run, Stepped, arm_in, arm_step, block_in, block_step, close, expression_in, expression_step, field_value_in, field_value_step, join_in, operand_in, operand_step, otherwise_in, run, statement_in, statement_step}
+use Rattle.koika_check.specs.Expressions.{Armed, Fielded, Joining, Meaning, Run, Stepped, arm_step, block_in, block_step, close, expression_step, field_value_step, join_in, operand_step, otherwise_in, run, statement_step}
+use Rattle.koika_check.specs.inner.Expressions.{arm_in, expression_in, field_value_in, operand_in, statement_in}
 use Rattle.koika_check.specs.Outcomes.{Fails, Gives, Outcome, ◌>>=◌, in_turn, one_by_one}
 use Rattle.koika_check.specs.Scopes.{Scope}
-use Rattle.koika_check.specs.TypedParts.{bound_step}
+use Rattle.koika_check.specs.inner.TypedParts.{bound_step}
 use Rattle.koika_check.specs.declared.typed.Step.TheVariants as step
 use Rattle.koika_check.proofs.Turns.{one-map, turn-map}
 

@@ -7,15 +7,17 @@ use Rattle.std.proofs.lemmas.List.Elements.{All-push, All-take}
 use Rattle.koika_syntax.specs.declared.tree.Expression.{Expression}
 use Rattle.koika_syntax.specs.declared.tree.Name.{Name}
 use Rattle.koika_syntax.specs.declared.tree.Statement.{Statement}
-use Rattle.koika_check.specs.Checking.{IsChecker, IsPart, IsType, IsTyping, Yields, arrays_of, scope_of, typing_of}
+use Rattle.koika_check.specs.inner.Checking.{IsChecker, IsPart, IsType, IsTyping, Yields, arrays_of, scope_of, typing_of}
 use Rattle.koika_check.specs.Constructs.{typing}
 use Rattle.koika_check.specs.Constructs as constructs
-use Rattle.koika_check.specs.Expressions.{Run, Stepping, close, expression_in, run, statement_in}
-use Rattle.koika_check.specs.Locals.{AreLocals, inside_of, local_of, locals_of, shapes_of}
-use Rattle.koika_check.specs.Outcomes.{Ends, Gives, Outcome, ◌>>=◌, found, one_by_one}
+use Rattle.koika_check.specs.Expressions.{Run, Stepping, close, run}
+use Rattle.koika_check.specs.inner.Expressions.{expression_in, statement_in}
+use Rattle.koika_check.specs.inner.Locals.{AreLocals, inside_of, local_of, locals_of, shapes_of}
+use Rattle.koika_check.specs.Outcomes.{Gives, Outcome, ◌>>=◌, found, one_by_one}
+use Rattle.koika_check.specs.inner.Outcomes.{Ends}
 use Rattle.koika_check.specs.Scopes.{Local, Scope, bound}
-use Rattle.koika_check.specs.Shapes.{part_of, type_if, type_of_shape}
-use Rattle.koika_check.specs.TypedParts.{AreSteps, IsStep, bound_step}
+use Rattle.koika_check.specs.inner.Shapes.{part_of, type_if, type_of_shape}
+use Rattle.koika_check.specs.inner.TypedParts.{AreSteps, IsStep, bound_step}
 use Rattle.koika_check.specs.Types.{Part as TypedPart, part, wrong_type}
 use Rattle.koika_check.specs.declared.checked.Checked.{Checked}
 use Rattle.koika_check.specs.declared.checker.Checker.{Checker}

@@ -6,14 +6,14 @@ use Rattle.std.proofs.lemmas.List.Elements.{All-cons, All-nil}
 use Rattle.kw_bits.specs.Host.{TakesWidth, arity, out_width}
 use Rattle.kw_bits.specs.declared.host.HostKind.{HostKind}
 use Rattle.kw_bits.specs.declared.host.HostKind.TheVariants as kinds
-use Rattle.koika_check.specs.Checking.{AreTypes, IsChecker, IsSignature, IsType, IsWidth, arrays_of}
+use Rattle.koika_check.specs.inner.Checking.{AreTypes, IsChecker, IsSignature, IsType, IsWidth, arrays_of}
 use Rattle.kw_base.specs.declared.fault_number.TheConstants.{UNKNOWN_NAME}
 use Rattle.koika_syntax.specs.declared.tree.Name.{Name}
 use Rattle.koika_check.specs.Constructs.{arguments_agree}
 use Rattle.koika_check.specs.Outcomes.{Fails, found, wrong}
 use Rattle.koika_check.specs.Scopes.{Called, at, called, called_function, called_host, called_table, function_named, host_named, or_else, table_named}
 use Rattle.koika_check.specs.declared.checked.Checked.{Checked}
-use Rattle.koika_check.specs.Shapes.{type_of_shape}
+use Rattle.koika_check.specs.inner.Shapes.{type_of_shape}
 use Rattle.koika_check.specs.Types.{Part, bits}
 use Rattle.koika_check.specs.declared.checked.Function.{Function}
 use Rattle.koika_check.specs.declared.checker.Checker.{Checker}

@@ -3,15 +3,17 @@ use Rattle.std.proofs.Common.{◌≡◌, ℕ, ◌+◌, ◌<◌, List, [], ◌∷
 use Rattle.std.proofs.lemmas.List.{map-append}
 use Rattle.koika_syntax.specs.declared.operator.BinaryOperator.{BinaryOperator}
 use Rattle.koika_syntax.specs.declared.tree.Operand.{Operand, out-Operand}
-use Rattle.koika_check.specs.Checking.{IsChecker, IsPart, IsTyping, Yields, arrays_of, scope_of, typing_of}
+use Rattle.koika_check.specs.inner.Checking.{IsChecker, IsPart, IsTyping, Yields, arrays_of, scope_of, typing_of}
 use Rattle.koika_check.specs.Constructs.{Joined, chained, join}
 use Rattle.koika_check.specs.Constructs as constructs
-use Rattle.koika_check.specs.Expressions.{chain_in, expression_in, join_in, operand_in}
+use Rattle.koika_check.specs.Expressions.{chain_in, join_in}
+use Rattle.koika_check.specs.inner.Expressions.{expression_in, operand_in}
 use Rattle.koika_check.specs.Operators.{operated}
-use Rattle.koika_check.specs.Outcomes.{Ends, Gives, Outcome, Tells, ◌>>=◌, one_by_one}
+use Rattle.koika_check.specs.Outcomes.{Gives, Outcome, ◌>>=◌, one_by_one}
+use Rattle.koika_check.specs.inner.Outcomes.{Ends, Tells}
 use Rattle.koika_check.specs.Scopes.{Scope}
-use Rattle.koika_check.specs.Shapes.{Denotes, part_of, type_if}
-use Rattle.koika_check.specs.TypedParts.{Chained, In, IsChained}
+use Rattle.koika_check.specs.inner.Shapes.{Denotes, part_of, type_if}
+use Rattle.koika_check.specs.inner.TypedParts.{Chained, In, IsChained}
 use Rattle.koika_check.specs.Types.{Part as TypedPart, part}
 use Rattle.koika_check.specs.declared.checker.Checker.{Checker}
 use Rattle.koika_check.specs.declared.checker.Typing.{Typing}

@@ -10,12 +10,13 @@ use Rattle.koika_syntax.specs.declared.tree.Name.{Name}
 use Rattle.koika_syntax.specs.declared.tree.TypeExpression.{TypeExpression}
 use Rattle.kw_bits.specs.declared.host.HostSpec.{HostSpec}
 use Rattle.koika_types.specs.declared.declarations.EnumDecl.{EnumDecl}
-use Rattle.koika_check.specs.Checking.{AreTypes, AreWidths, Grows, IsChecker, IsDeclared, IsNamed, IsWidth, arrays_of, enum_by, shape_of, struct_by, type_by_thing}
-use Rattle.koika_check.specs.Locals.{AreLocals}
-use Rattle.koika_check.specs.Outcomes.{Fails, Gives, Tells, found, wrong, ◌>>=◌}
-use Rattle.koika_check.specs.Shapes.{AreShapes, IsShape, array_types, type_of_shape}
-use Rattle.koika_check.specs.Shapes as shapes
-use Rattle.koika_check.specs.Things.{AreParts, AreThings, thing_named}
+use Rattle.koika_check.specs.inner.Checking.{AreTypes, AreWidths, Grows, IsChecker, IsDeclared, IsNamed, IsWidth, arrays_of, enum_by, shape_of, struct_by, type_by_thing}
+use Rattle.koika_check.specs.inner.Locals.{AreLocals}
+use Rattle.koika_check.specs.Outcomes.{Fails, Gives, found, wrong, ◌>>=◌}
+use Rattle.koika_check.specs.inner.Outcomes.{Tells}
+use Rattle.koika_check.specs.inner.Shapes.{AreShapes, IsShape, array_types, type_of_shape}
+use Rattle.koika_check.specs.inner.Shapes as shapes
+use Rattle.koika_check.specs.inner.Things.{AreParts, AreThings, thing_named}
 use Rattle.koika_check.specs.Types.{array, array_type, base_width, bits, enum_named, is_width, named_type, of_base, struct_named, type_by, type_named, type_of, width_of}
 use Rattle.koika_check.specs.declared.checked.Checked.{Checked}
 use Rattle.koika_check.specs.declared.checked.Input.{Input}

@@ -2,15 +2,16 @@
 use Rattle.std.proofs.Common.{◌≡◌, ℕ, List, [], ◌∷◌, ◌++◌, append-nil, map, Option, Some, None, Result, Ok, Err, refl, ap, ap₂, sym, ◌∙◌, subst, arith}
 use Rattle.std.specs.List.{All}
 use Rattle.std.specs.Option.{unwrap_or}
-use Rattle.koika_check.specs.Checking.{AreTyped, Checks, Grows, IsChecker, IsPart, IsTypeOrUnit, IsTyping, TypedAs, Yields, arrays_of, of_first, scope_of, typing_of}
+use Rattle.koika_check.specs.inner.Checking.{AreTyped, Checks, Grows, IsChecker, IsPart, IsTypeOrUnit, IsTyping, TypedAs, Yields, arrays_of, of_first, scope_of, typing_of}
 use Rattle.koika_check.specs.Composites.{type_of_first}
 use Rattle.koika_check.specs.Constructs.{ArmTyping, conditional, parts_of, place_of_arms, type_of_bodies, typed_of, typing}
 use Rattle.koika_check.specs.Constructs as constructs
 use Rattle.koika_check.specs.Expressions.{otherwise_in}
-use Rattle.koika_check.specs.Outcomes.{Condition, Gives, Outcome, Tells, ◌>>=◌, smallest, unless, where_all}
+use Rattle.koika_check.specs.Outcomes.{Condition, Gives, Outcome, ◌>>=◌, smallest, unless, where_all}
+use Rattle.koika_check.specs.inner.Outcomes.{Tells}
 use Rattle.koika_check.specs.Scopes.{Scope}
-use Rattle.koika_check.specs.Shapes.{part_of, type_if}
-use Rattle.koika_check.specs.TypedParts.{AreArms, In, IsLast, place_of_first, typings_of}
+use Rattle.koika_check.specs.inner.Shapes.{part_of, type_if}
+use Rattle.koika_check.specs.inner.TypedParts.{AreArms, In, IsLast, place_of_first, typings_of}
 use Rattle.koika_check.specs.Types.{Part as TypedPart, agrees, bits, each}
 use Rattle.koika_check.specs.declared.agreement.Part.{Part}
 use Rattle.koika_check.specs.declared.checker.Checker.{Checker}

@@ -1,13 +1,14 @@
 -- What a construct comes to behind parts that give values.
 use Rattle.std.proofs.Common.{◌≡◌, ℕ, List, Result, Ok, Err, refl, ap, ap₂, sym, ◌∙◌, subst}
 use Rattle.koika_syntax.specs.declared.tree.Name.{Name}
-use Rattle.koika_check.specs.Checking.{AreTyped, Checks, Grows, IsCalled, IsChecker, IsPart, IsTyping, Stands, TypedAs, Yields, arrays_of, scope_of, typing_of}
+use Rattle.koika_check.specs.inner.Checking.{AreTyped, Checks, Grows, IsCalled, IsChecker, IsPart, IsTyping, Stands, TypedAs, Yields, arrays_of, scope_of, typing_of}
 use Rattle.koika_check.specs.Constructs as constructs
-use Rattle.koika_check.specs.Outcomes.{Ends, Fails, Gives, Outcome, Tells, ◌>>=◌}
+use Rattle.koika_check.specs.Outcomes.{Fails, Gives, Outcome, ◌>>=◌}
+use Rattle.koika_check.specs.inner.Outcomes.{Ends, Tells}
 use Rattle.koika_check.specs.Scopes as scopes
 use Rattle.koika_check.specs.Scopes.{Scope}
-use Rattle.koika_check.specs.Shapes.{part_of}
-use Rattle.koika_check.specs.TypedParts.{In}
+use Rattle.koika_check.specs.inner.Shapes.{part_of}
+use Rattle.koika_check.specs.inner.TypedParts.{In}
 use Rattle.koika_check.specs.Types.{Part as TypedPart, part}
 use Rattle.koika_check.specs.declared.calls.Called.{Called}
 use Rattle.koika_check.specs.declared.checked.Checked.{Checked}

@@ -6,12 +6,12 @@ use Rattle.std.proofs.lemmas.List.{drop-drop}
 use Rattle.std.proofs.lemmas.List.Elements.{All-cons, All-nil}
 use Rattle.std.proofs.lemmas.Option.{slice_get_read}
 use Rattle.kw_base.specs.declared.fault_number.TheConstants.{WRONG_FIELD, WRONG_WIDTH}
-use Rattle.koika_check.specs.Checking.{AreGiven, Grows, IsChecker, IsGiven, IsPartIn, IsWidth, Yields, arrays_of, scope_of}
+use Rattle.koika_check.specs.inner.Checking.{AreGiven, Grows, IsChecker, IsGiven, IsPartIn, IsWidth, Yields, arrays_of, scope_of}
 use Rattle.koika_check.specs.Composites.{agrees_if, fields_by, fields_of, fits_field, names_are}
 use Rattle.koika_check.specs.Composites as composites
 use Rattle.koika_check.specs.Outcomes.{Condition, Gives, Outcome, earlier, holds, wrong}
-use Rattle.koika_check.specs.Shapes.{AreShapes, Denotes, IsShapeIf, array_types, part_of, type_if, type_of_shape}
-use Rattle.koika_check.specs.Shapes as shapes
+use Rattle.koika_check.specs.inner.Shapes.{AreShapes, Denotes, IsShapeIf, array_types, part_of, type_if, type_of_shape}
+use Rattle.koika_check.specs.inner.Shapes as shapes
 use Rattle.koika_check.specs.Types.{Part as TypedPart, array, each, is_width, part, width_of}
 use Rattle.koika_check.specs.declared.checked.Checked.{Checked}
 use Rattle.koika_check.specs.declared.checked.Field.{Field}

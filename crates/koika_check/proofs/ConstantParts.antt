@@ -10,7 +10,8 @@ use Rattle.koika_syntax.specs.declared.tree.Literal.{Literal}
 use Rattle.koika_syntax.specs.declared.tree.Name.{Name}
 use Rattle.koika_types.specs.declared.value.Value.TheVariants as value
 use Rattle.koika_check.specs.Composites.{member}
-use Rattle.koika_check.specs.Constants.{array_known, struct_known, FieldMeaning, Known, KnownField, Meaning, constant_field_of, constant_field_step, constant_of, constant_step, known_member}
+use Rattle.koika_check.specs.Constants.{array_known, struct_known, FieldMeaning, Known, KnownField, Meaning, constant_field_step, constant_of, constant_step, known_member}
+use Rattle.koika_check.specs.inner.Constants.{constant_field_of}
 use Rattle.koika_check.specs.Outcomes.{Gives, Outcome, ◌>>=◌, found, in_turn, wrong}
 use Rattle.koika_check.specs.Types.{bits, part, struct_named}
 use Rattle.koika_check.specs.declared.checked.Checked.{Checked}

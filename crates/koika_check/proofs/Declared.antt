@@ -4,7 +4,7 @@ use Rattle.std.specs.Str.{bytes_eq}
 use Rattle.std.proofs.lemmas.List.{length-map, map-append}
 use Rattle.kw_base.specs.Names.{number_of}
 use Rattle.koika_types.specs.declared.declarations.EnumDecl.{EnumDecl}
-use Rattle.koika_check.specs.Checking.{IsDeclared, enum_by, function_by, host_by, input_by, register_by, rule_by, struct_by, table_by}
+use Rattle.koika_check.specs.inner.Checking.{IsDeclared, enum_by, function_by, host_by, input_by, register_by, rule_by, struct_by, table_by}
 use Rattle.koika_check.specs.declared.checked.Checked.{Checked}
 use Rattle.koika_check.specs.declared.checked.Struct.{Struct}
 use Rattle.koika_check.specs.declared.checked.Register.{Register}

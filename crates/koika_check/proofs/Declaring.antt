@@ -13,13 +13,14 @@ use Rattle.koika_syntax.specs.declared.tree.Name.{Name}
 use Rattle.koika_syntax.specs.declared.tree.TypeExpression.{TypeExpression}
 use Rattle.koika_syntax.specs.declared.tree.Width.{Width}
 use Rattle.koika_types.specs.declared.value.Value.{Value}
-use Rattle.koika_check.specs.Checking.{Grows, IsChecker, IsDeclared, IsWidth, Stands, arrays_of, enum_by, function_by, host_by, input_by, register_by, rule_by, scope_of, struct_by, table_by}
+use Rattle.koika_check.specs.inner.Checking.{Grows, IsChecker, IsDeclared, IsWidth, Stands, arrays_of, enum_by, function_by, host_by, input_by, register_by, rule_by, scope_of, struct_by, table_by}
 use Rattle.koika_check.specs.Constants.{Known, constant_of}
 use Rattle.koika_check.specs.Declarations.{has_width, is_declared, new_name, register_known, register_of, register_typed, register_with, table_conditions}
-use Rattle.koika_check.specs.Locals.{inside_of, local_of, locals_of}
-use Rattle.koika_check.specs.Outcomes.{Condition, Gives, Outcome, Tells, ◌>>=◌, holds, smaller, smallest, where_all, wrong}
-use Rattle.koika_check.specs.Settled.{IsSettled}
-use Rattle.koika_check.specs.Things.{position_of}
+use Rattle.koika_check.specs.inner.Locals.{inside_of, local_of, locals_of}
+use Rattle.koika_check.specs.Outcomes.{Condition, Gives, Outcome, ◌>>=◌, holds, smaller, smallest, where_all, wrong}
+use Rattle.koika_check.specs.inner.Outcomes.{Tells}
+use Rattle.koika_check.specs.inner.Settled.{IsSettled}
+use Rattle.koika_check.specs.inner.Things.{position_of}
 use Rattle.koika_check.specs.Types.{each, is_width, type_of}
 use Rattle.koika_check.specs.declared.checked.Checked.{Checked}
 use Rattle.koika_check.specs.declared.checked.Register.{Register}

@@ -2,7 +2,8 @@
 use Rattle.std.proofs.Common.{◌≡◌, ℕ, List, length, map, ap, sym, ◌∙◌}
 use Rattle.std.proofs.lemmas.List.{length-map}
 use Rattle.koika_types.specs.declared.value.Value.{Value}
-use Rattle.koika_check.specs.Sizes.{Rests, Size, StepSize, arms_size, both, heavier, one_deeper, operation_size, size, size_of, size_of_step, step_step, steps_size, typed_step}
+use Rattle.koika_check.specs.Sizes.{Rests, Size, StepSize, arms_size, both, heavier, one_deeper, operation_size, size, size_of, step_step, steps_size, typed_step}
+use Rattle.koika_check.specs.inner.Sizes.{size_of_step}
 use Rattle.koika_check.specs.declared.typed.Operation.{Operation}
 use Rattle.koika_check.specs.declared.typed.Step.{Step, fold-roll-Step}
 use Rattle.koika_check.specs.declared.typed.Step.TheOpen as opened

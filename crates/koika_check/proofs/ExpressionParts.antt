@@ -18,7 +18,8 @@ use Rattle.koika_syntax.specs.declared.tree.Prefix.{Prefix}
 use Rattle.koika_syntax.specs.declared.tree.Suffix.{Suffix}
 use Rattle.koika_syntax.specs.declared.tree.TypeExpression.{TypeExpression}
 use Rattle.koika_check.specs.Constructs.{FieldTyping, Typing, abort_at, array_in, call, comparison, extended, literal, member_in, named, packed, postfix, read_in, struct_in, typing, unary, unpacked, updated, written}
-use Rattle.koika_check.specs.Expressions.{Armed, Fielded, Joining, Meaning, Stepped, arm_in, arm_step, block_in, block_step, chain_in, expression_in, expression_step, field_value_in, field_value_step, operand_in, operand_step, statement_in, statement_step}
+use Rattle.koika_check.specs.Expressions.{Armed, Fielded, Joining, Meaning, Stepped, arm_step, block_in, block_step, chain_in, expression_step, field_value_step, operand_step, statement_step}
+use Rattle.koika_check.specs.inner.Expressions.{arm_in, expression_in, field_value_in, operand_in, statement_in}
 use Rattle.koika_check.specs.Outcomes.{Gives, Outcome, ◌>>=◌, found, in_turn, wrong}
 use Rattle.koika_check.specs.Scopes.{Scope, called, register}
 use Rattle.koika_check.specs.Types.{struct_named, type_of}

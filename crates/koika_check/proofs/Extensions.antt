@@ -4,8 +4,8 @@ use Rattle.std.specs.Prelude.{slice_index}
 use Rattle.std.proofs.lemmas.List.{map-append}
 use Rattle.std.proofs.lemmas.List.Elements.{All-weaker}
 use Rattle.koika_types.specs.declared.declarations.EnumDecl.{EnumDecl}
-use Rattle.koika_check.specs.Checking.{AreTypes, IsNamed, IsSignature, IsType, IsTypeOrUnit, IsWidth, arrays_of}
-use Rattle.koika_check.specs.Shapes.{IsShape, array_types, type_if, type_of_shape}
+use Rattle.koika_check.specs.inner.Checking.{AreTypes, IsNamed, IsSignature, IsType, IsTypeOrUnit, IsWidth, arrays_of}
+use Rattle.koika_check.specs.inner.Shapes.{IsShape, array_types, type_if, type_of_shape}
 use Rattle.koika_check.specs.Types.{all_lengths, base_width, width_of}
 use Rattle.koika_check.specs.declared.checked.Checked.{Checked}
 use Rattle.koika_check.specs.declared.checked.Function.{Function}

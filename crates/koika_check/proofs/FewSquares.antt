@@ -12,7 +12,7 @@ use Rattle.koika_types.proofs.Sizes.{sum_by-map}
 use Rattle.typed_core.specs.declared.design.Node.{Node}
 use Rattle.koika_check.specs.BitWeights as weights
 use Rattle.koika_check.specs.BitWeights.{Gauge, bodies_after, bit_weight, function_body, gauge_of, node_squares, register_bits, rule_squares, squares_if, squares_of}
-use Rattle.koika_check.specs.Gauges.{cap}
+use Rattle.koika_check.specs.inner.Gauges.{cap}
 use Rattle.koika_check.specs.Sizes as sizes
 use Rattle.koika_check.specs.Sizes.{Size, bodies_behind, design_size, node_weights, rests, rule_sizes, size_of}
 use Rattle.koika_check.specs.Types.{width_of}

@@ -2,11 +2,11 @@
 use Rattle.std.proofs.Common.{◌≡◌, ℕ, ◌+◌, ◌<◌, ◌≤◌, ◌^◌, min, List, [], ◌∷◌, ◌++◌, length, map, sum_by, None, refl, ap, sym, ◌∙◌, subst, arith}
 use Rattle.std.proofs.lemmas.List.{map-append}
 use Rattle.std.proofs.lemmas.List.Sums.{sum_by-cons}
-use Rattle.koika_check.specs.Checking.{AreTypes, Grows, IsChecker, Stands}
+use Rattle.koika_check.specs.inner.Checking.{AreTypes, Grows, IsChecker, Stands}
 use Rattle.koika_check.specs.Declarations.{names_of_fields}
-use Rattle.koika_check.specs.Listed.{AreFields, GrowsInParts, Keeps, Lists}
-use Rattle.koika_check.specs.Settled.{IsSettled}
-use Rattle.koika_check.specs.Things.{AreParts, thing_named}
+use Rattle.koika_check.specs.inner.Listed.{AreFields, GrowsInParts, Keeps, Lists}
+use Rattle.koika_check.specs.inner.Settled.{IsSettled}
+use Rattle.koika_check.specs.inner.Things.{AreParts, thing_named}
 use Rattle.koika_check.specs.Types.{width_of}
 use Rattle.koika_check.specs.declared.checked.Checked.{Checked}
 use Rattle.koika_check.specs.declared.checked.Field.{Field}

@@ -2,8 +2,9 @@
 use Rattle.std.proofs.Common.{◌≡◌, ℕ, List, [], ◌∷◌, map, slice_get, refl, ap, ap₂, sym, ◌∙◌}
 use Rattle.koika_types.specs.Values.{packed}
 use Rattle.koika_types.specs.declared.value.Value.{Value}
-use Rattle.koika_check.specs.BitWeights.{Bodies, Gauging, Stepped, all_with, applied, bound_width, chosen, gauge, gauge_of, gauge_of_step, input_width, more, step_step, typed_step}
-use Rattle.koika_check.specs.Gauges.{all_of, steps_of}
+use Rattle.koika_check.specs.BitWeights.{Bodies, Gauging, Stepped, all_with, applied, bound_width, chosen, gauge, gauge_of, input_width, more, step_step, typed_step}
+use Rattle.koika_check.specs.inner.BitWeights.{gauge_of_step}
+use Rattle.koika_check.specs.inner.Gauges.{all_of, steps_of}
 use Rattle.koika_check.specs.declared.typed.Operation.{Operation}
 use Rattle.koika_check.specs.declared.typed.Step.{Step, fold-roll-Step}
 use Rattle.koika_check.specs.declared.typed.Step.TheOpen as opened

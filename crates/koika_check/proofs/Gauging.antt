@@ -7,7 +7,7 @@ use Rattle.std.proofs.lemmas.List.Sums.{sum_by_push}
 use Rattle.std.proofs.lemmas.Option.{slice_get_past}
 use Rattle.koika_syntax.specs.declared.operator.BinaryOperator.{BinaryOperator}
 use Rattle.koika_check.specs.BitWeights.{Bodies, Gauge, applied, bodies_after, chain, chained, chosen, first_width, function_body, gauge, gauge_of, joined, more, operation_width, part_width, selected_width, square, squares_in, width_after, width_in_all}
-use Rattle.koika_check.specs.Gauges.{all_of, bodies_before, cap, counted, side_of}
+use Rattle.koika_check.specs.inner.Gauges.{all_of, bodies_before, cap, counted, side_of}
 use Rattle.koika_check.specs.Types.{all_lengths, width_of}
 use Rattle.koika_check.specs.declared.bit_weight.Gauge.{Gauge as Counted}
 use Rattle.koika_check.specs.declared.bit_weight.Side.{Side}

@@ -2,10 +2,10 @@
 use Rattle.std.proofs.Common.{◌≡◌, ℕ, zero, suc, ◌<◌, List, [], ◌∷◌, ◌++◌, length, map, get_or, Option, Some, None, refl, ap, ap₂, sym, ◌∙◌, subst, arith, append_assoc, append-nil, length-append}
 use Rattle.std.specs.List.{All}
 use Rattle.std.proofs.lemmas.List.Elements.{All-cons, All-nil, All-tail, All-weaker}
-use Rattle.koika_check.specs.Checking.{AreTypes, Grows, IsChecker, IsNamed, IsPart, IsReady, ready, IsSignature, IsType, IsTypeOrUnit, IsWidth, Stands, arrays_of, scope_of}
-use Rattle.koika_check.specs.Locals.{AreLocals, inside_of, local_of, locals_of, shapes_of}
+use Rattle.koika_check.specs.inner.Checking.{AreTypes, Grows, IsChecker, IsNamed, IsPart, IsReady, ready, IsSignature, IsType, IsTypeOrUnit, IsWidth, Stands, arrays_of, scope_of}
+use Rattle.koika_check.specs.inner.Locals.{AreLocals, inside_of, local_of, locals_of, shapes_of}
 use Rattle.koika_check.specs.Scopes.{Local, Scope}
-use Rattle.koika_check.specs.Shapes.{AreShapes, IsShape, array_types, part_of, type_if, type_of_shape}
+use Rattle.koika_check.specs.inner.Shapes.{AreShapes, IsShape, array_types, part_of, type_if, type_of_shape}
 use Rattle.koika_check.specs.Types.{array, bits, width_of}
 use Rattle.koika_check.specs.Types as types
 use Rattle.koika_check.specs.declared.agreement.Part.{Part}

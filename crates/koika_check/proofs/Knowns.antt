@@ -7,13 +7,15 @@ use Rattle.koika_syntax.specs.declared.tree.ConstantField.{ConstantField, out-Co
 use Rattle.koika_syntax.specs.declared.tree.Name.{Name}
 use Rattle.koika_types.specs.declared.value.Value.{Value}
 use Rattle.koika_types.specs.declared.value.Value.TheVariants as value
-use Rattle.koika_check.specs.Checking.{Checks, IsMember, IsPartIn, StandsFor, AreGiven, AreKnown, AreKnownFields, IsChecker, IsGiven, IsKnown, IsPart, Yields, arrays_of, scope_of}
+use Rattle.koika_check.specs.inner.Checking.{Checks, IsMember, IsPartIn, StandsFor, AreGiven, AreKnown, AreKnownFields, IsChecker, IsGiven, IsKnown, IsPart, Yields, arrays_of, scope_of}
 use Rattle.koika_check.specs.Composites.{array_of, fields_of, struct_of}
 use Rattle.koika_check.specs.Composites as composites
-use Rattle.koika_check.specs.Constants.{array_known, constant_field_of, constant_of, known_member, struct_known}
+use Rattle.koika_check.specs.Constants.{array_known, constant_of, known_member, struct_known}
+use Rattle.koika_check.specs.inner.Constants.{constant_field_of}
 use Rattle.koika_check.specs.Constants as constants
-use Rattle.koika_check.specs.Outcomes.{Ends, Gives, Outcome, Tells, ◌>>=◌, in_turn}
-use Rattle.koika_check.specs.Shapes.{part_of}
+use Rattle.koika_check.specs.Outcomes.{Gives, Outcome, ◌>>=◌, in_turn}
+use Rattle.koika_check.specs.inner.Outcomes.{Ends, Tells}
+use Rattle.koika_check.specs.inner.Shapes.{part_of}
 use Rattle.koika_check.specs.Types.{Part as TypedPart}
 use Rattle.koika_check.specs.declared.agreement.Part.{Part}
 use Rattle.koika_check.specs.declared.checked.Checked.{Checked}

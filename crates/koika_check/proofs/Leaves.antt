@@ -4,12 +4,13 @@ use Rattle.std.specs.List.{slice_get}
 use Rattle.std.specs.Option.{option_map}
 use Rattle.koika_syntax.specs.declared.tree.Name.{Name}
 use Rattle.kw_base.specs.declared.fault_number.TheConstants.{UNKNOWN_NAME}
-use Rattle.koika_check.specs.Checking.{IsType, IsTypeOrUnit, IsWidth, TypedAs, arrays_of}
+use Rattle.koika_check.specs.inner.Checking.{IsType, IsTypeOrUnit, IsWidth, TypedAs, arrays_of}
 use Rattle.koika_check.specs.Constructs.{typing}
 use Rattle.koika_check.specs.Constructs as constructs
-use Rattle.koika_check.specs.Outcomes.{Ends, Fails, Gives, Outcome, Tells, found, holds, where_all, wrong}
+use Rattle.koika_check.specs.Outcomes.{Fails, Gives, Outcome, found, holds, where_all, wrong}
+use Rattle.koika_check.specs.inner.Outcomes.{Ends, Tells}
 use Rattle.koika_check.specs.Scopes.{Scope, input_named, local_named}
-use Rattle.koika_check.specs.Shapes.{Denotes, type_if}
+use Rattle.koika_check.specs.inner.Shapes.{Denotes, type_if}
 use Rattle.koika_check.specs.Types.{Part as TypedPart, as_bits, bits, is_bits, width_of, wrong_type}
 use Rattle.koika_check.specs.declared.checked.Checked.{Checked}
 use Rattle.koika_check.specs.declared.checked.Input.{Input}

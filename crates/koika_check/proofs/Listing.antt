@@ -8,9 +8,9 @@ use Rattle.kw_base.specs.Names.{number_of}
 use Rattle.kw_base.specs.declared.fault_number.TheConstants.{REPEATED_NAME}
 use Rattle.koika_syntax.specs.declared.tree.Name.{Name}
 use Rattle.koika_check.specs.Declarations.{other_name}
-use Rattle.koika_check.specs.Listed.{Keeps, Lists}
+use Rattle.koika_check.specs.inner.Listed.{Keeps, Lists}
 use Rattle.koika_check.specs.Outcomes.{holds, where_all, wrong}
-use Rattle.koika_check.specs.Things.{key_of_declaration, key_of_part, position_of}
+use Rattle.koika_check.specs.inner.Things.{key_of_declaration, key_of_part, position_of}
 use Rattle.koika_check.specs.declared.parts.Parts.{Parts}
 use Rattle.koika_check.specs.declared.things.Thing.{Thing}
 use Rattle.koika_check.specs.declared.things.Thing.TheVariants as thing

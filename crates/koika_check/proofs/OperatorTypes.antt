@@ -3,10 +3,11 @@ use Rattle.std.proofs.Common.{◌≡◌, ℕ, ◌+◌, ◌*◌, ◌≤◌, nat_l
 use Rattle.std.specs.Option.{IfSome}
 use Rattle.koika_syntax.specs.declared.operator.BinaryOperator.{BinaryOperator}
 use Rattle.koika_syntax.specs.declared.operator.BinaryOperator.TheVariants as binary
-use Rattle.koika_check.specs.Checking.{IsPart, IsType, IsTypeOrUnit, IsWidth, arrays_of}
+use Rattle.koika_check.specs.inner.Checking.{IsPart, IsType, IsTypeOrUnit, IsWidth, arrays_of}
 use Rattle.koika_check.specs.Operators.{bits_in, calculated, concatenated, operated, width_or_none}
-use Rattle.koika_check.specs.Outcomes.{Condition, Gives, Tells, earlier, unless}
-use Rattle.koika_check.specs.Shapes.{Denotes, part_of, type_if}
+use Rattle.koika_check.specs.Outcomes.{Condition, Gives, earlier, unless}
+use Rattle.koika_check.specs.inner.Outcomes.{Tells}
+use Rattle.koika_check.specs.inner.Shapes.{Denotes, part_of, type_if}
 use Rattle.koika_check.specs.Types.{Part as TypedPart, all_lengths, as_bits, base_width, bits, bits_by, is_bits, width_of, wrong_type}
 use Rattle.koika_check.specs.declared.agreement.Part.{Part}
 use Rattle.koika_check.specs.declared.checked.Checked.{Checked}

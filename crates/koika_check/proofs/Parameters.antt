@@ -11,17 +11,17 @@ use Rattle.koika_syntax.specs.declared.tree.Field.{Field}
 use Rattle.koika_syntax.specs.declared.tree.Name.{Name}
 use Rattle.koika_syntax.specs.declared.tree.TypeExpression.{TypeExpression}
 use Rattle.kw_bits.specs.declared.host.HostSpec.{HostSpec}
-use Rattle.koika_check.specs.Checking.{AreTypes, Grows, IsChecker, IsPart, IsSignature, IsType, IsTypeIf, Stands, arrays_of, scope_of}
+use Rattle.koika_check.specs.inner.Checking.{AreTypes, Grows, IsChecker, IsPart, IsSignature, IsType, IsTypeIf, Stands, arrays_of, scope_of}
 use Rattle.koika_check.specs.Constructs.{Typing}
 use Rattle.koika_check.specs.Declarations.{add_parameter, function_body, function_of, function_result, function_typed, function_with, names_of_locals, new_name, other_name, result_of, rule_of, rule_typed, rule_with, types_in_order}
 use Rattle.koika_check.specs.Expressions.{block_in}
-use Rattle.koika_check.specs.Locals.{AreLocals, inside_of, local_of, locals_of, shapes_of}
+use Rattle.koika_check.specs.inner.Locals.{AreLocals, inside_of, local_of, locals_of, shapes_of}
 use Rattle.koika_check.specs.Outcomes.{Condition, Gives, ◌>>=◌, holds, one_by_one, where_all, wrong}
-use Rattle.koika_check.specs.Parameters.{AreParameters}
+use Rattle.koika_check.specs.inner.Parameters.{AreParameters}
 use Rattle.koika_check.specs.Scopes.{Local, Scope}
-use Rattle.koika_check.specs.Settled.{IsSettled}
-use Rattle.koika_check.specs.Shapes.{AreArrays, AreShapes, IsShapeIf, part_of, type_if, type_of_shape}
-use Rattle.koika_check.specs.Things.{AreParts, AreThings, position_of, thing_named}
+use Rattle.koika_check.specs.inner.Settled.{IsSettled}
+use Rattle.koika_check.specs.inner.Shapes.{AreArrays, AreShapes, IsShapeIf, part_of, type_if, type_of_shape}
+use Rattle.koika_check.specs.inner.Things.{AreParts, AreThings, position_of, thing_named}
 use Rattle.koika_check.specs.Types.{Part as TypedPart, agrees, type_of}
 use Rattle.koika_check.specs.declared.agreement.Part.{Part}
 use Rattle.koika_check.specs.declared.checked.Checked.{Checked}

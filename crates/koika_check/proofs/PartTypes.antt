@@ -6,11 +6,11 @@ use Rattle.std.proofs.lemmas.List.{drop-map, length-map}
 use Rattle.std.proofs.lemmas.List.Sums.{sum_by-cons, sum_by-take-drop}
 use Rattle.std.proofs.lemmas.Option.{slice_get-map, slice_get_read}
 use Rattle.koika_types.specs.declared.declarations.EnumDecl.{EnumDecl}
-use Rattle.koika_check.specs.Checking.{AreTypes, IsChecker, IsNamed, IsPart, IsType, IsTypeOrUnit, IsWidth, arrays_of, of_first}
+use Rattle.koika_check.specs.inner.Checking.{AreTypes, IsChecker, IsNamed, IsPart, IsType, IsTypeOrUnit, IsWidth, arrays_of, of_first}
 use Rattle.koika_check.specs.Composites.{fields_of, type_at}
 use Rattle.koika_check.specs.Scopes.{register_type, type_of_register}
 use Rattle.koika_check.specs.Selections.{as_array}
-use Rattle.koika_check.specs.Shapes.{IsShape, IsShapeIf, type_if, type_of_shape}
+use Rattle.koika_check.specs.inner.Shapes.{IsShape, IsShapeIf, type_if, type_of_shape}
 use Rattle.koika_check.specs.Types.{array, base_width, width_of}
 use Rattle.koika_check.specs.declared.agreement.Part.{Part}
 use Rattle.koika_check.specs.declared.checked.Checked.{Checked}

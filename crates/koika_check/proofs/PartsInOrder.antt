@@ -7,15 +7,17 @@ use Rattle.koika_syntax.specs.declared.tree.Arm.{Arm, out-Arm}
 use Rattle.koika_syntax.specs.declared.tree.Expression.{Expression}
 use Rattle.koika_syntax.specs.declared.tree.FieldValue.{FieldValue, out-FieldValue}
 use Rattle.koika_syntax.specs.declared.tree.Name.{Name}
-use Rattle.koika_check.specs.Checking.{AreGiven, AreTyped, Grows, IsChecker, IsGiven, IsPart, IsPartIn, IsTyping, StandsFor, Yields, arrays_of, scope_of}
+use Rattle.koika_check.specs.inner.Checking.{AreGiven, AreTyped, Grows, IsChecker, IsGiven, IsPart, IsPartIn, IsTyping, StandsFor, Yields, arrays_of, scope_of}
 use Rattle.koika_check.specs.Composites.{array_of, fields_of, struct_of}
 use Rattle.koika_check.specs.Constructs.{applied, array_in, given_of, parts_of, struct_in, typed_of, typing}
 use Rattle.koika_check.specs.Constructs as constructs
-use Rattle.koika_check.specs.Expressions.{arm_in, block_in, expression_in, field_value_in}
-use Rattle.koika_check.specs.Outcomes.{Ends, Gives, Outcome, Tells, ◌>>=◌, in_turn}
+use Rattle.koika_check.specs.Expressions.{block_in}
+use Rattle.koika_check.specs.inner.Expressions.{arm_in, expression_in, field_value_in}
+use Rattle.koika_check.specs.Outcomes.{Gives, Outcome, ◌>>=◌, in_turn}
+use Rattle.koika_check.specs.inner.Outcomes.{Ends, Tells}
 use Rattle.koika_check.specs.Scopes.{Scope}
-use Rattle.koika_check.specs.Shapes.{part_of}
-use Rattle.koika_check.specs.TypedParts.{AreArms, AreTypedFields, In, place_of_first}
+use Rattle.koika_check.specs.inner.Shapes.{part_of}
+use Rattle.koika_check.specs.inner.TypedParts.{AreArms, AreTypedFields, In, place_of_first}
 use Rattle.koika_check.specs.Types.{Part as TypedPart}
 use Rattle.koika_check.specs.declared.agreement.Part.{Part}
 use Rattle.koika_check.specs.declared.checker.Checker.{Checker}

@@ -2,7 +2,7 @@
 use Rattle.std.proofs.Common.{◌≡◌, ℕ, suc, ◌<◌, ◌≤◌, Bool, true, false, nat_eq, ◌||◌, List, [], ◌∷◌, length, get_or, ap, sym, ◌∙◌, refl, arith}
 use Rattle.std.proofs.lemmas.Bool.{eqb-true, eqb-false}
 use Rattle.std.proofs.lemmas.List.Folds.{list_any_at}
-use Rattle.koika_check.specs.Paths.{IsPath}
+use Rattle.koika_check.specs.inner.Paths.{IsPath}
 use Rattle.koika_check.specs.Schedule.{is_on}
 use Rattle.koika_check.specs.declared.path.Path.{Path}
 

@@ -12,8 +12,9 @@ use Rattle.kw_base.specs.declared.fault_number.TheConstants.{RULE_TWICE_ON_A_PAT
 use Rattle.typed_core.specs.declared.design.Next.{Next}
 use Rattle.typed_core.specs.declared.design.Node.{Node}
 use Rattle.koika_check.specs.Outcomes.{Gives, Outcome, ◌>>=◌, found, holds, where_all, wrong}
-use Rattle.koika_check.specs.Paths.{is_end, next_at}
-use Rattle.koika_check.specs.Schedule.{Nodes, at_the_end, choice_nodes, choice_step, first_of, in_a_row, is_on, longer, path_behind, scheduler_nodes, scheduler_step, tried}
+use Rattle.koika_check.specs.inner.Paths.{is_end, next_at}
+use Rattle.koika_check.specs.Schedule.{Nodes, at_the_end, choice_step, first_of, in_a_row, is_on, longer, path_behind, scheduler_nodes, scheduler_step, tried}
+use Rattle.koika_check.specs.inner.Schedule.{choice_nodes}
 use Rattle.koika_check.specs.Scopes.{rule_named}
 use Rattle.koika_check.specs.declared.checked.Checked.{Checked}
 use Rattle.koika_check.proofs.Answering.{bind-gives, next-drop}

@@ -1,10 +1,11 @@
 -- What steps of a checker come to one behind another.
 use Rattle.std.proofs.Common.{◌≡◌, Result, Ok, Err, refl, ap, ap₂, sym, ◌∙◌}
-use Rattle.koika_check.specs.Checking.{Checks, Grows, IsChecker, IsPart, IsTyping, TypedAs, Yields, arrays_of, scope_of, typing_of}
+use Rattle.koika_check.specs.inner.Checking.{Checks, Grows, IsChecker, IsPart, IsTyping, TypedAs, Yields, arrays_of, scope_of, typing_of}
 use Rattle.koika_check.specs.Constructs as constructs
-use Rattle.koika_check.specs.Outcomes.{Ends, Outcome, Tells, ◌>>=◌}
+use Rattle.koika_check.specs.Outcomes.{Outcome, ◌>>=◌}
+use Rattle.koika_check.specs.inner.Outcomes.{Ends, Tells}
 use Rattle.koika_check.specs.Scopes.{Scope}
-use Rattle.koika_check.specs.Shapes.{part_of}
+use Rattle.koika_check.specs.inner.Shapes.{part_of}
 use Rattle.koika_check.specs.Types.{Part as TypedPart}
 use Rattle.koika_check.specs.declared.checked.Checked.{Checked}
 use Rattle.koika_check.specs.declared.checker.Checker.{Checker}

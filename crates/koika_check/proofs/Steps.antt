@@ -5,6 +5,7 @@ use Rattle.std.proofs.lemmas.List.{get_or-map, length-map, map-append}
 use Rattle.std.proofs.lemmas.List.Sums.{sum_by-cons}
 use Rattle.typed_core.specs.declared.design.Node.{Node}
 use Rattle.koika_check.specs.Capped as counts
+use Rattle.koika_check.specs.inner.Capped as inner_counts
 use Rattle.koika_check.specs.Sizes.{Size, StepSize, both, deeper, arms_size, chain_size, body_of, bodies_behind, node_weights, one_deeper, side_by_side, size, size_of}
 use Rattle.koika_check.specs.declared.checked.Checked.{Checked}
 use Rattle.koika_check.specs.declared.checked.Function.{Function}
@@ -22,22 +23,22 @@ one_more f g xs i x lt is = ap (λ k. g (map f (take k xs))) (plus_one i) ∙ ap
 
 pub count-part : {X : Type 0} (f : X → Size) (xs : List X) (i : ℕ) (x : X) (all one : Measure) → i < length xs → x ≡ get_or xs i x →
     all ≡ counts.capped (side_by_side (map f (take i xs))) → one ≡ counts.capped (f x) →
-    counts.both all one ≡ counts.capped (side_by_side (map f (take (i + 1) xs)))
+    inner_counts.both all one ≡ counts.capped (side_by_side (map f (take (i + 1) xs)))
 count-part f xs i x all one lt is before new =
     let now = one_more f side_by_side xs i x lt is ∙ side_by_side-push (map f (take i xs)) (f x) in
-    ap₂ counts.both before new ∙ capped-both _ _ ∙ ap counts.capped (sym now)
+    ap₂ inner_counts.both before new ∙ capped-both _ _ ∙ ap counts.capped (sym now)
 
 count : {X : Type 0} (f : X → Size) (g : List Size → Size) (d : ℕ) (xs : List X) (i : ℕ) (x : X) (all one : Measure) → i < length xs → x ≡ get_or xs i x →
     g (map f (take i xs) ++ f x ∷ []) ≡ both (g (map f (take i xs))) (deeper d (f x)) →
     all ≡ counts.capped (g (map f (take i xs))) → one ≡ counts.capped (f x) →
-    counts.both all (counts.deeper d one) ≡ counts.capped (g (map f (take (i + 1) xs)))
+    inner_counts.both all (inner_counts.deeper d one) ≡ counts.capped (g (map f (take (i + 1) xs)))
 count f g d xs i x all one lt is push before new =
     let now = one_more f g xs i x lt is ∙ push in
-    ap₂ counts.both before (ap (counts.deeper d) new ∙ capped-deeper d (f x)) ∙ capped-both _ _ ∙ ap counts.capped (sym now)
+    ap₂ inner_counts.both before (ap (inner_counts.deeper d) new ∙ capped-deeper d (f x)) ∙ capped-both _ _ ∙ ap counts.capped (sym now)
 
 pub count-deeper : {X : Type 0} (f : X → Size) (xs : List X) (i : ℕ) (x : X) (all one : Measure) → i < length xs → x ≡ get_or xs i x →
     all ≡ counts.capped (one_deeper (map f (take i xs))) → one ≡ counts.capped (f x) →
-    counts.both all (counts.deeper (i + 1) one) ≡ counts.capped (one_deeper (map f (take (i + 1) xs)))
+    inner_counts.both all (inner_counts.deeper (i + 1) one) ≡ counts.capped (one_deeper (map f (take (i + 1) xs)))
 count-deeper f xs i x all one lt is before new =
     count f one_deeper (i + 1) xs i x all one lt is
     (one_deeper-push (map f (take i xs)) (f x) ∙ ap (λ d. both (one_deeper (map f (take i xs))) (deeper d (f x))) (omega (arith, taken-length f xs i lt)))
@@ -45,7 +46,7 @@ count-deeper f xs i x all one lt is before new =
 
 pub count-arm : {X : Type 0} (f : X → Size) (arms : ℕ) (xs : List X) (i : ℕ) (x : X) (all one : Measure) → i < length xs → x ≡ get_or xs i x →
     all ≡ counts.capped (arms_size arms (map f (take i xs))) → one ≡ counts.capped (f x) →
-    counts.both all (counts.deeper (min (i + 1) arms) one) ≡ counts.capped (arms_size arms (map f (take (i + 1) xs)))
+    inner_counts.both all (inner_counts.deeper (min (i + 1) arms) one) ≡ counts.capped (arms_size arms (map f (take (i + 1) xs)))
 count-arm f arms xs i x all one lt is before new =
     count f (arms_size arms) (min (i + 1) arms) xs i x all one lt is
     (arms-push arms (map f (take i xs)) (f x) ∙ ap (λ n. both (arms_size arms (map f (take i xs))) (deeper (min (n + 1) arms) (f x))) (taken-length f xs i lt))
@@ -53,7 +54,7 @@ count-arm f arms xs i x all one lt is before new =
 
 pub count-operand : {X : Type 0} (f : X → Size) (n : ℕ) (xs : List X) (i : ℕ) (x : X) (all one : Measure) → i < length xs → x ≡ get_or xs i x →
     all ≡ counts.capped (chain_size n (map f (take i xs))) → one ≡ counts.capped (f x) →
-    counts.both all (counts.deeper (n - (i - 1)) one) ≡ counts.capped (chain_size n (map f (take (i + 1) xs)))
+    inner_counts.both all (inner_counts.deeper (n - (i - 1)) one) ≡ counts.capped (chain_size n (map f (take (i + 1) xs)))
 count-operand f n xs i x all one lt is before new =
     count f (chain_size n) (n - (i - 1)) xs i x all one lt is
     (chain_size-push n (map f (take i xs)) (f x) ∙ ap (λ k. both (chain_size n (map f (take i xs))) (deeper (n - (k - 1)) (f x))) (taken-length f xs i lt))
@@ -62,11 +63,11 @@ count-operand f n xs i x all one lt is before new =
 pub count-step : {X : Type 0} (f : X → StepSize) (xs : List X) (i : ℕ) (x : X) (all one : Measure) (own depth : ℕ) → i < length xs → x ≡ get_or xs i x →
     own ≡ (f x).statement → depth ≡ behind 1 (map f (take i xs)) →
     all ≡ counts.capped (run_size 1 (map f (take i xs))) → one ≡ counts.capped (f x).value →
-    counts.both all (counts.heavier own (counts.deeper depth one)) ≡ counts.capped (run_size 1 (map f (take (i + 1) xs)))
+    inner_counts.both all (inner_counts.heavier own (inner_counts.deeper depth one)) ≡ counts.capped (run_size 1 (map f (take (i + 1) xs)))
 count-step f xs i x all one own depth lt is own_is depth_is before new =
     let now = one_more f (run_size 1) xs i x lt is ∙ run_size-push 1 (map f (take i xs)) (f x) in
-    let below = ap₂ counts.deeper depth_is new ∙ capped-deeper _ (f x).value in
-    ap₂ counts.both before (ap₂ counts.heavier own_is below ∙ capped-heavier _ _) ∙ capped-both _ _ ∙ ap counts.capped (sym now)
+    let below = ap₂ inner_counts.deeper depth_is new ∙ capped-deeper _ (f x).value in
+    ap₂ inner_counts.both before (ap₂ inner_counts.heavier own_is below ∙ capped-heavier _ _) ∙ capped-both _ _ ∙ ap counts.capped (sym now)
 
 pub step-behind : {X : Type 0} (f : X → StepSize) (xs : List X) (i : ℕ) (x : X) (own depth : ℕ) → i < length xs → x ≡ get_or xs i x →
     own ≡ (f x).statement → depth ≡ behind 1 (map f (take i xs)) → depth + own ≡ behind 1 (map f (take (i + 1) xs))
@@ -75,7 +76,7 @@ step-behind f xs i x own depth lt is own_is depth_is =
 
 -- ---- whole designs
 
-pub count-node : (w : ℕ) (s : Size) → counts.heavier (counts.capped s).weight (counts.capped (size w 0)) ≡ counts.capped (size (w + s.weight) 0)
+pub count-node : (w : ℕ) (s : Size) → inner_counts.heavier (counts.capped s).weight (counts.capped (size w 0)) ≡ counts.capped (size (w + s.weight) 0)
 count-node w s = ap (λ v. counts.counted v 0) (heavier_by w s.weight 32769)
   where
     heavier_by : (a b m : ℕ) → min (min a m + min b m) m ≡ min (a + b) m
@@ -90,7 +91,7 @@ get_or-default xs i x y lt = sym (get_or-map (λ z. z) xs i x (get_or xs i x) lt
 
 -- counted sizes, in order, are counted as one size
 pub count-counted : (parts : List Size) (rules : List Measure) (i : ℕ) (all one : Measure) → rules ≡ map counts.capped parts → i < length rules → one ≡ get_or rules i one →
-    all ≡ counts.capped (side_by_side (take i parts)) → counts.both all one ≡ counts.capped (side_by_side (take (i + 1) parts))
+    all ≡ counts.capped (side_by_side (take i parts)) → inner_counts.both all one ≡ counts.capped (side_by_side (take (i + 1) parts))
 count-counted parts rules i all one e lt is before =
     let within : i < length parts = omega (arith, ap length e, length-map parts counts.capped) in
     let x : Size = get_or parts i (size 0 0) in

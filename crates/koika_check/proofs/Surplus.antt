@@ -4,8 +4,9 @@ use Rattle.std.specs.Option.{option_map}
 use Rattle.koika_syntax.specs.declared.tree.Choice.{Choice, out-Choice, fold_out-Choice}
 use Rattle.koika_syntax.specs.declared.tree.Name.{Name}
 use Rattle.koika_syntax.specs.declared.tree.Scheduler.{Scheduler, out-Scheduler, roll-Scheduler, roll-out-Scheduler, fold-roll-Scheduler}
-use Rattle.koika_check.specs.Checks.{choice_places, choice_step, places_if, places_of, scheduler_places, scheduler_step}
-use Rattle.koika_check.specs.Places.{or_further}
+use Rattle.koika_check.specs.Checks.{choice_step, places_if, places_of, scheduler_places, scheduler_step}
+use Rattle.koika_check.specs.inner.Checks.{choice_places}
+use Rattle.koika_check.specs.inner.Places.{or_further}
 
 abbrev pub last_places : Option (Box Choice Global) → Option (List ℕ)
 last_places last = option_map (λ (choice : Box Choice Global). choice_places choice.value) last

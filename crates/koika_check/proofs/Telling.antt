@@ -1,6 +1,7 @@
 -- What a call answers where the calls that it makes tell what outcomes say.
 use Rattle.std.proofs.Common.{◌≡◌, refl, sym, ◌∙◌, ap, subst, Ok, Err, ℕ, Option, None, Some, Bool, true, false, cond, nat_lt, [], ◌∷◌}
-use Rattle.koika_check.specs.Outcomes.{Condition, Gives, Fails, Outcome, Passes, Tells, ◌>>=◌, found, holds, smaller, unless, where_all}
+use Rattle.koika_check.specs.Outcomes.{Condition, Gives, Fails, Outcome, ◌>>=◌, found, holds, smaller, unless, where_all}
+use Rattle.koika_check.specs.inner.Outcomes.{Passes, Tells}
 use Rattle.koika_check.specs.declared.stop.Stop.{Stop}
 use Rattle.koika_check.specs.declared.stop.Stop.TheVariants as stops
 use Rattle.koika_check.specs.declared.stop.Wrong.{Wrong}

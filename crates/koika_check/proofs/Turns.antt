@@ -1,7 +1,8 @@
 -- Parts that are looked at one after another, as far as they were looked at.
 use Rattle.std.proofs.Common.{◌≡◌, ℕ, ◌+◌, ◌<◌, List, [], ◌∷◌, ◌++◌, length, map, take, drop, get_or, zero, suc, None, Some, Err, refl, ap, sym, ◌∙◌, subst, arith}
 use Rattle.std.proofs.lemmas.List.{drop_more, take-append-drop, take_more}
-use Rattle.koika_check.specs.Outcomes.{Ends, Condition, Fails, Gives, Outcome, Passes, Tells, ◌>>=◌, in_turn, one_by_one, unless}
+use Rattle.koika_check.specs.Outcomes.{Condition, Fails, Gives, Outcome, ◌>>=◌, in_turn, one_by_one, unless}
+use Rattle.koika_check.specs.inner.Outcomes.{Ends, Passes, Tells}
 use Rattle.koika_check.specs.declared.stop.Stop.{Stop}
 use Rattle.koika_check.specs.declared.stop.Stop.TheVariants as stops
 

@@ -5,7 +5,8 @@ use Rattle.koika_check.specs.Constructs.{Joined, Typing, chained, join, typing}
 use Rattle.koika_check.specs.Expressions.{Joining, Meaning, Run, Stepped, Stepping, block_from, chain_in, close, join_in, run}
 use Rattle.koika_check.specs.Outcomes.{Gives, one_by_one}
 use Rattle.koika_check.specs.Scopes.{Local, Scope}
-use Rattle.koika_check.specs.Typing.{Binds, HasType, IsType, Runs, StepHasType, StepsHaveType}
+use Rattle.koika_check.specs.Typing.{Binds, HasType, IsType, Runs, StepsHaveType}
+use Rattle.koika_check.specs.inner.Typing.{StepHasType}
 use Rattle.koika_check.specs.Typing as has
 use Rattle.koika_check.specs.declared.checked.Checked.{Checked}
 use Rattle.koika_check.specs.declared.typed.Step.{Step}

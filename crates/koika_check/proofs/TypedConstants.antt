@@ -12,7 +12,8 @@ use Rattle.koika_syntax.specs.declared.tree.Constant.TheOpen as constant
 use Rattle.koika_types.specs.declared.value.Value.TheOpen.{Value-F}
 use Rattle.koika_types.specs.declared.value.Value.TheVariants as value
 use Rattle.koika_check.specs.Composites.{Given, array_of, fields_of, member, struct_of}
-use Rattle.koika_check.specs.Constants.{FieldMeaning, Known, KnownField, Meaning, array_known, constant_field_of, constant_field_step, constant_of, constant_step, given, known_member, struct_known}
+use Rattle.koika_check.specs.Constants.{FieldMeaning, Known, KnownField, Meaning, array_known, constant_field_step, constant_of, constant_step, given, known_member, struct_known}
+use Rattle.koika_check.specs.inner.Constants.{constant_field_of}
 use Rattle.koika_check.specs.Outcomes.{Gives, ◌>>=◌, found, in_turn, wrong}
 use Rattle.koika_check.specs.Types.{array, bits, of_base, part, struct_named}
 use Rattle.koika_check.specs.Typing.{IsOf, IsType, Pairwise}

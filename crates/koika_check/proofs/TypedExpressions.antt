@@ -2,7 +2,8 @@
 use Rattle.std.proofs.Common.{◌≡◌, ℕ, ◌≤◌, inl, inr, Option, None, Some, IfSome, List, [], ◌∷◌, length, map, Vec, Box, Global, arith, refl, sym, subst, ◌∙◌}
 use Rattle.std.specs.List.{AllByRecursion}
 use Rattle.std.proofs.lemmas.List.{length-map}
-use Rattle.koika_syntax.specs.Grammar.{IsArmLayer, IsBlock, IsBlockLayer, IsExpression, IsExpressionLayer, IsFieldValueLayer, IsOperandLayer, IsStatementLayer}
+use Rattle.koika_syntax.specs.Grammar.{IsArmLayer, IsBlock, IsBlockLayer, IsExpressionLayer, IsFieldValueLayer, IsOperandLayer, IsStatementLayer}
+use Rattle.koika_syntax.specs.inner.Grammar.{IsExpression}
 use Rattle.koika_syntax.specs.declared.tree.Expression.{Expression, Expression-F, map-Expression, roll-Expression, every_held-Expression, every_here-Expression, out-roll-Expression, fold-roll-Expression, ind-Expression}
 use Rattle.koika_syntax.specs.declared.tree.Statement.{Statement, Statement-F, map-Statement, roll-Statement, every-Statement, every_held-Statement, out-roll-Statement, fold-roll-Statement}
 use Rattle.koika_syntax.specs.declared.tree.Arm.{Arm, Arm-F, map-Arm, roll-Arm, every-Arm, every_held-Arm, out-roll-Arm, fold-roll-Arm}
@@ -12,7 +13,8 @@ use Rattle.koika_syntax.specs.declared.tree.Operand.{Operand, Operand-F, map-Ope
 use Rattle.koika_syntax.specs.declared.tree.Expression.TheOpen as expression
 use Rattle.kw_base.specs.declared.fault_number.TheConstants.{UNKNOWN_NAME}
 use Rattle.koika_check.specs.Constructs.{ArmTyping, FieldTyping, Typing, call, comparison, conditional, extended, array_in, packed, postfix, struct_in, typing, unary, unpacked, updated, written}
-use Rattle.koika_check.specs.Expressions.{Armed, Fielded, Joining, Meaning, Stepped, Stepping, all_in, arm_in, arm_step, block_in, block_step, chain_in, expression_in, expression_step, field_value_in, field_value_step, operand_in, operand_step, otherwise_in, statement_in, statement_step}
+use Rattle.koika_check.specs.Expressions.{Armed, Fielded, Joining, Meaning, Stepped, Stepping, all_in, arm_step, block_in, block_step, chain_in, expression_step, field_value_step, operand_step, otherwise_in, statement_step}
+use Rattle.koika_check.specs.inner.Expressions.{arm_in, expression_in, field_value_in, operand_in, statement_in}
 use Rattle.koika_check.specs.Outcomes.{Gives, Outcome, ◌>>=◌, found, wrong}
 use Rattle.koika_check.specs.Scopes.{Local, Scope, called, register}
 use Rattle.koika_check.specs.Types.{struct_named, type_of, wrong_type}

@@ -11,13 +11,16 @@ use Rattle.koika_syntax.specs.declared.operator.BinaryOperator.{BinaryOperator}
 use Rattle.koika_syntax.specs.declared.operator.BinaryOperator.TheVariants as binary
 use Rattle.koika_types.proofs.Sizes.{sum_by-map}
 use Rattle.typed_core.specs.Valid.{IsHost, IsTable, IsWidth}
-use Rattle.koika_check.specs.BitWeights.{Gauge, Gauging, applied, body_of, bound_width, chain, chained, first_width, gauge, gauge_of, gauge_of_step, host_width, input_width, joined, more, operation_width, part_width, register_width, selected_width, square, squares_in, steps_in_turn, table_width, width_after, width_in_all}
+use Rattle.koika_check.specs.BitWeights.{Gauge, Gauging, applied, body_of, bound_width, chain, chained, first_width, gauge, gauge_of, host_width, input_width, joined, more, operation_width, part_width, register_width, selected_width, square, squares_in, steps_in_turn, table_width, width_after, width_in_all}
+use Rattle.koika_check.specs.inner.BitWeights.{gauge_of_step}
 use Rattle.koika_check.specs.BitWeights as weights
-use Rattle.koika_check.specs.Gauges.{all_of, steps_of}
+use Rattle.koika_check.specs.inner.Gauges.{all_of, steps_of}
 use Rattle.koika_check.specs.Sizes as sizes
-use Rattle.koika_check.specs.Sizes.{Size, StepSize, operation_size, size, size_of, size_of_step}
+use Rattle.koika_check.specs.Sizes.{Size, StepSize, operation_size, size, size_of}
+use Rattle.koika_check.specs.inner.Sizes.{size_of_step}
 use Rattle.koika_check.specs.Types.{array, bits, of_base, width_of}
-use Rattle.koika_check.specs.Typing.{Applies, AreArms, Binds, Chains, Doing, Gives, HasType, IsInput, IsRegister, IsType, IsTypedDesign, Operates, Pairwise, PartHasType, Runs, StepDoes, StepHasType, StepsHaveType, Takes, TakesAll}
+use Rattle.koika_check.specs.Typing.{Applies, AreArms, Binds, Chains, Doing, Gives, HasType, IsInput, IsRegister, IsType, IsTypedDesign, Operates, Pairwise, PartHasType, Runs, StepDoes, StepsHaveType, Takes, TakesAll}
+use Rattle.koika_check.specs.inner.Typing.{StepHasType}
 use Rattle.koika_check.specs.declared.checked.Checked.{Checked}
 use Rattle.koika_check.specs.declared.checked.Field.{Field}
 use Rattle.koika_check.specs.declared.checked.Function.{Function}

@@ -18,7 +18,8 @@ use Rattle.koika_types.specs.declared.value.Value.TheViews.{roll-Value}
 use Rattle.typed_core.specs.Valid.{IsHost, IsTable, IsWidth}
 use Rattle.koika_check.specs.Composites.{fields_by, fields_of}
 use Rattle.koika_check.specs.Types.{all_lengths, array, base_width, bits, of_base, width_of}
-use Rattle.koika_check.specs.Typing.{Applies, AreArms, Binds, Chains, Doing, Gives, HasType, IsInput, IsOf, IsRegister, IsType, Operates, Pairwise, PartHasType, PartIsOf, Replaces, Runs, StepDoes, StepHasType, StepsHaveType, Takes, TakesAll, lowest_of}
+use Rattle.koika_check.specs.Typing.{Applies, AreArms, Binds, Chains, Doing, Gives, HasType, IsInput, IsOf, IsRegister, IsType, Operates, Pairwise, PartHasType, PartIsOf, Replaces, Runs, StepDoes, StepsHaveType, Takes, TakesAll, lowest_of}
+use Rattle.koika_check.specs.inner.Typing.{StepHasType}
 use Rattle.koika_check.specs.declared.checked.Checked.{Checked}
 use Rattle.koika_check.specs.declared.checked.Field.{Field}
 use Rattle.koika_check.specs.declared.checked.Host.{Host}

@@ -16,9 +16,11 @@ use Rattle.typed_core.specs.Valid.{AreNodes, IsContinuation, IsNode, IsPath, Tri
 use Rattle.typed_core.specs.declared.design.Next.{Next}
 use Rattle.typed_core.specs.declared.design.Next.TheVariants as next
 use Rattle.typed_core.specs.declared.design.Node.{Node}
-use Rattle.koika_check.specs.Checks.{choice_places, places_if, places_of, scheduler_places}
+use Rattle.koika_check.specs.Checks.{places_if, places_of, scheduler_places}
+use Rattle.koika_check.specs.inner.Checks.{choice_places}
 use Rattle.koika_check.specs.Outcomes.{Gives, found, holds, where_all, wrong}
-use Rattle.koika_check.specs.Schedule.{at_the_end, choice_nodes, first_of, in_a_row, in_front, is_on, longer, path_behind, scheduler_nodes, tried}
+use Rattle.koika_check.specs.Schedule.{at_the_end, first_of, in_a_row, in_front, is_on, longer, path_behind, scheduler_nodes, tried}
+use Rattle.koika_check.specs.inner.Schedule.{choice_nodes}
 use Rattle.koika_check.specs.Scopes.{rule_named}
 use Rattle.koika_check.specs.declared.checked.Checked.{Checked}
 use Rattle.koika_check.specs.declared.checked.Rule.{Rule}

@@ -11,7 +11,8 @@ use Rattle.typed_core.specs.declared.design.Node.{Node}
 use Rattle.typed_core.specs.declared.limits.TheConstants.{MAX_INPUTS, MAX_NODES, MAX_REGISTERS, MAX_RULES}
 use Rattle.koika_check.specs.Checks.{checked, limits, scheduled, within_limits}
 use Rattle.koika_check.specs.Declarations.{declare, nothing}
-use Rattle.koika_check.specs.Outcomes.{Answers, Gives, one_by_one}
+use Rattle.koika_check.specs.Outcomes.{Gives, one_by_one}
+use Rattle.koika_check.specs.inner.Outcomes.{Answers}
 use Rattle.koika_check.specs.Schedule.{scheduler_nodes}
 use Rattle.koika_check.specs.Sizes.{Size, design_size}
 use Rattle.koika_check.specs.Typing.{IsEnum, IsTypedDesign}

@@ -8,7 +8,8 @@ use Rattle.koika_types.specs.declared.value.Value.TheFolds.{map-Value, rec-roll-
 use Rattle.koika_types.specs.declared.value.Value.TheViews.{roll-Value}
 use Rattle.koika_check.specs.Composites.{fields_of}
 use Rattle.koika_check.specs.Types.{array, bits, of_base}
-use Rattle.koika_check.specs.Typing.{Applies, AreArms, Binds, Doing, Gives, HasType, IsEnd, IsOf, Pairwise, PartHasType, PartIsOf, Runs, StepDoes, StepHasType, StepsHaveType}
+use Rattle.koika_check.specs.Typing.{Applies, AreArms, Binds, Doing, Gives, HasType, IsEnd, IsOf, Pairwise, PartHasType, PartIsOf, Runs, StepDoes, StepsHaveType}
+use Rattle.koika_check.specs.inner.Typing.{StepHasType}
 use Rattle.koika_check.specs.declared.checked.Checked.{Checked}
 use Rattle.koika_check.specs.declared.checked.Field.{Field}
 use Rattle.koika_check.specs.declared.typed.BaseType.TheVariants as base

@@ -10,7 +10,8 @@ use Rattle.kw_bits.specs.declared.host.HostSpec.{HostSpec}
 use Rattle.typed_core.specs.declared.design.Node.{Node}
 use Rattle.koika_check.specs.Checks.{checked, counts_within, limits, scheduled, size_within, within_limits}
 use Rattle.koika_check.specs.Declarations.{declare, nothing}
-use Rattle.koika_check.specs.Outcomes.{Answers, Condition, Ends, Fails, Gives, Outcome, Passes, ◌>>=◌, earlier, holds, one_by_one, unless, wrong}
+use Rattle.koika_check.specs.Outcomes.{Condition, Fails, Gives, Outcome, ◌>>=◌, earlier, holds, one_by_one, unless, wrong}
+use Rattle.koika_check.specs.inner.Outcomes.{Answers, Ends, Passes}
 use Rattle.koika_check.specs.Schedule.{scheduler_nodes}
 use Rattle.koika_check.specs.Sizes.{Size}
 use Rattle.koika_check.specs.declared.checked.Checked.{Checked}

@@ -1,6 +1,6 @@
 -- The bit weight of a design, which tells how many gates its circuit may have: a measure of its weight, of its products and
 -- of its scheduler's registers. A call counts what its function's body counts, each time. This project's own measure.
-use Rattle.std.specs.Prelude.{ℕ, ◌+◌, ◌-◌, ◌*◌, map, reverse, sum_by, List, [], ◌∷◌, ◌++◌, length, Option, Some, None, slice_get}
+use Rattle.std.specs.Prelude.{ℕ, ◌+◌, ◌-◌, ◌*◌, map, reverse, sum_by, List, ◌∷◌, ◌++◌, length, Option, Some, None, slice_get}
 use Rattle.kw_bits.specs.Host as host
 use Rattle.koika_syntax.specs.declared.operator.BinaryOperator.{BinaryOperator}
 use Rattle.koika_syntax.specs.declared.operator.BinaryOperator.TheVariants as binary
@@ -20,7 +20,7 @@ use Rattle.koika_check.specs.declared.typed.Operation.{Operation}
 use Rattle.koika_check.specs.declared.typed.Operation.TheVariants as operation
 use Rattle.koika_check.specs.declared.typed.Selection.{Selection}
 use Rattle.koika_check.specs.declared.typed.Selection.TheVariants as selection
-use Rattle.koika_check.specs.declared.typed.Step.{Step, Step-F, fold-Step}
+use Rattle.koika_check.specs.declared.typed.Step.{Step, Step-F}
 use Rattle.koika_check.specs.declared.typed.Step.TheOpen as typed
 use Rattle.koika_check.specs.declared.typed.Typed.{Typed, Typed-F, fold-Typed}
 
@@ -29,6 +29,7 @@ pub record Gauge : Type 0 where
   pub width : ℕ
   pub squares : ℕ
 
+-- a width and the squares of multipliers
 abbrev pub gauge : (width squares : ℕ) → Gauge
 gauge width squares = record { width = width; squares = squares }
 
@@ -36,12 +37,15 @@ gauge width squares = record { width = width; squares = squares }
 abbrev pub Gauging : Type 0
 Gauging = List ℕ → Gauge
 
+-- the squares in some parts
 abbrev pub squares_in : List Gauge → ℕ
 squares_in = sum_by (λ (g : Gauge). g.squares)
 
+-- the widths of some parts, added up
 abbrev pub width_in_all : List Gauge → ℕ
 width_in_all = sum_by (λ (g : Gauge). g.width)
 
+-- the width of the first part
 abbrev pub first_width : List Gauge → ℕ
 first_width [] = 0
 first_width (g ∷ parts) = g.width
@@ -59,6 +63,7 @@ width_after binary.GreaterOrEqual left right = 1
 width_after binary.Concat left right = left + right
 width_after o left right = left
 
+-- what an operator adds: a multiplier its width squared
 abbrev pub square : BinaryOperator → (width : ℕ) → ℕ
 square binary.Multiply width = width * width
 square o width = 0
@@ -67,10 +72,12 @@ square o width = 0
 abbrev pub joined : BinaryOperator → (left right : Gauge) → Gauge
 joined o left right = gauge (width_after o left.width right.width) (left.squares + right.squares + square o left.width)
 
+-- a chain of operators from the left, with its width and its squares
 abbrev pub chained : List BinaryOperator → Gauge → List Gauge → Gauge
 chained (o ∷ operators) left (right ∷ rest) = chained operators (joined o left right) rest
 chained operators left rest = left
 
+-- a chain of operators over its operands
 abbrev pub chain : List BinaryOperator → List Gauge → Gauge
 chain operators [] = gauge 0 0
 chain operators (first ∷ rest) = chained operators first rest
@@ -81,22 +88,27 @@ part_width (selection.Field number lowest width) = width
 part_width (selection.Item index width) = width
 part_width (selection.Bits high low) = high - low + 1
 
+-- the width of a part of a value
 abbrev pub selected_width : (whole : ℕ) → List Selection → ℕ
 selected_width whole [] = whole
 selected_width whole (s ∷ rest) = selected_width (part_width s) rest
 
+-- the output width of a table
 abbrev pub table_width : Option Table → ℕ
 table_width None = 0
 table_width (Some t) = t.spec.out_width
 
+-- the output width of a host function
 abbrev pub host_width : Option Host → ℕ
 host_width None = 0
 host_width (Some h) = host.out_width h.spec.kind h.spec.in_width
 
+-- the width of a register
 abbrev pub register_width : Option Register → ℕ
 register_width None = 0
 register_width (Some r) = r.width
 
+-- the width of an input
 abbrev pub input_width : Option Input → ℕ
 input_width None = 0
 input_width (Some i) = i.width
@@ -121,6 +133,7 @@ pub record Bodies : Type 0 where
   pub design : Checked
   pub bodies : List Gauge
 
+-- what a function's body has
 abbrev pub body_of : Option Gauge → Gauge
 body_of None = gauge 0 0
 body_of (Some body) = body
@@ -133,13 +146,16 @@ applied b o parts = gauge (operation_width b.design o (first_width parts) (width
 
 -- ---- expressions
 
+-- the width of a bound value
 abbrev pub bound_width : Option ℕ → ℕ
 bound_width None = 0
 bound_width (Some width) = width
 
+-- what parts have, where names are bound to these widths
 abbrev pub all_with : List ℕ → List Gauging → List Gauge
 all_with names = map (λ (part : Gauging). part names)
 
+-- more squares
 abbrev pub more : (squares : ℕ) → Gauge → Gauge
 more squares g = gauge g.width (squares + g.squares)
 
@@ -147,10 +163,12 @@ more squares g = gauge g.width (squares + g.squares)
 abbrev pub Stepped : Type 0
 Stepped = Gauging → Gauging
 
+-- the statements of a block, one after another
 abbrev pub steps_in_turn : List Stepped → Gauging
 steps_in_turn [] names = gauge 0 0
 steps_in_turn (step ∷ rest) names = step (steps_in_turn rest) names
 
+-- a statement, and then what follows it
 abbrev pub step_step : Step-F Stepped Gauging → Stepped
 step_step (typed.Let value) after names = let bound : Gauge = value names in more bound.squares (after (bound.width ∷ names))
 step_step (typed.Do value) after names = more (value names).squares (after names)
@@ -160,6 +178,7 @@ step_step (typed.Give value) after names = value names
 abbrev pub chosen : (conditions bodies : List Gauge) → Gauge
 chosen conditions bodies = gauge (first_width bodies) (squares_in conditions + squares_in bodies)
 
+-- what an expression has, by what its parts have
 abbrev pub typed_step : Bodies → Typed-F Stepped Gauging → Gauging
 typed_step b (typed.Constant value) names = gauge (packed value).width 0
 typed_step b (typed.Local index) names = gauge (bound_width (slice_get names index)) 0
@@ -168,11 +187,9 @@ typed_step b (typed.Apply o operands) names = applied b o (all_with names operan
 typed_step b (typed.If conditions bodies) names = chosen (all_with names conditions) (all_with names bodies)
 typed_step b (typed.Block steps) names = steps_in_turn steps names
 
+-- what an expression has
 unfoldable pub gauge_of : Bodies → Typed → Gauging
 gauge_of b = fold-Typed Stepped Gauging step_step (typed_step b)
-
-unfoldable pub gauge_of_step : Bodies → Step → Stepped
-gauge_of_step b = fold-Step Stepped Gauging step_step (typed_step b)
 
 -- ---- designs
 
@@ -180,6 +197,7 @@ gauge_of_step b = fold-Step Stepped Gauging step_step (typed_step b)
 abbrev pub function_body : Checked → (before : List Gauge) → Function → Gauge
 function_body d before f = gauge_of (record { design = d; bodies = before }) f.body (reverse (map (width_of d) f.parameters))
 
+-- what the bodies of functions have, each of which calls those before it
 abbrev pub bodies_after : Checked → List Gauge → List Function → List Gauge
 bodies_after d before [] = before
 bodies_after d before (f ∷ functions) = bodies_after d (before ++ function_body d before f ∷ []) functions
@@ -188,10 +206,12 @@ bodies_after d before (f ∷ functions) = bodies_after d (before ++ function_bod
 abbrev pub rule_squares : Checked → Rule → ℕ
 rule_squares d r = (gauge_of (record { design = d; bodies = bodies_after d [] d.functions }) r.body []).squares
 
+-- the squares of a rule, if it is there
 abbrev pub squares_if : Checked → Option Rule → ℕ
 squares_if d None = 0
 squares_if d (Some r) = rule_squares d r
 
+-- the squares of a node's rule
 abbrev pub node_squares : Checked → Node → ℕ
 node_squares d n = squares_if d (slice_get d.rules n.rule)
 
@@ -199,6 +219,7 @@ node_squares d n = squares_if d (slice_get d.rules n.rule)
 abbrev pub squares_of : Checked → ℕ
 squares_of d = sum_by (rule_squares d) d.rules + sum_by (node_squares d) d.nodes
 
+-- how many bits all registers have
 abbrev pub register_bits : Checked → ℕ
 register_bits d = sum_by (λ (r : Register). r.width) d.registers
 

@@ -17,13 +17,16 @@ use Rattle.koika_check.specs.declared.typed.ValueType.{ValueType}
 
 -- ---- members
 
+-- the members of an enum, if there is one
 abbrev pub members_by : Option EnumDecl → List Member
 members_by None = []
 members_by (Some e) = e.members
 
+-- the members of the enum of a number
 abbrev pub members_of : Checked → ℕ → List Member
 members_of d number = members_by (slice_get d.enums number)
 
+-- the bits of the member at an index
 abbrev pub bits_by_place : List Member → Option ℕ → Option BitVector
 bits_by_place members None = None
 bits_by_place members (Some place) = bits_by_member (slice_get members place)
@@ -49,10 +52,12 @@ member d of m = found (enum_named d of.text) (wrong UNKNOWN_NAME of.place) >>= �
 
 -- ---- structs
 
+-- the fields of a struct, if there is one
 abbrev pub fields_by : Option Struct → List Field
 fields_by None = []
 fields_by (Some s) = s.fields
 
+-- the fields of the struct of a number
 abbrev pub fields_of : Checked → ℕ → List Field
 fields_of d number = fields_by (slice_get d.structs number)
 
@@ -60,6 +65,7 @@ fields_of d number = fields_by (slice_get d.structs number)
 abbrev pub field_named : List Field → List ℕ → Option ℕ
 field_named fields = number_of (map (λ (f : Field). f.name) fields)
 
+-- the type of the field at an index
 abbrev pub type_at : List Field → Option ℕ → Option ValueType
 type_at fields None = None
 type_at fields (Some number) = type_by_field (slice_get fields number)
@@ -85,6 +91,7 @@ abbrev pub agrees_if : Option ValueType → Part → Condition
 agrees_if None part = None
 agrees_if (Some of) part = agrees (Some of) part
 
+-- a given field has the type of the struct's field of its name
 abbrev pub fits_field : List Field → Given → Condition
 fits_field fields g = agrees_if (type_at fields (field_named fields g.name.text)) g.part
 
@@ -111,9 +118,11 @@ array_by d place (Some item) parts =
     ∷ [])
     (part (Some (array (length parts) item)) place)
 
+-- the type of the first of some parts
 abbrev pub type_of_first : List Part → Option ValueType
 type_of_first [] = None
 type_of_first (first ∷ rest) = first.of
 
+-- the type of an array of these parts, which are all of the first one's type
 abbrev pub array_of : Checked → (place : ℕ) → List Part → Outcome Part
 array_of d place parts = array_by d place (type_of_first parts) parts

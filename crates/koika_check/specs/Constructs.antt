@@ -47,12 +47,15 @@ pub record FieldTyping : Type 0 where
   pub name : Name
   pub typing : Typing
 
+-- the type of a part and its typed form
 abbrev pub typing : Option ValueType → (place : ℕ) → Typed → Typing
 typing of place t = record { part = part of place; typed = t }
 
+-- the types of some parts
 abbrev pub parts_of : List Typing → List Part
 parts_of = map (λ (t : Typing). t.part)
 
+-- the typed forms of some parts
 abbrev pub typed_of : List Typing → List Typed
 typed_of = map (λ (t : Typing). t.typed)
 
@@ -90,6 +93,7 @@ abbrev pub place_of_prefixes : List Prefix → ℕ → ℕ
 place_of_prefixes [] place = place
 place_of_prefixes (prefix ∷ _) place = prefix.place
 
+-- what prefix operators before an operand evaluate to
 abbrev pub unary : List Prefix → Typing → Outcome Typing
 unary prefixes inner =
     where_all (is_bits inner.part ∷ [])
@@ -106,6 +110,7 @@ abbrev pub join : BinaryOperator → Typing → Joined → Outcome Joined
 join operator right before = operated operator before.left right.part >>= λ of.
     Gives (record { left = part of before.left.place; operators = before.operators ++ operator ∷ []; operands = before.operands ++ right ∷ [] })
 
+-- what a chain of operators of one level evaluates to
 abbrev pub chained : Joined → Typing
 chained all = applied all.left.of all.left.place (operation.Chain all.operators) all.operands
 
@@ -114,6 +119,7 @@ pub record Taken : Type 0 where
   pub whole : Part
   pub selections : List Selection
 
+-- one suffix more taken of a value
 abbrev pub take_part : Checked → Suffix → Taken → Outcome Taken
 take_part d suffix before = select d before.whole suffix >>= λ one.
     Gives (record { whole = part (Some one.of) before.whole.place; selections = before.selections ++ one.selection ∷ [] })
@@ -151,6 +157,7 @@ abbrev pub replaced : Checked → WrittenPart → (old new : Part) → Outcome S
 replaced d (parts.Field n) old new = replace_field d old n new
 replaced d (parts.Index i) old new = replace_item d old i new
 
+-- what an update of a part of a value evaluates to
 abbrev pub updated : Checked → (place : ℕ) → WrittenPart → (old new : Typing) → Outcome Typing
 updated d place part old new = replaced d part old.part new.part >>= λ one.
     Gives (applied old.part.of place (operation.Update one.selection) (old ∷ new ∷ []))
@@ -166,6 +173,7 @@ written d place port number new =
 abbrev pub given_of : FieldTyping → Given
 given_of f = record { name = f.name; part = f.typing.part }
 
+-- what a struct's fields evaluate to, given in any order
 abbrev pub struct_in : Checked → (number place close : ℕ) → List FieldTyping → Outcome Typing
 struct_in d number place close fields = struct_of d number place (map given_of fields) close >>= λ whole.
     Gives (applied whole.of whole.place (operation.Struct number) (map (λ (f : FieldTyping). f.typing) fields))
@@ -196,6 +204,7 @@ type_of_bodies arms [] = None
 type_of_bodies [] (body ∷ _) = body.part.of
 type_of_bodies (first ∷ _) (body ∷ _) = first.part.of
 
+-- the place of the first arm's value, or of the last block's
 abbrev pub place_of_arms : List ArmTyping → List Typing → ℕ
 place_of_arms [] [] = 0
 place_of_arms [] (body ∷ _) = body.part.place

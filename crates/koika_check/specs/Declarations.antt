@@ -57,9 +57,11 @@ other_name names n = where_all (holds (not (is_some (number_of names n.text))) (
 
 -- ---- enums and structs
 
+-- the names of members
 abbrev pub names_of_members : List Member → List (List ℕ)
 names_of_members = map (λ (m : Member). m.name)
 
+-- members and one more, of another name
 abbrev pub add_member : WrittenMember → List Member → Outcome (List Member)
 add_member m members = other_name (names_of_members members) m.name >>= λ name.
     Gives (members ++ record { name = name; bits = m.value.bits } ∷ [])
@@ -77,18 +79,23 @@ enum_typed width members name declared =
     ∷ [])
     (record { name = name; width = width.number.value; members = declared })
 
+-- an enum of these members
 abbrev pub enum_of : Width → List WrittenMember → List ℕ → Outcome EnumDecl
 enum_of width members name = one_by_one add_member members [] >>= enum_typed width members name
 
+-- an enum whose name is new
 abbrev pub enum_with : Checked → Name → Width → List WrittenMember → Outcome EnumDecl
 enum_with d n width members = new_name d n >>= enum_of width members
 
+-- the names of fields
 abbrev pub names_of_fields : List Field → List (List ℕ)
 names_of_fields = map (λ (f : Field). f.name)
 
+-- fields and one more, of this type
 abbrev pub field_typed : List Field → List ℕ → ValueType → Outcome (List Field)
 field_typed fields name of = Gives (fields ++ record { name = name; of = of } ∷ [])
 
+-- fields and one more, of another name
 abbrev pub add_field : Checked → WrittenField → List Field → Outcome (List Field)
 add_field d f fields = other_name (names_of_fields fields) f.name >>= λ name. type_of d f.of >>= field_typed fields name
 
@@ -96,9 +103,11 @@ add_field d f fields = other_name (names_of_fields fields) f.name >>= λ name. t
 abbrev pub struct_typed : Checked → List ℕ → List Field → Outcome Struct
 struct_typed d name declared = Gives (record { name = name; fields = declared; width = min (sum_by (λ (f : Field). width_of d f.of) declared) 129 })
 
+-- a struct of these fields
 abbrev pub struct_of : Checked → List WrittenField → List ℕ → Outcome Struct
 struct_of d fields name = one_by_one (add_field d) fields [] >>= struct_typed d name
 
+-- a struct whose name is new
 abbrev pub struct_with : Checked → Name → List WrittenField → Outcome Struct
 struct_with d n fields = new_name d n >>= struct_of d fields
 
@@ -108,21 +117,27 @@ struct_with d n fields = new_name d n >>= struct_of d fields
 abbrev pub register_known : Checked → List ℕ → ValueType → Known → Outcome Register
 register_known d name of known = where_all (agrees (Some of) known.part ∷ []) (record { name = name; of = of; width = width_of d of; first = known.value })
 
+-- a register of this type, with its first value
 abbrev pub register_typed : Checked → Constant → List ℕ → ValueType → Outcome Register
 register_typed d first name of = constant_of first d >>= register_known d name of
 
+-- a register of the type that is written
 abbrev pub register_of : Checked → TypeExpression → Constant → List ℕ → Outcome Register
 register_of d written first name = type_of d written >>= register_typed d first name
 
+-- a register whose name is new
 abbrev pub register_with : Checked → Name → TypeExpression → Constant → Outcome Register
 register_with d n written first = new_name d n >>= register_of d written first
 
+-- an input of this type
 abbrev pub input_typed : Checked → List ℕ → ValueType → Outcome Input
 input_typed d name of = Gives (record { name = name; of = of; width = width_of d of })
 
+-- an input of the type that is written
 abbrev pub input_of : Checked → TypeExpression → List ℕ → Outcome Input
 input_of d written name = type_of d written >>= input_typed d name
 
+-- an input whose name is new
 abbrev pub input_with : Checked → Name → TypeExpression → Outcome Input
 input_with d n written = new_name d n >>= input_of d written
 
@@ -138,6 +153,7 @@ table_conditions n input output entries =
     ∷ holds (nat_eq (length entries) (2 ^ input.number.value)) (wrong WRONG_ENTRY_COUNT n.place)
     ∷ []
 
+-- a table of these entries
 abbrev pub table_of : Name → (input output : Width) → List Literal → List ℕ → Outcome Table
 table_of n input output entries name =
     where_all (table_conditions n input output entries)
@@ -146,6 +162,7 @@ table_of n input output entries name =
       spec = record { in_width = input.number.value; out_width = output.number.value; entries = map (λ (l : Literal). l.bits) entries };
     })
 
+-- a table whose name is new
 abbrev pub table_with : Checked → Name → (input output : Width) → List Literal → Outcome Table
 table_with d n input output entries = new_name d n >>= table_of n input output entries
 
@@ -170,6 +187,7 @@ host_of hosts n input output name =
     found (find (is_host name input.number.value output.number.value) hosts) (wrong UNKNOWN_HOST_FUNCTION n.place) >>= λ spec.
     Gives (record { name = name; spec = spec })
 
+-- a host function whose name is new, and which is offered
 abbrev pub host_with : List HostSpec → Checked → Name → (input output : Width) → Outcome Host
 host_with hosts d n input output = new_name d n >>= host_of hosts n input output
 
@@ -179,14 +197,17 @@ host_with hosts d n input output = new_name d n >>= host_of hosts n input output
 abbrev pub names_of_locals : List Local → List (List ℕ)
 names_of_locals = map (λ (l : Local). l.name)
 
+-- parameters and one more, of another name
 abbrev pub add_parameter : Checked → WrittenField → List Local → Outcome (List Local)
 add_parameter d f parameters = other_name (names_of_locals parameters) f.name >>= λ name.
     type_of d f.of >>= λ of. Gives (record { name = name; of = of } ∷ parameters)
 
+-- the types of parameters, the first one first
 abbrev pub types_in_order : List Local → List ValueType
 types_in_order [] = []
 types_in_order (l ∷ outer) = types_in_order outer ++ l.of ∷ []
 
+-- the type that a function gives, if it gives one
 abbrev pub result_of : Checked → Option TypeExpression → Outcome (Option ValueType)
 result_of d None = Gives None
 result_of d (Some written) = type_of d written >>= λ of. Gives (Some of)
@@ -196,15 +217,19 @@ abbrev pub function_typed : List ℕ → List Local → Option ValueType → Typ
 function_typed name locals gives body =
     where_all (agrees gives body.part ∷ []) (record { name = name; parameters = types_in_order locals; result = gives; body = body.typed })
 
+-- a function of this body, which has the type that it gives
 abbrev pub function_body : Checked → Block → List ℕ → List Local → Option ValueType → Outcome Function
 function_body d body name locals gives = block_in body (record { design = d; locals = locals }) >>= function_typed name locals gives
 
+-- a function with the result that is written
 abbrev pub function_result : Checked → Option TypeExpression → Block → List ℕ → List Local → Outcome Function
 function_result d written body name locals = result_of d written >>= function_body d body name locals
 
+-- a function with these parameters
 abbrev pub function_of : Checked → List WrittenField → Option TypeExpression → Block → List ℕ → Outcome Function
 function_of d parameters written body name = one_by_one (add_parameter d) parameters [] >>= function_result d written body name
 
+-- a function whose name is new
 abbrev pub function_with : Checked → Name → List WrittenField → Option TypeExpression → Block → Outcome Function
 function_with d n parameters written body = new_name d n >>= function_of d parameters written body
 
@@ -212,9 +237,11 @@ function_with d n parameters written body = new_name d n >>= function_of d param
 abbrev pub rule_typed : List ℕ → Typing → Outcome Rule
 rule_typed name body = where_all (agrees None body.part ∷ []) (record { name = name; body = body.typed })
 
+-- a rule of this body
 abbrev pub rule_of : Checked → Block → List ℕ → Outcome Rule
 rule_of d body name = block_in body (record { design = d; locals = [] }) >>= rule_typed name
 
+-- a rule whose name is new
 abbrev pub rule_with : Checked → Name → Block → Outcome Rule
 rule_with d n body = new_name d n >>= rule_of d body
 
@@ -222,6 +249,7 @@ rule_with d n body = new_name d n >>= rule_of d body
 abbrev pub assert_of : Checked → Name → ℕ → Outcome ℕ
 assert_of d n rule = where_all (holds (not (list_any (nat_eq rule) d.asserts)) (wrong REPEATED_NAME n.place) ∷ []) rule
 
+-- the rule that is marked, which has to be there
 abbrev pub assert_with : Checked → Name → Outcome ℕ
 assert_with d n = found (rule_named d n.text) (wrong UNKNOWN_NAME n.place) >>= assert_of d n
 

@@ -1,16 +1,16 @@
 -- What an expression evaluates to where names stand for what a scope says: its type, and the expression with its names
 -- resolved, or its first fault. One case for each construct: its parts from left to right, and its own conditions after
 -- them. This project's own rules, after the typing of Kôika (Bourgeat et al., PLDI 2020).
-use Rattle.std.specs.Prelude.{ℕ, List, [], ◌∷◌, ◌++◌, Option, Some, None}
+use Rattle.std.specs.Prelude.{ℕ, List, ◌∷◌, ◌++◌, Option, Some, None}
 use Rattle.kw_base.specs.declared.fault_number.TheConstants.{UNKNOWN_NAME}
 use Rattle.koika_syntax.specs.declared.operator.BinaryOperator.{BinaryOperator}
-use Rattle.koika_syntax.specs.declared.tree.Arm.{Arm, Arm-F, fold-Arm}
+use Rattle.koika_syntax.specs.declared.tree.Arm.{Arm, Arm-F}
 use Rattle.koika_syntax.specs.declared.tree.Block.{Block, Block-F, fold-Block}
-use Rattle.koika_syntax.specs.declared.tree.Expression.{Expression, Expression-F, fold-Expression}
+use Rattle.koika_syntax.specs.declared.tree.Expression.{Expression, Expression-F}
 use Rattle.koika_syntax.specs.declared.tree.Expression.TheOpen as expression
-use Rattle.koika_syntax.specs.declared.tree.FieldValue.{FieldValue, FieldValue-F, fold-FieldValue}
-use Rattle.koika_syntax.specs.declared.tree.Operand.{Operand, Operand-F, fold-Operand}
-use Rattle.koika_syntax.specs.declared.tree.Statement.{Statement, Statement-F, fold-Statement}
+use Rattle.koika_syntax.specs.declared.tree.FieldValue.{FieldValue, FieldValue-F}
+use Rattle.koika_syntax.specs.declared.tree.Operand.{Operand, Operand-F}
+use Rattle.koika_syntax.specs.declared.tree.Statement.{Statement, Statement-F}
 use Rattle.koika_check.specs.Outcomes.{Outcome, ◌>>=◌, Gives, in_turn, one_by_one, found, wrong}
 use Rattle.koika_check.specs.Types.{struct_named, type_of, wrong_type}
 use Rattle.koika_check.specs.Constructs.{ArmTyping, FieldTyping, Joined, Typing, abort_at, array_in, call, chained, comparison, conditional, extended, join, literal, member_in, named, packed, postfix, read_in, struct_in, typing, unary, unpacked, updated, written}
@@ -30,12 +30,15 @@ pub record Stepping : Type 0 where
 abbrev pub Meaning : Type 0
 Meaning = Scope → Outcome Typing
 
+-- what a statement evaluates to in a scope
 abbrev pub Stepped : Type 0
 Stepped = Scope → Outcome Stepping
 
+-- what an arm of an `if` evaluates to in a scope
 abbrev pub Armed : Type 0
 Armed = Scope → Outcome ArmTyping
 
+-- what a field's value evaluates to in a scope
 abbrev pub Fielded : Type 0
 Fielded = Scope → Outcome FieldTyping
 
@@ -57,6 +60,7 @@ held (Some part) inside = Some (inside part)
 abbrev pub join_in : Scope → Joining → Joined → Outcome Joined
 join_in scope next before = next.operand scope >>= λ right. join next.operator right before
 
+-- what a chain of operands evaluates to in a scope
 abbrev pub chain_in : Scope → List Joining → Typing → Outcome Typing
 chain_in scope rest first = one_by_one (join_in scope) rest (record { left = first.part; operators = []; operands = first ∷ [] }) >>= λ all. Gives (chained all)
 
@@ -67,6 +71,7 @@ pub record Run : Type 0 where
   pub steps : List Step
   pub behind : Scope
 
+-- one statement more of a block
 abbrev pub run : Stepped → Run → Outcome Run
 run statement before = statement before.behind >>= λ one. Gives (record { steps = before.steps ++ one.step ∷ []; behind = one.behind })
 
@@ -76,15 +81,18 @@ close place None all = Gives (typing None place (typed.Block all.steps))
 close place (Some last) all = last all.behind >>= λ value.
     Gives (typing value.part.of place (typed.Block (all.steps ++ step.Give value.typed ∷ [])))
 
+-- what a block evaluates to: its statements in turn, and then its value
 abbrev pub block_from : (place : ℕ) → List Stepped → Option Meaning → Meaning
 block_from place statements last scope = one_by_one run statements (record { steps = []; behind = scope }) >>= close place last
 
+-- what the block after the last `else` evaluates to, if there is one
 abbrev pub otherwise_in : Scope → Option Meaning → Outcome (List Typing)
 otherwise_in scope None = Gives []
 otherwise_in scope (Some last) = last scope >>= λ body. Gives (body ∷ [])
 
 -- ---- the constructs
 
+-- what an expression evaluates to, by what its parts do
 abbrev pub expression_step : Expression-F Meaning Stepped Armed Meaning Fielded Joining → Meaning
 expression_step (expression.Literal l) scope = Gives (literal l)
 expression_step (expression.Name n) scope = named scope n
@@ -115,35 +123,25 @@ statement_step (expression.Let n value) scope = value scope >>= λ inner.
     Gives (record { step = step.Let inner.typed; behind = bound n.text of scope })
 statement_step (expression.Do value) scope = value scope >>= λ inner. Gives (record { step = step.Do inner.typed; behind = scope })
 
+-- what an arm evaluates to: its condition and its block
 abbrev pub arm_step : Arm-F Meaning Stepped Armed Meaning Fielded Joining → Armed
 arm_step arm scope = arm.condition scope >>= λ condition. arm.body scope >>= λ body.
     Gives (record { place = arm.place; condition = condition; body = body })
 
+-- what a block evaluates to, by what its statements and its value do
 abbrev pub block_step : Block-F Meaning Stepped Armed Meaning Fielded Joining → Meaning
 block_step block = block_from block.place block.statements.items (held block.value (λ last. last.value))
 
+-- what a field's value evaluates to
 abbrev pub field_value_step : FieldValue-F Meaning Stepped Armed Meaning Fielded Joining → Fielded
 field_value_step field scope = field.value scope >>= λ inner. Gives (record { name = field.name; typing = inner })
 
+-- an operator and the operand after it
 abbrev pub operand_step : Operand-F Meaning Stepped Armed Meaning Fielded Joining → Joining
 operand_step operand = record { operator = operand.operator; operand = operand.operand }
 
 -- ---- what whole expressions evaluate to
 
-unfoldable pub expression_in : Expression → Meaning
-expression_in = fold-Expression Meaning Stepped Armed Meaning Fielded Joining expression_step statement_step arm_step block_step field_value_step operand_step
-
-unfoldable pub statement_in : Statement → Stepped
-statement_in = fold-Statement Meaning Stepped Armed Meaning Fielded Joining expression_step statement_step arm_step block_step field_value_step operand_step
-
-unfoldable pub arm_in : Arm → Armed
-arm_in = fold-Arm Meaning Stepped Armed Meaning Fielded Joining expression_step statement_step arm_step block_step field_value_step operand_step
-
+-- what a block evaluates to in a scope
 unfoldable pub block_in : Block → Meaning
 block_in = fold-Block Meaning Stepped Armed Meaning Fielded Joining expression_step statement_step arm_step block_step field_value_step operand_step
-
-unfoldable pub field_value_in : FieldValue → Fielded
-field_value_in = fold-FieldValue Meaning Stepped Armed Meaning Fielded Joining expression_step statement_step arm_step block_step field_value_step operand_step
-
-unfoldable pub operand_in : Operand → Joining
-operand_in = fold-Operand Meaning Stepped Armed Meaning Fielded Joining expression_step statement_step arm_step block_step field_value_step operand_step

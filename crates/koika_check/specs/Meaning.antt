@@ -72,6 +72,7 @@ unpacked d t bits = unpacked_among d (length d.structs) t.base t.lengths bits
 
 -- ---- operators
 
+-- the value of a prefix operator
 abbrev pub prefix_value : UnaryOperator → BitVector → BitVector
 prefix_value unary.Not a = op.not a
 prefix_value unary.Negate a = op.neg a
@@ -81,6 +82,7 @@ abbrev pub prefixed : List UnaryOperator → BitVector → BitVector
 prefixed [] a = a
 prefixed (o ∷ operators) a = prefix_value o (prefixed operators a)
 
+-- the value of an operator between two operands
 abbrev pub binary_value : BinaryOperator → BitVector → BitVector → BitVector
 binary_value binary.Or a b = op.or a b
 binary_value binary.Xor a b = op.xor a b
@@ -104,12 +106,14 @@ abbrev pub chained : List BinaryOperator → BitVector → List Value → BitVec
 chained (o ∷ operators) left (right ∷ rest) = chained operators (binary_value o left (packed right)) rest
 chained operators left rest = left
 
+-- the value of a signed comparison
 abbrev pub comparison_value : SignedComparison → BitVector → BitVector → BitVector
 comparison_value comparisons.Less a b = op.slt a b
 comparison_value comparisons.LessOrEqual a b = op.slte a b
 comparison_value comparisons.Greater a b = op.slt b a
 comparison_value comparisons.GreaterOrEqual a b = op.slte b a
 
+-- the value of an extension
 abbrev pub extension_value : Extension → BitVector → ℕ → BitVector
 extension_value extensions.Zero a width = op.zext a width
 extension_value extensions.Sign a width = op.sext a width
@@ -122,21 +126,25 @@ parts_by (Value-F.Fields number fields) = fields
 parts_by (Value-F.Items items) = items
 parts_by v = []
 
+-- a value with other parts
 abbrev pub with_parts : Value-F Value → List Value → Value
 with_parts (Value-F.Fields number fields) parts = value.Fields number parts
 with_parts (Value-F.Items items) parts = value.Items parts
 with_parts (Value-F.Number bits) parts = value.Number bits
 with_parts (Value-F.Member number bits) parts = value.Member number bits
 
+-- a part of a value
 abbrev pub selected : Value → Selection → Value
 selected v (selection.Field number lowest width) = slice_index_or (parts_by (out-Value v)) number v
 selected v (selection.Item index width) = slice_index_or (parts_by (out-Value v)) index v
 selected v (selection.Bits high low) = value.Number (op.slice (packed v) high low)
 
+-- a part of a part, and so on
 abbrev pub all_selected : Value → List Selection → Value
 all_selected v [] = v
 all_selected v (s ∷ rest) = all_selected (selected v s) rest
 
+-- a value with a new part
 abbrev pub replaced : Value → Selection → Value → Value
 replaced v (selection.Field number lowest width) new = with_parts (out-Value v) (slice_set (parts_by (out-Value v)) number new)
 replaced v (selection.Item index width) new = with_parts (out-Value v) (slice_set (parts_by (out-Value v)) index new)
@@ -156,9 +164,11 @@ pub record Setting (S : Type 0) : Type 0 where
   pub ports : Ports S
   pub bodies : List (Meaning S)
 
+-- a part of a body that only gives a value
 abbrev pub gives : {S : Type 0} → Value → Part (Option Value) S
 gives v = comes_to (Some v)
 
+-- the bits of the first value
 abbrev pub bits_of_first : List Value → BitVector
 bits_of_first [] = nothing
 bits_of_first (v ∷ rest) = packed v
@@ -168,18 +178,22 @@ abbrev pub joined : BitVector → List Value → BitVector
 joined bits [] = bits
 joined bits (v ∷ rest) = joined (op.concat bits (packed v)) rest
 
+-- the bits of values, one after another
 abbrev pub all_joined : List Value → BitVector
 all_joined [] = nothing
 all_joined (v ∷ rest) = joined (packed v) rest
 
+-- what a table answers
 abbrev pub table_by : Option Table → Option TableSpec
 table_by None = None
 table_by (Some t) = Some t.spec
 
+-- what a host function answers
 abbrev pub host_by : Option Host → Option HostSpec
 host_by None = None
 host_by (Some h) = Some h.spec
 
+-- what a function's body does
 abbrev pub body_by : {S : Type 0} → Option (Meaning S) → Meaning S
 body_by None locals = comes_to None
 body_by (Some body) locals = body locals
@@ -213,6 +227,7 @@ apply s o values = comes_to None
 
 -- ---- expressions
 
+-- bound values and one more, if there is one
 abbrev pub with_value : Option Value → List Value → List Value
 with_value None values = values
 with_value (Some v) values = v ∷ values
@@ -238,19 +253,23 @@ choose conditions bodies locals = comes_to None
 abbrev pub Stepped : Type 0 → Type 0
 Stepped S = Meaning S → Meaning S
 
+-- the statements of a block, one after another
 abbrev pub steps_in_turn : {S : Type 0} → List (Stepped S) → Meaning S
 steps_in_turn [] locals = comes_to None
 steps_in_turn (step ∷ rest) locals = step (steps_in_turn rest) locals
 
+-- what a statement does, and then what follows it
 abbrev pub step_step : {S : Type 0} → Step-F (Stepped S) (Meaning S) → Stepped S
 step_step (typed.Let v) behind locals = v locals >>= λ bound. behind (with_value bound locals)
 step_step (typed.Do v) behind locals = v locals >>= λ _. behind locals
 step_step (typed.Give v) behind locals = v locals
 
+-- the value of an input, as its type has it
 abbrev pub input_as : {S : Type 0} → Checked → Option Input → Option BitVector → Part (Option Value) S
 input_as d (Some input) (Some bits) = gives (unpacked d input.of bits)
 input_as d input bits = comes_to None
 
+-- what an expression does, by what its parts do
 abbrev pub typed_step : {S : Type 0} → Setting S → Typed-F (Stepped S) (Meaning S) → Meaning S
 typed_step s (typed.Constant v) locals = gives v
 typed_step s (typed.Local index) locals = comes_to (slice_get locals index)

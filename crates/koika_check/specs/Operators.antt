@@ -9,10 +9,12 @@ use Rattle.koika_check.specs.declared.typed.ValueType.{ValueType}
 
 -- ---- operators between two operands
 
+-- a width, or 0 where there is none
 abbrev pub width_or_none : Option ℕ → ℕ
 width_or_none None = 0
 width_or_none (Some width) = width
 
+-- the width of a part, or 0 where it isn't of bits
 abbrev pub bits_in : Part → ℕ
 bits_in part = width_or_none (as_bits part.of)
 
@@ -35,6 +37,7 @@ concatenated left right =
     (each is_bits (left ∷ right ∷ []) ∷ holds (nat_le (bits_in left + bits_in right) 128) (wrong WRONG_WIDTH left.place) ∷ [])
     (Some (bits (bits_in left + bits_in right)))
 
+-- the type of an operator's result, or the fault of its operands
 abbrev pub operated : BinaryOperator → Part → Part → Outcome (Option ValueType)
 operated binary.Or = calculated
 operated binary.Xor = calculated

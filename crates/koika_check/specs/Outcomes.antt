@@ -1,8 +1,6 @@
 -- What checking returns: a result, or the first fault. Parts are looked at from left to right; of the conditions of one
 -- construct that don't hold, the smallest number counts, and of equal ones the first. This project's own rule.
-use Rattle.std.specs.Prelude.{◌≡◌, ℕ, ⊤, Result, Ok, Err, nat_lt, Bool, if◌then◌else◌, Option, Some, None, List, [], ◌∷◌}
-use Rattle.koika_check.specs.declared.stop.Stop.{Stop}
-use Rattle.koika_check.specs.declared.stop.Stop.TheVariants as stops
+use Rattle.std.specs.Prelude.{ℕ, nat_lt, Bool, if◌then◌else◌, Option, Some, None, List, ◌∷◌}
 use Rattle.koika_check.specs.declared.stop.Wrong.{Wrong}
 
 -- this fault at this place, the offset of a byte
@@ -33,6 +31,7 @@ abbrev pub earlier : Condition → Condition → Condition
 earlier None other = other
 earlier (Some fault) other = Some fault
 
+-- of two conditions the fault with the smaller number; of equal ones the first
 abbrev pub smaller : Condition → Condition → Condition
 smaller None other = other
 smaller (Some fault) None = Some fault
@@ -43,6 +42,7 @@ abbrev pub first : List Condition → Condition
 first [] = None
 first (condition ∷ rest) = earlier condition (first rest)
 
+-- of conditions the fault with the smallest number
 abbrev pub smallest : List Condition → Condition
 smallest [] = None
 smallest (condition ∷ rest) = smaller condition (smallest rest)
@@ -70,28 +70,3 @@ in_turn look (x ∷ xs) = look x >>= λ y. in_turn look xs >>= λ ys. Gives (y �
 abbrev pub one_by_one : {X S : Type 0} → (X → S → Outcome S) → List X → S → Outcome S
 one_by_one look [] s = Gives s
 one_by_one look (x ∷ xs) s = look x s >>= λ next. one_by_one look xs next
-
--- A call answers what an outcome says, where its values stand for those of outcomes as `is` says: a value for a
--- result, the fault for a fault. Being out of memory is free.
-abbrev pub Tells : {X Y : Type 0} → (Y → X → Type 0) → Outcome X → Result Y Stop → Type 0
-Tells is outcome (Err stops.NoMemory) = ⊤
-Tells is (Gives value) (Ok y) = is y value
-Tells is (Fails fault) (Ok y) = ⊥
-Tells is (Gives value) (Err (stops.Wrong found)) = ⊥
-Tells is (Fails fault) (Err (stops.Wrong found)) = found ≡ fault
-
--- a call goes on where the condition holds, and answers its fault where it doesn't
-abbrev pub Passes : {X : Type 0} → Condition → Result X Stop → Type 0
-Passes None (Ok x) = ⊤
-Passes (Some fault) (Err (stops.Wrong found)) = found ≡ fault
-Passes condition answer = ⊥
-
--- an outcome is this fault; being out of memory is free
-abbrev pub Ends : {X : Type 0} → Outcome X → Stop → Type 0
-Ends outcome stops.NoMemory = ⊤
-Ends outcome (stops.Wrong fault) = outcome ≡ Fails fault
-
--- a call answers what an outcome says, as above, told by the answer
-abbrev pub Answers : {X Y : Type 0} → (Y → X → Type 0) → Outcome X → Result Y Stop → Type 0
-Answers {X} is outcome (Ok y) = (value : X) × (outcome ≡ Gives value) × is y value
-Answers is outcome (Err stop) = Ends outcome stop

@@ -1,11 +1,11 @@
 -- The scheduler's nodes, numbered in order of the text: a rule, and where the scheduler goes on where it fires and
 -- where it doesn't. A name that is no rule is 20, and a rule that occurs twice on a path from the root is 27, each at
 -- its name. After the scheduler of Kôika (Bourgeat et al., PLDI 2020).
-use Rattle.std.specs.Prelude.{ℕ, ◌+◌, not, nat_eq, Bool, List, [], ◌∷◌, ◌++◌, length, drop, Option, Some, None}
+use Rattle.std.specs.Prelude.{ℕ, ◌+◌, not, nat_eq, Bool, List, ◌∷◌, ◌++◌, length, drop, Option, Some, None}
 use Rattle.std.specs.List.{list_any}
 use Rattle.std.specs.Option.{option_map}
 use Rattle.kw_base.specs.declared.fault_number.TheConstants.{UNKNOWN_NAME, RULE_TWICE_ON_A_PATH}
-use Rattle.koika_syntax.specs.declared.tree.Choice.{Choice, Choice-F, fold-Choice}
+use Rattle.koika_syntax.specs.declared.tree.Choice.{Choice, Choice-F}
 use Rattle.koika_syntax.specs.declared.tree.Name.{Name}
 use Rattle.koika_syntax.specs.declared.tree.Scheduler.{Scheduler, Scheduler-F, fold-Scheduler}
 use Rattle.typed_core.specs.declared.design.Next.{Next}
@@ -30,6 +30,7 @@ tried d path n = found (rule_named d n.text) (wrong UNKNOWN_NAME n.place) >>= λ
 abbrev pub longer : Checked → Name → (path : List ℕ) → Outcome (List ℕ)
 longer d n path = tried d path n >>= λ rule. Gives (path ++ rule ∷ [])
 
+-- a path with these rules at its end, none of which is on it already
 abbrev pub path_behind : Checked → List Name → (path : List ℕ) → Outcome (List ℕ)
 path_behind d = one_by_one (longer d)
 
@@ -71,8 +72,6 @@ scheduler_step scheduler d path number = path_behind d scheduler.rules path >>= 
     at_the_end (option_map (λ last. last.value) scheduler.last) d behind (number + length scheduler.rules) >>= λ nodes.
     Gives (in_a_row number (drop (length path) behind) nodes)
 
+-- the nodes of a scheduler
 unfoldable pub scheduler_nodes : Scheduler → Nodes
 scheduler_nodes = fold-Scheduler Nodes Nodes choice_step scheduler_step
-
-unfoldable pub choice_nodes : Choice → Nodes
-choice_nodes = fold-Choice Nodes Nodes choice_step scheduler_step

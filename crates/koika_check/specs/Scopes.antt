@@ -40,26 +40,33 @@ bound name of scope = record { design = scope.design; locals = record { name = n
 
 -- ---- what is declared, by kinds
 
+-- the number of the register of a name
 abbrev pub register_named : Checked → List ℕ → Option ℕ
 register_named d = number_of (map (λ (r : Register). r.name) d.registers)
 
+-- the number of the input of a name
 abbrev pub input_named : Checked → List ℕ → Option ℕ
 input_named d = number_of (map (λ (i : Input). i.name) d.inputs)
 
+-- the number of the table of a name
 abbrev pub table_named : Checked → List ℕ → Option ℕ
 table_named d = number_of (map (λ (t : Table). t.name) d.tables)
 
+-- the number of the host function of a name
 abbrev pub host_named : Checked → List ℕ → Option ℕ
 host_named d = number_of (map (λ (h : Host). h.name) d.hosts)
 
+-- the number of the function of a name
 abbrev pub function_named : Checked → List ℕ → Option ℕ
 function_named d = number_of (map (λ (f : Function). f.name) d.functions)
 
+-- the number of the rule of a name
 abbrev pub rule_named : Checked → List ℕ → Option ℕ
 rule_named d = number_of (map (λ (r : Rule). r.name) d.rules)
 
 -- ---- registers
 
+-- the type of a register, if there is one
 abbrev pub type_of_register : Option Register → Option ValueType
 type_of_register None = None
 type_of_register (Some register) = Some register.of
@@ -79,18 +86,22 @@ pub record Named : Type 0 where
   pub typed : Typed
   pub of : ValueType
 
+-- a bound name's value and type
 abbrev pub local_by : Option ℕ → Option Local → Option Named
 local_by (Some index) (Some local) = Some (record { typed = typed.Local index; of = local.of })
 local_by index local = None
 
+-- an input's value and type
 abbrev pub input_by : Option ℕ → Option Input → Option Named
 input_by (Some number) (Some input) = Some (record { typed = typed.Input number; of = input.of })
 input_by number input = None
 
+-- the item at an index that may be there
 abbrev pub at : {X : Type 0} → List X → Option ℕ → Option X
 at xs None = None
 at xs (Some index) = slice_get xs index
 
+-- the first if there is one, else the other
 abbrev pub or_else : {X : Type 0} → Option X → Option X → Option X
 or_else (Some x) other = Some x
 or_else None other = other
@@ -111,6 +122,7 @@ pub record Called : Type 0 where
   pub parameters : List ValueType
   pub gives : Option ValueType
 
+-- a call of a function, with its parameters and its result
 abbrev pub called_function : Option ℕ → Option Function → Option Called
 called_function (Some number) (Some f) = Some (record { operation = operation.Call number; parameters = f.parameters; gives = f.result })
 called_function number f = None

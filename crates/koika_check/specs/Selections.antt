@@ -27,6 +27,7 @@ field_at d fields number of = record {
   of = of;
 }
 
+-- a field of a struct, if it is there
 abbrev pub field_if : Checked → List Field → Option ℕ → Option ValueType → Option Selected
 field_if d fields (Some number) (Some of) = Some (field_at d fields number of)
 field_if d fields number of = None
@@ -43,10 +44,12 @@ pub record Items : Type 0 where
   pub length : ℕ
   pub of : ValueType
 
+-- the items of an array type, by its lengths
 abbrev pub items_by : ValueType → List ℕ → Option Items
 items_by t [] = None
 items_by t (length ∷ lengths) = Some (record { length = length; of = record { base = t.base; lengths = lengths } })
 
+-- the items of a type that is an array
 abbrev pub as_array : Option ValueType → Option Items
 as_array None = None
 as_array (Some t) = items_by t t.lengths
@@ -59,6 +62,7 @@ in_range index length = holds (nat_lt index.value length) (wrong WRONG_WIDTH ind
 abbrev pub item_at : Checked → ℕ → ValueType → Selected
 item_at d index of = record { selection = selection.Item index (width_of d of); of = of }
 
+-- the bits from an upper to a lower place
 abbrev pub bits_at : (high low : ℕ) → Selected
 bits_at high low = record { selection = selection.Bits high low; of = bits (high - low + 1) }
 
@@ -83,6 +87,7 @@ select d whole (suffixes.Slice high low) = select_slice whole high low
 abbrev pub replace_field : Checked → Part → Name → (new : Part) → Outcome Selected
 replace_field d whole n new = select_field d whole n >>= λ field. where_all (agrees (Some field.of) new ∷ []) field
 
+-- an item of an array that a new value takes the place of
 abbrev pub replace_item : Checked → Part → Number → (new : Part) → Outcome Selected
 replace_item d whole i new = found (as_array whole.of) (wrong_type whole) >>= λ items.
     where_all (in_range i items.length ∷ agrees (Some items.of) new ∷ []) (item_at d i.value items.of)

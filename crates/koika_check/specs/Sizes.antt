@@ -1,7 +1,7 @@
 -- The weight and the depth of an expression whose names are resolved, and those of a design. A call weighs what its
 -- function's body weighs, each time. They bound what a design becomes where its functions are written in. This project's
 -- own measures.
-use Rattle.std.specs.Prelude.{ℕ, zero, suc, ◌+◌, ◌-◌, ◌^◌, max, map, sum_by, List, [], ◌∷◌, ◌++◌, length, Option, Some, None, slice_get}
+use Rattle.std.specs.Prelude.{ℕ, zero, suc, ◌+◌, ◌-◌, ◌^◌, max, map, sum_by, List, ◌∷◌, ◌++◌, length, Option, Some, None, slice_get}
 use Rattle.typed_core.specs.declared.design.Node.{Node}
 use Rattle.koika_check.specs.declared.checked.Checked.{Checked}
 use Rattle.koika_check.specs.declared.checked.Function.{Function}
@@ -10,7 +10,7 @@ use Rattle.koika_check.specs.declared.checked.Rule.{Rule}
 use Rattle.koika_check.specs.declared.checked.Table.{Table}
 use Rattle.koika_check.specs.declared.typed.Operation.{Operation}
 use Rattle.koika_check.specs.declared.typed.Operation.TheVariants as operation
-use Rattle.koika_check.specs.declared.typed.Step.{Step, Step-F, fold-Step}
+use Rattle.koika_check.specs.declared.typed.Step.{Step, Step-F}
 use Rattle.koika_check.specs.declared.typed.Typed.{Typed, Typed-F, fold-Typed}
 use Rattle.koika_check.specs.declared.typed.Step.TheOpen as typed
 
@@ -19,6 +19,7 @@ pub record Size : Type 0 where
   pub weight : ℕ
   pub depth : ℕ
 
+-- a weight and a depth
 abbrev pub size : (weight depth : ℕ) → Size
 size weight depth = record { weight = weight; depth = depth }
 
@@ -26,10 +27,12 @@ size weight depth = record { weight = weight; depth = depth }
 abbrev pub weights : List Size → ℕ
 weights = sum_by (λ (s : Size). s.weight)
 
+-- the greatest of some depths
 abbrev pub deepest : List ℕ → ℕ
 deepest [] = 0
 deepest (depth ∷ depths) = max depth (deepest depths)
 
+-- the greatest depth of some parts
 abbrev pub depths : List Size → ℕ
 depths parts = deepest (map (λ (s : Size). s.depth) parts)
 
@@ -48,14 +51,17 @@ pub record Rests : Type 0 where
   pub design : Checked
   pub bodies : List Size
 
+-- the input width of a table
 abbrev pub input_of_table : Option Table → ℕ
 input_of_table None = 0
 input_of_table (Some t) = t.spec.in_width
 
+-- the input width of a host function
 abbrev pub input_of_host : Option Host → ℕ
 input_of_host None = 0
 input_of_host (Some h) = h.spec.in_width
 
+-- the size of a function's body
 abbrev pub body_of : Option Size → Size
 body_of None = size 0 0
 body_of (Some body) = body
@@ -64,6 +70,7 @@ body_of (Some body) = body
 abbrev pub side_by_side : List Size → Size
 side_by_side parts = size (weights parts) (depths parts)
 
+-- parts beside one another, one level below
 abbrev pub one_deeper : List Size → Size
 one_deeper parts = size (weights parts) (deepest (rising 1 parts))
 
@@ -72,6 +79,7 @@ abbrev pub chain_depths : ℕ → List Size → List ℕ
 chain_depths n [] = []
 chain_depths n (first ∷ rest) = (n + first.depth) ∷ falling n rest
 
+-- a chain of that many operators over these parts
 abbrev pub chain_size : ℕ → List Size → Size
 chain_size n parts = size (weights parts) (deepest (chain_depths n parts))
 
@@ -79,9 +87,11 @@ chain_size n parts = size (weights parts) (deepest (chain_depths n parts))
 abbrev pub heavier : ℕ → Size → Size
 heavier weight s = size (weight + s.weight) s.depth
 
+-- a size that many levels deeper
 abbrev pub deeper : ℕ → Size → Size
 deeper depth s = size s.weight (depth + s.depth)
 
+-- two parts beside one another
 abbrev pub both : Size → Size → Size
 both a b = size (a.weight + b.weight) (max a.depth b.depth)
 
@@ -122,6 +132,7 @@ abbrev pub steps_depths : (from : ℕ) → List StepSize → List ℕ
 steps_depths from [] = from ∷ []
 steps_depths from (s ∷ steps) = (from + s.value.depth) ∷ steps_depths (from + s.statement) steps
 
+-- the statements of a block, each one level deeper than the one before
 abbrev pub steps_size : List StepSize → Size
 steps_size steps = size (sum_by (λ (s : StepSize). s.statement + s.value.weight) steps) (deepest (steps_depths 1 steps))
 
@@ -131,9 +142,11 @@ bodies_depths from arms [] = []
 bodies_depths from zero (last ∷ rest) = (from - 1 + last.depth) ∷ bodies_depths from zero rest
 bodies_depths from (suc arms) (body ∷ rest) = (from + body.depth) ∷ bodies_depths (from + 1) arms rest
 
+-- the arms of an `if`
 abbrev pub arms_size : (arms : ℕ) → List Size → Size
 arms_size arms bodies = size (weights bodies) (deepest (bodies_depths 1 arms bodies))
 
+-- the size of an expression, by the sizes of its parts
 abbrev pub typed_step : Rests → Typed-F StepSize Size → Size
 -- a literal, a member, a name: 1
 typed_step r (typed.Constant value) = size 1 1
@@ -143,6 +156,7 @@ typed_step r (typed.Apply o operands) = operation_size r o operands
 typed_step r (typed.If conditions bodies) = heavier (length conditions) (both (one_deeper conditions) (arms_size (length conditions) bodies))
 typed_step r (typed.Block steps) = heavier 1 (steps_size steps)
 
+-- the size of a statement
 abbrev pub step_step : Step-F StepSize Size → StepSize
 step_step (typed.Let value) = record { statement = 1; value = value }
 step_step (typed.Do value) = record { statement = 1; value = value }
@@ -151,9 +165,6 @@ step_step (typed.Give value) = record { statement = 0; value = value }
 -- the size of an expression
 unfoldable pub size_of : Rests → Typed → Size
 size_of r = fold-Typed StepSize Size step_step (typed_step r)
-
-unfoldable pub size_of_step : Rests → Step → StepSize
-size_of_step r = fold-Step StepSize Size step_step (typed_step r)
 
 -- the sizes of functions' bodies, each of which rests on those before it
 abbrev pub bodies_behind : Checked → List Size → List Function → List Size

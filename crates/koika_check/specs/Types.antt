@@ -22,9 +22,11 @@ use Rattle.koika_check.specs.declared.typed.ValueType.{ValueType}
 abbrev pub of_base : BaseType → ValueType
 of_base b = record { base = b; lengths = [] }
 
+-- the type `bits N`
 abbrev pub bits : ℕ → ValueType
 bits width = of_base (base.Bits width)
 
+-- the type of an array of that many items of a type
 abbrev pub array : ℕ → ValueType → ValueType
 array length item = record { base = item.base; lengths = length ∷ item.lengths }
 
@@ -35,6 +37,7 @@ same_base (base.Enum number) (base.Enum number') = nat_eq number number'
 same_base (base.Struct number) (base.Struct number') = nat_eq number number'
 same_base a b = false
 
+-- two types are equal
 abbrev pub same_type : ValueType → ValueType → Bool
 same_type a b = same_base a.base b.base && bytes_eq a.lengths b.lengths
 
@@ -48,18 +51,22 @@ base_width d (base.Bits width) = width
 base_width d (base.Enum number) = slice_index (map (λ (e : EnumDecl). e.width) d.enums) number
 base_width d (base.Struct number) = slice_index (map (λ (s : Struct). s.width) d.structs) number
 
+-- how many innermost items an array of these lengths has
 abbrev pub all_lengths : List ℕ → ℕ
 all_lengths [] = 1
 all_lengths (length ∷ lengths) = length * all_lengths lengths
 
+-- how many bits a value of a type has
 abbrev pub width_of : Checked → ValueType → ℕ
 width_of d t = base_width d t.base * all_lengths t.lengths
 
 -- ---- declared types
 
+-- the number of the enum of a name
 abbrev pub enum_named : Checked → List ℕ → Option ℕ
 enum_named d = number_of (map (λ (e : EnumDecl). e.name) d.enums)
 
+-- the number of the struct of a name
 abbrev pub struct_named : Checked → List ℕ → Option ℕ
 struct_named d = number_of (map (λ (s : Struct). s.name) d.structs)
 
@@ -69,6 +76,7 @@ type_by (Some number) other = Some (base.Enum number)
 type_by None (Some number) = Some (base.Struct number)
 type_by None None = None
 
+-- the enum or the struct of a name
 abbrev pub type_named : Checked → List ℕ → Option BaseType
 type_named d name = type_by (enum_named d name) (struct_named d name)
 
@@ -96,6 +104,7 @@ pub record Part : Type 0 where
   pub of : Option ValueType
   pub place : ℕ
 
+-- a part of a type, or of none, at a place
 abbrev pub part : Option ValueType → ℕ → Part
 part of place = record { of = of; place = place }
 
@@ -104,6 +113,7 @@ abbrev pub bits_by : BaseType → List ℕ → Option ℕ
 bits_by (base.Bits width) [] = Some width
 bits_by b lengths = None
 
+-- the width of a type that is `bits N`
 abbrev pub as_bits : Option ValueType → Option ℕ
 as_bits (Some t) = bits_by t.base t.lengths
 as_bits None = None
@@ -113,6 +123,7 @@ abbrev pub struct_by : BaseType → List ℕ → Option ℕ
 struct_by (base.Struct number) [] = Some number
 struct_by b lengths = None
 
+-- the number of the struct that a type is
 abbrev pub as_struct : Option ValueType → Option ℕ
 as_struct (Some t) = struct_by t.base t.lengths
 as_struct None = None
@@ -125,6 +136,7 @@ wrong_type part = wrong WRONG_TYPE part.place
 abbrev pub is_bits : Part → Condition
 is_bits part = holds (is_some (as_bits part.of)) (wrong_type part)
 
+-- a part has a value
 abbrev pub is_value : Part → Condition
 is_value part = holds (is_some part.of) (wrong_type part)
 
@@ -133,11 +145,13 @@ abbrev pub differs_by : Option ℕ → Option ℕ → ℕ
 differs_by (Some width) (Some width') = WRONG_WIDTH
 differs_by a b = WRONG_TYPE
 
+-- two types are equal, or there is none in both cases
 abbrev pub same : Option ValueType → Option ValueType → Bool
 same None None = true
 same (Some a) (Some b) = same_type a b
 same a b = false
 
+-- a part has the wanted type, else its fault
 abbrev pub agrees : Option ValueType → Part → Condition
 agrees wanted part = holds (same wanted part.of) (wrong (differs_by (as_bits wanted) (as_bits part.of)) part.place)
 

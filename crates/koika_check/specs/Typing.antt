@@ -2,7 +2,7 @@
 -- PLDI 2020) over packed types (IEEE 1800-2017, 7.2.1 and 7.4.1); and what holds of a whole design. It says nothing
 -- of names.
 use Rattle.std.specs.List.{AllByRecursion}
-use Rattle.std.specs.Prelude.{◌≡◌, ℕ, ◌+◌, ◌-◌, ◌/◌, ◌<◌, ◌≤◌, ◌⊎◌, min, map, sum_by, replicate, reverse, drop, List, [], ◌∷◌, length, All, Option, Some, None, IfSome, slice_get}
+use Rattle.std.specs.Prelude.{◌≡◌, ℕ, ◌+◌, ◌-◌, ◌/◌, ◌<◌, ◌≤◌, ◌⊎◌, min, map, sum_by, replicate, reverse, drop, List, ◌∷◌, length, All, Option, Some, None, IfSome, slice_get}
 use Rattle.kw_bits.specs.BitVector.{IsBits}
 use Rattle.kw_bits.specs.Host as host
 use Rattle.kw_bits.specs.Laws.{HasWidth}
@@ -33,7 +33,7 @@ use Rattle.koika_check.specs.declared.typed.Operation.{Operation}
 use Rattle.koika_check.specs.declared.typed.Operation.TheVariants as operation
 use Rattle.koika_check.specs.declared.typed.Selection.{Selection}
 use Rattle.koika_check.specs.declared.typed.Selection.TheVariants as selection
-use Rattle.koika_check.specs.declared.typed.Step.{Step, Step-F, rec-Step}
+use Rattle.koika_check.specs.declared.typed.Step.{Step, Step-F}
 use Rattle.koika_check.specs.declared.typed.Step.TheOpen as typed
 use Rattle.koika_check.specs.declared.typed.Typed.{Typed, Typed-F, rec-Typed}
 use Rattle.koika_check.specs.declared.typed.ValueType.{ValueType}
@@ -211,11 +211,6 @@ StepDoes is step locals doing = ⊥
 abbrev pub HasType : Checked → (functions : ℕ) → Typed → List ValueType → Option ValueType → Type 0
 HasType d functions =
     rec-Typed (List ValueType → Doing → Type 0) (List ValueType → Option ValueType → Type 0)
-    (λ X Y whole_step whole does is. StepDoes is) (λ X Y whole_step whole does is. PartHasType d functions does is)
-
-abbrev pub StepHasType : Checked → (functions : ℕ) → Step → List ValueType → Doing → Type 0
-StepHasType d functions =
-    rec-Step (List ValueType → Doing → Type 0) (List ValueType → Option ValueType → Type 0)
     (λ X Y whole_step whole does is. StepDoes is) (λ X Y whole_step whole does is. PartHasType d functions does is)
 
 -- ---- designs

@@ -2,9 +2,9 @@
 
 ghost use Rattle.std.specs.Prelude.{◌≡◌, ◌<◌, ◌^◌, ◌++◌, ◌∷◌, [], None, OnOk, IfOk};
 ghost use Rattle.kw_bits.specs.Host.{TakesWidth};
-ghost use Rattle.koika_check.specs.Checking.{IsSignature, IsWidth, Stands};
-ghost use Rattle.koika_check.specs.Settled.{IsSettled};
-ghost use Rattle.koika_check.specs.Things.{thing_named};
+ghost use Rattle.koika_check.specs.inner.Checking.{IsSignature, IsWidth, Stands};
+ghost use Rattle.koika_check.specs.inner.Settled.{IsSettled};
+ghost use Rattle.koika_check.specs.inner.Things.{thing_named};
 
 use crate::checked::{Function, Host, Input, Register, Rule, Table};
 use crate::checker::{Checker, Signature};

@@ -3,7 +3,7 @@
 ghost use Rattle.std.specs.Prelude.{◌≡◌, List, map, All, Some, None, IfSome};
 ghost use Rattle.koika_check.specs.Outcomes.{wrong};
 ghost use Rattle.koika_check.specs.Selections as selections;
-ghost use Rattle.koika_check.specs.Shapes.{AreArrays, IsShapeIf, part_of, type_if};
+ghost use Rattle.koika_check.specs.inner.Shapes.{AreArrays, IsShapeIf, part_of, type_if};
 ghost use Rattle.koika_check.specs.Types as types;
 ghost use Rattle.kw_base.specs.declared.fault_number.TheConstants.{WRONG_TYPE};
 ghost use Rattle.koika_check.specs.declared.shapes.Shape.TheVariants as shape;

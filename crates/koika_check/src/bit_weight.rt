@@ -2,7 +2,7 @@
 
 ghost use Rattle.std.specs.Prelude.{◌≡◌, ℕ, ◌+◌, ◌≤◌, ◌∷◌, ◌++◌, [], List, length, map, reverse, slice_get, sum_by, take};
 ghost use Rattle.koika_check.specs.BitWeights as weights;
-ghost use Rattle.koika_check.specs.Gauges.{AreCounted, IsCounted, all_of, bodies_before, cap, counted, side_of, steps_of};
+ghost use Rattle.koika_check.specs.inner.Gauges.{AreCounted, IsCounted, all_of, bodies_before, cap, counted, side_of, steps_of};
 ghost use Rattle.koika_check.specs.Types as types;
 ghost use Rattle.koika_check.specs.Typing.{IsTypedDesign};
 ghost use Rattle.koika_types.specs.Values.{packed};

@@ -2,11 +2,12 @@
 
 ghost use Rattle.std.specs.Prelude.{◌≡◌, ◌<◌, All, List, Some, length, map, nat_eq, replicate, slice_get, IfOk};
 ghost use Rattle.kw_base.specs.declared.fault_number.TheConstants.{WRONG_ARGUMENT_COUNT};
-ghost use Rattle.koika_check.specs.Checking.{AreTyped, IsCalled, IsChecker, TypedAs};
+ghost use Rattle.koika_check.specs.inner.Checking.{AreTyped, IsCalled, IsChecker, TypedAs};
 ghost use Rattle.koika_check.specs.Constructs as types;
-ghost use Rattle.koika_check.specs.Outcomes.{Tells, holds, wrong};
+ghost use Rattle.koika_check.specs.Outcomes.{holds, wrong};
+ghost use Rattle.koika_check.specs.inner.Outcomes.{Tells};
 ghost use Rattle.koika_check.specs.Scopes as scopes;
-ghost use Rattle.koika_check.specs.Shapes.{AreArrays, IsShape, IsShapeIf, part_of, type_of_shape};
+ghost use Rattle.koika_check.specs.inner.Shapes.{AreArrays, IsShape, IsShapeIf, part_of, type_of_shape};
 ghost use Rattle.koika_check.specs.declared.agreement.Part.{Part as Counted};
 ghost use Rattle.koika_check.specs.declared.typed.ValueType.{ValueType};
 

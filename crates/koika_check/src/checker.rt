@@ -2,10 +2,10 @@
 
 ghost use Rattle.std.specs.Prelude.{◌≡◌, [], All, length};
 ghost use Rattle.kw_bits.specs.Host.{TakesWidth};
-ghost use Rattle.koika_check.specs.Checking.{IsChecker, IsNamed, arrays_of};
+ghost use Rattle.koika_check.specs.inner.Checking.{IsChecker, IsNamed, arrays_of};
 ghost use Rattle.koika_check.specs.Declarations.{nothing};
-ghost use Rattle.koika_check.specs.Settled.{IsSettled};
-ghost use Rattle.koika_check.specs.Shapes.{IsShape, type_of_shape};
+ghost use Rattle.koika_check.specs.inner.Settled.{IsSettled};
+ghost use Rattle.koika_check.specs.inner.Shapes.{IsShape, type_of_shape};
 ghost use Rattle.koika_check.specs.Types.{width_of};
 ghost use Rattle.kw_bits.specs.declared.host.HostSpec.{HostSpec as Spec};
 

@@ -2,10 +2,11 @@
 
 ghost use Rattle.std.specs.Prelude.{◌≡◌, ◌∷◌, [], ◌<◌, ◌≤◌, All, List, Some, drop, length, map, IfOk};
 ghost use Rattle.kw_base.specs.declared.fault_number.TheConstants.{WRONG_FIELD, WRONG_TYPE};
-ghost use Rattle.koika_check.specs.Checking.{AreGiven, Checks, IsChecker, IsGiven, IsPart, IsPartIn, IsType, IsTypeOrUnit, StandsFor, arrays_of, is_next, of_first, scope_of};
+ghost use Rattle.koika_check.specs.inner.Checking.{AreGiven, Checks, IsChecker, IsGiven, IsPart, IsPartIn, IsType, IsTypeOrUnit, StandsFor, arrays_of, is_next, of_first, scope_of};
 ghost use Rattle.koika_check.specs.Composites as types;
-ghost use Rattle.koika_check.specs.Outcomes.{Tells, earlier, holds, wrong};
-ghost use Rattle.koika_check.specs.Shapes.{AreArrays, IsShapeIf, part_of, type_if};
+ghost use Rattle.koika_check.specs.Outcomes.{earlier, holds, wrong};
+ghost use Rattle.koika_check.specs.inner.Outcomes.{Tells};
+ghost use Rattle.koika_check.specs.inner.Shapes.{AreArrays, IsShapeIf, part_of, type_if};
 ghost use Rattle.koika_check.specs.Types.{each};
 ghost use Rattle.koika_check.specs.declared.composites.Given.{Given as Giving};
 ghost use Rattle.koika_check.specs.declared.typed.ValueType.{ValueType};

@@ -1,10 +1,12 @@
 //! Checker: constants.
 
 ghost use Rattle.std.specs.Prelude.{◌≡◌, ◌<◌, length};
-ghost use Rattle.koika_check.specs.Checking.{AreKnown, AreKnownFields, Checks, IsChecker, IsKnown, IsMember, IsReady, StandsFor, scope_of};
+ghost use Rattle.koika_check.specs.inner.Checking.{AreKnown, AreKnownFields, Checks, IsChecker, IsKnown, IsMember, IsReady, StandsFor, scope_of};
 ghost use Rattle.koika_check.specs.Composites as types;
-ghost use Rattle.koika_check.specs.Constants.{constant_field_of, constant_of, struct_known};
-ghost use Rattle.koika_check.specs.Outcomes.{Tells, ◌>>=◌ as ◌▹◌, found, in_turn, wrong};
+ghost use Rattle.koika_check.specs.Constants.{constant_of, struct_known};
+ghost use Rattle.koika_check.specs.inner.Constants.{constant_field_of};
+ghost use Rattle.koika_check.specs.Outcomes.{◌>>=◌ as ◌▹◌, found, in_turn, wrong};
+ghost use Rattle.koika_check.specs.inner.Outcomes.{Tells};
 ghost use Rattle.koika_check.specs.Types.{bits, part, struct_named};
 ghost use Rattle.kw_base.specs.declared.fault_number.TheConstants.{UNKNOWN_NAME, WRONG_FIELD};
 ghost use Rattle.std.specs.Prelude.{Some};

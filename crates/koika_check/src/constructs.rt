@@ -1,10 +1,11 @@
 //! Checker: names, members, reads and writes.
 
 ghost use Rattle.std.specs.Prelude.{◌≡◌, ◌∷◌, ◌<◌, [], length};
-ghost use Rattle.koika_check.specs.Checking.{IsChecker, IsPart, Stands, Takes, TypedAs, arrays_of, scope_of, typing_of};
+ghost use Rattle.koika_check.specs.inner.Checking.{IsChecker, IsPart, Stands, Takes, TypedAs, arrays_of, scope_of, typing_of};
 ghost use Rattle.koika_check.specs.Constructs as types;
-ghost use Rattle.koika_check.specs.Outcomes.{Gives, Tells};
-ghost use Rattle.koika_check.specs.Shapes.{part_of};
+ghost use Rattle.koika_check.specs.Outcomes.{Gives};
+ghost use Rattle.koika_check.specs.inner.Outcomes.{Tells};
+ghost use Rattle.koika_check.specs.inner.Shapes.{part_of};
 ghost use Rattle.koika_check.specs.declared.checker.Checker.{Checker as Checking};
 ghost use Rattle.koika_check.specs.declared.typed.Typed.TheVariants as made;
 

@@ -3,11 +3,12 @@
 ghost use Rattle.std.specs.Prelude.{◌≡◌, ◌++◌, ◌∷◌, ◌^◌, [], nat_eq, map, None, IfOk, OnOk};
 ghost use Rattle.std.specs.List.{find};
 ghost use Rattle.kw_base.specs.declared.fault_number.TheConstants.{REPEATED_NAME, UNKNOWN_HOST_FUNCTION};
-ghost use Rattle.koika_check.specs.Checking.{IsChecker};
+ghost use Rattle.koika_check.specs.inner.Checking.{IsChecker};
 ghost use Rattle.koika_check.specs.Declarations as declarations;
-ghost use Rattle.koika_check.specs.Outcomes.{Answers, found, smallest, wrong};
-ghost use Rattle.koika_check.specs.Settled.{IsSettled};
-ghost use Rattle.koika_check.specs.Things.{thing_named};
+ghost use Rattle.koika_check.specs.Outcomes.{found, smallest, wrong};
+ghost use Rattle.koika_check.specs.inner.Outcomes.{Answers};
+ghost use Rattle.koika_check.specs.inner.Settled.{IsSettled};
+ghost use Rattle.koika_check.specs.inner.Things.{thing_named};
 ghost use Rattle.koika_check.specs.Types as types;
 ghost use Rattle.koika_check.specs.declared.stop.Stop.TheVariants as stops;
 

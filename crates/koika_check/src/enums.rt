@@ -3,10 +3,11 @@
 ghost use Rattle.std.specs.Prelude.{◌≡◌, ◌++◌, ◌∷◌, [], ℕ, List, length, map, None, OnOk};
 ghost use Rattle.koika_syntax.specs.declared.tree.Member.{Member as Written};
 ghost use Rattle.koika_check.specs.Declarations as declarations;
-ghost use Rattle.koika_check.specs.Listed.{Keeps, Lists};
-ghost use Rattle.koika_check.specs.Outcomes.{Answers, one_by_one};
-ghost use Rattle.koika_check.specs.Settled.{IsSettled};
-ghost use Rattle.koika_check.specs.Things.{AreParts, position_of};
+ghost use Rattle.koika_check.specs.inner.Listed.{Keeps, Lists};
+ghost use Rattle.koika_check.specs.Outcomes.{one_by_one};
+ghost use Rattle.koika_check.specs.inner.Outcomes.{Answers};
+ghost use Rattle.koika_check.specs.inner.Settled.{IsSettled};
+ghost use Rattle.koika_check.specs.inner.Things.{AreParts, position_of};
 ghost use Rattle.koika_check.specs.Types as types;
 ghost use Rattle.koika_check.specs.declared.things.Thing.TheVariants as thing;
 

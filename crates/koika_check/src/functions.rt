@@ -1,11 +1,12 @@
 //! Checker: functions and rules.
 
 ghost use Rattle.std.specs.Prelude.{◌≡◌, ◌++◌, ◌∷◌, [], OnOk};
-ghost use Rattle.koika_check.specs.Checking.{Grows, IsChecker, IsTypeIf, scope_of};
+ghost use Rattle.koika_check.specs.inner.Checking.{Grows, IsChecker, IsTypeIf, scope_of};
 ghost use Rattle.koika_check.specs.Declarations as declarations;
-ghost use Rattle.koika_check.specs.Outcomes.{Answers, one_by_one};
-ghost use Rattle.koika_check.specs.Parameters.{AreParameters};
-ghost use Rattle.koika_check.specs.Settled.{IsSettled};
+ghost use Rattle.koika_check.specs.Outcomes.{one_by_one};
+ghost use Rattle.koika_check.specs.inner.Outcomes.{Answers};
+ghost use Rattle.koika_check.specs.inner.Parameters.{AreParameters};
+ghost use Rattle.koika_check.specs.inner.Settled.{IsSettled};
 
 use crate::agreement::agrees;
 use crate::checked::{Function, Rule};

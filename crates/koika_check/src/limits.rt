@@ -5,8 +5,9 @@ ghost use Rattle.std.specs.List.{flat_map};
 ghost use Rattle.std.specs.Option.{option_map, option_to_list};
 ghost use Rattle.koika_check.specs.Capped.{capped};
 ghost use Rattle.koika_check.specs.Checks as checks;
+ghost use Rattle.koika_check.specs.inner.Checks as inner_checks;
 ghost use Rattle.koika_check.specs.Outcomes as outcomes;
-ghost use Rattle.koika_check.specs.Places.{or_further, place_of_kind};
+ghost use Rattle.koika_check.specs.inner.Places.{or_further, place_of_kind};
 ghost use Rattle.koika_check.specs.Sizes.{Size};
 
 use crate::measure::{MAX_DEPTH, MAX_WEIGHT, Measure};
@@ -137,7 +138,7 @@ fn in_scheduler(of: &Scheduler, left: &mut usize) -> Option<u32>
 
 #[cycle(places)]
 fn in_last(of: &Option<Box<Choice>>, left: &mut usize) -> Option<u32>
-    ensures { (behind : List ℕ) → slice_get (checks.places_if (option_map (λ last. checks.choice_places last.value) of.now) ++ behind) left.old ≡ or_further result behind left.new }
+    ensures { (behind : List ℕ) → slice_get (checks.places_if (option_map (λ last. inner_checks.choice_places last.value) of.now) ++ behind) left.old ≡ or_further result behind left.new }
 {
     match of {
         None => None,
@@ -147,7 +148,7 @@ fn in_last(of: &Option<Box<Choice>>, left: &mut usize) -> Option<u32>
 
 #[cycle(places)]
 fn in_choice(of: &Choice, left: &mut usize) -> Option<u32>
-    ensures { (behind : List ℕ) → slice_get (checks.choice_places of.now ++ behind) left.old ≡ or_further result behind left.new }
+    ensures { (behind : List ℕ) → slice_get (inner_checks.choice_places of.now ++ behind) left.old ≡ or_further result behind left.new }
 {
     if *left == 0 {
         return Some(of.rule.place);

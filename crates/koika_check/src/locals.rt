@@ -2,9 +2,9 @@
 
 ghost use Rattle.std.specs.Prelude.{◌≡◌, ◌+◌, ◌-◌, ◌<◌, ◌≤◌, List, [], ◌∷◌, ◌++◌, Contains, drop, take, length, None, Some, MatchOption, IfSome, IfOk, OnOk, slice_get};
 ghost use Rattle.kw_base.specs.Names.{number_of};
-ghost use Rattle.koika_check.specs.Locals.{AreLocals, locals_of, shapes_of};
+ghost use Rattle.koika_check.specs.inner.Locals.{AreLocals, locals_of, shapes_of};
 ghost use Rattle.koika_check.specs.Scopes.{local_named};
-ghost use Rattle.koika_check.specs.Shapes.{type_of_shape};
+ghost use Rattle.koika_check.specs.inner.Shapes.{type_of_shape};
 ghost use Rattle.koika_check.specs.declared.typed.ValueType.{ValueType};
 
 use crate::shapes::Shape;

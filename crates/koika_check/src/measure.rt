@@ -2,7 +2,9 @@
 
 ghost use Rattle.std.specs.Prelude.{◌≡◌, ◌+◌, ◌^◌, ◌≤◌, List, map, min, slice_get, IfOk};
 ghost use Rattle.koika_check.specs.Capped as counts;
+ghost use Rattle.koika_check.specs.inner.Capped as inner_counts;
 ghost use Rattle.koika_check.specs.Sizes as sizes;
+ghost use Rattle.koika_check.specs.inner.Sizes as inner_sizes;
 
 use crate::checked::Checked;
 use crate::typed::{Operation, Step, Typed};
@@ -36,7 +38,7 @@ impl Measure {
 
     /// Both weights, and the greater depth.
     pub(crate) fn and(self, other: Measure) -> Measure
-        ensures { result ≡ counts.both self other }
+        ensures { result ≡ inner_counts.both self other }
     {
         Measure {
             weight: self.weight.saturating_add(other.weight).min(MAX_WEIGHT + 1),
@@ -46,7 +48,7 @@ impl Measure {
 
     /// The same, so much deeper.
     pub(crate) fn deeper(self, depth: usize) -> Measure
-        ensures { result ≡ counts.deeper depth self }
+        ensures { result ≡ inner_counts.deeper depth self }
     {
         let depth = depth.min(MAX_DEPTH as usize + 1) as u32;
         Measure {
@@ -57,7 +59,7 @@ impl Measure {
 
     /// The same, so much heavier.
     pub(crate) fn heavier(self, weight: usize) -> Measure
-        ensures { result ≡ counts.heavier weight self }
+        ensures { result ≡ inner_counts.heavier weight self }
     {
         let weight = weight.min(MAX_WEIGHT as usize + 1) as u32;
         Measure {
@@ -273,7 +275,7 @@ fn weigh_chain(
 // its place is as deep.
 #[cycle(measure)]
 fn weigh_steps(design: &Checked, bodies: &[Measure], steps: &[Step]) -> Measure
-    ensures { (parts : List sizes.Size) → bodies.now ≡ map counts.capped parts → result ≡ counts.capped (sizes.steps_size (map (sizes.size_of_step (record { design = design.now; bodies = parts })) steps.now)) }
+    ensures { (parts : List sizes.Size) → bodies.now ≡ map counts.capped parts → result ≡ counts.capped (sizes.steps_size (map (inner_sizes.size_of_step (record { design = design.now; bodies = parts })) steps.now)) }
 {
     let mut all = Measure::of(0, 0);
     let mut depth = 1;
@@ -288,7 +290,7 @@ fn weigh_steps(design: &Checked, bodies: &[Measure], steps: &[Step]) -> Measure
 // How much a step weighs besides its value: 1 where it is a statement.
 #[tactic(auto, using(crate::proofs::Equations::equations))]
 fn step_weight(step: &Step) -> usize
-    ensures statement { (parts : sizes.Rests) → result ≡ (sizes.size_of_step parts step.now).statement }
+    ensures statement { (parts : sizes.Rests) → result ≡ (inner_sizes.size_of_step parts step.now).statement }
     ensures few { result ≤ 1 }
 {
     match step {
@@ -301,7 +303,7 @@ fn step_weight(step: &Step) -> usize
 #[cycle(measure)]
 #[tactic(auto, using(crate::proofs::Equations::equations))]
 fn weigh_step(design: &Checked, bodies: &[Measure], step: &Step) -> Measure
-    ensures { (parts : List sizes.Size) → bodies.now ≡ map counts.capped parts → result ≡ counts.capped (sizes.size_of_step (record { design = design.now; bodies = parts }) step.now).value }
+    ensures { (parts : List sizes.Size) → bodies.now ≡ map counts.capped parts → result ≡ counts.capped (inner_sizes.size_of_step (record { design = design.now; bodies = parts }) step.now).value }
 {
     match step {
         Step::Let(value) => weigh(design, bodies, value),

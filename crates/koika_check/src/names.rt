@@ -2,9 +2,10 @@
 
 ghost use Rattle.std.specs.Prelude.{◌≡◌, ◌<◌, length, IfOk};
 ghost use Rattle.kw_base.specs.declared.fault_number.TheConstants.{UNKNOWN_NAME};
-ghost use Rattle.koika_check.specs.Checking as checking;
-ghost use Rattle.koika_check.specs.Checking.{IsChecker};
-ghost use Rattle.koika_check.specs.Outcomes.{Tells, found, wrong};
+ghost use Rattle.koika_check.specs.inner.Checking as checking;
+ghost use Rattle.koika_check.specs.inner.Checking.{IsChecker};
+ghost use Rattle.koika_check.specs.Outcomes.{found, wrong};
+ghost use Rattle.koika_check.specs.inner.Outcomes.{Tells};
 ghost use Rattle.koika_check.specs.Scopes as scopes;
 ghost use Rattle.koika_check.specs.Types as types;
 ghost use Rattle.koika_check.specs.declared.stop.Stop.TheVariants as stops;

@@ -2,8 +2,9 @@
 
 ghost use Rattle.std.specs.Prelude.{◌≡◌, List, [], ◌∷◌, Some};
 ghost use Rattle.koika_check.specs.Operators as types;
-ghost use Rattle.koika_check.specs.Outcomes.{Tells, found};
-ghost use Rattle.koika_check.specs.Shapes.{AreArrays, Denotes, IsShapeIf, part_of};
+ghost use Rattle.koika_check.specs.Outcomes.{found};
+ghost use Rattle.koika_check.specs.inner.Outcomes.{Tells};
+ghost use Rattle.koika_check.specs.inner.Shapes.{AreArrays, Denotes, IsShapeIf, part_of};
 ghost use Rattle.koika_check.specs.Types.{as_bits, bits, each, is_bits, is_value, wrong_type};
 ghost use Rattle.koika_check.specs.declared.typed.ValueType.{ValueType};
 

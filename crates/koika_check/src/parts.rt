@@ -2,7 +2,7 @@
 
 ghost use Rattle.std.specs.Prelude.{◌≡◌, List, ℕ, None, Some, IfOk, OnOk, IsTrue, ◌↔◌, if◌then◌else◌};
 ghost use Rattle.std.specs.Str.{bytes_eq};
-ghost use Rattle.koika_check.specs.Things.{AreParts, key_of_part, position_of};
+ghost use Rattle.koika_check.specs.inner.Things.{AreParts, key_of_part, position_of};
 ghost use Rattle.koika_check.specs.declared.things.Thing.{Thing};
 
 use crate::things::Thing;

@@ -1,7 +1,7 @@
 //! Checker: the rules on a path of the scheduler.
 
 ghost use Rattle.std.specs.Prelude.{◌≡◌, ◌<◌, ◌++◌, ◌∷◌, [], false, length, take, IfOk, OnOk};
-ghost use Rattle.koika_check.specs.Paths.{IsPath};
+ghost use Rattle.koika_check.specs.inner.Paths.{IsPath};
 ghost use Rattle.koika_check.specs.Schedule.{is_on};
 
 use kw_bits::{NoMemory, Sequence};

@@ -2,10 +2,11 @@
 
 ghost use Rattle.std.specs.Prelude.{◌≡◌, ◌++◌, ◌∷◌, [], ◌+◌, ◌<◌, ◌&&◌, nat_eq, List, length, IfOk, OnOk};
 ghost use Rattle.std.specs.Option.{option_map};
-ghost use Rattle.koika_check.specs.Checking.{IsChecker};
-ghost use Rattle.koika_check.specs.Outcomes.{Answers};
-ghost use Rattle.koika_check.specs.Paths.{IsAt, is_end, next_at};
+ghost use Rattle.koika_check.specs.inner.Checking.{IsChecker};
+ghost use Rattle.koika_check.specs.inner.Outcomes.{Answers};
+ghost use Rattle.koika_check.specs.inner.Paths.{IsAt, is_end, next_at};
 ghost use Rattle.koika_check.specs.Schedule as nodes;
+ghost use Rattle.koika_check.specs.inner.Schedule as inner_nodes;
 ghost use Rattle.typed_core.specs.declared.design.Node.{Node as SpecNode};
 
 use crate::checker::Checker;
@@ -65,7 +66,7 @@ impl Nodes {
         requires at { IsAt checker.now self.old }
         ensures kept { OnOk result (IsAt checker.now self.new) }
         ensures path { OnOk result (self.new.path.rules ≡ self.old.path.rules) }
-        ensures tells { Answers (λ _ found. self.new.made ≡ self.old.made ++ found) (nodes.at_the_end (option_map (λ last. nodes.choice_nodes last.value) of.now) checker.now.design self.old.path.rules (length self.old.made)) result }
+        ensures tells { Answers (λ _ found. self.new.made ≡ self.old.made ++ found) (nodes.at_the_end (option_map (λ last. inner_nodes.choice_nodes last.value) of.now) checker.now.design self.old.path.rules (length self.old.made)) result }
     {
         match of {
             None => Ok(()),
@@ -80,7 +81,7 @@ impl Nodes {
         requires at { IsAt checker.now self.old }
         ensures kept { OnOk result (IsAt checker.now self.new) }
         ensures path { OnOk result (self.new.path.rules ≡ self.old.path.rules) }
-        ensures tells { Answers (λ _ found. self.new.made ≡ self.old.made ++ found) (nodes.choice_nodes of.now checker.now.design self.old.path.rules (length self.old.made)) result }
+        ensures tells { Answers (λ _ found. self.new.made ≡ self.old.made ++ found) (inner_nodes.choice_nodes of.now checker.now.design self.old.path.rules (length self.old.made)) result }
     {
         let before = self.path.len();
         let rule = self.tried(checker, &of.rule)?;

@@ -1,7 +1,7 @@
 //! Checker: types as numbers.
 
 ghost use Rattle.std.specs.Prelude.{◌≡◌, ◌<◌, ◌^◌, length, [], slice_index_or, IfOk, OnOk, Some};
-ghost use Rattle.koika_check.specs.Shapes.{AreShapes, Denotes, Grows, IsShape, array_types, key_of, number_in, type_of_shape};
+ghost use Rattle.koika_check.specs.inner.Shapes.{AreShapes, Denotes, Grows, IsShape, array_types, key_of, number_in, type_of_shape};
 ghost use Rattle.koika_check.specs.Types as types;
 
 use kw_base::{Added, Names};

@@ -1,7 +1,8 @@
 //! Checker: why checking ends.
 
 ghost use Rattle.std.specs.Prelude.{◌≡◌};
-ghost use Rattle.koika_check.specs.Outcomes.{Passes, holds, smaller, wrong};
+ghost use Rattle.koika_check.specs.Outcomes.{holds, smaller, wrong};
+ghost use Rattle.koika_check.specs.inner.Outcomes.{Passes};
 ghost use Rattle.koika_check.specs.declared.stop.Stop.TheVariants as stops;
 
 use kw_bits::NoMemory;

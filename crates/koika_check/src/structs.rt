@@ -1,12 +1,13 @@
 //! Checker: structs.
 
 ghost use Rattle.std.specs.Prelude.{◌≡◌, ◌≤◌, ◌++◌, ◌∷◌, [], ℕ, List, length, None, OnOk};
-ghost use Rattle.koika_check.specs.Checking.{IsChecker};
+ghost use Rattle.koika_check.specs.inner.Checking.{IsChecker};
 ghost use Rattle.koika_check.specs.Declarations as declarations;
-ghost use Rattle.koika_check.specs.Listed.{AreFields, GrowsInParts, Keeps, Lists};
-ghost use Rattle.koika_check.specs.Outcomes.{Answers, one_by_one};
-ghost use Rattle.koika_check.specs.Settled.{IsSettled};
-ghost use Rattle.koika_check.specs.Things.{position_of};
+ghost use Rattle.koika_check.specs.inner.Listed.{AreFields, GrowsInParts, Keeps, Lists};
+ghost use Rattle.koika_check.specs.Outcomes.{one_by_one};
+ghost use Rattle.koika_check.specs.inner.Outcomes.{Answers};
+ghost use Rattle.koika_check.specs.inner.Settled.{IsSettled};
+ghost use Rattle.koika_check.specs.inner.Things.{position_of};
 ghost use Rattle.koika_check.specs.declared.things.Thing.TheVariants as thing;
 
 use crate::additions::next_number;

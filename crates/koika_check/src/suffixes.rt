@@ -1,11 +1,11 @@
 //! Checker: suffixes, which select a part of a value.
 
 ghost use Rattle.std.specs.Prelude.{◌≡◌, ◌+◌, ◌^◌, ◌<◌, ◌≤◌, length, All, drop, sum_by, IfOk, Some, None};
-ghost use Rattle.koika_check.specs.Checking.{IsChecker, IsPart, IsType, Takes, arrays_of};
+ghost use Rattle.koika_check.specs.inner.Checking.{IsChecker, IsPart, IsType, Takes, arrays_of};
 ghost use Rattle.koika_check.specs.Composites.{field_named, fields_of, type_at};
-ghost use Rattle.koika_check.specs.Outcomes.{Tells};
+ghost use Rattle.koika_check.specs.inner.Outcomes.{Tells};
 ghost use Rattle.koika_check.specs.Selections as types;
-ghost use Rattle.koika_check.specs.Shapes.{part_of, type_of_shape};
+ghost use Rattle.koika_check.specs.inner.Shapes.{part_of, type_of_shape};
 ghost use Rattle.koika_check.specs.Types.{as_bits, width_of};
 ghost use Rattle.koika_syntax.specs.declared.tree.Suffix.TheVariants as suffixes;
 ghost use Rattle.koika_check.specs.declared.checker.Checker.{Checker as Checking};

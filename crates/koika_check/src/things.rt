@@ -2,7 +2,7 @@
 
 ghost use Rattle.std.specs.Prelude.{◌≡◌, List, ℕ, None, Some, OnOk, if◌then◌else◌};
 ghost use Rattle.std.specs.Str.{bytes_eq};
-ghost use Rattle.koika_check.specs.Things.{AreThings, thing_named};
+ghost use Rattle.koika_check.specs.inner.Things.{AreThings, thing_named};
 
 use kw_base::{Added, Names};
 use kw_bits::{NoMemory, Sequence};

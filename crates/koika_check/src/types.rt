@@ -2,9 +2,9 @@
 
 ghost use Rattle.std.specs.Prelude.{◌≡◌, ◌++◌, ◌∷◌, [], ◌&&◌, OnOk};
 ghost use Rattle.kw_base.specs.declared.fault_number.TheConstants.{WRONG_WIDTH};
-ghost use Rattle.koika_check.specs.Checking.{Grows, IsChecker, IsType, Stands, arrays_of, shape_of, type_by_thing};
-ghost use Rattle.koika_check.specs.Outcomes.{Tells};
-ghost use Rattle.koika_check.specs.Shapes.{type_of_shape};
+ghost use Rattle.koika_check.specs.inner.Checking.{Grows, IsChecker, IsType, Stands, arrays_of, shape_of, type_by_thing};
+ghost use Rattle.koika_check.specs.inner.Outcomes.{Tells};
+ghost use Rattle.koika_check.specs.inner.Shapes.{type_of_shape};
 ghost use Rattle.koika_check.specs.Types as types;
 
 use crate::checker::Checker;

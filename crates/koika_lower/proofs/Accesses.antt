@@ -20,9 +20,9 @@ use Rattle.koika_check.specs.declared.checked.Register.{Register}
 use Rattle.koika_check.specs.declared.checked.Table.{Table}
 use Rattle.koika_check.specs.declared.typed.Operation.TheVariants as operation
 use Rattle.koika_check.specs.declared.typed.ValueType.{ValueType}
-use Rattle.koika_lower.specs.Applied.{IsAskedTable, IsWritten}
+use Rattle.koika_lower.specs.inner.Applied.{IsAskedTable, IsWritten}
 use Rattle.koika_lower.specs.Lowering.{register_widths}
-use Rattle.koika_lower.specs.Simulation.{EndAlike, IsApplied, Lowers, LowersAll, Sense, Simulates, Stands, apply_sense, declared_by, externs_of, world}
+use Rattle.koika_lower.specs.inner.Simulation.{EndAlike, IsApplied, Lowers, LowersAll, Sense, Simulates, Stands, apply_sense, declared_by, externs_of, world}
 use Rattle.koika_lower.specs.declared.lowered.Bound.{Bound}
 use Rattle.koika_lower.specs.declared.lowered.Lowered.{Lowered}
 use Rattle.koika_lower.proofs.Constructs.{bits-come, one-lowers, single, valid-bits, world-design, world-ports}

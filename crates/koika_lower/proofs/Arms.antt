@@ -15,9 +15,9 @@ use Rattle.koika_check.specs.Types.{bits}
 use Rattle.koika_check.specs.Typing.{AreArms, IsType}
 use Rattle.koika_check.specs.declared.checked.Checked.{Checked}
 use Rattle.koika_check.specs.declared.typed.ValueType.{ValueType}
-use Rattle.koika_lower.specs.Applied.{IsChoice, IsChosen, arms_part, idle, values_of}
+use Rattle.koika_lower.specs.inner.Applied.{IsChoice, IsChosen, arms_part, idle, values_of}
 use Rattle.koika_lower.specs.Lowering.{input_widths, register_widths}
-use Rattle.koika_lower.specs.Simulation.{Lowers, LowersAll, NamesFit, NamesStand, Sense, Simulates, Stands, declared_by, environment, width_if, world}
+use Rattle.koika_lower.specs.inner.Simulation.{Lowers, LowersAll, NamesFit, NamesStand, Sense, Simulates, Stands, declared_by, environment, width_if, world}
 use Rattle.koika_lower.specs.declared.lowered.Bound.{Bound}
 use Rattle.koika_lower.specs.declared.lowered.Lowered.{Lowered}
 use Rattle.koika_lower.proofs.Constructs.{sim-core}

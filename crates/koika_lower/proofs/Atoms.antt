@@ -18,7 +18,7 @@ use Rattle.koika_check.specs.declared.typed.Typed.{Typed}
 use Rattle.koika_check.specs.declared.typed.Typed.TheVariants as typed
 use Rattle.koika_check.specs.declared.typed.ValueType.{ValueType}
 use Rattle.koika_lower.specs.Lowering.{input_widths, register_widths}
-use Rattle.koika_lower.specs.Simulation.{AreNames, Lowers, Sense, Simulates, Stands, place_of, world}
+use Rattle.koika_lower.specs.inner.Simulation.{AreNames, Lowers, Sense, Simulates, Stands, place_of, world}
 use Rattle.koika_lower.specs.declared.lowered.Bound.{Bound}
 use Rattle.koika_lower.specs.declared.lowered.Lowered.{Lowered}
 use Rattle.koika_lower.proofs.Constructs.{world-design}

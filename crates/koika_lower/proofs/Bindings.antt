@@ -10,8 +10,8 @@ use Rattle.typed_core.specs.declared.action.Action.{Action}
 use Rattle.typed_core.specs.declared.outcome.Stopped.{Stopped}
 use Rattle.typed_core.specs.declared.action.Action.TheVariants as action
 use Rattle.typed_core.specs.declared.action.TwoOp.TheVariants.{Concat}
-use Rattle.koika_lower.specs.Actions.{ComesTo, IsLet, IsTwo}
-use Rattle.koika_lower.specs.Applied.{IsArray, IsBound, LetsTyped, StackFits, lets, names_stacked, values_of}
+use Rattle.koika_lower.specs.inner.Actions.{ComesTo, IsLet, IsTwo}
+use Rattle.koika_lower.specs.inner.Applied.{IsArray, IsBound, LetsTyped, StackFits, lets, names_stacked, values_of}
 use Rattle.koika_lower.specs.declared.lowered.Lowered.{Lowered}
 
 -- what follows from what a call ensures of its answer

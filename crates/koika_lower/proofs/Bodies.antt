@@ -8,7 +8,7 @@ use Rattle.koika_check.specs.Typing.{HasType, IsFunction}
 use Rattle.koika_check.specs.declared.checked.Checked.{Checked}
 use Rattle.koika_check.specs.declared.checked.Function.{Function}
 use Rattle.koika_check.specs.declared.typed.ValueType.{ValueType}
-use Rattle.koika_lower.specs.Simulation.{AreNames, IsBody, Lowers, parameter_names}
+use Rattle.koika_lower.specs.inner.Simulation.{AreNames, IsBody, Lowers, parameter_names}
 use Rattle.koika_lower.specs.declared.lowered.Bound.{Bound}
 use Rattle.koika_lower.specs.declared.lowered.Lowered.{Lowered}
 use Rattle.koika_lower.proofs.Calls.{params-are}

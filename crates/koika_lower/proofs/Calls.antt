@@ -14,9 +14,9 @@ use Rattle.koika_check.specs.declared.checked.Checked.{Checked}
 use Rattle.koika_check.specs.declared.checked.Function.{Function}
 use Rattle.koika_check.specs.declared.typed.Operation.TheVariants as operation
 use Rattle.koika_check.specs.declared.typed.ValueType.{ValueType}
-use Rattle.koika_lower.specs.Applied.{IsBound, IsCalled, LetsTyped, lets}
+use Rattle.koika_lower.specs.inner.Applied.{IsBound, IsCalled, LetsTyped, lets}
 use Rattle.koika_lower.specs.Lowering.{register_widths}
-use Rattle.koika_lower.specs.Simulation.{AreNames, IsApplied, IsBody, IsCallee, Lowers, LowersAll, NamesFit, NamesStand, Sense, Simulates, StandAll, Stands, apply_sense, declared_by, environment, parameter_names, world}
+use Rattle.koika_lower.specs.inner.Simulation.{AreNames, IsApplied, IsBody, IsCallee, Lowers, LowersAll, NamesFit, NamesStand, Sense, Simulates, StandAll, Stands, apply_sense, declared_by, environment, parameter_names, world}
 use Rattle.koika_lower.specs.declared.lowered.Bound.{Bound}
 use Rattle.koika_lower.specs.declared.lowered.Lowered.{Lowered}
 use Rattle.koika_lower.proofs.Constructs.{sim-core}

@@ -19,9 +19,9 @@ use Rattle.koika_check.specs.Types.{bits, width_of}
 use Rattle.koika_check.specs.Typing.{Calculates, Chains, Joins, Operates}
 use Rattle.koika_check.specs.declared.checked.Checked.{Checked}
 use Rattle.koika_check.specs.declared.typed.ValueType.{ValueType}
-use Rattle.koika_lower.specs.Applied.{AreOperands, behind, chain_part}
+use Rattle.koika_lower.specs.inner.Applied.{AreOperands, behind, chain_part}
 use Rattle.koika_lower.specs.Lowering.{input_widths, register_widths}
-use Rattle.koika_lower.specs.Simulation.{LowersAll, NamesFit, NamesStand, Sense, Simulates, Stands, declared_by, environment, world}
+use Rattle.koika_lower.specs.inner.Simulation.{LowersAll, NamesFit, NamesStand, Sense, Simulates, Stands, declared_by, environment, world}
 use Rattle.koika_lower.specs.declared.lowered.Bound.{Bound}
 use Rattle.koika_lower.specs.declared.lowered.Lowered.{Lowered}
 use Rattle.koika_lower.proofs.Operands.{meanings, parts, sim-cons}

@@ -13,8 +13,8 @@ use Rattle.koika_check.specs.Types.{width_of}
 use Rattle.koika_check.specs.Typing.{Chains, IsType, Operates, Pairwise}
 use Rattle.koika_check.specs.declared.checked.Checked.{Checked}
 use Rattle.koika_check.specs.declared.typed.ValueType.{ValueType}
-use Rattle.koika_lower.specs.Applied.{AreOperands, IsChain, behind, chain_part, values_of}
-use Rattle.koika_lower.specs.Forms.{FormFits, IsFormed, form_value}
+use Rattle.koika_lower.specs.inner.Applied.{AreOperands, IsChain, behind, chain_part, values_of}
+use Rattle.koika_lower.specs.inner.Forms.{FormFits, IsFormed, form_value}
 use Rattle.koika_lower.specs.declared.forms.Form.{Form}
 use Rattle.koika_lower.specs.declared.lowered.Lowered.{Lowered}
 use Rattle.koika_lower.proofs.Choices.{each-end}

@@ -7,8 +7,8 @@ use Rattle.typed_core.specs.Evaluation.{Part, ◌>>=◌, choose, evaluate}
 use Rattle.typed_core.specs.Valid.{ActionHasWidth}
 use Rattle.typed_core.specs.declared.action.Action.{Action}
 use Rattle.typed_core.specs.declared.outcome.Stopped.{Stopped}
-use Rattle.koika_lower.specs.Actions.{IsIf}
-use Rattle.koika_lower.specs.Applied.{IsChosen, arms_part, values_of}
+use Rattle.koika_lower.specs.inner.Actions.{IsIf}
+use Rattle.koika_lower.specs.inner.Applied.{IsChosen, arms_part, values_of}
 use Rattle.koika_lower.specs.declared.lowered.Lowered.{Lowered}
 
 -- of one more at the end

@@ -16,9 +16,9 @@ use Rattle.koika_check.specs.declared.checked.Field.{Field}
 use Rattle.koika_check.specs.declared.typed.BaseType.TheVariants as base
 use Rattle.koika_check.specs.declared.typed.Operation.TheVariants as operation
 use Rattle.koika_check.specs.declared.typed.ValueType.{ValueType}
-use Rattle.koika_lower.specs.Applied.{IsChain, chain_part}
+use Rattle.koika_lower.specs.inner.Applied.{IsChain, chain_part}
 use Rattle.koika_lower.specs.Lowering.{register_widths}
-use Rattle.koika_lower.specs.Simulation.{IsApplied, Lowers, Sense, StandAll, Stands, apply_sense, declared_by, environment, world}
+use Rattle.koika_lower.specs.inner.Simulation.{IsApplied, Lowers, Sense, StandAll, Stands, apply_sense, declared_by, environment, world}
 use Rattle.koika_lower.specs.declared.lowered.Bound.{Bound}
 use Rattle.koika_lower.specs.declared.lowered.Lowered.{Lowered}
 use Rattle.koika_lower.proofs.ChainValues.{are-operands, core, operands-count, operands-typed}

@@ -25,10 +25,10 @@ use Rattle.koika_check.specs.declared.checked.Function.{Function}
 use Rattle.koika_check.specs.declared.typed.Operation.{Operation}
 use Rattle.koika_check.specs.declared.typed.Operation.TheVariants as operation
 use Rattle.koika_check.specs.declared.typed.ValueType.{ValueType}
-use Rattle.koika_lower.specs.Actions.{ComesTo}
-use Rattle.koika_lower.specs.Applied.{IsExtended, IsPrefixed}
+use Rattle.koika_lower.specs.inner.Actions.{ComesTo}
+use Rattle.koika_lower.specs.inner.Applied.{IsExtended, IsPrefixed}
 use Rattle.koika_lower.specs.Lowering.{register_widths}
-use Rattle.koika_lower.specs.Simulation.{IsApplied, Lowers, LowersAll, NamesFit, Sense, Simulates, Stands, apply_sense, declared_by, environment, width_if, world}
+use Rattle.koika_lower.specs.inner.Simulation.{IsApplied, Lowers, LowersAll, NamesFit, Sense, Simulates, Stands, apply_sense, declared_by, environment, width_if, world}
 use Rattle.koika_lower.specs.declared.lowered.Bound.{Bound}
 use Rattle.koika_lower.specs.declared.lowered.Lowered.{Lowered}
 use Rattle.koika_lower.proofs.Operands.{sim-one, sim-same-bits}

@@ -40,8 +40,8 @@ use Rattle.koika_check.specs.declared.checked.Rule.{Rule}
 use Rattle.koika_check.specs.declared.checked.Table.{Table}
 use Rattle.koika_check.specs.declared.typed.ValueType.{ValueType}
 use Rattle.koika_lower.specs.Lowering.{IsLowered, ends_of, input_of, register_of, register_widths, typed_ends}
-use Rattle.koika_lower.specs.Rules.{AreRules, IsRule}
-use Rattle.koika_lower.specs.Simulation.{Alike, AreNames, EndAlike, Lowers, Stands, declared_by, environment, world}
+use Rattle.koika_lower.specs.inner.Rules.{AreRules, IsRule}
+use Rattle.koika_lower.specs.inner.Simulation.{Alike, AreNames, EndAlike, Lowers, Stands, declared_by, environment, world}
 use Rattle.koika_lower.specs.declared.lowered.Bound.{Bound}
 use Rattle.koika_lower.specs.declared.lowered.Lowered.{Lowered}
 use Rattle.koika_lower.proofs.Lists.{pairs-at, pairs-length, pairs-map, pairs-second}

@@ -20,9 +20,9 @@ use Rattle.koika_check.specs.Typing.{Chains, Operates}
 use Rattle.koika_check.specs.declared.checked.Checked.{Checked}
 use Rattle.koika_check.specs.declared.typed.Operation.TheVariants as operation
 use Rattle.koika_check.specs.declared.typed.ValueType.{ValueType}
-use Rattle.koika_lower.specs.Applied.{AreOperands, IsChain, behind, chain_part}
+use Rattle.koika_lower.specs.inner.Applied.{AreOperands, IsChain, behind, chain_part}
 use Rattle.koika_lower.specs.Lowering.{input_widths, register_widths}
-use Rattle.koika_lower.specs.Simulation.{IsApplied, Lowers, LowersAll, NamesStand, Sense, Simulates, StandAll, Stands, apply_sense, declared_by, environment, world}
+use Rattle.koika_lower.specs.inner.Simulation.{IsApplied, Lowers, LowersAll, NamesStand, Sense, Simulates, StandAll, Stands, apply_sense, declared_by, environment, world}
 use Rattle.koika_lower.specs.declared.lowered.Bound.{Bound}
 use Rattle.koika_lower.specs.declared.lowered.Lowered.{Lowered}
 use Rattle.koika_lower.proofs.ChainValues.{are-operands, core, meant, operands-count, operands-typed, sim-chain}

@@ -27,7 +27,7 @@ use Rattle.koika_check.specs.declared.typed.Selection.{Selection}
 use Rattle.koika_check.specs.declared.typed.Selection.TheVariants as selection
 use Rattle.koika_check.specs.declared.typed.ValueType.{ValueType}
 use Rattle.koika_lower.specs.Guarded.{all_at, all_some, chained_if, field_at, fields_in, item_at, part_at, replaced_at, unpacked_if, unpacked_in}
-use Rattle.koika_lower.specs.Simulation.{StandAll, Stands}
+use Rattle.koika_lower.specs.inner.Simulation.{StandAll, Stands}
 use Rattle.koika_lower.proofs.Agreements.{AllHave, Has}
 use Rattle.koika_lower.proofs.ChainValues.{operates-width}
 use Rattle.koika_lower.proofs.Constructs.{bits-width, valid-bits}

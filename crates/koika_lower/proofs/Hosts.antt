@@ -26,10 +26,10 @@ use Rattle.koika_check.specs.declared.checked.Checked.{Checked}
 use Rattle.koika_check.specs.declared.checked.Host.{Host}
 use Rattle.koika_check.specs.declared.typed.Operation.TheVariants as operation
 use Rattle.koika_check.specs.declared.typed.ValueType.{ValueType}
-use Rattle.koika_lower.specs.Applied.{IsAskedHost, IsChain, chain_part}
-use Rattle.koika_lower.specs.Forms.{FormFits, IsFormed, form_value}
+use Rattle.koika_lower.specs.inner.Applied.{IsAskedHost, IsChain, chain_part}
+use Rattle.koika_lower.specs.inner.Forms.{FormFits, IsFormed, form_value}
 use Rattle.koika_lower.specs.Lowering.{register_widths}
-use Rattle.koika_lower.specs.Simulation.{IsApplied, Lowers, LowersAll, Sense, StandAll, Stands, apply_sense, declared_by, environment, externs_of, world}
+use Rattle.koika_lower.specs.inner.Simulation.{IsApplied, Lowers, LowersAll, Sense, StandAll, Stands, apply_sense, declared_by, environment, externs_of, world}
 use Rattle.koika_lower.specs.declared.forms.Form.{Form}
 use Rattle.koika_lower.specs.declared.lowered.Bound.{Bound}
 use Rattle.koika_lower.specs.declared.lowered.Lowered.{Lowered}

@@ -16,10 +16,10 @@ use Rattle.koika_check.specs.declared.typed.Step.TheVariants as step
 use Rattle.koika_check.specs.declared.typed.Typed.{Typed}
 use Rattle.koika_check.specs.declared.typed.Typed.TheVariants as typed
 use Rattle.koika_check.specs.declared.typed.ValueType.{ValueType}
-use Rattle.koika_lower.specs.Actions.{IsLet}
-use Rattle.koika_lower.specs.Applied.{IsAfter, IsChoice, idle}
-use Rattle.koika_lower.specs.Expressions.{AreLowered, AreLoweredSteps, block_sense, sense_of}
-use Rattle.koika_lower.specs.Simulation.{AreNames, IsApplied, IsCallee, Lowers, LowersAll, Sense, apply_sense, rises}
+use Rattle.koika_lower.specs.inner.Actions.{IsLet}
+use Rattle.koika_lower.specs.inner.Applied.{IsAfter, IsChoice, idle}
+use Rattle.koika_lower.specs.inner.Expressions.{AreLowered, AreLoweredSteps, block_sense, sense_of}
+use Rattle.koika_lower.specs.inner.Simulation.{AreNames, IsApplied, IsCallee, Lowers, LowersAll, Sense, apply_sense, rises}
 use Rattle.koika_lower.specs.declared.lowered.Bound.{Bound}
 use Rattle.koika_lower.specs.declared.lowered.Lowered.{Lowered}
 use Rattle.koika_lower.proofs.Arms.{if-lowers, if_sense}

@@ -9,7 +9,7 @@ use Rattle.koika_check.specs.declared.typed.Step.TheOpen as opened
 use Rattle.koika_check.specs.declared.typed.Step.TheVariants as step
 use Rattle.koika_check.specs.declared.typed.Typed.{Typed, fold-roll-Typed}
 use Rattle.koika_check.specs.declared.typed.Typed.TheVariants as typed
-use Rattle.koika_lower.specs.Expressions.{step_meaning}
+use Rattle.koika_lower.specs.inner.Expressions.{step_meaning}
 
 module _ (s : Setting Stopped) where
   pub meaning-Constant : (v : Value) → meaning s (typed.Constant v) ≡ typed_step s (opened.Constant v)

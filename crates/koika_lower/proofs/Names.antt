@@ -7,7 +7,7 @@ use Rattle.koika_check.specs.Types.{width_of}
 use Rattle.koika_check.specs.Typing.{IsType}
 use Rattle.koika_check.specs.declared.checked.Checked.{Checked}
 use Rattle.koika_check.specs.declared.typed.ValueType.{ValueType}
-use Rattle.koika_lower.specs.Simulation.{AreNames, NamesFit, NamesStand, Stands, place_of}
+use Rattle.koika_lower.specs.inner.Simulation.{AreNames, NamesFit, NamesStand, Stands, place_of}
 use Rattle.koika_lower.specs.declared.lowered.Bound.{Bound}
 
 further : (depth : ℕ) (b : Bound) → b.level < depth → place_of (depth + 1) b ≡ suc (place_of depth b)

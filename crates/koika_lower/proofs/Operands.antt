@@ -11,9 +11,9 @@ use Rattle.typed_core.specs.declared.outcome.Stopped.{Stopped}
 use Rattle.koika_check.specs.Meaning.{Meaning, in_turn, with_value}
 use Rattle.koika_check.specs.declared.checked.Checked.{Checked}
 use Rattle.koika_check.specs.declared.typed.ValueType.{ValueType}
-use Rattle.koika_lower.specs.Applied.{lets, values_of}
+use Rattle.koika_lower.specs.inner.Applied.{lets, values_of}
 use Rattle.koika_lower.specs.Lowering.{input_widths, register_widths}
-use Rattle.koika_lower.specs.Simulation.{AreNames, LowersAll, NamesStand, Sense, Simulates, StandAll, Stands, environment, world}
+use Rattle.koika_lower.specs.inner.Simulation.{AreNames, LowersAll, NamesStand, Sense, Simulates, StandAll, Stands, environment, world}
 use Rattle.koika_lower.specs.declared.lowered.Bound.{Bound}
 use Rattle.koika_lower.specs.declared.lowered.Lowered.{Lowered}
 use Rattle.koika_lower.proofs.Names.{names-deeper, stand-deeper}

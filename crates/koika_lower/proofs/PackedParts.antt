@@ -20,7 +20,7 @@ use Rattle.koika_check.specs.declared.checked.Field.{Field}
 use Rattle.koika_check.specs.declared.checked.Struct.{Struct}
 use Rattle.koika_check.specs.declared.typed.BaseType.TheVariants as base
 use Rattle.koika_check.specs.declared.typed.ValueType.{ValueType}
-use Rattle.koika_lower.specs.Packing.{AreParts, so_far}
+use Rattle.koika_lower.specs.inner.Packing.{AreParts, so_far}
 use Rattle.koika_check.proofs.TypingLayers.{open-IsOf}
 use Rattle.koika_lower.proofs.Values.{all-each, array-width, constant-stands, declared-struct, first_of, item-type, same_types, struct-total, total, total-replicate, types_of}
 

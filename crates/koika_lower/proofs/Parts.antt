@@ -20,10 +20,10 @@ use Rattle.koika_check.specs.declared.checked.Checked.{Checked}
 use Rattle.koika_check.specs.declared.typed.Operation.TheVariants as operation
 use Rattle.koika_check.specs.declared.typed.Selection.{Selection}
 use Rattle.koika_check.specs.declared.typed.ValueType.{ValueType}
-use Rattle.koika_lower.specs.Actions.{ComesTo}
-use Rattle.koika_lower.specs.Applied.{AllFit, IsArray, IsReplaced, IsSelected, IsUpdated, lets, lowest_bit, lowest_of_all, names_stacked, part_width, range_at, width_of_all, with_part}
+use Rattle.koika_lower.specs.inner.Actions.{ComesTo}
+use Rattle.koika_lower.specs.inner.Applied.{AllFit, IsArray, IsReplaced, IsSelected, IsUpdated, lets, lowest_bit, lowest_of_all, names_stacked, part_width, range_at, width_of_all, with_part}
 use Rattle.koika_lower.specs.Lowering.{register_widths}
-use Rattle.koika_lower.specs.Simulation.{IsApplied, Lowers, LowersAll, Sense, Simulates, StandAll, Stands, apply_sense, declared_by, environment, world}
+use Rattle.koika_lower.specs.inner.Simulation.{IsApplied, Lowers, LowersAll, Sense, Simulates, StandAll, Stands, apply_sense, declared_by, environment, world}
 use Rattle.koika_lower.specs.declared.lowered.Bound.{Bound}
 use Rattle.koika_lower.specs.declared.lowered.Lowered.{Lowered}
 use Rattle.koika_lower.proofs.Calls.{lets-typed}

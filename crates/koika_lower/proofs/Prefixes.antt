@@ -8,8 +8,8 @@ use Rattle.typed_core.specs.declared.action.Action.{Action}
 use Rattle.typed_core.specs.declared.action.OneOp.{OneOp}
 use Rattle.typed_core.specs.declared.outcome.Stopped.{Stopped}
 use Rattle.koika_check.specs.Meaning.{prefix_value, prefixed}
-use Rattle.koika_lower.specs.Actions.{IsOne}
-use Rattle.koika_lower.specs.Applied.{IsPrefixed}
+use Rattle.koika_lower.specs.inner.Actions.{IsOne}
+use Rattle.koika_lower.specs.inner.Applied.{IsPrefixed}
 use Rattle.koika_lower.specs.declared.lowered.Lowered.{Lowered}
 use Rattle.koika_lower.proofs.Orders.{bind-assoc}
 

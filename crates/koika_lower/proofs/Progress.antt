@@ -12,7 +12,8 @@ use Rattle.typed_core.specs.Widths.{HaveWidths}
 use Rattle.typed_core.specs.declared.outcome.Stopped.{Stopped}
 use Rattle.koika_check.specs.Meaning.{Meaning, Setting, Stepped, apply, choose, gives, in_turn, input_as, meaning, number_by, step_step, steps_in_turn, typed_step, with_value}
 use Rattle.koika_check.specs.Types.{bits}
-use Rattle.koika_check.specs.Typing.{AreArms, Binds, Doing, Gives, HasType, IsInput, IsTypedDesign, Pairwise, PartHasType, Runs, StepDoes, StepHasType, StepsHaveType}
+use Rattle.koika_check.specs.Typing.{AreArms, Binds, Doing, Gives, HasType, IsInput, IsTypedDesign, Pairwise, PartHasType, Runs, StepDoes, StepsHaveType}
+use Rattle.koika_check.specs.inner.Typing.{StepHasType}
 use Rattle.koika_check.specs.declared.checked.Checked.{Checked}
 use Rattle.koika_check.specs.declared.checked.Function.{Function}
 use Rattle.koika_check.specs.declared.checked.Input.{Input}
@@ -22,7 +23,7 @@ use Rattle.koika_check.specs.declared.typed.Typed.{Typed, Typed-F, fold-roll-Typ
 use Rattle.koika_check.specs.declared.typed.ValueType.{ValueType}
 use Rattle.koika_check.proofs.TreeParts.{Such, firsts}
 use Rattle.koika_check.proofs.TypingLayers.{open-HasType, open-step}
-use Rattle.koika_lower.specs.Expressions.{step_meaning}
+use Rattle.koika_lower.specs.inner.Expressions.{step_meaning}
 use Rattle.koika_lower.specs.Guarded.{Cause, by_bit, guarded_apply, guarded_choose, guarded_in_turn, guarded_meaning, guarded_part, guarded_step, unpacked_if, with_some}
 use Rattle.koika_lower.specs.Lowering.{input_widths, register_widths}
 use Rattle.koika_lower.proofs.Agreements.{Agrees, AllHave, Has, HasIf, agrees-bind, agrees-bit, agrees-known, agrees-value}

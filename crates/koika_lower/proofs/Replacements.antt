@@ -6,7 +6,7 @@ use Rattle.kw_bits.specs.BitVector.{BitVector, IsBits}
 use Rattle.kw_bits.specs.Operators.{concat, slice}
 use Rattle.kw_bits.proofs.OperatorLaws.{concat-slice, slice-concat}
 use Rattle.koika_types.proofs.Stacks.{concat_assoc}
-use Rattle.koika_lower.specs.Applied.{range_at, with_high, with_low, with_part}
+use Rattle.koika_lower.specs.inner.Applied.{range_at, with_high, with_low, with_part}
 use Rattle.koika_lower.proofs.Slices.{slice-high, slice-low}
 
 yes : (m n : ℕ) → m < n → nat_lt m n ≡ true

@@ -7,8 +7,8 @@ use Rattle.typed_core.specs.Valid.{ActionHasWidth}
 use Rattle.typed_core.specs.declared.action.Action.{Action}
 use Rattle.typed_core.specs.declared.action.Action.TheVariants as action
 use Rattle.typed_core.specs.declared.action.TwoOp.TheVariants.{Concat}
-use Rattle.koika_lower.specs.Actions.{IsSlice, IsTwo}
-use Rattle.koika_lower.specs.Applied.{IsReplaced, IsWithHigh, IsWithLow, with_high, with_low}
+use Rattle.koika_lower.specs.inner.Actions.{IsSlice, IsTwo}
+use Rattle.koika_lower.specs.inner.Applied.{IsReplaced, IsWithHigh, IsWithLow, with_high, with_low}
 use Rattle.koika_lower.specs.declared.selecting.Range.{Range}
 
 pub high-some : (above width : ℕ) (part high a : Action) → nat_lt above width ≡ true → above < width → IsSlice (action.Local 1) (width - 1) above high → IsTwo Concat high part a → IsWithHigh above width part a

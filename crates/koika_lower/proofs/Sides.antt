@@ -6,8 +6,8 @@ use Rattle.koika_check.specs.Typing.{HasType, IsTypedDesign, Pairwise}
 use Rattle.koika_check.specs.declared.checked.Checked.{Checked}
 use Rattle.koika_check.specs.declared.typed.Typed.{Typed}
 use Rattle.koika_check.specs.declared.typed.ValueType.{ValueType}
-use Rattle.koika_lower.specs.Expressions.{AreLowered, sense_of}
-use Rattle.koika_lower.specs.Simulation.{AreNames, Lowers, LowersAll, Sense}
+use Rattle.koika_lower.specs.inner.Expressions.{AreLowered, sense_of}
+use Rattle.koika_lower.specs.inner.Simulation.{AreNames, Lowers, LowersAll, Sense}
 use Rattle.koika_lower.specs.declared.lowered.Bound.{Bound}
 use Rattle.koika_lower.specs.declared.lowered.Lowered.{Lowered}
 use Rattle.koika_lower.proofs.Names.{names-deeper}

@@ -5,7 +5,7 @@ use Rattle.typed_core.specs.Fits.{EventsFit}
 use Rattle.typed_core.specs.declared.access.Event.{Event}
 use Rattle.typed_core.specs.declared.outcome.Stopped.{Stopped}
 use Rattle.koika_lower.proofs.Orders.{bind-unit}
-use Rattle.koika_lower.specs.Simulation.{Alike, EndAlike, Simulates}
+use Rattle.koika_lower.specs.inner.Simulation.{Alike, EndAlike, Simulates}
 
 module _ {V W V' W' : Type 0} (regs : List ℕ) (R : V → W → Type 0) (Q : V' → W' → Type 0) (f : V → Part V' Stopped) (g : W → Part W' Stopped) (next : (v : V) (w : W) → R v w → Simulates regs Q (f v) (g w)) where
   ends : (es es' : List Event) (x : Ending V Stopped) (y : Ending W Stopped) → es' ≡ es → EventsFit regs es → EndAlike R x y → Alike regs Q (bind es x f) (bind es' y g)

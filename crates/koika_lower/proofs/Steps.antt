@@ -7,18 +7,19 @@ use Rattle.typed_core.specs.Valid.{ActionHasWidth}
 use Rattle.typed_core.specs.declared.action.Action.{Action}
 use Rattle.typed_core.specs.declared.outcome.Stopped.{Stopped}
 use Rattle.koika_check.specs.Meaning.{Stepped, meaning, with_value}
-use Rattle.koika_check.specs.Typing.{Binds, Gives, HasType, IsType, Runs, StepHasType, StepsHaveType}
+use Rattle.koika_check.specs.Typing.{Binds, Gives, HasType, IsType, Runs, StepsHaveType}
+use Rattle.koika_check.specs.inner.Typing.{StepHasType}
 use Rattle.koika_check.specs.declared.checked.Checked.{Checked}
 use Rattle.koika_check.specs.declared.typed.Step.{Step}
 use Rattle.koika_check.specs.declared.typed.Step.TheOpen as opened
 use Rattle.koika_check.specs.declared.typed.Step.TheVariants as step
 use Rattle.koika_check.specs.declared.typed.Typed.{Typed}
 use Rattle.koika_check.specs.declared.typed.ValueType.{ValueType}
-use Rattle.koika_lower.specs.Actions.{IsLet}
-use Rattle.koika_lower.specs.Applied.{IsAfter, idle}
-use Rattle.koika_lower.specs.Expressions.{block_sense, sense_of}
+use Rattle.koika_lower.specs.inner.Actions.{IsLet}
+use Rattle.koika_lower.specs.inner.Applied.{IsAfter, idle}
+use Rattle.koika_lower.specs.inner.Expressions.{block_sense, sense_of}
 use Rattle.koika_lower.specs.Lowering.{register_widths}
-use Rattle.koika_lower.specs.Simulation.{AreNames, EndAlike, Lowers, Sense, Simulates, Stands, declared_by, environment, width_if, world}
+use Rattle.koika_lower.specs.inner.Simulation.{AreNames, EndAlike, Lowers, Sense, Simulates, Stands, declared_by, environment, width_if, world}
 use Rattle.koika_lower.specs.declared.lowered.Bound.{Bound}
 use Rattle.koika_lower.specs.declared.lowered.Lowered.{Lowered}
 use Rattle.koika_lower.proofs.Constructs.{sim-core}

@@ -10,7 +10,7 @@ use Rattle.koika_check.specs.declared.checked.Checked.{Checked}
 use Rattle.koika_check.specs.declared.typed.BaseType.{BaseType}
 use Rattle.koika_check.specs.declared.typed.ValueType.{ValueType}
 use Rattle.koika_check.proofs.TypingLayers.{close-IsOf}
-use Rattle.koika_lower.specs.Simulation.{Stands}
+use Rattle.koika_lower.specs.inner.Simulation.{Stands}
 
 -- the base and the lengths of a type
 unfoldable pub base_of : ValueType → BaseType

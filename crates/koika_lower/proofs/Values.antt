@@ -29,8 +29,8 @@ use Rattle.koika_check.specs.declared.typed.BaseType.TheVariants as base
 use Rattle.koika_check.specs.declared.typed.Selection.{Selection}
 use Rattle.koika_check.specs.declared.typed.Selection.TheVariants as selection
 use Rattle.koika_check.specs.declared.typed.ValueType.{ValueType}
-use Rattle.koika_lower.specs.Applied.{AllFit, lowest_bit, lowest_of_all, part_width, range_at, width_of_all, with_part}
-use Rattle.koika_lower.specs.Simulation.{StandAll, Stands}
+use Rattle.koika_lower.specs.inner.Applied.{AllFit, lowest_bit, lowest_of_all, part_width, range_at, width_of_all, with_part}
+use Rattle.koika_lower.specs.inner.Simulation.{StandAll, Stands}
 use Rattle.koika_lower.proofs.Replacements.{replace-above, replace-all, replace-below, replace-lower, replace-upper}
 use Rattle.koika_lower.proofs.Slices.{slice-high, slice-low, slice-slice}
 use Rattle.koika_check.proofs.TypingLayers.{close-IsOf, open-IsOf}

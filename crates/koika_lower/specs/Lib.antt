@@ -1,10 +1,4 @@
-pub mod Actions
-pub mod Applied
-pub mod Expressions
-pub mod Forms
 pub mod Guarded
 pub mod Lowering
-pub mod Packing
-pub mod Rules
-pub mod Simulation
 pub mod TwoLowerings
+pub mod inner

@@ -29,12 +29,15 @@ use Rattle.koika_check.specs.declared.checked.Table.{Table}
 abbrev pub register_of : Register → RegDecl
 register_of r = record { name = r.name; width = r.width; first = packed r.first }
 
+-- an input of the core design
 abbrev pub input_of : Input → InputDecl
 input_of i = record { name = i.name; width = i.width }
 
+-- the widths of a typed design's registers
 abbrev pub register_widths : Checked → List ℕ
 register_widths d = map (λ (r : Register). r.width) d.registers
 
+-- the widths of a typed design's inputs
 abbrev pub input_widths : Checked → List ℕ
 input_widths d = map (λ (i : Input). i.width) d.inputs
 
@@ -47,6 +50,7 @@ DoesTheSame d design r c = (inputs regs : List BitVector) → HaveWidths (input_
 abbrev pub ends_of : Progress BitVector Stopped → Alone
 ends_of p = record { events = p.events; outcome = outcome_of p.ending }
 
+-- the events and the outcome of a rule that ran alone
 abbrev pub typed_ends : Progress (Option Value) Stopped → Alone
 typed_ends p = record { events = p.events; outcome = typed_outcome p.ending }
 

@@ -3,9 +3,9 @@
 ghost use Rattle.std.specs.Prelude.{◌≡◌, ◌∷◌, ◌*◌, ◌≤◌, ℕ, List, Option, length, IfOk};
 ghost use Rattle.kw_bits.specs.BitVector.{BitVector};
 ghost use Rattle.koika_check.specs.Meaning.{prefix_value};
-ghost use Rattle.koika_lower.specs.Applied.{IsArray, IsAskedHost, IsAskedTable, IsCalled, IsCompared, IsExtended, IsPrefixed, IsUpdated, IsWritten};
+ghost use Rattle.koika_lower.specs.inner.Applied.{IsArray, IsAskedHost, IsAskedTable, IsCalled, IsCompared, IsExtended, IsPrefixed, IsUpdated, IsWritten};
 ghost use Rattle.koika_check.specs.declared.typed.ValueType.{ValueType};
-ghost use Rattle.koika_lower.specs.Simulation.{IsApplied, IsCallee, Lowers, Sense, apply_sense, rises};
+ghost use Rattle.koika_lower.specs.inner.Simulation.{IsApplied, IsCallee, Lowers, Sense, apply_sense, rises};
 ghost use Rattle.koika_lower.specs.declared.lowered.Bound.{Bound};
 ghost use Rattle.typed_core.specs.Evaluation.{apply_one};
 ghost use Rattle.typed_core.specs.Valid.{OneHasWidth};

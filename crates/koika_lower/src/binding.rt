@@ -1,8 +1,8 @@
 //! Lowering: bodies in which operands are bound.
 
 ghost use Rattle.std.specs.Prelude.{◌-◌, ◌≤◌, IfOk};
-ghost use Rattle.koika_lower.specs.Actions.{ComesTo};
-ghost use Rattle.koika_lower.specs.Applied.{IsBound, StackFits, names_stacked};
+ghost use Rattle.koika_lower.specs.inner.Actions.{ComesTo};
+ghost use Rattle.koika_lower.specs.inner.Applied.{IsBound, StackFits, names_stacked};
 ghost use Rattle.typed_core.specs.Evaluation.{comes_to};
 
 use crate::lowered::{Lowered, bind, two};

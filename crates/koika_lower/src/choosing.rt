@@ -1,7 +1,7 @@
 //! Lowering: conditions with a body each, and one action after another.
 
 ghost use Rattle.std.specs.Prelude.{IfOk};
-ghost use Rattle.koika_lower.specs.Applied.{IsAfter, IsChoice, IsChosen};
+ghost use Rattle.koika_lower.specs.inner.Applied.{IsAfter, IsChoice, IsChosen};
 
 use crate::joining::last_of;
 use crate::lowered::{Lowered, either, sequence};

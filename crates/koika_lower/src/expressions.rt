@@ -5,8 +5,8 @@ ghost use Rattle.koika_check.specs.Meaning.{meaning};
 ghost use Rattle.koika_check.specs.Typing.{HasType, IsTypedDesign};
 ghost use Rattle.koika_check.specs.declared.typed.Step.TheVariants as step;
 ghost use Rattle.koika_check.specs.declared.typed.ValueType.{ValueType};
-ghost use Rattle.koika_lower.specs.Expressions.{AreLowered, AreLoweredSteps};
-ghost use Rattle.koika_lower.specs.Simulation.{AreNames, IsBody, IsCallee, Lowers, parameter_names};
+ghost use Rattle.koika_lower.specs.inner.Expressions.{AreLowered, AreLoweredSteps};
+ghost use Rattle.koika_lower.specs.inner.Simulation.{AreNames, IsBody, IsCallee, Lowers, parameter_names};
 
 use crate::applying::{applied, binds_operands};
 use crate::choosing::{chosen, one_after_another};

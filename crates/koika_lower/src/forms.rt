@@ -4,7 +4,7 @@ ghost use Rattle.std.specs.Prelude.{◌≡◌, ◌≤◌, ℕ, IfOk, false, true
 ghost use Rattle.kw_bits.specs.BitVector.{BitVector};
 ghost use Rattle.koika_check.specs.Meaning.{binary_value, comparison_value};
 ghost use Rattle.koika_check.specs.Typing.{Compares, Operates};
-ghost use Rattle.koika_lower.specs.Forms.{FormFits, IsFormed, form_value};
+ghost use Rattle.koika_lower.specs.inner.Forms.{FormFits, IsFormed, form_value};
 ghost use Rattle.typed_core.specs.Valid.{TwoHasWidth};
 
 use crate::lowered::{Lowered, one, two};

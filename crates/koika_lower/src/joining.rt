@@ -1,7 +1,7 @@
 //! Lowering: chains of operators.
 
 ghost use Rattle.std.specs.Prelude.{◌≡◌, ◌-◌, ◌++◌, ◌⊎◌, [], ◌∷◌, length, replicate, IfOk};
-ghost use Rattle.koika_lower.specs.Applied.{IsChain};
+ghost use Rattle.koika_lower.specs.inner.Applied.{IsChain};
 ghost use Rattle.koika_syntax.specs.declared.operator.BinaryOperator.TheVariants as binary;
 
 use crate::forms::{form_of, formed};

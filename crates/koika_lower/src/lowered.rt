@@ -1,7 +1,7 @@
 //! Lowering: an action with the width of its value.
 
 ghost use Rattle.std.specs.Prelude.{◌≡◌, ◌+◌, if◌then◌else◌, IfOk};
-ghost use Rattle.koika_lower.specs.Actions.{IsIf, IsLet, IsOne, IsSeq, IsSlice, IsTwo};
+ghost use Rattle.koika_lower.specs.inner.Actions.{IsIf, IsLet, IsOne, IsSeq, IsSlice, IsTwo};
 ghost use Rattle.typed_core.specs.declared.action.Action.TheVariants as action;
 
 use kw_bits::NoMemory;

@@ -3,7 +3,7 @@
 ghost use Rattle.std.specs.Prelude.{IfOk};
 ghost use Rattle.koika_check.specs.Typing.{IsTypedDesign};
 ghost use Rattle.koika_lower.specs.Lowering.{IsLowered};
-ghost use Rattle.koika_lower.specs.Rules.{AreRules};
+ghost use Rattle.koika_lower.specs.inner.Rules.{AreRules};
 ghost use Rattle.typed_core.specs.Valid.{IsValid};
 
 use crate::declarations::{lower_hosts, lower_inputs, lower_registers, lower_tables};

@@ -6,7 +6,7 @@ ghost use Rattle.koika_types.specs.Values.{packed, stacked, stacked_up};
 ghost use Rattle.koika_check.specs.Typing.{IsOf, IsType, IsTypedDesign};
 ghost use Rattle.koika_check.specs.declared.checked.Checked.{Checked};
 ghost use Rattle.koika_check.specs.declared.typed.ValueType.{ValueType};
-ghost use Rattle.koika_lower.specs.Packing.{AreParts, so_far};
+ghost use Rattle.koika_lower.specs.inner.Packing.{AreParts, so_far};
 
 use koika_types::Value;
 use kw_bits::Bits;

@@ -1,7 +1,7 @@
 //! Lowering: parts of values, and their replacement.
 
 ghost use Rattle.std.specs.Prelude.{◌≡◌, ◌+◌, ◌≤◌, IfOk};
-ghost use Rattle.koika_lower.specs.Applied.{AllFit, IsReplaced, IsSelected, IsWithHigh, IsWithLow, SelectionFits, lowest_bit, lowest_of_all, part_width, range_at, width_of_all};
+ghost use Rattle.koika_lower.specs.inner.Applied.{AllFit, IsReplaced, IsSelected, IsWithHigh, IsWithLow, SelectionFits, lowest_bit, lowest_of_all, part_width, range_at, width_of_all};
 
 use crate::lowered::{Lowered, slice, two};
 use koika_check::Selection;

@@ -17,8 +17,8 @@ use Rattle.koika_syntax.specs.declared.token.Token.{Token}
 use Rattle.koika_syntax.specs.declared.token.TokenKind.{TokenKind}
 use Rattle.koika_syntax.specs.declared.token.TokenKind.TheVariants as kinds
 use Rattle.koika_parse.specs.Brackets.{open_behind}
-use Rattle.koika_parse.specs.Expected.{Any, Behind, One, StandAt, Takes, Then, first, spots_of}
-use Rattle.koika_parse.specs.Reading.{next, tokens_left}
+use Rattle.koika_parse.specs.inner.Expected.{Any, Behind, One, StandAt, Takes, Then, first, spots_of}
+use Rattle.koika_parse.specs.inner.Reading.{next, tokens_left}
 use Rattle.koika_parse.specs.declared.cursor.Cursor.{Cursor}
 use Rattle.koika_parse.specs.declared.source.Source.{Source}
 use Rattle.koika_parse.specs.declared.stop.Stop.{Stop}

@@ -3,7 +3,8 @@ use Rattle.std.proofs.Common.{◌≡◌, ℕ, zero, suc, ◌+◌, ◌<◌, ◌�
 use Rattle.std.specs.Prelude.{◌⊎◌}
 use Rattle.std.specs.List.{All}
 use Rattle.std.proofs.lemmas.Bool.{false≢true}
-use Rattle.koika_syntax.specs.Grammar.{IsExpression, arm_leaves, expression_leaves, level_of, operand_leaves, suffix_leaves}
+use Rattle.koika_syntax.specs.Grammar.{level_of, suffix_leaves}
+use Rattle.koika_syntax.specs.inner.Grammar.{IsExpression, arm_leaves, expression_leaves, operand_leaves}
 use Rattle.koika_syntax.specs.Tokens.{StandsIn}
 use Rattle.koika_syntax.specs.Tree.{Leaf, Terminal, binary_symbol, keyword, symbol, unary_symbol}
 use Rattle.koika_syntax.specs.declared.keyword.Keyword.{Keyword}
@@ -22,10 +23,10 @@ use Rattle.koika_syntax.specs.declared.token.TokenKind.{TokenKind}
 use Rattle.koika_syntax.specs.declared.token.TokenKind.TheVariants as kinds
 use Rattle.koika_syntax.specs.declared.tree.Suffix.{Suffix}
 use Rattle.koika_syntax.specs.declared.tree.Suffix.TheVariants as suffixes
-use Rattle.koika_parse.specs.Expected.{Any, NoComma, Part, first}
-use Rattle.koika_parse.specs.ExpressionWords.{ArgumentsWord, ArrayWord, CompareWord, ConditionalWord, ExtendWord, Free, InsideWord, IsAtOperator, IsAtPrefix, IsAtSuffix, LetWord, LevelWord, NamedWord, OneBlock, OneFieldValue, OnePart, OneSuffix, PackWord, ParenthesesWord, PrefixWord, PrefixesWord, ReadWord, UnpackWord, UpdateWord, WriteWord, brace_follows, no_prefix, parenthesis_follows, holds}
-use Rattle.koika_parse.specs.Parts.{IsArm, IsOperandIn}
-use Rattle.koika_parse.specs.Reading.{kind_at, next}
+use Rattle.koika_parse.specs.inner.Expected.{Any, NoComma, Part, first}
+use Rattle.koika_parse.specs.inner.ExpressionWords.{ArgumentsWord, ArrayWord, CompareWord, ConditionalWord, ExtendWord, Free, InsideWord, IsAtOperator, IsAtPrefix, IsAtSuffix, LetWord, LevelWord, NamedWord, OneBlock, OneFieldValue, OnePart, OneSuffix, PackWord, ParenthesesWord, PrefixWord, PrefixesWord, ReadWord, UnpackWord, UpdateWord, WriteWord, brace_follows, no_prefix, parenthesis_follows, holds}
+use Rattle.koika_parse.specs.inner.Parts.{IsArm, IsOperandIn}
+use Rattle.koika_parse.specs.inner.Reading.{kind_at, next}
 use Rattle.koika_parse.specs.declared.cursor.Cursor.{Cursor}
 use Rattle.koika_parse.specs.declared.source.Source.{Source}
 use Rattle.koika_parse.specs.declared.stop.Stop.TheVariants as stops

@@ -5,17 +5,18 @@ use Rattle.std.specs.List.{All}
 use Rattle.std.specs.Option.{option_map}
 use Rattle.std.proofs.lemmas.Option.{slice_get-get_or}
 use Rattle.kw_bits.specs.BitVector.{BitVector, IsBitVector}
-use Rattle.koika_syntax.specs.Grammar.{IsConstant, IsField, IsLiteral, IsMember, IsName, IsNumber, IsScheduler, IsType, IsWidth, constant_field_leaves, constant_leaves, field_leaves, member_leaves, scheduler_leaves, type_leaves}
+use Rattle.koika_syntax.specs.Grammar.{IsConstant, IsField, IsLiteral, IsMember, IsName, IsNumber, IsScheduler, IsType, IsWidth, constant_leaves, field_leaves, member_leaves, scheduler_leaves, type_leaves}
+use Rattle.koika_syntax.specs.inner.Grammar.{constant_field_leaves}
 use Rattle.koika_syntax.specs.Tokens.{IsToken, StandsIn, width_of}
 use Rattle.koika_syntax.specs.Tree.{Leaf, Terminal, in_braces, keyword, literal, literal_leaves, name_leaves, number, number_leaves, symbol, terminal_of, width_leaves}
 use Rattle.koika_syntax.specs.declared.keyword.Keyword.TheVariants as keywords
 use Rattle.koika_syntax.specs.declared.symbol.Symbol.TheVariants as symbols
 use Rattle.koika_syntax.specs.declared.token.Token.{Token}
 use Rattle.koika_syntax.specs.declared.token.TokenKind.TheVariants as kinds
-use Rattle.koika_parse.specs.Expected.{Any, Commas, NoComma, Part, first}
-use Rattle.koika_parse.specs.Parts.{IsConstantField}
-use Rattle.koika_parse.specs.Reading.{kind_at, next}
-use Rattle.koika_parse.specs.Words.{LastChoiceWord, RulesWord, no_name, no_try}
+use Rattle.koika_parse.specs.inner.Expected.{Any, Commas, NoComma, Part, first}
+use Rattle.koika_parse.specs.inner.Parts.{IsConstantField}
+use Rattle.koika_parse.specs.inner.Reading.{kind_at, next}
+use Rattle.koika_parse.specs.inner.Words.{LastChoiceWord, RulesWord, no_name, no_try}
 use Rattle.koika_parse.specs.declared.cursor.Cursor.{Cursor}
 use Rattle.koika_parse.specs.declared.source.Source.{Source}
 use Rattle.koika_parse.specs.declared.stop.Stop.TheVariants as stops

@@ -6,7 +6,8 @@ use Rattle.std.proofs.Common.{◌≡◌, ℕ, ◌<◌, Option, None, Some, IfSom
 use Rattle.std.specs.Prelude.{◌⊎◌}
 use Rattle.std.specs.List.{All, flat_map}
 use Rattle.std.proofs.lemmas.List.Elements.{All-head, All-tail, All-cons, All-nil}
-use Rattle.koika_syntax.specs.Grammar.{IsExpression, IsBlock, expression_leaves, statement_leaves, arm_leaves, block_leaves, field_value_leaves, last_leaves}
+use Rattle.koika_syntax.specs.Grammar.{IsBlock, block_leaves, last_leaves}
+use Rattle.koika_syntax.specs.inner.Grammar.{IsExpression, expression_leaves, statement_leaves, arm_leaves, field_value_leaves}
 use Rattle.koika_syntax.specs.Tree.{Leaf, Terminal, keyword, symbol, word, each_after, sign}
 use Rattle.koika_syntax.specs.declared.keyword.Keyword.TheVariants as keywords
 use Rattle.koika_syntax.specs.declared.symbol.Symbol.TheVariants as symbols
@@ -14,10 +15,10 @@ use Rattle.koika_syntax.specs.declared.tree.Arm.{Arm}
 use Rattle.koika_syntax.specs.declared.tree.Block.{Block}
 use Rattle.koika_syntax.specs.declared.tree.Expression.{Expression}
 use Rattle.koika_syntax.specs.declared.tree.Statement.{Statement}
-use Rattle.koika_parse.specs.Expected.{One, Part, StandAt, Then, first, Any, InVector, Takes}
-use Rattle.koika_parse.specs.ExpressionWords.{Free, LevelWord, LetWord, ElseWord, ConditionalWord, InsideWord, brace_follows}
-use Rattle.koika_parse.specs.Parts.{IsArm, IsFieldValue, IsStatement}
-use Rattle.koika_parse.specs.Reading.{next, Reads, tokens_left}
+use Rattle.koika_parse.specs.inner.Expected.{One, Part, StandAt, Then, first, Any, InVector, Takes}
+use Rattle.koika_parse.specs.inner.ExpressionWords.{Free, LevelWord, LetWord, ElseWord, ConditionalWord, InsideWord, brace_follows}
+use Rattle.koika_parse.specs.inner.Parts.{IsArm, IsFieldValue, IsStatement}
+use Rattle.koika_parse.specs.inner.Reading.{next, Reads, tokens_left}
 use Rattle.koika_parse.specs.declared.cursor.Cursor.{Cursor}
 use Rattle.koika_parse.specs.declared.source.Source.{Source}
 use Rattle.koika_parse.proofs.Expected.{Empty, Apart, Goes, start, starts, goes_as, Has, Kept, Within, begin, has_within, kept, next_part, room_at, same_again, same_of, same_one, same_part, same_then, some_one, some_then, stand_append, stand_split}

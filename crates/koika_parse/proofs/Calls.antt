@@ -1,7 +1,8 @@
 -- The leaves of the parts that `koika_syntax` has no lemma for.
 use Rattle.std.proofs.Common.{◌≡◌, ℕ, List, [], ◌∷◌, ◌++◌, append_assoc, append-nil, map, Vec, Global, Box, Option, None, Some, ap, sym, ◌∙◌, refl}
 use Rattle.std.specs.List.{flat_map}
-use Rattle.koika_syntax.specs.Grammar.{last_leaves, rule_leaves, choice_step, scheduler_step, choice_leaves, scheduler_leaves, constant_step, constant_field_step, constant_leaves, constant_field_leaves, type_leaves, prefix_leaves, suffix_leaves, expression_step, statement_step, arm_step, block_step, field_value_step, operand_step, expression_leaves, statement_leaves, arm_leaves, block_leaves, field_value_leaves, operand_leaves}
+use Rattle.koika_syntax.specs.Grammar.{last_leaves, rule_leaves, choice_step, scheduler_step, scheduler_leaves, constant_step, constant_field_step, constant_leaves, type_leaves, prefix_leaves, suffix_leaves, expression_step, statement_step, arm_step, block_step, field_value_step, operand_step, block_leaves}
+use Rattle.koika_syntax.specs.inner.Grammar.{choice_leaves, constant_field_leaves, expression_leaves, statement_leaves, arm_leaves, field_value_leaves, operand_leaves}
 use Rattle.koika_syntax.specs.Tree.{Leaf, name_leaves, number_leaves, literal_leaves, sign, word, placed, symbol, keyword, joined, in_parentheses, in_braces, all_of, binary_symbol, extension_word, read_word, write_word}
 use Rattle.koika_syntax.specs.declared.keyword.Keyword.TheVariants as keywords
 use Rattle.koika_syntax.specs.declared.symbol.Symbol.TheVariants as symbols

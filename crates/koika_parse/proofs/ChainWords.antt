@@ -6,7 +6,8 @@ use Rattle.std.proofs.lemmas.List.Elements.{All-cons, All-head, All-nil, All-tai
 use Rattle.koika_syntax.specs.declared.tree.Operand.{Operand}
 use Rattle.std.proofs.Common.{◌≡◌, ℕ, zero, suc, ◌+◌, ◌-◌, ◌<◌, ◌≤◌, Option, None, Some, IfSome, Err, List, [], ◌∷◌, ◌++◌, append_assoc, append-nil, inl, inr, refl, ap, sym, subst, ◌∙◌, arith, Ok, length, lit<, ◌^◌}
 use Rattle.std.specs.Prelude.{◌⊎◌, ⊤}
-use Rattle.koika_syntax.specs.Grammar.{IsSuffix, IsName, IsNumber, level_of, prefix_leaves, suffix_leaves, expression_leaves, operand_leaves}
+use Rattle.koika_syntax.specs.Grammar.{IsSuffix, IsName, IsNumber, level_of, prefix_leaves, suffix_leaves}
+use Rattle.koika_syntax.specs.inner.Grammar.{expression_leaves, operand_leaves}
 use Rattle.koika_syntax.specs.Tree.{Leaf, Terminal, name, number, literal, keyword, symbol, name_leaves, sign, number_leaves, unary_symbol, binary_symbol}
 use Rattle.koika_syntax.specs.declared.keyword.Keyword.TheVariants as keywords
 use Rattle.koika_syntax.specs.declared.symbol.Symbol.TheVariants as symbols
@@ -17,10 +18,10 @@ use Rattle.koika_syntax.specs.declared.operator.UnaryOperator.TheVariants as una
 use Rattle.koika_syntax.specs.declared.tree.Suffix.{Suffix}
 use Rattle.koika_syntax.specs.declared.tree.Suffix.TheVariants as suffixes
 use Rattle.koika_syntax.specs.declared.tree.Prefix.{Prefix}
-use Rattle.koika_parse.specs.Expected.{One, Part, Then, first, Behind, Takes, InVector}
-use Rattle.koika_parse.specs.ExpressionWords.{holds, Free, LevelWord, OperandsWord, OperatorWord, SomeOperandsWord, IsAtOperator, PrefixWord, PrefixesWord, SuffixesWord, IsAtPrefix, IsAtSuffix, no_prefix}
-use Rattle.koika_parse.specs.Parts.{IsOperandIn}
-use Rattle.koika_parse.specs.Reading.{next, tokens_left}
+use Rattle.koika_parse.specs.inner.Expected.{One, Part, Then, first, Behind, Takes, InVector}
+use Rattle.koika_parse.specs.inner.ExpressionWords.{holds, Free, LevelWord, OperandsWord, OperatorWord, SomeOperandsWord, IsAtOperator, PrefixWord, PrefixesWord, SuffixesWord, IsAtPrefix, IsAtSuffix, no_prefix}
+use Rattle.koika_parse.specs.inner.Parts.{IsOperandIn}
+use Rattle.koika_parse.specs.inner.Reading.{next, tokens_left}
 use Rattle.koika_parse.specs.declared.cursor.Cursor.{Cursor}
 use Rattle.koika_parse.specs.declared.source.Source.{Source}
 use Rattle.koika_parse.specs.declared.stop.Stop.TheVariants as stops

@@ -5,8 +5,8 @@ use Rattle.std.proofs.lemmas.List.Elements.{All-head, All-tail, All-cons, All-ni
 use Rattle.koika_syntax.specs.Grammar.{IsNonempty}
 use Rattle.koika_syntax.specs.Tree.{Leaf, Terminal, symbol, sign, commas, joined, each_after}
 use Rattle.koika_syntax.specs.declared.symbol.Symbol.TheVariants as symbols
-use Rattle.koika_parse.specs.Expected.{Any, AnyMany, InVector, One, Part, Then, Takes, first, Behind, Commas, is_comma, NoComma}
-use Rattle.koika_parse.specs.Reading.{Reads, next}
+use Rattle.koika_parse.specs.inner.Expected.{Any, AnyMany, InVector, One, Part, Then, Takes, first, Behind, Commas, is_comma, NoComma}
+use Rattle.koika_parse.specs.inner.Reading.{Reads, next}
 use Rattle.koika_parse.specs.declared.cursor.Cursor.{Cursor}
 use Rattle.koika_parse.specs.declared.source.Source.{Source}
 use Rattle.koika_parse.proofs.Reading.{shorter}

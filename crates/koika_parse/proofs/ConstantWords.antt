@@ -2,12 +2,13 @@
 use Rattle.std.proofs.Common.{◌≡◌, Option, Some, List, [], ◌∷◌, ◌++◌, length, map, inl, inr, refl, ap, sym, subst, ◌∙◌, Vec, Global, arith}
 use Rattle.std.specs.List.{All}
 use lib.ListN.{length-map}
-use Rattle.koika_syntax.specs.Grammar.{IsName, IsLiteral, constant_leaves, IsConstant, IsConstantLayer, IsConstantFieldLayer, constant_step, constant_field_step, constant_field_leaves}
+use Rattle.koika_syntax.specs.Grammar.{IsName, IsLiteral, constant_leaves, IsConstant, IsConstantLayer, IsConstantFieldLayer, constant_step, constant_field_step}
+use Rattle.koika_syntax.specs.inner.Grammar.{constant_field_leaves}
 use Rattle.koika_syntax.specs.Tree.{Leaf, Terminal, symbol, name_leaves, literal_leaves, sign, placed, commas}
 use Rattle.koika_syntax.specs.declared.symbol.Symbol.TheVariants as symbols
-use Rattle.koika_parse.specs.Expected.{Commas, InVector, One, Part, Then, first}
-use Rattle.koika_parse.specs.Words.{ConstantArrayWord, ConstantColonsWord, NamedConstantWord}
-use Rattle.koika_parse.specs.Reading.{kind_at, next}
+use Rattle.koika_parse.specs.inner.Expected.{Commas, InVector, One, Part, Then, first}
+use Rattle.koika_parse.specs.inner.Words.{ConstantArrayWord, ConstantColonsWord, NamedConstantWord}
+use Rattle.koika_parse.specs.inner.Reading.{kind_at, next}
 use Rattle.koika_parse.specs.declared.cursor.Cursor.{Cursor}
 use Rattle.koika_parse.specs.declared.source.Source.{Source}
 use Rattle.koika_parse.proofs.Commas.{Listed, in_vector, some_commas}
@@ -23,7 +24,7 @@ use Rattle.koika_syntax.specs.declared.tree.Constant.TheOpen as constant
 use Rattle.koika_syntax.specs.declared.tree.ConstantField.{ConstantField, ConstantField-F, roll-ConstantField, map-ConstantField, out-ConstantField, every_held-ConstantField, every_here-ConstantField}
 use Rattle.koika_syntax.proofs.Leaves.{array_constant, constant_field, struct_constant}
 use Rattle.koika_syntax.specs.declared.tree.Constant.TheViews as constant_views
-use Rattle.koika_parse.specs.Parts.{IsConstantField}
+use Rattle.koika_parse.specs.inner.Parts.{IsConstantField}
 use Rattle.koika_parse.proofs.Words.{sign_word, placed_word}
 
 abbrev pub ConstantFieldWord : List Leaf → Type 0

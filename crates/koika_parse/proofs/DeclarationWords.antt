@@ -18,10 +18,10 @@ use Rattle.koika_syntax.specs.declared.tree.Tree.{Tree}
 use Rattle.koika_syntax.specs.declared.tree.TypeExpression.{TypeExpression, Bits, Named, Array'}
 use Rattle.std.specs.Option.{option_map}
 use Rattle.std.proofs.lemmas.Option.{slice_get-get_or}
-use Rattle.koika_parse.specs.Expected.{One, Part, Then, Commas, first, Takes, AnyMany}
-use Rattle.koika_parse.specs.ExpressionWords.{parenthesis_follows}
-use Rattle.koika_parse.specs.Reading.{kind_at, next}
-use Rattle.koika_parse.specs.Words.{ParametersWord, ResultWord, DeclarationWord, DeclarationsWord, DesignWord, end_follows, schedule_follows, AssertWord, EnumWord, FunctionWord, HostWord, InputWord, RegisterWord, RuleWord, StructWord, TableWord}
+use Rattle.koika_parse.specs.inner.Expected.{One, Part, Then, Commas, first, Takes, AnyMany}
+use Rattle.koika_parse.specs.inner.ExpressionWords.{parenthesis_follows}
+use Rattle.koika_parse.specs.inner.Reading.{kind_at, next}
+use Rattle.koika_parse.specs.inner.Words.{ParametersWord, ResultWord, DeclarationWord, DeclarationsWord, DesignWord, end_follows, schedule_follows, AssertWord, EnumWord, FunctionWord, HostWord, InputWord, RegisterWord, RuleWord, StructWord, TableWord}
 use Rattle.koika_parse.specs.declared.cursor.Cursor.{Cursor}
 use Rattle.koika_parse.specs.declared.source.Source.{Source}
 use Rattle.koika_parse.specs.declared.stop.Stop.TheVariants as stops

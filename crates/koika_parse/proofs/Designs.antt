@@ -13,13 +13,13 @@ use Rattle.koika_syntax.specs.Tree.{Leaf, Terminal, terminal_of}
 use Rattle.koika_syntax.specs.declared.token.Token.{Token}
 use Rattle.koika_syntax.specs.declared.tree.Tree.{Tree}
 use Rattle.koika_parse.specs.Brackets.{AreFewOpen, open_behind, open_behind_all}
-use Rattle.koika_parse.specs.Expected.{AgreesUpTo, first, Ends, Front, Spot, StandAt, Takes, spots_of}
+use Rattle.koika_parse.specs.inner.Expected.{AgreesUpTo, first, Ends, Front, Spot, StandAt, Takes, spots_of}
 use Rattle.koika_parse.specs.Faults.{BeginsWith, GoesOn, NoneGoesOn, OpensTooMany, place_behind, seen, StandsBetween}
 use Rattle.koika_parse.specs.Laws.{ReadsBack}
 use Rattle.koika_parse.proofs.Unambiguous.{read_again}
-use Rattle.koika_parse.specs.Reading.{Reads, next}
-use Rattle.koika_parse.specs.Stops.{IsFaultOf}
-use Rattle.koika_parse.specs.Words.{DesignWord, end_follows}
+use Rattle.koika_parse.specs.inner.Reading.{Reads, next}
+use Rattle.koika_parse.specs.inner.Stops.{IsFaultOf}
+use Rattle.koika_parse.specs.inner.Words.{DesignWord, end_follows}
 use Rattle.koika_parse.proofs.Expected.{never_none, same_of_some}
 use Rattle.koika_parse.proofs.Seen.{few_seen, open_seen, same_head, same_tail}
 use Rattle.koika_parse.specs.declared.cursor.Cursor.{Cursor}

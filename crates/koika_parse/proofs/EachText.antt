@@ -15,12 +15,12 @@ use Rattle.koika_syntax.specs.declared.tree.Tree.{Tree}
 use Rattle.koika_syntax.proofs.Cuts.{length-piece}
 use Rattle.koika_syntax.proofs.Spans.{tokens_stand}
 use Rattle.koika_parse.specs.Brackets.{AreFewOpen, open_behind}
-use Rattle.koika_parse.specs.Expected.{Any, Behind, NoComma, One, Part, StandAt, Takes, Then, first, spots_of}
-use Rattle.koika_parse.specs.ExpressionWords.{parenthesis_follows}
+use Rattle.koika_parse.specs.inner.Expected.{Any, Behind, NoComma, One, Part, StandAt, Takes, Then, first, spots_of}
+use Rattle.koika_parse.specs.inner.ExpressionWords.{parenthesis_follows}
 use Rattle.koika_parse.specs.Faults.{place_behind, seen}
 use Rattle.koika_parse.specs.Laws.{EachTextIsParsed, IsParsed}
-use Rattle.koika_parse.specs.Reading.{kind_at, next}
-use Rattle.koika_parse.specs.Words.{AssertWord, DeclarationsWord, DesignWord, EnumWord, FunctionWord, HostWord, InputWord, ParametersWord, RegisterWord, ResultWord, RuleWord, StructWord, TableWord, end_follows, schedule_follows}
+use Rattle.koika_parse.specs.inner.Reading.{kind_at, next}
+use Rattle.koika_parse.specs.inner.Words.{AssertWord, DeclarationsWord, DesignWord, EnumWord, FunctionWord, HostWord, InputWord, ParametersWord, RegisterWord, ResultWord, RuleWord, StructWord, TableWord, end_follows, schedule_follows}
 use Rattle.koika_parse.specs.declared.cursor.Cursor.{Cursor}
 use Rattle.koika_parse.specs.declared.source.Source.{Source}
 use Rattle.koika_parse.specs.declared.stop.Stop.{Stop}

@@ -14,9 +14,9 @@ use Rattle.koika_syntax.specs.declared.token.Token.{Token}
 use Rattle.koika_syntax.specs.declared.token.TokenKind.{TokenKind}
 use Rattle.koika_syntax.specs.declared.token.TokenKind.TheVariants as kinds
 use Rattle.koika_parse.specs.Brackets.{AreFewOpen, open_behind}
-use Rattle.koika_parse.specs.Expected.{InVector, Part, One, Then, first, Any, Behind, AgreesUpTo, Leaves, Ends, Spot, StandAt, spots_of, Front, Leads, Takes}
+use Rattle.koika_parse.specs.inner.Expected.{InVector, Part, One, Then, first, Any, Behind, AgreesUpTo, Leaves, Ends, Spot, StandAt, spots_of, Front, Leads, Takes}
 use Rattle.koika_parse.proofs.Reading.{in_turn, tokens_in_turn, zip_append}
-use Rattle.koika_parse.specs.Reading.{Reads, next, kind_at, token_at}
+use Rattle.koika_parse.specs.inner.Reading.{Reads, next, kind_at, token_at}
 use Rattle.koika_parse.specs.declared.cursor.Cursor.{Cursor}
 use Rattle.koika_parse.specs.declared.source.Source.{Source}
 use Rattle.koika_parse.specs.declared.stop.Stop.{Stop}

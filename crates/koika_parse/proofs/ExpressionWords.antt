@@ -3,7 +3,8 @@ use Rattle.std.proofs.Common.{◌≡◌, ℕ, zero, suc, ◌+◌, ◌<◌, ◌�
 use Rattle.std.specs.Prelude.{◌⊎◌}
 use Rattle.std.specs.List.{All, flat_map}
 use Rattle.std.proofs.lemmas.List.Elements.{All-cons, All-nil, All-head, All-tail}
-use Rattle.koika_syntax.specs.Grammar.{IsSuffix, IsLiteral, IsName, IsNumber, IsNonempty, IsExpression, IsBlock, IsOperandAt, IsExpressionLayer, IsStatementLayer, IsArmLayer, IsBlockLayer, IsFieldValueLayer, IsOperandLayer, level, level_of, call_leaves, last_leaves, type_leaves, part_leaves, prefix_leaves, suffix_leaves, expression_leaves, statement_leaves, arm_leaves, block_leaves, field_value_leaves, operand_leaves, expression_step, statement_step, arm_step, block_step, field_value_step, operand_step}
+use Rattle.koika_syntax.specs.Grammar.{IsSuffix, IsLiteral, IsName, IsNumber, IsNonempty, IsBlock, IsOperandAt, IsExpressionLayer, IsStatementLayer, IsArmLayer, IsBlockLayer, IsFieldValueLayer, IsOperandLayer, level, level_of, call_leaves, last_leaves, type_leaves, part_leaves, prefix_leaves, suffix_leaves, block_leaves, expression_step, statement_step, arm_step, block_step, field_value_step, operand_step}
+use Rattle.koika_syntax.specs.inner.Grammar.{IsExpression, expression_leaves, statement_leaves, arm_leaves, field_value_leaves, operand_leaves}
 use Rattle.koika_syntax.specs.Tree.{Leaf, keyword, symbol, word, sign, placed, name_leaves, number_leaves, literal_leaves, commas, joined, all_of, each_after, in_parentheses, binary_symbol, comparison_word, extension_word, read_word, write_word}
 use Rattle.koika_syntax.specs.declared.keyword.Keyword.TheVariants as keywords
 use Rattle.koika_syntax.specs.declared.symbol.Symbol.TheVariants as symbols
@@ -18,9 +19,9 @@ use Rattle.koika_syntax.specs.declared.operator.SignedComparison.TheVariants as 
 use Rattle.koika_syntax.specs.declared.tree.Expression.TheOpen as expression
 use Rattle.koika_syntax.specs.declared.tree.Name.{Name}
 use Rattle.koika_syntax.specs.declared.tree.Number.{Number}
-use Rattle.koika_parse.specs.Expected.{InVector, One, Part, Then}
-use Rattle.koika_parse.specs.ExpressionWords.{LevelWord, OperatorWord, SomeOperandsWord, PrefixesWord, SuffixesWord, ReadWord, WriteWord, PackWord, UnpackWord, ExtendWord, CompareWord, UpdateWord, NamedWord, KeywordWord, SymbolWord, LetWord, ConditionalWord, InsideWord}
-use Rattle.koika_parse.specs.Parts.{IsArm, IsFieldValue, IsOperand, IsOperandIn, IsStatement}
+use Rattle.koika_parse.specs.inner.Expected.{InVector, One, Part, Then}
+use Rattle.koika_parse.specs.inner.ExpressionWords.{LevelWord, OperatorWord, SomeOperandsWord, PrefixesWord, SuffixesWord, ReadWord, WriteWord, PackWord, UnpackWord, ExtendWord, CompareWord, UpdateWord, NamedWord, KeywordWord, SymbolWord, LetWord, ConditionalWord, InsideWord}
+use Rattle.koika_parse.specs.inner.Parts.{IsArm, IsFieldValue, IsOperand, IsOperandIn, IsStatement}
 use Rattle.koika_parse.proofs.Expected.{kind_of}
 use Rattle.koika_parse.proofs.ConstantWords.{Such, firsts_are, held_fit}
 use Rattle.koika_parse.proofs.Calls.{all_of_map}

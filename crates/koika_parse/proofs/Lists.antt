@@ -6,7 +6,7 @@ use Rattle.std.proofs.lemmas.List.{map-append}
 use Rattle.std.proofs.lemmas.List.Elements.{All-append, All-cons, All-nil}
 use Rattle.koika_syntax.specs.Grammar.{IsNonempty}
 use Rattle.koika_syntax.specs.Tree.{Leaf, all_of, each_after, joined}
-use Rattle.koika_parse.specs.Reading.{Reads}
+use Rattle.koika_parse.specs.inner.Reading.{Reads}
 use Rattle.koika_parse.specs.declared.cursor.Cursor.{Cursor}
 use Rattle.koika_parse.specs.declared.source.Source.{Source}
 use Rattle.koika_parse.proofs.Reading.{in_turn, nothing}

@@ -1,16 +1,17 @@
 -- What expressions are made of: of each word of a level or of a part, an expression or that part with the same tokens.
-use Rattle.koika_parse.specs.ExpressionWords.{ArrayWord, ColonsWord, CompareWord, ConditionalWord, ExtendWord, LetWord, LevelWord, NamedTailWord, NamedWord, OneBlock, OneLiteral, OperandsWord, OperatorWord, PackWord, ParenthesesWord, PrefixesWord, ReadWord, UnpackWord, UpdateWord, WriteWord}
+use Rattle.koika_parse.specs.inner.ExpressionWords.{ArrayWord, ColonsWord, CompareWord, ConditionalWord, ExtendWord, LetWord, LevelWord, NamedTailWord, NamedWord, OneBlock, OneLiteral, OperandsWord, OperatorWord, PackWord, ParenthesesWord, PrefixesWord, ReadWord, UnpackWord, UpdateWord, WriteWord}
 use Rattle.koika_parse.proofs.Expected.{Kept, Within, kept, like_one, like_part, like_then, made, made_at, place_one, place_then, same_of, then_place}
 use Rattle.koika_parse.proofs.Parts.{is_abort, is_arm, is_array, is_block, is_block_expression, is_call, is_chain_of, is_compare, is_do, is_extend, is_field_value, is_if, is_let, is_literal, is_member, is_name, is_operand, is_operand_at, is_pack, is_parentheses, is_postfix, is_read, is_struct, is_unary, is_unpack, is_update, is_write, level_abort, level_array, level_block, level_call, level_chain_of, level_compare, level_extend, level_literal, level_member, level_name, level_pack, level_parentheses, level_postfix, level_read, level_struct, level_unary, level_unpack, level_update, level_write}
 use Rattle.koika_parse.proofs.Calls.{all_of_map, leaves_abort, leaves_arm, leaves_block, leaves_do, leaves_extend, leaves_field_value, leaves_let, leaves_literal, leaves_member, leaves_name, leaves_operand, leaves_pack, leaves_parentheses, leaves_postfix, leaves_read, leaves_unary, leaves_unpack, leaves_write}
 use Rattle.koika_parse.proofs.ExpressionWords.{ArmWord, BlockWord, DoWord, FieldValueWord}
 use Rattle.koika_syntax.specs.Tree.{keyword, placed, symbol, word, Leaf, comparison_word, each_after, extension_word, in_parentheses, joined, number_leaves, sign}
-use Rattle.koika_parse.specs.Parts.{IsArm, IsFieldValue, IsOperandIn, IsStatement}
-use Rattle.koika_syntax.specs.Grammar.{level, IsBlock, IsExpression, IsSuffix, arm_leaves, block_leaves, expression_leaves, field_value_leaves, last_leaves, operand_leaves, part_leaves, statement_leaves, suffix_leaves, type_leaves}
+use Rattle.koika_parse.specs.inner.Parts.{IsArm, IsFieldValue, IsOperandIn, IsStatement}
+use Rattle.koika_syntax.specs.Grammar.{level, IsBlock, IsSuffix, block_leaves, last_leaves, part_leaves, suffix_leaves, type_leaves}
+use Rattle.koika_syntax.specs.inner.Grammar.{IsExpression, arm_leaves, expression_leaves, field_value_leaves, operand_leaves, statement_leaves}
 use Rattle.koika_syntax.proofs.Leaves.{array_expression, block_expression, call_expression, chain_expression, compare_expression, if_expression, struct_expression, update_expression}
 use Rattle.koika_syntax.specs.declared.tree.Suffix.{Suffix}
 use Rattle.koika_parse.proofs.Witnesses.{boxed, vector}
-use Rattle.koika_parse.specs.Expected.{InVector, One, Part, Then}
+use Rattle.koika_parse.specs.inner.Expected.{InVector, One, Part, Then}
 use Rattle.koika_syntax.specs.declared.tree.Expression.{Expression}
 use Rattle.koika_syntax.specs.declared.tree.FieldValue.{roll-FieldValue}
 use Rattle.koika_syntax.specs.declared.tree.Arm.{Arm, roll-Arm}

@@ -7,7 +7,7 @@ use Rattle.koika_syntax.specs.Lexemes.{IsWord, begins_word, continues_word}
 use Rattle.koika_syntax.specs.Tokens.{IsToken, StandsIn}
 use Rattle.koika_syntax.specs.declared.token.Token.{Token}
 use Rattle.koika_syntax.specs.declared.token.TokenKind.TheVariants as kinds
-use Rattle.koika_parse.specs.Names.{AreNamesIn, IsNameIn, is_word}
+use Rattle.koika_parse.specs.inner.Names.{AreNamesIn, IsNameIn, is_word}
 
 both : (a b : Bool) → a ≡ true → b ≡ true → (a && b) ≡ true
 both true b x y = y

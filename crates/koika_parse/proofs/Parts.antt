@@ -3,7 +3,8 @@ use Rattle.std.proofs.Common.{◌≡◌, ℕ, ◌<◌, Option, Some, None, IfSom
 use Rattle.std.specs.List.{All, AllByRecursion}
 use Rattle.std.proofs.lemmas.List.Elements.{recursion_from_All, All-head}
 use Rattle.std.specs.formers.vec.Vec.{holding, holding_along, fits, mapped}
-use Rattle.koika_syntax.specs.Grammar.{IsConstant, IsExpression, IsBlock, IsScheduler, IsName, IsNonempty, IsOperandAt, IsConstantLayer, IsConstantFieldLayer, IsExpressionLayer, IsStatementLayer, IsArmLayer, IsBlockLayer, IsFieldValueLayer, IsOperandLayer, IsChoiceLayer, IsSchedulerLayer, level, level_of}
+use Rattle.koika_syntax.specs.Grammar.{IsConstant, IsBlock, IsScheduler, IsName, IsNonempty, IsOperandAt, IsConstantLayer, IsConstantFieldLayer, IsExpressionLayer, IsStatementLayer, IsArmLayer, IsBlockLayer, IsFieldValueLayer, IsOperandLayer, IsChoiceLayer, IsSchedulerLayer, level, level_of}
+use Rattle.koika_syntax.specs.inner.Grammar.{IsExpression}
 use Rattle.koika_syntax.specs.declared.operator.BinaryOperator.{BinaryOperator}
 use Rattle.koika_syntax.specs.declared.operator.Extension.{Extension}
 use Rattle.koika_syntax.specs.declared.operator.SignedComparison.{SignedComparison}
@@ -28,7 +29,7 @@ use Rattle.koika_syntax.specs.declared.tree.Scheduler.{Scheduler, Scheduler-F, e
 use Rattle.koika_syntax.specs.declared.tree.Statement.{Statement, Statement-F, every_made-Statement, map-Statement, roll-Statement}
 use Rattle.koika_syntax.specs.declared.tree.Suffix.{Suffix}
 use Rattle.koika_syntax.specs.declared.tree.TypeExpression.{TypeExpression}
-use Rattle.koika_parse.specs.Parts.{IsConstantField, IsStatement, IsArm, IsFieldValue, IsOperand, IsOperandIn, IsChoice}
+use Rattle.koika_parse.specs.inner.Parts.{IsConstantField, IsStatement, IsArm, IsFieldValue, IsOperand, IsOperandIn, IsChoice}
 
 abbrev Such : {X : Type 0} → (X → Type 0) → Type 0
 Such {X} P = (x : X) × P x

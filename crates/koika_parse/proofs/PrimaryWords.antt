@@ -9,13 +9,14 @@ use Rattle.koika_parse.specs.declared.stop.Stop.{Stop}
 use Rattle.std.proofs.Common.{Result}
 use Rattle.koika_parse.proofs.Expected.{tail, free_last}
 use Rattle.koika_parse.proofs.Witnesses.{some_expression, some_level, some_name, some_number, a_number, some_block, some_literal, some_type}
-use Rattle.koika_parse.specs.Parts.{IsFieldValue}
+use Rattle.koika_parse.specs.inner.Parts.{IsFieldValue}
 use Rattle.koika_parse.proofs.MadeExpressions.{field_value_within, literal_primary, named_primary}
 use Rattle.std.proofs.Common.{◌≡◌, ℕ, ◌<◌, Option, Some, Err, List, [], ◌∷◌, ◌++◌, length, map, append_assoc, inl, inr, refl, ap, sym, subst, ◌∙◌, arith, lit<}
 use Rattle.std.specs.Prelude.{◌⊎◌}
 use Rattle.std.specs.List.{All}
 use Rattle.std.proofs.lemmas.List.Elements.{All-head, All-nil}
-use Rattle.koika_syntax.specs.Grammar.{IsName, IsNumber, IsExpression, IsPart, expression_leaves, part_leaves, field_value_leaves}
+use Rattle.koika_syntax.specs.Grammar.{IsName, IsNumber, IsPart, part_leaves}
+use Rattle.koika_syntax.specs.inner.Grammar.{IsExpression, expression_leaves, field_value_leaves}
 use Rattle.koika_syntax.specs.Tree.{Leaf, Terminal, keyword, symbol, name_leaves, number_leaves, commas, joined, sign, each_after, comparison_word, extension_word, read_word, write_word}
 use Rattle.koika_syntax.specs.declared.keyword.Keyword.TheVariants as keywords
 use Rattle.koika_syntax.specs.declared.symbol.Symbol.TheVariants as symbols
@@ -24,9 +25,9 @@ use Rattle.koika_syntax.specs.declared.token.TokenKind.TheVariants as kinds
 use Rattle.koika_syntax.specs.declared.tree.Expression.{Expression}
 use Rattle.koika_syntax.specs.declared.tree.Part as tree_parts
 use Rattle.koika_syntax.specs.declared.tree.Part.TheVariants as parts
-use Rattle.koika_parse.specs.Expected.{One, Part, Then, first, Takes, Commas, Any, NoComma, InVector}
-use Rattle.koika_parse.specs.ExpressionWords.{Free, LevelWord, NamedWord, NamedTailWord, CallTailWord, ColonsWord, ArgumentsWord, ConditionalWord, parenthesis_follows, ArrayWord, CompareWord, ExtendWord, KeywordWord, OneBlock, OneLiteral, PackWord, ParenthesesWord, ReadWord, SymbolWord, UnpackWord, UpdateWord, WriteWord}
-use Rattle.koika_parse.specs.Reading.{kind_at, next}
+use Rattle.koika_parse.specs.inner.Expected.{One, Part, Then, first, Takes, Commas, Any, NoComma, InVector}
+use Rattle.koika_parse.specs.inner.ExpressionWords.{Free, LevelWord, NamedWord, NamedTailWord, CallTailWord, ColonsWord, ArgumentsWord, ConditionalWord, parenthesis_follows, ArrayWord, CompareWord, ExtendWord, KeywordWord, OneBlock, OneLiteral, PackWord, ParenthesesWord, ReadWord, SymbolWord, UnpackWord, UpdateWord, WriteWord}
+use Rattle.koika_parse.specs.inner.Reading.{kind_at, next}
 use Rattle.koika_parse.specs.declared.cursor.Cursor.{Cursor}
 use Rattle.koika_parse.specs.declared.source.Source.{Source}
 use Rattle.koika_parse.specs.declared.stop.Stop.TheVariants as stops

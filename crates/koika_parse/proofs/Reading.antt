@@ -8,8 +8,9 @@ use Rattle.koika_syntax.specs.Tree.{Leaf, IsLeafAt, Terminal, placed, terminal_o
 use Rattle.koika_syntax.specs.declared.token.Token.{Token}
 use Rattle.koika_syntax.specs.declared.token.TokenKind.{TokenKind}
 use Rattle.koika_syntax.specs.declared.token.TokenKind.TheVariants as kinds
-use Rattle.koika_parse.specs.Brackets.{open_behind, open_behind_all, open_behind_kind, AreFewOpen}
-use Rattle.koika_parse.specs.Reading.{Reads, next, token_at, tokens_left}
+use Rattle.koika_parse.specs.Brackets.{open_behind, open_behind_all, AreFewOpen}
+use Rattle.koika_parse.specs.inner.Brackets.{open_behind_kind}
+use Rattle.koika_parse.specs.inner.Reading.{Reads, next, token_at, tokens_left}
 use Rattle.koika_parse.specs.declared.cursor.Cursor.{Cursor}
 use Rattle.koika_parse.specs.declared.source.Source.{Source}
 

@@ -7,8 +7,8 @@ use Rattle.koika_syntax.specs.Grammar.{IsName}
 use Rattle.koika_syntax.specs.declared.symbol.Symbol.TheVariants as symbols
 use Rattle.koika_syntax.specs.declared.token.TokenKind.TheVariants as kinds
 use Rattle.koika_syntax.specs.Tree.{Leaf, Terminal, symbol, name_leaves}
-use Rattle.koika_parse.specs.Expected.{One, Part, Then, first, Behind}
-use Rattle.koika_parse.specs.Reading.{kind_at, next}
+use Rattle.koika_parse.specs.inner.Expected.{One, Part, Then, first, Behind}
+use Rattle.koika_parse.specs.inner.Reading.{kind_at, next}
 use Rattle.koika_parse.specs.declared.cursor.Cursor.{Cursor}
 use Rattle.koika_parse.specs.declared.source.Source.{Source}
 use Rattle.koika_parse.proofs.Expected.{Empty, Goes, Has, Within, kept, narrow, goes_as, same_of, kind_is, sign_or_name, some_one, some_then}

@@ -5,22 +5,23 @@ use Rattle.koika_parse.proofs.Calls.{leaves_choice, leaves_scheduler}
 use Rattle.std.proofs.Common.{◌≡◌, Option, None, Some, IfSome, List, [], ◌++◌, append_assoc, inl, inr, refl, ap, sym, subst, ◌∙◌, Box, Global}
 use Rattle.std.specs.Prelude.{◌⊎◌}
 use Rattle.std.specs.List.{All, flat_map}
-use Rattle.koika_syntax.specs.Grammar.{IsName, IsScheduler, IsChoiceLayer, IsSchedulerLayer, scheduler_leaves, choice_leaves, rule_leaves, choice_step, scheduler_step, last_leaves}
+use Rattle.koika_syntax.specs.Grammar.{IsName, IsScheduler, IsChoiceLayer, IsSchedulerLayer, scheduler_leaves, rule_leaves, choice_step, scheduler_step, last_leaves}
+use Rattle.koika_syntax.specs.inner.Grammar.{choice_leaves}
 use Rattle.koika_syntax.specs.Tree.{Leaf, Terminal, keyword, symbol, name_leaves, word, sign, in_braces}
 use Rattle.koika_syntax.specs.declared.keyword.Keyword.{Keyword}
 use Rattle.koika_syntax.specs.declared.keyword.Keyword.TheVariants as keywords
 use Rattle.koika_syntax.specs.declared.symbol.Symbol.TheVariants as symbols
-use Rattle.koika_parse.specs.Expected.{One, Part, Then, first, Behind}
-use Rattle.koika_parse.specs.Words.{LastChoiceWord, RulesWord, no_name, no_try}
+use Rattle.koika_parse.specs.inner.Expected.{One, Part, Then, first, Behind}
+use Rattle.koika_parse.specs.inner.Words.{LastChoiceWord, RulesWord, no_name, no_try}
 use Rattle.std.specs.Option.{option_map}
 use Rattle.koika_syntax.specs.declared.token.TokenKind.TheVariants as kinds
 use Rattle.koika_parse.proofs.Expected.{Empty, kind_of, Goes, start, goes_as, kind_of_next, kind_is, name_of, same_of_some, never_none, Has, Kept, Same, Within, begin, has_within, kept, like_one, like_part, like_then, made, same_of, same_one, same_part, same_then, some_one, some_then, starts}
 use Rattle.koika_syntax.specs.declared.tree.Name.{Name}
 use Rattle.koika_syntax.specs.declared.tree.Choice.{Choice, Choice-F, map-Choice, out-Choice, every_held-Choice, every_here-Choice, fold_out-Choice, roll-Choice}
 use Rattle.koika_syntax.specs.declared.tree.Scheduler.{Scheduler, Scheduler-F, map-Scheduler, out-Scheduler, every_held-Scheduler, every_here-Scheduler, fold_out-Scheduler, roll-Scheduler}
-use Rattle.koika_parse.specs.Parts.{IsChoice}
+use Rattle.koika_parse.specs.inner.Parts.{IsChoice}
 use Rattle.koika_parse.proofs.Words.{sign_word, word_word, assoc2}
-use Rattle.koika_parse.specs.Reading.{kind_at, next}
+use Rattle.koika_parse.specs.inner.Reading.{kind_at, next}
 use Rattle.koika_parse.specs.declared.cursor.Cursor.{Cursor}
 use Rattle.koika_parse.specs.declared.source.Source.{Source}
 use Rattle.koika_parse.proofs.Rows.{the_first, the_second, rows_none, rows_split}

@@ -3,7 +3,8 @@ use Rattle.std.proofs.Common.{◌≡◌, ℕ, zero, suc, ◌<◌, ◌≤◌, tru
 use Rattle.std.specs.Prelude.{codes}
 use Rattle.std.specs.List.{AllByRecursion}
 use Rattle.koika_syntax.specs.Tree.{Leaf, Terminal, name, symbol, keyword, sign, word, all_of, each_after}
-use Rattle.koika_syntax.specs.Grammar.{IsExpression, IsBlock, IsStatementLayer, expression_leaves, statement_leaves, arm_leaves, block_leaves, field_value_leaves, last_leaves}
+use Rattle.koika_syntax.specs.Grammar.{IsBlock, IsStatementLayer, block_leaves, last_leaves}
+use Rattle.koika_syntax.specs.inner.Grammar.{IsExpression, expression_leaves, statement_leaves, arm_leaves, field_value_leaves}
 use Rattle.koika_syntax.specs.declared.keyword.Keyword.TheVariants as keywords
 use Rattle.koika_syntax.specs.declared.symbol.Symbol.TheVariants as symbols
 use Rattle.koika_syntax.specs.declared.tree.Arm.{Arm}
@@ -13,7 +14,7 @@ use Rattle.koika_syntax.specs.declared.tree.Expression.TheOpen as expression
 use Rattle.koika_syntax.specs.declared.tree.FieldValue.{FieldValue}
 use Rattle.koika_syntax.specs.declared.tree.Statement.{Statement}
 use Rattle.koika_parse.specs.Outline.{Outline, expression_outline, statement_outline, arm_outline, block_outline, field_value_outline, last_outline, node, token}
-use Rattle.koika_parse.specs.Parts.{IsStatement, IsArm, IsFieldValue}
+use Rattle.koika_parse.specs.inner.Parts.{IsStatement, IsArm, IsFieldValue}
 use Rattle.koika_parse.proofs.UnambiguousReaders.{Reader, Reads, Leads, Refuses, Any, give, on, then, peek, skip, reads_give, reads_placed, reads_skip, reads_then, reads_map, reads_peek, reads_or, reads_other, reads_before, leads_any, leads_head, leads_end}
 use Rattle.koika_parse.proofs.UnambiguousGrammar.{Free, is_if, inside, block, block_at, arm, branches, field_of}
 use Rattle.koika_parse.proofs.UnambiguousLevels.{Such, OpenStatement, closed_statement, statement_layer_leaves, statement_layer_outline, block_layer_leaves, block_layer_outline, statement_case, arm_case, block_case, field_value_case, firsts}

@@ -2,7 +2,8 @@
 use Rattle.std.proofs.Common.{◌≡◌, ℕ, zero, suc, ◌<◌, ◌≤◌, true, false, Option, None, List, [], ◌∷◌, ◌++◌, length, map, refl, subst, arith, length-append}
 use Rattle.std.specs.List.{AllByRecursion}
 use Rattle.koika_syntax.specs.Tree.{Leaf, Terminal, symbol, sign, placed, number_leaves, commas}
-use Rattle.koika_syntax.specs.Grammar.{IsConstant, IsConstantLayer, type_leaves, constant_leaves, constant_field_leaves}
+use Rattle.koika_syntax.specs.Grammar.{IsConstant, IsConstantLayer, type_leaves, constant_leaves}
+use Rattle.koika_syntax.specs.inner.Grammar.{constant_field_leaves}
 use Rattle.koika_syntax.specs.declared.symbol.Symbol.TheVariants as symbols
 use Rattle.koika_syntax.specs.declared.tree.Constant.{Constant}
 use Rattle.koika_syntax.specs.declared.tree.Constant.TheOpen as constant
@@ -10,7 +11,7 @@ use Rattle.koika_syntax.specs.declared.tree.ConstantField.{ConstantField}
 use Rattle.koika_syntax.specs.declared.tree.TypeExpression.{TypeExpression, Bits, Named, Array'}
 use Rattle.std.specs.Prelude.{codes}
 use Rattle.koika_parse.specs.Outline.{Outline, type_outline, constant_outline, constant_field_outline, array_outline, name_outline, listed, node, token}
-use Rattle.koika_parse.specs.Parts.{IsConstantField}
+use Rattle.koika_parse.specs.inner.Parts.{IsConstantField}
 use Rattle.koika_parse.proofs.UnambiguousReaders.{Reader, Reads, on, reads_give, reads_placed, reads_skip, reads_then, reads_map, reads_peek, leads_any, leads_head}
 use Rattle.koika_parse.proofs.UnambiguousGrammar.{Free, types, constants, constant_at, field_of, behind_colons, array_at}
 use Rattle.koika_parse.proofs.UnambiguousLevels.{OpenConstant, closed_constant, constant_layer_leaves, constant_layer_outline, constant_case, constant_field_case, firsts}

@@ -5,7 +5,8 @@ use Rattle.std.specs.List.{AllByRecursion, flat_map}
 use Rattle.std.proofs.lemmas.List.Elements.{recursion_from_All}
 use Rattle.std.proofs.lemmas.List.Folds.{flat_map-map}
 use Rattle.koika_syntax.specs.Tree.{Leaf, Terminal, symbol, keyword, name, sign, word, placed, width_leaves, literal_leaves, commas, joined, all_of, each_after}
-use Rattle.koika_syntax.specs.Grammar.{IsExpression, IsExpressionLayer, IsBlock, IsDeclaration, IsScheduler, IsChoiceLayer, IsDesign, level, level_of_layer, expression_leaves, operand_leaves, arm_leaves, block_leaves, prefix_leaves, suffix_leaves, type_leaves, constant_leaves, member_leaves, field_leaves, result_leaves, declaration_leaves, rule_leaves, choice_leaves, scheduler_leaves, tree_leaves}
+use Rattle.koika_syntax.specs.Grammar.{IsExpressionLayer, IsBlock, IsDeclaration, IsScheduler, IsChoiceLayer, IsDesign, level, level_of_layer, block_leaves, prefix_leaves, suffix_leaves, type_leaves, constant_leaves, member_leaves, field_leaves, result_leaves, declaration_leaves, rule_leaves, scheduler_leaves, tree_leaves}
+use Rattle.koika_syntax.specs.inner.Grammar.{IsExpression, expression_leaves, operand_leaves, arm_leaves, choice_leaves}
 use Rattle.koika_syntax.specs.declared.keyword.Keyword.TheVariants as keywords
 use Rattle.koika_syntax.specs.declared.symbol.Symbol.TheVariants as symbols
 use Rattle.koika_syntax.specs.declared.tree.Arm.{Arm}
@@ -27,7 +28,7 @@ use Rattle.koika_syntax.specs.declared.tree.Tree.{Tree}
 use Rattle.koika_syntax.specs.declared.tree.TypeExpression.{TypeExpression, Bits, Named, Array'}
 use Rattle.koika_syntax.specs.declared.tree.Width.{Width}
 use Rattle.koika_parse.specs.Outline.{Outline, expression_outline, block_outline, width_outline, name_outline, literal_outline, enum_member_outline, field_outline, result_outline, declaration_outline, choice_outline, scheduler_outline, outline, node, listed}
-use Rattle.koika_parse.specs.Parts.{IsArm, IsOperand, IsChoice}
+use Rattle.koika_parse.specs.inner.Parts.{IsArm, IsOperand, IsChoice}
 use Rattle.koika_parse.proofs.UnambiguousReaders.{Item, Reader, Reads, Leads, Begins, Refuses, Shows, Any, on, then, many, skip, reads_give, reads_placed, reads_sign, reads_skip, reads_then, reads_map, reads_peek, reads_or, reads_before, reads_many, leads_any, leads_head}
 use Rattle.koika_parse.proofs.UnambiguousGrammar.{Free, is_name, is_declaration, one, field_of, types, block, expressions, member, width_at, result_of, function_behind, parameters, declaration_at, rule, last_at, schedulers, design}
 use Rattle.koika_parse.proofs.UnambiguousLevels.{Such, OpenExpression, OpenChoice, closed_expression, expression_layer_leaves, expression_layer_outline, choice_layer_leaves, choice_layer_outline, closed_choice, scheduler_layer_leaves, scheduler_layer_outline, expression_case, operand_case, arm_case, block_case, choice_case, scheduler_case, firsts}

@@ -6,7 +6,8 @@ use Rattle.std.proofs.lemmas.List.Folds.{flat_map-map}
 use Rattle.std.proofs.lemmas.List.Elements.{recursion_from_All}
 use Rattle.std.proofs.lemmas.Bool.{eq-eqb}
 use Rattle.koika_syntax.specs.Tree.{Leaf, Terminal, symbol, keyword, sign, word, placed, name_leaves, number_leaves, commas, joined, all_of, each_after, in_parentheses, unary_symbol, binary_symbol, comparison_word, extension_word, read_word, write_word}
-use Rattle.koika_syntax.specs.Grammar.{IsExpression, IsExpressionLayer, IsBlock, IsOperandAt, level, level_of, level_of_chain, level_of_layer, expression_leaves, operand_leaves, field_value_leaves, block_leaves, prefix_leaves, suffix_leaves, part_leaves, type_leaves, call_leaves, arm_leaves, last_leaves}
+use Rattle.koika_syntax.specs.Grammar.{IsExpressionLayer, IsBlock, IsOperandAt, level, level_of, level_of_chain, level_of_layer, block_leaves, prefix_leaves, suffix_leaves, part_leaves, type_leaves, call_leaves, last_leaves}
+use Rattle.koika_syntax.specs.inner.Grammar.{IsExpression, expression_leaves, operand_leaves, field_value_leaves, arm_leaves}
 use Rattle.koika_syntax.specs.declared.keyword.Keyword.TheVariants as keywords
 use Rattle.koika_syntax.specs.declared.symbol.Symbol.TheVariants as symbols
 use Rattle.koika_syntax.specs.declared.operator.BinaryOperator.{BinaryOperator}
@@ -29,7 +30,7 @@ use Rattle.koika_syntax.specs.declared.tree.Prefix.{Prefix}
 use Rattle.koika_syntax.specs.declared.tree.Suffix.{Suffix}
 use Rattle.koika_syntax.specs.declared.tree.Suffix.TheVariants as suffixes
 use Rattle.koika_parse.specs.Outline.{Outline, expression_outline, operand_outline, field_value_outline, block_outline, arm_outline, prefix_outline, suffix_outline, part_outline, name_outline, node, token, last_outline}
-use Rattle.koika_parse.specs.Parts.{IsArm, IsFieldValue, IsOperand}
+use Rattle.koika_parse.specs.inner.Parts.{IsArm, IsFieldValue, IsOperand}
 use Rattle.koika_parse.proofs.UnambiguousReaders.{Reader, Reads, Begins, Refuses, Any, on, or, many, reads_give, reads_placed, reads_sign, reads_skip, reads_then, reads_map, reads_peek, reads_or, reads_other, reads_refused, reads_before, reads_many, leads_any, leads_as, leads_head, leads_end, leads_begins}
 use Rattle.koika_parse.proofs.UnambiguousGrammar.{Free, grip_symbol, grips, is_prefix, one, arguments, words1, words2, words3, primary, suffix_at, postfix, prefixed, unary, operand, chain, level1, conditional}
 use Rattle.koika_parse.proofs.UnambiguousLevels.{Such, OpenExpression, closed_expression, expression_layer_leaves, expression_layer_outline, expression_case, operand_case, firsts}

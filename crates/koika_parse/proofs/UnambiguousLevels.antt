@@ -2,7 +2,8 @@
 use Rattle.std.proofs.Common.{◌≡◌, ℕ, List, [], ◌∷◌, map, sym, subst}
 use Rattle.std.specs.List.{AllByRecursion}
 use Rattle.koika_syntax.specs.Tree.{Leaf}
-use Rattle.koika_syntax.specs.Grammar.{IsConstant, IsExpression, IsBlock, IsScheduler, IsConstantLayer, IsConstantFieldLayer, IsExpressionLayer, IsStatementLayer, IsArmLayer, IsBlockLayer, IsFieldValueLayer, IsOperandLayer, IsChoiceLayer, IsSchedulerLayer, constant_leaves, constant_field_leaves, expression_leaves, statement_leaves, arm_leaves, block_leaves, field_value_leaves, operand_leaves, choice_leaves, scheduler_leaves, constant_step, constant_field_step, expression_step, statement_step, arm_step, block_step, field_value_step, operand_step, choice_step, scheduler_step}
+use Rattle.koika_syntax.specs.Grammar.{IsConstant, IsBlock, IsScheduler, IsConstantLayer, IsConstantFieldLayer, IsExpressionLayer, IsStatementLayer, IsArmLayer, IsBlockLayer, IsFieldValueLayer, IsOperandLayer, IsChoiceLayer, IsSchedulerLayer, constant_leaves, block_leaves, scheduler_leaves, constant_step, constant_field_step, expression_step, statement_step, arm_step, block_step, field_value_step, operand_step, choice_step, scheduler_step}
+use Rattle.koika_syntax.specs.inner.Grammar.{IsExpression, constant_field_leaves, expression_leaves, statement_leaves, arm_leaves, field_value_leaves, operand_leaves, choice_leaves}
 use Rattle.koika_syntax.specs.declared.tree.Constant.{Constant, Constant-F, map-Constant, out-Constant, every_held-Constant, every_here-Constant, fold_out-Constant}
 use Rattle.koika_syntax.specs.declared.tree.ConstantField.{ConstantField, ConstantField-F, map-ConstantField, out-ConstantField, every_held-ConstantField, every_here-ConstantField, fold_out-ConstantField}
 use Rattle.koika_syntax.specs.declared.tree.Expression.{Expression, Expression-F, map-Expression, out-Expression, every_held-Expression, every_here-Expression, fold_out-Expression}
@@ -13,7 +14,7 @@ use Rattle.koika_syntax.specs.declared.tree.FieldValue.{FieldValue, FieldValue-F
 use Rattle.koika_syntax.specs.declared.tree.Operand.{Operand, Operand-F, map-Operand, out-Operand, every_held-Operand, every_here-Operand, fold_out-Operand}
 use Rattle.koika_syntax.specs.declared.tree.Choice.{Choice, Choice-F, map-Choice, out-Choice, every_held-Choice, every_here-Choice, fold_out-Choice}
 use Rattle.koika_syntax.specs.declared.tree.Scheduler.{Scheduler, Scheduler-F, map-Scheduler, out-Scheduler, every_held-Scheduler, every_here-Scheduler, fold_out-Scheduler}
-use Rattle.koika_parse.specs.Parts.{IsConstantField, IsStatement, IsArm, IsFieldValue, IsOperand, IsChoice}
+use Rattle.koika_parse.specs.inner.Parts.{IsConstantField, IsStatement, IsArm, IsFieldValue, IsOperand, IsChoice}
 use Rattle.koika_parse.specs.Outline.{Outline, constant_outline, constant_field_outline, expression_outline, statement_outline, arm_outline, block_outline, field_value_outline, operand_outline, choice_outline, scheduler_outline, constant_outline_step, constant_field_outline_step, expression_outline_step, statement_outline_step, arm_outline_step, block_outline_step, field_value_outline_step, operand_outline_step, choice_outline_step, scheduler_outline_step}
 
 abbrev pub Such : {X : Type 0} → (X → Type 0) → Type 0

@@ -2,7 +2,8 @@
 use Rattle.std.proofs.Common.{◌≡◌, ℕ, ◌≤◌, None, List, [], ◌∷◌, length, Vec, Box, Global, refl, ap, arith, lit<}
 use Rattle.std.proofs.lemmas.List.Elements.{All-nil}
 use denote.RawPtr.{null_ptr}
-use Rattle.koika_syntax.specs.Grammar.{IsName, IsNumber, IsLiteral, IsWidth, IsType, IsConstant, IsExpression, IsBlock, IsScheduler, IsDeclaration, IsSuffix, type_leaves, constant_leaves, expression_leaves, block_leaves, scheduler_leaves, declaration_leaves, suffix_leaves}
+use Rattle.koika_syntax.specs.Grammar.{IsName, IsNumber, IsLiteral, IsWidth, IsType, IsConstant, IsBlock, IsScheduler, IsDeclaration, IsSuffix, type_leaves, constant_leaves, block_leaves, scheduler_leaves, declaration_leaves, suffix_leaves}
+use Rattle.koika_syntax.specs.inner.Grammar.{IsExpression, expression_leaves}
 use Rattle.koika_syntax.specs.Keywords.{keyword_text}
 use Rattle.koika_syntax.specs.Tree.{name_leaves, number_leaves, literal_leaves, width_leaves, in_braces}
 use Rattle.koika_syntax.specs.declared.keyword.Keyword.{Keyword}
@@ -18,8 +19,8 @@ use Rattle.koika_syntax.specs.declared.tree.Scheduler.{roll-Scheduler}
 use Rattle.koika_syntax.specs.declared.tree.Statement.{Statement}
 use Rattle.koika_syntax.specs.declared.tree.Suffix.TheVariants as suffixes
 use Rattle.koika_syntax.specs.declared.tree.TypeExpression.{Named}
-use Rattle.koika_parse.specs.Expected.{InVector, Part}
-use Rattle.koika_parse.specs.ExpressionWords.{LevelWord}
+use Rattle.koika_parse.specs.inner.Expected.{InVector, Part}
+use Rattle.koika_parse.specs.inner.ExpressionWords.{LevelWord}
 use Rattle.koika_parse.proofs.Expected.{Has}
 use Rattle.koika_parse.proofs.Parts.{is_abort, is_block, is_constant_literal, is_scheduler, level_abort}
 

@@ -12,9 +12,9 @@ use Rattle.koika_syntax.specs.declared.tree.Field.{Field}
 use Rattle.koika_syntax.specs.declared.tree.Member.{Member}
 use Rattle.koika_syntax.specs.declared.tree.TypeExpression.{TypeExpression, Bits, Named, Array'}
 use Rattle.koika_syntax.specs.declared.tree.Width.{Width}
-use Rattle.koika_parse.specs.Expected.{Any, One, Part, Then, first}
-use Rattle.koika_parse.specs.Reading.{next}
-use Rattle.koika_parse.specs.Words.{ArrayTypeWord}
+use Rattle.koika_parse.specs.inner.Expected.{Any, One, Part, Then, first}
+use Rattle.koika_parse.specs.inner.Reading.{next}
+use Rattle.koika_parse.specs.inner.Words.{ArrayTypeWord}
 use Rattle.std.specs.Option.{option_map}
 use Rattle.koika_syntax.specs.declared.token.TokenKind.TheVariants as kinds
 use Rattle.koika_parse.specs.declared.cursor.Cursor.{Cursor}

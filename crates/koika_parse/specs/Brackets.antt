@@ -1,11 +1,9 @@
 -- How many brackets are open after tokens, where that many are open in front of them. At most 64 are open at
 -- once; this project's own limit.
-use Rattle.std.specs.Prelude.{ℕ, suc, ◌-◌, ◌≤◌, ⊤, List, [], ◌∷◌}
+use Rattle.std.specs.Prelude.{ℕ, suc, ◌-◌, ◌≤◌, ⊤, List, ◌∷◌}
 use Rattle.koika_syntax.specs.Tree.{Leaf, Terminal, symbol}
 use Rattle.koika_syntax.specs.declared.symbol.Symbol.{Symbol}
 use Rattle.koika_syntax.specs.declared.symbol.Symbol.TheVariants as symbols
-use Rattle.koika_syntax.specs.declared.token.TokenKind.{TokenKind}
-use Rattle.koika_syntax.specs.declared.token.TokenKind.TheVariants as kinds
 
 -- an opening bracket is one more, and a closing one is one less
 abbrev pub open_behind_symbol : ℕ → Symbol → ℕ
@@ -17,13 +15,10 @@ open_behind_symbol depth symbols.RightBracket = depth - 1
 open_behind_symbol depth symbols.RightBrace = depth - 1
 open_behind_symbol depth _ = depth
 
+-- how many brackets are open after a token
 abbrev pub open_behind : ℕ → Terminal → ℕ
 open_behind depth (symbol s) = open_behind_symbol depth s
 open_behind depth _ = depth
-
-abbrev pub open_behind_kind : ℕ → TokenKind → ℕ
-open_behind_kind depth (kinds.Symbol s) = open_behind_symbol depth s
-open_behind_kind depth _ = depth
 
 -- how many are open after all of the tokens
 abbrev pub open_behind_all : ℕ → List Leaf → ℕ

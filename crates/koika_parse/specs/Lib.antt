@@ -1,11 +1,5 @@
 pub mod Brackets
-pub mod Expected
-pub mod ExpressionWords
 pub mod Faults
-pub mod Names
-pub mod Parts
-pub mod Reading
-pub mod Stops
-pub mod Words
 pub mod Outline
 pub mod Laws
+pub mod inner

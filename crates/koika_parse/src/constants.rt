@@ -1,13 +1,14 @@
 //! Trees: the reader of constants.
 
 ghost use Rattle.std.specs.Prelude.{All, IfOk, map};
-ghost use Rattle.koika_syntax.specs.Grammar.{IsConstant, IsLiteral, IsNonempty, constant_field_leaves, constant_leaves};
+ghost use Rattle.koika_syntax.specs.Grammar.{IsConstant, IsLiteral, IsNonempty, constant_leaves};
+ghost use Rattle.koika_syntax.specs.inner.Grammar.{constant_field_leaves};
 ghost use Rattle.koika_syntax.specs.Tree.{commas, literal_leaves, sign};
 ghost use Rattle.koika_syntax.specs.declared.symbol.Symbol.TheVariants as symbols;
-ghost use Rattle.koika_parse.specs.Expected.{Any, Commas, InVector, NoComma, Part, Takes};
-ghost use Rattle.koika_parse.specs.Reading.{Reads};
-ghost use Rattle.koika_parse.specs.Parts.{IsConstantField};
-ghost use Rattle.koika_parse.specs.Words.{ConstantArrayWord, NamedConstantWord};
+ghost use Rattle.koika_parse.specs.inner.Expected.{Any, Commas, InVector, NoComma, Part, Takes};
+ghost use Rattle.koika_parse.specs.inner.Reading.{Reads};
+ghost use Rattle.koika_parse.specs.inner.Parts.{IsConstantField};
+ghost use Rattle.koika_parse.specs.inner.Words.{ConstantArrayWord, NamedConstantWord};
 
 use crate::cursor::Cursor;
 use crate::source::Source;

@@ -3,10 +3,10 @@
 ghost use Rattle.std.specs.Prelude.{◌≡◌, ◌<◌, ◌++◌, All, IfOk, OnOk, IfSome, Some, map};
 ghost use Rattle.koika_syntax.specs.Grammar.{IsDeclaration, IsField, IsLiteral, IsMember, IsName, IsNonempty, IsType, declaration_leaves, field_leaves, member_leaves, result_leaves};
 ghost use Rattle.koika_syntax.specs.Tree.{commas, keyword, literal_leaves, name_leaves, word};
-ghost use Rattle.koika_parse.specs.Expected.{Any, AnyMany, Commas, NoComma, One, Part, Takes, Then};
-ghost use Rattle.koika_parse.specs.ExpressionWords.{parenthesis_follows};
-ghost use Rattle.koika_parse.specs.Reading.{Reads, next, tokens_left};
-ghost use Rattle.koika_parse.specs.Words.{AssertWord, EnumWord, FunctionWord, HostWord, InputWord, ParametersWord, RegisterWord, ResultWord, RuleWord, StructWord, TableWord};
+ghost use Rattle.koika_parse.specs.inner.Expected.{Any, AnyMany, Commas, NoComma, One, Part, Takes, Then};
+ghost use Rattle.koika_parse.specs.inner.ExpressionWords.{parenthesis_follows};
+ghost use Rattle.koika_parse.specs.inner.Reading.{Reads, next, tokens_left};
+ghost use Rattle.koika_parse.specs.inner.Words.{AssertWord, EnumWord, FunctionWord, HostWord, InputWord, ParametersWord, RegisterWord, ResultWord, RuleWord, StructWord, TableWord};
 
 use crate::cursor::Cursor;
 use crate::source::Source;

@@ -1,13 +1,14 @@
 //! Trees: the reader of expressions and blocks.
 
 ghost use Rattle.std.specs.Prelude.{◌+◌, ◌≡◌, ◌≢◌, ◌<◌, ◌≤◌, ◌↔◌, ◌++◌, All, IfNone, IfOk, IsTrue, OnOk, IfSome, Some, map};
-ghost use Rattle.koika_syntax.specs.Grammar.{IsBlock, IsExpression, IsNonempty, arm_leaves, block_leaves, expression_leaves, last_leaves, level, level_of, operand_leaves, statement_leaves};
+ghost use Rattle.koika_syntax.specs.Grammar.{IsBlock, IsNonempty, block_leaves, last_leaves, level, level_of};
+ghost use Rattle.koika_syntax.specs.inner.Grammar.{IsExpression, arm_leaves, expression_leaves, operand_leaves, statement_leaves};
 ghost use Rattle.koika_syntax.specs.Tree.{all_of, binary_symbol, sign, symbol};
 ghost use Rattle.koika_syntax.specs.declared.operator.BinaryOperator.{BinaryOperator};
-ghost use Rattle.koika_parse.specs.Expected.{Any, Part, Takes};
-ghost use Rattle.koika_parse.specs.ExpressionWords.{ConditionalWord, Free, InsideWord, IsAtOperator, LetWord, LevelWord, OperatorWord, SomeOperandsWord, brace_follows};
-ghost use Rattle.koika_parse.specs.Reading.{Reads, next, tokens_left};
-ghost use Rattle.koika_parse.specs.Parts.{IsArm, IsOperandIn, IsStatement};
+ghost use Rattle.koika_parse.specs.inner.Expected.{Any, Part, Takes};
+ghost use Rattle.koika_parse.specs.inner.ExpressionWords.{ConditionalWord, Free, InsideWord, IsAtOperator, LetWord, LevelWord, OperatorWord, SomeOperandsWord, brace_follows};
+ghost use Rattle.koika_parse.specs.inner.Reading.{Reads, next, tokens_left};
+ghost use Rattle.koika_parse.specs.inner.Parts.{IsArm, IsOperandIn, IsStatement};
 
 use crate::cursor::Cursor;
 use crate::source::Source;

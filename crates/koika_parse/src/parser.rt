@@ -10,11 +10,11 @@ ghost use Rattle.koika_syntax.specs.Tokens.{StandsIn};
 ghost use Rattle.koika_syntax.specs.declared.tree.Tree.{Tree};
 ghost use Rattle.koika_parse.specs.Brackets.{AreFewOpen};
 ghost use Rattle.koika_parse.specs.Faults.{StandsBetween, place_behind};
-ghost use Rattle.koika_parse.specs.Expected.{Takes};
+ghost use Rattle.koika_parse.specs.inner.Expected.{Takes};
 ghost use Rattle.koika_parse.specs.Laws.{ReadsBack};
-ghost use Rattle.koika_parse.specs.Reading.{Reads};
-ghost use Rattle.koika_parse.specs.Stops.{IsFaultOf};
-ghost use Rattle.koika_parse.specs.Words.{DeclarationsWord, DesignWord, end_follows, schedule_follows};
+ghost use Rattle.koika_parse.specs.inner.Reading.{Reads};
+ghost use Rattle.koika_parse.specs.inner.Stops.{IsFaultOf};
+ghost use Rattle.koika_parse.specs.inner.Words.{DeclarationsWord, DesignWord, end_follows, schedule_follows};
 
 use crate::cursor::Cursor;
 use crate::source::Source;

@@ -2,15 +2,16 @@
 
 ghost use Rattle.std.specs.Prelude.{◌≡◌, ◌≢◌, ◌<◌, ◌↔◌, All, IfNone, IfOk, IfSome, IsTrue, OnOk, Some, map};
 ghost use Rattle.std.specs.List.{flat_map};
-ghost use Rattle.koika_syntax.specs.Grammar.{IsExpression, IsNonempty, IsPart, IsSuffix, expression_leaves, field_value_leaves, level, part_leaves, prefix_leaves, suffix_leaves};
+ghost use Rattle.koika_syntax.specs.Grammar.{IsNonempty, IsPart, IsSuffix, level, part_leaves, prefix_leaves, suffix_leaves};
+ghost use Rattle.koika_syntax.specs.inner.Grammar.{IsExpression, expression_leaves, field_value_leaves};
 ghost use Rattle.koika_syntax.specs.Tree.{commas, keyword, read_word, symbol, unary_symbol, write_word};
 ghost use Rattle.koika_syntax.specs.declared.keyword.Keyword.TheVariants as keywords;
 ghost use Rattle.koika_syntax.specs.declared.token.TokenKind.TheVariants as kinds;
 ghost use Rattle.koika_syntax.specs.declared.operator.UnaryOperator.{UnaryOperator};
-ghost use Rattle.koika_parse.specs.Expected.{Any, Commas, InVector, NoComma, One, Takes};
-ghost use Rattle.koika_parse.specs.ExpressionWords.{ArgumentsWord, ArrayWord, CompareWord, ExtendWord, Free, IsAtPrefix, IsAtSuffix, LevelWord, NamedWord, OneBlock, OneFieldValue, OneLiteral, OnePart, OneSuffix, PackWord, ParenthesesWord, PrefixWord, PrefixesWord, ReadWord, SuffixesWord, UnpackWord, UpdateWord, WriteWord, no_prefix, parenthesis_follows};
-ghost use Rattle.koika_parse.specs.Reading.{Reads, kind_at, next, tokens_left};
-ghost use Rattle.koika_parse.specs.Parts.{IsFieldValue};
+ghost use Rattle.koika_parse.specs.inner.Expected.{Any, Commas, InVector, NoComma, One, Takes};
+ghost use Rattle.koika_parse.specs.inner.ExpressionWords.{ArgumentsWord, ArrayWord, CompareWord, ExtendWord, Free, IsAtPrefix, IsAtSuffix, LevelWord, NamedWord, OneBlock, OneFieldValue, OneLiteral, OnePart, OneSuffix, PackWord, ParenthesesWord, PrefixWord, PrefixesWord, ReadWord, SuffixesWord, UnpackWord, UpdateWord, WriteWord, no_prefix, parenthesis_follows};
+ghost use Rattle.koika_parse.specs.inner.Reading.{Reads, kind_at, next, tokens_left};
+ghost use Rattle.koika_parse.specs.inner.Parts.{IsFieldValue};
 
 use crate::cursor::Cursor;
 use crate::source::Source;

@@ -2,12 +2,13 @@
 
 ghost use Rattle.std.specs.Prelude.{All, IfOk, IfSome};
 ghost use Rattle.std.specs.List.{flat_map};
-ghost use Rattle.koika_syntax.specs.Grammar.{IsName, IsScheduler, choice_leaves, last_leaves, rule_leaves, scheduler_leaves};
+ghost use Rattle.koika_syntax.specs.Grammar.{IsName, IsScheduler, last_leaves, rule_leaves, scheduler_leaves};
+ghost use Rattle.koika_syntax.specs.inner.Grammar.{choice_leaves};
 ghost use Rattle.koika_syntax.specs.Tree.{in_braces};
-ghost use Rattle.koika_parse.specs.Expected.{Any, Part, Takes};
-ghost use Rattle.koika_parse.specs.Reading.{Reads};
-ghost use Rattle.koika_parse.specs.Parts.{IsChoice};
-ghost use Rattle.koika_parse.specs.Words.{LastChoiceWord, RulesWord, no_name, no_try};
+ghost use Rattle.koika_parse.specs.inner.Expected.{Any, Part, Takes};
+ghost use Rattle.koika_parse.specs.inner.Reading.{Reads};
+ghost use Rattle.koika_parse.specs.inner.Parts.{IsChoice};
+ghost use Rattle.koika_parse.specs.inner.Words.{LastChoiceWord, RulesWord, no_name, no_try};
 
 use crate::cursor::Cursor;
 use crate::source::Source;

@@ -2,7 +2,7 @@
 
 ghost use Rattle.std.specs.Prelude.{◌<◌, ◌≤◌, ◌^◌, All, length};
 ghost use Rattle.std.proofs.Props.{props};
-ghost use Rattle.koika_parse.specs.Names.{AreNamesIn};
+ghost use Rattle.koika_parse.specs.inner.Names.{AreNamesIn};
 
 use koika_syntax::Token;
 use std::alloc::Global;

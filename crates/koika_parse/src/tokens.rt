@@ -7,11 +7,12 @@ ghost use Rattle.koika_syntax.specs.Tree.{Terminal, keyword, literal, literal_le
 ghost use Rattle.koika_syntax.specs.declared.keyword.Keyword.{Keyword};
 ghost use Rattle.koika_syntax.specs.declared.symbol.Symbol.{Symbol};
 ghost use Rattle.koika_syntax.specs.declared.token.TokenKind.TheVariants as kinds;
-ghost use Rattle.koika_parse.specs.Names.{IsNameIn};
-ghost use Rattle.koika_parse.specs.Brackets.{open_behind_kind, open_behind_symbol};
-ghost use Rattle.koika_parse.specs.Expected.{Any, One, Part, Takes};
+ghost use Rattle.koika_parse.specs.inner.Names.{IsNameIn};
+ghost use Rattle.koika_parse.specs.Brackets.{open_behind_symbol};
+ghost use Rattle.koika_parse.specs.inner.Brackets.{open_behind_kind};
+ghost use Rattle.koika_parse.specs.inner.Expected.{Any, One, Part, Takes};
 ghost use Rattle.koika_parse.specs.declared.stop.Stop.TheVariants as stops;
-ghost use Rattle.koika_parse.specs.Reading.{Reads, kind_at, next, token_at};
+ghost use Rattle.koika_parse.specs.inner.Reading.{Reads, kind_at, next, token_at};
 
 use crate::cursor::Cursor;
 use crate::source::Source;

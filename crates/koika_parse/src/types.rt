@@ -3,9 +3,9 @@
 ghost use Rattle.std.specs.Prelude.{IfOk};
 ghost use Rattle.koika_syntax.specs.Grammar.{IsName, IsType, IsWidth, type_leaves};
 ghost use Rattle.koika_syntax.specs.Tree.{name_leaves, width_leaves};
-ghost use Rattle.koika_parse.specs.Expected.{Any, Part, Takes};
-ghost use Rattle.koika_parse.specs.Reading.{Reads};
-ghost use Rattle.koika_parse.specs.Words.{ArrayTypeWord};
+ghost use Rattle.koika_parse.specs.inner.Expected.{Any, Part, Takes};
+ghost use Rattle.koika_parse.specs.inner.Reading.{Reads};
+ghost use Rattle.koika_parse.specs.inner.Words.{ArrayTypeWord};
 
 use crate::cursor::Cursor;
 use crate::source::Source;

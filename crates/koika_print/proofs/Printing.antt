@@ -3,7 +3,8 @@ use Rattle.std.proofs.Common.{◌≡◌, ℕ, List, ◌++◌, Result, Ok, Err, O
 use Rattle.std.proofs.lemmas.Grind.{flat_map-append}
 use Rattle.koika_syntax.proofs.Leaves.{parts_of_constants, parts_of_expressions, parts_of_schedulers}
 use Rattle.koika_syntax.specs.Tree.{Leaf}
-use Rattle.koika_print.specs.Printed.{Prints, printed, leaf_text}
+use Rattle.koika_print.specs.Printed.{printed, leaf_text}
+use Rattle.koika_print.specs.inner.Printed.{Prints}
 
 -- one part after another
 pub in_turn : {old mid new : List ℕ} {xs ys : List Leaf} → Prints old mid xs → Prints mid new ys → Prints old new (xs ++ ys)

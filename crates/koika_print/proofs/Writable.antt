@@ -6,7 +6,8 @@ use Rattle.std.proofs.lemmas.List.Elements.{recursion_from_All}
 use Rattle.koika_syntax.specs.Tree.{Leaf, sign, word, commas, joined, all_of, placed, symbol, in_parentheses, in_braces, name_leaves, number_leaves, literal_leaves, keyword}
 use Rattle.koika_syntax.specs.declared.keyword.Keyword.TheVariants as keywords
 use Rattle.koika_syntax.specs.declared.symbol.Symbol.TheVariants as symbols
-use Rattle.koika_syntax.specs.Grammar.{IsName, IsLiteral, IsType, IsMember, IsField, IsConstant, IsConstantLayer, IsConstantFieldLayer, IsExpression, IsBlock, IsExpressionLayer, IsStatementLayer, IsArmLayer, IsBlockLayer, IsFieldValueLayer, IsOperandLayer, IsSuffix, IsPart, IsDeclaration, IsScheduler, IsSchedulerLayer, IsChoiceLayer, IsDesign, type_leaves, constant_leaves, constant_field_leaves, constant_step, constant_field_step, expression_leaves, statement_leaves, arm_leaves, block_leaves, field_value_leaves, operand_leaves, expression_step, statement_step, arm_step, block_step, field_value_step, operand_step, prefix_leaves, suffix_leaves, part_leaves, member_leaves, field_leaves, result_leaves, declaration_leaves, rule_leaves, choice_step, scheduler_step, choice_leaves, scheduler_leaves, tree_leaves}
+use Rattle.koika_syntax.specs.Grammar.{IsName, IsLiteral, IsType, IsMember, IsField, IsConstant, IsConstantLayer, IsConstantFieldLayer, IsBlock, IsExpressionLayer, IsStatementLayer, IsArmLayer, IsBlockLayer, IsFieldValueLayer, IsOperandLayer, IsSuffix, IsPart, IsDeclaration, IsScheduler, IsSchedulerLayer, IsChoiceLayer, IsDesign, type_leaves, constant_leaves, constant_step, constant_field_step, block_leaves, expression_step, statement_step, arm_step, block_step, field_value_step, operand_step, prefix_leaves, suffix_leaves, part_leaves, member_leaves, field_leaves, result_leaves, declaration_leaves, rule_leaves, choice_step, scheduler_step, scheduler_leaves, tree_leaves}
+use Rattle.koika_syntax.specs.inner.Grammar.{IsExpression, constant_field_leaves, expression_leaves, statement_leaves, arm_leaves, field_value_leaves, operand_leaves, choice_leaves}
 use Rattle.koika_syntax.specs.declared.tree.Expression.{Expression, Expression-F, map-Expression, roll-Expression, every_held-Expression, every_here-Expression, out-roll-Expression, fold-roll-Expression, ind-Expression}
 use Rattle.koika_syntax.specs.declared.tree.Statement.{Statement, Statement-F, map-Statement, roll-Statement, every-Statement, every_held-Statement, every_here-Statement, out-roll-Statement, fold-roll-Statement}
 use Rattle.koika_syntax.specs.declared.tree.Arm.{Arm, Arm-F, map-Arm, roll-Arm, every-Arm, every_held-Arm, every_here-Arm, out-roll-Arm, fold-roll-Arm}

@@ -1,13 +1,12 @@
 -- The text that a tree is printed as: its tokens in order, each in its one written form and with a blank after
 -- it. This project's own text form.
-use Rattle.std.specs.Prelude.{◌≡◌, ℕ, zero, suc, ◌<◌, ◌^◌, ⊤, map, List, [], ◌∷◌, ◌++◌, codes, decimal}
+use Rattle.std.specs.Prelude.{◌≡◌, ℕ, ◌<◌, ◌^◌, ⊤, map, List, ◌∷◌, ◌++◌, codes, decimal}
 use Rattle.std.specs.List.{flat_map, AllByRecursion}
 use Rattle.kw_bits.specs.BitVector.{IsBitVector}
 use Rattle.koika_syntax.specs.Keywords.{keyword_text}
 use Rattle.koika_syntax.specs.Symbols.{symbol_text}
 use Rattle.koika_syntax.specs.Tokens.{IsToken, AreTokensOf}
-use Rattle.koika_syntax.specs.Tree.{terminal_of, Leaf, sign, word, Terminal, name, number, literal, keyword, symbol}
-use Rattle.koika_syntax.specs.declared.keyword.Keyword.TheVariants as keywords
+use Rattle.koika_syntax.specs.Tree.{terminal_of, Leaf, Terminal, name, number, literal, keyword, symbol}
 use Rattle.koika_syntax.specs.declared.symbol.Symbol.{Symbol}
 use Rattle.koika_syntax.specs.declared.symbol.Symbol.TheVariants as symbols
 use Rattle.koika_syntax.specs.declared.token.Token.{Token}
@@ -28,29 +27,18 @@ blank_after_symbol symbols.LeftBrace = 10
 blank_after_symbol symbols.RightBrace = 10
 blank_after_symbol _ = 32
 
+-- the blank or line feed after a token
 abbrev pub blank_after : Terminal → ℕ
 blank_after (symbol s) = blank_after_symbol s
 blank_after _ = 32
 
+-- the text of a token and what comes after it
 abbrev pub leaf_text : Leaf → List ℕ
 leaf_text leaf = written leaf.terminal ++ blank_after leaf.terminal ∷ []
 
 -- the text of tokens
 abbrev pub printed : List Leaf → List ℕ
 printed leaves = flat_map leaf_text leaves
-
--- the new text is the old one with these tokens after it
-pub record Prints (old new : List ℕ) (leaves : List Leaf) : Type 0 where
-  pub text : new ≡ old ++ printed leaves
-
--- a comma after items, and `else` after arms, if there are any
-abbrev pub comma_behind : ℕ → List Leaf
-comma_behind zero = []
-comma_behind (suc items) = sign symbols.Comma
-
-abbrev pub else_behind : ℕ → List Leaf
-else_behind zero = []
-else_behind (suc arms) = word keywords.Else
 
 -- a token that has a written form: a name is one, and a number and a literal are in their ranges
 abbrev pub IsWritable : Terminal → Type 0

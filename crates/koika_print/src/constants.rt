@@ -1,9 +1,10 @@
 //! Trees: constants as text.
 
 ghost use Rattle.std.specs.Prelude.{OnOk, map};
-ghost use Rattle.koika_syntax.specs.Grammar.{constant_field_leaves, constant_leaves};
+ghost use Rattle.koika_syntax.specs.Grammar.{constant_leaves};
+ghost use Rattle.koika_syntax.specs.inner.Grammar.{constant_field_leaves};
 ghost use Rattle.koika_syntax.specs.Tree.{commas};
-ghost use Rattle.koika_print.specs.Printed.{Prints};
+ghost use Rattle.koika_print.specs.inner.Printed.{Prints};
 
 use crate::leaves::{comma_behind, literal, name, sign};
 use koika_syntax::{Constant, ConstantField, Symbol};

@@ -5,7 +5,7 @@ ghost use Rattle.koika_syntax.specs.Grammar.{block_leaves, constant_leaves, decl
 ghost use Rattle.koika_syntax.specs.Tree.{commas, in_braces, in_parentheses, literal_leaves, name_leaves, sign, width_leaves, word};
 ghost use Rattle.koika_syntax.specs.declared.keyword.Keyword.TheVariants as keywords;
 ghost use Rattle.koika_syntax.specs.declared.symbol.Symbol.TheVariants as symbols;
-ghost use Rattle.koika_print.specs.Printed.{Prints};
+ghost use Rattle.koika_print.specs.inner.Printed.{Prints};
 
 use crate::constants::constant;
 use crate::expressions::block;

@@ -1,11 +1,12 @@
 //! Trees: expressions, blocks and statements as text.
 
 ghost use Rattle.std.specs.Prelude.{ℕ, OnOk, ◌++◌, map};
-ghost use Rattle.koika_syntax.specs.Grammar.{arm_leaves, block_leaves, call_leaves, expression_leaves, field_value_leaves, last_leaves, operand_leaves, statement_leaves, struct_leaves};
+ghost use Rattle.koika_syntax.specs.Grammar.{block_leaves, call_leaves, last_leaves, struct_leaves};
+ghost use Rattle.koika_syntax.specs.inner.Grammar.{arm_leaves, expression_leaves, field_value_leaves, operand_leaves, statement_leaves};
 ghost use Rattle.koika_syntax.specs.Tree.{all_of, commas, in_parentheses, joined, name_leaves, sign, word};
 ghost use Rattle.koika_syntax.specs.declared.symbol.Symbol.TheVariants as symbols;
 ghost use Rattle.koika_syntax.specs.declared.keyword.Keyword.TheVariants as keywords;
-ghost use Rattle.koika_print.specs.Printed.{Prints};
+ghost use Rattle.koika_print.specs.inner.Printed.{Prints};
 
 use crate::leaves::{comma_behind, else_behind, literal, name, sign, word};
 use crate::primaries::{extend, pack, prefixed, read, replaced, suffixed, unpack, write};

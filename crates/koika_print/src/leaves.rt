@@ -2,7 +2,8 @@
 
 ghost use Rattle.std.specs.Prelude.{◌≡◌, OnOk};
 ghost use Rattle.koika_syntax.specs.Tree.{literal_leaves, name_leaves, number_leaves, sign, width_leaves, word};
-ghost use Rattle.koika_print.specs.Printed.{Prints, blank_after_symbol, comma_behind, else_behind};
+ghost use Rattle.koika_print.specs.Printed.{blank_after_symbol};
+ghost use Rattle.koika_print.specs.inner.Printed.{Prints, comma_behind, else_behind};
 
 use itoa::Buffer;
 use koika_syntax::{Keyword, Literal, Name, Number, Symbol, Width};

@@ -2,11 +2,12 @@
 
 ghost use Rattle.std.specs.Prelude.{◌≡◌, OnOk, [], ◌∷◌, ◌++◌};
 ghost use Rattle.std.specs.List.{flat_map};
-ghost use Rattle.koika_syntax.specs.Grammar.{call_leaves, expression_leaves, part_leaves, prefix_leaves, suffix_leaves, type_leaves};
+ghost use Rattle.koika_syntax.specs.Grammar.{call_leaves, part_leaves, prefix_leaves, suffix_leaves, type_leaves};
+ghost use Rattle.koika_syntax.specs.inner.Grammar.{expression_leaves};
 ghost use Rattle.koika_syntax.specs.Tree.{extension_word, name_leaves, number_leaves, read_word, sign, word, write_word};
 ghost use Rattle.koika_syntax.specs.declared.symbol.Symbol.TheVariants as symbols;
 ghost use Rattle.koika_syntax.specs.declared.keyword.Keyword.TheVariants as keywords;
-ghost use Rattle.koika_print.specs.Printed.{Prints};
+ghost use Rattle.koika_print.specs.inner.Printed.{Prints};
 
 use crate::expressions::expression;
 use crate::leaves::{name, number, sign, word};

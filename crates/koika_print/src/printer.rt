@@ -3,7 +3,8 @@
 ghost use Rattle.std.specs.Prelude.{OnOk, ◌≡◌, IfOk};
 ghost use Rattle.std.specs.List.{flat_map};
 ghost use Rattle.koika_syntax.specs.Grammar.{IsDesign, declaration_leaves, tree_leaves};
-ghost use Rattle.koika_print.specs.Printed.{AreWritable, IsLexedAs, Prints, printed};
+ghost use Rattle.koika_print.specs.Printed.{AreWritable, IsLexedAs, printed};
+ghost use Rattle.koika_print.specs.inner.Printed.{Prints};
 
 use crate::declarations::declaration;
 use crate::leaves::word;

@@ -2,9 +2,10 @@
 
 ghost use Rattle.std.specs.Prelude.{OnOk};
 ghost use Rattle.std.specs.List.{flat_map};
-ghost use Rattle.koika_syntax.specs.Grammar.{choice_leaves, last_leaves, rule_leaves, scheduler_leaves};
+ghost use Rattle.koika_syntax.specs.Grammar.{last_leaves, rule_leaves, scheduler_leaves};
+ghost use Rattle.koika_syntax.specs.inner.Grammar.{choice_leaves};
 ghost use Rattle.koika_syntax.specs.Tree.{in_braces};
-ghost use Rattle.koika_print.specs.Printed.{Prints};
+ghost use Rattle.koika_print.specs.inner.Printed.{Prints};
 
 use crate::leaves::{name, sign, word};
 use koika_syntax::{Choice, Keyword, Name, Scheduler, Symbol};

@@ -2,7 +2,7 @@
 
 ghost use Rattle.std.specs.Prelude.{OnOk};
 ghost use Rattle.koika_syntax.specs.Grammar.{type_leaves};
-ghost use Rattle.koika_print.specs.Printed.{Prints};
+ghost use Rattle.koika_print.specs.inner.Printed.{Prints};
 
 use crate::leaves::{name, number, sign, width};
 use koika_syntax::{Symbol, TypeExpression};

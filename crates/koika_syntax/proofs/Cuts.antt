@@ -9,7 +9,7 @@ use Rattle.kw_base.specs.declared.fault.Fault.{Fault}
 use Rattle.kw_base.specs.declared.fault.Refusal.{Refusal}
 use Rattle.kw_base.specs.declared.fault.Refusal.TheVariants as refusals
 use Rattle.koika_syntax.specs.Lexemes.{is_blank, Kind, IsLongest}
-use Rattle.koika_syntax.specs.LexemeAnswers.{BeginsWithPiece, tokens_of, HasRead, BeginsFault}
+use Rattle.koika_syntax.specs.inner.LexemeAnswers.{BeginsWithPiece, tokens_of, HasRead, BeginsFault}
 use Rattle.koika_syntax.specs.Tokens.{Piece, bytes_of, IsPiece, IsCut, tokens_behind, AreTokensOf}
 use Rattle.koika_syntax.specs.TokenFaults.{IsWrong, BeginsStray, BeginsWrong, BeginsFaulty, IsFirstFault}
 use Rattle.koika_syntax.specs.declared.token.Token.{Token}

@@ -8,8 +8,9 @@ use Rattle.std.proofs.lemmas.List.Sums.{prefix_len-le-length, take_while-cons}
 use Rattle.kw_bits.specs.BitVector.{BitVector, IsBitVector}
 use Rattle.koika_syntax.specs.Keywords.{keyword_text}
 use Rattle.koika_syntax.specs.Lexemes.{is_blank, begins_word, continues_word, stays_on_line, Kind, IsWord, LiteralParts, IsLiteral, literal_text, letter_of, radix_of, IsLongest}
-use Rattle.koika_syntax.specs.LexemeAnswers.{BeginsWithPiece}
-use Rattle.koika_syntax.specs.Symbols.{symbol_text, BeginsWith}
+use Rattle.koika_syntax.specs.inner.LexemeAnswers.{BeginsWithPiece}
+use Rattle.koika_syntax.specs.Symbols.{symbol_text}
+use Rattle.koika_syntax.specs.inner.Symbols.{BeginsWith}
 use Rattle.koika_syntax.specs.Tokens.{IsLiteralOf, IsToken}
 use Rattle.koika_syntax.specs.TokenFaults.{BeginsFaulty}
 use Rattle.koika_syntax.specs.declared.keyword.Keyword.{Keyword}

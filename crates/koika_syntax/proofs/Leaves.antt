@@ -1,6 +1,7 @@
 -- The leaves of a part, by the leaves of its parts.
 use Rattle.std.proofs.Common.{◌≡◌, ℕ, List, [], ◌∷◌, ◌++◌, append_assoc, append-nil, map, Vec, Global, Box, Option, Some, None, ap, sym, ◌∙◌}
-use Rattle.koika_syntax.specs.Grammar.{constant_step, constant_field_step, constant_leaves, constant_field_leaves, struct_leaves, array_leaves, call_leaves, last_leaves, part_leaves, rule_leaves, expression_step, statement_step, arm_step, block_step, field_value_step, operand_step, expression_leaves, statement_leaves, arm_leaves, block_leaves, field_value_leaves, operand_leaves, choice_step, scheduler_step, choice_leaves, scheduler_leaves}
+use Rattle.koika_syntax.specs.Grammar.{constant_step, constant_field_step, constant_leaves, struct_leaves, array_leaves, call_leaves, last_leaves, part_leaves, rule_leaves, expression_step, statement_step, arm_step, block_step, field_value_step, operand_step, block_leaves, choice_step, scheduler_step, scheduler_leaves}
+use Rattle.koika_syntax.specs.inner.Grammar.{constant_field_leaves, expression_leaves, statement_leaves, arm_leaves, field_value_leaves, operand_leaves, choice_leaves}
 use Rattle.koika_syntax.specs.Tree.{Leaf, name_leaves, sign, word, placed, symbol, keyword, joined, all_of, in_braces, in_parentheses, binary_symbol, comparison_word}
 use Rattle.std.specs.List.{flat_map}
 use Rattle.koika_syntax.specs.declared.keyword.Keyword.TheVariants as keywords

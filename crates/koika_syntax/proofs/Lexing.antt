@@ -14,8 +14,9 @@ use Rattle.kw_base.specs.Place.{place_at}
 use Rattle.kw_bits.specs.BitVector.{IsBitVector}
 use Rattle.koika_syntax.specs.Keywords.{keyword_text}
 use Rattle.koika_syntax.specs.Lexemes.{is_blank, begins_word, continues_word, stays_on_line, letter_of, radix_of}
-use Rattle.koika_syntax.specs.LexemeAnswers.{BeginsWithPiece, tokens_of, HasRead}
-use Rattle.koika_syntax.specs.Symbols.{symbol_text, BeginsWith}
+use Rattle.koika_syntax.specs.inner.LexemeAnswers.{BeginsWithPiece, tokens_of, HasRead}
+use Rattle.koika_syntax.specs.Symbols.{symbol_text}
+use Rattle.koika_syntax.specs.inner.Symbols.{BeginsWith}
 use Rattle.koika_syntax.specs.Tokens.{AreTokensOf}
 use Rattle.koika_syntax.specs.TokenFaults.{BeginsFaulty, IsFirstFault}
 use Rattle.koika_syntax.specs.declared.keyword.Keyword.{Keyword}

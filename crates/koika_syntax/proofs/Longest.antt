@@ -4,7 +4,8 @@ use Rattle.std.specs.Char.{is_ascii_digit}
 use Rattle.std.specs.List.{list_all, prefix_len}
 use Rattle.std.proofs.lemmas.List.{append_assoc}
 use Rattle.koika_syntax.specs.Lexemes.{is_blank, begins_word, continues_word, stays_on_line, Kind, HasKind, IsLongest, BeginsNoLexeme}
-use Rattle.koika_syntax.specs.Symbols.{symbol_text, BeginsWith}
+use Rattle.koika_syntax.specs.Symbols.{symbol_text}
+use Rattle.koika_syntax.specs.inner.Symbols.{BeginsWith}
 use Rattle.koika_syntax.specs.declared.symbol.Symbol.{Symbol}
 use Rattle.koika_syntax.proofs.Runs.{and-true, length-le-prefix_len}
 use Rattle.koika_syntax.proofs.LexemeKinds.{family, family_at, family-first, family-word, length-lexeme, continues-from_begins}

@@ -3,7 +3,8 @@ use Rattle.std.proofs.Common.{◌≡◌, ◌≢◌, ℕ, List, [], ◌∷◌, �
 use Rattle.std.specs.List.{find}
 use Rattle.std.specs.Prelude.{slice_index}
 use Rattle.std.specs.Str.{bytes_eq}
-use Rattle.koika_syntax.specs.Symbols.{symbol_text, BeginsWith}
+use Rattle.koika_syntax.specs.Symbols.{symbol_text}
+use Rattle.koika_syntax.specs.inner.Symbols.{BeginsWith}
 use Rattle.koika_syntax.specs.declared.symbol.Symbol.{Symbol}
 use Rattle.koika_syntax.specs.declared.symbol.Symbol.TheVariants as symbols
 

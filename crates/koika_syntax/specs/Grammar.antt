@@ -1,7 +1,7 @@
 -- The grammar of a design: the tokens of each part, one case for each production, and what a tree must keep so
 -- that it is one of the grammar's. The operators' levels are one table. This project's own text form; the way
 -- that levels group is that of C (ISO/IEC 9899:2018, 6.5), with levels of its own.
-use Rattle.std.specs.Prelude.{◌≡◌, ℕ, ◌<◌, ◌^◌, Option, None, Some, IfSome, ⊤, List, [], ◌∷◌, ◌++◌, map, length, All}
+use Rattle.std.specs.Prelude.{◌≡◌, ℕ, ◌<◌, ◌^◌, Option, None, Some, IfSome, ⊤, List, ◌∷◌, ◌++◌, map, length, All}
 use Rattle.std.specs.List.{AllZip, flat_map}
 use Rattle.kw_bits.specs.BitVector.{IsBitVector}
 use Rattle.koika_syntax.specs.Tokens.{IsToken}
@@ -10,36 +10,37 @@ use Rattle.koika_syntax.specs.declared.keyword.Keyword.TheVariants as keywords
 use Rattle.koika_syntax.specs.declared.symbol.Symbol.TheVariants as symbols
 use Rattle.koika_syntax.specs.declared.token.Token.{Token}
 use Rattle.koika_syntax.specs.declared.token.TokenKind.TheVariants as kinds
-use Rattle.koika_syntax.specs.declared.tree.Arm.{Arm, Arm-F, fold-Arm}
+use Rattle.koika_syntax.specs.declared.tree.Arm.{Arm, Arm-F}
 use Rattle.koika_syntax.specs.declared.operator.BinaryOperator.{BinaryOperator}
 use Rattle.koika_syntax.specs.declared.operator.BinaryOperator.TheVariants as binary
 use Rattle.koika_syntax.specs.declared.tree.Block.{Block, Block-F, fold-Block, every-Block}
-use Rattle.koika_syntax.specs.declared.tree.Choice.{Choice, Choice-F, fold-Choice}
+use Rattle.koika_syntax.specs.declared.tree.Choice.{Choice, Choice-F}
 use Rattle.koika_syntax.specs.declared.tree.Constant.{Constant, Constant-F, fold-Constant, every-Constant}
 use Rattle.koika_syntax.specs.declared.tree.Constant.TheOpen as constant
-use Rattle.koika_syntax.specs.declared.tree.ConstantField.{ConstantField, ConstantField-F, fold-ConstantField}
+use Rattle.koika_syntax.specs.declared.tree.ConstantField.{ConstantField, ConstantField-F}
 use Rattle.koika_syntax.specs.declared.tree.Declaration.{Declaration}
 use Rattle.koika_syntax.specs.declared.tree.Declaration.TheVariants as declarations
-use Rattle.koika_syntax.specs.declared.tree.Expression.{Expression, Expression-F, fold-Expression, every-Expression, out-Expression}
+use Rattle.koika_syntax.specs.declared.tree.Expression.{Expression, Expression-F, out-Expression}
 use Rattle.koika_syntax.specs.declared.tree.Expression.TheOpen as expression
 use Rattle.koika_syntax.specs.declared.tree.Field.{Field}
-use Rattle.koika_syntax.specs.declared.tree.FieldValue.{FieldValue, FieldValue-F, fold-FieldValue}
+use Rattle.koika_syntax.specs.declared.tree.FieldValue.{FieldValue, FieldValue-F}
 use Rattle.koika_syntax.specs.declared.tree.Literal.{Literal}
 use Rattle.koika_syntax.specs.declared.tree.Member.{Member}
 use Rattle.koika_syntax.specs.declared.tree.Name.{Name}
 use Rattle.koika_syntax.specs.declared.tree.Number.{Number}
-use Rattle.koika_syntax.specs.declared.tree.Operand.{Operand, Operand-F, out-Operand, fold-Operand}
+use Rattle.koika_syntax.specs.declared.tree.Operand.{Operand, Operand-F, out-Operand}
 use Rattle.koika_syntax.specs.declared.tree.Part.{Part}
 use Rattle.koika_syntax.specs.declared.tree.Part.TheVariants as parts
 use Rattle.koika_syntax.specs.declared.tree.Prefix.{Prefix}
 use Rattle.koika_syntax.specs.declared.tree.Scheduler.{Scheduler, Scheduler-F, fold-Scheduler, every-Scheduler}
-use Rattle.koika_syntax.specs.declared.tree.Statement.{Statement, Statement-F, fold-Statement}
+use Rattle.koika_syntax.specs.declared.tree.Statement.{Statement, Statement-F}
 use Rattle.koika_syntax.specs.declared.tree.Suffix.{Suffix}
 use Rattle.koika_syntax.specs.declared.tree.Suffix.TheVariants as suffixes
 use Rattle.koika_syntax.specs.declared.tree.Tree.{Tree}
 use Rattle.koika_syntax.specs.declared.tree.TypeExpression.{TypeExpression, Bits, Named, Array'}
 use Rattle.koika_syntax.specs.declared.tree.Width.{Width}
 
+-- the tokens of a part
 abbrev Leaves : Type 0
 Leaves = List Leaf
 
@@ -66,20 +67,20 @@ constant_step (constant.Member of member) = name_leaves of ++ sign symbols.Colon
 constant_step (constant.Struct of fields close) = struct_leaves of fields.items close
 constant_step (constant.Array place elements) = array_leaves place elements.items
 
+-- the tokens of a field of a constant
 abbrev pub constant_field_step : ConstantField-F Leaves Leaves → List Leaf
 constant_field_step field = name_leaves field.name ++ sign symbols.Colon ++ field.value
 
+-- the tokens of a constant
 unfoldable pub constant_leaves : Constant → List Leaf
 constant_leaves = fold-Constant Leaves Leaves constant_step constant_field_step
-
-unfoldable pub constant_field_leaves : ConstantField → List Leaf
-constant_field_leaves = fold-ConstantField Leaves Leaves constant_step constant_field_step
 
 -- block = "{" { stmt } [ expr ] "}"
 abbrev pub last_leaves : {M : Type 0} → Option M → (M → List Leaf) → List Leaf
 last_leaves None leaves = []
 last_leaves (Some last) leaves = leaves last
 
+-- the tokens of a block
 abbrev pub block_step : Block-F Leaves Leaves Leaves Leaves Leaves Leaves → List Leaf
 block_step block =
     placed (symbol symbols.LeftBrace) block.place ++ all_of block.statements.items ++ last_leaves block.value (λ value. value.value) ++ sign symbols.RightBrace
@@ -93,6 +94,7 @@ statement_step (expression.Do value) = value ++ sign symbols.Semicolon
 abbrev pub arm_step : Arm-F Leaves Leaves Leaves Leaves Leaves Leaves → List Leaf
 arm_step arm = placed (keyword keywords.If) arm.place ++ arm.condition ++ arm.body
 
+-- the tokens of an `if`, by those of its arms and its last block
 abbrev pub if_leaves : List Leaves → Option Leaves → List Leaf
 if_leaves arms otherwise = joined (word keywords.Else) arms ++ last_leaves otherwise (λ block. word keywords.Else ++ block)
 
@@ -111,6 +113,7 @@ suffix_leaves (suffixes.Index index) = sign symbols.LeftBracket ++ number_leaves
 suffix_leaves (suffixes.Slice high low) =
     sign symbols.LeftBracket ++ number_leaves high ++ sign symbols.Colon ++ number_leaves low ++ sign symbols.RightBracket
 
+-- the tokens of the part that an update replaces
 abbrev pub part_leaves : Part → List Leaf
 part_leaves (parts.Field n) = name_leaves n
 part_leaves (parts.Index index) = number_leaves index
@@ -148,32 +151,19 @@ expression_step (expression.Compare place comparison left right) =
 expression_step (expression.Update place whole part value) =
     call_leaves (placed (keyword keywords.Update) place) (whole.value ∷ part_leaves part ∷ value.value ∷ [])
 
+-- the tokens of a field and its value
 abbrev pub field_value_step : FieldValue-F Leaves Leaves Leaves Leaves Leaves Leaves → List Leaf
 field_value_step field = name_leaves field.name ++ sign symbols.Colon ++ field.value
 
--- the tokens of each part of an expression
-unfoldable pub expression_leaves : Expression → List Leaf
-expression_leaves = fold-Expression Leaves Leaves Leaves Leaves Leaves Leaves expression_step statement_step arm_step block_step field_value_step operand_step
-
-unfoldable pub statement_leaves : Statement → List Leaf
-statement_leaves = fold-Statement Leaves Leaves Leaves Leaves Leaves Leaves expression_step statement_step arm_step block_step field_value_step operand_step
-
-unfoldable pub arm_leaves : Arm → List Leaf
-arm_leaves = fold-Arm Leaves Leaves Leaves Leaves Leaves Leaves expression_step statement_step arm_step block_step field_value_step operand_step
-
+-- the tokens of a block, by those of its parts
 unfoldable pub block_leaves : Block → List Leaf
 block_leaves = fold-Block Leaves Leaves Leaves Leaves Leaves Leaves expression_step statement_step arm_step block_step field_value_step operand_step
-
-unfoldable pub field_value_leaves : FieldValue → List Leaf
-field_value_leaves = fold-FieldValue Leaves Leaves Leaves Leaves Leaves Leaves expression_step statement_step arm_step block_step field_value_step operand_step
-
-unfoldable pub operand_leaves : Operand → List Leaf
-operand_leaves = fold-Operand Leaves Leaves Leaves Leaves Leaves Leaves expression_step statement_step arm_step block_step field_value_step operand_step
 
 -- member = NAME "=" LIT, and field = NAME ":" type
 abbrev pub member_leaves : Member → List Leaf
 member_leaves member = name_leaves member.name ++ sign symbols.Equals ++ literal_leaves member.value
 
+-- the tokens of a struct's field
 abbrev pub field_leaves : Field → List Leaf
 field_leaves field = name_leaves field.name ++ sign symbols.Colon ++ type_leaves field.of
 
@@ -206,18 +196,18 @@ declaration_leaves (declarations.Assert n) = word keywords.Assert ++ name_leaves
 abbrev pub rule_leaves : Name → List Leaf
 rule_leaves n = name_leaves n ++ sign symbols.Semicolon
 
+-- the tokens of a `try`
 abbrev pub choice_step : Choice-F Leaves Leaves → List Leaf
 choice_step choice =
     word keywords.Try ++ name_leaves choice.rule ++ word keywords.Then ++ in_braces choice.then ++ word keywords.Else ++ in_braces choice.otherwise
 
+-- the tokens of a scheduler
 abbrev pub scheduler_step : Scheduler-F Leaves Leaves → List Leaf
 scheduler_step scheduler = flat_map rule_leaves scheduler.rules ++ last_leaves scheduler.last (λ choice. choice.value)
 
+-- the tokens of a scheduler, by those of its parts
 unfoldable pub scheduler_leaves : Scheduler → List Leaf
 scheduler_leaves = fold-Scheduler Leaves Leaves choice_step scheduler_step
-
-unfoldable pub choice_leaves : Choice → List Leaf
-choice_leaves = fold-Choice Leaves Leaves choice_step scheduler_step
 
 -- design = { decl } "schedule" "{" sched "}"
 abbrev pub tree_leaves : Tree → List Leaf
@@ -243,6 +233,7 @@ level_of binary.Add = 8
 level_of binary.Subtract = 8
 level_of binary.Multiply = 9
 
+-- an expression with its parts
 abbrev ExpressionLayer : Type 0
 ExpressionLayer = Expression-F Expression Statement Arm Block FieldValue Operand
 
@@ -260,6 +251,7 @@ level_of_layer (expression.Unary prefixes operand) = 10
 level_of_layer (expression.Postfix primary suffixes) = 11
 level_of_layer _ = 12
 
+-- how strongly an expression binds
 abbrev pub level : Expression → ℕ
 level e = level_of_layer (out-Expression e)
 
@@ -267,15 +259,19 @@ level e = level_of_layer (out-Expression e)
 abbrev pub IsName : Name → Type 0
 IsName n = IsToken kinds.Name n.text
 
+-- a number is below 2^32
 abbrev pub IsNumber : Number → Type 0
 IsNumber n = n.value < 2 ^ 32
 
+-- a literal fits its width
 abbrev pub IsLiteral : Literal → Type 0
 IsLiteral l = IsBitVector l.bits.width l.bits.number
 
+-- the number of a width is one
 abbrev pub IsWidth : Width → Type 0
 IsWidth w = IsNumber w.number
 
+-- the names and numbers of a type are such
 abbrev pub IsType : TypeExpression → Type 0
 IsType (Bits width) = IsWidth width
 IsType (Named n) = IsName n
@@ -285,23 +281,28 @@ IsType (Array' place _ element size) = IsType element × IsNumber size
 abbrev pub IsNonempty : {X : Type 0} → List X → Type 0
 IsNonempty xs = 0 < length xs
 
+-- what a constant's own names, numbers and lists have to be
 abbrev pub IsConstantLayer : Constant-F Constant ConstantField → Type 0
 IsConstantLayer (constant.Literal l) = IsLiteral l
 IsConstantLayer (constant.Member of member) = IsName of × IsName member
 IsConstantLayer (constant.Struct of fields close) = IsName of × IsNonempty fields.items
 IsConstantLayer (constant.Array place elements) = IsNonempty elements.items
 
+-- a constant's field has a name
 abbrev pub IsConstantFieldLayer : ConstantField-F Constant ConstantField → Type 0
 IsConstantFieldLayer field = IsName field.name
 
+-- a constant is one of the grammar's
 unfoldable pub IsConstant : Constant → Type 0
 IsConstant = every-Constant IsConstantLayer IsConstantFieldLayer
 
+-- a suffix's name and numbers are such
 abbrev pub IsSuffix : Suffix → Type 0
 IsSuffix (suffixes.Field n) = IsName n
 IsSuffix (suffixes.Index index) = IsNumber index
 IsSuffix (suffixes.Slice high low) = IsNumber high × IsNumber low
 
+-- an updated part's name or number is one
 abbrev pub IsPart : Part → Type 0
 IsPart (parts.Field n) = IsName n
 IsPart (parts.Index index) = IsNumber index
@@ -310,6 +311,7 @@ IsPart (parts.Index index) = IsNumber index
 abbrev pub IsOperandAt : ℕ → Operand → Type 0
 IsOperandAt k operand = (level_of (out-Operand operand).operator ≡ k) × (k < level (out-Operand operand).operand)
 
+-- what an expression's own names, numbers, lists and levels have to be
 abbrev pub IsExpressionLayer : ExpressionLayer → Type 0
 IsExpressionLayer (expression.If arms otherwise) = IsNonempty arms.items
 IsExpressionLayer (expression.Chain first rest) =
@@ -333,6 +335,7 @@ IsExpressionLayer (expression.Extend place extension value width) = IsNumber wid
 IsExpressionLayer (expression.Compare place comparison left right) = ⊤
 IsExpressionLayer (expression.Update place whole part value) = IsPart part
 
+-- a bound name is a name
 abbrev pub IsStatementLayer : Statement-F Expression Statement Arm Block FieldValue Operand → Type 0
 IsStatementLayer (expression.Let n value) = IsName n
 IsStatementLayer (expression.Do value) = ⊤
@@ -341,27 +344,31 @@ IsStatementLayer (expression.Do value) = ⊤
 abbrev pub IsArmLayer : Arm-F Expression Statement Arm Block FieldValue Operand → Type 0
 IsArmLayer arm = 0 < level arm.condition
 
+-- nothing is asked of a block itself
 abbrev pub IsBlockLayer : Block-F Expression Statement Arm Block FieldValue Operand → Type 0
 IsBlockLayer block = ⊤
 
+-- a field has a name
 abbrev pub IsFieldValueLayer : FieldValue-F Expression Statement Arm Block FieldValue Operand → Type 0
 IsFieldValueLayer field = IsName field.name
 
+-- nothing is asked of an operand itself
 abbrev pub IsOperandLayer : Operand-F Expression Statement Arm Block FieldValue Operand → Type 0
 IsOperandLayer operand = ⊤
 
-unfoldable pub IsExpression : Expression → Type 0
-IsExpression = every-Expression IsExpressionLayer IsStatementLayer IsArmLayer IsBlockLayer IsFieldValueLayer IsOperandLayer
-
+-- a block is one of the grammar's
 unfoldable pub IsBlock : Block → Type 0
 IsBlock = every-Block IsExpressionLayer IsStatementLayer IsArmLayer IsBlockLayer IsFieldValueLayer IsOperandLayer
 
+-- a member has a name and a literal
 abbrev pub IsMember : Member → Type 0
 IsMember member = IsName member.name × IsLiteral member.value
 
+-- a field has a name and a type
 abbrev pub IsField : Field → Type 0
 IsField field = IsName field.name × IsType field.of
 
+-- a declaration is one of the grammar's
 abbrev pub IsDeclaration : Declaration → Type 0
 IsDeclaration (declarations.Enum n width members) = IsName n × IsWidth width × IsNonempty members × All IsMember members
 IsDeclaration (declarations.Struct n fields) = IsName n × IsNonempty fields × All IsField fields
@@ -373,12 +380,15 @@ IsDeclaration (declarations.Function n parameters result body) = IsName n × All
 IsDeclaration (declarations.Rule n body) = IsName n × IsBlock body
 IsDeclaration (declarations.Assert n) = IsName n
 
+-- a `try` has a name
 abbrev pub IsChoiceLayer : Choice-F Choice Scheduler → Type 0
 IsChoiceLayer choice = IsName choice.rule
 
+-- the rules of a scheduler are names
 abbrev pub IsSchedulerLayer : Scheduler-F Choice Scheduler → Type 0
 IsSchedulerLayer scheduler = All IsName scheduler.rules
 
+-- a scheduler is one of the grammar's
 unfoldable pub IsScheduler : Scheduler → Type 0
 IsScheduler = every-Scheduler IsChoiceLayer IsSchedulerLayer
 

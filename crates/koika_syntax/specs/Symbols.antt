@@ -1,5 +1,5 @@
 -- The symbols of a design's text, each with its bytes. This project's own text form.
-use Rattle.std.specs.Prelude.{◌≡◌, ℕ, List, ◌++◌, codes}
+use Rattle.std.specs.Prelude.{ℕ, List, ◌++◌, codes}
 use Rattle.koika_syntax.specs.declared.symbol.Symbol.{Symbol}
 use Rattle.koika_syntax.specs.declared.symbol.Symbol.TheVariants as symbols
 
@@ -35,7 +35,3 @@ symbol_text symbols.LessLess = codes "<<"
 symbol_text symbols.GreaterGreater = codes ">>"
 symbol_text symbols.GreaterGreaterGreater = codes ">>>"
 symbol_text symbols.PlusPlus = codes "++"
-
--- a text begins with these bytes
-abbrev pub BeginsWith : List ℕ → List ℕ → Type 0
-BeginsWith text front = (rest : List ℕ) × (text ≡ front ++ rest)

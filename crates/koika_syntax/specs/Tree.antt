@@ -41,9 +41,11 @@ pub record Leaf : Type 0 where
 abbrev pub word : Keyword → List Leaf
 word k = record { terminal = keyword k; place = None } ∷ []
 
+-- a symbol whose place the tree doesn't keep
 abbrev pub sign : Symbol → List Leaf
 sign s = record { terminal = symbol s; place = None } ∷ []
 
+-- a token at a place
 abbrev pub placed : Terminal → ℕ → List Leaf
 placed terminal place = record { terminal = terminal; place = Some place } ∷ []
 
@@ -51,9 +53,11 @@ placed terminal place = record { terminal = terminal; place = Some place } ∷ [
 abbrev pub name_leaves : Name → List Leaf
 name_leaves n = placed (name n.text) n.place
 
+-- a number
 abbrev pub number_leaves : Number → List Leaf
 number_leaves n = placed (number n.value) n.place
 
+-- a literal
 abbrev pub literal_leaves : Literal → List Leaf
 literal_leaves l = placed (literal l.bits) l.place
 
@@ -65,13 +69,16 @@ width_leaves w = placed (keyword keywords.Bits) w.place ++ number_leaves w.numbe
 abbrev pub all_of : List (List Leaf) → List Leaf
 all_of parts = flat_map (λ part. part) parts
 
+-- parts, each after the same tokens
 abbrev pub each_after : List Leaf → List (List Leaf) → List Leaf
 each_after between parts = flat_map (λ part. between ++ part) parts
 
+-- parts with the same tokens between them
 unfoldable pub joined : List Leaf → List (List Leaf) → List Leaf
 joined between [] = []
 joined between (part ∷ parts) = part ++ each_after between parts
 
+-- parts with commas between them
 abbrev pub commas : List (List Leaf) → List Leaf
 commas parts = joined (sign symbols.Comma) parts
 
@@ -79,6 +86,7 @@ commas parts = joined (sign symbols.Comma) parts
 abbrev pub in_braces : List Leaf → List Leaf
 in_braces inside = sign symbols.LeftBrace ++ inside ++ sign symbols.RightBrace
 
+-- tokens in parentheses
 abbrev pub in_parentheses : List Leaf → List Leaf
 in_parentheses inside = sign symbols.LeftParenthesis ++ inside ++ sign symbols.RightParenthesis
 
@@ -87,6 +95,7 @@ abbrev pub unary_symbol : UnaryOperator → Symbol
 unary_symbol unary.Not = symbols.Tilde
 unary_symbol unary.Negate = symbols.Minus
 
+-- the symbol of an operator between two operands
 abbrev pub binary_symbol : BinaryOperator → Symbol
 binary_symbol binary.Or = symbols.Bar
 binary_symbol binary.Xor = symbols.Caret
@@ -105,12 +114,14 @@ binary_symbol binary.Add = symbols.Plus
 binary_symbol binary.Subtract = symbols.Minus
 binary_symbol binary.Multiply = symbols.Star
 
+-- the keyword of a signed comparison
 abbrev pub comparison_word : SignedComparison → Keyword
 comparison_word comparisons.Less = keywords.Slt
 comparison_word comparisons.LessOrEqual = keywords.Sle
 comparison_word comparisons.Greater = keywords.Sgt
 comparison_word comparisons.GreaterOrEqual = keywords.Sge
 
+-- the keyword of an extension
 abbrev pub extension_word : Extension → Keyword
 extension_word extensions.Zero = keywords.Zext
 extension_word extensions.Sign = keywords.Sext
@@ -119,12 +130,15 @@ extension_word extensions.Sign = keywords.Sext
 abbrev pub read_words : List Keyword
 read_words = keywords.Read0 ∷ keywords.Read1 ∷ keywords.Read2 ∷ keywords.Read3 ∷ []
 
+-- the keywords of writes, by port
 abbrev pub write_words : List Keyword
 write_words = keywords.Write0 ∷ keywords.Write1 ∷ keywords.Write2 ∷ keywords.Write3 ∷ []
 
+-- the keyword of a read at a port
 abbrev pub read_word : ℕ → Keyword
 read_word port = slice_index_or read_words port keywords.Read0
 
+-- the keyword of a write at a port
 abbrev pub write_word : ℕ → Keyword
 write_word port = slice_index_or write_words port keywords.Write0
 

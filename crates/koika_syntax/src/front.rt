@@ -4,8 +4,8 @@ ghost use Rattle.std.specs.Prelude.{◌≡◌, ◌<◌, ◌∷◌, [], false, le
 ghost use Rattle.std.specs.Char.{is_ascii_digit};
 ghost use Rattle.std.specs.List.{prefix_len};
 ghost use Rattle.koika_syntax.specs.Lexemes as lexemes;
-ghost use Rattle.koika_syntax.specs.LexemeAnswers.{IsAnswer};
-ghost use Rattle.koika_syntax.specs.Symbols.{BeginsWith};
+ghost use Rattle.koika_syntax.specs.inner.LexemeAnswers.{IsAnswer};
+ghost use Rattle.koika_syntax.specs.inner.Symbols.{BeginsWith};
 ghost use Rattle.koika_syntax.specs.declared.token.TokenKind.TheVariants as kinds;
 
 use crate::Symbol;

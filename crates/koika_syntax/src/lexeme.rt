@@ -1,6 +1,6 @@
 //! Tokens: what the readers of one lexeme return.
 
-ghost use Rattle.koika_syntax.specs.LexemeAnswers.{number_of, offset_of};
+ghost use Rattle.koika_syntax.specs.inner.LexemeAnswers.{number_of, offset_of};
 ghost use Rattle.std.specs.Prelude.{◌≡◌};
 
 use kw_base::fault_number;

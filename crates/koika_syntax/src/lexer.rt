@@ -4,7 +4,7 @@ ghost use Rattle.std.specs.Prelude.{◌≡◌, ◌+◌, ◌<◌, ◌≤◌, ◌+
 ghost use Rattle.koika_syntax.specs.Lexemes as lexemes;
 ghost use Rattle.kw_base.specs.Fault.{IfFault, IsOkUnlessNoMemory, IsFaultUnlessNoMemory};
 ghost use Rattle.kw_base.specs.declared.fault.Fault.{Fault};
-ghost use Rattle.koika_syntax.specs.LexemeAnswers.{HasRead, BeginsFault, tokens_of, number_of, offset_of};
+ghost use Rattle.koika_syntax.specs.inner.LexemeAnswers.{HasRead, BeginsFault, tokens_of, number_of, offset_of};
 ghost use Rattle.koika_syntax.specs.Tokens.{AreTokensOf, StandsIn, AreAscending};
 ghost use Rattle.koika_syntax.specs.TokenFaults.{BeginsFaulty, IsFirstFault};
 

@@ -8,7 +8,7 @@ ghost use Rattle.std.specs.Str.Parse.{IsNumeral, digits_value};
 ghost use Rattle.kw_bits.specs.BitVector.{IsBitVector};
 ghost use Rattle.koika_syntax.specs.Lexemes.{letter_of, radix_of};
 ghost use Rattle.koika_syntax.specs.Tokens.{IsLiteralOf};
-ghost use Rattle.koika_syntax.specs.LexemeAnswers.{IsAnswer};
+ghost use Rattle.koika_syntax.specs.inner.LexemeAnswers.{IsAnswer};
 
 use crate::TokenKind;
 use crate::lexeme::{Flaw, Lexeme};

@@ -3,7 +3,7 @@
 ghost use Rattle.std.specs.Prelude.{◌≡◌, ◌<◌, length, slice_index, IsTrue};
 ghost use Rattle.std.specs.List.{prefix_len};
 ghost use Rattle.koika_syntax.specs.Lexemes as lexemes;
-ghost use Rattle.koika_syntax.specs.LexemeAnswers.{IsAnswer, token_of_word};
+ghost use Rattle.koika_syntax.specs.inner.LexemeAnswers.{IsAnswer, token_of_word};
 
 use crate::Keyword;
 use crate::lexeme::{Flaw, Lexeme};

@@ -6,7 +6,7 @@ use Rattle.one_rule.specs.declared.rows.Row.{Row}
 use Rattle.aig_blast.specs.AigRun.{run_of}
 use Rattle.aig_blast.specs.AigSims.{Simulation, after_steps, beginning, rows_from}
 use Rattle.aig_blast.specs.Aigs.{AigParts, input_widths}
-use Rattle.koika_top.specs.Engines.{AigStandsAfter}
+use Rattle.koika_top.specs.inner.Engines.{AigStandsAfter}
 use Rattle.koika_top.proofs.AigRows.{aig-steps-on, rows-of-aig-batch, steps-aig}
 
 -- a circuit that begins has run no cycle

@@ -8,7 +8,7 @@ use Rattle.aig_blast.specs.AigRun.{first_row, first_words, row_after, rows_after
 use Rattle.aig_blast.specs.AigSims.{Simulation, after_step, after_steps, beginning, rows_from}
 use Rattle.aig_blast.specs.Aigs.{AigParts}
 use Rattle.aig_blast.proofs.AigRows.{row_at-after_step, run-begins}
-use Rattle.koika_top.specs.Engines.{AreRows}
+use Rattle.koika_top.specs.inner.Engines.{AreRows}
 use Rattle.koika_top.proofs.CircuitRows.{drop-none}
 
 module _ (a : AigParts) (inputs : InputsByCycle) where

@@ -12,7 +12,7 @@ use Rattle.btor2_text.specs.Printable.{IsToken}
 use Rattle.koika_check.specs.declared.checked.Checked.{Checked}
 use Rattle.koika_top.specs.Aiger.{IsAigOf}
 use Rattle.front_end.specs.Names.{HasWordNames}
-use Rattle.koika_top.specs.Wired.{IsWiredAs}
+use Rattle.koika_top.specs.inner.Wired.{IsWiredAs}
 use Rattle.koika_top.proofs.BadLines.{all-ones}
 use Rattle.koika_top.proofs.SymbolNames.{token-symbol}
 use Rattle.koika_top.proofs.Wiring.{has-tokens}

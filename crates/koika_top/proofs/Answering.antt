@@ -13,7 +13,7 @@ use Rattle.front_end.specs.inner.Steps.{Makes}
 use Rattle.front_end.proofs.Told as told
 use Rattle.front_end.proofs.Told.{Embeds}
 use Rattle.koika_top.specs.Answer.{koika, text_of}
-use Rattle.koika_top.specs.Steps.{Tells, TellsOne}
+use Rattle.koika_top.specs.inner.Steps.{Tells, TellsOne}
 
 -- the program's answers and statuses are those that are written
 abbrev embeds : Embeds koika

@@ -10,10 +10,10 @@ use Rattle.stim_report.specs.Summary.{summary, totals_of, totals_text}
 use Rattle.stim_report.specs.declared.shape.Shape.{Shape}
 use Rattle.stim_report.proofs.BatchesJoined.{parts_join}
 use Rattle.koika_assert.specs.Violations.{violations, watched, watched_text}
-use Rattle.koika_top.specs.Engines.{AreRows}
+use Rattle.koika_top.specs.inner.Engines.{AreRows}
 use Rattle.front_end.specs.Marks.{Marks}
 use Rattle.front_end.specs.Streams.{Stream}
-use Rattle.koika_top.specs.Telling.{FormGoesOn, FormHasRows, GoesOnFrom, HasRows, TakesRows, all_told, ending_of, ending_of_form, part_of_batch, shown_by, shown_by_form, shown_text, told_of}
+use Rattle.koika_top.specs.inner.Telling.{FormGoesOn, FormHasRows, GoesOnFrom, HasRows, TakesRows, all_told, ending_of, ending_of_form, part_of_batch, shown_by, shown_by_form, shown_text, told_of}
 use Rattle.front_end.specs.Told.{Told}
 use Rattle.koika_top.specs.declared.shown.Shown.{Shown}
 use Rattle.koika_top.specs.declared.shown.Shown.TheVariants.{Report, Summary}

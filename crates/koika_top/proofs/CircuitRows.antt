@@ -6,7 +6,7 @@ use Rattle.kw_bits.specs.BitVector.{BitVector}
 use Rattle.circuit_eval.specs.Run.{first_row, first_states, row_after, rows_after, run_of}
 use Rattle.circuit_eval.specs.Simulations.{Simulation, after_step, after_steps, beginning, rows_from}
 use Rattle.circuit_eval.specs.declared.circuit.Wires.{Wires}
-use Rattle.koika_top.specs.Engines.{AreRows}
+use Rattle.koika_top.specs.inner.Engines.{AreRows}
 
 module _ (c : Wires) (inputs : InputsByCycle) where
   after-count : (n last : ℕ) (states : List BitVector) → length (rows_after c inputs n last states) ≡ n

@@ -10,7 +10,7 @@ use Rattle.one_rule.specs.Stimulus.{AlwaysFits, InputVectors, inputs_of}
 use Rattle.stim_report.specs.declared.shape.Shape.{Shape}
 use Rattle.koika_top.specs.Btorsim as text
 use Rattle.koika_top.specs.Btorsim.{shown_run}
-use Rattle.koika_top.specs.CircuitRuns.{AreCircuitsOf, violations_by}
+use Rattle.koika_top.specs.inner.CircuitRuns.{AreCircuitsOf, violations_by}
 use Rattle.koika_top.specs.CircuitShapes as circuit
 use Rattle.koika_top.specs.Sim.{rows_text}
 use Rattle.front_end.specs.Streams.{Stream}

@@ -29,7 +29,7 @@ use Rattle.stim_report.specs.declared.shape.NameWidth.{NameWidth}
 use Rattle.stim_report.specs.declared.shape.Shape.{Shape}
 use Rattle.koika_top.specs.Btorsim as text
 use Rattle.koika_top.specs.Btorsim.{HasNoLines, HasNoStimulus, HasNoText, HoldsLines, HoldsText, IsRefusal, RunsTooLong, is_too_long, longest_circuit}
-use Rattle.koika_top.specs.CircuitRuns.{AreBadsOf, HasFewLines, ShowsBads}
+use Rattle.koika_top.specs.inner.CircuitRuns.{AreBadsOf, HasFewLines, ShowsBads}
 use Rattle.koika_top.specs.CircuitShapes as circuit
 use Rattle.front_end.specs.Lengths as lengths
 use Rattle.koika_top.specs.declared.bad_flags.BadFlags.{BadFlags}

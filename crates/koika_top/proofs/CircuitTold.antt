@@ -6,7 +6,7 @@ use Rattle.stim_report.specs.declared.shape.Shape.{Shape}
 use Rattle.koika_assert.specs.Violations.{Watched, violations, watched}
 use Rattle.front_end.specs.Marks.{Marks}
 use Rattle.koika_top.specs.Sim.{rows_text}
-use Rattle.koika_top.specs.Telling.{HasRows, all_told, marks_in, shown_by}
+use Rattle.koika_top.specs.inner.Telling.{HasRows, all_told, marks_in, shown_by}
 use Rattle.koika_top.specs.declared.shown.Shown.{Shown}
 use Rattle.koika_top.specs.declared.teller.Teller.{Teller}
 

@@ -20,7 +20,7 @@ use Rattle.koika_assert.specs.Violations.{first_violated, violated_line, violate
 use Rattle.stim_report.specs.Summary.{has_fired}
 use Rattle.koika_top.specs.Btorsim.{violations}
 use Rattle.koika_top.specs.Btorsim as text
-use Rattle.koika_top.specs.CircuitRuns.{AreBadsOf, ShowsBads, violations_by}
+use Rattle.koika_top.specs.inner.CircuitRuns.{AreBadsOf, ShowsBads, violations_by}
 use Rattle.koika_top.specs.declared.bad_flags.BadFlags.{BadFlags}
 use Rattle.koika_top.proofs.CircuitRows.{drop-none}
 

@@ -1,7 +1,7 @@
 -- Which engines a crew has that makes the runs which words ask for.
 use Rattle.std.proofs.Common.{◌≡◌, ℕ, false, List, Option, sym, subst, arith}
 use Rattle.std.specs.Prelude.{IfSome}
-use Rattle.koika_top.specs.Steps.{AskFor, HasFewWorkers, IsAlone, IsInRange, RunsBy}
+use Rattle.koika_top.specs.inner.Steps.{AskFor, HasFewWorkers, IsAlone, IsInRange, RunsBy}
 use Rattle.koika_top.specs.Words.{asks_workers}
 use Rattle.koika_top.specs.declared.words.Command.{Command}
 use Rattle.koika_top.specs.declared.words.Command.TheVariants.{Check, Print, Sim, Compile, Btorsim, Gen, Aiger, Aigsim, Journal, Recheck}

@@ -7,7 +7,7 @@ use Rattle.circuit_eval.specs.Circuits.{input_widths}
 use Rattle.circuit_eval.specs.Run.{run_of}
 use Rattle.circuit_eval.specs.Simulations.{Simulation, after_steps, beginning, rows_from}
 use Rattle.circuit_eval.specs.declared.circuit.Wires.{Wires}
-use Rattle.koika_top.specs.Engines.{StandsAfter}
+use Rattle.koika_top.specs.inner.Engines.{StandsAfter}
 use Rattle.koika_top.proofs.CircuitRows.{rows-of-batch, steps-circuit, steps-on}
 
 -- a circuit that begins has run no cycle

@@ -28,9 +28,10 @@ use Rattle.journal_check.specs.Journals.{lines_of_batch}
 use Rattle.journal_check.specs.Printing.{begin_tokens, ended, joined, journal_text, line_text, text_of}
 use Rattle.journal_check.specs.declared.journal.Batch.{Batch}
 use Rattle.journal_check.specs.declared.journal.Journal.{Journal}
-use Rattle.koika_top.specs.Histories.{IsWhole, board_of}
+use Rattle.koika_top.specs.Histories.{board_of}
+use Rattle.koika_top.specs.inner.Histories.{IsWhole}
 use Rattle.koika_top.specs.Journal.{IsJournalOf, IsMadeBy}
-use Rattle.koika_top.specs.Journaling.{IsBatch, WritesBatch, WritesJournal}
+use Rattle.koika_top.specs.inner.Journaling.{IsBatch, WritesBatch, WritesJournal}
 use Rattle.front_end.specs.Streams.{Stream}
 use Rattle.front_end.specs.Told.{Told}
 use Rattle.front_end.specs.declared.untold.Untold.{Untold}

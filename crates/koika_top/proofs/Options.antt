@@ -2,7 +2,7 @@
 use Rattle.std.proofs.Common.{◌≡◌, ℕ, ◌+◌, ◌<◌, ◌≤◌, Bool, true, false, List, [], ◌∷◌, length, Option, Some, None, refl, sym, subst, arith, take, drop, ◌||◌, ◌&&◌, nat_le, true≢false}
 use Rattle.std.specs.Prelude.{codes, IfSome, if◌then◌else◌}
 use Rattle.std.specs.Str.{bytes_eq}
-use Rattle.koika_top.specs.Steps.{IsAlone, RunsBy}
+use Rattle.koika_top.specs.inner.Steps.{IsAlone, RunsBy}
 use Rattle.koika_top.specs.Words.{aigsim_by, aigsim_of, alone_of, asked_flag, asked_for, asks_workers, btorsim_by, btorsim_of, command_of, engine_by, engine_of, gen_by, gen_of, given_once, is_of_workers, journal_by, no_options, options_of, recheck_by, recheck_of, sim_by, sim_of, with_cycles, with_engine, with_journal, with_summary, with_word, with_workers}
 use Rattle.front_end.specs.NumberWords.{number_of}
 use Rattle.koika_top.specs.declared.shown.Shown.{Shown}

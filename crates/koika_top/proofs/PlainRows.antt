@@ -12,7 +12,7 @@ use Rattle.one_rule.specs.Run.{InputsByCycle, first_values, last_registers, open
 use Rattle.one_rule.specs.Stimulus.{InputVectors, inputs_of}
 use Rattle.one_rule.specs.declared.rows.Row.{Row}
 use Rattle.one_rule.proofs.Runs.{rows_are_cycles, runs_in_parts}
-use Rattle.koika_top.specs.Engines.{AreRows, HasRun}
+use Rattle.koika_top.specs.inner.Engines.{AreRows, HasRun}
 use Rattle.koika_top.proofs.CircuitRows.{drop-none}
 
 -- ---- the rows of a run

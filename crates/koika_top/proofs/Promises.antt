@@ -32,15 +32,16 @@ use Rattle.front_end.proofs.Promises.{Agrees, IsDefinite, of-any, of-known}
 use Rattle.koika_top.specs.Aiger.{AnswersAiger, most_bits}
 use Rattle.koika_top.specs.Aigsim as aigsim
 use Rattle.koika_top.specs.Aigsim.{AnswersAigsim}
-use Rattle.koika_top.specs.Answer.{Answers, IsAnswer, is_of_source, koika, longest_of, reads_source}
+use Rattle.koika_top.specs.Answer.{Answers, IsAnswer, is_of_source, koika}
+use Rattle.koika_top.specs.inner.Answer.{longest_of, reads_source}
 use Rattle.koika_top.specs.Btorsim as circuit
 use Rattle.koika_top.specs.Btorsim.{AnswersBtorsim, HoldsRun, shown_run}
 use Rattle.koika_top.specs.Calls.{Call, IsKept}
 use Rattle.koika_top.specs.Compile.{AnswersCompile}
 use Rattle.koika_top.specs.Journal.{AnswersJournal, HasJournal, IsJournalOf}
-use Rattle.koika_top.specs.Journaling.{WritesJournal}
+use Rattle.koika_top.specs.inner.Journaling.{WritesJournal}
 use Rattle.koika_top.specs.Sim.{AnswersSim, text_of_run}
-use Rattle.koika_top.specs.Steps.{Tells, TellsOne, TellsRead}
+use Rattle.koika_top.specs.inner.Steps.{Tells, TellsOne, TellsRead}
 use Rattle.koika_top.specs.Words.{command_of}
 use Rattle.koika_top.specs.declared.shown.Shown.{Shown}
 use Rattle.koika_top.specs.declared.words.Command.{Command}

@@ -19,7 +19,7 @@ use Rattle.clap.specs.declared.parser.matches.ValueSource.TheVariants.{CommandLi
 use Rattle.clap.specs.declared.builder.value_parser.Reading.{Reading}
 use Rattle.clap.specs.Takes.{is_given, settle_passes, takes, turn_passes, walk_passes}
 use Rattle.clap.proofs.OnLiterals.{clap_on_literals}
-use Rattle.koika_top.specs.Given.{Give, bare, cycles_rule, engine_rule, flag_of, flag_text, gen_app, journal_rule, number_in, run_app, stages_rule, summary_rule, workers_rule}
+use Rattle.koika_top.specs.inner.Given.{Give, bare, cycles_rule, engine_rule, flag_of, flag_text, gen_app, journal_rule, number_in, run_app, stages_rule, summary_rule, workers_rule}
 use Rattle.koika_top.specs.Words.{asked_flag, asked_for, engine_by, engine_of, gen_by, gen_of, given_once, journal_by, no_options, options_of, sim_by, sim_of, with_cycles, with_engine, with_journal, with_summary, with_word, with_workers}
 use Rattle.front_end.specs.NumberWords.{number_of, value_of}
 use Rattle.koika_top.specs.declared.engine_kind.EngineKind.{EngineKind}

@@ -22,7 +22,7 @@ use Rattle.front_end.specs.Marks.{Marks}
 use Rattle.koika_top.specs.Sim.{text_of_rows}
 use Rattle.front_end.specs.Sources.{shape_of}
 use Rattle.front_end.specs.Systems.{run_of}
-use Rattle.koika_top.specs.Telling.{HasRows, TakesRows, ending_of, ending_of_form, part_of_batch, shown_by, shown_by_form}
+use Rattle.koika_top.specs.inner.Telling.{HasRows, TakesRows, ending_of, ending_of_form, part_of_batch, shown_by, shown_by_form}
 use Rattle.koika_top.specs.declared.shown.Shown.{Shown}
 use Rattle.koika_top.specs.declared.shown.Shown.TheVariants.{Report, Summary}
 use Rattle.koika_top.specs.declared.teller.Form.{Form}

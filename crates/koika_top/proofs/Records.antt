@@ -23,7 +23,8 @@ use Rattle.board_core.proofs.Histories.{legal_goes_on}
 use Rattle.board_lock.specs.Histories.{Each, InRun, IsCycle, IsPast, Leaves}
 use Rattle.board_lock.proofs.Histories.{took_settle, took_submit}
 use Rattle.board_lock.proofs.Ranges.{all_of, chosen_in, each_of, every-append, every-map, settle_in}
-use Rattle.koika_top.specs.Histories.{AreBy, IsRecord, IsWhole}
+use Rattle.koika_top.specs.Histories.{AreBy}
+use Rattle.koika_top.specs.inner.Histories.{IsRecord, IsWhole}
 
 each-more : (P : Entry → Type 0) (entries : List Entry) (e : Entry) → Each P entries → P e → Each P (entries ++ e ∷ [])
 each-more P entries e all one = each_of P (entries ++ e ∷ []) (every-append P entries (e ∷ []) (all_of P entries all) (one, tt))

@@ -10,7 +10,7 @@ use Rattle.typed_core.specs.Widths.{HaveWidths}
 use Rattle.typed_core.specs.declared.design.Parts.{Parts}
 use Rattle.koika_check.specs.declared.checked.Checked.{Checked}
 use Rattle.koika_lower.specs.Lowering.{IsLowered, input_widths}
-use Rattle.koika_top.specs.Engines.{AreRows}
+use Rattle.koika_top.specs.inner.Engines.{AreRows}
 use Rattle.front_end.specs.Sources.{shape_of}
 use Rattle.front_end.specs.Systems.{first_values, run_of, system_of}
 use Rattle.front_end.proofs.LoweredRuns.{inputs-wide, registers-named, rules-named, run-same}

@@ -42,7 +42,7 @@ use Rattle.front_end.specs.Names.{HasWordNames}
 use Rattle.front_end.specs.Marks.{marks_of}
 use Rattle.front_end.specs.Sources as sources
 use Rattle.front_end.specs.Systems as typed
-use Rattle.koika_top.specs.Wired.{IsWiredAs}
+use Rattle.koika_top.specs.inner.Wired.{IsWiredAs}
 use Rattle.koika_top.proofs.PlainNames.{words-tokens}
 use Rattle.koika_top.proofs.BadLines.{bads-have-names, flags-all, row-of-run, with-bads-numbered}
 use Rattle.koika_top.proofs.CircuitLines.{AreNumbered, HasSymbol, lines-numbered, no-bads, numbered-anew, outputs-named}

@@ -42,13 +42,16 @@ pub record HoldsRun (source : List ℕ) (aig : AigParts) (stimulus : InputVector
 abbrev pub HasNoAig : List ℕ → Fault → Type 0
 HasNoAig source fault = (length source ≤ longest_circuit) × (aig_of (cuts.parts_of source).design ≡ Err fault)
 
+-- the stimulus has a fault
 abbrev pub HasNoStimulus : List ℕ → Fault → Type 0
 HasNoStimulus source fault = (aig : AigParts) × HoldsAig source aig × (stimulus_in source aig ≡ Err fault)
 
+-- the run is too long
 abbrev pub RunsTooLong : ℕ → List ℕ → Fault → Type 0
 RunsTooLong cycles source fault =
     (fault ≡ fault_of_source 45) × ((aig : AigParts) × (stimulus : InputVectors) × HoldsRun source aig stimulus × (is_too_long cycles aig ≡ true))
 
+-- one of these, in this order
 abbrev pub IsRefusal : ℕ → List ℕ → Fault → Type 0
 IsRefusal cycles source fault =
     IsTooLong source fault ⊎ (HasNoAig source fault ⊎ (HasNoStimulus source fault ⊎ RunsTooLong cycles source fault))

@@ -1,10 +1,10 @@
 -- What the program answers to the words of its command line and to the bytes of its source, and the text of an
 -- answer. A command's own answers are in the file of its name; later commands are further cases of these definitions.
-use Rattle.std.specs.Prelude.{◌≡◌, ℕ, Bool, false, true, List, [], ◌∷◌, ◌++◌, codes, Option, None, Some}
+use Rattle.std.specs.Prelude.{◌≡◌, ℕ, Bool, false, true, List, ◌∷◌, ◌++◌, codes, Option, Some}
 use Rattle.kw_bits.specs.declared.host.HostSpec.{HostSpec}
 use Rattle.koika_top.specs.Aiger.{AnswersAiger}
 use Rattle.koika_top.specs.Aigsim.{AnswersAigsim}
-use Rattle.koika_top.specs.Btorsim.{AnswersBtorsim, longest_circuit}
+use Rattle.koika_top.specs.Btorsim.{AnswersBtorsim}
 use Rattle.koika_top.specs.Compile.{AnswersCompile}
 use Rattle.koika_top.specs.Generator.{pipeline}
 use Rattle.koika_top.specs.Journal.{AnswersJournal}
@@ -13,10 +13,9 @@ use Rattle.koika_top.specs.Recheck.{AnswersRecheck}
 use Rattle.koika_top.specs.Sim.{AnswersSim}
 use Rattle.front_end.specs.Program as program
 use Rattle.front_end.specs.Program.{Program, status_of}
-use Rattle.front_end.specs.Sources.{longest_source}
 use Rattle.koika_top.specs.Words.{command_of}
 use Rattle.front_end.specs.declared.answer.Answer.{Answer}
-use Rattle.front_end.specs.declared.answer.Answer.TheVariants.{Usage, Refused, Written}
+use Rattle.front_end.specs.declared.answer.Answer.TheVariants.{Refused, Written}
 use Rattle.front_end.specs.declared.status.Status.{Status}
 use Rattle.front_end.specs.declared.status.Status.TheVariants as status
 use Rattle.koika_top.specs.declared.words.Command.{Command}
@@ -39,13 +38,6 @@ Answers hosts (Recheck cycles) source answer = AnswersRecheck hosts cycles sourc
 abbrev pub is_of_source : Command → Bool
 is_of_source (Gen stages) = false
 is_of_source other = true
-
--- how many bytes the source of a command may have
-abbrev pub longest_of : Command → ℕ
-longest_of (Btorsim cycles shown) = longest_circuit
-longest_of (Aigsim cycles shown) = longest_circuit
-longest_of (Recheck cycles) = longest_circuit
-longest_of other = longest_source
 
 -- how to use the program
 abbrev pub usage_line : List ℕ
@@ -77,10 +69,6 @@ koika =
 -- the answer to words and a source; where the words aren't understood it is how to use the program
 abbrev pub IsAnswer : List HostSpec → List (List ℕ) → List ℕ → Answer → Type 0
 IsAnswer = program.IsAnswer koika
-
--- whether words that ask for this are answered by the source
-abbrev pub reads_source : Option Command → Bool
-reads_source = program.reads_source koika
 
 -- the text of an answer
 abbrev pub text_of : Answer → List ℕ

@@ -41,6 +41,7 @@ named_lines test lines = map (λ (line : Line). record { name = name_of line; wi
 abbrev pub is_flag : List Line → Line → Bool
 is_flag lines line = width_in lines (id_at line.arguments 0) == 1
 
+-- the outputs of one bit
 abbrev pub flag_lines : List Line → List Line
 flag_lines lines = filter (is_flag lines) (lines_of is_output lines)
 
@@ -79,19 +80,24 @@ pub record HoldsRun (source : List ℕ) (lines : List Line) (stimulus : InputVec
 abbrev pub IsTooLong : List ℕ → Fault → Type 0
 IsTooLong source fault = (fault ≡ fault_of_source 40) × (longest_circuit < length source)
 
+-- the text has a line of no form
 abbrev pub HasNoLines : List ℕ → Fault → Type 0
 HasNoLines source fault = (length source ≤ longest_circuit) × IsFirstFaultOf (cuts.parts_of source).design fault
 
+-- the lines are no circuit
 abbrev pub HasNoText : List ℕ → Fault → Type 0
 HasNoText source fault = (lines : List Line) × HoldsLines source lines × (first_fault lines ≡ Some fault)
 
+-- the stimulus has a fault
 abbrev pub HasNoStimulus : List ℕ → Fault → Type 0
 HasNoStimulus source fault = (lines : List Line) × HoldsText source lines × (stimulus_in source lines ≡ Err fault)
 
+-- the run is too long
 abbrev pub RunsTooLong : ℕ → List ℕ → Fault → Type 0
 RunsTooLong cycles source fault =
     (fault ≡ fault_of_source 45) × ((lines : List Line) × (stimulus : InputVectors) × HoldsRun source lines stimulus × (is_too_long cycles lines ≡ true))
 
+-- one of these, in this order
 abbrev pub IsRefusal : ℕ → List ℕ → Fault → Type 0
 IsRefusal cycles source fault =
     IsTooLong source fault ⊎ (HasNoLines source fault ⊎ (HasNoText source fault ⊎ (HasNoStimulus source fault ⊎ RunsTooLong cycles source fault)))

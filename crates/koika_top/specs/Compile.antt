@@ -28,6 +28,7 @@ use Rattle.front_end.specs.Systems as typed
 use Rattle.front_end.specs.declared.answer.Answer.{Answer}
 use Rattle.front_end.specs.declared.answer.Answer.TheVariants.{Usage, Refused, Written}
 
+-- the widths of a typed design's inputs
 abbrev pub input_widths : Checked → List ℕ
 input_widths d = map (λ (i : Input). i.width) d.inputs
 

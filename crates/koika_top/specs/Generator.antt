@@ -21,22 +21,28 @@ abbrev pub ascending : List ℕ → ℕ → List ℕ
 ascending template zero = []
 ascending template (suc stage) = ascending template stage ++ filled template stage
 
+-- a template filled with each stage's number, the last stage first
 abbrev pub descending : List ℕ → ℕ → List ℕ
 descending template zero = []
 descending template (suc stage) = filled template stage ++ descending template stage
 
+-- the registers of a stage
 abbrev pub stage_registers : List ℕ
 stage_registers = codes "reg v# : bits 1 = 1'd0 ;/reg d# : bits 32 = 32'd0 ;/"
 
+-- the two registers that there are once
 abbrev pub other_registers : List ℕ
 other_registers = codes "reg total : bits 32 = 32'd0 ;/reg feed : bits 32 = 32'd0 ;/"
 
+-- the rule that takes from the last stage
 abbrev pub drain : List ℕ
 drain = codes "rule drain {/if read0 ( v# ) {/write0 ( v# , 1'd0 ) ;/write0 ( total , read0 ( total ) + read0 ( d# ) ) }/else {/abort }/}/"
 
+-- the rule that moves a value to the next stage
 abbrev pub move_on : List ℕ
 move_on = codes "rule move# {/if read0 ( v# ) & ~ read1 ( v@ ) {/write0 ( v# , 1'd0 ) ;/write1 ( v@ , 1'd1 ) ;/write1 ( d@ , read0 ( d# ) + 32'd1 ) }/else {/abort }/}/"
 
+-- the rule that puts a value into the first stage
 abbrev pub fill : List ℕ
 fill = codes "rule fill {/if ~ read1 ( v0 ) {/write1 ( v0 , 1'd1 ) ;/write1 ( d0 , read0 ( feed ) ) ;/write0 ( feed , read0 ( feed ) + 32'd1 ) }/else {/abort }/}/"
 

@@ -7,9 +7,7 @@ use Rattle.one_rule.specs.Stimulus.{InputVectors}
 use Rattle.attempt_log.specs.Entries.{worker_of}
 use Rattle.attempt_log.specs.declared.entry.Entry.{Entry}
 use Rattle.board_core.specs.Board.{Opening}
-use Rattle.board_core.specs.History.{IsLegal}
-use Rattle.board_core.specs.Kept.{Kept}
-use Rattle.board_lock.specs.Histories.{Each, InRun, IsPast, Leaves}
+use Rattle.board_lock.specs.Histories.{Each}
 
 -- the board of the cycles after `from` up to `to`, on registers that cycle `from` left; four cycles may be ahead, the
 -- current one included
@@ -19,17 +17,3 @@ board_of design stimulus regs from to = record { design = design; stimulus = sti
 -- the entries are of workers with at most this number
 abbrev pub AreBy : ℕ → List Entry → Type 0
 AreBy worker entries = Each (λ (e : Entry). worker_of e ≤ worker) entries
-
--- what was done so far, which left this core
-pub record IsRecord (worker : ℕ) (entries : List Entry) (core : Kept) : Type 0 where
-  pub legal : IsLegal core.opening entries
-  pub leaves : Leaves core.opening entries core
-  pub by : AreBy worker entries
-  pub in_run : Each (InRun core.opening) entries
-
--- what was done in all: the last cycle is closed
-pub record IsWhole (worker : ℕ) (o : Opening) (entries : List Entry) : Type 0 where
-  pub legal : IsLegal o entries
-  pub closes : IsPast o entries
-  pub by : AreBy worker entries
-  pub in_run : Each (InRun o) entries

@@ -45,6 +45,7 @@ abbrev pub journal_line : List ℕ → List ℕ → ℕ → ℕ
 journal_line source rest number =
     if has_mark rest then capped (number + (cuts.parts_of rest).first_line - 1) else number_after 1 (length (cuts.lines_of source))
 
+-- the design, the stimulus and the journal of a source
 abbrev pub parts_of : List ℕ → JournalParts
 parts_of source =
     let front = cuts.parts_of source in
@@ -118,6 +119,7 @@ HasNoLength hosts cycles source fault =
 abbrev pub HasNoParts : List HostSpec → List ℕ → Fault → Type 0
 HasNoParts hosts source fault = IsTooLong source fault ⊎ (HasNoDesign hosts source fault ⊎ HasNoStimulus hosts source fault)
 
+-- the source is refused before its journal is looked at
 abbrev pub IsRefusedBefore : List HostSpec → ℕ → List ℕ → Fault → Type 0
 IsRefusedBefore hosts cycles source fault = HasNoParts hosts source fault ⊎ HasNoLength hosts cycles source fault
 

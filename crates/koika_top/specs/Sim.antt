@@ -23,6 +23,7 @@ abbrev pub rows_text : Shown → Shape → List Row → List ℕ
 rows_text Report shape rows = report shape rows
 rows_text Summary shape rows = summary shape rows
 
+-- the report or the summary of rows, and which marked rules fired
 abbrev pub text_of_rows : Shown → Shape → Marks → List Row → List ℕ
 text_of_rows shown shape marks rows = rows_text shown shape rows ++ violations marks.names marks.rules rows
 

@@ -101,6 +101,7 @@ abbrev pub journal_by : Option ℕ → Shown → Option EngineKind → Option �
 journal_by (Some cycles) Report None (Some workers) = if nat_le 1 workers && nat_le workers 8 then Some (Journal cycles workers) else None
 journal_by cycles shown engine workers = None
 
+-- `sim` with options
 abbrev pub sim_of : Option Options → Option Command
 sim_of None = None
 sim_of (Some options) =
@@ -112,6 +113,7 @@ abbrev pub btorsim_by : Option ℕ → Shown → Option EngineKind → Option �
 btorsim_by (Some cycles) shown None None = Some (Btorsim cycles shown)
 btorsim_by cycles shown engine workers = None
 
+-- `btorsim` with options
 abbrev pub btorsim_of : Option Options → Option Command
 btorsim_of None = None
 btorsim_of (Some options) = if options.journal then None else btorsim_by options.cycles options.shown options.engine options.workers
@@ -121,6 +123,7 @@ abbrev pub aigsim_by : Option ℕ → Shown → Option EngineKind → Option ℕ
 aigsim_by (Some cycles) shown None None = Some (Aigsim cycles shown)
 aigsim_by cycles shown engine workers = None
 
+-- `aigsim` with options
 abbrev pub aigsim_of : Option Options → Option Command
 aigsim_of None = None
 aigsim_of (Some options) = if options.journal then None else aigsim_by options.cycles options.shown options.engine options.workers
@@ -130,6 +133,7 @@ abbrev pub recheck_by : Option ℕ → Shown → Option EngineKind → Option �
 recheck_by (Some cycles) Report None None = Some (Recheck cycles)
 recheck_by cycles shown engine workers = None
 
+-- `recheck` with options
 abbrev pub recheck_of : Option Options → Option Command
 recheck_of None = None
 recheck_of (Some options) = if options.journal then None else recheck_by options.cycles options.shown options.engine options.workers
@@ -139,6 +143,7 @@ abbrev pub gen_by : Option ℕ → Option Command
 gen_by None = None
 gen_by (Some stages) = if nat_le 1 stages && nat_le stages 100 then Some (Gen stages) else None
 
+-- `gen` with a number
 abbrev pub gen_of : List (List ℕ) → Option Command
 gen_of (word ∷ []) = gen_by (number_of word)
 gen_of words = None
@@ -167,6 +172,7 @@ command_of (word ∷ rest) =
 abbrev pub is_of_workers : List ℕ → Bool
 is_of_workers word = bytes_eq word (codes "--workers") || bytes_eq (take 10 word) (codes "--workers=")
 
+-- some word gives a number of workers
 abbrev pub asks_workers : List (List ℕ) → Bool
 asks_workers [] = false
 asks_workers (word ∷ words) = is_of_workers word || asks_workers words

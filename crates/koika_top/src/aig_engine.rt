@@ -4,7 +4,7 @@ ghost use Rattle.std.specs.Prelude.{◌≡◌, IfOk};
 ghost use Rattle.aig_blast.specs.AigRun.{run_of};
 ghost use Rattle.aig_blast.specs.Aigs.{input_widths};
 ghost use Rattle.one_rule.specs.Stimulus.{inputs_of};
-ghost use Rattle.koika_top.specs.Engines.{AigStandsAfter};
+ghost use Rattle.koika_top.specs.inner.Engines.{AigStandsAfter};
 
 use crate::engine::Engine;
 use aig_blast::{Aig, AigSim, run_on};

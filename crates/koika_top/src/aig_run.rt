@@ -10,7 +10,7 @@ ghost use Rattle.stim_report.specs.Cuts.{parts_of};
 ghost use Rattle.koika_top.specs.Aigsim.{HasNoAig, HasNoStimulus, HoldsAig, HoldsRun, IsRefusal, RunsTooLong, is_too_long, shown_run};
 ghost use Rattle.koika_top.specs.Btorsim.{longest_circuit};
 ghost use Rattle.front_end.specs.Streams.{stream};
-ghost use Rattle.koika_top.specs.Telling.{HasRows, all_told, marks_in, shown_by};
+ghost use Rattle.koika_top.specs.inner.Telling.{HasRows, all_told, marks_in, shown_by};
 ghost use Rattle.front_end.specs.Told.{Told};
 
 use crate::aig_engine::AigEngine;

@@ -5,7 +5,7 @@ ghost use Rattle.std.specs.List.{list_any, range_with_len};
 ghost use Rattle.btor2_model.specs.Rules.{is_bad, rule_of};
 ghost use Rattle.circuit_eval.specs.declared.circuit.OutputWire.{OutputWire as Wire};
 ghost use Rattle.koika_assert.specs.Violations.{watched};
-ghost use Rattle.koika_top.specs.CircuitRuns.{AreBadsOf, HasFewLines, ShowsBads};
+ghost use Rattle.koika_top.specs.inner.CircuitRuns.{AreBadsOf, HasFewLines, ShowsBads};
 
 use btor2_model::{Btor, Rule};
 use btor2_net::to_circuit;

@@ -4,7 +4,7 @@ ghost use Rattle.std.specs.Prelude.{◌≡◌, IfOk};
 ghost use Rattle.one_rule.specs.Stimulus.{inputs_of};
 ghost use Rattle.circuit_eval.specs.Circuits.{input_widths};
 ghost use Rattle.circuit_eval.specs.Run.{run_of};
-ghost use Rattle.koika_top.specs.Engines.{StandsAfter};
+ghost use Rattle.koika_top.specs.inner.Engines.{StandsAfter};
 
 use crate::engine::Engine;
 use attempt_log::Gate;

@@ -11,13 +11,13 @@ ghost use Rattle.koika_assert.specs.Violations as marked;
 ghost use Rattle.one_rule.specs.Stimulus.{inputs_of};
 ghost use Rattle.stim_report.specs.Cuts.{parts_of};
 ghost use Rattle.koika_top.specs.Btorsim.{HasNoLines, HasNoStimulus, HasNoText, HoldsRun, HoldsText, IsRefusal, RunsTooLong, is_too_long, longest_circuit, shown_run};
-ghost use Rattle.koika_top.specs.CircuitRuns.{AreCircuitsOf, HasFewLines, violations_by};
+ghost use Rattle.koika_top.specs.inner.CircuitRuns.{AreCircuitsOf, HasFewLines, violations_by};
 ghost use Rattle.koika_top.specs.CircuitShapes as circuits;
 ghost use Rattle.front_end.specs.Lengths as lengths;
 ghost use Rattle.koika_top.specs.Sim.{rows_text};
 ghost use Rattle.front_end.specs.Sources.{fault_of_source};
 ghost use Rattle.front_end.specs.Streams.{stream};
-ghost use Rattle.koika_top.specs.Telling.{HasRows, all_told, marks_in, shown_by};
+ghost use Rattle.koika_top.specs.inner.Telling.{HasRows, all_told, marks_in, shown_by};
 ghost use Rattle.front_end.specs.Told.{Told};
 
 use crate::bad_flags::{BadFlags, bad_watch};

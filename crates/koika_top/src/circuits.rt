@@ -7,7 +7,7 @@ ghost use Rattle.koika_check.specs.Typing.{IsTypedDesign};
 ghost use Rattle.front_end.specs.Names.{HasWordNames};
 ghost use Rattle.koika_top.specs.Aiger.{IsAigOf};
 ghost use Rattle.koika_top.specs.Compile.{AreCircuitOf};
-ghost use Rattle.koika_top.specs.Wired.{IsWiredAs};
+ghost use Rattle.koika_top.specs.inner.Wired.{IsWiredAs};
 
 use aig_blast::{Aig, blast};
 use btor2_net::to_lines;

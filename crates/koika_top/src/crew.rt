@@ -1,7 +1,7 @@
 //! Engines: who makes the run of a design.
 
 ghost use Rattle.front_end.specs.Streams.{stream};
-ghost use Rattle.koika_top.specs.Works.{IsReady, IsWritten, engine_of};
+ghost use Rattle.koika_top.specs.inner.Works.{IsReady, IsWritten, engine_of};
 
 use crate::design_run::Run;
 use crate::engine_kind::EngineKind;
@@ -51,7 +51,7 @@ pub(crate) struct InThreads<'r, R: Threads + Wait + Sync> {
 }
 
 impl Crew for Alone {
-    ghost use Rattle.koika_top.specs.Steps.{IsAlone};
+    ghost use Rattle.koika_top.specs.inner.Steps.{IsAlone};
 
     ghost has = { λ crew engine. IsAlone engine };
 
@@ -75,7 +75,7 @@ impl Crew for Alone {
 
 impl<'r, R: Threads + Wait + Sync> Crew for InThreads<'r, R> {
     ghost use Rattle.std.specs.Thread.{IsSync};
-    ghost use Rattle.koika_top.specs.Steps.{HasFewWorkers};
+    ghost use Rattle.koika_top.specs.inner.Steps.{HasFewWorkers};
 
     ghost has = { λ crew engine. IsSync R.row × HasFewWorkers engine };
 

@@ -2,7 +2,7 @@
 
 ghost use Rattle.std.specs.Prelude.{◌≡◌, false, true, map, string_bytes, IfOk, is_some, Some};
 ghost use Rattle.clap.specs.Words.{app_of, found_of, kind_of, rows_of, rule_of};
-ghost use Rattle.koika_top.specs.Given.{Give, bare, engine_in, flag_rule, number_in, run_app, valued_rule};
+ghost use Rattle.koika_top.specs.inner.Given.{Give, bare, engine_in, flag_rule, number_in, run_app, valued_rule};
 ghost use Rattle.koika_top.specs.Words.{gen_by, gen_of, options_of, sim_of};
 ghost use Rattle.koika_top.specs.declared.words.Options.{Options as AnyOptions};
 

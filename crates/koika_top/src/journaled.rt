@@ -18,8 +18,9 @@ ghost use Rattle.board_core.specs.Kept.{AtPlain, Does, left};
 ghost use Rattle.board_core.specs.declared.event.BoardAnswer.TheVariants as answer;
 ghost use Rattle.board_core.specs.declared.kept.TheConstants.{MAX_CYCLES};
 ghost use Rattle.board_lock.specs.Histories.{Each, InRun, IsCycle, IsPast};
-ghost use Rattle.cycle_driver.specs.Heads.{AwaitsHead};
-ghost use Rattle.koika_top.specs.Histories.{AreBy, IsRecord, IsWhole, board_of};
+ghost use Rattle.cycle_driver.specs.inner.Heads.{AwaitsHead};
+ghost use Rattle.koika_top.specs.Histories.{AreBy, board_of};
+ghost use Rattle.koika_top.specs.inner.Histories.{IsRecord, IsWhole};
 
 use attempt_log::{Attempt, Entry, Gate, JobAnswer, Settled, Submitted, attempt};
 use board_core::{Board, Core};

@@ -2,7 +2,7 @@
 
 ghost use Rattle.std.specs.Prelude.{◌≡◌, ◌-◌, ◌<◌, IfOk, OnOk, length, slice_index_or, slice_set};
 ghost use Rattle.one_rule.specs.Stimulus.{InputVectors};
-ghost use Rattle.koika_top.specs.Engines.{HasRun};
+ghost use Rattle.koika_top.specs.inner.Engines.{HasRun};
 
 use front_end::is_valid;
 use kw_bits::NoMemory;

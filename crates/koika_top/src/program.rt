@@ -9,13 +9,14 @@ ghost use Rattle.front_end.specs.Streams.{stream};
 ghost use Rattle.front_end.specs.declared.answer.Answer.TheVariants.{Written};
 ghost use Rattle.front_end.specs.inner.Steps.{IsReply, Makes};
 ghost use Rattle.koika_top.specs.Aigsim.{AnswersAigsim};
-ghost use Rattle.koika_top.specs.Answer.{Answers, is_of_source, longest_of};
+ghost use Rattle.koika_top.specs.Answer.{Answers, is_of_source};
+ghost use Rattle.koika_top.specs.inner.Answer.{longest_of};
 ghost use Rattle.koika_top.specs.Btorsim.{AnswersBtorsim, longest_circuit};
 ghost use Rattle.koika_top.specs.Calls.{IsKept};
 ghost use Rattle.koika_top.specs.Generator.{pipeline};
 ghost use Rattle.koika_top.specs.Journal.{AnswersJournal};
 ghost use Rattle.koika_top.specs.Sim.{AnswersSim};
-ghost use Rattle.koika_top.specs.Steps.{AskFor, IsInRange, RunsBy, Tells, TellsRead};
+ghost use Rattle.koika_top.specs.inner.Steps.{AskFor, IsInRange, RunsBy, Tells, TellsRead};
 ghost use Rattle.koika_top.specs.Words.{asks_workers};
 ghost use Rattle.koika_top.specs.declared.engine_kind.EngineKind.TheVariants.{Workers};
 

@@ -2,10 +2,10 @@
 
 ghost use Rattle.std.specs.Prelude.{◌≡◌, ◌≤◌, ℕ, [], OnOk, drop};
 ghost use Rattle.stim_report.specs.Shapes.{RowsFit};
-ghost use Rattle.koika_top.specs.Engines.{AreRows};
+ghost use Rattle.koika_top.specs.inner.Engines.{AreRows};
 ghost use Rattle.front_end.specs.Marks.{Marks};
 ghost use Rattle.front_end.specs.Streams.{stream};
-ghost use Rattle.koika_top.specs.Telling.{GoesOnFrom, HasRows, TakesRows, all_told, marks_in, part_of_batch, shown_by};
+ghost use Rattle.koika_top.specs.inner.Telling.{GoesOnFrom, HasRows, TakesRows, all_told, marks_in, part_of_batch, shown_by};
 ghost use Rattle.front_end.specs.Told.{Told};
 
 use crate::engine::Engine;

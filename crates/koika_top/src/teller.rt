@@ -3,7 +3,7 @@
 ghost use Rattle.std.specs.Prelude.{◌≡◌, ◌<◌, [], IfOk, OnOk, length};
 ghost use Rattle.koika_assert.specs.Violations.{watched};
 ghost use Rattle.front_end.specs.Marks.{Marks};
-ghost use Rattle.koika_top.specs.Telling.{FormGoesOn, FormTakesRows, GoesOnFrom, HasRows, TakesRows, ending_of, ending_of_form, part_of_batch, shown_by, shown_by_form};
+ghost use Rattle.koika_top.specs.inner.Telling.{FormGoesOn, FormTakesRows, GoesOnFrom, HasRows, TakesRows, ending_of, ending_of_form, part_of_batch, shown_by, shown_by_form};
 ghost use Rattle.stim_report.specs.Shapes.{RowsFit};
 
 use crate::shown::Shown;

@@ -3,7 +3,7 @@
 ghost use Rattle.front_end.specs.Streams.{stream};
 ghost use Rattle.front_end.specs.declared.answer.Answer.{Answer};
 ghost use Rattle.front_end.specs.declared.answer.Answer.TheVariants.{Usage};
-ghost use Rattle.koika_top.specs.Steps.{TellsOne};
+ghost use Rattle.koika_top.specs.inner.Steps.{TellsOne};
 
 use front_end::{Status, status_by, write_text};
 use kw_io::Sink;

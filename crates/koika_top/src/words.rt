@@ -1,8 +1,9 @@
 //! Program: the arguments, and what they ask for.
 
 ghost use Rattle.std.specs.Prelude.{◌≡◌, map, string_bytes, IfOk, IfSome, is_some};
-ghost use Rattle.koika_top.specs.Steps.{HasFewWorkers, IsInRange};
-ghost use Rattle.koika_top.specs.Answer.{is_of_source, longest_of};
+ghost use Rattle.koika_top.specs.inner.Steps.{HasFewWorkers, IsInRange};
+ghost use Rattle.koika_top.specs.Answer.{is_of_source};
+ghost use Rattle.koika_top.specs.inner.Answer.{longest_of};
 ghost use Rattle.koika_top.specs.Words.{aigsim_of, alone_of, asks_workers, btorsim_of, by_workers, command_of, engine_by, engine_of, gen_by, gen_of, is_of_workers, journal_by, options_of, recheck_of, sim_of, with_cycles, with_engine, with_journal, with_summary, with_word, with_workers};
 
 use crate::engine_kind::EngineKind;

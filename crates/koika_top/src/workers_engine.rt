@@ -9,7 +9,7 @@ ghost use Rattle.one_rule.specs.Run.{run, run_of};
 ghost use Rattle.one_rule.specs.Stimulus.{StimulusFits, inputs_of};
 ghost use Rattle.typed_core.specs.Valid.{externs_of};
 ghost use Rattle.typed_core.specs.Widths.{HaveWidths, register_widths};
-ghost use Rattle.koika_top.specs.Engines.{HasRun};
+ghost use Rattle.koika_top.specs.inner.Engines.{HasRun};
 
 use crate::engine::Engine;
 use crate::last_row::{first_row, go_on, no_row};

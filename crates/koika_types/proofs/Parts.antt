@@ -6,7 +6,8 @@ use Rattle.std.proofs.lemmas.List.Sums.{sum_by-cons, sum_by_more_le}
 use Rattle.kw_bits.specs.BitVector.{BitVector}
 use Rattle.kw_bits.specs.Operators.{concat}
 use Rattle.koika_types.specs.Types.{IsTable, IsType, IsWidth, width}
-use Rattle.koika_types.specs.Values.{AreParts, IsOf, IsValue, Pairwise, PartIsOf, field_types, packed, stacked, stacked_up}
+use Rattle.koika_types.specs.Values.{IsOf, Pairwise, PartIsOf, field_types, packed, stacked, stacked_up}
+use Rattle.koika_types.specs.inner.Values.{AreParts, IsValue}
 use Rattle.koika_types.specs.declared.ty.Ty.{Ty}
 use Rattle.koika_types.specs.declared.ty.Ty.TheVariants as ty
 use Rattle.koika_types.specs.declared.declarations.Declarations.{Declarations}

@@ -1,11 +1,11 @@
 -- The values of a type, and the bits that they are packed into, as IEEE 1800-2017 packs structs (7.2.1: the first
 -- member is the most significant) and arrays declared from the highest index down (7.4.1: item 0 is the least
 -- significant). A value of an enum may be any number of the enum's width.
-use Rattle.std.specs.Prelude.{◌≡◌, ℕ, List, [], ◌∷◌, map, replicate, All, sum_by, slice_get, Some}
+use Rattle.std.specs.Prelude.{◌≡◌, ℕ, List, ◌∷◌, map, replicate, slice_get, Some}
 use Rattle.kw_bits.specs.BitVector.{BitVector}
 use Rattle.kw_bits.specs.Laws as vector
 use Rattle.kw_bits.specs.Operators as op
-use Rattle.koika_types.specs.Types.{IsTable, IsType, IsWidth, width}
+use Rattle.koika_types.specs.Types.{width}
 use Rattle.koika_types.specs.declared.ty.Ty.{Ty, Bits, Enum, Struct, Array'}
 use Rattle.koika_types.specs.declared.declarations.Field.{Field}
 use Rattle.koika_types.specs.declared.declarations.StructDecl.{StructDecl}
@@ -64,11 +64,3 @@ packed_part (Value-F.Items parts) = stacked_up parts
 -- the bits of a value
 abbrev pub packed : Value → BitVector
 packed = fold-Value BitVector packed_part
-
--- the value is of a valid type of some table
-abbrev pub IsValue : Value → Type 0
-IsValue value = (d : Declarations) × (ty : Ty) × IsTable d × IsType d ty × IsOf d value ty
-
--- the values are of valid types of some table, and have 1 to 128 bits together
-abbrev pub AreParts : List Value → Type 0
-AreParts values = (d : Declarations) × (types : List Ty) × IsTable d × All (IsType d) types × Pairwise (IsOf d) values types × IsWidth (sum_by (width d) types)

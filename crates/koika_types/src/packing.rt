@@ -2,7 +2,8 @@
 
 ghost use Rattle.std.specs.Prelude.{◌≡◌, ◌-◌, ◌*◌, map};
 ghost use Rattle.koika_types.specs.Types.{IsType, width};
-ghost use Rattle.koika_types.specs.Values.{AreParts, IsOf, IsValue, packed, stacked, stacked_up};
+ghost use Rattle.koika_types.specs.Values.{IsOf, packed, stacked, stacked_up};
+ghost use Rattle.koika_types.specs.inner.Values.{AreParts, IsValue};
 
 use crate::table::{TypeTable, width_of};
 use crate::ty::Ty;

@@ -2,6 +2,7 @@
 -- number below 2 to that width. Widths go from 1 to 128.
 use Rattle.std.specs.Prelude.{ℕ, ◌<◌, ◌≤◌, ◌^◌}
 
+-- a width and a number
 pub record BitVector : Type 0 where
   pub width : ℕ
   pub number : ℕ

@@ -45,6 +45,7 @@ number_of_bits (suc w) bit = bit w * 2 ^ w + number_of_bits w bit
 unfoldable pub high_half : ℕ → ℕ → ℕ
 high_half w x = x / 2 ^ (w / 2)
 
+-- the lower half of the bits of an input
 unfoldable pub low_half : ℕ → ℕ → ℕ
 low_half w x = x % 2 ^ (w / 2)
 

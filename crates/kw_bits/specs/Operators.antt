@@ -80,6 +80,7 @@ eq_bits a b = flag (nat_eq a.number b.number)
 unfoldable pub ult : BitVector → BitVector → BitVector
 ult a b = flag (nat_lt a.number b.number)
 
+-- unsigned, less or equal
 unfoldable pub ulte : BitVector → BitVector → BitVector
 ulte a b = flag (nat_le a.number b.number)
 
@@ -87,6 +88,7 @@ ulte a b = flag (nat_le a.number b.number)
 unfoldable pub slt : BitVector → BitVector → BitVector
 slt a b = flag (int_lt (signed a) (signed b))
 
+-- signed, less or equal
 unfoldable pub slte : BitVector → BitVector → BitVector
 slte a b = flag (int_le (signed a) (signed b))
 

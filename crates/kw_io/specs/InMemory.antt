@@ -16,10 +16,6 @@ IsNextListed calls = Contains calls.failing (one_more calls.made)
 abbrev pub after_success : Calls → Calls
 after_success calls = record calls { made = one_more calls.made }
 
--- after a call that failed
-abbrev pub after_failure : Calls → Calls
-after_failure calls = record calls { made = one_more calls.made; failed = one_more calls.failed }
-
 -- a source in memory: the bytes that are left, and the most that a read gives of them
 pub record SourceInMemory : Type 0 where
   pub left : List ℕ

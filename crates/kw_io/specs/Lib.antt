@@ -1,2 +1,3 @@
 pub mod InMemory
 pub mod Portions
+pub mod inner

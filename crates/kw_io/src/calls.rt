@@ -1,7 +1,8 @@
 //! Streams: the numbered calls of a source or a sink in memory, and which of them are listed to fail.
 
 ghost use Rattle.std.specs.Prelude.{◌≡◌, ◌≤◌, ◌↔◌, IsErr, OnOk, OnErr};
-ghost use Rattle.kw_io.specs.InMemory.{IsNextListed, after_failure, after_success};
+ghost use Rattle.kw_io.specs.InMemory.{IsNextListed, after_success};
+ghost use Rattle.kw_io.specs.inner.InMemory.{after_failure};
 ghost use Rattle.kw_bits.specs.Faults.{one_more};
 
 use crate::failed::Failed;

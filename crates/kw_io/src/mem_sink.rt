@@ -1,7 +1,8 @@
 //! Streams: a sink in memory, for tests and for callers that keep what is written.
 
 ghost use Rattle.std.specs.Prelude.{◌≡◌, ◌↔◌, ◌≤◌, ◌<◌, ◌++◌, ◌⊎◌, Some, length, min, take, IsErr, IfOk, OnErr, []};
-ghost use Rattle.kw_io.specs.InMemory.{IsNextListed, after_failure, after_success, room_left};
+ghost use Rattle.kw_io.specs.InMemory.{IsNextListed, after_success, room_left};
+ghost use Rattle.kw_io.specs.inner.InMemory.{after_failure};
 
 use crate::calls::Calls;
 use crate::failed::Failed;

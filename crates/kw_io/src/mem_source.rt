@@ -1,7 +1,8 @@
 //! Streams: a source in memory, for tests and for callers that have the bytes.
 
 ghost use Rattle.std.specs.Prelude.{◌≡◌, ◌↔◌, ◌≤◌, ◌<◌, ◌++◌, Some, length, min, take, drop, IsErr, IfOk, OnErr, []};
-ghost use Rattle.kw_io.specs.InMemory.{IsNextListed, after_failure, after_success};
+ghost use Rattle.kw_io.specs.InMemory.{IsNextListed, after_success};
+ghost use Rattle.kw_io.specs.inner.InMemory.{after_failure};
 
 use crate::calls::Calls;
 use crate::failed::Failed;

@@ -15,21 +15,25 @@ use Rattle.lab_core.specs.declared.trial.Verdict.TheVariants as verdict
 abbrev pub verdict_in : ℕ → List Trial → Option Verdict
 verdict_in rule tried = option_map (λ (t : Trial). t.verdict) (find (λ (t : Trial). t.rule == rule) tried)
 
+-- the rule fired
 abbrev pub has_fired : Option Verdict → Bool
 has_fired (Some verdict.Fired) = true
 has_fired (Some (verdict.Refused c)) = false
 has_fired None = false
 
+-- the rule reached an `abort`
 abbrev pub is_abort : Cause → Bool
 is_abort cause.Abort = true
 is_abort (cause.OwnClash access) = false
 is_abort (cause.Clash access rule earlier) = false
 
+-- the rule's own accesses refused it
 abbrev pub is_own : Cause → Bool
 is_own cause.Abort = false
 is_own (cause.OwnClash access) = true
 is_own (cause.Clash access rule earlier) = false
 
+-- the rule clashed with an earlier one
 abbrev pub is_clash : Cause → Bool
 is_clash cause.Abort = false
 is_clash (cause.OwnClash access) = false
@@ -46,6 +50,7 @@ abbrev pub passes : (Cause → Bool) → Option Cause → Bool
 passes test (Some c) = test c
 passes test None = false
 
+-- the rule wasn't tried
 abbrev pub was_untried : Option Verdict → Bool
 was_untried v = not (is_some v)
 
@@ -59,13 +64,16 @@ is_unwatched v = passes is_refusal (cause_in v) || was_untried v
 
 -- ---- refusals
 
+-- both are writes, or both are reads
 abbrev pub same_kind : Bool → Bool → Bool
 same_kind true b = b
 same_kind false b = not b
 
+-- two accesses are equal
 abbrev pub same_access : Access → Access → Bool
 same_access a b = same_kind a.write b.write && (a.port == b.port) && (a.register == b.register)
 
+-- two causes are equal
 abbrev pub same_cause : Cause → Cause → Bool
 same_cause cause.Abort cause.Abort = true
 same_cause (cause.OwnClash a) (cause.OwnClash b) = same_access a b

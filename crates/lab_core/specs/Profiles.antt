@@ -1,13 +1,11 @@
 -- What `profile` writes of the numbers of a run. This project's own text form; accesses are those of journals.
-use Rattle.std.specs.Prelude.{ℕ, ◌+◌, List, [], ◌∷◌, ◌++◌, length, codes, decimal, Option, Some, None, slice_get}
+use Rattle.std.specs.Prelude.{ℕ, ◌+◌, List, ◌∷◌, ◌++◌, codes, decimal, Option, Some, None, slice_get}
 use Rattle.std.specs.List.{flat_map}
 use Rattle.typed_core.specs.declared.design.Parts.{Parts}
-use Rattle.one_rule.specs.Run.{InputsByCycle}
 use Rattle.attempt_log.specs.declared.cause.Cause.{Cause}
 use Rattle.attempt_log.specs.declared.cause.Cause.TheVariants as cause
 use Rattle.journal_check.specs.Printing.{access_text, ended, joined, rule_name}
-use Rattle.lab_core.specs.Numbers.{Counted, Numbers, RuleNumbers, numbers_of, unwatched_count}
-use Rattle.lab_core.specs.Runs.{trials_of_run}
+use Rattle.lab_core.specs.Numbers.{Counted, Numbers, RuleNumbers, unwatched_count}
 
 -- how many cycles there were
 abbrev pub cycles_line : ℕ → List ℕ
@@ -64,7 +62,3 @@ abbrev pub profile_text : Parts → List ℕ → Numbers → List ℕ
 profile_text design marks numbers =
     cycles_line numbers.cycles ++ rules_text design 0 numbers.rules
     ++ flat_map (λ mark. assert_line (rule_name design mark) (slice_get numbers.rules mark)) marks
-
--- the profile of the run for n cycles
-abbrev pub profile_of : Parts → List ℕ → InputsByCycle → ℕ → List ℕ
-profile_of design marks inputs n = profile_text design marks (numbers_of (length design.rules) (trials_of_run design inputs n))

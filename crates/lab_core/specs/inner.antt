@@ -2,3 +2,4 @@ pub mod Counting
 pub mod Lines
 pub mod Steps
 pub mod Tops
+pub mod Profiles

@@ -7,7 +7,8 @@ use Rattle.koika_check.specs.declared.typed.Step.TheOpen as opened
 use Rattle.koika_check.specs.declared.typed.Step.TheVariants as step
 use Rattle.koika_check.specs.declared.typed.Typed.{Typed, Typed-F, fold-roll-Typed, map-Typed, roll-Typed}
 use Rattle.koika_check.specs.declared.typed.Typed.TheVariants as typed
-use Rattle.lab_lint.specs.Occurrences.{Part, choice, in_order, in_turn, nothing, one, own, part_of, part_of_step, step_step, typed_step}
+use Rattle.lab_lint.specs.Occurrences.{Part, choice, in_order, in_turn, nothing, one, own, part_of, step_step, typed_step}
+use Rattle.lab_lint.specs.inner.Occurrences.{part_of_step}
 use Rattle.lab_lint.specs.declared.occurrence.Occurrence.TheVariants as occurrence
 
 pub part-roll : (bodies : List Part) (x : Typed-F Step Typed) → part_of bodies (roll-Typed x) ≡ typed_step bodies (map-Typed Step Typed Part Part (part_of_step bodies) (part_of bodies) x)

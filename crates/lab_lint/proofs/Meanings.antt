@@ -17,9 +17,10 @@ use Rattle.koika_check.specs.declared.typed.Step.{Step, Step-F, map-Step, roll-S
 use Rattle.koika_check.specs.declared.typed.Step.TheOpen as opened
 use Rattle.koika_check.specs.declared.typed.Typed.{Typed, Typed-F, map-Typed, roll-Typed, fold-roll-Typed, ind-Typed}
 use Rattle.koika_check.proofs.TreeParts.{Such, firsts}
-use Rattle.koika_lower.specs.Expressions.{step_meaning}
+use Rattle.koika_lower.specs.inner.Expressions.{step_meaning}
 use Rattle.lab_lint.specs.Occurrences as parts
-use Rattle.lab_lint.specs.Occurrences.{Part, choice, either, in_order, nothing, one, own, part_if, part_of, part_of_step}
+use Rattle.lab_lint.specs.Occurrences.{Part, choice, either, in_order, nothing, one, own, part_if, part_of}
+use Rattle.lab_lint.specs.inner.Occurrences.{part_of_step}
 use Rattle.lab_lint.specs.declared.occurrence.Occurrence.TheVariants as occurrence
 use Rattle.lab_lint.proofs.Does.{Does, DoesRun, IsWithin, PortsDo, first-within, left-within, nothing-within, does-stop, right-within, run-bind, run-pure, run-value, run-within, second-within}
 use Rattle.lab_lint.proofs.Layers.{part-roll, step-roll}

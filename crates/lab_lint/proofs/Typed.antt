@@ -5,7 +5,8 @@ use Rattle.std.specs.List.{AllByRecursion}
 use Rattle.std.proofs.lemmas.Option.{slice_get_within}
 use Rattle.typed_core.specs.Valid.{IsPort}
 use Rattle.koika_check.specs.Types.{bits}
-use Rattle.koika_check.specs.Typing.{Applies, Binds, Doing, Gives, HasType, IsTypedDesign, Pairwise, PartHasType, Runs, StepDoes, StepHasType, StepsHaveType}
+use Rattle.koika_check.specs.Typing.{Applies, Binds, Doing, Gives, HasType, IsTypedDesign, Pairwise, PartHasType, Runs, StepDoes, StepsHaveType}
+use Rattle.koika_check.specs.inner.Typing.{StepHasType}
 use Rattle.koika_check.specs.declared.checked.Checked.{Checked}
 use Rattle.koika_check.specs.declared.checked.Function.{Function}
 use Rattle.koika_check.specs.declared.checked.Rule.{Rule}
@@ -19,7 +20,8 @@ use Rattle.koika_check.proofs.TreeParts.{Such, firsts}
 use Rattle.koika_lower.proofs.Values.{all-get}
 use Rattle.koika_check.proofs.TypingLayers.{open-HasType, open-step}
 use Rattle.lab_lint.specs.Occurrences as parts
-use Rattle.lab_lint.specs.Occurrences.{Part, body_if, choice, in_turn, own, part_if, part_of, part_of_step, rule_part}
+use Rattle.lab_lint.specs.Occurrences.{Part, body_if, choice, in_turn, own, part_if, part_of, rule_part}
+use Rattle.lab_lint.specs.inner.Occurrences.{part_of_step}
 use Rattle.lab_lint.specs.declared.occurrence.Occurrence.{Occurrence}
 use Rattle.lab_lint.specs.declared.occurrence.Occurrence.TheVariants as occurrence
 use Rattle.lab_lint.proofs.Among.{Among, all-append, among-all}

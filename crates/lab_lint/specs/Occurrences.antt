@@ -2,7 +2,7 @@
 -- typed tree, those that never run too, with a function's body read at each call of it; and which of them are earlier
 -- than which, in the order of evaluation of Kôika's actions (Bourgeat et al., PLDI 2020). It says nothing of what they
 -- evaluate to.
-use Rattle.std.specs.Prelude.{ℕ, ◌+◌, List, [], ◌∷◌, ◌++◌, length, map, take, Option, Some, None, slice_get}
+use Rattle.std.specs.Prelude.{ℕ, List, ◌∷◌, ◌++◌, length, map, take, Option, Some, None, slice_get}
 use Rattle.std.specs.List.{flat_map}
 use Rattle.typed_core.specs.Laws.{read_at, write_at}
 use Rattle.koika_check.specs.declared.checked.Checked.{Checked}
@@ -10,7 +10,7 @@ use Rattle.koika_check.specs.declared.checked.Function.{Function}
 use Rattle.koika_check.specs.declared.checked.Rule.{Rule}
 use Rattle.koika_check.specs.declared.typed.Operation.{Operation}
 use Rattle.koika_check.specs.declared.typed.Operation.TheVariants as operation
-use Rattle.koika_check.specs.declared.typed.Step.{Step, Step-F, fold-Step}
+use Rattle.koika_check.specs.declared.typed.Step.{Step, Step-F}
 use Rattle.koika_check.specs.declared.typed.Step.TheOpen as typed
 use Rattle.koika_check.specs.declared.typed.Typed.{Typed, Typed-F, fold-Typed}
 use Rattle.lab_lint.specs.declared.occurrence.Occurrence.{Occurrence}
@@ -93,9 +93,6 @@ step_step (typed.Give value) = value
 -- the part that an expression is
 unfoldable pub part_of : List Part → Typed → Part
 part_of bodies = fold-Typed Part Part step_step (typed_step bodies)
-
-unfoldable pub part_of_step : List Part → Step → Part
-part_of_step bodies = fold-Step Part Part step_step (typed_step bodies)
 
 -- ---- rules
 

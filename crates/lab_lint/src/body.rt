@@ -4,7 +4,8 @@ ghost use Rattle.std.specs.Prelude.{◌≡◌, ◌++◌, IfOk, OnOk, length, map
 ghost use Rattle.koika_check.specs.declared.typed.Operation.TheVariants as operation;
 ghost use Rattle.lab_lint.specs.Rules.{numbers};
 ghost use Rattle.lab_lint.specs.declared.occurrence.Occurrence.TheVariants as occurrence;
-ghost use Rattle.lab_lint.specs.Occurrences.{bodies_before, choice, in_turn, own, part_of, part_of_step, rule_part};
+ghost use Rattle.lab_lint.specs.Occurrences.{bodies_before, choice, in_turn, own, part_of, rule_part};
+ghost use Rattle.lab_lint.specs.inner.Occurrences.{part_of_step};
 
 use crate::occurrence::Occurrence;
 use koika_check::{Checked, Operation, Step, Typed};

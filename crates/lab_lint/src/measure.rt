@@ -4,7 +4,9 @@
 
 ghost use Rattle.std.specs.Prelude.{◌≡◌, ◌+◌, ◌^◌, ◌≤◌, List, map, min, slice_get, IfOk};
 ghost use Rattle.koika_check.specs.Capped as counts;
+ghost use Rattle.koika_check.specs.inner.Capped as inner_counts;
 ghost use Rattle.koika_check.specs.Sizes as sizes;
+ghost use Rattle.koika_check.specs.inner.Sizes as inner_sizes;
 
 use koika_check::{Checked, MAX_DEPTH, MAX_WEIGHT, Measure, Operation, Step, Typed};
 use kw_bits::{NoMemory, Sequence};
@@ -30,7 +32,7 @@ fn measure(weight: usize, depth: usize) -> Measure
 
 // Both weights, and the greater depth.
 fn both(a: Measure, b: Measure) -> Measure
-    ensures { result ≡ counts.both a b }
+    ensures { result ≡ inner_counts.both a b }
 {
     Measure {
         weight: a.weight.saturating_add(b.weight).min(MAX_WEIGHT + 1),
@@ -40,7 +42,7 @@ fn both(a: Measure, b: Measure) -> Measure
 
 // The same, so much deeper.
 fn deeper(a: Measure, depth: usize) -> Measure
-    ensures { result ≡ counts.deeper depth a }
+    ensures { result ≡ inner_counts.deeper depth a }
 {
     let depth = depth.min(MAX_DEPTH as usize + 1) as u32;
     Measure {
@@ -51,7 +53,7 @@ fn deeper(a: Measure, depth: usize) -> Measure
 
 // The same, so much heavier.
 fn heavier(a: Measure, weight: usize) -> Measure
-    ensures { result ≡ counts.heavier weight a }
+    ensures { result ≡ inner_counts.heavier weight a }
 {
     let weight = weight.min(MAX_WEIGHT as usize + 1) as u32;
     Measure {
@@ -240,7 +242,7 @@ fn weigh_chain(
 // its place is as deep.
 #[cycle(measure)]
 fn weigh_steps(design: &Checked, bodies: &[Measure], steps: &[Step]) -> Measure
-    ensures { (parts : List sizes.Size) → bodies.now ≡ map counts.capped parts → result ≡ counts.capped (sizes.steps_size (map (sizes.size_of_step (record { design = design.now; bodies = parts })) steps.now)) }
+    ensures { (parts : List sizes.Size) → bodies.now ≡ map counts.capped parts → result ≡ counts.capped (sizes.steps_size (map (inner_sizes.size_of_step (record { design = design.now; bodies = parts })) steps.now)) }
 {
     let mut all = measure(0, 0);
     let mut depth = 1;
@@ -258,7 +260,7 @@ fn weigh_steps(design: &Checked, bodies: &[Measure], steps: &[Step]) -> Measure
 // How much a step weighs besides its value: 1 where it is a statement.
 #[tactic(auto, using(koika_check::proofs::Equations::equations))]
 fn step_weight(step: &Step) -> usize
-    ensures statement { (parts : sizes.Rests) → result ≡ (sizes.size_of_step parts step.now).statement }
+    ensures statement { (parts : sizes.Rests) → result ≡ (inner_sizes.size_of_step parts step.now).statement }
     ensures few { result ≤ 1 }
 {
     match step {
@@ -271,7 +273,7 @@ fn step_weight(step: &Step) -> usize
 #[cycle(measure)]
 #[tactic(auto, using(koika_check::proofs::Equations::equations))]
 fn weigh_step(design: &Checked, bodies: &[Measure], step: &Step) -> Measure
-    ensures { (parts : List sizes.Size) → bodies.now ≡ map counts.capped parts → result ≡ counts.capped (sizes.size_of_step (record { design = design.now; bodies = parts }) step.now).value }
+    ensures { (parts : List sizes.Size) → bodies.now ≡ map counts.capped parts → result ≡ counts.capped (inner_sizes.size_of_step (record { design = design.now; bodies = parts }) step.now).value }
 {
     match step {
         Step::Let(value) => weigh(design, bodies, value),

@@ -2,7 +2,8 @@
 
 ghost use Rattle.std.specs.Prelude.{◌≡◌, length, map};
 ghost use Rattle.koika_check.specs.declared.typed.Operation.TheVariants as operation;
-ghost use Rattle.lab_lint.specs.Occurrences.{bodies_before, choice, in_turn, one, own, part_of, part_of_step, rule_part};
+ghost use Rattle.lab_lint.specs.Occurrences.{bodies_before, choice, in_turn, one, own, part_of, rule_part};
+ghost use Rattle.lab_lint.specs.inner.Occurrences.{part_of_step};
 ghost use Rattle.lab_lint.specs.Refusals.{is_refused_in};
 ghost use Rattle.lab_lint.specs.declared.occurrence.Occurrence.TheVariants as occurrence;
 ghost use Rattle.lab_lint.specs.inner.Meetings as meetings;

@@ -25,6 +25,7 @@ Answers hosts (Why cycle cycles name) source answer = AnswersWhy hosts cycle cyc
 Answers hosts (Profile cycles is_strict) source answer = AnswersProfile hosts cycles is_strict source answer
 Answers hosts (Waves cycles) source answer = AnswersWaves hosts cycles source answer
 
+-- what is written where words are invalid
 abbrev pub usage_line : List ℕ
 usage_line = codes "usage: koika_lab why|profile|lint|waves|step|verilog|obligation|certify" ++ 10 ∷ []
 
@@ -61,6 +62,7 @@ ends statuses.Failed = plain_statuses.Done
 abbrev pub is_of_source : Command → Bool
 is_of_source command = true
 
+-- every command has one text for a source
 abbrev pub has_one_text : Option Command → Bool
 has_one_text command = true
 

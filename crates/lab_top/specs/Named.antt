@@ -12,6 +12,7 @@ use Rattle.koika_lower.specs.Lowering.{input_of, register_of}
 abbrev pub named : Rule → CoreRule
 named r = record { name = r.name; body = DoesNothing }
 
+-- a design's names, widths and nodes, without what its rules do
 abbrev pub declared : Checked → Parts
 declared d = record {
   regs = map register_of d.registers;

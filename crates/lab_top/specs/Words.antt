@@ -14,9 +14,11 @@ use Rattle.lab_top.specs.declared.words.Options.{Options}
 abbrev pub begins_name : ℕ → Bool
 begins_name byte = is_ascii_alphabetic byte || byte == 95
 
+-- a letter, a digit or `_`
 abbrev pub continues_name : ℕ → Bool
 continues_name byte = begins_name byte || is_ascii_digit byte
 
+-- a name begins with a letter or `_`
 abbrev pub is_name : List ℕ → Bool
 is_name [] = false
 is_name (first ∷ rest) = begins_name first && list_all continues_name rest
@@ -93,6 +95,7 @@ abbrev pub why_by : Option ℕ → Option ℕ → Option (List ℕ) → Bool →
 why_by (Some cycle) cycles rule false = why_from cycle (unwrap_or cycles 1) rule
 why_by cycle cycles rule is_strict = None
 
+-- `why` with options
 abbrev pub why_of : Option Options → Option Command
 why_of None = None
 why_of (Some options) = why_by options.cycle options.cycles options.rule options.is_strict
@@ -102,6 +105,7 @@ abbrev pub profile_by : Option ℕ → Option ℕ → Option (List ℕ) → Bool
 profile_by None (Some cycles) None is_strict = Some (Profile cycles is_strict)
 profile_by cycle cycles rule is_strict = None
 
+-- `profile` with options
 abbrev pub profile_of : Option Options → Option Command
 profile_of None = None
 profile_of (Some options) = profile_by options.cycle options.cycles options.rule options.is_strict

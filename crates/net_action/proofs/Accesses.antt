@@ -19,7 +19,7 @@ use Rattle.rule_log.proofs.Telling.{NoneSet, read_refused, refused_by_flags, see
 use Rattle.one_rule.specs.PortRun.{read_behind, write_behind}
 use Rattle.net_graph.specs.Values.{value_at}
 use Rattle.net_graph.specs.declared.node.NetOp.{NetOp}
-use Rattle.net_action.specs.Parts.{ComesTo, Means, Puts}
+use Rattle.net_action.specs.inner.Parts.{ComesTo, Means, Puts}
 use Rattle.net_action.specs.Wires.{AreLogWires, HasWire, LogStandsFor, is_set, is_up, wire_at, written}
 use Rattle.net_action.specs.declared.wires.LogWires.{LogWires}
 use Rattle.net_action.specs.declared.wires.RuleNet.{RuleNet}

@@ -8,7 +8,7 @@ use Rattle.kw_bits.specs.Operators as op
 use Rattle.typed_core.specs.Evaluation.{Externs}
 use Rattle.typed_core.specs.Valid.{IsHost, IsTable}
 use Rattle.typed_core.proofs.Values.{answer_fits, entry_fits, found_holds}
-use Rattle.net_action.specs.Parts.{AskedHasWidth, answer_to}
+use Rattle.net_action.specs.inner.Parts.{AskedHasWidth, answer_to}
 use Rattle.net_action.specs.declared.lookup.Asked.{Asked}
 use Rattle.net_action.specs.declared.lookup.Asked.TheVariants.{Table, Host}
 

@@ -13,7 +13,7 @@ use Rattle.typed_core.specs.declared.access.Event.{Event}
 use Rattle.typed_core.specs.declared.action.Action.{Action}
 use Rattle.typed_core.specs.declared.outcome.Stopped.{Stopped}
 use Rattle.one_rule.specs.PortRun.{ports_behind}
-use Rattle.net_action.specs.Parts.{ComesTo, IsPart, environment_in}
+use Rattle.net_action.specs.inner.Parts.{ComesTo, IsPart, environment_in}
 use Rattle.net_action.specs.Wires.{AreLogWires, AreValues, EndsAs, HasWire, LogStandsFor, PortsStandFor, RuleStandsFor, is_set, is_up, wire_at, written}
 use Rattle.net_action.specs.declared.wires.PortWires.{PortWires}
 use Rattle.net_action.specs.declared.wires.RuleNet.{RuleNet}

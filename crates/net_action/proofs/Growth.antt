@@ -19,7 +19,7 @@ use Rattle.net_graph.proofs.Sharing.{contains_from_found, equal, found_from_cont
 use Rattle.net_graph.proofs.Standing.{stands_at}
 use Rattle.net_graph.proofs.Values.{values-by_operators, values-widths}
 use Rattle.net_action.specs.Gates.{Grows}
-use Rattle.net_action.specs.Parts.{HaveWires, IsRunning, WireFits}
+use Rattle.net_action.specs.inner.Parts.{HaveWires, IsRunning, WireFits}
 use Rattle.net_action.specs.Wires.{AreLogWires, ArePortWires, AreValues, HasWire}
 use Rattle.net_action.specs.declared.wires.LogWires.{LogWires}
 use Rattle.net_action.specs.declared.wires.PortWires.{PortWires}

@@ -14,7 +14,7 @@ use Rattle.typed_core.specs.declared.action.OneOp.{OneOp}
 use Rattle.typed_core.specs.declared.action.TwoOp.{TwoOp}
 use Rattle.one_rule.specs.PortRun.{ports_behind, read_behind, write_behind}
 use Rattle.net_action.specs.Gates.{Grows, HasValue, IsUp}
-use Rattle.net_action.specs.Parts.{BinaryHasWidth, CanBe, CanBeOperand, HaveWires, IfHasWidth, IsMade, IsPart, IsRunning, LetHasWidth, Means, OperationHasWidth, SequenceHasWidth, UnaryHasWidth, WireFits, WriteHasWidth, binary_of, environment_in, if_of, let_of, operation_value, sequence_of, unary_of, values_at, wire_value, write_of}
+use Rattle.net_action.specs.inner.Parts.{BinaryHasWidth, CanBe, CanBeOperand, HaveWires, IfHasWidth, IsMade, IsPart, IsRunning, LetHasWidth, Means, OperationHasWidth, SequenceHasWidth, UnaryHasWidth, WireFits, WriteHasWidth, binary_of, environment_in, if_of, let_of, operation_value, sequence_of, unary_of, values_at, wire_value, write_of}
 use Rattle.net_action.specs.Wires.{AreValues, ArePortWires, HasWire, PortsStandFor, is_up}
 use Rattle.net_action.specs.declared.lookup.Asked.TheVariants.{Table, Host}
 use Rattle.net_action.specs.declared.operation.Operation.{Operation}

@@ -11,7 +11,7 @@ use Rattle.typed_core.specs.declared.access.Event.{Event}
 use Rattle.typed_core.specs.declared.outcome.Stopped.{Stopped}
 use Rattle.rule_log.specs.StandsFor.{IsWrittenIn}
 use Rattle.net_graph.specs.Values.{value_at}
-use Rattle.net_action.specs.Parts.{ComesTo, Means, SameLog, wire_value}
+use Rattle.net_action.specs.inner.Parts.{ComesTo, Means, SameLog, wire_value}
 use Rattle.net_action.specs.Wires.{LogStandsFor, is_up, written}
 use Rattle.net_action.specs.declared.wires.LogWires.{LogWires}
 use Rattle.net_action.specs.declared.wires.RuleNet.{RuleNet}

@@ -1,3 +1,3 @@
 pub mod Wires
 pub mod Gates
-pub mod Parts
+pub mod inner

@@ -4,7 +4,7 @@
 ghost use Rattle.std.specs.Prelude.{◌≡◌, ◌+◌, ◌*◌, ◌/◌, ◌^◌, ◌<◌, ◌≤◌, ℕ, List, IfOk, All};
 ghost use Rattle.typed_core.specs.Valid.{IsHost, IsTable};
 ghost use Rattle.net_action.specs.Gates.{Grows, HasValue};
-ghost use Rattle.net_action.specs.Parts.{answer_to, AskedHasWidth};
+ghost use Rattle.net_action.specs.inner.Parts.{answer_to, AskedHasWidth};
 ghost use Rattle.net_action.specs.Wires.{AreValues, HasWire};
 ghost use Rattle.kw_bits.specs.BitVector.{BitVector};
 ghost use Rattle.net_graph.specs.Values.{Sources, value_at};

@@ -5,7 +5,7 @@ ghost use Rattle.std.specs.Prelude.{◌≡◌, ℕ, List, IfOk};
 ghost use Rattle.net_graph.specs.Values.{value_at};
 ghost use Rattle.typed_core.specs.Valid.{IsValid, externs_of};
 ghost use Rattle.net_action.specs.Gates.{Grows, HasValue};
-ghost use Rattle.net_action.specs.Parts.{AskedHasWidth, OperationHasWidth, answer_to, operation_value};
+ghost use Rattle.net_action.specs.inner.Parts.{AskedHasWidth, OperationHasWidth, answer_to, operation_value};
 ghost use Rattle.net_action.specs.Wires.{HasWire};
 
 use crate::lookup::{Asked, answer};

@@ -7,7 +7,7 @@ ghost use Rattle.net_graph.specs.Values.{Sources};
 ghost use Rattle.typed_core.specs.Valid.{ActionHasWidth, IsValid, declarations, externs_of};
 ghost use Rattle.typed_core.specs.Widths.{input_widths, register_widths};
 ghost use Rattle.net_action.specs.Gates.{Grows};
-ghost use Rattle.net_action.specs.Parts.{BinaryHasWidth, CanBe, CanBeOperand, IfHasWidth, IsMade, IsPart, IsRunning, LetHasWidth, SequenceHasWidth, UnaryHasWidth, WireFits, WriteHasWidth, binary_of, if_of, let_of, sequence_of, unary_of, wire_value, write_of};
+ghost use Rattle.net_action.specs.inner.Parts.{BinaryHasWidth, CanBe, CanBeOperand, IfHasWidth, IsMade, IsPart, IsRunning, LetHasWidth, SequenceHasWidth, UnaryHasWidth, WireFits, WriteHasWidth, binary_of, if_of, let_of, sequence_of, unary_of, wire_value, write_of};
 ghost use Rattle.net_action.specs.Wires.{ArePortWires, AreValues, HasWire, is_up};
 
 use crate::gates::{both, both_not, choice, constant, either};

@@ -13,7 +13,7 @@ ghost use Rattle.typed_core.specs.declared.access.Event.{Event};
 ghost use Rattle.typed_core.specs.declared.limits.TheConstants.{PORTS};
 ghost use Rattle.one_rule.specs.PortRun.{read_behind, write_behind};
 ghost use Rattle.net_action.specs.Gates.{Grows, HasValue, IsUp};
-ghost use Rattle.net_action.specs.Parts.{IsRunning, Means, Puts};
+ghost use Rattle.net_action.specs.inner.Parts.{IsRunning, Means, Puts};
 ghost use Rattle.net_action.specs.Wires.{AreLogWires, ArePortWires, AreValues, HasWire, LogStandsFor, PortsStandFor, is_up, wire_at};
 
 use crate::gates::{both_not, choice, constant, either};

@@ -10,7 +10,7 @@ ghost use Rattle.one_rule.specs.Cycle.{environment};
 ghost use Rattle.one_rule.specs.Externs.{kept};
 ghost use Rattle.one_rule.specs.PortRun.{port_run_if};
 ghost use Rattle.net_action.specs.Gates.{Grows, IsUp};
-ghost use Rattle.net_action.specs.Parts.{IsRunning};
+ghost use Rattle.net_action.specs.inner.Parts.{IsRunning};
 ghost use Rattle.net_action.specs.Wires.{AreLogWires, ArePortWires, AreValues, HasWire, LogStandsFor, PortsStandFor, RuleStandsFor};
 
 use crate::gates::constant;

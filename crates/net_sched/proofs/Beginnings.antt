@@ -17,7 +17,7 @@ use Rattle.net_action.specs.Wires.{AreLogWires, AreValues, HasWire, is_up, wire_
 use Rattle.net_action.specs.declared.wires.LogWires.{LogWires}
 use Rattle.net_action.proofs.Beginning.{nothing_stands}
 use Rattle.net_action.proofs.Growth.{found_more, wire_kept}
-use Rattle.net_sched.specs.Cycles.{AreCycleWires, AreFlags, AreStates, CycleStandsFor, nothing, nth}
+use Rattle.net_sched.specs.inner.Cycles.{AreCycleWires, AreFlags, AreStates, CycleStandsFor, nothing, nth}
 use Rattle.net_sched.specs.declared.cycle.CycleWires.{CycleWires}
 
 pub states_kept : (old new : List NetOp) (widths wires : List ℕ) → Grows [] old new → AreStates old widths wires → AreStates new widths wires

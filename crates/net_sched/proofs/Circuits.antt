@@ -13,9 +13,10 @@ use Rattle.circuit_eval.specs.declared.circuit.StateWire.{StateWire}
 use Rattle.circuit_eval.specs.declared.circuit.Wires.{Wires}
 use Rattle.net_action.specs.Wires.{HasWire}
 use Rattle.net_action.proofs.Growth.{wire_inside, wire_width}
-use Rattle.net_sched.specs.Cycles.{nth}
-use Rattle.net_sched.specs.Designs.{AreWiresOf, HasParts}
-use Rattle.net_sched.specs.Made.{AreEnds, AreNamed}
+use Rattle.net_sched.specs.inner.Cycles.{nth}
+use Rattle.net_sched.specs.Designs.{HasParts}
+use Rattle.net_sched.specs.inner.Designs.{AreWiresOf}
+use Rattle.net_sched.specs.inner.Made.{AreEnds, AreNamed}
 use Rattle.net_sched.proofs.Rows.{runs_as}
 
 -- what was made of a design's registers, inputs and rules, with these wires for the next values and for the flags

@@ -20,12 +20,12 @@ use Rattle.one_rule.specs.PortRun.{PortState, merge, port_run_if}
 use Rattle.rule_log.specs.StandsFor.{WritesFollow}
 use Rattle.rule_log.proofs.Telling.{tells_both}
 use Rattle.action_interp.proofs.ByLog.{writes_follow}
-use Rattle.net_action.specs.Parts.{SameLog}
+use Rattle.net_action.specs.inner.Parts.{SameLog}
 use Rattle.net_action.specs.Wires.{AreLogWires, EndsAs, HasWire, LogStandsFor, is_set, is_up, wire_at, written}
 use Rattle.net_action.specs.declared.wires.LogWires.{LogWires}
 use Rattle.net_action.specs.declared.wires.RuleNet.{RuleNet}
 use Rattle.net_action.proofs.Running.{stands_same}
-use Rattle.net_sched.specs.Cycles.{AreFlags, IsVisit, Joins, JoinsFlags, nth}
+use Rattle.net_sched.specs.inner.Cycles.{AreFlags, IsVisit, Joins, JoinsFlags, nth}
 use Rattle.net_sched.specs.declared.visit.NodeWires.{NodeWires}
 
 -- ---- places in a log

@@ -18,7 +18,7 @@ use Rattle.one_rule.specs.Walk.{Firing, Walk, goes_on, is_at, pass, walk_past}
 use Rattle.net_graph.specs.Values.{value_at}
 use Rattle.net_action.specs.Wires.{LogStandsFor, PortsStandFor, is_up}
 use Rattle.net_action.specs.declared.wires.LogWires.{LogWires}
-use Rattle.net_sched.specs.Cycles.{CycleStandsFor, IsVisit, IsWithin, nth}
+use Rattle.net_sched.specs.inner.Cycles.{CycleStandsFor, IsVisit, IsWithin, nth}
 use Rattle.net_sched.specs.declared.cycle.CycleWires.{CycleWires}
 use Rattle.net_sched.specs.declared.visit.NodeWires.{NodeWires}
 

@@ -7,7 +7,7 @@ use Rattle.net_graph.specs.declared.node.NetOp.{NetOp}
 use Rattle.net_action.specs.Gates.{Grows}
 use Rattle.net_action.specs.Wires.{HasWire}
 use Rattle.net_action.proofs.Growth.{wire_kept}
-use Rattle.net_sched.specs.Cycles.{AreFlags, nth}
+use Rattle.net_sched.specs.inner.Cycles.{AreFlags, nth}
 
 -- what holds of each wire holds of each with one more
 pub pushed : (P : ℕ → ℕ → Type 0) (xs : List ℕ) (x n : ℕ) → length xs ≡ n → ((i : ℕ) → i < n → P i (nth xs i)) → P n x → (i : ℕ) → i < n + 1 → P i (nth (xs ++ x ∷ []) i)

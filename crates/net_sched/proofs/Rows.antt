@@ -34,7 +34,7 @@ use Rattle.circuit_eval.proofs.Stimuli.{HaveWidths-AreBits}
 use Rattle.net_action.specs.Wires.{AreValues, is_up}
 use Rattle.net_action.proofs.Growth.{values_of_beginnings}
 use Rattle.net_sched.specs.Designs.{HasParts, RunsAs}
-use Rattle.net_sched.specs.Made.{Leaves}
+use Rattle.net_sched.specs.inner.Made.{Leaves}
 
 -- ---- flags
 

@@ -16,7 +16,7 @@ use Rattle.typed_core.specs.declared.design.Parts.{Parts}
 use Rattle.typed_core.specs.declared.design.RegDecl.{RegDecl}
 use Rattle.net_action.specs.Wires.{HasWire}
 use Rattle.net_action.proofs.Growth.{found_more, wire_more, wire_of_op}
-use Rattle.net_sched.specs.Cycles.{nth}
+use Rattle.net_sched.specs.inner.Cycles.{nth}
 use Rattle.net_sched.proofs.Pushing.{pushed}
 
 -- a register of a design has a width

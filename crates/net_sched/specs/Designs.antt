@@ -30,9 +30,3 @@ pub record HasParts (d : Parts) (c : Wires) : Type 0 where
 abbrev pub RunsAs : Parts → Wires → Type 0
 RunsAs d c = (stimulus : InputVectors) (n : ℕ) → StimulusFits d stimulus → AlwaysFits stimulus
     → wired.run_of c (inputs_of stimulus) n ≡ whole.run_of d (inputs_of stimulus) n
-
--- the wires make a circuit, which is the design's
-pub record AreWiresOf (d : Parts) (c : Wires) : Type 0 where
-  pub circuit : circuit.IsCircuit c
-  pub parts : HasParts d c
-  pub run : RunsAs d c

@@ -1,3 +1,2 @@
 pub mod Designs
-pub mod Made
-pub mod Cycles
+pub mod inner

@@ -15,8 +15,9 @@ ghost use Rattle.circuit_eval.specs.Run.{first_states};
 ghost use Rattle.circuit_eval.specs.declared.circuit.InputWire.{InputWire};
 ghost use Rattle.circuit_eval.specs.declared.circuit.OutputWire.{OutputWire};
 ghost use Rattle.circuit_eval.specs.declared.circuit.StateWire.{StateWire};
-ghost use Rattle.net_sched.specs.Designs.{AreWiresOf, HasParts, RunsAs};
-ghost use Rattle.net_sched.specs.Made.{AreEnds, AreNamed};
+ghost use Rattle.net_sched.specs.Designs.{HasParts, RunsAs};
+ghost use Rattle.net_sched.specs.inner.Designs.{AreWiresOf};
+ghost use Rattle.net_sched.specs.inner.Made.{AreEnds, AreNamed};
 
 use crate::cycle::cycle_wires;
 use crate::flags::nth;

@@ -14,7 +14,7 @@ ghost use Rattle.one_rule.specs.Walk as walk;
 ghost use Rattle.one_rule.specs.Walk.{Walk, walk_from};
 ghost use Rattle.net_action.specs.Gates.{Grows};
 ghost use Rattle.net_action.specs.Wires.{AreValues, wire_at};
-ghost use Rattle.net_sched.specs.Cycles.{AreCycleWires, AreStates, CycleStandsFor, nothing, nth};
+ghost use Rattle.net_sched.specs.inner.Cycles.{AreCycleWires, AreStates, CycleStandsFor, nothing, nth};
 
 use crate::flags::{filled, lead, mark, nth};
 use crate::visit::visit;

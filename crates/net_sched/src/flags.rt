@@ -7,7 +7,7 @@ ghost use Rattle.net_graph.specs.Values.{Sources};
 ghost use Rattle.one_rule.specs.Walk.{is_at};
 ghost use Rattle.net_action.specs.Gates.{Grows};
 ghost use Rattle.net_action.specs.Wires.{AreValues, HasWire, is_up};
-ghost use Rattle.net_sched.specs.Cycles.{AreFlags, IsWithin, nth};
+ghost use Rattle.net_sched.specs.inner.Cycles.{AreFlags, IsWithin, nth};
 
 use kw_bits::{NoMemory, Sequence};
 use net_action::either;

@@ -8,7 +8,7 @@ ghost use Rattle.typed_core.specs.Widths.{register_widths};
 ghost use Rattle.typed_core.specs.declared.limits.TheConstants.{PORTS};
 ghost use Rattle.net_action.specs.Gates.{Grows, HasValue, IsUp};
 ghost use Rattle.net_action.specs.Wires.{AreLogWires, AreValues, HasWire, is_up};
-ghost use Rattle.net_sched.specs.Cycles.{AreFlags, Joins, JoinsFlags, nth};
+ghost use Rattle.net_sched.specs.inner.Cycles.{AreFlags, Joins, JoinsFlags, nth};
 
 use crate::flags::nth;
 use kw_bits::{NoMemory, Sequence};

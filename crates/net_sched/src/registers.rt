@@ -13,7 +13,7 @@ ghost use Rattle.typed_core.specs.declared.design.RegDecl.{RegDecl};
 ghost use Rattle.typed_core.specs.declared.limits.TheConstants.{PORTS};
 ghost use Rattle.net_action.specs.Gates.{Grows, HasValue};
 ghost use Rattle.net_action.specs.Wires.{AreLogWires, ArePortWires, AreValues, HasWire, LogStandsFor, PortsStandFor, is_up};
-ghost use Rattle.net_sched.specs.Cycles.{AreStates, nth};
+ghost use Rattle.net_sched.specs.inner.Cycles.{AreStates, nth};
 
 use crate::flags::nth;
 use crate::log::is_down;

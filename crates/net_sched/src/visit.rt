@@ -10,7 +10,7 @@ ghost use Rattle.one_rule.specs.Externs.{kept};
 ghost use Rattle.one_rule.specs.PortRun.{PortState, port_fire};
 ghost use Rattle.net_action.specs.Gates.{Grows};
 ghost use Rattle.net_action.specs.Wires.{AreLogWires, ArePortWires, AreValues, HasWire, PortsStandFor, is_up};
-ghost use Rattle.net_sched.specs.Cycles.{IsVisit};
+ghost use Rattle.net_sched.specs.inner.Cycles.{IsVisit};
 
 use crate::log::joined_log;
 use kw_bits::NoMemory;

@@ -14,8 +14,8 @@ use Rattle.net_graph.specs.declared.node.NetTwo.TheVariants.{And, Or}
 use Rattle.net_graph.specs.declared.node.NetOp.{NetOp}
 use Rattle.net_graph.specs.declared.node.NetOp.TheVariants.{Ite, One, Two}
 use Rattle.net_graph.proofs.OneByOne.{length-one_by_one}
-use Rattle.net_simplify.specs.Forms.{IsForm, IsLean, IsNodeIf}
-use Rattle.net_simplify.specs.Identities.{choice_value, ComesTo, IsKnown}
+use Rattle.net_simplify.specs.inner.Forms.{IsForm, IsLean, IsNodeIf}
+use Rattle.net_simplify.specs.inner.Identities.{choice_value, ComesTo, IsKnown}
 use Rattle.net_simplify.specs.declared.choices.Choice.{Choice}
 use Rattle.net_simplify.specs.declared.choices.Choice.TheVariants as choices
 use Rattle.net_simplify.specs.declared.form.Form.{Form}

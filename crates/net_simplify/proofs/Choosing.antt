@@ -8,7 +8,7 @@ use Rattle.kw_bits.specs.BitVector.{BitVector}
 use Rattle.kw_bits.specs.Laws.{HasWidth}
 use Rattle.kw_bits.specs.Operators as op
 use Rattle.net_graph.specs.Operators.{ite_value}
-use Rattle.net_simplify.specs.Identities.{choice_value, ComesTo, IsKnown}
+use Rattle.net_simplify.specs.inner.Identities.{choice_value, ComesTo, IsKnown}
 use Rattle.net_simplify.specs.declared.choices.Choice.{Choice}
 use Rattle.net_simplify.specs.declared.choices.Choice.TheVariants.{First, Second, Condition, NotCondition, ConditionOrSecond, ConditionAndFirst}
 use Rattle.net_simplify.specs.declared.known.Known.{Known}

@@ -8,7 +8,7 @@ use Rattle.kw_bits.specs.Operators as op
 use Rattle.net_graph.specs.Operators.{two_value, two_width, TakesTwo}
 use Rattle.net_graph.specs.declared.node.NetTwo.{NetTwo}
 use Rattle.net_graph.specs.declared.node.NetTwo.TheVariants.{EqBits, Neq, Ult, Ulte, Ugt, Ugte, Slt, Slte, Sgt, Sgte}
-use Rattle.net_simplify.specs.Identities.{Agree, HoldsOf, IsNeverBelow, ones, zeros}
+use Rattle.net_simplify.specs.inner.Identities.{Agree, HoldsOf, IsNeverBelow, ones, zeros}
 use Rattle.net_simplify.specs.declared.known.Known.{Known}
 use Rattle.net_simplify.specs.declared.identities.Identity.{Identity}
 use Rattle.net_simplify.specs.declared.identities.Identity.TheVariants.{False, True}

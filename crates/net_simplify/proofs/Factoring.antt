@@ -14,7 +14,7 @@ use Rattle.net_graph.specs.Values.{node_value, Sources}
 use Rattle.net_graph.specs.declared.node.NetTwo.TheVariants.{And, Or}
 use Rattle.net_graph.specs.declared.node.NetOp.{NetOp}
 use Rattle.net_graph.specs.declared.node.NetOp.TheVariants.{Two}
-use Rattle.net_simplify.specs.Forms.{Alike, IsCommon, IsForm}
+use Rattle.net_simplify.specs.inner.Forms.{Alike, IsCommon, IsForm}
 use Rattle.net_simplify.specs.declared.form.Form.TheVariants.{Node}
 use Rattle.net_simplify.proofs.Opposing.{nothing_common}
 use Rattle.net_simplify.proofs.Standing.{bits_node, stands_node, value_node, width_node, within_node}

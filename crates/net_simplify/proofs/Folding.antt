@@ -13,7 +13,7 @@ use Rattle.net_graph.specs.declared.node.NetTwo.{NetTwo}
 use Rattle.net_graph.specs.declared.node.NetOp.{NetOp}
 use Rattle.net_graph.specs.declared.node.NetOp.TheVariants.{Const, One, Two, Slice, Uext, Sext, Ite}
 use Rattle.net_graph.proofs.OperatorWidths.{op_value-HasWidth}
-use Rattle.net_simplify.specs.Forms.{Equals}
+use Rattle.net_simplify.specs.inner.Forms.{Equals}
 use Rattle.net_simplify.specs.declared.form.Form.TheVariants.{Constant}
 use Rattle.net_simplify.proofs.Standing.{constant_bits, value_node, width_node}
 

@@ -18,8 +18,8 @@ use Rattle.net_graph.specs.declared.node.NetOp.{NetOp}
 use Rattle.net_graph.specs.declared.node.NetOp.TheVariants.{One, Two}
 use Rattle.net_graph.proofs.OneByOne.{length-one_by_one}
 use Rattle.circuit_eval.specs.Tidy.{IsNeeded, IsOpen}
-use Rattle.net_simplify.specs.Forms.{IsOfOpposites, Equals, IsForm, IsLean, IsOpposite, Turns}
-use Rattle.net_simplify.specs.Identities.{HoldsOf, identity_value, identity_width, IsAsWide, IsDistinguishing, IsKnown, LeavesOnly, ones}
+use Rattle.net_simplify.specs.inner.Forms.{IsOfOpposites, Equals, IsForm, IsLean, IsOpposite, Turns}
+use Rattle.net_simplify.specs.inner.Identities.{HoldsOf, identity_value, identity_width, IsAsWide, IsDistinguishing, IsKnown, LeavesOnly, ones}
 use Rattle.net_simplify.specs.declared.form.Form.{Form}
 use Rattle.net_simplify.specs.declared.form.Form.TheVariants.{Node, Constant, Operator}
 use Rattle.net_simplify.specs.declared.identities.Identity.{Identity}

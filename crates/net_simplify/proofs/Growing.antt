@@ -16,8 +16,8 @@ use Rattle.net_graph.proofs.OneByOne.{get_or-one_by_one-append, length-one_by_on
 use Rattle.net_graph.proofs.Sharing.{contains_from_found, equal, found_from_contains}
 use Rattle.net_graph.proofs.Values.{values-kept}
 use Rattle.circuit_eval.specs.Tidy.{IsNeeded, IsOpen, operands}
-use Rattle.net_simplify.specs.Forms.{Equals, IsForm, IsLean}
-use Rattle.net_simplify.specs.Passes.{Gains, renamed}
+use Rattle.net_simplify.specs.inner.Forms.{Equals, IsForm, IsLean}
+use Rattle.net_simplify.specs.inner.Passes.{Gains, renamed}
 use Rattle.net_simplify.specs.declared.form.Form.TheVariants.{Node, Constant, Operator}
 use Rattle.net_simplify.proofs.OtherOperands.{operands_stand, renamed_value, renamed_width, SameWidth}
 use Rattle.net_simplify.proofs.Standing.{stands_node, value_node, width_node}

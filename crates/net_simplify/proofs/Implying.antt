@@ -15,7 +15,7 @@ use Rattle.net_graph.specs.declared.node.NetTwo.{NetTwo}
 use Rattle.net_graph.specs.declared.node.NetTwo.TheVariants.{And, Or}
 use Rattle.net_graph.specs.declared.node.NetOp.{NetOp}
 use Rattle.net_graph.specs.declared.node.NetOp.TheVariants.{Const, One, Two}
-use Rattle.net_simplify.specs.Forms.{Alike, IsForm, IsKnownBit, IsUnit, Tells}
+use Rattle.net_simplify.specs.inner.Forms.{Alike, IsForm, IsKnownBit, IsUnit, Tells}
 use Rattle.net_simplify.specs.declared.form.Form.{Form}
 use Rattle.net_simplify.specs.declared.form.Form.TheVariants.{Node, Constant}
 use Rattle.net_simplify.proofs.Factoring.{and_operands, and_turned, Opposite, or_operands, or_turned}

@@ -10,7 +10,7 @@ use Rattle.net_graph.specs.Nets.{Adds, IsNet, Stands, widths_of}
 use Rattle.net_graph.specs.Values.{Reads}
 use Rattle.net_graph.specs.declared.node.NetOp.{NetOp}
 use Rattle.circuit_eval.specs.Tidy.{operands}
-use Rattle.net_simplify.specs.Passes.{is_marked, LaysOut, MarksOperands, nth, renamed, StandsFor}
+use Rattle.net_simplify.specs.inner.Passes.{is_marked, LaysOut, MarksOperands, nth, renamed, StandsFor}
 use Rattle.net_simplify.proofs.Forming.{all_at}
 use Rattle.net_simplify.proofs.Growing.{before_more, op_value_kept, op_width_kept}
 use Rattle.net_simplify.proofs.OtherOperands.{renamed-agree, same_by_renamed}

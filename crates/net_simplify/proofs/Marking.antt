@@ -15,7 +15,7 @@ use Rattle.circuit_eval.specs.Tidy.{operands, Serves, next, output, operand}
 use Rattle.circuit_eval.specs.declared.circuit.OutputWire.{OutputWire}
 use Rattle.circuit_eval.specs.declared.circuit.StateWire.{StateWire}
 use Rattle.circuit_eval.specs.declared.circuit.Wires.{Wires}
-use Rattle.net_simplify.specs.Passes.{AreServing, Closes, ClosesAt, is_marked, marked}
+use Rattle.net_simplify.specs.inner.Passes.{AreServing, Closes, ClosesAt, is_marked, marked}
 use Rattle.net_simplify.proofs.Reducing.{operands_before}
 
 pub length-marked : (ids : List ℕ) (marks : List Bool) → length (marked ids marks) ≡ length marks

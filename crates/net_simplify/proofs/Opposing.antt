@@ -8,7 +8,7 @@ use Rattle.kw_bits.specs.Operators as op
 use Rattle.kw_bits.proofs.OperatorLaws.{flag_logic}
 use Rattle.net_graph.specs.Operators.{two_value, two_width, TakesTwo}
 use Rattle.net_graph.specs.declared.node.NetTwo.TheVariants.{And, Or, Xor, EqBits, Neq, Ult, Ulte, Ugt, Ugte, Slt, Slte, Sgt, Sgte}
-use Rattle.net_simplify.specs.Forms.{IsOfOpposites, IsOpposite}
+use Rattle.net_simplify.specs.inner.Forms.{IsOfOpposites, IsOpposite}
 use Rattle.net_simplify.proofs.Comparing.{int_le-not, nat_le-not}
 use Rattle.net_simplify.proofs.Units.{same_parts}
 

@@ -10,7 +10,7 @@ use Rattle.net_graph.specs.Values.{op_value, Sources, value_at}
 use Rattle.net_graph.specs.declared.node.NetOp.{NetOp}
 use Rattle.net_graph.specs.declared.node.NetOp.TheVariants.{Const, Input, State, One, Two, Slice, Uext, Sext, Ite}
 use Rattle.circuit_eval.specs.Tidy.{operands}
-use Rattle.net_simplify.specs.Passes.{nth, renamed}
+use Rattle.net_simplify.specs.inner.Passes.{nth, renamed}
 
 one : (P : ℕ → Type 0) (a : ℕ) → P a → All P (a ∷ [])
 one P a p = All-cons P a [] p (All-nil P)

@@ -13,7 +13,7 @@ use Rattle.net_graph.specs.declared.node.NetOp.TheVariants.{Input, State}
 use Rattle.net_graph.proofs.OneByOne.{length-one_by_one}
 use Rattle.net_graph.proofs.Values.{values-kept}
 use Rattle.circuit_eval.specs.Tidy.{operands}
-use Rattle.net_simplify.specs.Passes.{Gains, nth, ReadsOnly, Reduces, renamed, StandsFor}
+use Rattle.net_simplify.specs.inner.Passes.{Gains, nth, ReadsOnly, Reduces, renamed, StandsFor}
 use Rattle.net_simplify.proofs.Forming.{all_at}
 use Rattle.net_simplify.proofs.Growing.{width_kept}
 use Rattle.net_simplify.proofs.OtherOperands.{operands_stand, renamed_stands, renamed_value, renamed_width, SameWidth}

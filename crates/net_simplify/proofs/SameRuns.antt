@@ -19,9 +19,9 @@ use Rattle.circuit_eval.specs.declared.circuit.StateWire.{StateWire}
 use Rattle.circuit_eval.specs.declared.circuit.Wires.{Wires}
 use Rattle.circuit_eval.proofs.Fitting.{first_states-AreBits, next_states-AreBits, step_feeds}
 use Rattle.circuit_eval.proofs.Stimuli.{HaveWidths-AreBits}
-use Rattle.net_simplify.specs.Forms.{IsLean}
+use Rattle.net_simplify.specs.inner.Forms.{IsLean}
 use Rattle.net_simplify.specs.Kept.{HasOutputsOf, Keeps, RunsAs}
-use Rattle.net_simplify.specs.Passes.{IsSimpler, moved_output, moved_state, nth, ReadsOnly, Reduces, rewired, StandsFor}
+use Rattle.net_simplify.specs.inner.Passes.{IsSimpler, moved_output, moved_state, nth, ReadsOnly, Reduces, rewired, StandsFor}
 
 -- what a net and places have to keep of a circuit
 pub record Carries (c : Wires) (net : List NetOp) (places : List ℕ) : Type 0 where

@@ -14,8 +14,8 @@ use Rattle.circuit_eval.specs.Tidy.{IsConstant, IsNeeded, IsOpen, IsTidy, operan
 use Rattle.circuit_eval.specs.declared.circuit.OutputWire.{OutputWire}
 use Rattle.circuit_eval.specs.declared.circuit.StateWire.{StateWire}
 use Rattle.circuit_eval.specs.declared.circuit.Wires.{Wires}
-use Rattle.net_simplify.specs.Forms.{IsLean}
-use Rattle.net_simplify.specs.Passes.{AreServing, is_marked, LaysOut, moved_output, moved_state, nth, renamed, rewired}
+use Rattle.net_simplify.specs.inner.Forms.{IsLean}
+use Rattle.net_simplify.specs.inner.Passes.{AreServing, is_marked, LaysOut, moved_output, moved_state, nth, renamed, rewired}
 use Rattle.net_simplify.proofs.Forming.{all_at}
 use Rattle.net_simplify.proofs.OtherOperands.{operands-renamed, rebuilt, rebuilt-back}
 use Rattle.net_simplify.proofs.Reducing.{operands_before}

@@ -7,7 +7,7 @@ use Rattle.kw_bits.specs.BitVector.{BitVector}
 use Rattle.kw_bits.specs.Operators as op
 use Rattle.net_graph.specs.Operators.{two_value, two_width, TakesTwo}
 use Rattle.net_graph.specs.declared.node.NetTwo.TheVariants.{And, Or, Xor, Add, Sub, Mul}
-use Rattle.net_simplify.specs.Identities.{HoldsOf, IsKnown}
+use Rattle.net_simplify.specs.inner.Identities.{HoldsOf, IsKnown}
 use Rattle.net_simplify.specs.declared.known.Known.{Known}
 use Rattle.net_simplify.specs.declared.known.Known.TheVariants as known
 use Rattle.net_simplify.specs.declared.identities.Identity.TheVariants.{First, Second, NotFirst, NotSecond, Zero}

@@ -16,7 +16,7 @@ use Rattle.net_graph.specs.declared.node.NetOne.TheVariants.{RedAnd, RedOr, RedX
 use Rattle.net_graph.specs.declared.node.NetOp.{NetOp}
 use Rattle.net_graph.specs.declared.node.NetOp.TheVariants.{One, Slice, Uext, Sext}
 use Rattle.net_graph.proofs.OneByOne.{length-one_by_one}
-use Rattle.net_simplify.specs.Forms.{Equals, IsReduction}
+use Rattle.net_simplify.specs.inner.Forms.{Equals, IsReduction}
 use Rattle.net_simplify.specs.declared.form.Form.TheVariants.{Node}
 use Rattle.net_simplify.proofs.Standing.{bits_node}
 use Rattle.net_simplify.proofs.Units.{same_parts}

@@ -1,4 +1,2 @@
-pub mod Forms
-pub mod Identities
 pub mod Kept
-pub mod Passes
+pub mod inner

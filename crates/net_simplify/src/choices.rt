@@ -1,7 +1,7 @@
 //! Circuits: what the value of a choice is, by what is known of its condition and of what is chosen from.
 
 ghost use Rattle.std.specs.Prelude.{true, false};
-ghost use Rattle.net_simplify.specs.Identities.{ComesTo, LeavesChoice};
+ghost use Rattle.net_simplify.specs.inner.Identities.{ComesTo, LeavesChoice};
 ghost use Rattle.net_simplify.specs.declared.known.Known.TheVariants.{Nothing};
 
 use crate::known::Known;

@@ -3,9 +3,9 @@
 ghost use Rattle.std.specs.Prelude.{IfOk};
 ghost use Rattle.circuit_eval.specs.Circuits.{IsCircuit};
 ghost use Rattle.circuit_eval.specs.Tidy.{IsTidy};
-ghost use Rattle.net_simplify.specs.Forms.{IsLean};
+ghost use Rattle.net_simplify.specs.inner.Forms.{IsLean};
 ghost use Rattle.net_simplify.specs.Kept.{HasOutputsOf, Keeps, RunsAs};
-ghost use Rattle.net_simplify.specs.Passes.{IsSimpler};
+ghost use Rattle.net_simplify.specs.inner.Passes.{IsSimpler};
 
 use crate::layout::laid_out;
 use crate::reach::serving;

@@ -5,7 +5,7 @@ ghost use Rattle.std.specs.Prelude.{◌<◌, length, IfSome};
 ghost use Rattle.net_graph.specs.Nets.{IsNet, Stands, widths_of};
 ghost use Rattle.net_graph.specs.declared.node.NetOp.TheVariants.{Two};
 ghost use Rattle.net_graph.specs.declared.node.NetTwo.TheVariants.{And, Or};
-ghost use Rattle.net_simplify.specs.Forms.{Alike, IsCommon, IsForm};
+ghost use Rattle.net_simplify.specs.inner.Forms.{Alike, IsCommon, IsForm};
 ghost use Rattle.net_simplify.specs.declared.form.Form.TheVariants.{Node};
 
 use crate::nodes::{and_of, are_opposite, op_at, or_of};

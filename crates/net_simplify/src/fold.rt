@@ -4,7 +4,7 @@
 ghost use Rattle.std.specs.Prelude.{IfNone, IfSome};
 ghost use Rattle.net_graph.specs.Nets.{IsNet, Stands, widths_of};
 ghost use Rattle.circuit_eval.specs.Tidy.{IsOpen};
-ghost use Rattle.net_simplify.specs.Forms.{Equals};
+ghost use Rattle.net_simplify.specs.inner.Forms.{Equals};
 ghost use Rattle.net_simplify.specs.declared.form.Form.TheVariants.{Constant};
 
 use crate::nodes::constant_at;

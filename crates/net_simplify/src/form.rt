@@ -7,7 +7,7 @@ ghost use Rattle.net_graph.specs.Nets.{IsNet, Stands, widths_of};
 ghost use Rattle.net_graph.specs.declared.node.NetOne.TheVariants.{Not};
 ghost use Rattle.net_graph.specs.declared.node.NetOp.TheVariants.{Ite, One, Two};
 ghost use Rattle.circuit_eval.specs.Tidy.{IsNeeded};
-ghost use Rattle.net_simplify.specs.Forms.{Equals, IsForm, IsLean, IsReduction, IsUnit};
+ghost use Rattle.net_simplify.specs.inner.Forms.{Equals, IsForm, IsLean, IsReduction, IsUnit};
 ghost use Rattle.net_simplify.specs.declared.form.Form.TheVariants.{Constant, Node};
 
 use crate::choices::{Choice, choice_of};

@@ -1,7 +1,7 @@
 //! Circuits: what the value of an operator on two nodes is, by what is known of them, in every net.
 
 ghost use Rattle.std.specs.Prelude.{IsTrue};
-ghost use Rattle.net_simplify.specs.Identities.{HoldsOf, IsAsWide, IsNeverBelow, LeavesOnly};
+ghost use Rattle.net_simplify.specs.inner.Identities.{HoldsOf, IsAsWide, IsNeverBelow, LeavesOnly};
 ghost use Rattle.net_graph.specs.declared.node.NetTwo.TheVariants.{And, Or, Xor, Add, Sub, Mul, EqBits, Neq};
 
 use crate::known::Known;

@@ -5,7 +5,7 @@ ghost use Rattle.std.specs.Prelude.{◌≡◌, ◌<◌, length, IsTrue, Some};
 ghost use Rattle.kw_bits.specs.BitVector.{BitVector, IsBits};
 ghost use Rattle.kw_bits.specs.Operators as op;
 ghost use Rattle.net_graph.specs.Nets.{IsNet};
-ghost use Rattle.net_simplify.specs.Forms.{IsKnownBit, Tells};
+ghost use Rattle.net_simplify.specs.inner.Forms.{IsKnownBit, Tells};
 
 use crate::nodes::{bit_at, is_opposite_of, op_at};
 use net_graph::{Net, NetId, NetOne, NetOp, NetTwo};

@@ -1,7 +1,7 @@
 //! Circuits: what is known of a value for all inputs and states.
 
-ghost use Rattle.net_simplify.specs.Forms.{IsKnownBit};
-ghost use Rattle.net_simplify.specs.Identities.{IsKnown};
+ghost use Rattle.net_simplify.specs.inner.Forms.{IsKnownBit};
+ghost use Rattle.net_simplify.specs.inner.Identities.{IsKnown};
 
 use kw_bits::Bits;
 

@@ -4,7 +4,7 @@
 ghost use Rattle.std.specs.Prelude.{◌≡◌, ℕ, length, IfOk, Some, slice_get, true};
 ghost use Rattle.net_graph.specs.Nets.{IsNet};
 ghost use Rattle.net_graph.specs.declared.node.NetOp.{NetOp};
-ghost use Rattle.net_simplify.specs.Passes.{is_marked, LaysOut, MarksOperands};
+ghost use Rattle.net_simplify.specs.inner.Passes.{is_marked, LaysOut, MarksOperands};
 
 use crate::reduced::Placed;
 use crate::renaming::renamed;

@@ -11,8 +11,8 @@ ghost use Rattle.net_graph.specs.declared.node.NetOne.TheVariants.{Not};
 ghost use Rattle.net_graph.specs.declared.node.NetOp.TheVariants.{Const, One, Two};
 ghost use Rattle.net_graph.specs.declared.node.NetTwo.TheVariants.{And, Or};
 ghost use Rattle.circuit_eval.specs.Tidy.{IsConstant};
-ghost use Rattle.net_simplify.specs.Forms.{IsKnownBit, IsNodeIf};
-ghost use Rattle.net_simplify.specs.Identities.{IsKnown};
+ghost use Rattle.net_simplify.specs.inner.Forms.{IsKnownBit, IsNodeIf};
+ghost use Rattle.net_simplify.specs.inner.Identities.{IsKnown};
 
 use crate::known::{Known, bit_of, known_of};
 use crate::opposites::is_opposite;

@@ -1,7 +1,7 @@
 //! Circuits: operators on opposite values, and comparisons that say what others don't.
 
 ghost use Rattle.std.specs.Prelude.{◌≤◌, IfSome, IsTrue};
-ghost use Rattle.net_simplify.specs.Forms.{IsOfOpposites, IsOpposite, Turns};
+ghost use Rattle.net_simplify.specs.inner.Forms.{IsOfOpposites, IsOpposite, Turns};
 
 use kw_bits::Bits;
 use net_graph::{NetOp, NetTwo};

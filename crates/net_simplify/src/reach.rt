@@ -7,7 +7,7 @@ ghost use Rattle.circuit_eval.specs.Circuits.{IsCircuit};
 ghost use Rattle.circuit_eval.specs.Tidy.{operands};
 ghost use Rattle.circuit_eval.specs.declared.circuit.OutputWire.{OutputWire};
 ghost use Rattle.circuit_eval.specs.declared.circuit.StateWire.{StateWire};
-ghost use Rattle.net_simplify.specs.Passes.{AreServing, Closes, ClosesAt, marked};
+ghost use Rattle.net_simplify.specs.inner.Passes.{AreServing, Closes, ClosesAt, marked};
 
 use circuit_eval::{OutputWire, StateWire, Wires};
 use kw_bits::NoMemory;

@@ -3,8 +3,8 @@
 // The net of the simplest forms of a net's nodes.
 ghost use Rattle.std.specs.Prelude.{IfOk, length};
 ghost use Rattle.net_graph.specs.Nets.{IsNet, Stands, widths_of};
-ghost use Rattle.net_simplify.specs.Forms.{IsLean};
-ghost use Rattle.net_simplify.specs.Passes.{Gains, Reduces};
+ghost use Rattle.net_simplify.specs.inner.Forms.{IsLean};
+ghost use Rattle.net_simplify.specs.inner.Passes.{Gains, Reduces};
 
 use crate::form::{Form, simplest};
 use crate::renaming::renamed;

@@ -3,7 +3,7 @@
 // Operators on other nodes.
 ghost use Rattle.std.specs.Prelude.{◌≡◌, ◌<◌, length, All};
 ghost use Rattle.circuit_eval.specs.Tidy.{operands};
-ghost use Rattle.net_simplify.specs.Passes.{nth, renamed};
+ghost use Rattle.net_simplify.specs.inner.Passes.{nth, renamed};
 
 use net_graph::{NetId, NetOp};
 

@@ -2,7 +2,7 @@
 
 // States, inputs and outputs over another net.
 ghost use Rattle.std.specs.Prelude.{◌≡◌, ◌<◌, length, map, All, IfOk};
-ghost use Rattle.net_simplify.specs.Passes.{moved_output, moved_state};
+ghost use Rattle.net_simplify.specs.inner.Passes.{moved_output, moved_state};
 
 use circuit_eval::{InputWire, OutputWire, StateWire, Wires};
 use kw_bits::{NoMemory, Sequence, Text};

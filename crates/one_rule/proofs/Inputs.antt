@@ -15,7 +15,8 @@ use Rattle.typed_core.specs.Evaluation.{unit}
 use Rattle.kw_bits.specs.Laws.{HasWidth}
 use Rattle.typed_core.specs.Valid.{IsWidth}
 use Rattle.typed_core.specs.Widths.{HaveWidths}
-use Rattle.one_rule.specs.KeptLines.{AgreesWith, IsKeptLine}
+use Rattle.one_rule.specs.KeptLines.{IsKeptLine}
+use Rattle.one_rule.specs.inner.KeptLines.{AgreesWith}
 use Rattle.one_rule.specs.Stimulus.{Assignment, Assigns, inputs_by, value_by}
 use Rattle.one_rule.proofs.Lines.{value_at, value_by-sorted}
 

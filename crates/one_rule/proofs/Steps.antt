@@ -3,7 +3,8 @@ use Rattle.std.proofs.Common.{◌≡◌, ◌⊎◌, inl, inr, ℕ, ◌≤◌, Li
 use Rattle.kw_bits.specs.BitVector.{BitVector}
 use Rattle.kw_bits.specs.Laws.{HasWidth}
 use Rattle.typed_core.specs.Evaluation.{Ending, Environment, Ports, Progress, Value, evaluate, unit}
-use Rattle.typed_core.specs.Fits.{CanBeOperand, CanEvaluate, EnvironmentFits, EventsFit, PortsFit}
+use Rattle.typed_core.specs.Fits.{CanEvaluate, EnvironmentFits, EventsFit, PortsFit}
+use Rattle.typed_core.specs.inner.Fits.{CanBeOperand}
 use Rattle.typed_core.specs.Valid.{ActionHasWidth, Declarations}
 use Rattle.typed_core.specs.Widths.{HaveWidths}
 use Rattle.typed_core.specs.declared.access.Event.{Event}
@@ -14,7 +15,7 @@ use Rattle.typed_core.proofs.Typed.{value_fits}
 use Rattle.typed_core.proofs.Values.{bits_of}
 use Rattle.typed_core.proofs.WidthLists.{HaveWidths-cons}
 use Rattle.one_rule.specs.Answers.{Answers, value_of}
-use Rattle.one_rule.specs.Parts.{AreReady, HasBody, Interrupts, Leaves}
+use Rattle.one_rule.specs.inner.Parts.{AreReady, HasBody, Interrupts, Leaves}
 use Rattle.one_rule.specs.declared.evaluation.Interrupt.{Interrupt}
 use Rattle.one_rule.specs.declared.evaluation.Interrupt.TheVariants as interrupt
 use Rattle.one_rule.specs.declared.evaluation.part.End.{End}

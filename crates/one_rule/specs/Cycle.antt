@@ -49,6 +49,7 @@ system_of design =
 
 -- ---- firing
 
+-- whether a rule that ran alone came to its end
 abbrev pub is_done : Outcome → Bool
 is_done Done = true
 is_done Abort = false
@@ -75,6 +76,7 @@ abbrev pub join : State → ℕ → List Event → State
 join state rule events =
     record { regs = after events state.regs; past = state.past ++ record { rule = rule; events = events } ∷ [] }
 
+-- the state after a rule that fires, if it fires: it runs alone, and clashes with no rule that fired before it
 abbrev pub fire : System → List BitVector → Firing State
 fire system inputs rule state =
     let run : Alone = system.alone rule inputs state.regs in

@@ -1,7 +1,7 @@
 -- How a stimulus keeps its lines: each in ascending order of the inputs.
-use Rattle.std.specs.Prelude.{◌≡◌, ℕ, ◌<◌, List, map, All, AllPairs}
+use Rattle.std.specs.Prelude.{ℕ, ◌<◌, List, map, All, AllPairs}
 use Rattle.typed_core.specs.Valid.{IsWidth}
-use Rattle.one_rule.specs.Stimulus.{Assignment, Assigns, value_by, inputs_by, InputVectors}
+use Rattle.one_rule.specs.Stimulus.{Assignment, Assigns, inputs_by, InputVectors}
 
 -- a line names its inputs in ascending order
 abbrev pub IsAscending : List Assignment → Type 0
@@ -20,7 +20,3 @@ pub record KeepsLines (widths : List ℕ) (lines : List (List Assignment)) : Typ
 -- what callers see of a stimulus that keeps these lines
 abbrev pub vectors_of : List ℕ → List (List Assignment) → InputVectors
 vectors_of widths lines = record { widths = widths; cycles = map (inputs_by widths) lines }
-
--- each value that a line gives is the input's value by the other line
-abbrev pub AgreesWith : List Assignment → List Assignment → Type 0
-AgreesWith line other = All (λ (a : Assignment). value_by other a.0 a.1.width ≡ a.1) line

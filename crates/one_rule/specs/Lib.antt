@@ -7,6 +7,6 @@ pub mod Hosts
 pub mod Externs
 pub mod Answers
 pub mod Laws
-pub mod Parts
 pub mod Stimulus
 pub mod KeptLines
+pub mod inner

@@ -30,6 +30,7 @@ abbrev pub last_registers : List BitVector → List Row → List BitVector
 last_registers regs [] = regs
 last_registers regs (row ∷ rows) = last_registers row.regs rows
 
+-- the first values of a design's registers
 abbrev pub first_values : Parts → List BitVector
 first_values design = map (λ (decl : RegDecl). decl.first) design.regs
 

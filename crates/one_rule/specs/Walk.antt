@@ -44,6 +44,7 @@ abbrev pub root : List Node → Next
 root [] = next.End
 root (node ∷ nodes) = next.Node 0
 
+-- a walk that has tried no node yet
 abbrev pub start : {S : Type 0} → List Node → S → Walk S
 start nodes state = record { state = state; at = root nodes }
 

@@ -6,7 +6,7 @@ ghost use Rattle.typed_core.specs.Widths.{HaveWidths, input_widths, register_wid
 ghost use Rattle.one_rule.specs.Cycle.{cycle, system_of};
 ghost use Rattle.one_rule.specs.Externs.{kept};
 ghost use Rattle.one_rule.specs.Rows.{RowFits};
-ghost use Rattle.plain_run.specs.Walking.{AreEmpty};
+ghost use Rattle.plain_run.specs.inner.Walking.{AreEmpty};
 
 use crate::walk::{Walking, root, walk};
 use kw_bits::NoMemory;

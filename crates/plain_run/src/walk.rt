@@ -12,7 +12,7 @@ ghost use Rattle.one_rule.specs.PortRun.{PortState, merge, port_fire, port_walk}
 ghost use Rattle.one_rule.specs.Walk.{goes_on, is_at, pass, root};
 ghost use Rattle.rule_log.specs.StandsFor.{StandsFor, WritesFollow, registers};
 ghost use Rattle.action_interp.specs.Runs.{end_of};
-ghost use Rattle.plain_run.specs.Walking.{IsAt, IsEmpty, Stands, begin};
+ghost use Rattle.plain_run.specs.inner.Walking.{IsAt, IsEmpty, Stands, begin};
 
 use action_interp::{LoggedRun, RuleEnd, run_logged};
 use kw_bits::NoMemory;

@@ -7,7 +7,7 @@ use Rattle.kw_bits.specs.BitVector.{BitVector}
 use Rattle.typed_core.specs.Evaluation.{unit}
 use Rattle.typed_core.specs.declared.limits.TheConstants.{PORTS}
 use Rattle.rule_log.specs.Flags.{has, is_some}
-use Rattle.rule_log.specs.OneRegister.{JoinedAt, SameAt, written_below}
+use Rattle.rule_log.specs.inner.OneRegister.{JoinedAt, SameAt, written_below}
 use Rattle.rule_log.specs.StandsFor.{RegisterLog, is_set, written}
 use Rattle.rule_log.specs.Touched.{is_listed}
 use Rattle.rule_log.specs.declared.flags.PortFlags.{PortFlags}

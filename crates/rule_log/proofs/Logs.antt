@@ -16,7 +16,7 @@ use Rattle.rule_log.specs.Flags.{has, place}
 use Rattle.rule_log.specs.declared.flags.PortFlags.{PortFlags}
 use Rattle.rule_log.proofs.Bits.{clear_of_bit}
 use Rattle.std.proofs.lemmas.Nat.Bits.{bit_at-zero}
-use Rattle.rule_log.specs.OneRegister.{JoinedAt, is_same_place, written_below}
+use Rattle.rule_log.specs.inner.OneRegister.{JoinedAt, is_same_place, written_below}
 use Rattle.rule_log.specs.StandsFor.{RegisterLog, StandsFor, WritesFollow, is_access, is_set, registers, written}
 use Rattle.rule_log.proofs.Telling.{NoneSet, access_parts, after_at, length-after, no_reads, no_writes, own_access, refused_by_tests, seen_at_none, seen_more, tells_both, tells_none, tells_one, unrefused}
 

@@ -10,7 +10,7 @@ use Rattle.std.proofs.lemmas.List.Folds.{list_any-append, list_any_more}
 use Rattle.kw_bits.specs.BitVector.{BitVector}
 use Rattle.typed_core.specs.Valid.{IsPort}
 use Rattle.typed_core.specs.declared.limits.TheConstants.{PORTS}
-use Rattle.rule_log.specs.OneRegister.{is_same_place}
+use Rattle.rule_log.specs.inner.OneRegister.{is_same_place}
 use Rattle.rule_log.specs.StandsFor.{RegisterLog, is_set, written}
 use Rattle.rule_log.specs.Flags.{is_some}
 use Rattle.rule_log.specs.Touched.{IsSound, is_listed}

@@ -1,4 +1,4 @@
 pub mod Flags
-pub mod OneRegister
 pub mod StandsFor
 pub mod Touched
+pub mod inner

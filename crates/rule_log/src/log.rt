@@ -11,7 +11,7 @@ ghost use Rattle.typed_core.specs.declared.access.Access.{Access};
 ghost use Rattle.typed_core.specs.declared.access.Event.{Event};
 ghost use Rattle.typed_core.specs.declared.limits.TheConstants.{PORTS};
 ghost use Rattle.rule_log.specs.Flags.{has};
-ghost use Rattle.rule_log.specs.OneRegister.{JoinedAt, SameAt, is_same_place, written_below};
+ghost use Rattle.rule_log.specs.inner.OneRegister.{JoinedAt, SameAt, is_same_place, written_below};
 ghost use Rattle.rule_log.specs.StandsFor.{RegisterLog, StandsFor, WritesFollow, is_set, registers, written};
 ghost use Rattle.rule_log.specs.declared.flags.PortFlags.{PortFlags};
 

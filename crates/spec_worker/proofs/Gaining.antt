@@ -8,7 +8,8 @@ use Rattle.attempt_log.specs.declared.entry.Entry.{Entry}
 use Rattle.attempt_log.specs.declared.entry.Entry.TheVariants.{Submit, Settle}
 use Rattle.attempt_log.specs.Entries.{is_settle, is_settled, is_stored, is_submit}
 use Rattle.attempt_log.specs.Seats.{Grown, one_more_if}
-use Rattle.spec_worker.specs.Work.{Did, Gains, HandsIn, RoseBy, Settles, once}
+use Rattle.spec_worker.specs.Work.{Did, Gains, RoseBy}
+use Rattle.spec_worker.specs.inner.Work.{HandsIn, Settles, once}
 
 count-append : (p : Entry → Bool) (xs ys : List Entry) → count_by p (xs ++ ys) ≡ count_by p xs + count_by p ys
 count-append p xs ys = sum_by-append (λ (e : Entry). once (p e)) xs ys

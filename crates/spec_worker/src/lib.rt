@@ -6,7 +6,8 @@ ghost use Rattle.std.specs.Prelude.{◌≡◌, ◌≤◌, ◌<◌, ◌+◌, ℕ,
 ghost use Rattle.kw_bits.specs.Faults.{last_count, one_more};
 ghost use Rattle.attempt_log.specs.Entries.{goes_on, taken_of, was_stored};
 ghost use Rattle.attempt_log.specs.Setting.{IsFor, task_of};
-ghost use Rattle.spec_worker.specs.Work.{Ends, Gains, HandsIn, RoseBy, Settles, WorksAt, beyond, has_finished, is_short, once, turn_made, turn_stored, turn_taken, was_short};
+ghost use Rattle.spec_worker.specs.Work.{Ends, Gains, RoseBy, WorksAt, beyond, is_short};
+ghost use Rattle.spec_worker.specs.inner.Work.{HandsIn, Settles, has_finished, once, turn_made, turn_stored, turn_taken, was_short};
 
 use attempt_log::{
     Attempt, BoardSeat, Ending, Gate, JobAnswer, Report, Settled, Submitted, attempt,

@@ -5,7 +5,7 @@ use Rattle.std.proofs.lemmas.Bool.{eqb-true, eqb-false}
 use Rattle.std.proofs.lemmas.List.{nil_from_length}
 use Rattle.std.proofs.lemmas.List.Splits.{length-slice_split, slice_split-cons_yes, slice_split_none, slice_split_at}
 use Rattle.stim_report.specs.Cuts.{but_empty_last, ends_line, has_bytes, is_blank, lines_of, placed, without_return, words_from}
-use Rattle.stim_report.specs.Runs.{StopsAt}
+use Rattle.stim_report.specs.inner.Runs.{StopsAt}
 
 not-true : (b : Bool) → not b ≡ true → b ≡ false
 not-true true h = absurd (true≢false (sym h))

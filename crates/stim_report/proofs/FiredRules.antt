@@ -2,9 +2,9 @@
 use Rattle.std.proofs.Common.{◌≡◌, ℕ, ◌+◌, ◌<◌, ◌≤◌, Bool, true, false, not, ◌&&◌, List, [], ◌∷◌, ◌++◌, length, length-append, drop, get_or, refl, sym, ap, ap₂, ◌∙◌, subst, arith}
 use Rattle.std.proofs.lemmas.List.{drop_more}
 use Rattle.kw_bits.specs.Reserved.{ReservedList}
-use Rattle.stim_report.specs.Pages.{Leaves}
+use Rattle.stim_report.specs.inner.Pages.{Leaves}
 use Rattle.stim_report.specs.Report.{fired_names, listed, more_names}
-use Rattle.stim_report.specs.Steps.{shown, rest_listed}
+use Rattle.stim_report.specs.inner.Steps.{shown, rest_listed}
 
 -- a rule, and those behind it
 rest_shown : (b : Bool) (name : List ℕ) (names : List (List ℕ)) (fired : Bool) (flags : List Bool)

@@ -13,7 +13,7 @@ use Rattle.kw_base.specs.Names.{Adds, AreNumbered, number_of}
 use Rattle.kw_base.specs.declared.names.Added.{Added}
 use Rattle.kw_base.specs.declared.names.Added.TheVariants.{New, There}
 use Rattle.stim_report.specs.Assignments.{input_of}
-use Rattle.stim_report.specs.FirstNames.{AreFirst}
+use Rattle.stim_report.specs.inner.FirstNames.{AreFirst}
 use Rattle.stim_report.specs.declared.shape.NameWidth.{NameWidth}
 
 -- the place that was found, or else that of one more

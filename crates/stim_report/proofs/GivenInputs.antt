@@ -7,7 +7,7 @@ use Rattle.std.proofs.lemmas.List.{drop_more, drop_all, get_or-set_same, get_or-
 use Rattle.std.proofs.lemmas.List.Folds.{list_any-append}
 use Rattle.one_rule.specs.Stimulus.{Assignment}
 use Rattle.stim_report.specs.Assignments.{is_assigned}
-use Rattle.stim_report.specs.Given.{AreGiven}
+use Rattle.stim_report.specs.inner.Given.{AreGiven}
 
 eqb-same : (n : ℕ) → nat_eq n n ≡ true
 eqb-same n = true_from_ne_false (nat_eq n n) (λ is. eqb-false n n is refl)

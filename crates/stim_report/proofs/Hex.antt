@@ -5,7 +5,7 @@ use Rattle.std.proofs.Math.Nat.{div-div-eq-div-mul, mod-lt, pow-suc}
 use Rattle.std.proofs.Math.Pow.{mod-mod-pow}
 use Rattle.std.proofs.lemmas.Nat.{div-mul-add, mod-pow-add, pow-add, pow_pos}
 use Rattle.kw_bits.specs.Reserved.{ReservedList}
-use Rattle.stim_report.specs.Pages.{HasRoom, Gains, Leaves}
+use Rattle.stim_report.specs.inner.Pages.{HasRoom, Gains, Leaves}
 use Rattle.stim_report.specs.Report.{hex_digit, hex_digits}
 use Rattle.stim_report.proofs.Pages.{room_byte, room_left, goes_on}
 

@@ -1,7 +1,7 @@
 -- The parts of a line in turn: `@`, a number, a space, names, values and a line feed.
 use Rattle.std.proofs.Common.{ℕ, List, [], ◌∷◌, ◌++◌}
 use Rattle.kw_bits.specs.Reserved.{ReservedList}
-use Rattle.stim_report.specs.Pages.{Gains, HasRoom}
+use Rattle.stim_report.specs.inner.Pages.{Gains, HasRoom}
 use Rattle.stim_report.proofs.Pages.{room_byte, room_first, room_behind_byte, room_next, byte_first, in_turn}
 
 abbrev Room : ReservedList ℕ → List ℕ → List ℕ → List ℕ → Type 0

@@ -5,7 +5,7 @@ use Rattle.std.proofs.lemmas.List.{drop_more}
 use Rattle.kw_bits.specs.BitVector.{BitVector}
 use Rattle.kw_bits.specs.Reserved.{ReservedList}
 use Rattle.one_rule.specs.declared.rows.Row.{Row}
-use Rattle.stim_report.specs.Pages.{Leaves}
+use Rattle.stim_report.specs.inner.Pages.{Leaves}
 use Rattle.stim_report.specs.Report.{fired_names, line_of, lines_from, listed, registers_text}
 use Rattle.stim_report.specs.Shapes.{RowsFit}
 use Rattle.stim_report.specs.declared.shape.Shape.{Shape}

@@ -9,7 +9,7 @@ use Rattle.kw_bits.specs.BitVector.{BitVector}
 use Rattle.one_rule.specs.Stimulus.{Assignment, InputVectors, inputs_by}
 use Rattle.stim_report.specs.Assignments.{assignment_of}
 use Rattle.stim_report.specs.Cuts.{lines_of, words_from}
-use Rattle.stim_report.specs.Reading.{ReadsWord}
+use Rattle.stim_report.specs.inner.Reading.{ReadsWord}
 use Rattle.stim_report.specs.Shapes.{widths_of}
 use Rattle.stim_report.specs.Stimuli.{after, at_place, cycles_from, line_from, line_of, next_line, place, stimulus_of}
 use Rattle.stim_report.specs.declared.shape.NameWidth.{NameWidth}

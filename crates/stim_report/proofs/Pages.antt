@@ -1,7 +1,7 @@
 -- What is written in turn, and the room that is left for it.
 use Rattle.std.proofs.Common.{ℕ, List, [], ◌∷◌, ◌++◌, length, length-append, refl, sym, ap, ◌∙◌, append_assoc, append-nil, arith}
 use Rattle.kw_bits.specs.Reserved.{ReservedList}
-use Rattle.stim_report.specs.Pages.{HasRoom, Gains, Leaves}
+use Rattle.stim_report.specs.inner.Pages.{HasRoom, Gains, Leaves}
 
 -- what is written first has room
 pub room_first : {page : ReservedList ℕ} {xs : List ℕ} (ys : List ℕ) → HasRoom page (xs ++ ys) → HasRoom page xs

@@ -9,7 +9,7 @@ use Rattle.std.proofs.lemmas.List.Sums.{count_by-le-length, prefix_len_is}
 use Rattle.std.proofs.Math.Seq.{take-append_seam}
 use Rattle.kw_base.specs.Place.{capped}
 use Rattle.stim_report.specs.Cuts.{cut_at, ends_line, is_mark, parts_of, with_line_feed}
-use Rattle.stim_report.specs.Runs.{pieces_of, text_behind}
+use Rattle.stim_report.specs.inner.Runs.{pieces_of, text_behind}
 use denote.Ref.{Bor}
 
 -- the pieces of a source

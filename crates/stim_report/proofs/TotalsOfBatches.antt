@@ -9,12 +9,13 @@ use Rattle.kw_bits.specs.Reserved.{ReservedList}
 use Rattle.one_rule.specs.declared.rows.Row.{Row}
 use Rattle.typed_core.specs.Widths.{HaveWidths}
 use Rattle.stim_report.specs.Batches.{joined, last_cycle}
-use Rattle.stim_report.specs.Pages.{HasRoom}
+use Rattle.stim_report.specs.inner.Pages.{HasRoom}
 use Rattle.stim_report.specs.Report.{hex}
 use Rattle.stim_report.specs.Shapes.{RowFits, RowsFit, widths_of}
 use Rattle.stim_report.specs.Summary.{Totals, fired_count, has_fired, last_values, totals_of}
 use Rattle.stim_report.proofs.Hex.{length_hex_digits}
-use Rattle.stim_report.specs.Tallies.{AddsCounts, AreOf, KeepsTotals, kept, totals_on}
+use Rattle.stim_report.specs.Tallies.{AreOf, KeepsTotals, kept, totals_on}
+use Rattle.stim_report.specs.inner.Tallies.{AddsCounts}
 use Rattle.stim_report.specs.declared.shape.NameWidth.{NameWidth}
 use Rattle.stim_report.specs.declared.shape.Shape.{Shape}
 

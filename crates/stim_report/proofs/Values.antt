@@ -8,7 +8,7 @@ use Rattle.kw_bits.specs.Laws.{HasWidth}
 use Rattle.kw_bits.specs.Reserved.{ReservedList}
 use Rattle.typed_core.specs.Evaluation.{unit}
 use Rattle.typed_core.specs.Widths.{HaveWidths}
-use Rattle.stim_report.specs.Pages.{Leaves}
+use Rattle.stim_report.specs.inner.Pages.{Leaves}
 use Rattle.stim_report.specs.Report.{hex, registers_text, value_text}
 use Rattle.stim_report.specs.Shapes.{widths_of}
 use Rattle.stim_report.specs.declared.shape.NameWidth.{NameWidth}

@@ -8,6 +8,7 @@ use Rattle.kw_base.specs.Place.{capped}
 abbrev pub ends_line : ℕ → Bool
 ends_line b = b == 10
 
+-- a space or a tab
 abbrev pub is_blank : ℕ → Bool
 is_blank b = (b == 32) || (b == 9)
 
@@ -40,6 +41,7 @@ pub record Parts : Type 0 where
   pub stimulus : List ℕ
   pub first_line : ℕ
 
+-- a line and its line feed
 abbrev pub with_line_feed : List ℕ → List ℕ
 with_line_feed line = line ++ 10 ∷ []
 
@@ -53,6 +55,7 @@ cut_at lines (Some mark) bytes =
       first_line = capped (mark + 2);
     }
 
+-- the design before the first line `%%`, and the stimulus after it
 unfoldable pub parts_of : List ℕ → Parts
 parts_of bytes = let lines = slice_split ends_line bytes in cut_at lines (position is_mark lines) bytes
 

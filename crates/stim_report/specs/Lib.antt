@@ -1,15 +1,9 @@
 pub mod Assignments
 pub mod Batches
 pub mod Cuts
-pub mod FirstNames
-pub mod Given
-pub mod Numerals
-pub mod Pages
-pub mod Reading
 pub mod Report
-pub mod Runs
 pub mod Shapes
-pub mod Steps
 pub mod Stimuli
 pub mod Summary
 pub mod Tallies
+pub mod inner

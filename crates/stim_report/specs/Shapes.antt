@@ -14,9 +14,11 @@ use Rattle.stim_report.specs.declared.shape.Shape.{Shape}
 abbrev pub of_input : InputDecl → NameWidth
 of_input decl = record { name = decl.name; width = decl.width }
 
+-- a register's name and width
 abbrev pub of_register : RegDecl → NameWidth
 of_register decl = record { name = decl.name; width = decl.width }
 
+-- a rule's name
 abbrev pub name_of : Rule → List ℕ
 name_of rule = rule.name
 

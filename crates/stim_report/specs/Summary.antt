@@ -43,6 +43,7 @@ totals_of shape rows = record {
 abbrev pub fired_line : List ℕ → ℕ → List ℕ
 fired_line name count = codes "fired " ++ name ++ 32 ∷ decimal count ++ 10 ∷ []
 
+-- a line for each rule, with how often it fired
 abbrev pub fired_lines : List (List ℕ) → List ℕ → List ℕ
 fired_lines [] counts = []
 fired_lines (name ∷ names) [] = []
@@ -52,6 +53,7 @@ fired_lines (name ∷ names) (count ∷ counts) = fired_line name count ++ fired
 abbrev pub value_line : NameWidth → BitVector → List ℕ
 value_line register value = value_text register value ++ 10 ∷ []
 
+-- a line for each register, with its last value
 abbrev pub value_lines : List NameWidth → List BitVector → List ℕ
 value_lines [] values = []
 value_lines (register ∷ registers) [] = []

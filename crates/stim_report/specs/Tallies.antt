@@ -1,6 +1,6 @@
 -- How a tally keeps totals: a count for each rule, none above the number of cycles, and a value of its width for each
 -- register, or none yet.
-use Rattle.std.specs.Prelude.{◌≡◌, ℕ, ◌+◌, ◌-◌, ◌≤◌, ◌<◌, List, [], ◌∷◌, length, map, slice_get, slice_index, slice_index_or, Some}
+use Rattle.std.specs.Prelude.{◌≡◌, ℕ, ◌+◌, ◌-◌, ◌≤◌, ◌<◌, List, ◌∷◌, length, map, slice_get, slice_index, slice_index_or, Some}
 use Rattle.std.specs.List.{range_with_len}
 use Rattle.kw_bits.specs.BitVector.{BitVector}
 use Rattle.kw_bits.specs.Laws.{HasWidth}
@@ -20,11 +20,6 @@ pub record KeepsTotals (registers : List NameWidth) (rules : List (List ℕ)) (c
   pub values : AreOf registers last
   pub few : length last ≤ length registers
   pub room_for_all : length registers ≤ room
-
--- to each rule's count is added in how many cycles of the rows it fired
-pub record AddsCounts (old new : List ℕ) (rows : List Row) : Type 0 where
-  pub count : length new ≡ length old
-  pub added : (rule : ℕ) → rule < length old → slice_index new rule ≡ slice_index old rule + fired_count rows rule
 
 -- the values that are kept when rows come: those of the last row, unless it is the one that the values are of
 abbrev pub kept : List BitVector → List Row → List BitVector

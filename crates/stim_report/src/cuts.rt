@@ -5,7 +5,7 @@ ghost use Rattle.std.specs.Prelude.{◌≡◌, ◌+◌, ◌<◌, ◌++◌, ◌�
 ghost use Rattle.std.specs.List.{AllPass, slice_split};
 ghost use Rattle.stim_report.specs.Cuts as cuts;
 ghost use Rattle.stim_report.specs.Cuts.{ends_line, lines_of, words_from};
-ghost use Rattle.stim_report.specs.Runs.{bytes_behind, is_of, pieces_of, StopsAt};
+ghost use Rattle.stim_report.specs.inner.Runs.{bytes_behind, is_of, pieces_of, StopsAt};
 
 /// A class of bytes that follow one another.
 #[derive(Clone, Copy, Debug, PartialEq, Eq)]

@@ -2,9 +2,9 @@
 
 // The rules that fired.
 ghost use Rattle.std.specs.Prelude.{◌≡◌, ◌≤◌, ◌&&◌, not, length};
-ghost use Rattle.stim_report.specs.Pages.{Gains, HasRoom};
+ghost use Rattle.stim_report.specs.inner.Pages.{Gains, HasRoom};
 ghost use Rattle.stim_report.specs.Report.{fired_names, listed};
-ghost use Rattle.stim_report.specs.Steps.{separated, shown};
+ghost use Rattle.stim_report.specs.inner.Steps.{separated, shown};
 
 use crate::page::{push, push_all};
 use kw_bits::{Reserved, Text};

@@ -2,7 +2,7 @@
 
 // Which inputs a line assigns.
 ghost use Rattle.std.specs.Prelude.{◌≡◌, ◌<◌, IfOk, [], length};
-ghost use Rattle.stim_report.specs.Given.{AreGiven};
+ghost use Rattle.stim_report.specs.inner.Given.{AreGiven};
 
 use kw_bits::{Bits, NoMemory};
 use std::alloc::Global;

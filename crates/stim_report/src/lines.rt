@@ -1,7 +1,7 @@
 //! Reports: the report of a run, and of a part of one.
 
 ghost use Rattle.std.specs.Prelude.{◌≡◌, ◌<◌, ◌+◌, ◌^◌, IfOk, length};
-ghost use Rattle.stim_report.specs.Pages.{Gains, HasRoom};
+ghost use Rattle.stim_report.specs.inner.Pages.{Gains, HasRoom};
 ghost use Rattle.stim_report.specs.Report as texts;
 ghost use Rattle.stim_report.specs.Shapes.{RowFits, RowsFit};
 

@@ -4,7 +4,7 @@
 ghost use Rattle.std.specs.Prelude.{◌≡◌, ◌≤◌, ◌<◌, ◌+◌, ◌^◌, ◌++◌, ◌∷◌, [], List, IfOk, OnOk, length};
 ghost use Rattle.kw_base.specs.Names.{AreNumbered, number_of};
 ghost use Rattle.stim_report.specs.Assignments.{input_of};
-ghost use Rattle.stim_report.specs.FirstNames.{AreFirst};
+ghost use Rattle.stim_report.specs.inner.FirstNames.{AreFirst};
 ghost use Rattle.stim_report.specs.declared.shape.NameWidth.{NameWidth as NamedInput};
 
 use crate::NameWidth;

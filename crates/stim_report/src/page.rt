@@ -2,7 +2,7 @@
 
 // A text that has its memory beforehand.
 ghost use Rattle.std.specs.Prelude.{◌∷◌, [], decimal};
-ghost use Rattle.stim_report.specs.Pages.{Gains, HasRoom};
+ghost use Rattle.stim_report.specs.inner.Pages.{Gains, HasRoom};
 
 use itoa::Buffer;
 use kw_bits::Reserved;

@@ -3,7 +3,7 @@
 // The values of registers.
 ghost use Rattle.std.specs.Prelude.{◌≡◌, ◌<◌, ◌≤◌, ◌/◌, ◌%◌, ◌^◌, ◌∷◌};
 ghost use Rattle.kw_bits.specs.Laws.{HasWidth};
-ghost use Rattle.stim_report.specs.Pages.{Gains, HasRoom};
+ghost use Rattle.stim_report.specs.inner.Pages.{Gains, HasRoom};
 ghost use Rattle.stim_report.specs.Report.{hex, hex_digit, hex_digits, registers_text, value_text};
 ghost use Rattle.stim_report.specs.Shapes.{widths_of};
 ghost use Rattle.typed_core.specs.Widths.{HaveWidths};

@@ -5,7 +5,7 @@ ghost use Rattle.std.specs.Prelude.{◌≡◌, ◌+◌, ◌/◌, ◌≤◌, ◌<
 ghost use Rattle.kw_bits.specs.BitVector.{BitVector};
 ghost use Rattle.stim_report.specs.Report.{fired_names, lines_from, listed, registers_text};
 ghost use Rattle.stim_report.specs.Shapes.{RowsFit};
-ghost use Rattle.stim_report.specs.Steps.{shown};
+ghost use Rattle.stim_report.specs.inner.Steps.{shown};
 
 use crate::{NameWidth, Shape};
 use kw_bits::Text;

@@ -4,7 +4,7 @@ ghost use Rattle.std.specs.Prelude.{◌≡◌, ◌≤◌, ◌+◌, length};
 ghost use Rattle.kw_base.specs.Place.{capped};
 ghost use Rattle.stim_report.specs.Cuts as cuts;
 ghost use Rattle.stim_report.specs.Cuts.{parts_of};
-ghost use Rattle.stim_report.specs.Runs.{text_behind};
+ghost use Rattle.stim_report.specs.inner.Runs.{text_behind};
 
 use crate::cuts::{split_line, without_return};
 

@@ -4,9 +4,9 @@ ghost use Rattle.std.specs.Prelude.{◌≡◌, ◌+◌, ◌<◌, ◌^◌, List, 
 ghost use Rattle.kw_base.specs.Fault.{IfFault};
 ghost use Rattle.one_rule.specs.Stimulus.{Assignment as AssignmentOf, Assigns, IsLine};
 ghost use Rattle.stim_report.specs.Assignments.{assignment_of, behind_equals, name_and_value};
-ghost use Rattle.stim_report.specs.FirstNames.{AreFirst};
-ghost use Rattle.stim_report.specs.Given.{AreGiven};
-ghost use Rattle.stim_report.specs.Reading.{ReadsWord};
+ghost use Rattle.stim_report.specs.inner.FirstNames.{AreFirst};
+ghost use Rattle.stim_report.specs.inner.Given.{AreGiven};
+ghost use Rattle.stim_report.specs.inner.Reading.{ReadsWord};
 ghost use Rattle.stim_report.specs.Shapes.{widths_of};
 ghost use Rattle.stim_report.specs.Stimuli as texts;
 ghost use Rattle.stim_report.specs.Stimuli.{at_place, stimulus_of};

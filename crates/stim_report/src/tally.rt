@@ -9,7 +9,8 @@ ghost use Rattle.stim_report.specs.Report.{hex};
 ghost use Rattle.stim_report.specs.Shapes.{RowFits, RowsFit};
 ghost use Rattle.stim_report.specs.Summary as texts;
 ghost use Rattle.stim_report.specs.Summary.{fired_line, fired_lines, has_fired, last_values, totals_of, totals_text, value_line, value_lines};
-ghost use Rattle.stim_report.specs.Tallies.{AddsCounts, AreOf, kept, totals_on};
+ghost use Rattle.stim_report.specs.Tallies.{AreOf, kept, totals_on};
+ghost use Rattle.stim_report.specs.inner.Tallies.{AddsCounts};
 ghost use Rattle.stim_report.specs.declared.shape.Shape.{Shape as ShapeOf};
 
 use crate::registers::push_hex;

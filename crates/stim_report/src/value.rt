@@ -7,7 +7,7 @@ ghost use Rattle.std.specs.List.{list_all};
 ghost use Rattle.std.specs.Option.{SomeIff};
 ghost use Rattle.std.specs.Str.Parse.{IsNumeral, digits_value};
 ghost use Rattle.stim_report.specs.Assignments as texts;
-ghost use Rattle.stim_report.specs.Numerals.{IsBase};
+ghost use Rattle.stim_report.specs.inner.Numerals.{IsBase};
 ghost use Rattle.typed_core.specs.Valid.{IsWidth};
 
 use kw_bits::Bits;

@@ -6,7 +6,8 @@ use Rattle.std.proofs.lemmas.Bool.{cases_lt}
 use Rattle.std.proofs.lemmas.List.{get_or_past, get_or-replicate}
 use Rattle.std.proofs.Math.ListN.{length-replicate}
 use Rattle.std.proofs.lemmas.Option.{slice_get_within}
-use Rattle.typed_core.specs.Paths.{AreMost, Ascends, IsTriedOnce, tries, times, IsMost, number_behind}
+use Rattle.typed_core.specs.Paths.{Ascends}
+use Rattle.typed_core.specs.inner.Paths.{AreMost, IsTriedOnce, tries, times, IsMost, number_behind}
 use Rattle.typed_core.specs.Valid.{AreNodes, TriesNoneTwice, IsContinuation, IsPath, TryOthers}
 use Rattle.typed_core.specs.declared.design.Node.{Node}
 use Rattle.typed_core.specs.declared.design.Next.{Next}

@@ -6,7 +6,8 @@ use Rattle.std.proofs.lemmas.Option.{slice_get_within}
 use Rattle.kw_bits.specs.BitVector.{BitVector}
 use Rattle.kw_bits.specs.Laws.{HasWidth}
 use Rattle.typed_core.specs.Evaluation.{Ending, Environment, Externs, Ports, Value, evaluate, unit}
-use Rattle.typed_core.specs.Fits.{CanBeOperand, CanEvaluate, EnvironmentFits, EventsFit, PortsFit}
+use Rattle.typed_core.specs.Fits.{CanEvaluate, EnvironmentFits, EventsFit, PortsFit}
+use Rattle.typed_core.specs.inner.Fits.{CanBeOperand}
 use Rattle.typed_core.specs.Valid.{ActionHasWidth, Declarations, HostHasWidth, IsPort, IsWidth, TableHasWidth, TakesTwo, TwoHasWidth}
 use Rattle.typed_core.specs.Widths.{HaveWidths}
 use Rattle.typed_core.specs.declared.access.Event.{Event}

@@ -8,7 +8,8 @@ use Rattle.kw_bits.specs.Operators as op
 use Rattle.typed_core.specs.Evaluation.{answer_of, bind, entry_of, evaluate, Ending, Environment, Externs, Part, Ports, Progress, Stop, Value, unit}
 use Rattle.typed_core.specs.Alone.{alone, is_refused, alone_ports}
 use Rattle.typed_core.specs.Fits.{EndingFits, EnvironmentFits, EventsFit, PortsFit, ProgressFits, ValueFits}
-use Rattle.typed_core.specs.Valid.{ActionHasWidth, Declarations, IsOperand, IsPort, IsTyped, IsWidth}
+use Rattle.typed_core.specs.Valid.{ActionHasWidth, Declarations, IsPort, IsTyped, IsWidth}
+use Rattle.typed_core.specs.inner.Valid.{IsOperand}
 use Rattle.typed_core.specs.Widths.{HaveWidths}
 use Rattle.typed_core.specs.declared.access.Access.{Access}
 use Rattle.typed_core.specs.declared.access.Event.{Event}

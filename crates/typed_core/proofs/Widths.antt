@@ -3,7 +3,7 @@ use Rattle.std.proofs.Common.{◌≡◌, ℕ, ◌+◌, ◌-◌, ◌≤◌, ◌<�
 use Rattle.std.specs.Prelude.{◌⊎◌, slice_get}
 use Rattle.kw_bits.specs.Host as host
 use Rattle.typed_core.proofs.WidthLists.{found-same}
-use Rattle.typed_core.specs.Finds.{Finds}
+use Rattle.typed_core.specs.inner.Finds.{Finds}
 use Rattle.typed_core.specs.Valid.{ActionHasWidth, Declarations, HostHasWidth, IsPort, OneHasWidth, TableHasWidth, TwoHasWidth}
 use Rattle.typed_core.specs.declared.action.OneOp.{OneOp}
 use Rattle.typed_core.specs.declared.action.OneOp.TheVariants.{Not, Neg, RedAnd, RedOr, RedXor}

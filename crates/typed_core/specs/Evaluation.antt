@@ -85,6 +85,7 @@ apply_one RedAnd a = op.redand a
 apply_one RedOr a = op.redor a
 apply_one RedXor a = op.redxor a
 
+-- the value of an operator on two operands
 abbrev pub apply_two : TwoOp → BitVector → BitVector → BitVector
 apply_two And a b = op.and a b
 apply_two Or a b = op.or a b

@@ -5,7 +5,7 @@ use Rattle.std.specs.List.{AllByRecursion}
 use Rattle.kw_bits.specs.BitVector.{BitVector, IsBits}
 use Rattle.kw_bits.specs.Laws.{HasWidth}
 use Rattle.typed_core.specs.Evaluation.{Ending, Value, Stop, Progress, Part, Environment, Ports}
-use Rattle.typed_core.specs.Valid.{Declarations, IsHost, IsOperand, IsPort, IsTable, IsTyped, IsWidth}
+use Rattle.typed_core.specs.Valid.{Declarations, IsHost, IsPort, IsTable, IsTyped, IsWidth}
 use Rattle.typed_core.specs.Widths.{HaveWidths}
 use Rattle.typed_core.specs.declared.access.Event.{Event}
 use Rattle.typed_core.specs.declared.action.Action.{Action}
@@ -22,15 +22,12 @@ pub record EnvironmentFits (d : Declarations) (env : Environment) : Type 0 where
 abbrev pub CanEvaluate : Declarations → Action → List BitVector → Type 0
 CanEvaluate d action values = (widths : List ℕ) × HaveWidths widths values × IsTyped d action widths
 
--- and has a value unless the rule ends in it
-abbrev pub CanBeOperand : Declarations → Action → List BitVector → Type 0
-CanBeOperand d action values = (widths : List ℕ) × HaveWidths widths values × IsOperand d action widths
-
 -- with registers of these widths, the event is at a port of one of them, and its value has that register's width
 pub record EventFits (widths : List ℕ) (e : Event) : Type 0 where
   pub port : IsPort e.access.port
   pub value : (width : ℕ) × (slice_get widths e.access.register ≡ Some width) × HasWidth e.value width
 
+-- each event fits
 abbrev pub EventsFit : List ℕ → List Event → Type 0
 EventsFit widths events = AllByRecursion (EventFits widths) events
 

@@ -5,7 +5,7 @@ pub mod Widths
 pub mod Valid
 pub mod Fits
 pub mod Scope
-pub mod Finds
 pub mod Paths
 pub mod Laws
 pub mod Same
+pub mod inner

@@ -1,6 +1,6 @@
 -- Which designs are valid: the conditions on a design's parts that its type keeps, after the typing of
 -- Kôika's core (Bourgeat et al., PLDI 2020) at bit vectors of 1 to 128 bits. It says nothing of how large a body is.
-use Rattle.std.specs.Prelude.{◌≡◌, ℕ, ◌+◌, ◌-◌, ◌<◌, ◌≤◌, ◌⊎◌, List, [], ◌∷◌, length, All, AllPairs, slice_get, Some, ◌≢◌}
+use Rattle.std.specs.Prelude.{◌≡◌, ℕ, ◌+◌, ◌-◌, ◌<◌, ◌≤◌, ◌⊎◌, List, ◌∷◌, length, All, AllPairs, slice_get, Some, ◌≢◌}
 use Rattle.kw_bits.specs.BitVector.{BitVector}
 use Rattle.kw_bits.specs.Host as host
 use Rattle.kw_bits.specs.Laws.{HasWidth}
@@ -38,6 +38,7 @@ pub record Declarations : Type 0 where
   pub inputs : List ℕ
   pub externs : Externs
 
+-- the tables and the host functions that a design declares
 abbrev pub externs_of : Parts → Externs
 externs_of design = record { tables = design.tables; hosts = design.hosts }
 
@@ -116,10 +117,6 @@ ActionHasWidth d action.Abort locals width = width ≡ 0
 -- the action is typed: it has a width, which is 0 for one that has no value
 abbrev pub IsTyped : Declarations → Action → List ℕ → Type 0
 IsTyped d action locals = (width : ℕ) × ActionHasWidth d action locals width
-
--- the action may be an operand: it has a value
-abbrev pub IsOperand : Declarations → Action → List ℕ → Type 0
-IsOperand d action locals = (width : ℕ) × ActionHasWidth d action locals width × (1 ≤ width)
 
 -- a register's first value has its width
 abbrev pub IsRegister : RegDecl → Type 0

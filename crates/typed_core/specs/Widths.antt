@@ -16,5 +16,6 @@ pub record HaveWidths (widths : List ℕ) (values : List BitVector) : Type 0 whe
 abbrev pub register_widths : Parts → List ℕ
 register_widths design = map (λ (decl : RegDecl). decl.width) design.regs
 
+-- the widths of a design's inputs
 abbrev pub input_widths : Parts → List ℕ
 input_widths design = map (λ (decl : InputDecl). decl.width) design.inputs

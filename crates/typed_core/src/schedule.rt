@@ -1,7 +1,8 @@
 //! Core: the check that no rule is scheduled twice on a path.
 
 ghost use Rattle.std.specs.Prelude.{◌≡◌, ◌+◌, ◌<◌, ◌≤◌, ◌↔◌, IsTrue, length};
-ghost use Rattle.typed_core.specs.Paths.{AreMost, Ascends, IsMost, number_behind};
+ghost use Rattle.typed_core.specs.Paths.{Ascends};
+ghost use Rattle.typed_core.specs.inner.Paths.{AreMost, IsMost, number_behind};
 ghost use Rattle.typed_core.specs.Valid.{AreNodes, IsContinuation, TriesNoneTwice};
 
 use crate::design::{Next, Node};

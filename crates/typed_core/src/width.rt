@@ -1,7 +1,7 @@
 //! Core: the width of an action's value.
 
 ghost use Rattle.std.specs.Prelude.{◌≡◌, ◌+◌, ◌-◌, ◌≤◌, ◌<◌, slice_get, Some};
-ghost use Rattle.typed_core.specs.Finds.{Finds};
+ghost use Rattle.typed_core.specs.inner.Finds.{Finds};
 ghost use Rattle.typed_core.specs.Widths.{input_widths, register_widths};
 ghost use Rattle.typed_core.specs.Valid.{ActionHasWidth, declarations, HostHasWidth, IsPort, OneHasWidth, TableHasWidth, TwoHasWidth};
 

@@ -2,7 +2,7 @@
 use Rattle.std.specs.Prelude.{◌≡◌, ℕ, List, sum}
 use Rattle.clause_check.specs.Clauses.{Clause}
 use Rattle.aig_blast.specs.Aigs.{AigParts, IsAig, input_widths}
-use Rattle.invariant_check.specs.Kept.{IsClaim}
+use Rattle.invariant_check.specs.inner.Kept.{IsClaim}
 use Rattle.invariant_check.specs.Obligations.{claimed_lits, needed_in, next_lits, top_of}
 use Rattle.invariant_check.specs.declared.obligations.Parts.{Parts}
 

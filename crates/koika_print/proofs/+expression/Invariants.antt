@@ -1,8 +1,8 @@
 use Rattle.std.proofs.Common.{map, take}
-use Rattle.koika_syntax.specs.Grammar.{arm_leaves, expression_leaves, field_value_leaves, operand_leaves, statement_leaves}
+use Rattle.koika_syntax.specs.inner.Grammar.{arm_leaves, expression_leaves, field_value_leaves, operand_leaves, statement_leaves}
 use Rattle.koika_syntax.specs.Tree.{all_of, commas, joined, word}
 use Rattle.koika_syntax.specs.declared.keyword.Keyword.TheVariants as keywords
-use Rattle.koika_print.specs.Printed.{Prints}
+use Rattle.koika_print.specs.inner.Printed.{Prints}
 use Rattle.koika_print.proofs.+expression.Given as goal
 
 abbrev pub invariant-expressions::arm_run-loop-number : goal.invariant-expressions::arm_run-loop-number

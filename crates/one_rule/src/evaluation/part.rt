@@ -4,12 +4,13 @@ ghost use Rattle.std.specs.Prelude.{◌≡◌, ◌<◌, ◌≤◌, ℕ, ◌∷�
 ghost use Rattle.kw_bits.specs.Laws.{HasWidth};
 ghost use Rattle.kw_bits.specs.Operators as op;
 ghost use Rattle.typed_core.specs.Evaluation as core;
-ghost use Rattle.typed_core.specs.Fits.{CanBeOperand, CanEvaluate, EnvironmentFits};
+ghost use Rattle.typed_core.specs.Fits.{CanEvaluate, EnvironmentFits};
+ghost use Rattle.typed_core.specs.inner.Fits.{CanBeOperand};
 ghost use Rattle.typed_core.specs.Valid.{ActionHasWidth, HostHasWidth, IsPort, TableHasWidth};
 ghost use Rattle.typed_core.specs.Widths.{HaveWidths};
 ghost use Rattle.typed_core.specs.declared.access.Event.{Event};
 ghost use Rattle.one_rule.specs.Answers.{declarations_of, environment_of};
-ghost use Rattle.one_rule.specs.Parts.{AreOperands, AreReady, HasBody, HasOperand, Leaves, LeavesValue, OnTrue, bind};
+ghost use Rattle.one_rule.specs.inner.Parts.{AreOperands, AreReady, HasBody, HasOperand, Leaves, LeavesValue, OnTrue, bind};
 
 use super::{Environment, Interrupt, Outside, Ports};
 use kw_bits::Bits;

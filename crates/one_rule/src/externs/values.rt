@@ -3,7 +3,7 @@
 ghost use Rattle.std.specs.Prelude.{◌≡◌, ◌+◌, ◌<◌, ◌≤◌, ◌^◌, ℕ, length, IfOk};
 ghost use Rattle.kw_bits.specs.Host as host;
 ghost use Rattle.host_fn.specs.Stored.{spec_of};
-ghost use Rattle.one_rule.specs.Hosts.{value_at};
+ghost use Rattle.one_rule.specs.inner.Hosts.{value_at};
 
 use host_fn::HostFn;
 use kw_bits::{Bits, NoMemory, Sequence};
@@ -20,7 +20,7 @@ pub struct HostValues {
 
 impl Model for HostValues {
     ghost use Rattle.kw_bits.specs.declared.host.HostSpec.{HostSpec};
-    ghost use Rattle.one_rule.specs.Hosts.{AreValues};
+    ghost use Rattle.one_rule.specs.inner.Hosts.{AreValues};
 
     ghost Value = { HostSpec };
 

@@ -3,7 +3,8 @@
 // Lines of assignments, in ascending order of the inputs.
 ghost use Rattle.std.specs.Prelude.{◌≡◌, All, IsTrue, ◌↔◌, IfOk};
 ghost use Rattle.typed_core.specs.Valid.{IsWidth};
-ghost use Rattle.one_rule.specs.KeptLines.{AgreesWith, IsAscending};
+ghost use Rattle.one_rule.specs.KeptLines.{IsAscending};
+ghost use Rattle.one_rule.specs.inner.KeptLines.{AgreesWith};
 ghost use Rattle.one_rule.specs.Stimulus.{inputs_by, value_by};
 
 use crate::rows::Inputs;

@@ -11,7 +11,7 @@ use Rattle.typed_core.specs.declared.outcome.Stopped.{Stopped}
 use Rattle.one_rule.specs.Externs.{kept}
 use Rattle.one_rule.proofs.Fitting.{HaveWidths-own, widths-same}
 use Rattle.rule_log.specs.StandsFor.{RegisterLog, StandsFor}
-use Rattle.action_interp.specs.ByLog.{IsRunning, ports_by, widths_of}
+use Rattle.action_interp.specs.inner.ByLog.{IsRunning, ports_by, widths_of}
 use Rattle.action_interp.specs.Runs.{end_of}
 use Rattle.action_interp.proofs.ByLog.{PortsFit-by}
 use Rattle.action_interp.proofs.Runs.{ended, run_follows, runs_alike}

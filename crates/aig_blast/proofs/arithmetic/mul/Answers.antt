@@ -2,6 +2,7 @@ use Rattle.std.proofs.Common.{◌≡◌, ◌<◌, ◌≤◌, Bool, false, List, 
 use Rattle.std.proofs.lemmas.List.{length-replicate}
 use Rattle.aig_blast.specs.BitLists.{as_bits}
 use Rattle.aig_blast.specs.Steps as step
+use Rattle.aig_blast.specs.inner.Steps as inner_step
 use Rattle.aig_blast.proofs.Formulas.{mul-formula}
 use Rattle.aig_blast.specs.Words.{word}
 use Rattle.aig_blast.proofs.Making.{Makes-element, MakesWord-as, MakesWord-given, MakesWord-kept, width}
@@ -15,7 +16,7 @@ loop-k-init c =
     let a = c.args.a.now in
     let zeros : c.in_ok-product.product.items ≡ replicate (length a) 0 = search rules in
     record {
-      so_far = MakesWord-as _ (λ i. ap step.zeros (sym (width i g a))) (MakesWord-zeros g (length a) zeros);
+      so_far = MakesWord-as _ (λ i. ap inner_step.zeros (sym (width i g a))) (MakesWord-zeros g (length a) zeros);
       width = ap length zeros ∙ length-replicate (length a) 0;
     }
 
@@ -43,10 +44,10 @@ loop-k-preserved c =
     record {
       so_far =
           MakesWord-as _
-          (λ i. ap (step.sum_after false (step.product_after (word i g a) (word i g b) k) (step.gated (step.bit_of (word i g b) k) (step.up k (word i g a)))) (sym (MakesWord-width i before))
-          ∙ more (step.product_after (word i g a) (word i g b)) k)
+          (λ i. ap (step.sum_after false (inner_step.product_after (word i g a) (word i g b) k) (step.gated (step.bit_of (word i g b) k) (inner_step.up k (word i g a)))) (sym (MakesWord-width i before))
+          ∙ more (inner_step.product_after (word i g a) (word i g b)) k)
           sum;
-      width = sum-width (length c.deref-in-loop-k.result.now) (λ i. false) (λ i. step.product_after (word i g a) (word i g b) k) (λ i. step.gated (step.bit_of (word i g b) k) (step.up k (word i g a))) sum ∙ ap length c.deref-in-loop-k.ensures.value ∙ c.loop-k.invariant.width;
+      width = sum-width (length c.deref-in-loop-k.result.now) (λ i. false) (λ i. inner_step.product_after (word i g a) (word i g b) k) (λ i. step.gated (step.bit_of (word i g b) k) (inner_step.up k (word i g a))) sum ∙ ap length c.deref-in-loop-k.ensures.value ∙ c.loop-k.invariant.width;
     }
 
 pub returns : goal.returns
@@ -55,4 +56,4 @@ returns c =
     let a = c.args.a.now in
     let b = c.args.b.now in
     let all : (i : List Bool) → c.loop-k.k ≡ length (word i g b) = λ i. rw width (omega arith) in
-    MakesBits-from _ (λ i. ap (λ k. as_bits (step.product_after (word i g a) (word i g b) k)) (all i) ∙ mul-formula (word i g a) (word i g b)) c.loop-k.invariant.so_far
+    MakesBits-from _ (λ i. ap (λ k. as_bits (inner_step.product_after (word i g a) (word i g b) k)) (all i) ∙ mul-formula (word i g a) (word i g b)) c.loop-k.invariant.so_far

@@ -1,5 +1,5 @@
 use Rattle.std.proofs.Common.{◌≡◌, length}
-use Rattle.aig_blast.specs.Steps.{product_after}
+use Rattle.aig_blast.specs.inner.Steps.{product_after}
 use Rattle.aig_blast.specs.Words.{MakesWord, word}
 use Rattle.aig_blast.proofs.arithmetic.mul.Given as goal
 

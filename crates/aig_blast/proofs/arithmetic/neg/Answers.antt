@@ -2,6 +2,7 @@ use Rattle.std.proofs.Common.{◌≡◌, true, false, not, length, map, replicat
 use Rattle.std.proofs.lemmas.List.{length-replicate}
 use Rattle.aig_blast.specs.BitLists.{as_bits}
 use Rattle.aig_blast.specs.Steps as step
+use Rattle.aig_blast.specs.inner.Steps as inner_step
 use Rattle.aig_blast.proofs.Formulas.{neg-formula}
 use Rattle.aig_blast.proofs.Values.{Keeps-refl}
 use Rattle.aig_blast.specs.Words.{word}
@@ -22,6 +23,6 @@ returns c =
     let sum = MakesWord-by (λ x p q. step.sum_after x p q (length c.deref.result.now)) (Makes-true (Keeps-refl g)) nothing inverse c.in_ok-sum.ensures.sum in
     let wide = ap length (c.deref.ensures.value ∙ zeros) ∙ length-replicate (length a) 0 in
     MakesBits-from _
-    (λ i. ap₂ (λ n m. as_bits (step.sum_after true (step.zeros n) (map not (word i g a)) m)) (sym (width i g a)) (wide ∙ sym (width i g a) ∙ sym (length-replicate (length (word i g a)) false))
+    (λ i. ap₂ (λ n m. as_bits (step.sum_after true (inner_step.zeros n) (map not (word i g a)) m)) (sym (width i g a)) (wide ∙ sym (width i g a) ∙ sym (length-replicate (length (word i g a)) false))
     ∙ neg-formula (word i g a))
     sum

@@ -5,7 +5,7 @@ use Rattle.circuit_eval.specs.declared.circuit.StateWire.{StateWire}
 use Rattle.circuit_eval.specs.declared.circuit.Wires.{Wires}
 use Rattle.aig_blast.specs.Aigs.{IsAig}
 use Rattle.aig_blast.specs.Blasted.{HasWires, RunsAs}
-use Rattle.aig_blast.specs.Nodes.{input_word, latch_word, output_bits}
+use Rattle.aig_blast.specs.inner.Nodes.{input_word, latch_word, output_bits}
 use Rattle.aig_blast.proofs.Blasting.{has-wires, is-aig, nexts-within, outputs-within, parts-same, runs-as}
 use Rattle.aig_blast.proofs.circuit.blast.Goals as goal
 

@@ -1,6 +1,6 @@
 use Rattle.std.proofs.Common.{ℕ, sym, ap, ap₂, ◌∙◌, ◌++◌, ◌∷◌, [], List}
 use Rattle.std.proofs.lemmas.List.{map_more}
-use Rattle.aig_blast.specs.Nodes.{input_word}
+use Rattle.aig_blast.specs.inner.Nodes.{input_word}
 use Rattle.aig_blast.specs.declared.aig.InputWord.{InputWord}
 use Rattle.aig_blast.proofs.circuit.input_words.Goals as goal
 

@@ -1,5 +1,5 @@
 use Rattle.std.proofs.Common.{◌≡◌, map, take}
-use Rattle.aig_blast.specs.Nodes.{latch_word}
+use Rattle.aig_blast.specs.inner.Nodes.{latch_word}
 use Rattle.aig_blast.proofs.circuit.latch_words.Given as goal
 
 abbrev pub invariant-loop-wire : goal.invariant-loop-wire

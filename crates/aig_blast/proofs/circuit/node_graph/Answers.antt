@@ -4,7 +4,7 @@ use Rattle.net_graph.specs.declared.node.NetOp.{NetOp}
 use Rattle.circuit_eval.specs.Circuits.{IsCircuit}
 use Rattle.circuit_eval.specs.declared.circuit.Wires.{Wires}
 use Rattle.aig_blast.specs.Graphs.{Gates, IsGraph}
-use Rattle.aig_blast.specs.Nodes.{lengths}
+use Rattle.aig_blast.specs.inner.Nodes.{lengths}
 use Rattle.aig_blast.proofs.Blasting.{AreWords-inputs, AreWords-states, made-by, reads-words}
 use Rattle.aig_blast.proofs.NodeWords.{MakesNodes-as}
 use Rattle.aig_blast.proofs.circuit.node_graph.Goals as goal

@@ -2,7 +2,7 @@ use Rattle.std.proofs.Common.{◌≡◌, ◌+◌, ap, ap₂, ◌∙◌, arith}
 use Rattle.std.specs.Prelude.{sum}
 use Rattle.circuit_eval.specs.Circuits.{input_widths, state_widths}
 use Rattle.circuit_eval.specs.declared.circuit.Wires.{Wires}
-use Rattle.aig_blast.specs.Sources.{source_words}
+use Rattle.aig_blast.specs.inner.Sources.{source_words}
 use Rattle.aig_blast.proofs.circuit.words_of_sources.Goals as goal
 
 pub returns : goal.returns

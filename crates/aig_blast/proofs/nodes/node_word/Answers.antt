@@ -3,7 +3,7 @@ use Rattle.std.proofs.lemmas.List.{length-map}
 use Rattle.net_graph.specs.Nets.{Stands}
 use Rattle.net_graph.specs.Values.{op_value}
 use Rattle.net_graph.specs.declared.node.NetOp.TheVariants.{Ite, Sext, Uext}
-use Rattle.aig_blast.specs.Nodes.{lengths, sources_of, words_bits}
+use Rattle.aig_blast.specs.inner.Nodes.{lengths, sources_of, words_bits}
 use Rattle.aig_blast.specs.Words.{AreLits}
 use Rattle.aig_blast.proofs.NodeWords.{ite-at, length-word_at, MakesBits-as, sext-at, uext-at, word-item}
 use Rattle.aig_blast.proofs.nodes.node_word.Goals as goal

@@ -2,7 +2,7 @@ use Rattle.std.proofs.Common.{◌≡◌, ℕ, ◌<◌, ◌≤◌, List, [], ◌�
 use Rattle.net_graph.specs.Nets.{Stands}
 use Rattle.net_graph.specs.Values.{op_value}
 use Rattle.net_graph.specs.declared.node.NetOp.{NetOp}
-use Rattle.aig_blast.specs.Nodes.{lengths, sources_of, words_bits}
+use Rattle.aig_blast.specs.inner.Nodes.{lengths, sources_of, words_bits}
 use Rattle.aig_blast.specs.Words.{MakesBits}
 use Rattle.aig_blast.proofs.NodeWords.{MakesNodes-all, MakesNodes-at, MakesNodes-push, stands-next}
 use Rattle.aig_blast.proofs.nodes.node_words.Goals as goal

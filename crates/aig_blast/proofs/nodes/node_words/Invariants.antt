@@ -1,6 +1,6 @@
 use Rattle.std.proofs.Common.{take}
 use Rattle.net_graph.specs.Values.{values_of}
-use Rattle.aig_blast.specs.Nodes.{MakesNodes}
+use Rattle.aig_blast.specs.inner.Nodes.{MakesNodes}
 use Rattle.aig_blast.proofs.nodes.node_words.Given as goal
 
 -- the words so far are those of the first nodes

@@ -5,7 +5,8 @@ use Rattle.aig_blast.proofs.Formulas.{redand-formula, redor-formula, redxor-form
 use Rattle.aig_blast.specs.Graphs.{value}
 use Rattle.aig_blast.specs.Graphs.{Gates}
 use Rattle.aig_blast.proofs.Gates.{value-false, value-true}
-use Rattle.aig_blast.specs.Words.{word, bits, pair_value, reduced_bits, start_lit}
+use Rattle.aig_blast.specs.Words.{word, bits, pair_value, reduced_bits}
+use Rattle.aig_blast.specs.inner.Words.{start_lit}
 use Rattle.aig_blast.specs.declared.bitwise.Pair.{Pair}
 use Rattle.aig_blast.specs.declared.bitwise.Pair.TheVariants.{And, Or, Xor}
 use Rattle.aig_blast.proofs.Making.{width}

@@ -1,5 +1,5 @@
 use Rattle.std.proofs.Common.{◌≡◌, ◌^◌, length, min}
-use Rattle.aig_blast.specs.Steps.{down_after}
+use Rattle.aig_blast.specs.inner.Steps.{down_after}
 use Rattle.aig_blast.specs.Graphs.{value}
 use Rattle.aig_blast.specs.Words.{MakesWord, word}
 use Rattle.aig_blast.proofs.shifts.down.Given as goal

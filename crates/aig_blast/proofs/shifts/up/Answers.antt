@@ -1,5 +1,6 @@
 use Rattle.std.proofs.Common.{◌≡◌, ◌<◌, ◌≤◌, ◌^◌, min, length, get_or, sym, ap, ◌∙◌, arith}
 use Rattle.aig_blast.specs.Steps as step
+use Rattle.aig_blast.specs.inner.Steps as inner_step
 use Rattle.aig_blast.specs.Words.{word}
 use Rattle.aig_blast.proofs.Making.{Makes-element, MakesWord-as}
 use Rattle.aig_blast.proofs.StepsMore.{more}
@@ -25,9 +26,9 @@ loop-y-preserved c =
       so_far =
           MakesWord-as _
           (λ i.
-          let zs = step.up_after (word i g a) (word i g b) k in
+          let zs = inner_step.up_after (word i g a) (word i g b) k in
           let places : c.loop-y.amount ≡ min (2 ^ k) (length zs) = c.loop-y.invariant.places ∙ ap (min (2 ^ k)) (sym (MakesWord-width i made ∙ wide)) in
-          ap (λ ws. step.choose (step.bit_of (word i g b) k) ws zs) (ap (λ n. step.up n zs) places ∙ up-min (2 ^ k) zs) ∙ more (step.up_after (word i g a) (word i g b)) k)
+          ap (λ ws. step.choose (step.bit_of (word i g b) k) ws zs) (ap (λ n. inner_step.up n zs) places ∙ up-min (2 ^ k) zs) ∙ more (inner_step.up_after (word i g a) (word i g b)) k)
           chosen;
       width = choose-width (get_or b k 0) c.deref-in-loop-y.result.now c.deref-in-loop-y-2.result.now same c.in_ok-chosen.ensures ∙ ap length c.deref-in-loop-y-2.ensures.value ∙ c.loop-y.invariant.width;
       places = c.twice-amount.ensures ∙ twice-min k (length a) c.loop-y.amount c.loop-y.invariant.places;

@@ -1,5 +1,5 @@
 use Rattle.std.proofs.Common.{◌≡◌, ◌^◌, length, min}
-use Rattle.aig_blast.specs.Steps.{up_after}
+use Rattle.aig_blast.specs.inner.Steps.{up_after}
 use Rattle.aig_blast.specs.Words.{MakesWord, word}
 use Rattle.aig_blast.proofs.shifts.up.Given as goal
 

@@ -1,6 +1,6 @@
 use Rattle.std.proofs.Common.{ℕ, List, [], ◌∷◌, ◌++◌, get_or, sym, ap, ap₂, ◌∙◌, arith}
 use Rattle.std.proofs.lemmas.List.Sums.{sum_by_more}
-use Rattle.aig_blast.specs.Sources.{source_word}
+use Rattle.aig_blast.specs.inner.Sources.{source_word}
 use Rattle.aig_blast.proofs.SourceWords.{source_words-more}
 use Rattle.aig_blast.proofs.sources.source_words.Goals as goal
 

@@ -1,6 +1,6 @@
 use Rattle.std.proofs.Common.{◌≡◌, ◌+◌, ◌≤◌, ◌^◌, take}
 use Rattle.std.specs.Prelude.{sum}
-use Rattle.aig_blast.specs.Sources.{source_words}
+use Rattle.aig_blast.specs.inner.Sources.{source_words}
 use Rattle.aig_blast.proofs.sources.source_words.Given as goal
 
 abbrev pub invariant-loop-width : goal.invariant-loop-width

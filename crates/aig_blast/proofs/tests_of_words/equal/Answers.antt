@@ -1,6 +1,7 @@
 use Rattle.std.proofs.Common.{◌≡◌, ◌<◌, Bool, ◌&&◌, List, [], ◌∷◌, length, ap, ◌∙◌, arith}
 use Rattle.aig_blast.specs.BitLists.{as_bits, xor}
 use Rattle.aig_blast.specs.Steps as step
+use Rattle.aig_blast.specs.inner.Steps as inner_step
 use Rattle.aig_blast.proofs.Formulas.{eq_bits-formula}
 use Rattle.aig_blast.proofs.Values.{Keeps-refl}
 use Rattle.aig_blast.proofs.Gates.{Makes-kept, Makes-not, Makes-by}
@@ -24,7 +25,7 @@ loop-k-preserved c =
     let within_b : k < length b = omega arith in
     let differs = Makes-by xor (Makes-element k a same.keeps c.requires.a within) (Makes-element k b same.keeps c.requires.b within_b) c.in_ok-differs.ensures in
     let still = Makes-by (λ x y. x && y) (Makes-kept same c.in_ok-differs.ensures.keeps) (Makes-not c.not.ensures.negation differs) c.in_ok-still.ensures in
-    Makes-like _ (λ i. more (step.equal_after (word i g a) (word i g b)) k) still
+    Makes-like _ (λ i. more (inner_step.equal_after (word i g a) (word i g b)) k) still
 
 pub returns : goal.returns
 returns c =
@@ -32,4 +33,4 @@ returns c =
     let a = c.args.a.now in
     let b = c.args.b.now in
     let all : (i : List Bool) → c.loop-k.k ≡ length (word i g a) = λ i. rw width (omega arith) in
-    MakesBits-flag _ (λ i. ap (λ k. as_bits (step.equal_after (word i g a) (word i g b) k ∷ [])) (all i) ∙ eq_bits-formula (word i g a) (word i g b) (same_widths i g a b c.requires.width)) c.loop-k.invariant
+    MakesBits-flag _ (λ i. ap (λ k. as_bits (inner_step.equal_after (word i g a) (word i g b) k ∷ [])) (all i) ∙ eq_bits-formula (word i g a) (word i g b) (same_widths i g a b c.requires.width)) c.loop-k.invariant

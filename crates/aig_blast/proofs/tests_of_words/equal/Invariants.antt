@@ -1,4 +1,4 @@
-use Rattle.aig_blast.specs.Steps.{equal_after}
+use Rattle.aig_blast.specs.inner.Steps.{equal_after}
 use Rattle.aig_blast.specs.Graphs.{Makes}
 use Rattle.aig_blast.specs.Words.{word}
 use Rattle.aig_blast.proofs.tests_of_words.equal.Given as goal

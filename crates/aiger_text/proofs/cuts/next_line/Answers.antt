@@ -1,5 +1,5 @@
 use Rattle.std.proofs.Common.{ℕ, List, ◌∷◌, ◌++◌, append-nil, sym, ap, ap₂, ◌∙◌}
-use Rattle.aiger_text.specs.Classes.{bytes_behind, pieces_of}
+use Rattle.aiger_text.specs.inner.Classes.{bytes_behind, pieces_of}
 use Rattle.aiger_text.specs.Cuts.{lines_of}
 use Rattle.aiger_text.proofs.Cutting.{lines_of-last, lines_of-more, lines_of-nil, none_by_test, some_by_test}
 use Rattle.aiger_text.proofs.cuts.next_line.Goals as goal

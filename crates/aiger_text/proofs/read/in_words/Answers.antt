@@ -1,6 +1,6 @@
 use Rattle.std.proofs.Common.{ℕ, Bool, List, Option, length, sym, ap, ◌∙◌}
 use Rattle.aiger_text.specs.Runs.{words_of}
-use Rattle.aiger_text.specs.Steps.{parts_of}
+use Rattle.aiger_text.specs.inner.Steps.{parts_of}
 use Rattle.aiger_text.proofs.Circuits.{latch_names-count, latch_names-widths}
 use Rattle.aiger_text.proofs.read.in_words.Goals as goal
 

@@ -1,6 +1,6 @@
 use Rattle.std.proofs.Common.{◌+◌, Ok, Err, arith}
 use Rattle.std.proofs.lemmas.Result.{err_from_is_err_and}
-use Rattle.aiger_text.specs.Steps.{parts_of}
+use Rattle.aiger_text.specs.inner.Steps.{parts_of}
 use Rattle.aiger_text.proofs.Lines.{faults_pass, nexts_by}
 use Rattle.aiger_text.proofs.read.placed_nexts.Goals as goal
 

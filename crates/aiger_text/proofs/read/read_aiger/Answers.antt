@@ -1,6 +1,6 @@
 use Rattle.std.proofs.Common.{◌∙◌}
 use Rattle.std.proofs.lemmas.Result.{err_from_is_err_and}
-use Rattle.aiger_text.specs.Steps.{parts_of}
+use Rattle.aiger_text.specs.inner.Steps.{parts_of}
 use Rattle.aiger_text.proofs.Lines.{aig_of-draft, aig_of-fault, faults_pass}
 use Rattle.aiger_text.proofs.Soundness.{draft_of-sound}
 use Rattle.aiger_text.proofs.read.read_aiger.Goals as goal

@@ -2,7 +2,7 @@ use Rattle.std.proofs.Common.{sym, ap, ◌∙◌}
 use Rattle.std.proofs.lemmas.Result.{err_from_is_err_and}
 use Rattle.aiger_text.specs.Cuts.{lines_of}
 use Rattle.aiger_text.specs.Drafts.{Draft, draft_from, is_end}
-use Rattle.aiger_text.specs.Steps.{parts_of}
+use Rattle.aiger_text.specs.inner.Steps.{parts_of}
 use Rattle.aiger_text.specs.declared.header.Section.{Section}
 use Rattle.aiger_text.specs.declared.header.Section.TheVariants as sections
 use Rattle.aiger_text.proofs.Lines.{faults_pass, read_end, read_fault, read_more, read_stop}

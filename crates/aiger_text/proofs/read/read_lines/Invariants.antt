@@ -1,7 +1,7 @@
 use Rattle.std.proofs.Common.{◌≡◌, length}
 use Rattle.aiger_text.specs.Cuts.{lines_of}
 use Rattle.aiger_text.specs.Drafts.{draft_from, no_lines}
-use Rattle.aiger_text.specs.Steps.{parts_of}
+use Rattle.aiger_text.specs.inner.Steps.{parts_of}
 use Rattle.aiger_text.proofs.read.read_lines.Given as goal
 
 abbrev pub invariant-loop-line : goal.invariant-loop-line

@@ -1,6 +1,6 @@
 use Rattle.std.proofs.Common.{ℕ, List, length, Ok, sym, ap, ◌∙◌, arith}
 use Rattle.std.proofs.lemmas.Result.{err_from_is_err_and}
-use Rattle.aiger_text.specs.Steps.{parts_of}
+use Rattle.aiger_text.specs.inner.Steps.{parts_of}
 use Rattle.aiger_text.proofs.Circuits.{all_placed-count, circuit_of}
 use Rattle.aiger_text.proofs.Lines.{aig_by-all, aig_by-gates, aig_by-lits, aig_by-nexts, faults_pass}
 use Rattle.aiger_text.proofs.read.to_aig.Goals as goal

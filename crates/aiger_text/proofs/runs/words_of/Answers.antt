@@ -1,7 +1,7 @@
 use Rattle.std.proofs.Common.{◌+◌, ◌++◌, List, ℕ, Option, ap, ◌∷◌, ◌∙◌}
 use Rattle.std.proofs.lemmas.List.{nil_from_length}
 use Rattle.aiger_text.specs.Runs.{words_from}
-use Rattle.aiger_text.specs.RunsSoFar.{run_of}
+use Rattle.aiger_text.specs.inner.RunsSoFar.{run_of}
 use Rattle.aiger_text.proofs.Running.{words_from-end, words_from-step, words_of-first, words_of-none}
 use Rattle.aiger_text.proofs.runs.words_of.Goals as goal
 

@@ -1,6 +1,6 @@
 use Rattle.std.proofs.Common.{◌≡◌, ◌+◌, ◌++◌, drop}
 use Rattle.aiger_text.specs.Runs.{words_from, words_of}
-use Rattle.aiger_text.specs.RunsSoFar.{run_of}
+use Rattle.aiger_text.specs.inner.RunsSoFar.{run_of}
 use Rattle.aiger_text.proofs.runs.words_of.Given as goal
 
 abbrev pub invariant-loop-k : goal.invariant-loop-k

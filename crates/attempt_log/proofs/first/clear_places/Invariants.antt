@@ -1,6 +1,6 @@
 use Rattle.std.proofs.Common.{◌≡◌, ◌⊎◌, ℕ, length, take, None, false}
 use Rattle.std.specs.Prelude.{slice_index_or}
-use Rattle.attempt_log.specs.Firsts.{is_listed}
+use Rattle.attempt_log.specs.inner.Firsts.{is_listed}
 use Rattle.attempt_log.proofs.first.clear_places.Given as goal
 
 abbrev pub invariant-loop-number : goal.invariant-loop-number

@@ -1,5 +1,5 @@
 use Rattle.std.proofs.Common.{◌≡◌, drop, length}
-use Rattle.attempt_log.specs.Firsts.{noted_all}
+use Rattle.attempt_log.specs.inner.Firsts.{noted_all}
 use Rattle.attempt_log.proofs.past.note_all.Given as goal
 
 -- what is left to note makes of the table what all makes of the first one

@@ -1,6 +1,6 @@
 use Rattle.std.proofs.Common.{◌≡◌, length, All}
 use Rattle.std.specs.Prelude.{vec_capacity}
-use Rattle.board_core.specs.Kept.{IsBlank}
+use Rattle.board_core.specs.inner.Kept.{IsBlank}
 use Rattle.board_core.proofs.kept.room.Given as goal
 
 abbrev pub invariant-loop : goal.invariant-loop

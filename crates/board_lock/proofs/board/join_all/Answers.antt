@@ -4,8 +4,8 @@ use Rattle.attempt_log.specs.declared.report.Report.{Report}
 use Rattle.spec_worker.specs.declared.Working.{Working}
 use Rattle.board_lock.specs.declared.seat.LockSeat.{LockSeat}
 use Rattle.board_lock.specs.declared.view.View.{View}
-use Rattle.board_lock.specs.Work.{JoinedFrom}
-use Rattle.board_lock.specs.Work.{HasWorked}
+use Rattle.board_lock.specs.inner.Work.{JoinedFrom}
+use Rattle.board_lock.specs.inner.Work.{HasWorked}
 use Rattle.board_lock.proofs.Works.{join_more, reports_of}
 use Rattle.board_lock.proofs.board.join_all.Goals as goal
 

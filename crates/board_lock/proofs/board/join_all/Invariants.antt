@@ -1,8 +1,8 @@
 use Rattle.std.proofs.Common.{◌≡◌, ◌≤◌, ◌<◌, ◌+◌, ℕ, [], length, reverse}
 use Rattle.std.specs.Prelude.{slice_index_or}
 use Rattle.std.specs.Vec.{vec_capacity}
-use Rattle.board_lock.specs.Work.{JoinedFrom}
-use Rattle.board_lock.specs.Work.{HasWorked}
+use Rattle.board_lock.specs.inner.Work.{JoinedFrom}
+use Rattle.board_lock.specs.inner.Work.{HasWorked}
 use Rattle.board_lock.proofs.board.join_all.Given as goal
 
 abbrev pub invariant-loop-seat : goal.invariant-loop-seat

@@ -3,7 +3,7 @@ use Rattle.std.proofs.lemmas.List.{get_or_push, get_or_append_left}
 use mathlib.Core.Logic.{dite}
 use native.Mathlib.Decide.{ℕ_discrete}
 use Rattle.spec_worker.specs.declared.Working.{Working}
-use Rattle.board_lock.specs.Work.{IsReady}
+use Rattle.board_lock.specs.inner.Work.{IsReady}
 use Rattle.board_lock.specs.declared.seat.LockSeat.{LockSeat}
 use Rattle.board_lock.specs.declared.view.View.{View}
 use Rattle.board_lock.proofs.Works.{ready_next}

@@ -1,8 +1,8 @@
 use Rattle.std.proofs.Common.{◌≡◌, ◌≤◌, ◌<◌, ℕ, [], length}
 use Rattle.std.specs.Prelude.{slice_index_or}
 use Rattle.std.specs.Vec.{vec_capacity}
-use Rattle.board_lock.specs.Work.{SplitBy}
-use Rattle.board_lock.specs.Work.{IsReady}
+use Rattle.board_lock.specs.inner.Work.{SplitBy}
+use Rattle.board_lock.specs.inner.Work.{IsReady}
 use Rattle.board_lock.proofs.board.split_all.Given as goal
 
 abbrev pub invariant-loop-number : goal.invariant-loop-number

@@ -8,12 +8,12 @@ use Rattle.board_lock.specs.declared.view.Done.{Done}
 use Rattle.attempt_log.specs.declared.entry.Entry.{Entry}
 use Rattle.board_core.specs.Board.{Opening}
 use Rattle.board_lock.specs.Histories.{Each, InRun}
-use Rattle.board_lock.specs.Receipts.{receipts, Noting}
+use Rattle.board_lock.specs.inner.Receipts.{receipts, Noting}
 use Rattle.board_lock.proofs.Noting.{noting_more}
 use Rattle.board_lock.specs.declared.view.View.{View}
 use Rattle.board_lock.specs.Plays.{done_of}
-use Rattle.board_lock.specs.Work.{JoinedFrom}
-use Rattle.board_lock.specs.Work.{HasWorked}
+use Rattle.board_lock.specs.inner.Work.{JoinedFrom}
+use Rattle.board_lock.specs.inner.Work.{HasWorked}
 use Rattle.board_lock.proofs.Works.{join_more, reports_of}
 use Rattle.board_lock.proofs.journal.join_noting.Goals as goal
 

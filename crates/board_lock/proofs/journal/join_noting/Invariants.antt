@@ -1,9 +1,9 @@
 use Rattle.std.proofs.Common.{◌≡◌, ◌≤◌, ◌<◌, ◌+◌, ℕ, [], length, reverse, true}
 use Rattle.std.specs.Prelude.{slice_index_or}
 use Rattle.std.specs.Vec.{vec_capacity}
-use Rattle.board_lock.specs.Work.{JoinedFrom}
-use Rattle.board_lock.specs.Receipts.{Noting}
-use Rattle.board_lock.specs.Work.{HasWorked}
+use Rattle.board_lock.specs.inner.Work.{JoinedFrom}
+use Rattle.board_lock.specs.inner.Receipts.{Noting}
+use Rattle.board_lock.specs.inner.Work.{HasWorked}
 use Rattle.board_lock.proofs.journal.join_noting.Given as goal
 
 abbrev pub invariant-loop-noting : goal.invariant-loop-noting

@@ -1,6 +1,6 @@
 use Rattle.std.proofs.Common.{◌≡◌, List, ◌++◌, length}
 use Rattle.attempt_log.specs.declared.entry.Entry.{Entry}
-use Rattle.board_lock.specs.Notes.{AreNotes}
+use Rattle.board_lock.specs.inner.Notes.{AreNotes}
 use Rattle.board_lock.proofs.notes.merged.Given as goal
 
 abbrev pub invariant-loop-place : goal.invariant-loop-place

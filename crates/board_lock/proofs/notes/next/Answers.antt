@@ -1,7 +1,7 @@
 use Rattle.std.proofs.Common.{◌≡◌, ℕ, ◌<◌, false, true, List, [], ◌∷◌, length, sym, subst, ◌∙◌}
 use Rattle.std.specs.Prelude.{slice_index_or}
 use Rattle.std.proofs.lemmas.List.{get_or_default}
-use Rattle.board_lock.specs.Notes.{heads}
+use Rattle.board_lock.specs.inner.Notes.{heads}
 use Rattle.board_lock.specs.declared.notes.Note.{Note}
 use Rattle.board_lock.proofs.Nexts.{none_left, one_taken}
 use Rattle.board_lock.proofs.notes.next.Goals as goal

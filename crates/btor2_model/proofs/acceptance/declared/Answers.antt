@@ -1,5 +1,5 @@
 use Rattle.std.proofs.Common.{sym, subst}
-use Rattle.btor2_model.specs.Known.{AreNarrow}
+use Rattle.btor2_model.specs.inner.Known.{AreNarrow}
 use Rattle.btor2_model.proofs.Walk.{Reached-start, narrow-none}
 use Rattle.btor2_model.proofs.acceptance.declared.Goals as goal
 

@@ -1,4 +1,4 @@
-use Rattle.btor2_model.specs.Known.{scope_of}
+use Rattle.btor2_model.specs.inner.Known.{scope_of}
 use Rattle.btor2_model.proofs.Walk.{Reached}
 use Rattle.btor2_model.proofs.acceptance.declared.Given as goal
 

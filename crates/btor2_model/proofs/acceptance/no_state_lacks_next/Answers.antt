@@ -1,7 +1,7 @@
 use Rattle.std.proofs.Common.{ap, sym, ◌∙◌}
 use Rattle.std.specs.Option.{option_map}
 use Rattle.btor2_model.specs.Acceptance.{fault_in, lacks_next}
-use Rattle.btor2_model.specs.Known.{scope_of}
+use Rattle.btor2_model.specs.inner.Known.{scope_of}
 use Rattle.btor2_model.proofs.Walk.{find-here, find-next}
 use Rattle.btor2_model.proofs.acceptance.no_state_lacks_next.Goals as goal
 

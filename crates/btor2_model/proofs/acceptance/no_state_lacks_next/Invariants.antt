@@ -1,7 +1,7 @@
 use Rattle.std.proofs.Common.{◌≡◌, None, take}
 use Rattle.std.specs.List.{find}
 use Rattle.btor2_model.specs.Acceptance.{lacks_next}
-use Rattle.btor2_model.specs.Known.{scope_of}
+use Rattle.btor2_model.specs.inner.Known.{scope_of}
 use Rattle.btor2_model.proofs.acceptance.no_state_lacks_next.Given as goal
 
 abbrev pub invariant-loop-line : goal.invariant-loop-line

@@ -1,10 +1,10 @@
 use Rattle.std.proofs.Common.{◌≡◌, ℕ, nat_eq, List, ap, sym, ◌∙◌, subst, IfSome}
 use Rattle.std.specs.List.{zip}
 use Rattle.std.specs.Map.{lookup}
-use Rattle.btor2_model.specs.Known.{AreNarrow, scope_of}
+use Rattle.btor2_model.specs.inner.Known.{AreNarrow, scope_of}
 use Rattle.btor2_model.specs.Rules.{rule_of}
 use Rattle.btor2_model.specs.Run.{value_by}
-use Rattle.btor2_model.specs.SlowRun.{step_with}
+use Rattle.btor2_model.specs.inner.SlowRun.{step_with}
 use Rattle.btor2_model.proofs.Evaluation.{accepted-next, Evaluated-end, Evaluated-next, Evaluated-start}
 use Rattle.btor2_model.proofs.Filling.{Filling-end, Filling-next, Filling-start}
 use Rattle.btor2_model.proofs.Walk.{narrow-none}

@@ -1,4 +1,4 @@
-use Rattle.btor2_model.specs.Known.{scope_of}
+use Rattle.btor2_model.specs.inner.Known.{scope_of}
 use Rattle.btor2_model.proofs.Evaluation.{Evaluated}
 use Rattle.btor2_model.proofs.Filling.{Fills}
 use Rattle.btor2_model.proofs.line_values.values_with.Given as goal

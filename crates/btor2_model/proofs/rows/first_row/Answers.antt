@@ -2,7 +2,7 @@ use Rattle.std.proofs.Common.{◌≡◌, ℕ, false, All, IsSome, List, map, ap,
 use Rattle.kw_bits.specs.BitVector.{BitVector}
 use Rattle.btor2_model.specs.Rules.{is_state}
 use Rattle.btor2_model.specs.Run.{Values, first_values, flag_ids, ids_of, width_in}
-use Rattle.btor2_model.specs.SlowRun.{Knows, known_value}
+use Rattle.btor2_model.specs.inner.SlowRun.{Knows, known_value}
 use Rattle.btor2_model.proofs.Evaluation.{if_some-at}
 use Rattle.btor2_model.proofs.Lasting.{all-some}
 use Rattle.btor2_model.proofs.Selections.{rows-alike}

@@ -1,6 +1,6 @@
 use Rattle.std.proofs.Common.{ℕ, true, false, ◌++◌, ◌∷◌, [], ap, sym, ◌∙◌, append-nil}
 use Rattle.btor2_model.specs.Scope.{id_at}
-use Rattle.btor2_model.specs.SlowRun.{is_flag}
+use Rattle.btor2_model.specs.inner.SlowRun.{is_flag}
 use Rattle.btor2_model.proofs.Selections.{flags-next}
 use Rattle.btor2_model.proofs.rows.flag_ids.Goals as goal
 use Rattle.btor2_model.proofs.rows.flag_ids.Goals.{then-is_flag+in_ok-push, else-is_flag}

@@ -3,7 +3,7 @@ use Rattle.std.proofs.lemmas.Simd.{map-map}
 use Rattle.kw_bits.specs.BitVector.{BitVector}
 use Rattle.btor2_model.specs.Rules.{is_state}
 use Rattle.btor2_model.specs.Run.{Values, flag_ids, ids_of, width_in}
-use Rattle.btor2_model.specs.SlowRun.{Knows, known_value}
+use Rattle.btor2_model.specs.inner.SlowRun.{Knows, known_value}
 use Rattle.btor2_model.proofs.Evaluation.{if_some-at}
 use Rattle.btor2_model.proofs.Lasting.{all-some, flags-have}
 use Rattle.btor2_model.proofs.Selections.{rows-alike}

@@ -9,7 +9,7 @@ use Rattle.btor2_model.specs.Acceptance.{IsAccepted}
 use Rattle.btor2_model.specs.Rules.{is_input, is_state}
 use Rattle.btor2_model.specs.Scope.{behind_all, no_lines}
 use Rattle.btor2_model.specs.Run.{Values, first_row, first_values, flag_ids, ids_of, next_values, row_behind, states_at, values_in, values_with, width_in}
-use Rattle.btor2_model.specs.SlowRun.{InputsHave, IsFilled, Knows, StatesHave}
+use Rattle.btor2_model.specs.inner.SlowRun.{InputsHave, IsFilled, Knows, StatesHave}
 use Rattle.one_rule.proofs.Fitting.{widths-same}
 use Rattle.btor2_model.proofs.Declared.{fine-lines}
 use Rattle.btor2_model.proofs.Evaluation.{if_some-at}

@@ -2,7 +2,7 @@ use Rattle.std.proofs.Common.{◌≡◌, ◌∷◌, map}
 use Rattle.one_rule.specs.Stimulus.{inputs_of}
 use Rattle.btor2_model.specs.Rules.{is_input}
 use Rattle.btor2_model.specs.Run.{first_row, ids_of, rows_behind, states_at, width_in}
-use Rattle.btor2_model.specs.SlowRun.{Knows, StatesHave}
+use Rattle.btor2_model.specs.inner.SlowRun.{Knows, StatesHave}
 use Rattle.btor2_model.proofs.rows.slow_run.Given as goal
 
 -- the rows so far, and what is known of the states now

@@ -3,7 +3,8 @@ use Rattle.std.proofs.lemmas.List.{take_all}
 use Rattle.std.proofs.lemmas.List.Elements.{All-nil}
 use Rattle.btor2_model.specs.Rules.{is_state}
 use Rattle.btor2_model.specs.Run.{Values, first_values, ids_of, no_bits, values_at, width_in}
-use Rattle.btor2_model.specs.SlowRun.{HasValue, Knows, known_value}
+use Rattle.btor2_model.specs.SlowRun.{HasValue}
+use Rattle.btor2_model.specs.inner.SlowRun.{Knows, known_value}
 use Rattle.btor2_model.proofs.Evaluation.{Knows-more, Knows-nothing}
 use Rattle.btor2_model.proofs.Lasting.{IsNarrowId, states-more, states-narrow}
 use Rattle.btor2_model.proofs.Selections.{no-inputs}

@@ -1,7 +1,8 @@
 use Rattle.std.proofs.Common.{All, take}
 use Rattle.btor2_text.specs.Printable.{ArePrintable}
 use Rattle.btor2_model.specs.Run.{first_values, width_in}
-use Rattle.btor2_model.specs.SlowRun.{HasValue, Knows, known_value}
+use Rattle.btor2_model.specs.SlowRun.{HasValue}
+use Rattle.btor2_model.specs.inner.SlowRun.{Knows, known_value}
 use Rattle.btor2_model.proofs.states.first_values.Given as goal
 
 abbrev pub invariant-loop-state : goal.invariant-loop-state

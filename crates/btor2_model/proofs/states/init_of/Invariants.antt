@@ -1,7 +1,7 @@
 use Rattle.std.proofs.Common.{◌≡◌, None, take}
 use Rattle.std.specs.List.{find}
 use Rattle.btor2_model.specs.Rules.{is_init}
-use Rattle.btor2_model.specs.SlowRun.{sets}
+use Rattle.btor2_model.specs.inner.SlowRun.{sets}
 use Rattle.btor2_model.proofs.states.init_of.Given as goal
 
 abbrev pub invariant-loop-line : goal.invariant-loop-line

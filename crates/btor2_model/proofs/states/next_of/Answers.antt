@@ -5,7 +5,7 @@ use Rattle.std.specs.Option.{option_map}
 use Rattle.btor2_text.specs.declared.line.Line.{Line}
 use Rattle.btor2_model.specs.Rules.{is_next}
 use Rattle.btor2_model.specs.Scope.{id_at}
-use Rattle.btor2_model.specs.SlowRun.{sets}
+use Rattle.btor2_model.specs.inner.SlowRun.{sets}
 use Rattle.btor2_model.proofs.Selections.{set-by}
 use Rattle.btor2_model.proofs.Walk.{find-here, find-next}
 use Rattle.btor2_model.proofs.states.next_of.Goals as goal

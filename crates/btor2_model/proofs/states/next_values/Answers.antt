@@ -3,7 +3,8 @@ use Rattle.std.proofs.lemmas.List.{take_all}
 use Rattle.std.proofs.lemmas.List.Elements.{All-nil}
 use Rattle.btor2_model.specs.Rules.{is_state}
 use Rattle.btor2_model.specs.Run.{ids_of, next_values, width_in}
-use Rattle.btor2_model.specs.SlowRun.{HasValue, known_value}
+use Rattle.btor2_model.specs.SlowRun.{HasValue}
+use Rattle.btor2_model.specs.inner.SlowRun.{known_value}
 use Rattle.btor2_model.proofs.Evaluation.{Knows-more, Knows-nothing}
 use Rattle.btor2_model.proofs.Lasting.{next-has, next_value, states-more}
 use Rattle.btor2_model.proofs.states.next_values.Goals as goal

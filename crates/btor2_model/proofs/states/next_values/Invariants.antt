@@ -2,7 +2,8 @@ use Rattle.std.proofs.Common.{true, All, take}
 use Rattle.btor2_model.specs.Acceptance.{IsAccepted}
 use Rattle.btor2_model.specs.Run.{Values, next_values, width_in}
 use Rattle.btor2_model.specs.Scope.{behind_all, no_lines}
-use Rattle.btor2_model.specs.SlowRun.{HasValue, IsFilled, Knows, known_value}
+use Rattle.btor2_model.specs.SlowRun.{HasValue}
+use Rattle.btor2_model.specs.inner.SlowRun.{IsFilled, Knows, known_value}
 use Rattle.btor2_model.proofs.states.next_values.Given as goal
 
 abbrev pub invariant-loop-state : goal.invariant-loop-state

@@ -9,7 +9,7 @@ use Rattle.circuit_eval.specs.declared.circuit.Wires.{Wires}
 use Rattle.btor2_model.specs.Rules.{is_input, is_state}
 use Rattle.btor2_model.specs.Run.{lines_of}
 use Rattle.btor2_model.specs.Table.{value_in}
-use Rattle.btor2_net.specs.Wires.{AreWiresOf, node_of, state_wire, zero_of}
+use Rattle.btor2_net.specs.inner.Wires.{AreWiresOf, node_of, state_wire, zero_of}
 use Rattle.btor2_net.proofs.Made.{are-wires, feeds-zeros, firsts-stand, inputs-stand, states-stand}
 use Rattle.btor2_net.proofs.circuit.wires_of.Goals as goal
 

@@ -1,5 +1,5 @@
 use Rattle.std.proofs.Common.{◌≡◌, drop}
-use Rattle.btor2_net.specs.PageFields.{page_of}
+use Rattle.btor2_net.specs.inner.PageFields.{page_of}
 use Rattle.btor2_net.specs.Pages.{with_nexts}
 use Rattle.btor2_net.proofs.lines.add_nexts.Given as goal
 

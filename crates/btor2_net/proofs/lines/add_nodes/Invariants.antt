@@ -1,6 +1,6 @@
 use Rattle.std.proofs.Common.{◌≡◌, [], drop, length}
 use Rattle.net_graph.specs.Nets.{widths_of}
-use Rattle.btor2_net.specs.PageFields.{page_of}
+use Rattle.btor2_net.specs.inner.PageFields.{page_of}
 use Rattle.btor2_net.specs.Pages.{with_nodes}
 use Rattle.btor2_net.proofs.lines.add_nodes.Given as goal
 

@@ -1,4 +1,4 @@
-use Rattle.btor2_net.specs.Nodes.{numbering_of}
+use Rattle.btor2_net.specs.inner.Nodes.{numbering_of}
 use Rattle.btor2_net.proofs.Reading.{has-constant-line, is-few-line, may-add-line, reading-end, reading-next, reading-start}
 use Rattle.btor2_net.proofs.nodes.nodes_of.Goals as goal
 

@@ -1,4 +1,4 @@
-use Rattle.btor2_net.specs.Nodes.{numbering_of}
+use Rattle.btor2_net.specs.inner.Nodes.{numbering_of}
 use Rattle.btor2_net.proofs.Reading.{Reads}
 use Rattle.btor2_net.proofs.nodes.nodes_of.Given as goal
 

@@ -1,6 +1,6 @@
 use Rattle.std.proofs.Common.{ℕ, [], ◌∷◌, Option, ap, ◌∙◌}
 use Rattle.std.specs.Option.{option_or}
-use Rattle.btor2_net.specs.Wires.{set_by}
+use Rattle.btor2_net.specs.inner.Wires.{set_by}
 use Rattle.btor2_net.proofs.FirstSettings.{set-next}
 use Rattle.btor2_net.proofs.settings.values_set.Goals as goal
 

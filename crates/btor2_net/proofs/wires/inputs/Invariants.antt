@@ -1,7 +1,7 @@
 use Rattle.std.proofs.Common.{◌≡◌, map, take}
 use Rattle.btor2_model.specs.Rules.{is_input}
 use Rattle.btor2_model.specs.Run.{lines_of}
-use Rattle.btor2_net.specs.Wires.{input_wire}
+use Rattle.btor2_net.specs.inner.Wires.{input_wire}
 use Rattle.btor2_net.proofs.wires.inputs.Given as goal
 
 abbrev pub invariant-loop-line : goal.invariant-loop-line

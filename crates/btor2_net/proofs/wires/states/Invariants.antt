@@ -2,7 +2,7 @@ use Rattle.std.proofs.Common.{◌≡◌, map, take}
 use Rattle.btor2_model.specs.Rules.{is_state}
 use Rattle.btor2_model.specs.Run.{lines_of}
 use Rattle.btor2_model.specs.Table.{value_in}
-use Rattle.btor2_net.specs.Wires.{state_wire}
+use Rattle.btor2_net.specs.inner.Wires.{state_wire}
 use Rattle.btor2_net.proofs.wires.states.Given as goal
 
 abbrev pub invariant-loop-line : goal.invariant-loop-line

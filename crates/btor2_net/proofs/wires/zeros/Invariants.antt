@@ -1,6 +1,6 @@
 use Rattle.std.proofs.Common.{◌≡◌, map, take}
 use Rattle.btor2_model.specs.Run.{lines_of}
-use Rattle.btor2_net.specs.Wires.{is_form, zero_of}
+use Rattle.btor2_net.specs.inner.Wires.{is_form, zero_of}
 use Rattle.btor2_net.proofs.wires.zeros.Given as goal
 
 abbrev pub invariant-loop-line : goal.invariant-loop-line

@@ -1,7 +1,7 @@
 use Rattle.std.proofs.Common.{◌<◌, None, Some, length, ap, ◌∙◌, arith}
 use Rattle.std.proofs.lemmas.List.{append-nil}
 use Rattle.btor2_text.specs.Cut.{lines_of}
-use Rattle.btor2_text.specs.Runs.{lines_behind}
+use Rattle.btor2_text.specs.inner.Runs.{lines_behind}
 use Rattle.btor2_text.proofs.Readings.{ReadTo-next, ReadTo-refused, ReadTo-end, is_first_fault, no_lines, same_fault, same_readings, lines_or_fault}
 use Rattle.btor2_text.proofs.ReadLines.{ArePrintable-AreLinesOf}
 use Rattle.btor2_text.proofs.reader.read_lines.Goals as goal

@@ -1,6 +1,6 @@
 use Rattle.std.proofs.Common.{length}
 use Rattle.btor2_text.specs.Cut.{lines_of}
-use Rattle.btor2_text.specs.Runs.{lines_behind}
+use Rattle.btor2_text.specs.inner.Runs.{lines_behind}
 use Rattle.btor2_text.proofs.Readings.{ReadTo}
 use Rattle.btor2_text.proofs.reader.read_lines.Given as goal
 

@@ -1,6 +1,6 @@
 use Rattle.std.proofs.Common.{◌≡◌, List, length, take}
 use Rattle.kw_bits.specs.BitVector.{BitVector}
-use Rattle.circuit_eval.specs.Programs.{Keeps}
+use Rattle.circuit_eval.specs.inner.Programs.{Keeps}
 use Rattle.circuit_eval.specs.Run.{next_states}
 use Rattle.circuit_eval.proofs.sim.take_next.Given as goal
 

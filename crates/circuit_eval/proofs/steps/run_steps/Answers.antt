@@ -3,7 +3,8 @@ use Rattle.std.specs.Prelude.{IfSome, slice_set}
 use Rattle.std.proofs.lemmas.List.{length-set}
 use Rattle.kw_bits.specs.BitVector.{BitVector}
 use Rattle.net_graph.specs.Values.{node_value, values_of}
-use Rattle.circuit_eval.specs.Programs.{HasRoom, IsNarrow, Keeps}
+use Rattle.circuit_eval.specs.Programs.{HasRoom, IsNarrow}
+use Rattle.circuit_eval.specs.inner.Programs.{Keeps}
 use Rattle.circuit_eval.proofs.Keeping.{keep_word}
 use Rattle.circuit_eval.proofs.Programs.{fits}
 use Rattle.circuit_eval.proofs.steps.run_steps.Goals.{in-Some, in-None}

@@ -1,6 +1,7 @@
 use Rattle.std.proofs.Common.{◌≡◌, length}
 use Rattle.net_graph.specs.Values.{values_of}
-use Rattle.circuit_eval.specs.Programs.{HasRoom, Keeps}
+use Rattle.circuit_eval.specs.Programs.{HasRoom}
+use Rattle.circuit_eval.specs.inner.Programs.{Keeps}
 use Rattle.circuit_eval.proofs.steps.run_steps.Given as goal
 
 -- what is kept of the nodes so far are their values

@@ -7,7 +7,8 @@ use Rattle.net_graph.specs.Operators.{TakesTwo}
 use Rattle.net_graph.specs.Values.{no_bits, op_value, value_at, values_of}
 use Rattle.net_graph.specs.declared.node.NetOp.{NetOp}
 use Rattle.net_graph.specs.declared.node.NetOp.TheVariants as variant
-use Rattle.circuit_eval.specs.Programs.{Has, KeepsAt, node_width}
+use Rattle.circuit_eval.specs.Programs.{Has, node_width}
+use Rattle.circuit_eval.specs.inner.Programs.{KeepsAt}
 use Rattle.circuit_eval.proofs.NodeWords.{input_there, state_there}
 use Rattle.circuit_eval.proofs.Programs.{by_operator, here, of_ite, of_one, of_sext, of_slice, of_two, of_uext, passed, taken}
 use Rattle.circuit_eval.proofs.steps.value_by_operator.Goals as goal

@@ -4,7 +4,7 @@ use Rattle.clause_check.specs.Clauses.{IsLiteral}
 use Rattle.aig_blast.specs.Aigs.{AigParts, IsAig, input_widths, latch_widths, variables}
 use Rattle.aig_blast.specs.declared.aig.InputWord.{InputWord}
 use Rattle.aig_blast.specs.declared.aig.OutputBit.{OutputBit}
-use Rattle.invariant_check.specs.Kept.{IsClaim}
+use Rattle.invariant_check.specs.inner.Kept.{IsClaim}
 use Rattle.invariant_check.specs.Obligations.{claimed_lits, literals_in, next_lits}
 use Rattle.invariant_check.proofs.Bounds.{clauses_within, literals_by}
 use Rattle.invariant_check.proofs.Breaking.{length-next_lits}

@@ -1,7 +1,7 @@
 use Rattle.std.proofs.Common.{List, sym, ap, ◌∙◌}
 use Rattle.std.proofs.lemmas.Result.{err_from_is_err_and}
 use Rattle.typed_core.specs.declared.access.Event.{Event}
-use Rattle.journal_check.specs.Tokens.{events_at, tokens_left}
+use Rattle.journal_check.specs.inner.Tokens.{events_at, tokens_left}
 use Rattle.journal_check.proofs.EventsRead.{after_events, colon_read, event_flawed, event_kept, fewer_left, none_before, none_left}
 use Rattle.journal_check.proofs.access.events.Goals as goal
 

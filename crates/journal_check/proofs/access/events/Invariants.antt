@@ -1,5 +1,5 @@
 use Rattle.std.proofs.Common.{◌≡◌}
-use Rattle.journal_check.specs.Tokens.{events_at, tokens_left}
+use Rattle.journal_check.specs.inner.Tokens.{events_at, tokens_left}
 use Rattle.journal_check.proofs.EventsRead.{after_events, bytes_left}
 use Rattle.journal_check.proofs.access.events.Given as goal
 

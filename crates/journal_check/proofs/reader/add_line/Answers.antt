@@ -2,7 +2,7 @@ use Rattle.std.proofs.Common.{Some, sym, subst}
 use Rattle.std.proofs.lemmas.Result.{err_from_is_err_and}
 use Rattle.journal_check.specs.Fitting.{LineFits}
 use Rattle.journal_check.specs.Reading.{MayFollow}
-use Rattle.journal_check.specs.Steps.{IsMalformed}
+use Rattle.journal_check.specs.inner.Steps.{IsMalformed}
 use Rattle.journal_check.proofs.Adding.{passes}
 use Rattle.journal_check.proofs.Following.{IsBegins, batch_added, batch_refused, begins_again, entry_added, entry_refused, none_later}
 use Rattle.journal_check.proofs.LinesRead.{refused}

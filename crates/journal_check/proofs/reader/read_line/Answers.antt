@@ -1,6 +1,6 @@
 use Rattle.std.proofs.Common.{sym, arith}
 use Rattle.journal_check.specs.Fitting.{IsSmall, LineFits}
-use Rattle.journal_check.specs.Tokens.{tokens_of}
+use Rattle.journal_check.specs.inner.Tokens.{tokens_of}
 use Rattle.journal_check.proofs.LinesRead.{fails, not_allowed, not_printed, refused, unread_refused}
 use Rattle.journal_check.proofs.Sound.{line_fits}
 use Rattle.journal_check.proofs.reader.read_line.Goals as goal

@@ -1,5 +1,5 @@
 use Rattle.std.proofs.Common.{length}
-use Rattle.journal_check.specs.Steps.{HasRead}
+use Rattle.journal_check.specs.inner.Steps.{HasRead}
 use Rattle.journal_check.proofs.reader.read_lines.Given as goal
 
 -- the lines so far are those of the journal

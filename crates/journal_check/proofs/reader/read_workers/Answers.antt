@@ -3,7 +3,7 @@ use Rattle.std.proofs.lemmas.Result.{err_from_is_err_and}
 use Rattle.journal_check.specs.Fitting.{LineFits}
 use Rattle.journal_check.specs.Printing.{line_text}
 use Rattle.journal_check.specs.Reading.{MayFollow}
-use Rattle.journal_check.specs.Steps.{IsMalformed}
+use Rattle.journal_check.specs.inner.Steps.{IsMalformed}
 use Rattle.journal_check.proofs.Adding.{passes}
 use Rattle.journal_check.proofs.Following.{IsBegins, none_first, other_first}
 use Rattle.journal_check.proofs.LinesRead.{refused}

@@ -1,7 +1,7 @@
 use Rattle.std.proofs.Common.{◌<◌, length, ap, arith}
 use Rattle.std.proofs.lemmas.Result.{err_from_is_err_and}
 use Rattle.journal_check.specs.Checking.{IsFirstWrong}
-use Rattle.journal_check.specs.Replaying.{IsFaultAt}
+use Rattle.journal_check.specs.inner.Replaying.{IsFaultAt}
 use Rattle.journal_check.proofs.Replays.{next_so_far, next_wrong}
 use Rattle.journal_check.proofs.RunsOfBatches.{fault_onto}
 use Rattle.journal_check.proofs.replay.make_entries.Goals as goal

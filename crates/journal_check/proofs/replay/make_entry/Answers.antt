@@ -5,7 +5,7 @@ use Rattle.std.proofs.lemmas.Result.{on_ok_weaker}
 use Rattle.attempt_log.specs.Attempt.{Attempted}
 use Rattle.attempt_log.specs.declared.entry.Entry.{Entry}
 use Rattle.journal_check.specs.Checking.{SubmitsRule}
-use Rattle.journal_check.specs.Replaying.{Makes}
+use Rattle.journal_check.specs.inner.Replaying.{Makes}
 use Rattle.journal_check.proofs.Replays.{attempt_is_for, attempted, submit_made}
 use Rattle.journal_check.proofs.replay.make_entry.Goals as goal
 

@@ -6,7 +6,7 @@ use Rattle.typed_core.specs.declared.design.Parts.{Parts}
 use Rattle.board_core.specs.Board.{Opening}
 use Rattle.board_core.specs.History.{IsLegal}
 use Rattle.journal_check.specs.Checking.{IsFaultOfEntries, IsFirstWrong, at_line, opening_of}
-use Rattle.journal_check.specs.Replaying.{Leaves}
+use Rattle.journal_check.specs.inner.Replaying.{Leaves}
 use Rattle.journal_check.proofs.LinesRead.{fails}
 use Rattle.journal_check.proofs.Replays.{closes_from, closes_to}
 use Rattle.journal_check.proofs.RunsOfBatches.{fault_onto, refused}

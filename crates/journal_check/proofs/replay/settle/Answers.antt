@@ -3,7 +3,7 @@ use Rattle.kw_base.specs.declared.fault.Fault.{Fault}
 use Rattle.board_core.specs.History as history
 use Rattle.board_core.specs.declared.event.BoardEvent.TheVariants as event
 use Rattle.journal_check.specs.Checking.{at_line}
-use Rattle.journal_check.specs.Replaying.{AnswersOtherwise}
+use Rattle.journal_check.specs.inner.Replaying.{AnswersOtherwise}
 use Rattle.journal_check.proofs.LinesRead.{fails}
 use Rattle.journal_check.proofs.Replays.{settle_answers, settle_otherwise}
 use Rattle.journal_check.proofs.RunsOfBatches.{refused}

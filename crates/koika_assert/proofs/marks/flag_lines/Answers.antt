@@ -2,7 +2,7 @@ use Rattle.std.proofs.Common.{◌≡◌, List, filter, ◌∙◌}
 use Rattle.std.proofs.lemmas.Result.{IfOk-weaker}
 use Rattle.btor2_text.specs.declared.line.Line.{Line}
 use Rattle.koika_assert.specs.Bads.{flag_lines}
-use Rattle.koika_assert.specs.Widths.{is_narrow}
+use Rattle.koika_assert.specs.inner.Widths.{is_narrow}
 use Rattle.koika_assert.proofs.NarrowOutputs.{narrow-are}
 use Rattle.koika_assert.proofs.marks.flag_lines.Goals as goal
 

@@ -1,5 +1,5 @@
 use Rattle.std.proofs.Common.{◌≡◌, filter, take}
-use Rattle.koika_assert.specs.Widths.{is_narrow}
+use Rattle.koika_assert.specs.inner.Widths.{is_narrow}
 use Rattle.koika_assert.proofs.marks.narrow_lines.Given as goal
 
 abbrev pub invariant-loop-line : goal.invariant-loop-line

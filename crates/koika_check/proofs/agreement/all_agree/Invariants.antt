@@ -1,5 +1,5 @@
 use Rattle.std.proofs.Common.{◌≡◌, List, All, drop, map}
-use Rattle.koika_check.specs.Shapes.{AreArrays, IsShapeIf, part_of, type_if}
+use Rattle.koika_check.specs.inner.Shapes.{AreArrays, IsShapeIf, part_of, type_if}
 use Rattle.koika_check.specs.Types as types
 use Rattle.koika_check.specs.declared.agreement.Part.{Part}
 use Rattle.koika_check.specs.declared.typed.ValueType.{ValueType}

@@ -1,5 +1,5 @@
 use Rattle.std.proofs.Common.{◌≡◌, List, drop, map}
-use Rattle.koika_check.specs.Shapes.{part_of}
+use Rattle.koika_check.specs.inner.Shapes.{part_of}
 use Rattle.koika_check.specs.Types as types
 use Rattle.koika_check.specs.declared.typed.ValueType.{ValueType}
 use Rattle.koika_check.proofs.agreement.none_is_unit.Given as goal

@@ -4,7 +4,7 @@ use Rattle.std.proofs.lemmas.Result.{err_from_is_err_and}
 use Rattle.kw_bits.specs.Host.{TakesWidth}
 use Rattle.kw_bits.specs.declared.host.HostSpec.{HostSpec}
 use Rattle.koika_check.specs.Checks.{checked}
-use Rattle.koika_check.specs.Outcomes.{Answers}
+use Rattle.koika_check.specs.inner.Outcomes.{Answers}
 use Rattle.koika_check.specs.declared.checked.Checked.{Checked}
 use Rattle.koika_check.proofs.Answering.{ends-same}
 use Rattle.koika_check.proofs.TypedTrees.{answer-offered, answer-typed}

@@ -5,7 +5,7 @@ use Rattle.std.proofs.lemmas.Option.{slice_get_read}
 use Rattle.koika_types.specs.Values.{packed}
 use Rattle.koika_syntax.specs.declared.operator.BinaryOperator.{BinaryOperator}
 use Rattle.koika_check.specs.BitWeights.{applied, body_of, bound_width, chain, first_width, gauge_of, input_width, squares_in, width_in_all}
-use Rattle.koika_check.specs.Gauges.{all_of, bodies_before, cap, counted, side_of, steps_of}
+use Rattle.koika_check.specs.inner.Gauges.{all_of, bodies_before, cap, counted, side_of, steps_of}
 use Rattle.koika_check.specs.Types.{width_of}
 use Rattle.koika_check.specs.declared.bit_weight.Gauge.{Gauge as Counted}
 use Rattle.koika_check.specs.declared.bit_weight.Side.{Side}

@@ -1,6 +1,6 @@
 use Rattle.std.proofs.Common.{◌+◌, ◌-◌, ◌*◌, length, sum_by, take}
 use Rattle.koika_check.specs.BitWeights.{chain}
-use Rattle.koika_check.specs.Gauges.{AreCounted, IsCounted, all_of, bodies_before}
+use Rattle.koika_check.specs.inner.Gauges.{AreCounted, IsCounted, all_of, bodies_before}
 use Rattle.koika_check.proofs.TreeCounts.{calls, count, count_step}
 use Rattle.koika_check.proofs.bit_weight.+gauge.Given as goal
 

@@ -1,7 +1,7 @@
 use Rattle.std.proofs.Common.{◌-◌, length, refl, ap, sym, ◌∙◌, arith}
 use Rattle.std.proofs.lemmas.Option.{slice_get_past, slice_get_read}
 use Rattle.koika_check.specs.BitWeights.{chain}
-use Rattle.koika_check.specs.Gauges.{counted}
+use Rattle.koika_check.specs.inner.Gauges.{counted}
 use Rattle.koika_check.proofs.Gauging.{chain-first, chain-push, next_by}
 use Rattle.koika_check.proofs.bit_weight.chained.Goals as goal
 

@@ -1,5 +1,5 @@
 use Rattle.std.proofs.Common.{ap, sym, ◌∙◌, arith}
-use Rattle.koika_check.specs.Gauges.{cap}
+use Rattle.koika_check.specs.inner.Gauges.{cap}
 use Rattle.koika_check.proofs.Gauging.{first-kept, first-push}
 use Rattle.koika_check.proofs.bit_weight.first_beside.Goals as goal
 

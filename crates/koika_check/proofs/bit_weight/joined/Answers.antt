@@ -1,5 +1,5 @@
 use Rattle.std.proofs.Common.{ap, ◌+◌, ◌∙◌}
-use Rattle.koika_check.specs.Gauges.{cap}
+use Rattle.koika_check.specs.inner.Gauges.{cap}
 use Rattle.koika_check.specs.declared.bit_weight.Gauge.{Gauge as Counted}
 use Rattle.koika_check.proofs.Gauging.{counted_as, joined-counted}
 use Rattle.koika_check.proofs.bit_weight.joined.Goals as goal

@@ -1,7 +1,7 @@
 use Rattle.std.proofs.Common.{List, [], length, take, ap, ◌∙◌, arith}
 use Rattle.std.proofs.lemmas.List.{take_all}
 use Rattle.koika_check.specs.BitWeights.{bodies_after, gauge_of}
-use Rattle.koika_check.specs.Gauges.{cap}
+use Rattle.koika_check.specs.inner.Gauges.{cap}
 use Rattle.koika_check.specs.declared.bit_weight.Gauge.{Gauge as Counted}
 use Rattle.koika_check.specs.declared.checked.Function.{Function}
 use Rattle.koika_check.proofs.bit_weight.rule_squares.Goals as goal

@@ -1,7 +1,7 @@
 use Rattle.std.proofs.Common.{ap, sym, ◌∙◌, arith}
 use Rattle.std.proofs.lemmas.List.{take_all}
 use Rattle.koika_check.specs.BitWeights.{selected_width}
-use Rattle.koika_check.specs.Gauges.{cap}
+use Rattle.koika_check.specs.inner.Gauges.{cap}
 use Rattle.koika_check.proofs.Gauging.{selected-more}
 use Rattle.koika_check.proofs.bit_weight.selected_width.Goals as goal
 

@@ -1,6 +1,6 @@
 use Rattle.std.proofs.Common.{◌≡◌, ℕ, take}
 use Rattle.koika_check.specs.BitWeights.{selected_width}
-use Rattle.koika_check.specs.Gauges.{cap}
+use Rattle.koika_check.specs.inner.Gauges.{cap}
 use Rattle.koika_check.proofs.bit_weight.selected_width.Given as goal
 
 abbrev pub invariant-loop-index : goal.invariant-loop-index

@@ -1,6 +1,6 @@
 use Rattle.std.proofs.Common.{◌*◌, ◌^◌, ◌-◌, ap, sym, ◌∙◌}
 use Rattle.koika_check.specs.BitWeights.{square}
-use Rattle.koika_check.specs.Gauges.{cap}
+use Rattle.koika_check.specs.inner.Gauges.{cap}
 use Rattle.koika_check.proofs.Saturating.{product-saturates}
 use Rattle.koika_check.proofs.bit_weight.square.Goals as goal
 

@@ -1,6 +1,6 @@
 use Rattle.std.proofs.Common.{◌≡◌, sum_by, take}
 use Rattle.koika_check.specs.BitWeights.{rule_squares}
-use Rattle.koika_check.specs.Gauges.{cap}
+use Rattle.koika_check.specs.inner.Gauges.{cap}
 use Rattle.koika_check.proofs.bit_weight.squares_of_rules.Given as goal
 
 abbrev pub invariant-loop-rule : goal.invariant-loop-rule

@@ -1,6 +1,6 @@
 use Rattle.std.proofs.Common.{◌*◌, ◌<◌, ◌≤◌, ℕ, List, length, get_or, ap, subst, ◌∙◌}
 use Rattle.std.proofs.lemmas.List.{take_all}
-use Rattle.koika_check.specs.Gauges.{cap}
+use Rattle.koika_check.specs.inner.Gauges.{cap}
 use Rattle.koika_check.specs.Types.{all_lengths, base_width}
 use Rattle.koika_check.proofs.Gauging.{width-more}
 use Rattle.koika_check.proofs.bit_weight.type_width.Goals as goal

@@ -1,5 +1,5 @@
 use Rattle.std.proofs.Common.{◌≡◌, ◌*◌, take}
-use Rattle.koika_check.specs.Gauges.{cap}
+use Rattle.koika_check.specs.inner.Gauges.{cap}
 use Rattle.koika_check.specs.Types.{all_lengths, base_width}
 use Rattle.koika_check.proofs.bit_weight.type_width.Given as goal
 

@@ -1,5 +1,5 @@
 use Rattle.std.proofs.Common.{arith, sym, ◌∙◌}
-use Rattle.koika_check.specs.Shapes.{part_of, type_of_shape}
+use Rattle.koika_check.specs.inner.Shapes.{part_of, type_of_shape}
 use Rattle.koika_check.proofs.CalledTypes.{agree-past}
 use Rattle.koika_check.proofs.calls.arguments_agree.Goals as goal
 

@@ -1,6 +1,6 @@
 use Rattle.std.proofs.Common.{◌≡◌, List, All, drop, length, map}
 use Rattle.koika_check.specs.Constructs as types
-use Rattle.koika_check.specs.Shapes.{AreArrays, IsShape, IsShapeIf, part_of, type_of_shape}
+use Rattle.koika_check.specs.inner.Shapes.{AreArrays, IsShape, IsShapeIf, part_of, type_of_shape}
 use Rattle.koika_check.specs.declared.agreement.Part.{Part}
 use Rattle.koika_check.specs.declared.typed.ValueType.{ValueType}
 use Rattle.koika_check.proofs.calls.arguments_agree.Given as goal

@@ -1,6 +1,6 @@
 use Rattle.std.proofs.Common.{◌≡◌, List, All, drop}
 use Rattle.koika_check.specs.Composites.{agrees_if}
-use Rattle.koika_check.specs.Shapes.{AreArrays, IsShapeIf, part_of, type_if}
+use Rattle.koika_check.specs.inner.Shapes.{AreArrays, IsShapeIf, part_of, type_if}
 use Rattle.koika_check.specs.Types as types
 use Rattle.koika_check.specs.declared.composites.Given.{Given}
 use Rattle.koika_check.specs.declared.typed.ValueType.{ValueType}

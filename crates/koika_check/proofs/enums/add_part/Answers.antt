@@ -1,6 +1,6 @@
 use Rattle.std.proofs.Common.{Bool, List, ℕ, ap, sym, refl, subst, true, false, ◌∙◌}
 use Rattle.std.specs.Prelude.{is_some}
-use Rattle.koika_check.specs.Things.{position_of}
+use Rattle.koika_check.specs.inner.Things.{position_of}
 use Rattle.koika_check.proofs.Listing.{Adds_part, false_true, other-name, part-lists, some-known}
 use Rattle.koika_check.proofs.enums.add_part.Goals as goal
 

@@ -1,8 +1,8 @@
 use Rattle.std.proofs.Common.{◌≡◌, [], drop, length}
 use Rattle.koika_check.specs.Declarations.{add_member, names_of_members}
-use Rattle.koika_check.specs.Listed.{Keeps, Lists}
+use Rattle.koika_check.specs.inner.Listed.{Keeps, Lists}
 use Rattle.koika_check.specs.Outcomes.{one_by_one}
-use Rattle.koika_check.specs.Things.{AreParts}
+use Rattle.koika_check.specs.inner.Things.{AreParts}
 use Rattle.koika_check.specs.declared.things.Thing.TheVariants as thing
 use Rattle.koika_check.proofs.enums.members_of.Given as goal
 

@@ -1,6 +1,6 @@
 use Rattle.std.proofs.Common.{Some, refl}
 use Rattle.std.proofs.lemmas.Result.{err_from_is_err_and}
-use Rattle.koika_check.specs.Shapes.{Denotes}
+use Rattle.koika_check.specs.inner.Shapes.{Denotes}
 use Rattle.koika_check.specs.Types.{bits}
 use Rattle.koika_check.proofs.Telling.{two-err, two-ok}
 use Rattle.koika_check.proofs.operators.equated.Goals as goal

@@ -1,7 +1,7 @@
 use Rattle.std.proofs.Common.{◌∙◌, ◌&&◌, ◌+◌, nat_eq, ap, ap₂, sym, refl, arith, length, not}
 use Rattle.std.proofs.lemmas.List.{length-append}
 use Rattle.typed_core.specs.declared.design.Node.{Node}
-use Rattle.koika_check.specs.Paths.{next_at}
+use Rattle.koika_check.specs.inner.Paths.{next_at}
 use Rattle.koika_check.proofs.Schedules.{row-more}
 use Rattle.koika_check.proofs.schedule.push_row.Goals as goal
 

@@ -1,5 +1,5 @@
 use Rattle.std.proofs.Common.{◌≡◌, ◌+◌, ◌++◌, List, length, drop}
-use Rattle.koika_check.specs.Paths.{is_end}
+use Rattle.koika_check.specs.inner.Paths.{is_end}
 use Rattle.koika_check.specs.Schedule.{in_a_row}
 use Rattle.typed_core.specs.declared.design.Node.{Node}
 use Rattle.koika_check.proofs.schedule.push_row.Given as goal

@@ -3,8 +3,8 @@ use Rattle.koika_check.specs.declared.checked.Checked.{Checked}
 use Rattle.koika_check.specs.declared.typed.Operation.{Operation}
 use Rattle.koika_check.specs.declared.typed.Operation.TheVariants as operation
 use Rattle.koika_check.specs.declared.typed.ValueType.{ValueType}
-use Rattle.koika_lower.specs.Applied.{AllFit, IsChain, IsPrefixed, IsSelected}
-use Rattle.koika_lower.specs.Simulation.{IsApplied, IsCallee, Lowers, Sense, apply_sense}
+use Rattle.koika_lower.specs.inner.Applied.{AllFit, IsChain, IsPrefixed, IsSelected}
+use Rattle.koika_lower.specs.inner.Simulation.{IsApplied, IsCallee, Lowers, Sense, apply_sense}
 use Rattle.koika_lower.specs.declared.lowered.Bound.{Bound}
 use Rattle.koika_lower.specs.declared.lowered.Lowered.{Lowered}
 use Rattle.koika_lower.proofs.Accesses.{abort-lowers, read-lowers, table-lowers, write-lowers}

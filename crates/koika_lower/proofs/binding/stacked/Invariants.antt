@@ -1,7 +1,7 @@
 use Rattle.std.proofs.Common.{◌-◌, ◌≤◌}
 use Rattle.typed_core.specs.Evaluation.{comes_to}
-use Rattle.koika_lower.specs.Actions.{ComesTo}
-use Rattle.koika_lower.specs.Applied.{StackFits, names_stacked}
+use Rattle.koika_lower.specs.inner.Actions.{ComesTo}
+use Rattle.koika_lower.specs.inner.Applied.{StackFits, names_stacked}
 use Rattle.koika_lower.proofs.binding.stacked.Given as goal
 
 abbrev pub invariant-loop-name : goal.invariant-loop-name

@@ -8,8 +8,8 @@ use Rattle.koika_check.specs.declared.typed.Step.{Step}
 use Rattle.koika_check.specs.declared.typed.Typed.{Typed}
 use Rattle.koika_check.specs.declared.typed.Typed.TheVariants as typed
 use Rattle.koika_check.specs.declared.typed.ValueType.{ValueType}
-use Rattle.koika_lower.specs.Expressions.{AreLowered, AreLoweredSteps}
-use Rattle.koika_lower.specs.Simulation.{IsBody, IsCallee, parameter_names}
+use Rattle.koika_lower.specs.inner.Expressions.{AreLowered, AreLoweredSteps}
+use Rattle.koika_lower.specs.inner.Simulation.{IsBody, IsCallee, parameter_names}
 use Rattle.koika_lower.specs.declared.lowered.Bound.{Bound}
 use Rattle.koika_lower.specs.declared.lowered.Lowered.{Lowered}
 use Rattle.koika_lower.proofs.Atoms.{at_form, constant-lowers, input-lowers, local-lowers}

@@ -1,5 +1,5 @@
 use Rattle.std.proofs.Common.{◌≡◌, ◌+◌, ◌-◌, ◌*◌, length, sum_by, take}
-use Rattle.koika_lower.specs.Expressions.{AreLowered}
+use Rattle.koika_lower.specs.inner.Expressions.{AreLowered}
 use Rattle.koika_lower.proofs.Sides.{depth_behind}
 use Rattle.koika_check.proofs.TreeCounts.{calls, count, count_step}
 use Rattle.koika_lower.proofs.expressions.+lower.Given as goal

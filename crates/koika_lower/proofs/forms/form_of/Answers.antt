@@ -1,7 +1,7 @@
 use Rattle.std.proofs.Common.{ap, sym, ◌∙◌}
 use Rattle.koika_check.specs.Meaning.{binary_value}
 use Rattle.koika_syntax.specs.declared.operator.BinaryOperator.{BinaryOperator}
-use Rattle.koika_lower.specs.Forms.{form_value}
+use Rattle.koika_lower.specs.inner.Forms.{form_value}
 use Rattle.koika_lower.specs.declared.forms.Form.{Form}
 use Rattle.koika_lower.proofs.Comparisons.{not-ult, not-ulte}
 use Rattle.koika_lower.proofs.forms.form_of.Goals as goal

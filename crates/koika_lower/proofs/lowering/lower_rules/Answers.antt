@@ -1,7 +1,7 @@
 use Rattle.std.proofs.Common.{◌≡◌, ◌<◌, None, [], ap, arith, get_or, length, subst, sym, ◌∙◌}
 use Rattle.koika_check.specs.Typing.{HasType}
 use Rattle.koika_check.specs.declared.checked.Rule.{Rule}
-use Rattle.koika_lower.specs.Rules.{IsRule}
+use Rattle.koika_lower.specs.inner.Rules.{IsRule}
 use Rattle.koika_lower.proofs.Designs.{rule-is}
 use Rattle.koika_lower.proofs.Lists.{pairs-more}
 use Rattle.koika_lower.proofs.lowering.lower_rules.Goals as goal

@@ -1,5 +1,5 @@
 use Rattle.std.proofs.Common.{take}
-use Rattle.koika_lower.specs.Rules.{AreRules}
+use Rattle.koika_lower.specs.inner.Rules.{AreRules}
 use Rattle.koika_lower.proofs.lowering.lower_rules.Given as goal
 
 abbrev pub invariant-loop-rule : goal.invariant-loop-rule

@@ -4,7 +4,7 @@ use Rattle.koika_types.specs.Values.{packed, stacked, stacked_up}
 use Rattle.koika_types.specs.declared.value.Value.{Value}
 use Rattle.koika_types.proofs.Layers.{packed-Fields, packed-Items}
 use Rattle.koika_check.specs.Typing.{IsOf}
-use Rattle.koika_lower.specs.Packing.{AreParts, so_far}
+use Rattle.koika_lower.specs.inner.Packing.{AreParts, so_far}
 use Rattle.koika_lower.proofs.PackedParts.{high-next, low-next, not-none, part-bits, parts_of_fields, parts_of_items, stacked-all, stacked_up-all}
 use Rattle.koika_lower.proofs.packing.+bits.Goals as goal
 

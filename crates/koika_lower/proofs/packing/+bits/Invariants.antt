@@ -2,7 +2,7 @@ use Rattle.std.proofs.Common.{◌≡◌, List, map, take}
 use Rattle.koika_types.specs.Values.{packed, stacked, stacked_up}
 use Rattle.koika_check.specs.declared.checked.Checked.{Checked}
 use Rattle.koika_check.specs.declared.typed.ValueType.{ValueType}
-use Rattle.koika_lower.specs.Packing.{AreParts, so_far}
+use Rattle.koika_lower.specs.inner.Packing.{AreParts, so_far}
 use Rattle.koika_lower.proofs.packing.+bits.Given as goal
 
 abbrev pub invariant-from_the_top-loop-value : goal.invariant-from_the_top-loop-value

@@ -1,7 +1,8 @@
 use Rattle.std.proofs.Common.{map, take}
-use Rattle.koika_syntax.specs.Grammar.{constant_field_leaves, constant_leaves}
+use Rattle.koika_syntax.specs.Grammar.{constant_leaves}
+use Rattle.koika_syntax.specs.inner.Grammar.{constant_field_leaves}
 use Rattle.koika_syntax.specs.Tree.{commas}
-use Rattle.koika_print.specs.Printed.{Prints}
+use Rattle.koika_print.specs.inner.Printed.{Prints}
 use Rattle.koika_print.proofs.constants.+constant.Given as goal
 
 abbrev pub invariant-constant_fields-loop-number : goal.invariant-constant_fields-loop-number

@@ -1,7 +1,7 @@
 use Rattle.std.proofs.Common.{map, take}
 use Rattle.koika_syntax.specs.Grammar.{field_leaves}
 use Rattle.koika_syntax.specs.Tree.{commas}
-use Rattle.koika_print.specs.Printed.{Prints}
+use Rattle.koika_print.specs.inner.Printed.{Prints}
 use Rattle.koika_print.proofs.declarations.fields.Given as goal
 
 abbrev pub invariant-loop-number : goal.invariant-loop-number

@@ -3,7 +3,8 @@ use Rattle.std.specs.Prelude.{slice_index}
 use Rattle.std.proofs.lemmas.Bool.{false≢true}
 use Rattle.std.proofs.lemmas.Bool.Decides.{Decides-eqb}
 use Rattle.std.proofs.lemmas.Slice.Eq.{starts_is}
-use Rattle.koika_syntax.specs.Symbols.{symbol_text, BeginsWith}
+use Rattle.koika_syntax.specs.Symbols.{symbol_text}
+use Rattle.koika_syntax.specs.inner.Symbols.{BeginsWith}
 use Rattle.koika_syntax.specs.declared.symbol.Symbol.{Symbol}
 use Rattle.koika_syntax.specs.declared.symbol.Symbol.TheVariants as symbols
 use Rattle.koika_syntax.proofs.Fronts.{text_begins_symbol, text_faulty_byte}

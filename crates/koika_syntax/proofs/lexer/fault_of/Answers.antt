@@ -1,5 +1,5 @@
 use Rattle.std.proofs.Common.{drop, length-drop, arith}
-use Rattle.koika_syntax.specs.LexemeAnswers.{number_of, offset_of}
+use Rattle.koika_syntax.specs.inner.LexemeAnswers.{number_of, offset_of}
 use Rattle.koika_syntax.proofs.Cuts.{faulty_within}
 use Rattle.koika_syntax.proofs.lexer.fault_of.Goals as goal
 

@@ -4,7 +4,7 @@ use Rattle.std.specs.Str.Parse.{digits_value}
 use Rattle.std.proofs.lemmas.Bool.Decides.{Decides-eqb}
 use Rattle.std.proofs.lemmas.List.Sums.{prefix_len-le-length}
 use Rattle.std.proofs.lemmas.Slice.Eq.{strip_prefix_is}
-use Rattle.koika_syntax.specs.LexemeAnswers.{IsAnswer}
+use Rattle.koika_syntax.specs.inner.LexemeAnswers.{IsAnswer}
 use Rattle.koika_syntax.proofs.Fronts.{first_digits, text_begins_number, text_faulty_number}
 use Rattle.koika_syntax.proofs.literal.numeral.Goals as goal
 

@@ -6,7 +6,7 @@ use Rattle.aiger_text.specs.AigShapes.{shape_of}
 use Rattle.one_rule.specs.Stimulus.{inputs_of}
 use Rattle.stim_report.specs.Shapes.{RowsFit}
 use Rattle.stim_report.specs.declared.shape.Shape.{Shape}
-use Rattle.koika_top.specs.Telling.{all_told, marks_in, shown_by}
+use Rattle.koika_top.specs.inner.Telling.{all_told, marks_in, shown_by}
 use Rattle.koika_top.proofs.AigFits.{aig-rows-fit}
 use Rattle.koika_top.proofs.AigRows.{aig-rows}
 use Rattle.front_end.proofs.Told.{told-as, told-none}

@@ -1,6 +1,6 @@
 use Rattle.std.proofs.Common.{◌∙◌, Some, ap, map, string_bytes, subst, sym}
 use Rattle.clap.specs.Words.{is_simple, matches_of, takes}
-use Rattle.koika_top.specs.Given.{Give}
+use Rattle.koika_top.specs.inner.Given.{Give}
 use Rattle.koika_top.proofs.ReadWords.{run_is_simple, words_are_read}
 use Rattle.koika_top.proofs.given.read_options.Goals as goal
 

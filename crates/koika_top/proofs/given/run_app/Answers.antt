@@ -1,6 +1,6 @@
 use Rattle.std.proofs.Common.{rules, ◌≡◌}
 use Rattle.clap.specs.Words.{rule_of}
-use Rattle.koika_top.specs.Given.{cycles_rule, engine_rule, journal_rule, summary_rule, workers_rule}
+use Rattle.koika_top.specs.inner.Given.{cycles_rule, engine_rule, journal_rule, summary_rule, workers_rule}
 use Rattle.koika_top.proofs.ReadWords.{run_app-is}
 use Rattle.koika_top.proofs.given.run_app.Goals as goal
 

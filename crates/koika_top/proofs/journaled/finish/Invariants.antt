@@ -1,6 +1,6 @@
 use Rattle.std.proofs.Common.{◌≡◌}
 use Rattle.board_core.specs.Kept.{left}
-use Rattle.koika_top.specs.Histories.{IsRecord}
+use Rattle.koika_top.specs.inner.Histories.{IsRecord}
 use Rattle.koika_top.proofs.journaled.finish.Given as goal
 
 abbrev pub invariant-cycles : goal.invariant-cycles

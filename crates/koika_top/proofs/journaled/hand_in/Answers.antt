@@ -1,6 +1,6 @@
 use Rattle.std.proofs.Common.{List, sym, subst, ◌∙◌}
 use Rattle.attempt_log.specs.declared.entry.Entry.{Entry}
-use Rattle.koika_top.specs.Histories.{IsRecord}
+use Rattle.koika_top.specs.inner.Histories.{IsRecord}
 use Rattle.koika_top.proofs.Records.{noted, submitted}
 use Rattle.koika_top.proofs.journaled.hand_in.Goals as goal
 

@@ -1,6 +1,6 @@
 use Rattle.std.proofs.Common.{ap, map, refl, string_bytes, sym, ◌∙◌}
 use Rattle.one_rule.specs.Hosts.{host_specs}
-use Rattle.koika_top.specs.Answer.{reads_source}
+use Rattle.koika_top.specs.inner.Answer.{reads_source}
 use Rattle.front_end.specs.declared.answer.Answer.TheVariants.{Usage}
 use Rattle.koika_top.proofs.Promises.{kept-out_of_memory, kept-source, kept-unread, never-read, never-read-told, tells-alone, tells-source, tells-usage}
 use Rattle.front_end.proofs.Told.{keeps-known}

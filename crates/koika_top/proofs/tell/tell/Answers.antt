@@ -2,8 +2,8 @@ use Rattle.std.proofs.Common.{◌≤◌, ℕ, List, [], refl, sym, subst, ◌∙
 use Rattle.std.proofs.lemmas.Result.{err_from_is_err_and}
 use Rattle.one_rule.specs.declared.rows.Row.{Row}
 use Rattle.stim_report.specs.Shapes.{RowsFit}
-use Rattle.koika_top.specs.Engines.{AreRows}
-use Rattle.koika_top.specs.Telling.{marks_in, shown_by}
+use Rattle.koika_top.specs.inner.Engines.{AreRows}
+use Rattle.koika_top.specs.inner.Telling.{marks_in, shown_by}
 use Rattle.koika_top.proofs.Batches.{begun, ending-cut, ending-told, first-cut, first-has, first-told, goes-on, last_cycle-rows, next-cut, next-has, next-told}
 use Rattle.koika_top.proofs.tell.tell.Goals as goal
 

@@ -1,6 +1,6 @@
 use Rattle.std.proofs.Common.{◌≡◌, ◌-◌, ◌≤◌, Ok}
 use Rattle.front_end.specs.Streams.{stream}
-use Rattle.koika_top.specs.Telling.{HasRows, marks_in, shown_by, told_of}
+use Rattle.koika_top.specs.inner.Telling.{HasRows, marks_in, shown_by, told_of}
 use Rattle.front_end.specs.Told.{Told}
 use Rattle.koika_top.proofs.tell.tell.Given as goal
 

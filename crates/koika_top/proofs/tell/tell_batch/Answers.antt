@@ -1,6 +1,6 @@
 use Rattle.std.proofs.Common.{subst, arith, ap, ◌∙◌}
 use Rattle.std.proofs.lemmas.Result.{err_from_is_err_and}
-use Rattle.koika_top.specs.Telling.{TakesRows, part_of_batch, shown_by}
+use Rattle.koika_top.specs.inner.Telling.{TakesRows, part_of_batch, shown_by}
 use Rattle.koika_top.proofs.Batches.{batch-fits, batch-is, batch-some}
 use Rattle.front_end.proofs.Results.{on-ok-any}
 use Rattle.front_end.proofs.Told.{told-as, told-none}

@@ -1,6 +1,7 @@
 use Rattle.std.proofs.Common.{◌≡◌, ◌+◌, ◌≤◌, sum_by, subst, sym, ap, ap₂, ◌∙◌, arith}
 use Rattle.kw_bits.specs.Operators.{concat}
-use Rattle.koika_types.specs.Values.{AreParts, IsValue, packed}
+use Rattle.koika_types.specs.Values.{packed}
+use Rattle.koika_types.specs.inner.Values.{AreParts, IsValue}
 use Rattle.koika_types.proofs.Counts.{count, count-Fields, count-Items, count-part}
 use Rattle.koika_types.proofs.Parts.{part-IsValue, parts-some, parts_of_fields, parts_of_items, stacked-next, stacked-one, stacked-room, stacked_up-next, stacked_up-one, stacked_up-room}
 use Rattle.koika_types.proofs.Stacks.{wide}

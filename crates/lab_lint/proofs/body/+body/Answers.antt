@@ -6,7 +6,8 @@ use Rattle.koika_check.specs.declared.checked.Function.{Function}
 use Rattle.koika_check.specs.declared.typed.Typed.{Typed}
 use Rattle.koika_lower.proofs.Bodies.{item-at}
 use Rattle.lab_core.proofs.Grown.{on_ok}
-use Rattle.lab_lint.specs.Occurrences.{Part, bodies_before, part_of, part_of_step}
+use Rattle.lab_lint.specs.Occurrences.{Part, bodies_before, part_of}
+use Rattle.lab_lint.specs.inner.Occurrences.{part_of_step}
 use Rattle.lab_lint.proofs.Bodies.{own-Call, own-none}
 use Rattle.lab_lint.proofs.Turns.{choice-none, turn-more}
 use Rattle.lab_lint.proofs.body.+body.Goals as goal

@@ -1,6 +1,7 @@
 use Rattle.std.proofs.Common.{◌≡◌, List, map, take, ◌+◌, ◌≤◌}
 use Rattle.koika_check.specs.Capped as counts
 use Rattle.koika_check.specs.Sizes as sizes
+use Rattle.koika_check.specs.inner.Sizes as inner_sizes
 use Rattle.koika_check.proofs.Runs.{run_size, behind}
 use Rattle.lab_lint.proofs.measure.+measure.Given as goal
 
@@ -20,5 +21,5 @@ abbrev pub invariant-weigh_steps-loop-step : goal.invariant-weigh_steps-loop-ste
 invariant-weigh_steps-loop-step l =
     (l.depth ≤ l.step-index + 1) ×
     ((parts : List sizes.Size) → l.fn.bodies ≡ map counts.capped parts →
-    (l.all ≡ counts.capped (run_size 1 (map (sizes.size_of_step (record { design = l.fn.design; bodies = parts })) (take l.step-index l.steps)))) ×
-    (l.depth ≡ behind 1 (map (sizes.size_of_step (record { design = l.fn.design; bodies = parts })) (take l.step-index l.steps))))
+    (l.all ≡ counts.capped (run_size 1 (map (inner_sizes.size_of_step (record { design = l.fn.design; bodies = parts })) (take l.step-index l.steps)))) ×
+    (l.depth ≡ behind 1 (map (inner_sizes.size_of_step (record { design = l.fn.design; bodies = parts })) (take l.step-index l.steps))))

@@ -2,7 +2,7 @@ use Rattle.std.proofs.Common.{ℕ, ◌+◌, ◌-◌, ◌*◌, ◌^◌, ◌≤◌
 use Rattle.std.specs.Prelude.{nat_eq, if◌then◌else◌}
 use Rattle.kw_bits.specs.BitVector.{BitVector}
 use Rattle.net_graph.specs.Values.{value_at}
-use Rattle.net_action.specs.Parts.{answer_to}
+use Rattle.net_action.specs.inner.Parts.{answer_to}
 use Rattle.net_action.specs.Wires.{HasWire}
 use Rattle.net_action.proofs.Answering.{bit_of, half_taken, lower_half, number_is, upper_half}
 use Rattle.net_action.proofs.Growth.{grows_on, values_before, wire_kept}

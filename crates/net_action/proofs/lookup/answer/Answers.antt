@@ -2,7 +2,7 @@ use Rattle.std.proofs.Common.{◌≡◌, ℕ, ◌≤◌, List, [], sym, subst, �
 use Rattle.net_graph.specs.Nets.{width_at, widths_of}
 use Rattle.net_graph.specs.Values.{value_at}
 use Rattle.net_graph.specs.declared.node.NetOp.{NetOp}
-use Rattle.net_action.specs.Parts.{AskedHasWidth}
+use Rattle.net_action.specs.inner.Parts.{AskedHasWidth}
 use Rattle.net_action.specs.Wires.{HasWire}
 use Rattle.net_action.proofs.Answering.{asked_few, none_above}
 use Rattle.net_action.proofs.Growth.{values_before, wire_inside, wire_width}

@@ -1,7 +1,7 @@
 use Rattle.std.proofs.Common.{ℕ, ap, subst, ◌∙◌, arith, refl}
 use Rattle.kw_bits.specs.BitVector.{BitVector}
 use Rattle.kw_bits.specs.Laws.{HasWidth}
-use Rattle.net_action.specs.Parts.{answer_to}
+use Rattle.net_action.specs.inner.Parts.{answer_to}
 use Rattle.net_action.specs.Wires.{HasWire}
 use Rattle.net_action.proofs.Answering.{answer_width}
 use Rattle.net_action.proofs.lookup.leaf.Goals as goal

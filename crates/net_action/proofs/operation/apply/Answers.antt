@@ -1,6 +1,6 @@
 use Rattle.std.proofs.Common.{subst}
 use Rattle.typed_core.specs.Valid.{externs_of}
-use Rattle.net_action.specs.Parts.{OperationHasWidth}
+use Rattle.net_action.specs.inner.Parts.{OperationHasWidth}
 use Rattle.net_action.specs.declared.operation.Operation.{Operation}
 use Rattle.net_action.proofs.operation.apply.Goals as goal
 

@@ -4,7 +4,7 @@ use Rattle.typed_core.specs.Evaluation.{Externs}
 use Rattle.typed_core.specs.Valid.{IsHost, IsTable}
 use Rattle.net_graph.specs.Values.{value_at}
 use Rattle.net_action.specs.Gates.{HasValue}
-use Rattle.net_action.specs.Parts.{AskedHasWidth, answer_to}
+use Rattle.net_action.specs.inner.Parts.{AskedHasWidth, answer_to}
 use Rattle.net_action.proofs.operation.ask.Goals as goal
 
 pub answer-requires-clause-tables : goal.answer-requires-clause-tables

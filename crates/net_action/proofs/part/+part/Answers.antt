@@ -6,7 +6,7 @@ use Rattle.typed_core.specs.Valid.{ActionHasWidth, declarations}
 use Rattle.typed_core.specs.Widths.{input_widths, register_widths}
 use Rattle.typed_core.specs.declared.action.Action.{the_lemmas}
 use Rattle.typed_core.specs.declared.action.Action.TheVariants as action
-use Rattle.net_action.specs.Parts.{CanBe, CanBeOperand, IsPart, IsRunning}
+use Rattle.net_action.specs.inner.Parts.{CanBe, CanBeOperand, IsPart, IsRunning}
 use Rattle.net_action.specs.Wires.{ArePortWires}
 use Rattle.net_action.proofs.Growth.{grows_on, log_kept, ports_kept, wire_kept}
 use Rattle.net_action.proofs.Making.{abort_made, host_form, if_form, let_form, one_form, sequence_form, sext_form, slice_form, table_form, two_form, write_form, zext_form, arms_fit, binary_applies, binary_first, binary_made, binary_second, const_made, if_arms, if_bit, if_first, if_made, input_made, let_first, let_made, let_second, local_made, of_form, operand_has_wire, operand_part, read_made, read_ready, sequence_first, sequence_made, sequence_second, unary_applies, unary_first, unary_made, write_applies, write_first, write_made}

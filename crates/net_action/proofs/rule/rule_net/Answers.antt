@@ -8,7 +8,7 @@ use Rattle.typed_core.specs.declared.design.Rule.{Rule}
 use Rattle.one_rule.specs.Cycle.{environment}
 use Rattle.one_rule.specs.PortRun.{port_run_if}
 use Rattle.typed_core.proofs.Values.{found_holds}
-use Rattle.net_action.specs.Parts.{CanBe}
+use Rattle.net_action.specs.inner.Parts.{CanBe}
 use Rattle.net_action.specs.Wires.{RuleStandsFor}
 use Rattle.net_action.proofs.Beginning.{rule_stands}
 use Rattle.net_action.proofs.Growth.{grows_on, ports_kept, values_before}

@@ -8,7 +8,7 @@ use Rattle.typed_core.specs.declared.design.RegDecl.{RegDecl}
 use Rattle.one_rule.specs.PortRun.{port_walk}
 use Rattle.rule_log.proofs.Telling.{after_at}
 use Rattle.net_action.proofs.Growth.{values_before}
-use Rattle.net_sched.specs.Cycles.{AreStates}
+use Rattle.net_sched.specs.inner.Cycles.{AreStates}
 use Rattle.net_sched.proofs.Pushing.{flags_kept}
 use Rattle.net_sched.proofs.circuit.cycle_ends.Goals as goal
 

@@ -2,7 +2,7 @@ use Rattle.std.proofs.Common.{List, sym, subst}
 use Rattle.net_graph.specs.Values.{AllRead}
 use Rattle.net_graph.specs.declared.node.NetOp.{NetOp}
 use Rattle.typed_core.specs.Widths.{input_widths, register_widths}
-use Rattle.net_sched.specs.Made.{AreEnds}
+use Rattle.net_sched.specs.inner.Made.{AreEnds}
 use Rattle.net_sched.proofs.Circuits.{IsMade, are_wires}
 use Rattle.net_sched.proofs.circuit.design_wires.Goals as goal
 

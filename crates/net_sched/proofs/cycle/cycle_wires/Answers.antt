@@ -10,7 +10,7 @@ use Rattle.typed_core.specs.declared.design.Parts.{Parts}
 use Rattle.one_rule.specs.PortRun.{PortState, port_fire}
 use Rattle.one_rule.specs.Walk.{Walk, start, walk_past}
 use Rattle.net_action.proofs.Growth.{grows_on, values_before}
-use Rattle.net_sched.specs.Cycles.{CycleStandsFor, nothing}
+use Rattle.net_sched.specs.inner.Cycles.{CycleStandsFor, nothing}
 use Rattle.net_sched.proofs.Passing.{walk_past_next}
 use Rattle.net_sched.proofs.cycle.cycle_wires.Goals as goal
 

@@ -6,7 +6,7 @@ use Rattle.one_rule.specs.PortRun.{port_fire}
 use Rattle.one_rule.specs.Walk.{start, walk_past}
 use Rattle.net_action.specs.Gates.{Grows}
 use Rattle.net_action.specs.Wires.{AreValues}
-use Rattle.net_sched.specs.Cycles.{AreCycleWires, CycleStandsFor, nothing}
+use Rattle.net_sched.specs.inner.Cycles.{AreCycleWires, CycleStandsFor, nothing}
 use Rattle.net_sched.proofs.cycle.cycle_wires.Given as goal
 
 abbrev pub invariant-loop-number : goal.invariant-loop-number

@@ -7,7 +7,7 @@ use Rattle.one_rule.specs.Walk.{is_at}
 use Rattle.net_action.specs.Gates.{Grows}
 use Rattle.net_action.specs.Wires.{HasWire, is_up}
 use Rattle.net_action.proofs.Growth.{grows_on, log_kept, ports_kept, values_before, wire_kept}
-use Rattle.net_sched.specs.Cycles.{AreFlags, IsVisit, IsWithin}
+use Rattle.net_sched.specs.inner.Cycles.{AreFlags, IsVisit, IsWithin}
 use Rattle.net_sched.specs.declared.cycle.CycleWires.{CycleWires}
 use Rattle.net_sched.proofs.Passing.{gone, is_within}
 use Rattle.net_sched.proofs.Pushing.{flags_kept}

@@ -1,5 +1,5 @@
 use Rattle.std.proofs.Common.{ℕ, List, [], length, sym, subst}
-use Rattle.net_sched.specs.Cycles.{AreFlags}
+use Rattle.net_sched.specs.inner.Cycles.{AreFlags}
 use Rattle.net_sched.proofs.Pushing.{flags_set}
 use Rattle.net_sched.proofs.flags.mark.Goals as goal
 

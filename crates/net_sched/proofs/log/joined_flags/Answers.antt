@@ -2,7 +2,7 @@ use Rattle.std.proofs.Common.{◌≡◌, ◌+◌, ℕ, [], List, sym, subst, ap�
 use Rattle.std.specs.Prelude.{◌&&◌, ◌||◌}
 use Rattle.net_action.specs.Wires.{HasWire, is_up}
 use Rattle.net_action.proofs.Growth.{grows_on, values_before, wire_kept}
-use Rattle.net_sched.specs.Cycles.{AreFlags, JoinsFlags, nth}
+use Rattle.net_sched.specs.inner.Cycles.{AreFlags, JoinsFlags, nth}
 use Rattle.net_sched.proofs.Pushing.{flags_more, pushed}
 use Rattle.net_sched.proofs.log.joined_flags.Goals as goal
 

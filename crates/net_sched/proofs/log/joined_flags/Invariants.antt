@@ -3,7 +3,7 @@ use Rattle.kw_bits.specs.BitVector.{BitVector}
 use Rattle.net_graph.specs.Values.{Sources}
 use Rattle.net_action.specs.Gates.{Grows}
 use Rattle.net_action.specs.Wires.{AreValues, is_up}
-use Rattle.net_sched.specs.Cycles.{AreFlags, JoinsFlags}
+use Rattle.net_sched.specs.inner.Cycles.{AreFlags, JoinsFlags}
 use Rattle.net_sched.proofs.log.joined_flags.Given as goal
 
 abbrev pub invariant-loop-place : goal.invariant-loop-place

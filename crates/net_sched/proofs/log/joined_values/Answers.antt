@@ -3,7 +3,7 @@ use Rattle.std.specs.Prelude.{◌&&◌, if◌then◌else◌}
 use Rattle.net_graph.specs.Values.{value_at}
 use Rattle.net_action.specs.Wires.{HasWire, is_up}
 use Rattle.net_action.proofs.Growth.{grows_on, values_before, wire_kept}
-use Rattle.net_sched.specs.Cycles.{nth}
+use Rattle.net_sched.specs.inner.Cycles.{nth}
 use Rattle.net_sched.proofs.Pushing.{longer, pushed}
 use Rattle.net_sched.proofs.log.joined_values.Goals as goal
 

@@ -4,7 +4,7 @@ use Rattle.kw_bits.specs.BitVector.{BitVector}
 use Rattle.net_graph.specs.Values.{Sources, value_at}
 use Rattle.net_action.specs.Gates.{Grows}
 use Rattle.net_action.specs.Wires.{AreValues, HasWire, is_up}
-use Rattle.net_sched.specs.Cycles.{nth}
+use Rattle.net_sched.specs.inner.Cycles.{nth}
 use Rattle.net_sched.proofs.log.joined_values.Given as goal
 
 abbrev pub invariant-loop-place : goal.invariant-loop-place

@@ -8,7 +8,7 @@ use Rattle.rule_log.proofs.Telling.{seen_at_none}
 use Rattle.net_action.specs.Wires.{HasWire, is_set, is_up, wire_at, written}
 use Rattle.net_action.proofs.Accesses.{seen_next}
 use Rattle.net_action.proofs.Growth.{grows_not, grows_on, values_before, wire_kept}
-use Rattle.net_sched.specs.Cycles.{nth}
+use Rattle.net_sched.specs.inner.Cycles.{nth}
 use Rattle.net_sched.proofs.registers.last_value.Goals as goal
 
 pub loop-port-init : goal.loop-port-init

@@ -6,7 +6,7 @@ use Rattle.typed_core.specs.Widths.{register_widths}
 use Rattle.typed_core.specs.declared.access.Event.{Event}
 use Rattle.net_action.specs.Gates.{Grows}
 use Rattle.net_action.specs.Wires.{AreValues, HasWire, LogStandsFor}
-use Rattle.net_sched.specs.Cycles.{nth}
+use Rattle.net_sched.specs.inner.Cycles.{nth}
 use Rattle.net_sched.proofs.registers.last_value.Given as goal
 
 abbrev pub invariant-loop-port : goal.invariant-loop-port

@@ -10,7 +10,7 @@ use Rattle.typed_core.specs.declared.design.Parts.{Parts}
 use Rattle.typed_core.specs.declared.limits.TheConstants.{PORTS}
 use Rattle.net_action.specs.Wires.{HasWire}
 use Rattle.net_action.proofs.Growth.{grows_on, log_kept, values_before, wire_kept}
-use Rattle.net_sched.specs.Cycles.{nth}
+use Rattle.net_sched.specs.inner.Cycles.{nth}
 use Rattle.net_sched.proofs.Pushing.{longer, pushed}
 use Rattle.net_sched.proofs.StateWires.{within_widths}
 use Rattle.net_sched.proofs.registers.next_values.Goals as goal

@@ -9,7 +9,7 @@ use Rattle.typed_core.specs.declared.access.Event.{Event}
 use Rattle.typed_core.specs.declared.limits.TheConstants.{PORTS}
 use Rattle.net_action.specs.Gates.{Grows}
 use Rattle.net_action.specs.Wires.{AreValues, HasWire, PortsStandFor}
-use Rattle.net_sched.specs.Cycles.{nth}
+use Rattle.net_sched.specs.inner.Cycles.{nth}
 use Rattle.net_sched.proofs.registers.next_values.Given as goal
 
 abbrev pub invariant-loop-register : goal.invariant-loop-register

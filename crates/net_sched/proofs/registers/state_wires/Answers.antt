@@ -3,7 +3,7 @@ use Rattle.std.specs.Prelude.{slice_get}
 use Rattle.net_graph.specs.declared.node.NetOp.TheVariants.{State}
 use Rattle.typed_core.specs.declared.design.RegDecl.{RegDecl}
 use Rattle.net_action.specs.Wires.{HasWire}
-use Rattle.net_sched.specs.Cycles.{nth}
+use Rattle.net_sched.specs.inner.Cycles.{nth}
 use Rattle.net_sched.proofs.Pushing.{longer}
 use Rattle.net_sched.proofs.StateWires.{nodes_more, reads_more, wires_more}
 use Rattle.net_sched.proofs.registers.state_wires.Goals as goal

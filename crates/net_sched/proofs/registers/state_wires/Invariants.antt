@@ -4,7 +4,7 @@ use Rattle.net_graph.specs.Values.{AllRead}
 use Rattle.net_graph.specs.declared.node.NetOp.TheVariants.{State}
 use Rattle.typed_core.specs.declared.design.RegDecl.{RegDecl}
 use Rattle.net_action.specs.Wires.{HasWire}
-use Rattle.net_sched.specs.Cycles.{nth}
+use Rattle.net_sched.specs.inner.Cycles.{nth}
 use Rattle.net_sched.proofs.registers.state_wires.Given as goal
 
 abbrev pub invariant-loop-register : goal.invariant-loop-register

@@ -2,7 +2,7 @@ use Rattle.std.proofs.Common.{◌≡◌, ℕ, List, length, sym, ap, subst, ◌�
 use Rattle.net_graph.specs.declared.node.NetOp.{NetOp}
 use Rattle.circuit_eval.specs.Circuits.{IsCircuit}
 use Rattle.circuit_eval.specs.declared.circuit.Wires.{Wires}
-use Rattle.net_simplify.specs.Passes.{IsSimpler, Reduces, rewired}
+use Rattle.net_simplify.specs.inner.Passes.{IsSimpler, Reduces, rewired}
 use Rattle.net_simplify.proofs.SameRuns.{made, reduced_carries, rewired_simpler}
 use Rattle.net_simplify.proofs.circuit.simpler_wires.Goals as goal
 

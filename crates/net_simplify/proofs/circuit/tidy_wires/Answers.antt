@@ -2,7 +2,7 @@ use Rattle.std.proofs.Common.{◌≡◌, ℕ, List, length, Bool, sym, subst, �
 use Rattle.net_graph.specs.declared.node.NetOp.{NetOp}
 use Rattle.circuit_eval.specs.Tidy.{IsTidy}
 use Rattle.circuit_eval.specs.declared.circuit.Wires.{Wires}
-use Rattle.net_simplify.specs.Passes.{AreServing, IsSimpler, LaysOut, rewired}
+use Rattle.net_simplify.specs.inner.Passes.{AreServing, IsSimpler, LaysOut, rewired}
 use Rattle.net_simplify.proofs.SameRuns.{made, rewired_simpler}
 use Rattle.net_simplify.proofs.Tidying.{carries, lean_moved, tidied}
 use Rattle.net_simplify.proofs.circuit.tidy_wires.Goals as goal

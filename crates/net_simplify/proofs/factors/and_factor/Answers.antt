@@ -2,7 +2,7 @@ use Rattle.std.proofs.Common.{ap, ◌∙◌}
 use Rattle.std.specs.Prelude.{Some}
 use Rattle.net_graph.specs.declared.node.NetOp.TheVariants.{Two}
 use Rattle.net_graph.specs.declared.node.NetTwo.TheVariants.{And}
-use Rattle.net_simplify.specs.Forms.{IsCommon, IsForm}
+use Rattle.net_simplify.specs.inner.Forms.{IsCommon, IsForm}
 use Rattle.net_simplify.specs.declared.form.Form.TheVariants.{Node}
 use Rattle.net_simplify.proofs.Factoring.{or_operands, and-factored, some_weaker}
 use Rattle.net_simplify.proofs.factors.and_factor.Goals as goal

@@ -5,7 +5,7 @@ use Rattle.net_graph.specs.Nets.{Stands, widths_of}
 use Rattle.net_graph.specs.declared.node.NetOp.{NetOp}
 use Rattle.net_graph.specs.declared.node.NetOp.TheVariants.{One, Two, Slice, Uext, Sext, Ite}
 use Rattle.circuit_eval.specs.Tidy.{IsConstant, IsOpen, operands}
-use Rattle.net_simplify.specs.Forms.{Equals}
+use Rattle.net_simplify.specs.inner.Forms.{Equals}
 use Rattle.net_simplify.specs.declared.form.Form.TheVariants.{Constant}
 use Rattle.net_simplify.proofs.Folding.{ite-folds, ite_stands, one-folds, sext-folds, sext_stands, slice-folds, slice_stands, two-folds, two_stands, uext-folds, uext_stands}
 use Rattle.net_simplify.proofs.Standing.{within_node}

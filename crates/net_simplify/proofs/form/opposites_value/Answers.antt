@@ -2,7 +2,7 @@ use Rattle.std.proofs.Common.{refl}
 use Rattle.std.specs.Prelude.{IfSome, None, Option, Some}
 use Rattle.kw_bits.specs.BitVector.{BitVector}
 use Rattle.net_graph.specs.declared.node.NetOp.TheVariants.{Two}
-use Rattle.net_simplify.specs.Forms.{IsForm, IsOfOpposites}
+use Rattle.net_simplify.specs.inner.Forms.{IsForm, IsOfOpposites}
 use Rattle.net_simplify.specs.declared.form.Form.TheVariants.{Constant}
 use Rattle.net_simplify.proofs.Forming.{opposites_form}
 use Rattle.net_simplify.proofs.Standing.{within_node}

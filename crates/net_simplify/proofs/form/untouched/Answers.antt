@@ -2,7 +2,7 @@ use Rattle.std.proofs.Common.{◌≡◌, List, refl, sym, subst}
 use Rattle.net_graph.specs.Nets.{Stands, widths_of}
 use Rattle.net_graph.specs.declared.node.NetOp.{NetOp}
 use Rattle.net_graph.specs.declared.node.NetOp.TheVariants.{One, Slice, Uext, Sext}
-use Rattle.net_simplify.specs.Forms.{Equals}
+use Rattle.net_simplify.specs.inner.Forms.{Equals}
 use Rattle.net_simplify.specs.declared.form.Form.{Form}
 use Rattle.net_simplify.specs.declared.form.Form.TheVariants.{Node}
 use Rattle.net_simplify.proofs.Standing.{within_node}

@@ -1,6 +1,6 @@
 use Rattle.std.proofs.Common.{Bool, refl, subst}
 use Rattle.std.specs.Prelude.{Option}
-use Rattle.net_simplify.specs.Forms.{IsKnownBit}
+use Rattle.net_simplify.specs.inner.Forms.{IsKnownBit}
 use Rattle.net_simplify.proofs.Implying.{and-first_clear, and-second_clear, and-set}
 use Rattle.net_simplify.proofs.implied.both.Goals as goal
 

@@ -1,6 +1,6 @@
 use Rattle.std.proofs.Common.{Bool, refl, subst}
 use Rattle.std.specs.Prelude.{Option}
-use Rattle.net_simplify.specs.Forms.{IsKnownBit}
+use Rattle.net_simplify.specs.inner.Forms.{IsKnownBit}
 use Rattle.net_simplify.proofs.Implying.{or-first_set, or-second_set, or-clear}
 use Rattle.net_simplify.proofs.implied.either.Goals as goal
 

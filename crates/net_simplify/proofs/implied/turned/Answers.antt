@@ -1,6 +1,6 @@
 use Rattle.std.proofs.Common.{Bool, subst}
 use Rattle.std.specs.Prelude.{Option}
-use Rattle.net_simplify.specs.Forms.{IsKnownBit}
+use Rattle.net_simplify.specs.inner.Forms.{IsKnownBit}
 use Rattle.net_simplify.proofs.Implying.{not_known}
 use Rattle.net_simplify.proofs.implied.turned.Goals as goal
 

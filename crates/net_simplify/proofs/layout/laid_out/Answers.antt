@@ -4,7 +4,7 @@ use Rattle.std.proofs.lemmas.Option.{slice_get_read}
 use Rattle.net_graph.specs.Nets.{Adds, Stands, widths_of}
 use Rattle.net_graph.specs.declared.node.NetOp.{NetOp}
 use Rattle.circuit_eval.specs.Tidy.{operands}
-use Rattle.net_simplify.specs.Passes.{LaysOut, nth, renamed}
+use Rattle.net_simplify.specs.inner.Passes.{LaysOut, nth, renamed}
 use Rattle.net_simplify.proofs.Laying.{lays-more, lays-skipped, moved_stands, operands_within}
 use Rattle.net_simplify.proofs.layout.laid_out.Goals as goal
 use Rattle.net_simplify.proofs.layout.laid_out.Goals.{then-serves-id+in_ok-place, else-serves-id}

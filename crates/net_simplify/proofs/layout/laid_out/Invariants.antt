@@ -1,4 +1,4 @@
-use Rattle.net_simplify.specs.Passes.{LaysOut}
+use Rattle.net_simplify.specs.inner.Passes.{LaysOut}
 use Rattle.net_simplify.proofs.layout.laid_out.Given as goal
 
 abbrev pub invariant-loop-id : goal.invariant-loop-id

@@ -1,7 +1,7 @@
 use Rattle.std.proofs.Common.{sym, subst}
 use Rattle.kw_bits.specs.BitVector.{BitVector}
 use Rattle.net_graph.specs.declared.node.NetOp.TheVariants.{Const}
-use Rattle.net_simplify.specs.Forms.{IsKnownBit}
+use Rattle.net_simplify.specs.inner.Forms.{IsKnownBit}
 use Rattle.net_simplify.proofs.Standing.{value_node}
 use Rattle.net_simplify.proofs.nodes.bit_at.Goals as goal
 

@@ -1,6 +1,6 @@
 use Rattle.std.proofs.Common.{ℕ, ◌-◌, ◌^◌, sym, ap, subst, ◌∙◌}
 use Rattle.net_graph.specs.Values.{node_value}
-use Rattle.net_simplify.specs.Identities.{IsKnown}
+use Rattle.net_simplify.specs.inner.Identities.{IsKnown}
 use Rattle.net_simplify.specs.declared.known.Known.TheVariants.{Ones}
 use Rattle.net_simplify.proofs.Standing.{bits_node}
 use Rattle.net_simplify.proofs.nodes.known_if_set.Goals as goal

@@ -2,7 +2,7 @@ use Rattle.std.proofs.Common.{◌≡◌, ℕ, sym, subst}
 use Rattle.kw_bits.specs.BitVector.{BitVector}
 use Rattle.net_graph.specs.declared.node.NetTwo.{NetTwo}
 use Rattle.net_graph.specs.declared.node.NetTwo.TheVariants.{And, Or, Xor}
-use Rattle.net_simplify.specs.Forms.{IsOfOpposites}
+use Rattle.net_simplify.specs.inner.Forms.{IsOfOpposites}
 use Rattle.net_simplify.proofs.Opposing.{and-opposite, or-opposite, xor-opposite}
 use Rattle.net_simplify.proofs.opposites.of_opposites.Goals as goal
 

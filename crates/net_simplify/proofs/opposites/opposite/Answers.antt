@@ -1,7 +1,7 @@
 use Rattle.std.proofs.Common.{◌≡◌, sym, subst}
 use Rattle.net_graph.specs.declared.node.NetTwo.{NetTwo}
 use Rattle.net_graph.specs.declared.node.NetTwo.TheVariants.{EqBits, Neq, Ult, Ulte, Ugt, Ugte, Slt, Slte, Sgt, Sgte}
-use Rattle.net_simplify.specs.Forms.{IsOpposite}
+use Rattle.net_simplify.specs.inner.Forms.{IsOpposite}
 use Rattle.net_simplify.proofs.Opposing.{eq-neq, neq-eq, sgt-slte, sgte-slt, slt-sgte, slte-sgt, ugt-ulte, ugte-ult, ult-ugte, ulte-ugt}
 use Rattle.net_simplify.proofs.opposites.opposite.Goals as goal
 

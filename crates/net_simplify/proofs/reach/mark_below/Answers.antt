@@ -1,6 +1,6 @@
 use Rattle.std.proofs.Common.{Bool, List, length, refl, sym, subst}
 use Rattle.std.proofs.lemmas.Option.{slice_get_read}
-use Rattle.net_simplify.specs.Passes.{ClosesAt}
+use Rattle.net_simplify.specs.inner.Passes.{ClosesAt}
 use Rattle.net_simplify.proofs.Marking.{closes-marked, within}
 use Rattle.net_simplify.proofs.reach.mark_below.Goals as goal
 

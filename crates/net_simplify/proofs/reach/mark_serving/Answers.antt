@@ -5,7 +5,7 @@ use Rattle.net_graph.specs.declared.node.NetOp.{NetOp}
 use Rattle.circuit_eval.specs.declared.circuit.OutputWire.{OutputWire}
 use Rattle.circuit_eval.specs.declared.circuit.StateWire.{StateWire}
 use Rattle.circuit_eval.specs.declared.circuit.Wires.{Wires}
-use Rattle.net_simplify.specs.Passes.{Closes, marked}
+use Rattle.net_simplify.specs.inner.Passes.{Closes, marked}
 use Rattle.net_simplify.proofs.Marking.{ids, nexts, none, serving_all}
 use Rattle.net_simplify.proofs.reach.mark_serving.Goals as goal
 

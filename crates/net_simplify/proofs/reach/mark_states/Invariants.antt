@@ -1,6 +1,6 @@
 use Rattle.std.proofs.Common.{◌≡◌, map, take}
 use Rattle.circuit_eval.specs.declared.circuit.StateWire.{StateWire}
-use Rattle.net_simplify.specs.Passes.{marked}
+use Rattle.net_simplify.specs.inner.Passes.{marked}
 use Rattle.net_simplify.proofs.reach.mark_states.Given as goal
 
 abbrev pub invariant-loop-wire : goal.invariant-loop-wire

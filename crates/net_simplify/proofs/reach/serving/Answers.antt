@@ -1,6 +1,6 @@
 use Rattle.std.proofs.Common.{◌≡◌, length, drop, sym, subst, arith}
 use Rattle.std.proofs.lemmas.List.{take_at}
-use Rattle.net_simplify.specs.Passes.{AreServing}
+use Rattle.net_simplify.specs.inner.Passes.{AreServing}
 use Rattle.net_simplify.proofs.reach.serving.Goals as goal
 
 pub returns : goal.returns

@@ -5,7 +5,7 @@ use Rattle.std.proofs.lemmas.Option.{slice_get_read}
 use Rattle.net_graph.specs.Nets.{Stands, widths_of}
 use Rattle.net_graph.specs.declared.node.NetOp.{NetOp}
 use Rattle.circuit_eval.specs.Tidy.{operands}
-use Rattle.net_simplify.specs.Passes.{Gains, nth, Reduces, renamed}
+use Rattle.net_simplify.specs.inner.Passes.{Gains, nth, Reduces, renamed}
 use Rattle.net_simplify.proofs.Reducing.{next_stands, operands_placed, reduces-more}
 use Rattle.net_simplify.proofs.reduced.reduced.Goals as goal
 

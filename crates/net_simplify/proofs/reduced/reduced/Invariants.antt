@@ -1,4 +1,4 @@
-use Rattle.net_simplify.specs.Passes.{Reduces}
+use Rattle.net_simplify.specs.inner.Passes.{Reduces}
 use Rattle.net_simplify.proofs.reduced.reduced.Given as goal
 
 abbrev pub invariant-loop-op : goal.invariant-loop-op

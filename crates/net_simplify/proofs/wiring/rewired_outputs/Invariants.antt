@@ -1,5 +1,5 @@
 use Rattle.std.proofs.Common.{◌≡◌, map, take}
-use Rattle.net_simplify.specs.Passes.{moved_output}
+use Rattle.net_simplify.specs.inner.Passes.{moved_output}
 use Rattle.net_simplify.proofs.wiring.rewired_outputs.Given as goal
 
 abbrev pub invariant-loop-wire : goal.invariant-loop-wire

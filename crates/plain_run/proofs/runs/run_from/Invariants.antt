@@ -3,7 +3,7 @@ use Rattle.one_rule.specs.Cycle.{system_of}
 use Rattle.one_rule.specs.Rows.{RowFits, RowsFit}
 use Rattle.one_rule.specs.Run.{rows_after, run}
 use Rattle.one_rule.specs.Stimulus.{inputs_of}
-use Rattle.plain_run.specs.Walking.{AreEmpty}
+use Rattle.plain_run.specs.inner.Walking.{AreEmpty}
 use Rattle.plain_run.proofs.runs.run_from.Given as goal
 
 -- the rows that stand, the last one and those that are left make the run

@@ -3,7 +3,7 @@ use Rattle.std.specs.Prelude.{slice_set}
 use Rattle.typed_core.specs.Widths.{register_widths}
 use Rattle.one_rule.specs.PortRun.{PortState}
 use Rattle.one_rule.specs.Walk.{Walk}
-use Rattle.plain_run.specs.Walking.{Stands}
+use Rattle.plain_run.specs.inner.Walking.{Stands}
 use Rattle.plain_run.specs.declared.walk.Walking.{Walking}
 use Rattle.plain_run.proofs.Walking.{fires, flags_more}
 use Rattle.plain_run.proofs.walk.settle.Goals as goal

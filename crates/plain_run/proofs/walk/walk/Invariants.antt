@@ -1,7 +1,7 @@
 use Rattle.std.proofs.Common.{◌≡◌, drop}
 use Rattle.one_rule.specs.PortRun.{PortState, port_fire}
 use Rattle.one_rule.specs.Walk.{walk_from, walk_past}
-use Rattle.plain_run.specs.Walking.{IsEmpty, Stands, begin}
+use Rattle.plain_run.specs.inner.Walking.{IsEmpty, Stands, begin}
 use Rattle.plain_run.proofs.walk.walk.Given as goal
 
 -- the walk past the nodes that are left ends where the whole one does

@@ -1,6 +1,6 @@
 use Rattle.std.proofs.Common.{ℕ, List, ◌∷◌, ◌++◌, append-nil, sym, ap, ap₂, ◌∙◌}
 use Rattle.stim_report.specs.Cuts.{lines_of}
-use Rattle.stim_report.specs.Runs.{bytes_behind, pieces_of}
+use Rattle.stim_report.specs.inner.Runs.{bytes_behind, pieces_of}
 use Rattle.stim_report.proofs.CutsInTurn.{lines_of-last, lines_of-more, lines_of-nil, none_by_test, some_by_test}
 use Rattle.stim_report.proofs.cuts.next_line.Goals as goal
 

@@ -1,7 +1,7 @@
 use Rattle.std.proofs.Common.{drop}
-use Rattle.stim_report.specs.Pages.{Leaves}
+use Rattle.stim_report.specs.inner.Pages.{Leaves}
 use Rattle.stim_report.specs.Report.{fired_names, listed}
-use Rattle.stim_report.specs.Steps.{rest_listed}
+use Rattle.stim_report.specs.inner.Steps.{rest_listed}
 use Rattle.stim_report.proofs.fired.push_fired.Given as goal
 
 abbrev pub invariant-loop-number : goal.invariant-loop-number

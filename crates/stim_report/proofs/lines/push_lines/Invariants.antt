@@ -1,5 +1,5 @@
 use Rattle.std.proofs.Common.{◌+◌, drop}
-use Rattle.stim_report.specs.Pages.{Leaves}
+use Rattle.stim_report.specs.inner.Pages.{Leaves}
 use Rattle.stim_report.specs.Report.{lines_from}
 use Rattle.stim_report.specs.Shapes.{RowsFit}
 use Rattle.stim_report.proofs.lines.push_lines.Given as goal

@@ -1,4 +1,4 @@
-use Rattle.stim_report.specs.Pages.{Leaves}
+use Rattle.stim_report.specs.inner.Pages.{Leaves}
 use Rattle.stim_report.specs.Report.{hex_digits}
 use Rattle.stim_report.proofs.registers.push_digits.Given as goal
 

@@ -1,5 +1,5 @@
 use Rattle.std.proofs.Common.{◌≡◌, ℕ, ◌+◌, ◌-◌, ◌/◌, ◌^◌, List, sym, ap₂, ◌∙◌, subst, arith}
-use Rattle.stim_report.specs.Pages.{Gains, HasRoom}
+use Rattle.stim_report.specs.inner.Pages.{Gains, HasRoom}
 use Rattle.stim_report.specs.Report.{hex, hex_digits}
 use Rattle.stim_report.proofs.Hex.{low_digits, split_digits}
 use Rattle.stim_report.proofs.Pages.{in_turn, room_first, room_next}

@@ -1,5 +1,5 @@
 use Rattle.std.proofs.Common.{drop}
-use Rattle.stim_report.specs.Pages.{Leaves}
+use Rattle.stim_report.specs.inner.Pages.{Leaves}
 use Rattle.stim_report.specs.Report.{registers_text}
 use Rattle.stim_report.proofs.registers.push_registers.Given as goal
 

@@ -1,6 +1,6 @@
 use Rattle.std.proofs.Common.{ℕ, List, sym, ap, ◌∙◌, subst, arith}
 use Rattle.stim_report.specs.Cuts.{Parts}
-use Rattle.stim_report.specs.Runs.{pieces_of}
+use Rattle.stim_report.specs.inner.Runs.{pieces_of}
 use Rattle.stim_report.proofs.SourceInTurn.{HasPassed, behind_joined, design_is, few_pieces, is_next, one_passed, parts_marked, parts_unmarked, text_fits}
 use Rattle.stim_report.proofs.source.source_parts.Goals as goal
 

@@ -1,5 +1,5 @@
 use Rattle.std.proofs.Common.{length}
-use Rattle.stim_report.specs.Runs.{pieces_of}
+use Rattle.stim_report.specs.inner.Runs.{pieces_of}
 use Rattle.stim_report.proofs.SourceInTurn.{HasPassed}
 use Rattle.stim_report.proofs.source.source_parts.Given as goal
 

@@ -1,7 +1,7 @@
 use Rattle.std.proofs.Common.{◌≡◌, ◌+◌, [], length}
 use Rattle.one_rule.specs.Stimulus.{IsLine}
 use Rattle.stim_report.specs.Cuts.{words_from}
-use Rattle.stim_report.specs.Given.{AreGiven}
+use Rattle.stim_report.specs.inner.Given.{AreGiven}
 use Rattle.stim_report.specs.Shapes.{widths_of}
 use Rattle.stim_report.specs.Stimuli.{line_from}
 use Rattle.stim_report.proofs.stimulus.read_line.Given as goal

@@ -1,5 +1,5 @@
 use Rattle.std.proofs.Common.{◌≡◌, length}
-use Rattle.typed_core.specs.Paths.{AreMost}
+use Rattle.typed_core.specs.inner.Paths.{AreMost}
 use Rattle.typed_core.proofs.schedule.most_times.Given as goal
 
 abbrev pub invariant-loop-number : goal.invariant-loop-number

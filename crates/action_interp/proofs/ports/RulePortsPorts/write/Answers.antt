@@ -3,7 +3,7 @@ use Rattle.std.proofs.lemmas.List.{length-map}
 use Rattle.std.proofs.lemmas.Option.{slice_get_within}
 use Rattle.kw_bits.specs.BitVector.{BitVector}
 use Rattle.rule_log.specs.StandsFor.{RegisterLog, registers}
-use Rattle.action_interp.specs.ByLog.{widths_of}
+use Rattle.action_interp.specs.inner.ByLog.{widths_of}
 use Rattle.action_interp.proofs.Steps.{write_notes, write_stops}
 use Rattle.action_interp.proofs.ports.RulePortsPorts.write.Goals as goal
 

@@ -6,7 +6,8 @@ use Rattle.kw_bits.specs.BitVector.{BitVector}
 use Rattle.circuit_eval.specs.Circuits.{AreBits}
 use Rattle.aig_blast.specs.Aigs.{AigParts, input_widths, IsAig, latch_widths, variables}
 use Rattle.aig_blast.specs.AigRun.{bits_of, next_words, values_in}
-use Rattle.aig_blast.specs.AigSims.{after_step, flags_in, IsReadable, Simulation}
+use Rattle.aig_blast.specs.AigSims.{after_step, flags_in, Simulation}
+use Rattle.aig_blast.specs.inner.AigSims.{IsReadable}
 use Rattle.aig_blast.specs.declared.aig.LatchWord.{LatchWord}
 use Rattle.aig_blast.specs.declared.aig.OutputBit.{OutputBit}
 use Rattle.aig_blast.proofs.SimValues.{half-below, IsReadable-latch, next_words-AreBits, take-first}

@@ -1,6 +1,6 @@
 use Rattle.std.proofs.Common.{ℕ, Result, sym, subst, ◌∙◌}
 use Rattle.aiger_text.specs.Drafts.{Draft, with_gate, with_input, with_latch, with_output}
-use Rattle.aiger_text.specs.Steps.{parts_of, ReadsLine}
+use Rattle.aiger_text.specs.inner.Steps.{parts_of, ReadsLine}
 use Rattle.aiger_text.specs.declared.header.Section.TheVariants as sections
 use Rattle.aiger_text.specs.declared.numbers.Numbers.{Numbers}
 use Rattle.aiger_text.proofs.Drafting.{with_line-at}

@@ -1,6 +1,6 @@
 use Rattle.std.proofs.Common.{◌<◌, Some, length, ap, ◌∙◌, arith}
 use Rattle.std.specs.Prelude.{option_map}
-use Rattle.attempt_log.specs.Firsts.{clash_of}
+use Rattle.attempt_log.specs.inner.Firsts.{clash_of}
 use Rattle.attempt_log.proofs.Searches.{search_is_clash}
 use Rattle.attempt_log.proofs.past.Past.clash.Goals as goal
 

@@ -1,5 +1,5 @@
 use Rattle.std.proofs.Common.{◌≡◌, ap, ap₂, ◌∙◌, arith}
-use Rattle.attempt_log.specs.Firsts.{earlier_of, row, earliest_below}
+use Rattle.attempt_log.specs.inner.Firsts.{earlier_of, row, earliest_below}
 use Rattle.attempt_log.specs.Past.{kinds}
 use Rattle.attempt_log.proofs.Searches.{search_begins, search_next}
 use Rattle.attempt_log.proofs.past.Past.earliest.Goals as goal

@@ -1,5 +1,5 @@
 use Rattle.std.proofs.Common.{◌≡◌}
-use Rattle.attempt_log.specs.Firsts.{row, earliest_below}
+use Rattle.attempt_log.specs.inner.Firsts.{row, earliest_below}
 use Rattle.attempt_log.proofs.past.Past.earliest.Given as goal
 
 abbrev pub invariant-loop-kind : goal.invariant-loop-kind

@@ -2,7 +2,7 @@ use Rattle.std.proofs.Common.{ℕ, ◌+◌, List, refl, sym, ap₂, ◌∙◌, s
 use Rattle.typed_core.specs.Fits.{EventsFit}
 use Rattle.typed_core.specs.Widths.{register_widths}
 use Rattle.typed_core.specs.declared.access.Event.{Event}
-use Rattle.attempt_log.specs.Firsts.{noted_all}
+use Rattle.attempt_log.specs.inner.Firsts.{noted_all}
 use Rattle.attempt_log.specs.Past.{Commits, StandsFor}
 use Rattle.attempt_log.proofs.Notes.{stands_taken}
 use Rattle.attempt_log.proofs.past.Past.take.Goals as goal

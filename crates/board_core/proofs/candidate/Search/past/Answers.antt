@@ -1,6 +1,6 @@
 use Rattle.std.proofs.Common.{Bool, [], ◌∷◌, ◌++◌, sym, subst}
 use Rattle.std.specs.Prelude.{if◌then◌else◌}
-use Rattle.board_core.specs.Search.{Finds}
+use Rattle.board_core.specs.inner.Search.{Finds}
 use Rattle.board_core.proofs.candidate.Search.past.Goals as goal
 
 pub returns-then-is_candidate-clause-finds : goal.returns-then-is_candidate-clause-finds

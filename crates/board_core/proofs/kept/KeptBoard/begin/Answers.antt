@@ -2,7 +2,8 @@ use Rattle.std.proofs.Common.{◌≡◌, ℕ, ◌+◌, length, Option, None, Lis
 use Rattle.std.specs.Arc.{arc_value}
 use Rattle.typed_core.specs.declared.design.Parts.{Parts}
 use Rattle.attempt_log.specs.Attempt.{Attempted}
-use Rattle.board_core.specs.Kept.{IsAt, IsShaped, IsSound, StandsFor, kept_by}
+use Rattle.board_core.specs.Kept.{IsAt, StandsFor}
+use Rattle.board_core.specs.inner.Kept.{IsShaped, IsSound, kept_by}
 use Rattle.kw_bits.specs.BitVector.{BitVector}
 use Rattle.kw_bits.specs.Reserved.{ReservedList}
 use Rattle.typed_core.specs.Valid.{IsValid}
@@ -12,7 +13,7 @@ use Rattle.one_rule.specs.Stimulus.{AlwaysFits}
 use Rattle.one_rule.specs.Walk.{start}
 use Rattle.one_rule.specs.declared.rows.Row.{Row}
 use Rattle.board_core.specs.Board.{Opening, opened}
-use Rattle.board_core.specs.Kept.{IsBlank}
+use Rattle.board_core.specs.inner.Kept.{IsBlank}
 use Rattle.board_core.specs.Position.{IsOpening}
 use Rattle.std.specs.Prelude.{All}
 use Rattle.board_core.proofs.Sound as sound

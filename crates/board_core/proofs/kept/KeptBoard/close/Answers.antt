@@ -4,7 +4,8 @@ use Rattle.std.specs.Arc.{arc_value}
 use Rattle.typed_core.specs.declared.design.Parts.{Parts}
 use Rattle.attempt_log.specs.Attempt.{Attempted}
 use Rattle.board_core.specs.Board.{settle}
-use Rattle.board_core.specs.Kept.{IsAt, IsShaped, IsSound, Kept, kept_by}
+use Rattle.board_core.specs.Kept.{IsAt, Kept}
+use Rattle.board_core.specs.inner.Kept.{IsShaped, IsSound, kept_by}
 use Rattle.board_core.specs.declared.event.BoardAnswer.TheVariants as answer
 use Rattle.attempt_log.specs.declared.entry.Settled.TheVariants as settled
 use Rattle.std.proofs.Common.{take}

@@ -2,7 +2,7 @@ use Rattle.std.proofs.Common.{◌≡◌, ◌+◌, ℕ, suc, List, ◌++◌, flat
 use Rattle.std.specs.List.{range_with_len}
 use Rattle.board_core.specs.Candidates.{first, further}
 use Rattle.board_core.specs.Kept.{Kept}
-use Rattle.board_core.specs.Search.{Finds}
+use Rattle.board_core.specs.inner.Search.{Finds}
 use Rattle.board_core.specs.declared.candidate.Candidate.{Candidate}
 use Rattle.board_core.proofs.Finds.{cycles_on}
 use Rattle.board_core.proofs.kept.KeptBoard.search.Goals as goal

@@ -1,7 +1,7 @@
 use Rattle.std.proofs.Common.{◌++◌, flat_map}
 use Rattle.std.specs.List.{range_with_len}
 use Rattle.board_core.specs.Candidates.{first, further}
-use Rattle.board_core.specs.Search.{FindsIn, HasRule}
+use Rattle.board_core.specs.inner.Search.{FindsIn, HasRule}
 use Rattle.board_core.proofs.kept.KeptBoard.search.Given as goal
 
 -- the cycles so far are gone past

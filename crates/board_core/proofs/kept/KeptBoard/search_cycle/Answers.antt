@@ -3,7 +3,7 @@ use Rattle.std.specs.Prelude.{if◌then◌else◌}
 use Rattle.typed_core.specs.declared.design.Parts.{Parts}
 use Rattle.board_core.specs.Candidates.{further, is_further, pairs}
 use Rattle.board_core.specs.Kept.{Kept}
-use Rattle.board_core.specs.Search.{Finds}
+use Rattle.board_core.specs.inner.Search.{Finds}
 use Rattle.board_core.specs.declared.candidate.Candidate.{Candidate}
 use Rattle.board_core.proofs.Finds.{all_pairs, found_more, further_on, further_same}
 use Rattle.board_core.proofs.kept.KeptBoard.search_cycle.Goals as goal

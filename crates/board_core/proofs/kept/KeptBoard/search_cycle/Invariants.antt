@@ -1,7 +1,7 @@
 use Rattle.std.proofs.Common.{ℕ, List, ◌++◌, filter, take}
 use Rattle.board_core.specs.Board.{Board}
 use Rattle.board_core.specs.Candidates.{is_further, pairs}
-use Rattle.board_core.specs.Search.{FindsIn, HasRule}
+use Rattle.board_core.specs.inner.Search.{FindsIn, HasRule}
 use Rattle.board_core.specs.declared.candidate.Candidate.{Candidate}
 use Rattle.board_core.proofs.kept.KeptBoard.search_cycle.Given as goal
 

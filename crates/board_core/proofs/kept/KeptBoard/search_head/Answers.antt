@@ -5,8 +5,9 @@ use Rattle.std.specs.Arc.{arc_value}
 use Rattle.typed_core.specs.declared.design.Next.{Next}
 use Rattle.board_core.specs.Board.{node_at}
 use Rattle.board_core.specs.Candidates.{pair_at}
-use Rattle.board_core.specs.Kept.{Kept, kept_by, slots_from}
-use Rattle.board_core.specs.Search.{Finds}
+use Rattle.board_core.specs.Kept.{Kept, slots_from}
+use Rattle.board_core.specs.inner.Kept.{kept_by}
+use Rattle.board_core.specs.inner.Search.{Finds}
 use Rattle.board_core.specs.declared.candidate.Candidate.{Candidate}
 use Rattle.board_core.proofs.Finds.{first_same}
 use Rattle.board_core.proofs.Sound as sound

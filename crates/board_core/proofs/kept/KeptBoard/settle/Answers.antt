@@ -4,7 +4,8 @@ use Rattle.std.specs.Arc.{arc_value}
 use Rattle.typed_core.specs.declared.design.Node.{Node}
 use Rattle.typed_core.specs.declared.design.Parts.{Parts}
 use Rattle.board_core.specs.Board.{node_at}
-use Rattle.board_core.specs.Kept.{Kept, kept_by}
+use Rattle.board_core.specs.Kept.{Kept}
+use Rattle.board_core.specs.inner.Kept.{kept_by}
 use Rattle.std.proofs.lemmas.Option.{slice_get_read}
 use Rattle.board_core.proofs.Sound as sound
 use Rattle.board_core.proofs.kept.KeptBoard.settle.Goals as goal

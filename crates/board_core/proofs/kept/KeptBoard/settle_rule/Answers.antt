@@ -5,7 +5,8 @@ use Rattle.std.specs.Arc.{arc_value}
 use Rattle.typed_core.proofs.Equal.{SameDesign-sym}
 use Rattle.attempt_log.specs.Attempt.{Attempted}
 use Rattle.board_core.specs.Board.{Board, judged, node_at, settle}
-use Rattle.board_core.specs.Kept.{IsShaped, IsSound, Kept, StandsFor, kept_by}
+use Rattle.board_core.specs.Kept.{Kept, StandsFor}
+use Rattle.board_core.specs.inner.Kept.{IsShaped, IsSound, kept_by}
 use Rattle.board_core.specs.declared.event.BoardAnswer.TheVariants as answer
 use Rattle.board_core.proofs.Plain.{settle_plain}
 use Rattle.board_core.proofs.Sound as sound

@@ -5,7 +5,8 @@ use Rattle.std.specs.Arc.{arc_value}
 use Rattle.attempt_log.specs.Attempt.{Attempted}
 use Rattle.attempt_log.specs.Setting.{IsFor}
 use Rattle.board_core.specs.Board.{setting_of, stored}
-use Rattle.board_core.specs.Kept.{IsSound, Kept, IsNear, StandsFor, kept_by}
+use Rattle.board_core.specs.Kept.{Kept, StandsFor}
+use Rattle.board_core.specs.inner.Kept.{IsSound, IsNear, kept_by}
 use Rattle.board_core.proofs.Sound as sound
 use Rattle.board_core.proofs.kept.KeptBoard.store.Goals as goal
 

@@ -10,7 +10,7 @@ use Rattle.attempt_log.specs.declared.report.Report.{Report}
 use Rattle.board_lock.specs.declared.notes.Note.{Note}
 use Rattle.board_lock.specs.Plays.{KnowsAll}
 use Rattle.board_lock.specs.Work.{Worked}
-use Rattle.board_lock.specs.Receipts.{Noting}
+use Rattle.board_lock.specs.inner.Receipts.{Noting}
 use Rattle.board_lock.specs.declared.view.View.{View}
 use Rattle.board_lock.proofs.Works.{told_run, worked}
 use Rattle.std.specs.Prelude.{◌<◌}

@@ -3,7 +3,7 @@ use Rattle.std.specs.Prelude.{Some}
 use Rattle.attempt_log.specs.declared.seat.Task.{Task}
 use Rattle.board_core.specs.Board.{Opening}
 use Rattle.board_lock.specs.Histories.{Each, InRun, IsCycle}
-use Rattle.board_lock.specs.Receipts.{receipts}
+use Rattle.board_lock.specs.inner.Receipts.{receipts}
 use Rattle.board_lock.specs.declared.view.Part.{Part}
 use Rattle.board_lock.specs.declared.view.View.{View}
 use Rattle.board_lock.proofs.Noting.{notes_kept}

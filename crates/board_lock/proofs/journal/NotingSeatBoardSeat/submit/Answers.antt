@@ -5,7 +5,7 @@ use Rattle.attempt_log.specs.Entries.{submit_entry}
 use Rattle.attempt_log.specs.declared.entry.Entry.{Entry}
 use Rattle.board_core.specs.Board.{Opening}
 use Rattle.board_lock.specs.Histories.{IsCycle}
-use Rattle.board_lock.specs.Receipts.{receipts}
+use Rattle.board_lock.specs.inner.Receipts.{receipts}
 use Rattle.board_lock.specs.declared.view.View.{View}
 use Rattle.board_lock.proofs.Noting.{note_more}
 use Rattle.board_lock.proofs.Endings.{own_grown, sees_last}

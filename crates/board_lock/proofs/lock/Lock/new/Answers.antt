@@ -1,7 +1,7 @@
 use Rattle.std.proofs.Common.{rules, ◌≡◌, List, [], ◌∷◌, Option, Some, sym, subst}
 use Rattle.atomic_table.specs.Table.{opening}
 use Rattle.board_core.specs.Kept.{Kept}
-use Rattle.board_lock.specs.Rule.{Rule}
+use Rattle.board_lock.specs.inner.Rule.{Rule}
 use Rattle.board_lock.specs.Plays.{owning}
 use Rattle.board_lock.proofs.Ends.{starts}
 use Rattle.board_lock.proofs.lock.Lock.new.Goals as goal

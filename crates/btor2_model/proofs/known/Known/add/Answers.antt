@@ -1,5 +1,5 @@
 use Rattle.std.proofs.Common.{◌≡◌, ◌≤◌, ap, sym, ◌∙◌, subst}
-use Rattle.btor2_model.specs.Known.{scope_of}
+use Rattle.btor2_model.specs.inner.Known.{scope_of}
 use Rattle.btor2_model.specs.Scope.{Scope}
 use Rattle.btor2_model.specs.declared.meaning.Meaning.{Meaning}
 use Rattle.btor2_model.specs.declared.meaning.Role.TheVariants as roles

@@ -5,7 +5,7 @@ use Rattle.kw_bits.specs.BitVector.{BitVector}
 use Rattle.net_graph.specs.Values.{values_of}
 use Rattle.net_graph.specs.declared.node.NetOp.{NetOp}
 use Rattle.circuit_eval.specs.Circuits.{AreBits, input_widths, IsCircuit, state_widths}
-use Rattle.circuit_eval.specs.Programs.{Keeps}
+use Rattle.circuit_eval.specs.inner.Programs.{Keeps}
 use Rattle.circuit_eval.specs.Run.{next_states, outputs_in, values_in}
 use Rattle.circuit_eval.specs.Simulations.{after_step, Simulation}
 use Rattle.circuit_eval.specs.declared.circuit.Wires.{Wires}

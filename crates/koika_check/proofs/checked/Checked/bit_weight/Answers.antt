@@ -1,5 +1,5 @@
 use Rattle.std.proofs.Common.{◌*◌, ap, ◌∙◌}
-use Rattle.koika_check.specs.Gauges.{cap}
+use Rattle.koika_check.specs.inner.Gauges.{cap}
 use Rattle.koika_check.proofs.FewSquares.{counted-whole}
 use Rattle.koika_check.proofs.checked.Checked.bit_weight.Goals as goal
 

@@ -2,12 +2,14 @@ use Rattle.std.proofs.Common.{◌≡◌, ◌+◌, ◌∷◌, [], ◌++◌, ap, a
 use Rattle.std.proofs.lemmas.Result.{err_from_is_err_and}
 use Rattle.kw_base.specs.declared.fault_number.TheConstants.{UNKNOWN_NAME}
 use Rattle.koika_types.specs.declared.value.Value.TheVariants as value
-use Rattle.koika_check.specs.Checking.{AreGiven, AreKnown, Checks, IsKnown, IsPartIn, Yields, arrays_of, scope_of}
+use Rattle.koika_check.specs.inner.Checking.{AreGiven, AreKnown, Checks, IsKnown, IsPartIn, Yields, arrays_of, scope_of}
 use Rattle.koika_check.specs.Composites.{array_of, fields_of, member}
-use Rattle.koika_check.specs.Shapes.{part_of}
-use Rattle.koika_check.specs.Constants.{constant_field_of, constant_of, struct_known}
+use Rattle.koika_check.specs.inner.Shapes.{part_of}
+use Rattle.koika_check.specs.Constants.{constant_of, struct_known}
+use Rattle.koika_check.specs.inner.Constants.{constant_field_of}
 use Rattle.koika_check.specs.Constants as constants
-use Rattle.koika_check.specs.Outcomes.{Ends, ◌>>=◌, found, in_turn, wrong}
+use Rattle.koika_check.specs.Outcomes.{◌>>=◌, found, in_turn, wrong}
+use Rattle.koika_check.specs.inner.Outcomes.{Ends}
 use Rattle.koika_check.specs.Types.{struct_named}
 use Rattle.koika_check.proofs.ConstantParts.{constant-Array, constant-Literal, constant-Member, constant-Struct}
 use Rattle.koika_check.proofs.Knowns.{array-ends, array-gives, fields-ends, fields-more, known-ends, known-more, literal-gives, member-known, struct-ends, struct-gives}

@@ -1,6 +1,7 @@
 use Rattle.std.proofs.Common.{◌≡◌, length, take}
-use Rattle.koika_check.specs.Checking.{AreKnown, AreKnownFields, Yields, scope_of}
-use Rattle.koika_check.specs.Constants.{constant_field_of, constant_of}
+use Rattle.koika_check.specs.inner.Checking.{AreKnown, AreKnownFields, Yields, scope_of}
+use Rattle.koika_check.specs.Constants.{constant_of}
+use Rattle.koika_check.specs.inner.Constants.{constant_field_of}
 use Rattle.koika_check.specs.Outcomes.{in_turn}
 use Rattle.koika_check.proofs.checker.Checker.+constant.Given as goal
 

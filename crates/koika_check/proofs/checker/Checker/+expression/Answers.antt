@@ -6,14 +6,16 @@ use Rattle.kw_base.specs.declared.fault_number.TheConstants.{UNKNOWN_NAME}
 use Rattle.koika_syntax.specs.declared.tree.Block.{out-Block}
 use Rattle.koika_syntax.specs.declared.tree.Expression.{Expression}
 use Rattle.koika_syntax.specs.declared.tree.Expression.TheViews as views
-use Rattle.koika_check.specs.Checking.{AreGiven, IsPartIn, IsTyping, Yields, arrays_of, ready, scope_of, typing_of}
+use Rattle.koika_check.specs.inner.Checking.{AreGiven, IsPartIn, IsTyping, Yields, arrays_of, ready, scope_of, typing_of}
 use Rattle.koika_check.specs.Composites.{array_of, fields_of}
 use Rattle.koika_check.specs.Constructs.{array_in, call, comparison, conditional, extended, given_of, packed, postfix, struct_in, typing, unary, unpacked, updated, written}
-use Rattle.koika_check.specs.Expressions.{arm_in, block_in, chain_in, close, expression_in, field_value_in, operand_in, otherwise_in, statement_in}
-use Rattle.koika_check.specs.Outcomes.{Ends, Gives, ◌>>=◌, found, in_turn, one_by_one, wrong}
+use Rattle.koika_check.specs.Expressions.{block_in, chain_in, close, otherwise_in}
+use Rattle.koika_check.specs.inner.Expressions.{arm_in, expression_in, field_value_in, operand_in, statement_in}
+use Rattle.koika_check.specs.Outcomes.{Gives, ◌>>=◌, found, in_turn, one_by_one, wrong}
+use Rattle.koika_check.specs.inner.Outcomes.{Ends}
 use Rattle.koika_check.specs.Scopes.{called, register}
-use Rattle.koika_check.specs.Shapes.{part_of}
-use Rattle.koika_check.specs.TypedParts.{AreSteps, In, IsChained, IsStep, bound_step}
+use Rattle.koika_check.specs.inner.Shapes.{part_of}
+use Rattle.koika_check.specs.inner.TypedParts.{AreSteps, In, IsChained, IsStep, bound_step}
 use Rattle.koika_check.specs.Types.{struct_named, type_of}
 use Rattle.koika_check.specs.declared.typed.Step.TheVariants as step
 use Rattle.koika_check.proofs.BlockParts.{block-parts, expression-If, statement-Do, statement-Let}

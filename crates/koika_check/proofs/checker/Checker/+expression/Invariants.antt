@@ -1,8 +1,8 @@
 use Rattle.std.proofs.Common.{◌≡◌, [], length, take}
-use Rattle.koika_check.specs.Checking.{AreTyped, Yields, scope_of, typing_of}
-use Rattle.koika_check.specs.Expressions.{arm_in, expression_in, field_value_in}
+use Rattle.koika_check.specs.inner.Checking.{AreTyped, Yields, scope_of, typing_of}
+use Rattle.koika_check.specs.inner.Expressions.{arm_in, expression_in, field_value_in}
 use Rattle.koika_check.specs.Outcomes.{in_turn, one_by_one}
-use Rattle.koika_check.specs.TypedParts.{AreArms, AreSteps, AreTypedFields, In, IsChained}
+use Rattle.koika_check.specs.inner.TypedParts.{AreArms, AreSteps, AreTypedFields, In, IsChained}
 use Rattle.koika_check.proofs.Blocks.{run-of, running}
 use Rattle.koika_check.proofs.Chains.{joining, started}
 use Rattle.koika_check.proofs.checker.Checker.+expression.Given as goal

@@ -1,8 +1,8 @@
 use Rattle.std.proofs.Common.{◌≡◌, [], ◌∷◌, ◌++◌, ℕ, List, ◌∙◌, ap, sym, append_assoc, Err}
 use Rattle.std.proofs.lemmas.Result.{err_from_is_err_and}
-use Rattle.koika_check.specs.Checking.{Stands, arrays_of}
+use Rattle.koika_check.specs.inner.Checking.{Stands, arrays_of}
 use Rattle.koika_check.specs.Outcomes.{◌>>=◌}
-use Rattle.koika_check.specs.Shapes.{type_of_shape}
+use Rattle.koika_check.specs.inner.Shapes.{type_of_shape}
 use Rattle.koika_check.specs.Types.{array_type, type_of}
 use Rattle.koika_check.specs.declared.checker.Checker.{Checker}
 use Rattle.koika_check.specs.declared.typed.ValueType.{ValueType}

@@ -1,7 +1,7 @@
 use Rattle.std.proofs.Common.{◌≡◌, [], drop}
-use Rattle.koika_check.specs.Checking.{IsChecker}
+use Rattle.koika_check.specs.inner.Checking.{IsChecker}
 use Rattle.koika_check.specs.Declarations.{add_field, names_of_fields}
-use Rattle.koika_check.specs.Listed.{AreFields, GrowsInParts, Keeps, Lists}
+use Rattle.koika_check.specs.inner.Listed.{AreFields, GrowsInParts, Keeps, Lists}
 use Rattle.koika_check.specs.Outcomes.{one_by_one}
 use Rattle.koika_check.specs.declared.things.Thing.TheVariants as thing
 use Rattle.koika_check.proofs.checker.Checker.all_fields.Given as goal

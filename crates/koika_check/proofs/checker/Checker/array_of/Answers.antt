@@ -1,7 +1,7 @@
 use Rattle.std.proofs.Common.{None, Some, ap, map, refl, sym, ◌∙◌}
-use Rattle.koika_check.specs.Checking.{arrays_of}
+use Rattle.koika_check.specs.inner.Checking.{arrays_of}
 use Rattle.koika_check.specs.Composites.{array_by}
-use Rattle.koika_check.specs.Shapes.{part_of}
+use Rattle.koika_check.specs.inner.Shapes.{part_of}
 use Rattle.koika_check.specs.Types.{part}
 use Rattle.koika_check.proofs.Growth.{grows-refl}
 use Rattle.koika_check.proofs.PartTypes.{first-type}

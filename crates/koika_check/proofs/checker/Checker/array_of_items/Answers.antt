@@ -2,9 +2,9 @@ use Rattle.std.proofs.Common.{◌≡◌, ◌*◌, ◌≤◌, Some, ap, length, m
 use Rattle.std.proofs.lemmas.List.{length-map}
 use Rattle.std.proofs.lemmas.List.Elements.{All-weaker}
 use Rattle.std.proofs.lemmas.Result.{err_from_is_err_and}
-use Rattle.koika_check.specs.Checking.{IsPart, arrays_of}
+use Rattle.koika_check.specs.inner.Checking.{IsPart, arrays_of}
 use Rattle.koika_check.specs.Outcomes.{Gives, unless}
-use Rattle.koika_check.specs.Shapes.{IsShapeIf, part_of, type_of_shape}
+use Rattle.koika_check.specs.inner.Shapes.{IsShapeIf, part_of, type_of_shape}
 use Rattle.koika_check.specs.Types.{array, is_width, part}
 use Rattle.koika_check.specs.declared.agreement.Part.{Part}
 use Rattle.koika_check.proofs.Checkers.{array-width, is-width}

@@ -1,6 +1,6 @@
 use Rattle.std.proofs.Common.{sym, ◌∙◌}
-use Rattle.koika_check.specs.Checking.{arrays_of}
-use Rattle.koika_check.specs.Shapes.{type_of_shape}
+use Rattle.koika_check.specs.inner.Checking.{arrays_of}
+use Rattle.koika_check.specs.inner.Shapes.{type_of_shape}
 use Rattle.koika_check.proofs.Checkers.{array-width, is-width, more-grows, more-kept}
 use Rattle.koika_check.proofs.checker.Checker.array_type.Goals as goal
 

@@ -3,10 +3,10 @@ use Rattle.std.proofs.lemmas.List.{length-map}
 use Rattle.std.proofs.lemmas.List.Elements.{All-same, All-weaker}
 use Rattle.std.proofs.lemmas.Result.{err_from_is_err_and}
 use Rattle.kw_base.specs.declared.fault_number.TheConstants.{WRONG_ARGUMENT_COUNT}
-use Rattle.koika_check.specs.Checking.{IsPart, IsType, TypedAs, arrays_of}
+use Rattle.koika_check.specs.inner.Checking.{IsPart, IsType, TypedAs, arrays_of}
 use Rattle.koika_check.specs.Constructs.{Typing, arguments_agree, typing}
 use Rattle.koika_check.specs.Outcomes.{Gives, holds, wrong}
-use Rattle.koika_check.specs.Shapes.{IsShape, IsShapeIf, part_of, type_of_shape}
+use Rattle.koika_check.specs.inner.Shapes.{IsShape, IsShapeIf, part_of, type_of_shape}
 use Rattle.koika_check.specs.declared.agreement.Part.{Part}
 use Rattle.koika_check.specs.declared.typed.Typed.TheVariants as made
 use Rattle.koika_check.proofs.Leaves.{leaf-ok}

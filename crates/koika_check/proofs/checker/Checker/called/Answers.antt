@@ -1,6 +1,6 @@
 use Rattle.std.proofs.Common.{ap, refl, sym, ◌∙◌}
-use Rattle.koika_check.specs.Checking.{function_by, host_by, table_by}
-use Rattle.koika_check.specs.Things.{thing_named}
+use Rattle.koika_check.specs.inner.Checking.{function_by, host_by, table_by}
+use Rattle.koika_check.specs.inner.Things.{thing_named}
 use Rattle.koika_check.proofs.CalledTypes.{called-unknown}
 use Rattle.koika_check.proofs.checker.Checker.called.Goals as goal
 

@@ -1,5 +1,5 @@
 use Rattle.std.proofs.Common.{Some, ap, refl, subst, sym, ◌∙◌}
-use Rattle.koika_check.specs.Checking.{AreTypes}
+use Rattle.koika_check.specs.inner.Checking.{AreTypes}
 use Rattle.koika_check.specs.Scopes.{called_function}
 use Rattle.koika_check.specs.declared.typed.Operation.TheVariants as operation
 use Rattle.koika_check.proofs.CalledTypes.{at-index, signature-at}

@@ -1,7 +1,7 @@
 use Rattle.std.proofs.Common.{◌/◌, Some, ap, length, refl, replicate, subst, sym, ◌∙◌}
 use Rattle.std.proofs.lemmas.Option.{slice_get_read}
 use Rattle.kw_bits.specs.Host.{TakesWidth, arity, out_width}
-use Rattle.koika_check.specs.Checking.{AreTypes, IsWidth}
+use Rattle.koika_check.specs.inner.Checking.{AreTypes, IsWidth}
 use Rattle.koika_check.specs.Scopes.{called_host}
 use Rattle.koika_check.specs.Types.{bits}
 use Rattle.koika_check.specs.declared.checked.Host.{Host}

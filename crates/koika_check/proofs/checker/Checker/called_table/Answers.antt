@@ -1,6 +1,6 @@
 use Rattle.std.proofs.Common.{[], ◌∷◌, ◌++◌, Some, ap, length, refl, subst, sym, ◌∙◌}
 use Rattle.std.proofs.lemmas.Option.{slice_get_read}
-use Rattle.koika_check.specs.Checking.{AreTypes, IsWidth}
+use Rattle.koika_check.specs.inner.Checking.{AreTypes, IsWidth}
 use Rattle.koika_check.specs.Scopes.{called_table}
 use Rattle.koika_check.specs.Types.{bits}
 use Rattle.koika_check.specs.declared.checked.Table.{Table}

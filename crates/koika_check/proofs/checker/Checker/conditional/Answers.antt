@@ -1,9 +1,9 @@
 use Rattle.std.proofs.Common.{◌∷◌, [], ◌++◌, ap, map, refl, subst, sym, ◌∙◌}
 use Rattle.std.proofs.lemmas.List.Elements.{All-weaker}
-use Rattle.koika_check.specs.Checking.{AreTyped, IsPart, IsTypeOrUnit, arrays_of, of_first, scope_of, typing_of}
+use Rattle.koika_check.specs.inner.Checking.{AreTyped, IsPart, IsTypeOrUnit, arrays_of, of_first, scope_of, typing_of}
 use Rattle.koika_check.specs.Composites.{type_of_first}
 use Rattle.koika_check.specs.Constructs.{ArmTyping}
-use Rattle.koika_check.specs.Shapes.{IsShapeIf, part_of}
+use Rattle.koika_check.specs.inner.Shapes.{IsShapeIf, part_of}
 use Rattle.koika_check.specs.declared.agreement.Part.{Part}
 use Rattle.koika_check.specs.declared.checker.Typings.{Typings}
 use Rattle.koika_check.proofs.Choices.{first-known, last-part, with-last}

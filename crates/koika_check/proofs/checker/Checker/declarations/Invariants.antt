@@ -1,7 +1,7 @@
 use Rattle.std.proofs.Common.{◌≡◌, drop}
 use Rattle.koika_check.specs.Declarations.{declare}
 use Rattle.koika_check.specs.Outcomes.{one_by_one}
-use Rattle.koika_check.specs.Settled.{IsSettled}
+use Rattle.koika_check.specs.inner.Settled.{IsSettled}
 use Rattle.koika_check.proofs.checker.Checker.declarations.Given as goal
 
 abbrev pub invariant-loop-declaration : goal.invariant-loop-declaration

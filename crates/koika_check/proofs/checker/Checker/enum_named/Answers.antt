@@ -1,8 +1,9 @@
 use Rattle.std.proofs.Common.{◌≡◌, ap, subst, ◌∙◌}
 use Rattle.kw_base.specs.declared.fault_number.TheConstants.{UNKNOWN_NAME}
-use Rattle.koika_check.specs.Checking.{enum_by}
-use Rattle.koika_check.specs.Outcomes.{Tells, found, wrong}
-use Rattle.koika_check.specs.Things.{thing_named}
+use Rattle.koika_check.specs.inner.Checking.{enum_by}
+use Rattle.koika_check.specs.Outcomes.{found, wrong}
+use Rattle.koika_check.specs.inner.Outcomes.{Tells}
+use Rattle.koika_check.specs.inner.Things.{thing_named}
 use Rattle.koika_types.specs.declared.declarations.EnumDecl.{EnumDecl}
 use Rattle.koika_check.proofs.Checkers.{named-within}
 use Rattle.koika_check.proofs.checker.Checker.enum_named.Goals as goal

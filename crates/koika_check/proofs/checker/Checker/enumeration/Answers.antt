@@ -2,7 +2,7 @@ use Rattle.std.proofs.Common.{List, ◌∙◌, ◌<◌, ◌^◌, ap, sym, subst}
 use Rattle.kw_base.specs.Names.{number_of}
 use Rattle.koika_types.specs.declared.declarations.Member.{Member}
 use Rattle.koika_check.specs.Declarations.{names_of_members}
-use Rattle.koika_check.specs.Listed.{Keeps, Lists}
+use Rattle.koika_check.specs.inner.Listed.{Keeps, Lists}
 use Rattle.koika_check.specs.declared.things.Thing.TheVariants as thing
 use Rattle.koika_check.proofs.Added.{declares-at}
 use Rattle.koika_check.proofs.AddedTypes.{added-enum}

@@ -1,8 +1,8 @@
 use Rattle.std.proofs.Common.{◌+◌, ap, ap₂, arith, get_or, length, map, subst, sym, ◌∙◌, ◌<◌, Some, refl}
-use Rattle.koika_check.specs.Checking.{AreTypes, arrays_of}
+use Rattle.koika_check.specs.inner.Checking.{AreTypes, arrays_of}
 use Rattle.koika_check.specs.Composites.{fields_of}
 use Rattle.koika_check.specs.Selections.{field_at, field_if}
-use Rattle.koika_check.specs.Shapes.{type_of_shape}
+use Rattle.koika_check.specs.inner.Shapes.{type_of_shape}
 use Rattle.koika_check.specs.declared.checked.Field.{Field}
 use Rattle.koika_check.specs.declared.shapes.Shape.TheVariants as shape
 use Rattle.koika_check.specs.declared.typed.Selection.TheVariants as selection

@@ -1,6 +1,6 @@
 use Rattle.std.proofs.Common.{ap, ◌∙◌}
 use Rattle.std.proofs.lemmas.Result.{IfOk-weaker}
-use Rattle.koika_check.specs.Things.{position_of}
+use Rattle.koika_check.specs.inner.Things.{position_of}
 use Rattle.koika_check.specs.declared.things.Thing.TheVariants as thing
 use Rattle.koika_check.proofs.checker.Checker.field_of.Goals as goal
 

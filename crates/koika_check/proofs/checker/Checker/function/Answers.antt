@@ -1,6 +1,6 @@
 use Rattle.std.proofs.Common.{List, [], ℕ, Option, ◌∷◌, ◌++◌, ◌∙◌, ap, ap₂, sym}
 use Rattle.std.proofs.lemmas.Result.{err_from_is_err_and}
-use Rattle.koika_check.specs.Checking.{scope_of}
+use Rattle.koika_check.specs.inner.Checking.{scope_of}
 use Rattle.koika_check.specs.Declarations.{function_typed, function_with, result_of, types_in_order}
 use Rattle.koika_check.specs.Expressions.{block_in}
 use Rattle.koika_check.specs.Outcomes.{◌>>=◌}

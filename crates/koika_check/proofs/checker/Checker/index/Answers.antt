@@ -1,10 +1,10 @@
 use Rattle.std.proofs.Common.{Err, refl, subst, sym}
 use Rattle.std.proofs.lemmas.Result.{err_from_is_err_and}
-use Rattle.koika_check.specs.Checking.{Takes, arrays_of}
-use Rattle.koika_check.specs.Outcomes.{Tells}
+use Rattle.koika_check.specs.inner.Checking.{Takes, arrays_of}
+use Rattle.koika_check.specs.inner.Outcomes.{Tells}
 use Rattle.koika_check.specs.Types.{as_bits}
 use Rattle.koika_check.specs.Selections.{index_of, item_at}
-use Rattle.koika_check.specs.Shapes.{part_of, type_if, type_of_shape}
+use Rattle.koika_check.specs.inner.Shapes.{part_of, type_if, type_of_shape}
 use Rattle.koika_check.proofs.PartTypes.{array-within, part-item, part-items}
 use Rattle.koika_check.proofs.Telling.{one-err, one-ok}
 use Rattle.koika_check.proofs.checker.Checker.index.Goals as goal

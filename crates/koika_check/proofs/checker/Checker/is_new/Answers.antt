@@ -1,6 +1,6 @@
 use Rattle.std.proofs.Common.{◌∙◌, ap, sym, refl, true, false}
 use Rattle.std.specs.Prelude.{is_some}
-use Rattle.koika_check.specs.Things.{thing_named}
+use Rattle.koika_check.specs.inner.Things.{thing_named}
 use Rattle.koika_check.proofs.Declaring.{new-name}
 use Rattle.koika_check.proofs.checker.Checker.is_new.Goals as goal
 

@@ -1,5 +1,5 @@
 use Rattle.std.proofs.Common.{◌∙◌, ap, refl, sym}
-use Rattle.koika_check.specs.Checking.{arrays_of, scope_of}
+use Rattle.koika_check.specs.inner.Checking.{arrays_of, scope_of}
 use Rattle.koika_check.specs.Declarations.{names_of_locals}
 use Rattle.koika_check.specs.Scopes.{local_named}
 use Rattle.koika_check.proofs.Parameters.{other-name}

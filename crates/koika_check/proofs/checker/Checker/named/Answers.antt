@@ -1,9 +1,9 @@
 use Rattle.std.proofs.Common.{Some, ap, arith, length, map, refl, sym, ◌<◌, ◌≡◌, ◌∙◌}
 use Rattle.std.proofs.lemmas.List.{length-map}
-use Rattle.koika_check.specs.Checking.{arrays_of, input_by, scope_of}
+use Rattle.koika_check.specs.inner.Checking.{arrays_of, input_by, scope_of}
 use Rattle.koika_check.specs.Scopes.{input_named, local_named}
-use Rattle.koika_check.specs.Shapes.{type_of_shape}
-use Rattle.koika_check.specs.Things.{thing_named}
+use Rattle.koika_check.specs.inner.Shapes.{type_of_shape}
+use Rattle.koika_check.specs.inner.Things.{thing_named}
 use Rattle.koika_check.specs.declared.checked.Input.{Input}
 use Rattle.koika_check.specs.declared.typed.Typed.TheVariants as made
 use Rattle.koika_check.proofs.Leaves.{leaf-ok, named-input, named-unknown}

@@ -1,10 +1,11 @@
 use Rattle.std.proofs.Common.{Err, Some, [], ◌∷◌, refl, subst, sym}
 use Rattle.std.proofs.lemmas.Result.{err_from_is_err_and}
-use Rattle.koika_check.specs.Checking.{Takes, arrays_of}
-use Rattle.koika_check.specs.Outcomes.{Tells, ◌>>=◌, found, where_all}
+use Rattle.koika_check.specs.inner.Checking.{Takes, arrays_of}
+use Rattle.koika_check.specs.Outcomes.{◌>>=◌, found, where_all}
+use Rattle.koika_check.specs.inner.Outcomes.{Tells}
 use Rattle.koika_check.specs.Types.{agrees, wrong_type}
 use Rattle.koika_check.specs.Selections.{in_range, item_at}
-use Rattle.koika_check.specs.Shapes.{part_of, type_of_shape}
+use Rattle.koika_check.specs.inner.Shapes.{part_of, type_of_shape}
 use Rattle.koika_check.proofs.PartTypes.{array-within, part-item, part-items, part-shape}
 use Rattle.koika_check.proofs.Telling.{two-err, two-ok}
 use Rattle.koika_check.proofs.checker.Checker.new_item.Goals as goal

@@ -2,7 +2,7 @@ use Rattle.std.proofs.Common.{ℕ, List, [], ◌∷◌, ◌++◌, ◌∙◌, ap,
 use Rattle.std.proofs.lemmas.List.{length-map, map-append}
 use Rattle.kw_base.specs.Names.{number_of}
 use Rattle.koika_check.specs.Declarations.{names_of_fields}
-use Rattle.koika_check.specs.Things.{position_of}
+use Rattle.koika_check.specs.inner.Things.{position_of}
 use Rattle.koika_check.specs.Types.{type_of, width_of}
 use Rattle.koika_check.specs.declared.checked.Field.{Field}
 use Rattle.koika_check.specs.declared.things.Thing.TheVariants as thing

@@ -1,5 +1,5 @@
 use Rattle.std.proofs.Common.{◌∙◌, ◌∷◌, sym}
-use Rattle.koika_check.specs.Checking.{arrays_of, scope_of}
+use Rattle.koika_check.specs.inner.Checking.{arrays_of, scope_of}
 use Rattle.koika_check.specs.Types.{type_of}
 use Rattle.koika_check.proofs.Declaring.{known-stands, named-as}
 use Rattle.koika_check.proofs.Growth.{grows-refl}

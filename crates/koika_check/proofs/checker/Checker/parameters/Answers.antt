@@ -1,6 +1,6 @@
 use Rattle.std.proofs.Common.{[], ap, sym}
 use Rattle.std.proofs.lemmas.Result.{err_from_is_err_and}
-use Rattle.koika_check.specs.Checking.{scope_of}
+use Rattle.koika_check.specs.inner.Checking.{scope_of}
 use Rattle.koika_check.specs.Declarations.{add_parameter}
 use Rattle.koika_check.specs.Outcomes.{one_by_one}
 use Rattle.koika_check.specs.declared.checked.Checked.{Checked}

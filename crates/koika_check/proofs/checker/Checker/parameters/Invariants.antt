@@ -1,8 +1,8 @@
 use Rattle.std.proofs.Common.{◌≡◌, [], drop}
-use Rattle.koika_check.specs.Checking.{Grows, IsChecker, scope_of}
+use Rattle.koika_check.specs.inner.Checking.{Grows, IsChecker, scope_of}
 use Rattle.koika_check.specs.Declarations.{add_parameter}
 use Rattle.koika_check.specs.Outcomes.{one_by_one}
-use Rattle.koika_check.specs.Parameters.{AreParameters}
+use Rattle.koika_check.specs.inner.Parameters.{AreParameters}
 use Rattle.koika_check.proofs.checker.Checker.parameters.Given as goal
 
 abbrev pub invariant-loop-parameter : goal.invariant-loop-parameter

@@ -1,10 +1,10 @@
 use Rattle.std.proofs.Common.{List, [], ◌∷◌, ◌++◌, Some, ap, ap₂, arith, sym, ◌∙◌}
 use Rattle.std.proofs.lemmas.Result.{err_from_is_err_and}
-use Rattle.koika_check.specs.Checking.{Takes, TypedAs, arrays_of, typing_of}
+use Rattle.koika_check.specs.inner.Checking.{Takes, TypedAs, arrays_of, typing_of}
 use Rattle.koika_check.specs.Constructs.{Taken, postfix, take_part}
 use Rattle.koika_check.specs.Outcomes.{Gives, ◌>>=◌, one_by_one}
 use Rattle.koika_check.specs.Selections.{select}
-use Rattle.koika_check.specs.Shapes.{part_of}
+use Rattle.koika_check.specs.inner.Shapes.{part_of}
 use Rattle.koika_check.specs.Types.{Part, part}
 use Rattle.koika_check.specs.declared.typed.Selection.{Selection}
 use Rattle.koika_check.proofs.Leaves.{tells-ends}

@@ -1,8 +1,8 @@
 use Rattle.std.proofs.Common.{◌≡◌, [], take}
-use Rattle.koika_check.specs.Checking.{IsPart, arrays_of}
+use Rattle.koika_check.specs.inner.Checking.{IsPart, arrays_of}
 use Rattle.koika_check.specs.Constructs.{take_part}
 use Rattle.koika_check.specs.Outcomes.{Gives, one_by_one}
-use Rattle.koika_check.specs.Shapes.{part_of}
+use Rattle.koika_check.specs.inner.Shapes.{part_of}
 use Rattle.koika_check.proofs.checker.Checker.postfix.Given as goal
 
 abbrev pub invariant-loop-suffix : goal.invariant-loop-suffix

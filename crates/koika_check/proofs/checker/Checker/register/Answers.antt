@@ -1,6 +1,6 @@
 use Rattle.std.proofs.Common.{◌∙◌, ◌++◌, ◌∷◌, [], ap, ap₂, sym, Some}
 use Rattle.std.proofs.lemmas.Result.{err_from_is_err_and}
-use Rattle.koika_check.specs.Checking.{arrays_of}
+use Rattle.koika_check.specs.inner.Checking.{arrays_of}
 use Rattle.koika_check.specs.Constants.{constant_of}
 use Rattle.koika_check.specs.Declarations.{register_known, register_with}
 use Rattle.koika_check.specs.Types.{Part, agrees, type_of, width_of}

@@ -1,8 +1,9 @@
 use Rattle.std.proofs.Common.{◌≡◌, ap, subst, ◌∙◌}
 use Rattle.kw_base.specs.declared.fault_number.TheConstants.{UNKNOWN_NAME}
-use Rattle.koika_check.specs.Checking.{register_by}
-use Rattle.koika_check.specs.Outcomes.{Tells, found, wrong}
-use Rattle.koika_check.specs.Things.{thing_named}
+use Rattle.koika_check.specs.inner.Checking.{register_by}
+use Rattle.koika_check.specs.Outcomes.{found, wrong}
+use Rattle.koika_check.specs.inner.Outcomes.{Tells}
+use Rattle.koika_check.specs.inner.Things.{thing_named}
 use Rattle.koika_check.specs.declared.checked.Register.{Register}
 use Rattle.koika_check.proofs.Checkers.{named-within}
 use Rattle.koika_check.proofs.checker.Checker.register_named.Goals as goal

@@ -1,5 +1,5 @@
 use Rattle.std.proofs.Common.{ℕ, List, ◌∙◌, ◌++◌, ◌∷◌, [], ap, ap₂, sym, None}
-use Rattle.koika_check.specs.Checking.{arrays_of, ready, scope_of}
+use Rattle.koika_check.specs.inner.Checking.{arrays_of, ready, scope_of}
 use Rattle.koika_check.specs.Scopes.{Local, Scope}
 use Rattle.koika_check.specs.Types.{agrees}
 use Rattle.koika_check.specs.declared.checked.Checked.{Checked}

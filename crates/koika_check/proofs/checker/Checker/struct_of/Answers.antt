@@ -1,9 +1,10 @@
 use Rattle.std.proofs.Common.{Err, Ok, Some, ap, refl, subst, sym, ◌∙◌}
 use Rattle.std.proofs.lemmas.Result.{err_from_is_err_and}
 use Rattle.kw_base.specs.declared.fault_number.TheConstants.{WRONG_WIDTH}
-use Rattle.koika_check.specs.Checking.{IsWidth, StandsFor, arrays_of}
+use Rattle.koika_check.specs.inner.Checking.{IsWidth, StandsFor, arrays_of}
 use Rattle.koika_check.specs.Composites.{fields_of}
-use Rattle.koika_check.specs.Outcomes.{Tells, holds, unless, wrong}
+use Rattle.koika_check.specs.Outcomes.{holds, unless, wrong}
+use Rattle.koika_check.specs.inner.Outcomes.{Tells}
 use Rattle.koika_check.specs.Types.{is_width, of_base, part}
 use Rattle.koika_check.specs.declared.shapes.Shape.TheVariants as shape
 use Rattle.koika_check.specs.declared.typed.BaseType.TheVariants as base

@@ -1,7 +1,7 @@
 use Rattle.std.proofs.Common.{ℕ, List, [], ◌∷◌, ◌++◌, ◌∙◌, ap, ap₂, refl, sym, min, sum_by, length}
 use Rattle.koika_check.specs.Declarations.{struct_of, struct_typed}
 use Rattle.koika_check.specs.Outcomes.{◌>>=◌}
-use Rattle.koika_check.specs.Things.{thing_named}
+use Rattle.koika_check.specs.inner.Things.{thing_named}
 use Rattle.koika_check.specs.Types.{width_of}
 use Rattle.koika_check.specs.declared.checked.Checked.{Checked}
 use Rattle.koika_check.specs.declared.checked.Field.{Field}

@@ -1,6 +1,6 @@
 use Rattle.std.proofs.Common.{◌<◌, ◌≡◌, Some, ap, arith, length, map, subst, sym, ◌∙◌}
 use Rattle.std.proofs.lemmas.List.{length-map}
-use Rattle.koika_check.specs.Checking.{IsType}
+use Rattle.koika_check.specs.inner.Checking.{IsType}
 use Rattle.koika_check.specs.Composites.{field_named, fields_of, type_at}
 use Rattle.koika_check.specs.declared.checked.Field.{Field}
 use Rattle.koika_check.proofs.PartTypes.{field-is, fields-at, fields-long}

@@ -1,5 +1,5 @@
 use Rattle.std.proofs.Common.{ap, ◌∙◌}
-use Rattle.koika_check.specs.Checking.{type_by_thing}
+use Rattle.koika_check.specs.inner.Checking.{type_by_thing}
 use Rattle.koika_check.proofs.Checkers.{type-named}
 use Rattle.koika_check.proofs.checker.Checker.type_of_name.Goals as goal
 

@@ -1,10 +1,10 @@
 use Rattle.std.proofs.Common.{[], ◌∷◌, ap, ap₂, map, refl, sym, ◌∙◌}
 use Rattle.std.proofs.lemmas.List.{take_all}
 use Rattle.koika_syntax.specs.declared.tree.Prefix.{Prefix}
-use Rattle.koika_check.specs.Checking.{arrays_of}
+use Rattle.koika_check.specs.inner.Checking.{arrays_of}
 use Rattle.koika_check.specs.Constructs.{typing}
 use Rattle.koika_check.specs.Outcomes.{Gives}
-use Rattle.koika_check.specs.Shapes.{part_of}
+use Rattle.koika_check.specs.inner.Shapes.{part_of}
 use Rattle.koika_check.specs.Types.{as_bits, wrong_type}
 use Rattle.koika_check.specs.declared.typed.Operation.TheVariants as operation
 use Rattle.koika_check.specs.declared.typed.Typed.TheVariants as made

@@ -1,6 +1,6 @@
 use Rattle.std.proofs.Common.{ap, arith, length, sym, subst, ◌∙◌, ◌<◌}
-use Rattle.koika_check.specs.Checking.{arrays_of}
-use Rattle.koika_check.specs.Shapes.{IsShape, type_of_shape}
+use Rattle.koika_check.specs.inner.Checking.{arrays_of}
+use Rattle.koika_check.specs.inner.Shapes.{IsShape, type_of_shape}
 use Rattle.koika_check.specs.Types.{width_of}
 use Rattle.koika_check.specs.declared.shapes.ArrayShape.{ArrayShape}
 use Rattle.koika_check.specs.declared.shapes.Shape.{Shape}

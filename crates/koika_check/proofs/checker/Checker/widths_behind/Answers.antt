@@ -1,8 +1,8 @@
 use Rattle.std.proofs.Common.{◌≡◌, ◌+◌, ◌≤◌, ap, arith, drop, drop_of_length-le}
 use Rattle.std.specs.List.{sum_by}
 use Rattle.std.proofs.lemmas.List.Sums.{sum_by-drop_more}
-use Rattle.koika_check.specs.Checking.{arrays_of}
-use Rattle.koika_check.specs.Shapes.{type_of_shape}
+use Rattle.koika_check.specs.inner.Checking.{arrays_of}
+use Rattle.koika_check.specs.inner.Shapes.{type_of_shape}
 use Rattle.koika_check.specs.Types.{width_of}
 use Rattle.koika_check.specs.declared.shapes.Shape.{Shape}
 use Rattle.koika_check.specs.declared.shapes.Shape.TheVariants as shape

@@ -1,7 +1,7 @@
 use Rattle.std.proofs.Common.{◌≡◌, ◌+◌, drop}
 use Rattle.std.specs.List.{sum_by}
-use Rattle.koika_check.specs.Checking.{arrays_of}
-use Rattle.koika_check.specs.Shapes.{type_of_shape}
+use Rattle.koika_check.specs.inner.Checking.{arrays_of}
+use Rattle.koika_check.specs.inner.Shapes.{type_of_shape}
 use Rattle.koika_check.specs.Types.{width_of}
 use Rattle.koika_check.specs.declared.shapes.Shape.{Shape}
 use Rattle.koika_check.proofs.checker.Checker.widths_behind.Given as goal

@@ -1,7 +1,7 @@
 use Rattle.std.proofs.Common.{ℕ, [], ◌∷◌, ap, ap₂, arith, List, map, ◌∙◌}
-use Rattle.koika_check.specs.Locals.{inside_of, local_of}
+use Rattle.koika_check.specs.inner.Locals.{inside_of, local_of}
 use Rattle.koika_check.specs.Scopes.{Local}
-use Rattle.koika_check.specs.Shapes.{type_of_shape}
+use Rattle.koika_check.specs.inner.Shapes.{type_of_shape}
 use Rattle.koika_check.specs.declared.typed.ValueType.{ValueType}
 use Rattle.koika_check.proofs.Bindings.{bound-kept, inside-push}
 use Rattle.koika_check.proofs.Positions.{number_of-within}

@@ -1,6 +1,6 @@
 use Rattle.std.proofs.Common.{◌≡◌, ℕ, ◌-◌, ap, arith, drop, length, sym, take, ◌∙◌}
 use Rattle.std.proofs.lemmas.List.{drop-drop, length-map, take-take, take_all}
-use Rattle.koika_check.specs.Locals.{locals_of, shapes_of}
+use Rattle.koika_check.specs.inner.Locals.{locals_of, shapes_of}
 use Rattle.koika_check.specs.declared.locals.Bound.{Bound}
 use Rattle.koika_check.proofs.locals.Locals.leave.Goals as goal
 

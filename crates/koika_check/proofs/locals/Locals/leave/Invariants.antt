@@ -1,5 +1,5 @@
 use Rattle.std.proofs.Common.{◌≡◌, ◌-◌, ◌≤◌, List, drop, length, take}
-use Rattle.koika_check.specs.Locals.{AreLocals, locals_of, shapes_of}
+use Rattle.koika_check.specs.inner.Locals.{AreLocals, locals_of, shapes_of}
 use Rattle.koika_check.specs.declared.typed.ValueType.{ValueType}
 use Rattle.koika_check.proofs.locals.Locals.leave.Given as goal
 

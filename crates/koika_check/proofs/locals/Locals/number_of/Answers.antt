@@ -1,7 +1,7 @@
 use Rattle.std.proofs.Common.{ap, sym, subst, ◌∙◌, Some}
 use Rattle.kw_base.specs.Names.{Adds}
 use Rattle.koika_check.proofs.Bindings.{name-kept, name-number, name-same}
-use Rattle.koika_check.specs.Locals.{inside_of}
+use Rattle.koika_check.specs.inner.Locals.{inside_of}
 use Rattle.std.proofs.Common.{[]}
 use Rattle.koika_check.proofs.locals.Locals.number_of.Goals as goal
 

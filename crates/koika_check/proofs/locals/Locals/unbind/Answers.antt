@@ -1,5 +1,5 @@
 use Rattle.std.proofs.Common.{ap, arith, [], ◌∙◌, drop, map, sym}
-use Rattle.koika_check.specs.Locals.{inside_of, local_of}
+use Rattle.koika_check.specs.inner.Locals.{inside_of, local_of}
 use Rattle.koika_check.proofs.Bindings.{inside-push, unbound-kept, unbound-named}
 use Rattle.koika_check.proofs.locals.Locals.unbind.Goals as goal
 

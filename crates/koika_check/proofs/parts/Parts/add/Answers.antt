@@ -1,6 +1,6 @@
 use Rattle.std.proofs.Common.{subst, ◌∙◌}
 use Rattle.kw_base.specs.Names.{Adds}
-use Rattle.koika_check.specs.Things.{key_of_part}
+use Rattle.koika_check.specs.inner.Things.{key_of_part}
 use Rattle.koika_check.proofs.Positions.{at-push}
 use Rattle.koika_check.proofs.parts.Parts.add.Goals as goal
 

@@ -7,7 +7,8 @@ use Rattle.typed_core.specs.declared.design.Next.{Next}
 use Rattle.typed_core.specs.declared.design.Next.TheVariants as next
 use Rattle.typed_core.specs.declared.design.Node.{Node}
 use Rattle.koika_check.specs.Outcomes.{Gives, ◌>>=◌}
-use Rattle.koika_check.specs.Schedule.{at_the_end, choice_nodes, in_a_row, path_behind, scheduler_nodes, tried}
+use Rattle.koika_check.specs.Schedule.{at_the_end, in_a_row, path_behind, scheduler_nodes, tried}
+use Rattle.koika_check.specs.inner.Schedule.{choice_nodes}
 use Rattle.koika_check.proofs.Answering.{ends}
 use Rattle.koika_check.proofs.Schedules.{behind_names, behind_rule, behind_taken, choice-made, choice-otherwise, choice-then, end-known, end_of, next-first, node_of, nodes-choice, path-before, scheduler-last, scheduler-names}
 use Rattle.koika_check.proofs.schedule.Nodes.+scheduler.Goals as goal

@@ -1,5 +1,5 @@
 use Rattle.std.proofs.Common.{◌≡◌, ◌+◌, drop, length}
-use Rattle.koika_check.specs.Paths.{IsAt}
+use Rattle.koika_check.specs.inner.Paths.{IsAt}
 use Rattle.koika_check.specs.Schedule.{path_behind}
 use Rattle.koika_check.proofs.schedule.Nodes.names.Given as goal
 

@@ -1,7 +1,7 @@
 use Rattle.std.proofs.Common.{ap, length, sym, subst, ◌∙◌}
 use Rattle.std.proofs.lemmas.List.{length-map}
 use Rattle.kw_base.specs.Names.{Adds, number_of}
-use Rattle.koika_check.specs.Shapes.{key_of}
+use Rattle.koika_check.specs.inner.Shapes.{key_of}
 use Rattle.koika_check.proofs.ArrayTypes.{New-denotes, New-kept, There-denotes}
 use Rattle.koika_check.proofs.shapes.Shapes.array_of.Goals as goal
 

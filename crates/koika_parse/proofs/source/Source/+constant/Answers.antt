@@ -1,15 +1,16 @@
-use Rattle.koika_syntax.specs.Grammar.{IsConstant, constant_field_leaves, constant_leaves}
+use Rattle.koika_syntax.specs.Grammar.{IsConstant, constant_leaves}
+use Rattle.koika_syntax.specs.inner.Grammar.{constant_field_leaves}
 use Rattle.koika_syntax.specs.Tree.{sign, symbol}
 use Rattle.koika_syntax.specs.declared.symbol.Symbol.TheVariants as symbols
 use Rattle.koika_syntax.proofs.Leaves.{struct_constant, array_constant}
-use Rattle.koika_parse.specs.Parts.{IsConstantField}
+use Rattle.koika_parse.specs.inner.Parts.{IsConstantField}
 use Rattle.koika_parse.proofs.Reading.{in_turn, as_leaves}
 use Rattle.koika_parse.proofs.Lists.{joined_start, joined_again}
 use Rattle.koika_parse.proofs.Parts.{is_constant_array, is_constant_field, is_constant_member, is_constant_struct}
 use Rattle.koika_parse.proofs.Calls.{leaves_constant_field, leaves_constant_member}
 use Rattle.std.proofs.Common.{refl}
 use Rattle.koika_parse.proofs.Expected.{step, finish, next_part, last_part, fails, fails_before, fails_last, tail, before_one, free_last}
-use Rattle.koika_parse.specs.Expected.{Any, NoComma}
+use Rattle.koika_parse.specs.inner.Expected.{Any, NoComma}
 use Rattle.koika_parse.proofs.Commas.{commas_start, commas_apart, commas_at, commas_end, commas_first, commas_next}
 use Rattle.koika_parse.proofs.ConstantWords.{FieldsTail, constant_array_start, constant_at_bracket, constant_at_name, constant_elsewhere, constant_field_start, constant_fields_listed, constants_listed, named_constant_start, some_fields_tail}
 use Rattle.koika_parse.proofs.Rows.{name_not_brace, brace_not_name}

@@ -1,11 +1,12 @@
 use Rattle.std.proofs.Common.{◌+◌, ◌*◌}
-use Rattle.koika_syntax.specs.Grammar.{IsConstant, constant_field_leaves, constant_leaves}
+use Rattle.koika_syntax.specs.Grammar.{IsConstant, constant_leaves}
+use Rattle.koika_syntax.specs.inner.Grammar.{constant_field_leaves}
 use Rattle.koika_syntax.specs.Tree.{sign}
 use Rattle.koika_syntax.specs.declared.symbol.Symbol.TheVariants as symbols
-use Rattle.koika_parse.specs.Reading.{tokens_left}
-use Rattle.koika_parse.specs.Parts.{IsConstantField}
+use Rattle.koika_parse.specs.inner.Reading.{tokens_left}
+use Rattle.koika_parse.specs.inner.Parts.{IsConstantField}
 use Rattle.koika_parse.proofs.Lists.{Joined}
-use Rattle.koika_parse.specs.Expected.{Any, InVector}
+use Rattle.koika_parse.specs.inner.Expected.{Any, InVector}
 use Rattle.koika_parse.proofs.Commas.{CommasGo}
 use Rattle.koika_parse.proofs.source.Source.+constant.Given as goal
 

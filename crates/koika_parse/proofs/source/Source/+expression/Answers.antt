@@ -3,18 +3,19 @@ use Rattle.koika_parse.proofs.ExpressionWords.{PrimaryWord}
 use Rattle.koika_parse.proofs.Witnesses.{some_block}
 use Rattle.koika_syntax.specs.declared.token.TokenKind.TheVariants as kinds
 use Rattle.std.proofs.Common.{subst, sym, refl, ap, arith, [], ◌∙◌, append-nil, map, None, Some}
-use Rattle.koika_syntax.specs.Grammar.{IsExpression, expression_leaves, field_value_leaves, operand_leaves, arm_leaves, statement_leaves, level}
+use Rattle.koika_syntax.specs.Grammar.{level}
+use Rattle.koika_syntax.specs.inner.Grammar.{IsExpression, expression_leaves, field_value_leaves, operand_leaves, arm_leaves, statement_leaves}
 use Rattle.koika_syntax.specs.Tree.{commas, comparison_word, extension_word, joined, keyword, placed, sign, word, write_word, symbol}
 use Rattle.std.specs.List.{All}
 use Rattle.std.proofs.lemmas.List.Elements.{All-nil}
 use Rattle.koika_syntax.proofs.Leaves.{array_expression, chain_expression, if_expression, block_expression, call_expression, compare_expression, struct_expression, update_expression}
-use Rattle.koika_parse.specs.Parts.{IsFieldValue, IsOperandIn, IsArm, IsStatement}
+use Rattle.koika_parse.specs.inner.Parts.{IsFieldValue, IsOperandIn, IsArm, IsStatement}
 use Rattle.koika_parse.proofs.Reading.{in_turn, in_place_of, as_leaves, shorter, nothing}
 use Rattle.koika_parse.proofs.Lists.{joined_start, joined_again, parts_after_another, row_start, row_again}
 use Rattle.koika_parse.proofs.Parts.{is_array, is_parentheses, is_write, is_pack, is_unpack, is_extend, is_compare, is_update, is_block_expression, is_call, is_name, is_member, is_struct, is_field_value, is_arm, is_let, is_do, is_block, is_if, is_chain_of, level_chain_of, is_operand, is_operand_at, is_unary, is_postfix, level_unary, level_postfix, level_array, level_parentheses, level_write, level_pack, level_unpack, level_extend, level_compare, level_update, level_block, level_call, level_name, level_member, level_struct}
 use Rattle.koika_parse.proofs.Calls.{leaves_parentheses, leaves_write, leaves_pack, leaves_unpack, leaves_extend, leaves_name, leaves_member, leaves_field_value, leaves_arm, leaves_let, leaves_block, leaves_unary, leaves_postfix, leaves_operand, leaves_do, all_of_map}
-use Rattle.koika_parse.specs.Expected.{Any, NoComma, Takes, first}
-use Rattle.koika_parse.specs.ExpressionWords.{Free, LevelWord, brace_follows, parenthesis_follows}
+use Rattle.koika_parse.specs.inner.Expected.{Any, NoComma, Takes, first}
+use Rattle.koika_parse.specs.inner.ExpressionWords.{Free, LevelWord, brace_follows, parenthesis_follows}
 use Rattle.koika_parse.proofs.BlockWords.{after_apart, after_at, after_end, arm_start, before_block, block_start, conditional_start, else_arm, else_at, else_block, else_end, expression_chain, expression_if, expression_start, field_value_start, inside_end, inside_expression, inside_let, inside_start, let_start, after_next, else_go, else_next, inside_let_next}
 use Rattle.koika_parse.proofs.PrimaryWords.{arguments_at, arguments_end, named_call, named_colons, named_end, named_start, parenthesis_free, primary_none, FieldValuesTail, array_start, block_primary_start, compare_start, expressions_listed, extend_start, field_values_listed, keyword_at, keyword_refused, literal_at, named_at, other_keyword, pack_start, parentheses_start, some_array, some_compare, some_extend, some_field_values_tail, some_pack, some_parentheses, some_read, some_unpack, some_update, some_write, symbol_at, symbol_refused, unpack_start, update_start, write_start}
 use Rattle.koika_parse.proofs.Expected.{before_one, before_one_then, fails, fails_before, fails_last, fails_last_as, finish, free_last, last, last_part, next_part, not_so, step, tail, takes_word, never_none, same_of_some, some_one}

@@ -1,13 +1,13 @@
 use Rattle.koika_parse.proofs.ChainWords.{OperandsGo}
 use Rattle.koika_parse.proofs.BlockWords.{ElseGo, InsideGo}
 use Rattle.std.proofs.Common.{◌+◌, ◌-◌, ◌*◌, []}
-use Rattle.koika_syntax.specs.Grammar.{IsExpression, arm_leaves, expression_leaves, field_value_leaves, operand_leaves, statement_leaves}
+use Rattle.koika_syntax.specs.inner.Grammar.{IsExpression, arm_leaves, expression_leaves, field_value_leaves, operand_leaves, statement_leaves}
 use Rattle.koika_syntax.specs.Tree.{sign, word}
-use Rattle.koika_parse.specs.Parts.{IsArm, IsFieldValue, IsOperandIn, IsStatement}
-use Rattle.koika_parse.specs.Reading.{tokens_left}
+use Rattle.koika_parse.specs.inner.Parts.{IsArm, IsFieldValue, IsOperandIn, IsStatement}
+use Rattle.koika_parse.specs.inner.Reading.{tokens_left}
 use Rattle.koika_parse.proofs.Lists.{Joined, Row}
-use Rattle.koika_parse.specs.Expected.{InVector}
-use Rattle.koika_parse.specs.ExpressionWords.{Free, SomeOperandsWord}
+use Rattle.koika_parse.specs.inner.Expected.{InVector}
+use Rattle.koika_parse.specs.inner.ExpressionWords.{Free, SomeOperandsWord}
 use Rattle.koika_parse.proofs.Commas.{CommasGo}
 use Rattle.koika_syntax.specs.declared.keyword.Keyword.TheVariants as keywords
 use Rattle.koika_syntax.specs.declared.symbol.Symbol.TheVariants as symbols

@@ -1,15 +1,15 @@
 use Rattle.std.proofs.Common.{subst, sym}
-use Rattle.koika_syntax.specs.Grammar.{choice_leaves}
-use Rattle.koika_parse.specs.Parts.{IsChoice}
+use Rattle.koika_syntax.specs.inner.Grammar.{choice_leaves}
+use Rattle.koika_parse.specs.inner.Parts.{IsChoice}
 use Rattle.koika_parse.proofs.Reading.{in_turn, in_place_of, as_leaves}
 use Rattle.koika_parse.proofs.Parts.{is_scheduler, is_choice}
 use Rattle.koika_parse.proofs.Calls.{leaves_scheduler, leaves_choice}
 use Rattle.koika_parse.proofs.Expected.{step, next_part, last_part, fails, fails_before, fails_last, before_one, finish}
 use Rattle.koika_syntax.specs.Tree.{symbol}
-use Rattle.koika_parse.specs.Words.{no_try}
+use Rattle.koika_parse.specs.inner.Words.{no_try}
 use Rattle.koika_parse.proofs.SchedulerWords.{rules_apart, last_at, last_none, choice_start, scheduler_start}
 use Rattle.koika_syntax.specs.declared.symbol.Symbol.TheVariants as symbols
-use Rattle.koika_parse.specs.Expected.{Any}
+use Rattle.koika_parse.specs.inner.Expected.{Any}
 use Rattle.koika_parse.proofs.source.Source.+scheduler.Goals as goal
 
 pub scheduler-returns-clause-read : goal.scheduler-returns-clause-read

@@ -1,5 +1,5 @@
 use Rattle.std.proofs.Common.{◌+◌, ◌*◌}
-use Rattle.koika_parse.specs.Reading.{tokens_left}
+use Rattle.koika_parse.specs.inner.Reading.{tokens_left}
 use Rattle.koika_parse.proofs.source.Source.+scheduler.Given as goal
 
 abbrev pub decreases-scheduler : goal.decreases-scheduler

@@ -3,11 +3,11 @@ use Rattle.std.proofs.Common.{subst, sym, ◌∙◌}
 use Rattle.koika_syntax.specs.Grammar.{IsType, type_leaves, IsName, IsWidth}
 use Rattle.koika_parse.proofs.Reading.{in_turn, in_place_of}
 use Rattle.koika_parse.proofs.Expected.{next_part, last_part, fails, fails_last, tail, free_last, narrow_part, kind_of_next, begin}
-use Rattle.koika_parse.specs.Expected.{Part, Any}
+use Rattle.koika_parse.specs.inner.Expected.{Part, Any}
 use Rattle.koika_syntax.specs.Tree.{name_leaves, width_leaves}
-use Rattle.koika_parse.specs.Reading.{next}
+use Rattle.koika_parse.specs.inner.Reading.{next}
 use Rattle.koika_parse.proofs.Words.{type_bits, type_name, type_array, array_is_type, name_is_type, some_array_type, width_is_type}
-use Rattle.koika_parse.specs.Words.{ArrayTypeWord}
+use Rattle.koika_parse.specs.inner.Words.{ArrayTypeWord}
 use Rattle.koika_parse.proofs.source.Source.+types.Goals as goal
 
 pub array_type-returns-clause-read : goal.array_type-returns-clause-read

@@ -1,5 +1,5 @@
 use Rattle.std.proofs.Common.{◌+◌, ◌*◌}
-use Rattle.koika_parse.specs.Reading.{tokens_left}
+use Rattle.koika_parse.specs.inner.Reading.{tokens_left}
 use Rattle.koika_parse.proofs.source.Source.+types.Given as goal
 
 abbrev pub decreases-array_type : goal.decreases-array_type

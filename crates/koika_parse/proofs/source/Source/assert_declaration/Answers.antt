@@ -1,5 +1,5 @@
 use Rattle.koika_parse.proofs.DeclarationWords.{some_assert}
-use Rattle.koika_parse.specs.Words.{AssertWord}
+use Rattle.koika_parse.specs.inner.Words.{AssertWord}
 use Rattle.koika_parse.proofs.Reading.{in_turn, shorter}
 use Rattle.koika_parse.proofs.Expected.{next_part, last_part, fails, fails_last, begin}
 use Rattle.koika_parse.proofs.source.Source.assert_declaration.Goals as goal

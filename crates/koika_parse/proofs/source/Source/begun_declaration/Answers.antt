@@ -2,7 +2,7 @@ use Rattle.std.proofs.Common.{Some, ap, ◌∙◌}
 use Rattle.koika_parse.proofs.DeclarationWords.{assert_within, declaration_at, declaration_refused, enum_within, function_within, host_within, input_within, other_declaration, register_within, rule_within, some_assert, some_enum, some_function, some_host, some_input, some_register, some_rule, some_struct, some_table, struct_within, table_within}
 use Rattle.koika_syntax.specs.declared.keyword.Keyword.TheVariants as keywords
 use Rattle.koika_syntax.specs.Tree.{keyword}
-use Rattle.koika_parse.specs.Expected.{Any}
+use Rattle.koika_parse.specs.inner.Expected.{Any}
 use Rattle.koika_parse.proofs.Expected.{tail, free_last}
 use Rattle.koika_parse.proofs.source.Source.begun_declaration.Goals as goal
 

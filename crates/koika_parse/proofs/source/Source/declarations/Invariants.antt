@@ -1,7 +1,7 @@
 use Rattle.koika_syntax.specs.Grammar.{IsDeclaration, declaration_leaves}
-use Rattle.koika_parse.specs.Reading.{tokens_left}
+use Rattle.koika_parse.specs.inner.Reading.{tokens_left}
 use Rattle.koika_parse.proofs.Lists.{Row}
-use Rattle.koika_parse.specs.Words.{DeclarationsWord, schedule_follows}
+use Rattle.koika_parse.specs.inner.Words.{DeclarationsWord, schedule_follows}
 use Rattle.koika_parse.proofs.Expected.{Goes}
 use Rattle.koika_parse.proofs.source.Source.declarations.Given as goal
 

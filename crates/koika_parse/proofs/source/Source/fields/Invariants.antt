@@ -1,9 +1,9 @@
 use Rattle.koika_syntax.specs.Grammar.{IsField, field_leaves}
 use Rattle.koika_syntax.specs.Tree.{sign}
 use Rattle.koika_syntax.specs.declared.symbol.Symbol.TheVariants as symbols
-use Rattle.koika_parse.specs.Reading.{tokens_left}
+use Rattle.koika_parse.specs.inner.Reading.{tokens_left}
 use Rattle.koika_parse.proofs.Lists.{Joined}
-use Rattle.koika_parse.specs.Expected.{Any, AnyMany}
+use Rattle.koika_parse.specs.inner.Expected.{Any, AnyMany}
 use Rattle.koika_parse.proofs.Commas.{CommasGo}
 use Rattle.koika_parse.proofs.source.Source.fields.Given as goal
 

@@ -1,9 +1,9 @@
 use Rattle.koika_parse.proofs.DeclarationWords.{some_function}
 use Rattle.koika_parse.proofs.Reading.{in_turn, shorter}
-use Rattle.koika_parse.specs.Expected.{Any}
-use Rattle.koika_parse.specs.Words.{FunctionWord}
+use Rattle.koika_parse.specs.inner.Expected.{Any}
+use Rattle.koika_parse.specs.inner.Words.{FunctionWord}
 use Rattle.koika_parse.proofs.Expected.{before_one_then, begin, fails, fails_before, fails_last, last_part, next_part, step}
-use Rattle.koika_parse.specs.ExpressionWords.{parenthesis_follows}
+use Rattle.koika_parse.specs.inner.ExpressionWords.{parenthesis_follows}
 use Rattle.std.proofs.Common.{refl}
 use Rattle.koika_syntax.specs.Tree.{symbol}
 use Rattle.koika_syntax.specs.declared.symbol.Symbol.TheVariants as symbols

@@ -1,5 +1,5 @@
 use Rattle.koika_parse.proofs.DeclarationWords.{some_host}
-use Rattle.koika_parse.specs.Words.{HostWord}
+use Rattle.koika_parse.specs.inner.Words.{HostWord}
 use Rattle.koika_parse.proofs.Reading.{in_turn, shorter}
 use Rattle.koika_parse.proofs.Expected.{next_part, last_part, fails, fails_last, begin}
 use Rattle.koika_parse.proofs.source.Source.host_declaration.Goals as goal

@@ -1,4 +1,4 @@
-use Rattle.koika_parse.specs.Words.{InputWord}
+use Rattle.koika_parse.specs.inner.Words.{InputWord}
 use Rattle.koika_parse.proofs.DeclarationWords.{some_input}
 use Rattle.koika_parse.proofs.Reading.{in_turn, shorter}
 use Rattle.koika_parse.proofs.Expected.{next_part, last_part, fails, fails_last, begin}

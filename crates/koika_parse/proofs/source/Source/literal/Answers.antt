@@ -1,7 +1,7 @@
 use Rattle.std.proofs.Common.{refl, sym, ap, ◌∙◌, ◌++◌}
 use Rattle.koika_syntax.specs.Grammar.{IsLiteral}
 use Rattle.koika_syntax.specs.Tree.{literal_leaves}
-use Rattle.koika_parse.specs.Expected.{Part, first}
+use Rattle.koika_parse.specs.inner.Expected.{Part, first}
 use Rattle.koika_parse.proofs.Expected.{begin, fails_last, last_part, refused, within}
 use Rattle.koika_parse.proofs.Reading.{in_place_of}
 use Rattle.koika_parse.proofs.Witnesses.{some_literal}

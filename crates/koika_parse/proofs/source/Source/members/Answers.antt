@@ -5,7 +5,7 @@ use Rattle.koika_syntax.specs.Tree.{sign}
 use Rattle.koika_syntax.specs.declared.symbol.Symbol.TheVariants as symbols
 use Rattle.koika_parse.proofs.Lists.{joined_start, joined_again}
 use Rattle.koika_parse.proofs.Expected.{finish, next_part, fails, fails_before}
-use Rattle.koika_parse.specs.Expected.{Any}
+use Rattle.koika_parse.specs.inner.Expected.{Any}
 use Rattle.koika_parse.proofs.Commas.{commas_start, commas_apart, commas_at, commas_end, commas_first, commas_next}
 use Rattle.koika_parse.proofs.source.Source.members.Goals as goal
 

@@ -3,7 +3,7 @@ use Rattle.std.specs.Option.{option_map}
 use Rattle.std.specs.Prelude.{slice_range}
 use Rattle.koika_syntax.specs.Tree.{name_leaves, terminal_of}
 use Rattle.koika_syntax.specs.Grammar.{IsName}
-use Rattle.koika_parse.specs.Expected.{Part, first}
+use Rattle.koika_parse.specs.inner.Expected.{Part, first}
 use Rattle.koika_parse.proofs.Expected.{begin, kind_is, refused}
 use Rattle.koika_parse.proofs.Witnesses.{some_name}
 use Rattle.koika_parse.proofs.Expected.{named_terminal, last_part, fails_last}

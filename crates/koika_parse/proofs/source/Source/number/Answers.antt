@@ -1,7 +1,7 @@
 use Rattle.std.proofs.Common.{refl, sym, ap, ◌∙◌, ◌++◌}
 use Rattle.koika_syntax.specs.Grammar.{IsNumber}
 use Rattle.koika_syntax.specs.Tree.{number_leaves}
-use Rattle.koika_parse.specs.Expected.{Part, first}
+use Rattle.koika_parse.specs.inner.Expected.{Part, first}
 use Rattle.koika_parse.proofs.Expected.{begin, fails_last, last_part, refused, within}
 use Rattle.koika_parse.proofs.Witnesses.{some_number}
 use Rattle.koika_parse.proofs.Words.{one_number}

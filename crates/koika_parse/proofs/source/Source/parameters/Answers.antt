@@ -5,7 +5,7 @@ use Rattle.koika_syntax.specs.Grammar.{IsField, field_leaves}
 use Rattle.koika_syntax.specs.Tree.{commas, joined}
 use Rattle.koika_parse.proofs.Reading.{nothing, as_leaves}
 use Rattle.koika_parse.proofs.Expected.{finish, not_so, tail}
-use Rattle.koika_parse.specs.Expected.{first}
+use Rattle.koika_parse.specs.inner.Expected.{first}
 use Rattle.koika_parse.proofs.DeclarationWords.{parameters_at, parameters_end}
 use Rattle.koika_parse.proofs.PrimaryWords.{parenthesis_any}
 use Rattle.koika_parse.proofs.source.Source.parameters.Goals as goal

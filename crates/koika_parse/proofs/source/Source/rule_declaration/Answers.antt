@@ -1,6 +1,6 @@
 use Rattle.koika_parse.proofs.DeclarationWords.{some_rule}
 use Rattle.koika_parse.proofs.Reading.{in_turn, shorter}
-use Rattle.koika_parse.specs.Words.{RuleWord}
+use Rattle.koika_parse.specs.inner.Words.{RuleWord}
 use Rattle.koika_parse.proofs.Expected.{begin, fails, fails_last, last_part, next_part}
 use Rattle.koika_parse.proofs.source.Source.rule_declaration.Goals as goal
 

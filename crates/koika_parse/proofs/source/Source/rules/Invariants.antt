@@ -1,7 +1,7 @@
 use Rattle.koika_syntax.specs.Grammar.{IsName, rule_leaves}
-use Rattle.koika_parse.specs.Reading.{tokens_left}
+use Rattle.koika_parse.specs.inner.Reading.{tokens_left}
 use Rattle.koika_parse.proofs.Lists.{Row}
-use Rattle.koika_parse.specs.Words.{RulesWord, no_name}
+use Rattle.koika_parse.specs.inner.Words.{RulesWord, no_name}
 use Rattle.koika_parse.proofs.Expected.{Goes}
 use Rattle.koika_parse.proofs.source.Source.rules.Given as goal
 

@@ -1,7 +1,7 @@
 use Rattle.std.proofs.Common.{ℕ, ◌<◌, Err, refl, sym, subst}
 use Rattle.koika_parse.proofs.Expected.{one_takes, too_deep, handed}
 use Rattle.koika_parse.proofs.Reading.{one_token, open_behind_next}
-use Rattle.koika_parse.specs.Expected.{Any, One, Takes}
+use Rattle.koika_parse.specs.inner.Expected.{Any, One, Takes}
 use Rattle.koika_parse.proofs.source.Source.step.Goals as goal
 
 pub returns-clause-read : goal.returns-clause-read

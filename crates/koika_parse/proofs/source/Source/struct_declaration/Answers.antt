@@ -1,11 +1,11 @@
-use Rattle.koika_parse.specs.Words.{StructWord}
+use Rattle.koika_parse.specs.inner.Words.{StructWord}
 use Rattle.koika_parse.proofs.DeclarationWords.{some_struct}
 use Rattle.koika_parse.proofs.Reading.{in_turn, shorter}
 use Rattle.std.proofs.Common.{refl}
 use Rattle.koika_parse.proofs.Expected.{step, next_part, last_part, fails, fails_before, fails_last, before_one, begin}
 use Rattle.koika_syntax.specs.Tree.{symbol}
 use Rattle.koika_syntax.specs.declared.symbol.Symbol.TheVariants as symbols
-use Rattle.koika_parse.specs.Expected.{Any, NoComma}
+use Rattle.koika_parse.specs.inner.Expected.{Any, NoComma}
 use Rattle.koika_parse.proofs.source.Source.struct_declaration.Goals as goal
 
 pub returns-clause-read : goal.returns-clause-read

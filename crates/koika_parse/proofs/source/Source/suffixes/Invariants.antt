@@ -1,8 +1,8 @@
 use Rattle.std.proofs.Common.{[]}
 use Rattle.koika_syntax.specs.Grammar.{IsSuffix, suffix_leaves}
-use Rattle.koika_parse.specs.Reading.{tokens_left}
+use Rattle.koika_parse.specs.inner.Reading.{tokens_left}
 use Rattle.koika_parse.proofs.Lists.{Joined}
-use Rattle.koika_parse.specs.ExpressionWords.{Free, SuffixesWord}
+use Rattle.koika_parse.specs.inner.ExpressionWords.{Free, SuffixesWord}
 use Rattle.koika_parse.proofs.Expected.{Goes}
 use Rattle.koika_parse.proofs.ChainWords.{MoreSuffixes}
 use Rattle.koika_parse.proofs.source.Source.suffixes.Given as goal

@@ -1,6 +1,6 @@
 use Rattle.koika_parse.proofs.Reading.{in_turn}
 use Rattle.koika_parse.proofs.Expected.{before_one_then, fails, fails_before, fails_last, last_part, next_part, step}
-use Rattle.koika_parse.specs.Words.{end_follows, schedule_follows}
+use Rattle.koika_parse.specs.inner.Words.{end_follows, schedule_follows}
 use Rattle.koika_syntax.specs.Tree.{keyword}
 use Rattle.std.proofs.Common.{refl}
 use Rattle.koika_parse.proofs.DeclarationWords.{then_nothing, tree_ended, tree_start}

@@ -2,7 +2,7 @@ use Rattle.std.proofs.Common.{◌≡◌, ◌<◌, ◌^◌, length, Option, sym, 
 use Rattle.std.specs.Prelude.{IfSome}
 use Rattle.circuit_eval.specs.Circuits.{input_widths}
 use Rattle.one_rule.specs.Stimulus.{inputs_of}
-use Rattle.koika_top.specs.CircuitRuns.{violations_by}
+use Rattle.koika_top.specs.inner.CircuitRuns.{violations_by}
 use Rattle.koika_top.specs.declared.bad_flags.BadFlags.{BadFlags}
 use Rattle.front_end.proofs.Told.{told-as, told-empty}
 use Rattle.koika_top.proofs.circuit_run.CircuitRun.write_violations.Goals as goal

@@ -5,10 +5,10 @@ use Rattle.one_rule.specs.Stimulus.{AlwaysFits, inputs_of}
 use Rattle.stim_report.specs.Shapes.{RowsFit}
 use Rattle.stim_report.specs.declared.shape.Shape.{Shape}
 use Rattle.typed_core.specs.Valid.{IsValid}
-use Rattle.koika_top.specs.Engines.{AreRows}
+use Rattle.koika_top.specs.inner.Engines.{AreRows}
 use Rattle.front_end.specs.Marks.{marks_of}
 use Rattle.front_end.specs.Systems.{run_of}
-use Rattle.koika_top.specs.Telling.{all_told}
+use Rattle.koika_top.specs.inner.Telling.{all_told}
 use Rattle.front_end.proofs.FewCycles.{few-cycles}
 use Rattle.koika_top.proofs.CircuitTold.{has-own, marks-same}
 use Rattle.front_end.proofs.Told.{told-as, told-none}

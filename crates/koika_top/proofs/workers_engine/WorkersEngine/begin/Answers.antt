@@ -1,7 +1,7 @@
 use Rattle.std.proofs.Common.{subst}
 use Rattle.std.specs.Arc.{arc_value}
 use Rattle.typed_core.specs.declared.design.Parts.{Parts}
-use Rattle.koika_top.specs.Engines.{HasRun}
+use Rattle.koika_top.specs.inner.Engines.{HasRun}
 use Rattle.koika_top.proofs.workers_engine.WorkersEngine.begin.Goals as goal
 
 pub returns-clause-stands : goal.returns-clause-stands

@@ -1,7 +1,7 @@
 use Rattle.std.proofs.Common.{◌≡◌, ℕ, true, List, ap, ◌∙◌, arith}
 use Rattle.std.specs.Prelude.{slice_index_or}
 use Rattle.rule_log.specs.Flags.{is_some}
-use Rattle.rule_log.specs.OneRegister.{JoinedAt, SameAt}
+use Rattle.rule_log.specs.inner.OneRegister.{JoinedAt, SameAt}
 use Rattle.rule_log.specs.StandsFor.{RegisterLog}
 use Rattle.rule_log.specs.Touched.{is_listed}
 use Rattle.rule_log.specs.declared.flags.PortFlags.{PortFlags}

@@ -1,5 +1,5 @@
 use Rattle.std.proofs.Common.{◌≡◌, ℕ, take}
-use Rattle.rule_log.specs.OneRegister.{JoinedAt, SameAt}
+use Rattle.rule_log.specs.inner.OneRegister.{JoinedAt, SameAt}
 use Rattle.rule_log.specs.StandsFor.{registers}
 use Rattle.rule_log.proofs.Walks.{Walked}
 use Rattle.rule_log.proofs.log.Log.merge.Given as goal

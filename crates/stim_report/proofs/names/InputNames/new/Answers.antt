@@ -1,6 +1,6 @@
 use Rattle.std.proofs.Common.{List, subst}
 use Rattle.std.proofs.lemmas.List.{take_all}
-use Rattle.stim_report.specs.FirstNames.{AreFirst}
+use Rattle.stim_report.specs.inner.FirstNames.{AreFirst}
 use Rattle.stim_report.specs.declared.shape.NameWidth.{NameWidth}
 use Rattle.stim_report.proofs.names.InputNames.new.Goals as goal
 

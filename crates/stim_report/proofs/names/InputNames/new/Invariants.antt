@@ -1,5 +1,5 @@
 use Rattle.std.proofs.Common.{◌≤◌, length, take}
-use Rattle.stim_report.specs.FirstNames.{AreFirst}
+use Rattle.stim_report.specs.inner.FirstNames.{AreFirst}
 use Rattle.stim_report.proofs.names.InputNames.new.Given as goal
 
 abbrev pub invariant-loop-number : goal.invariant-loop-number

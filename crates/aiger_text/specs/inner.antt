@@ -1,0 +1,7 @@
+-- What only contracts of private functions cite.
+pub mod Classes
+pub mod Numerals
+pub mod Printing
+pub mod RunsSoFar
+pub mod Sound
+pub mod Steps

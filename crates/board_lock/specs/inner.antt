@@ -1,0 +1,5 @@
+-- What only contracts of private functions cite.
+pub mod Notes
+pub mod Receipts
+pub mod Rule
+pub mod Work

@@ -1,0 +1,12 @@
+-- What private functions alone cite of this crate's `Marks`.
+use Rattle.std.specs.Prelude.{◌≡◌, ℕ, ◌<◌, Option, None, List, length, slice_index, slice_index_or}
+use Rattle.std.specs.List.{position_from}
+use Rattle.std.specs.Option.{option_or}
+use Rattle.one_rule.specs.declared.rows.Row.{Row}
+use Rattle.stim_report.specs.Summary.{has_fired}
+
+-- a mark without a cycle gets the first that its rule fired in, by rows of which the first is that of this cycle
+pub record AddsFirsts (marks : List ℕ) (cycle : ℕ) (rows : List Row) (old new : List (Option ℕ)) : Type 0 where
+  pub count : length new ≡ length old
+  pub added : (number : ℕ) → number < length old
+      → slice_index_or new number None ≡ option_or (slice_index_or old number None) (position_from (has_fired (slice_index marks number)) cycle rows)

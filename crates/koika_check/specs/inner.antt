@@ -1,0 +1,21 @@
+-- What only contracts of private functions cite.
+pub mod BitWeights
+pub mod Capped
+pub mod Checking
+pub mod Checks
+pub mod Constants
+pub mod Expressions
+pub mod Gauges
+pub mod Listed
+pub mod Locals
+pub mod Outcomes
+pub mod Parameters
+pub mod Paths
+pub mod Places
+pub mod Schedule
+pub mod Settled
+pub mod Shapes
+pub mod Sizes
+pub mod Things
+pub mod TypedParts
+pub mod Typing

@@ -1,0 +1,4 @@
+-- What only contracts of private functions cite.
+pub mod Hosts
+pub mod KeptLines
+pub mod Parts

@@ -1,0 +1,9 @@
+-- What only contracts of private functions cite.
+pub mod FirstNames
+pub mod Given
+pub mod Numerals
+pub mod Pages
+pub mod Reading
+pub mod Runs
+pub mod Steps
+pub mod Tallies
