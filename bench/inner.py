@@ -16,11 +16,13 @@ USE = re.compile(r"^(\s*(?:pub )?(?:ghost )?(?:pub )?use )(Rattle\.(\w+)\.specs\
 
 
 def is_used(name, words, text):
+    code = "\n".join(line for line in text.split("\n") if not line.lstrip().startswith("--"))
     if HOLE not in name:
-        return name in words
+        return name in words or not re.search(r"\w", name) and name in code
     # (a chain of steps is written by it)
     is_chain = name == f"{HOLE}>>={HOLE}" and re.search(r"\bdo$", text, re.M)
-    return bool(is_chain) or any(part in words for part in name.split(HOLE) if part)
+    return bool(is_chain) or any(
+        part in words or re.search(rf"(^|[\s(]){re.escape(part)}([\s)]|$)", code, re.M) for part in name.split(HOLE) if part)
 
 
 def words_of(text):

@@ -1,5 +1,5 @@
 -- A bit-level circuit at a moment between two steps, and its rows from there on.
-use Rattle.std.specs.Prelude.{◌≡◌, ℕ, zero, suc, ◌+◌, ◌-◌, ◌≤◌, List, ◌∷◌, Bool, map}
+use Rattle.std.specs.Prelude.{◌≡◌, ℕ, zero, suc, ◌+◌, ◌-◌, ◌≤◌, List, ◌∷◌, [], Bool, map}
 use Rattle.kw_bits.specs.BitVector.{BitVector, zero_at}
 use Rattle.circuit_eval.specs.Run.{is_one}
 use Rattle.aig_blast.specs.AigRun.{first_words, next_words, rows_after, values_in}

@@ -1,7 +1,7 @@
 -- The AIGER text of a bit-level circuit, in AIGER ASCII (Biere, Heljanko and Wieringa, 2011): a header, a line for
 -- each input, latch, output and gate, in order, and a symbol for each input, latch and output. Bit k of the word `x`
 -- has the symbol `x[k]`.
-use Rattle.std.specs.Prelude.{ℕ, Bool, zero, suc, ◌+◌, ◌*◌, ◌/◌, ◌%◌, ◌^◌, nat_eq, if◌then◌else◌, List, ◌∷◌, ◌++◌, codes, decimal, length, slice_index_or}
+use Rattle.std.specs.Prelude.{ℕ, Bool, zero, suc, ◌+◌, ◌*◌, ◌/◌, ◌%◌, ◌^◌, nat_eq, if◌then◌else◌, List, [], ◌∷◌, ◌++◌, codes, decimal, length, slice_index_or}
 use Rattle.std.specs.List.{flat_map}
 use Rattle.aig_blast.specs.Aigs.{AigParts, input_widths, latch_widths, sources, variables}
 use Rattle.std.specs.Prelude.{sum}

@@ -1,6 +1,6 @@
 -- What a core keeps, and which board it represents. Of the rules that fired in the cycle it keeps what decides clashes,
 -- and of the slots those of the window, a list for each cycle from the current one on.
-use Rattle.std.specs.Prelude.{◌≡◌, ℕ, ◌-◌, ◌≤◌, nat_lt, Bool, true, false, List, length, Option, None, option_map, slice_index_or, if◌then◌else◌}
+use Rattle.std.specs.Prelude.{◌≡◌, ℕ, ◌-◌, ◌≤◌, nat_lt, Bool, true, false, List, [], length, Option, None, option_map, slice_index_or, if◌then◌else◌}
 use Rattle.typed_core.specs.Widths.{register_widths}
 use Rattle.typed_core.specs.declared.design.Parts.{Parts}
 use Rattle.one_rule.specs.Cycle.{flags, numbers}

@@ -1,5 +1,5 @@
 -- What is known after workers have worked at a board: of each seat, and of the board's own.
-use Rattle.std.specs.Prelude.{◌≡◌, ℕ, ◌*◌, ◌≤◌, List, ◌++◌, length}
+use Rattle.std.specs.Prelude.{◌≡◌, ℕ, ◌*◌, ◌≤◌, List, [], ◌++◌, length}
 use mathlib.Core.Option.{some}
 use lib.ListN.{get_elem?}
 use Rattle.attempt_log.specs.declared.entry.Entry.{Entry}

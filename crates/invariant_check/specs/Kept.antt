@@ -1,6 +1,6 @@
 -- What an obligation is about: an invariant that each step keeps, and outputs that are never 1 under it (inductive
 -- invariants: Bradley, VMCAI 2011).
-use Rattle.std.specs.Prelude.{◌≡◌, ◌≢◌, ℕ, suc, ◌<◌, ◌||◌, ◌↔◌, Bool, false, nat_eq, not, IsTrue, List, ◌++◌, length, All, slice_index_or}
+use Rattle.std.specs.Prelude.{◌≡◌, ◌≢◌, ℕ, suc, ◌<◌, ◌||◌, ◌↔◌, Bool, false, nat_eq, not, IsTrue, List, [], ◌++◌, length, All, slice_index_or}
 use Rattle.std.specs.List.{list_all, list_any}
 use Rattle.kw_bits.specs.BitVector.{BitVector}
 use Rattle.circuit_eval.specs.Circuits.{AreBits}

@@ -1,6 +1,6 @@
 -- The bit weight of a design, which tells how many gates its circuit may have: a measure of its weight, of its products and
 -- of its scheduler's registers. A call counts what its function's body counts, each time. This project's own measure.
-use Rattle.std.specs.Prelude.{ℕ, ◌+◌, ◌-◌, ◌*◌, map, reverse, sum_by, List, ◌∷◌, ◌++◌, length, Option, Some, None, slice_get}
+use Rattle.std.specs.Prelude.{ℕ, ◌+◌, ◌-◌, ◌*◌, map, reverse, sum_by, List, [], ◌∷◌, ◌++◌, length, Option, Some, None, slice_get}
 use Rattle.kw_bits.specs.Host as host
 use Rattle.koika_syntax.specs.declared.operator.BinaryOperator.{BinaryOperator}
 use Rattle.koika_syntax.specs.declared.operator.BinaryOperator.TheVariants as binary

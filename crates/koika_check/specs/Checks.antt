@@ -1,6 +1,6 @@
 -- What checking a whole tree returns: the design with every name resolved, or the first fault. Declarations in order
 -- of the text, then the schedule, then the limits in their order. This project's own rules.
-use Rattle.std.specs.Prelude.{ℕ, nat_le, List, ◌∷◌, ◌++◌, map, Option, Some, None, slice_get}
+use Rattle.std.specs.Prelude.{ℕ, nat_le, List, [], ◌∷◌, ◌++◌, map, Option, Some, None, slice_get}
 use Rattle.std.specs.List.{flat_map}
 use Rattle.std.specs.Option.{option_map}
 use Rattle.kw_base.specs.declared.fault_number.TheConstants.{TOO_MANY_REGISTERS, TOO_MANY_RULES, TOO_MANY_INPUTS, TOO_MANY_NODES, TOO_HEAVY, TOO_DEEP}

@@ -1,7 +1,7 @@
 -- What an expression evaluates to where names stand for what a scope says: its type, and the expression with its names
 -- resolved, or its first fault. One case for each construct: its parts from left to right, and its own conditions after
 -- them. This project's own rules, after the typing of Kôika (Bourgeat et al., PLDI 2020).
-use Rattle.std.specs.Prelude.{ℕ, List, ◌∷◌, ◌++◌, Option, Some, None}
+use Rattle.std.specs.Prelude.{ℕ, List, [], ◌∷◌, ◌++◌, Option, Some, None}
 use Rattle.kw_base.specs.declared.fault_number.TheConstants.{UNKNOWN_NAME}
 use Rattle.koika_syntax.specs.declared.operator.BinaryOperator.{BinaryOperator}
 use Rattle.koika_syntax.specs.declared.tree.Arm.{Arm, Arm-F}

@@ -1,6 +1,6 @@
 -- What checking returns: a result, or the first fault. Parts are looked at from left to right; of the conditions of one
 -- construct that don't hold, the smallest number counts, and of equal ones the first. This project's own rule.
-use Rattle.std.specs.Prelude.{ℕ, nat_lt, Bool, if◌then◌else◌, Option, Some, None, List, ◌∷◌}
+use Rattle.std.specs.Prelude.{ℕ, nat_lt, Bool, if◌then◌else◌, Option, Some, None, List, [], ◌∷◌}
 use Rattle.koika_check.specs.declared.stop.Wrong.{Wrong}
 
 -- this fault at this place, the offset of a byte

@@ -1,7 +1,7 @@
 -- The scheduler's nodes, numbered in order of the text: a rule, and where the scheduler goes on where it fires and
 -- where it doesn't. A name that is no rule is 20, and a rule that occurs twice on a path from the root is 27, each at
 -- its name. After the scheduler of Kôika (Bourgeat et al., PLDI 2020).
-use Rattle.std.specs.Prelude.{ℕ, ◌+◌, not, nat_eq, Bool, List, ◌∷◌, ◌++◌, length, drop, Option, Some, None}
+use Rattle.std.specs.Prelude.{ℕ, ◌+◌, not, nat_eq, Bool, List, [], ◌∷◌, ◌++◌, length, drop, Option, Some, None}
 use Rattle.std.specs.List.{list_any}
 use Rattle.std.specs.Option.{option_map}
 use Rattle.kw_base.specs.declared.fault_number.TheConstants.{UNKNOWN_NAME, RULE_TWICE_ON_A_PATH}

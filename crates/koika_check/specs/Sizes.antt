@@ -1,7 +1,7 @@
 -- The weight and the depth of an expression whose names are resolved, and those of a design. A call weighs what its
 -- function's body weighs, each time. They bound what a design becomes where its functions are written in. This project's
 -- own measures.
-use Rattle.std.specs.Prelude.{ℕ, zero, suc, ◌+◌, ◌-◌, ◌^◌, max, map, sum_by, List, ◌∷◌, ◌++◌, length, Option, Some, None, slice_get}
+use Rattle.std.specs.Prelude.{ℕ, zero, suc, ◌+◌, ◌-◌, ◌^◌, max, map, sum_by, List, [], ◌∷◌, ◌++◌, length, Option, Some, None, slice_get}
 use Rattle.typed_core.specs.declared.design.Node.{Node}
 use Rattle.koika_check.specs.declared.checked.Checked.{Checked}
 use Rattle.koika_check.specs.declared.checked.Function.{Function}

@@ -2,7 +2,7 @@
 -- PLDI 2020) over packed types (IEEE 1800-2017, 7.2.1 and 7.4.1); and what holds of a whole design. It says nothing
 -- of names.
 use Rattle.std.specs.List.{AllByRecursion}
-use Rattle.std.specs.Prelude.{◌≡◌, ℕ, ◌+◌, ◌-◌, ◌/◌, ◌<◌, ◌≤◌, ◌⊎◌, min, map, sum_by, replicate, reverse, drop, List, ◌∷◌, length, All, Option, Some, None, IfSome, slice_get}
+use Rattle.std.specs.Prelude.{◌≡◌, ℕ, ◌+◌, ◌-◌, ◌/◌, ◌<◌, ◌≤◌, ◌⊎◌, min, map, sum_by, replicate, reverse, drop, List, [], ◌∷◌, length, All, Option, Some, None, IfSome, slice_get}
 use Rattle.kw_bits.specs.BitVector.{IsBits}
 use Rattle.kw_bits.specs.Host as host
 use Rattle.kw_bits.specs.Laws.{HasWidth}

@@ -1,6 +1,6 @@
 -- How many brackets are open after tokens, where that many are open in front of them. At most 64 are open at
 -- once; this project's own limit.
-use Rattle.std.specs.Prelude.{ℕ, suc, ◌-◌, ◌≤◌, ⊤, List, ◌∷◌}
+use Rattle.std.specs.Prelude.{ℕ, suc, ◌-◌, ◌≤◌, ⊤, List, [], ◌∷◌}
 use Rattle.koika_syntax.specs.Tree.{Leaf, Terminal, symbol}
 use Rattle.koika_syntax.specs.declared.symbol.Symbol.{Symbol}
 use Rattle.koika_syntax.specs.declared.symbol.Symbol.TheVariants as symbols

@@ -1,6 +1,6 @@
 -- The text that a tree is printed as: its tokens in order, each in its one written form and with a blank after
 -- it. This project's own text form.
-use Rattle.std.specs.Prelude.{◌≡◌, ℕ, ◌<◌, ◌^◌, ⊤, map, List, ◌∷◌, ◌++◌, codes, decimal}
+use Rattle.std.specs.Prelude.{◌≡◌, ℕ, ◌<◌, ◌^◌, ⊤, map, List, [], ◌∷◌, ◌++◌, codes, decimal}
 use Rattle.std.specs.List.{flat_map, AllByRecursion}
 use Rattle.kw_bits.specs.BitVector.{IsBitVector}
 use Rattle.koika_syntax.specs.Keywords.{keyword_text}

@@ -1,7 +1,7 @@
 -- The grammar of a design: the tokens of each part, one case for each production, and what a tree must keep so
 -- that it is one of the grammar's. The operators' levels are one table. This project's own text form; the way
 -- that levels group is that of C (ISO/IEC 9899:2018, 6.5), with levels of its own.
-use Rattle.std.specs.Prelude.{◌≡◌, ℕ, ◌<◌, ◌^◌, Option, None, Some, IfSome, ⊤, List, ◌∷◌, ◌++◌, map, length, All}
+use Rattle.std.specs.Prelude.{◌≡◌, ℕ, ◌<◌, ◌^◌, Option, None, Some, IfSome, ⊤, List, [], ◌∷◌, ◌++◌, map, length, All}
 use Rattle.std.specs.List.{AllZip, flat_map}
 use Rattle.kw_bits.specs.BitVector.{IsBitVector}
 use Rattle.koika_syntax.specs.Tokens.{IsToken}

@@ -1,6 +1,6 @@
 -- What the program answers to the words of its command line and to the bytes of its source, and the text of an
 -- answer. A command's own answers are in the file of its name; later commands are further cases of these definitions.
-use Rattle.std.specs.Prelude.{◌≡◌, ℕ, Bool, false, true, List, ◌∷◌, ◌++◌, codes, Option, Some}
+use Rattle.std.specs.Prelude.{◌≡◌, ℕ, Bool, false, true, List, [], ◌∷◌, ◌++◌, codes, Option, Some}
 use Rattle.kw_bits.specs.declared.host.HostSpec.{HostSpec}
 use Rattle.koika_top.specs.Aiger.{AnswersAiger}
 use Rattle.koika_top.specs.Aigsim.{AnswersAigsim}

@@ -1,7 +1,7 @@
 -- The values of a type, and the bits that they are packed into, as IEEE 1800-2017 packs structs (7.2.1: the first
 -- member is the most significant) and arrays declared from the highest index down (7.4.1: item 0 is the least
 -- significant). A value of an enum may be any number of the enum's width.
-use Rattle.std.specs.Prelude.{◌≡◌, ℕ, List, ◌∷◌, map, replicate, slice_get, Some}
+use Rattle.std.specs.Prelude.{◌≡◌, ℕ, List, [], ◌∷◌, map, replicate, slice_get, Some}
 use Rattle.kw_bits.specs.BitVector.{BitVector}
 use Rattle.kw_bits.specs.Laws as vector
 use Rattle.kw_bits.specs.Operators as op

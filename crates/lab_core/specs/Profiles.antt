@@ -1,5 +1,5 @@
 -- What `profile` writes of the numbers of a run. This project's own text form; accesses are those of journals.
-use Rattle.std.specs.Prelude.{ℕ, ◌+◌, List, ◌∷◌, ◌++◌, codes, decimal, Option, Some, None, slice_get}
+use Rattle.std.specs.Prelude.{ℕ, ◌+◌, List, [], ◌∷◌, ◌++◌, codes, decimal, Option, Some, None, slice_get}
 use Rattle.std.specs.List.{flat_map}
 use Rattle.typed_core.specs.declared.design.Parts.{Parts}
 use Rattle.attempt_log.specs.declared.cause.Cause.{Cause}

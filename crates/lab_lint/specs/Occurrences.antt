@@ -2,7 +2,7 @@
 -- typed tree, those that never run too, with a function's body read at each call of it; and which of them are earlier
 -- than which, in the order of evaluation of Kôika's actions (Bourgeat et al., PLDI 2020). It says nothing of what they
 -- evaluate to.
-use Rattle.std.specs.Prelude.{ℕ, List, ◌∷◌, ◌++◌, length, map, take, Option, Some, None, slice_get}
+use Rattle.std.specs.Prelude.{ℕ, List, [], ◌∷◌, ◌++◌, length, map, take, Option, Some, None, slice_get}
 use Rattle.std.specs.List.{flat_map}
 use Rattle.typed_core.specs.Laws.{read_at, write_at}
 use Rattle.koika_check.specs.declared.checked.Checked.{Checked}

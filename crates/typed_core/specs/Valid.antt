@@ -1,6 +1,6 @@
 -- Which designs are valid: the conditions on a design's parts that its type keeps, after the typing of
 -- Kôika's core (Bourgeat et al., PLDI 2020) at bit vectors of 1 to 128 bits. It says nothing of how large a body is.
-use Rattle.std.specs.Prelude.{◌≡◌, ℕ, ◌+◌, ◌-◌, ◌<◌, ◌≤◌, ◌⊎◌, List, ◌∷◌, length, All, AllPairs, slice_get, Some, ◌≢◌}
+use Rattle.std.specs.Prelude.{◌≡◌, ℕ, ◌+◌, ◌-◌, ◌<◌, ◌≤◌, ◌⊎◌, List, [], ◌∷◌, length, All, AllPairs, slice_get, Some, ◌≢◌}
 use Rattle.kw_bits.specs.BitVector.{BitVector}
 use Rattle.kw_bits.specs.Host as host
 use Rattle.kw_bits.specs.Laws.{HasWidth}

@@ -1,5 +1,5 @@
 -- What private functions alone cite of this crate's `Kept`.
-use Rattle.std.specs.Prelude.{◌≡◌, ℕ, ◌+◌, ◌≤◌, All, nat_le, nat_lt, Bool, false, ◌==◌, ◌&&◌, ◌||◌, List, ◌∷◌, length, Option, IfSome, slice_index_or}
+use Rattle.std.specs.Prelude.{◌≡◌, ℕ, ◌+◌, ◌≤◌, All, nat_le, nat_lt, Bool, false, ◌==◌, ◌&&◌, ◌||◌, List, [], ◌∷◌, length, Option, IfSome, slice_index_or}
 use Rattle.std.specs.List.{count_by}
 use Rattle.kw_bits.specs.BitVector.{BitVector}
 use Rattle.typed_core.specs.Same.{SameDesign}

@@ -1,5 +1,5 @@
 -- What private functions alone cite of this crate's `Tokens`.
-use Rattle.std.specs.Prelude.{◌≡◌, ℕ, Result, Ok, Err, ◌==◌, ◌%◌, ◌^◌, nat_lt, if◌then◌else◌, Option, None, Some, List, ◌∷◌, drop, codes, slice_get}
+use Rattle.std.specs.Prelude.{◌≡◌, ℕ, Result, Ok, Err, ◌==◌, ◌%◌, ◌^◌, nat_lt, if◌then◌else◌, Option, None, Some, List, [], ◌∷◌, drop, codes, slice_get}
 use Rattle.std.specs.List.{slice_split}
 use Rattle.std.specs.Str.{bytes_eq}
 use Rattle.kw_bits.specs.BitVector.{BitVector}

@@ -1,5 +1,5 @@
 -- What private functions alone cite of this crate's `Work`.
-use Rattle.std.specs.Prelude.{◌≡◌, ℕ, Bool, true, false, cond, List, ◌∷◌, Option}
+use Rattle.std.specs.Prelude.{◌≡◌, ℕ, Bool, true, false, cond, List, [], ◌∷◌, Option}
 use Rattle.attempt_log.specs.declared.entry.Entry.{Entry}
 use Rattle.attempt_log.specs.Entries.{is_settle, is_settled, is_stored, is_submit}
 use Rattle.attempt_log.specs.Seats.{Grown}

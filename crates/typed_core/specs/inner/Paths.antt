@@ -1,5 +1,5 @@
 -- What private functions alone cite of this crate's `Paths`.
-use Rattle.std.specs.Prelude.{◌≡◌, ℕ, ◌+◌, ◌-◌, ◌≤◌, Bool, false, ◌==◌, List, ◌∷◌, length, Option, Some, None, if◌then◌else◌, slice_get, slice_index}
+use Rattle.std.specs.Prelude.{◌≡◌, ℕ, ◌+◌, ◌-◌, ◌≤◌, Bool, false, ◌==◌, List, [], ◌∷◌, length, Option, Some, None, if◌then◌else◌, slice_get, slice_index}
 use Rattle.typed_core.specs.Valid.{IsPath}
 use Rattle.typed_core.specs.declared.design.Node.{Node}
 use Rattle.typed_core.specs.declared.design.Next.{Next}
