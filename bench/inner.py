@@ -3,7 +3,7 @@ Then it writes the lines of bench/meanings.txt above the definitions that they a
 
 `bench/believe.sh --move` calls it. It proves nothing: look at what it did with `git diff`, and prove the crates again.
 A file of specs/ that holds some of both is cut into two of the same name. What it can't cut, a file with a module
-inside, it names and leaves."""
+inside, it names and leaves. A private definition that both parts need has to be made public by hand."""
 import collections
 import os
 import re
@@ -163,7 +163,7 @@ def main(house):
 def follow(whole, parts):
     """Changes the imports of what moved, in all files of crates/."""
     for folder, _, names in os.walk(f"{TOP}/crates"):
-        if "/out" in folder:
+        if "out" in folder.split("/"):
             continue
         for name in names:
             if not name.endswith((".antt", ".rt", ".edit")):

@@ -41,7 +41,7 @@ use Rattle.koika_syntax.specs.declared.tree.TypeExpression.{TypeExpression, Bits
 use Rattle.koika_syntax.specs.declared.tree.Width.{Width}
 
 -- the tokens of a part
-abbrev Leaves : Type 0
+abbrev pub Leaves : Type 0
 Leaves = List Leaf
 
 -- type = "bits" NUM | NAME | "[" type ";" NUM "]"

@@ -1,5 +1,5 @@
 use Rattle.std.proofs.Common.{◌≡◌, take}
-use Rattle.aig_blast.specs.Nodes.{output_bits}
+use Rattle.aig_blast.specs.inner.Nodes.{output_bits}
 use Rattle.aig_blast.proofs.circuit.output_bits.Given as goal
 
 abbrev pub invariant-loop-wire : goal.invariant-loop-wire

@@ -1,7 +1,7 @@
 use Rattle.std.proofs.Common.{◌≡◌, map, take}
 use Rattle.btor2_model.specs.Rules.{is_output}
 use Rattle.btor2_model.specs.Run.{lines_of}
-use Rattle.btor2_net.specs.Wires.{output_wire}
+use Rattle.btor2_net.specs.inner.Wires.{output_wire}
 use Rattle.btor2_net.proofs.wires.outputs.Given as goal
 
 abbrev pub invariant-loop-line : goal.invariant-loop-line
