@@ -15,7 +15,7 @@ use typed_core::limits::PORTS;
 use typed_core::{Access, Event, Events};
 
 /// The access at a cursor.
-#[tactic(auto, unfolding(crate::specs::Tokens::access_at))]
+#[tactic(auto, unfolding(crate::specs::inner::Tokens::access_at))]
 pub(crate) fn access<'a>(
     names: &Vocabulary<'_>,
     rest: Option<&'a [u8]>,
@@ -57,7 +57,7 @@ pub(crate) fn value_of(names: &Vocabulary<'_>, register: u32, digits: &[u8]) -> 
 }
 
 // The event of a token.
-#[tactic(auto, unfolding(crate::specs::Tokens::event_read))]
+#[tactic(auto, unfolding(crate::specs::inner::Tokens::event_read))]
 fn event_read(names: &Vocabulary<'_>, token: &[u8]) -> Result<Event, Flaw>
     requires { Knows names.now.design.now names.now.registers names.now.rules }
     ensures { Reads (λ event. event) result (event_read names.now.design.now token.now) }

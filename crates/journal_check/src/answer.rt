@@ -15,7 +15,7 @@ use attempt_log::{Cause, Settled, StaleRead, Taken};
 use typed_core::Outcome;
 
 /// How a rule ended, as read at a cursor.
-#[tactic(auto, unfolding(crate::specs::Tokens::outcome_at))]
+#[tactic(auto, unfolding(crate::specs::inner::Tokens::outcome_at))]
 pub(crate) fn outcome<'a>(
     names: &Vocabulary<'_>,
     rest: Option<&'a [u8]>,
@@ -61,7 +61,7 @@ pub(crate) fn taken_read(word: &[u8]) -> Taken
 }
 
 /// What was answered when the head was to be settled, as read at a cursor.
-#[tactic(auto, unfolding(crate::specs::Tokens::settled_at))]
+#[tactic(auto, unfolding(crate::specs::inner::Tokens::settled_at))]
 pub(crate) fn settled(names: &Vocabulary<'_>, rest: Option<&[u8]>) -> Result<Settled, Flaw>
     requires { Knows names.now.design.now names.now.registers names.now.rules }
     ensures { Reads (λ answer. answer) result (settled_at names.now.design.now (tokens_left rest.entry)) }
@@ -85,7 +85,7 @@ pub(crate) fn settled(names: &Vocabulary<'_>, rest: Option<&[u8]>) -> Result<Set
     Ok(Settled::Finished)
 }
 
-#[tactic(auto, unfolding(crate::specs::Tokens::committed_at))]
+#[tactic(auto, unfolding(crate::specs::inner::Tokens::committed_at))]
 fn committed(names: &Vocabulary<'_>, rest: Option<&[u8]>) -> Result<Settled, Flaw>
     requires { Knows names.now.design.now names.now.registers names.now.rules }
     ensures { Reads (λ answer. answer) result (committed_at names.now.design.now (tokens_left rest.entry)) }
@@ -97,7 +97,7 @@ fn committed(names: &Vocabulary<'_>, rest: Option<&[u8]>) -> Result<Settled, Fla
     })
 }
 
-#[tactic(auto, unfolding(crate::specs::Tokens::skipped_at))]
+#[tactic(auto, unfolding(crate::specs::inner::Tokens::skipped_at))]
 fn skipped(names: &Vocabulary<'_>, rest: Option<&[u8]>) -> Result<Settled, Flaw>
     requires { Knows names.now.design.now names.now.registers names.now.rules }
     ensures { Reads (λ answer. answer) result (skipped_at names.now.design.now (tokens_left rest.entry)) }
@@ -111,7 +111,7 @@ fn skipped(names: &Vocabulary<'_>, rest: Option<&[u8]>) -> Result<Settled, Flaw>
     })
 }
 
-#[tactic(auto, unfolding(crate::specs::Tokens::outdated_at))]
+#[tactic(auto, unfolding(crate::specs::inner::Tokens::outdated_at))]
 fn outdated(names: &Vocabulary<'_>, rest: Option<&[u8]>) -> Result<Settled, Flaw>
     requires { Knows names.now.design.now names.now.registers names.now.rules }
     ensures { Reads (λ answer. answer) result (outdated_at names.now.design.now (tokens_left rest.entry)) }
@@ -125,7 +125,7 @@ fn outdated(names: &Vocabulary<'_>, rest: Option<&[u8]>) -> Result<Settled, Flaw
     })
 }
 
-#[tactic(auto, unfolding(crate::specs::Tokens::waiting_at))]
+#[tactic(auto, unfolding(crate::specs::inner::Tokens::waiting_at))]
 fn waiting(names: &Vocabulary<'_>, rest: Option<&[u8]>) -> Result<Settled, Flaw>
     requires { Knows names.now.design.now names.now.registers names.now.rules }
     ensures { Reads (λ answer. answer) result (waiting_at names.now.design.now (tokens_left rest.entry)) }
@@ -137,7 +137,7 @@ fn waiting(names: &Vocabulary<'_>, rest: Option<&[u8]>) -> Result<Settled, Flaw>
     })
 }
 
-#[tactic(auto, unfolding(crate::specs::Tokens::closed_at))]
+#[tactic(auto, unfolding(crate::specs::inner::Tokens::closed_at))]
 fn closed(rest: Option<&[u8]>) -> Result<Settled, Flaw>
     ensures { Reads (λ answer. answer) result (closed_at (tokens_left rest.entry)) }
 {
@@ -146,7 +146,7 @@ fn closed(rest: Option<&[u8]>) -> Result<Settled, Flaw>
 }
 
 // A read, and the values after `held=` and `now=`.
-#[tactic(auto, unfolding(crate::specs::Tokens::stale_at))]
+#[tactic(auto, unfolding(crate::specs::inner::Tokens::stale_at))]
 fn stale(names: &Vocabulary<'_>, rest: Option<&[u8]>) -> Result<StaleRead, Flaw>
     requires { Knows names.now.design.now names.now.registers names.now.rules }
     ensures { Reads (λ read. read) result (stale_at names.now.design.now (tokens_left rest.entry)) }
@@ -170,7 +170,7 @@ pub(crate) fn after(token: &[u8], count: usize) -> &[u8]
 }
 
 // Why a rule was skipped, as read at a cursor.
-#[tactic(auto, unfolding(crate::specs::Tokens::cause_at))]
+#[tactic(auto, unfolding(crate::specs::inner::Tokens::cause_at))]
 fn cause(names: &Vocabulary<'_>, rest: Option<&[u8]>) -> Result<Cause, Flaw>
     requires { Knows names.now.design.now names.now.registers names.now.rules }
     ensures { Reads (λ cause. cause) result (cause_at names.now.design.now (tokens_left rest.entry)) }
@@ -185,7 +185,7 @@ fn cause(names: &Vocabulary<'_>, rest: Option<&[u8]>) -> Result<Cause, Flaw>
     clash_cause(names, rest)
 }
 
-#[tactic(auto, unfolding(crate::specs::Tokens::own_cause))]
+#[tactic(auto, unfolding(crate::specs::inner::Tokens::own_cause))]
 fn own_cause(names: &Vocabulary<'_>, rest: Option<&[u8]>) -> Result<Cause, Flaw>
     requires { Knows names.now.design.now names.now.registers names.now.rules }
     ensures { Reads (λ cause. cause) result (own_cause names.now.design.now (tokens_left rest.entry)) }
@@ -194,7 +194,7 @@ fn own_cause(names: &Vocabulary<'_>, rest: Option<&[u8]>) -> Result<Cause, Flaw>
     Ok(Cause::OwnClash(access))
 }
 
-#[tactic(auto, unfolding(crate::specs::Tokens::clash_cause))]
+#[tactic(auto, unfolding(crate::specs::inner::Tokens::clash_cause))]
 fn clash_cause(names: &Vocabulary<'_>, rest: Option<&[u8]>) -> Result<Cause, Flaw>
     requires { Knows names.now.design.now names.now.registers names.now.rules }
     ensures { Reads (λ cause. cause) result (clash_cause names.now.design.now (tokens_left rest.entry)) }

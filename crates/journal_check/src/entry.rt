@@ -17,7 +17,7 @@ use one_rule::Stimulus;
 use std::alloc::Global;
 
 /// What a line is read as. Whether it is printed so is another question.
-#[tactic(auto, unfolding(crate::specs::Tokens::line_at))]
+#[tactic(auto, unfolding(crate::specs::inner::Tokens::line_at))]
 pub(crate) fn line(
     alloc: Global,
     names: &Vocabulary<'_>,
@@ -40,7 +40,7 @@ pub(crate) fn line(
     begin(rest)
 }
 
-#[tactic(auto, unfolding(crate::specs::Tokens::submit_at))]
+#[tactic(auto, unfolding(crate::specs::inner::Tokens::submit_at))]
 fn submit(
     alloc: Global,
     names: &Vocabulary<'_>,
@@ -66,7 +66,7 @@ fn submit(
     }))
 }
 
-#[tactic(auto, unfolding(crate::specs::Tokens::settle_at))]
+#[tactic(auto, unfolding(crate::specs::inner::Tokens::settle_at))]
 fn settle(names: &Vocabulary<'_>, rest: Option<&[u8]>) -> Result<Line, Flaw>
     requires { Knows names.now.design.now names.now.registers names.now.rules }
     ensures { Reads (λ line. line) result (settle_at names.now.design.now (tokens_left rest.entry)) }
@@ -77,7 +77,7 @@ fn settle(names: &Vocabulary<'_>, rest: Option<&[u8]>) -> Result<Line, Flaw>
     Ok(Line::Entry(Entry::Settle { worker, answer }))
 }
 
-#[tactic(auto, unfolding(crate::specs::Tokens::batch_at))]
+#[tactic(auto, unfolding(crate::specs::inner::Tokens::batch_at))]
 fn batch(rest: Option<&[u8]>) -> Result<Line, Flaw>
     ensures { Reads (λ line. line) result (batch_at (tokens_left rest.entry)) }
 {
@@ -87,7 +87,7 @@ fn batch(rest: Option<&[u8]>) -> Result<Line, Flaw>
 }
 
 // The number after `workers=`.
-#[tactic(auto, unfolding(crate::specs::Tokens::begin_at))]
+#[tactic(auto, unfolding(crate::specs::inner::Tokens::begin_at))]
 fn begin(rest: Option<&[u8]>) -> Result<Line, Flaw>
     ensures { Reads (λ line. line) result (begin_at (tokens_left rest.entry)) }
 {

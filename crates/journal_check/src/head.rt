@@ -16,7 +16,7 @@ pub(crate) struct Head {
 }
 
 /// The number at a cursor.
-#[tactic(auto, unfolding(crate::specs::Tokens::number_at))]
+#[tactic(auto, unfolding(crate::specs::inner::Tokens::number_at))]
 pub(crate) fn number(rest: Option<&[u8]>) -> Result<(u32, Option<&[u8]>), Flaw>
     ensures { ReadsFront result (number_at (tokens_left rest.entry)) }
 {
@@ -25,7 +25,7 @@ pub(crate) fn number(rest: Option<&[u8]>) -> Result<(u32, Option<&[u8]>), Flaw>
 }
 
 /// The cycle and the rule at a cursor.
-#[tactic(auto, unfolding(crate::specs::Tokens::head_at))]
+#[tactic(auto, unfolding(crate::specs::inner::Tokens::head_at))]
 pub(crate) fn read_head<'a>(
     names: &Vocabulary<'_>,
     rest: Option<&'a [u8]>,

@@ -45,7 +45,7 @@ impl Vocabulary<'_> {
     }
 
     /// The first rule of the name at a cursor.
-    #[tactic(auto, unfolding(crate::specs::Tokens::rule_at))]
+    #[tactic(auto, unfolding(crate::specs::inner::Tokens::rule_at))]
     pub(crate) fn rule<'b>(&self, rest: Option<&'b [u8]>) -> Result<(u32, Option<&'b [u8]>), Flaw>
         requires { Knows self.now.design.now self.now.registers self.now.rules }
         ensures { ReadsFront result (rule_at self.now.design.now (tokens_left rest.entry)) }

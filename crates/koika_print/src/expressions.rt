@@ -15,7 +15,7 @@ use kw_bits::{NoMemory, Text};
 
 /// Writes an expression.
 #[cycle(expression)]
-#[tactic(auto, using(crate::proofs::Printing::printing_expressions), unfolding(koika_syntax::specs::Grammar::expression_leaves))]
+#[tactic(auto, using(crate::proofs::Printing::printing_expressions), unfolding(koika_syntax::specs::inner::Grammar::expression_leaves))]
 pub(crate) fn expression(out: &mut Text, value: &Expression) -> Result<(), NoMemory>
     ensures { OnOk result (Prints out.old out.new (expression_leaves value.now)) }
 {
@@ -277,7 +277,7 @@ fn statement_run(out: &mut Text, statements: &[Statement]) -> Result<(), NoMemor
 }
 
 #[cycle(expression)]
-#[tactic(auto, using(crate::proofs::Printing::printing_expressions), unfolding(koika_syntax::specs::Grammar::statement_leaves, koika_syntax::specs::Grammar::expression_leaves))]
+#[tactic(auto, using(crate::proofs::Printing::printing_expressions), unfolding(koika_syntax::specs::inner::Grammar::statement_leaves, koika_syntax::specs::inner::Grammar::expression_leaves))]
 fn statement(out: &mut Text, of: &Statement) -> Result<(), NoMemory>
     ensures { OnOk result (Prints out.old out.new (statement_leaves of.now)) }
 {
