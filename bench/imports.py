@@ -1,0 +1,185 @@
+"""Reads what the sources import, and says which imports name nothing: `bench/imports.sh`. `rename.py` uses it."""
+import collections
+import os
+import re
+import sys
+
+from sources import TOP, crates, files
+
+# What a kit's derive or an impl adds to a type's name: the trait. The others are found in the sources.
+TRAITS = {"Clone", "Copy", "Debug", "Default", "Drop", "Eq", "Hash", "Ord", "PartialEq", "PartialOrd", "Error", "Display"}
+IMPORT = re.compile(r"^(\s*(?:ghost )?(?:pub )?use )(Rattle\.[\w.'+-]+?)(?:\.\{(.*)\})?((?: as [\w']+)?)(;?)(\s*)$")
+
+
+class Tree:
+    """The files of the crates, and which Rust names each module has in scope."""
+
+    def __init__(self):
+        self.crates = crates()
+        self.texts, self.modules = {}, {}
+        for crate in self.crates:
+            for part, ending in (("src", ".rt"), ("specs", ".antt"), ("proofs", ".antt"), ("must-fail", ".edit"), ("wrong-bodies", ".edit")):
+                for path in files(crate, part, ending):
+                    self.texts[path] = read(path)
+            for path in files(crate, "src", ".rt"):
+                self.modules[crate, module_of(path)] = path
+        # Files that scripts put into a copy of the tree are of no crate here.
+        for folder, _, names in os.walk(f"{TOP}/bench"):
+            for name in names:
+                if name.endswith(".rt.in"):
+                    path = os.path.relpath(f"{folder}/{name}", TOP)
+                    self.texts[path] = read(path)
+                    self.modules["", (path,)] = path
+        self.uses = {key: uses_of(self.texts[path]) for key, path in self.modules.items()}
+        self.traits = TRAITS | set(re.findall(r"\btrait (\w+)", "\n".join(self.texts[path] for path in self.modules.values())))
+
+    def place(self, at, path):
+        """The crate and module that the modules of a Rust path name, from a module on; none where they name no module."""
+        crate, module = at
+        if not path:
+            return at
+        first, rest = path[0], tuple(path[1:])
+        if first == "crate":
+            found = crate, rest
+        elif first == "self":
+            found = crate, (*module, *rest)
+        elif first == "super":
+            found = crate, (*module[:-1], *rest)
+        elif (crate, (*module, first)) in self.modules:
+            found = crate, (*module, first, *rest)
+        elif first in self.crates:
+            found = first, rest
+        else:
+            return None
+        return found if found in self.modules else None
+
+    def in_scope(self, renames):
+        """For each module the renames of the types that it has in scope by their own names: by declaring or by importing
+        them."""
+        scope = collections.defaultdict(dict)
+        for one in renames:
+            if one.kind == "type":
+                scope[one.crate, tuple(one.module.split("."))][one.old] = one
+        while True:
+            more = []
+            for at, uses in self.uses.items():
+                for path, alias in uses:
+                    there = self.place(at, path[:-1])
+                    if there is None or there == at:
+                        continue
+                    if path[-1] == "*":
+                        more += [(at, name, one) for name, one in scope[there].items() if scope[at].get(name) != one]
+                    elif alias is None and path[-1] in scope[there] and path[-1] not in scope[at]:
+                        more.append((at, path[-1], scope[there][path[-1]]))
+            if not more:
+                return scope
+            for at, name, one in more:
+                scope[at][name] = one
+
+
+def read(path):
+    with open(f"{TOP}/{path}", encoding="utf-8") as file:
+        return file.read()
+
+
+def module_of(path):
+    """The module of a file of src/, as a list of names."""
+    parts = path.split("/src/")[1][: -len(".rt")].split("/")
+    if parts[-1] in ("lib", "main", "mod"):
+        parts.pop()
+    return tuple(parts)
+
+
+def uses_of(text):
+    """What the `use` items of a Rust text import: paths, with the name that they go by here if it is another one."""
+    found = []
+
+    def walk(tree, before):
+        tree = tree.strip()
+        group = re.match(r"(.*?)\{(.*)\}$", tree, re.S)
+        if group:
+            before = (*before, *[it for it in group[1].split("::") if it.strip()])
+            depth, part = 0, ""
+            for sign in group[2] + ",":
+                depth += (sign == "{") - (sign == "}")
+                if sign == "," and depth == 0:
+                    if part.strip():
+                        walk(part, before)
+                    part = ""
+                else:
+                    part += sign
+            return
+        path, _, alias = tree.partition(" as ")
+        names = [it.strip() for it in path.split("::")]
+        if names[-1] == "self":
+            names.pop()
+        found.append(((*before, *names), alias.strip() or None))
+
+    for tree in re.findall(r"^ *(?:pub(?:\([a-z ]+\))? )?use ([^;]*);", text, re.M):
+        if not tree.startswith("Rattle."):
+            walk(tree, ())
+    return found
+
+
+def unresolved(tree):
+    """The imports that name nothing of the repository that is there: file and what is missing."""
+    found, words = set(), {}
+
+    def has(path, name):
+        """Whether a file has a word, its own imports and comments aside."""
+        if path not in words:
+            text = "\n".join(line for line in tree.texts.get(path, "").split("\n") if not re.match(r"\s*(--|//|(ghost )?use )", line))
+            words[path] = set(re.findall(r"[^\s(){}\[\],;:@\".!&<>?|]+", text))
+        if "◌" in name:
+            return all(part in tree.texts.get(path, "") for part in name.split("◌") if part)
+        return name in words[path]
+
+    def makes(path, name):
+        """Whether a name is a type of that file, or what the kit makes of one: with a trait, or with words beside it."""
+        name = name.rstrip("'")
+        with_trait = any(has(path, name[:at]) and name[at:] in tree.traits for at in range(1, len(name)))
+        return has(path, name) or with_trait or any(has(path, part) for part in re.split(r"[-_]", name) if len(part) > 1)
+
+    def missing(crate, side, rest, names):
+        """What isn't there of a module's names. A module is given by its parts after `specs` or `proofs`."""
+        place = f"crates/{crate}/{side}/{'/'.join(rest)}.antt"
+        if place in tree.texts:
+            # (a module that names others' again may have any name)
+            return [name for name in names if not has(place, name) and "pub use " not in tree.texts[place]]
+        if side == "specs" and rest[0] not in ("declared", "contracts"):
+            above = f"crates/{crate}/specs/{'/'.join(rest[:-1]) or 'Lib'}.antt"
+            return [] if has(above, rest[-1]) else [".".join(rest)]
+        # What the kit makes of src/: the modules of a file, then a type, then what it makes of that.
+        rest = rest[1:] if side == "specs" else rest
+        at = next((at for at in range(len(rest), -1, -1) if (crate, tuple(rest[:at])) in tree.modules), None)
+        if at is None or at < len(rest) and rest[at] == "Lib":
+            return [".".join(rest)]
+        file = tree.modules[crate, tuple(rest[:at])]
+        types = [it for it in rest[at : at + 1] if re.match(r"[A-Z]", it) and it != "TheConstants"]
+        wrong = [it for it in types if not makes(file, it)]
+        if not wrong and side == "specs" and (rest[-1] in ("TheVariants", "TheConstants") or at + 1 == len(rest)):
+            wrong = [name for name in names if not name.startswith("the_") and not makes(file, name)]
+        return wrong
+
+    for path, text in tree.texts.items():
+        if path.endswith((".edit", ".rt.in")):
+            continue
+        for line in text.split("\n"):
+            named = IMPORT.match(line)
+            parts = named[2].split(".") if named else []
+            if len(parts) < 4 or parts[1] not in tree.crates:
+                continue
+            names = [it.partition(" as ")[0].strip() for it in (named[3] or "").split(",") if it.strip()]
+            for it in missing(parts[1], parts[2], parts[3:], names):
+                found.add((path, f"{named[2]}: {it} isn't there"))
+    return found
+
+
+def main():
+    found = sorted(unresolved(Tree()))
+    print("\n".join(f"{path}: {what}" for path, what in found) if found else "each import names what is there")
+    return 1 if found else 0
+
+
+if __name__ == "__main__":
+    sys.exit(main())
