@@ -17,6 +17,11 @@ CHAIN = re.compile(r"[^\s(){}\[\],;:@\"`]+")
 PATH = re.compile(r"[A-Za-z_]\w*(?:::[A-Za-z_]\w*)*")
 
 
+def place_of(path):
+    """The whole name of the module that a file of definitions or proofs is."""
+    return ".".join(["Rattle", path.split("/")[1], *path[: -len(".antt")].split("/")[2:]])
+
+
 class Change:
     """Renames of the tree."""
 
@@ -30,12 +35,11 @@ class Change:
                 self.homes[f"Rattle.{one.crate}.specs.{one.module}"][one.old] = one
         again = []
         for path, text in tree.texts.items():
-            if "/specs/" in path:
-                here = f"Rattle.{path.split('/')[1]}.specs.{path.split('/specs/')[1][: -len('.antt')].replace('/', '.')}"
+            if path.endswith(".antt"):
                 for line in text.split("\n"):
                     found = IMPORT.match(line)
                     if found and found[1].startswith("pub ") and found[3]:
-                        again.append((here, found[2], [it.strip() for it in found[3].split(",")]))
+                        again.append((place_of(path), found[2], [it.strip() for it in found[3].split(",")]))
         size = -1
         while size != sum(map(len, self.homes.values())):
             size = sum(map(len, self.homes.values()))
@@ -43,6 +47,23 @@ class Change:
                 for name in names:
                     if name in self.homes.get(there, {}):
                         self.homes[here][name] = self.homes[there][name]
+        self.name_lemmas()
+
+    def name_lemmas(self):
+        """Lemmas that are named for a definition that changes, as `Name-..`, change with it."""
+        for path, text in self.tree.texts.items():
+            if not path.endswith(".antt"):
+                continue
+            names = dict(self.homes.get(place_of(path), {}))
+            for line in text.split("\n"):
+                found = IMPORT.match(line)
+                for name in (it.strip() for it in (found[3] or "").split(",")) if found else ():
+                    if name in self.homes.get(found[2], {}):
+                        names[name] = self.homes[found[2]][name]
+            for lemma in set(re.findall(r"^ *(?:\w+ )*([^\s(){}\[\],;:.]+-\S+) :", text, re.M)):
+                begin, _, rest = lemma.partition("-")
+                if begin in names:
+                    self.homes[place_of(path)][lemma] = names[begin]._replace(old=lemma, new=f"{names[begin].new}-{rest}")
 
     # ---- names of antt
 
@@ -68,6 +89,11 @@ class Change:
         if len(parts) < 4 or parts[0] != "Rattle":
             return parts
         crate, side, new = parts[1], parts[2], list(parts)
+        for at in range(len(parts) - 1, 3, -1):
+            names = self.homes.get(".".join(parts[:at]), {})
+            if self.segment(names, parts[at]) != parts[at]:
+                new[at] = self.segment(names, parts[at])
+                return new
         if parts[2:4] == ["specs", "declared"] or parts[2:4] == ["specs", "contracts"] or side == "proofs":
             begin = 4 if side == "specs" else 3
             for at in range(begin, len(parts)):
@@ -84,12 +110,6 @@ class Change:
                     return new
                 if parts[3] != "declared":
                     new[at] = self.of_impl(names, parts[at])
-            return new
-        for at in range(len(parts) - 1, 3, -1):
-            names = self.homes.get(".".join(parts[:at]))
-            if names:
-                new[at] = self.segment(names, parts[at])
-                return new
         return new
 
     def imported(self, line, local, modules):
@@ -128,16 +148,11 @@ class Change:
     def antt(self, path, text):
         """A file of definitions or proofs."""
         local, modules = {}, {}
-        crate, part = path.split("/")[1:3]
-        own = {}
-        if part == "specs":
-            here = f"Rattle.{crate}.specs.{path.split('/specs/')[1][: -len('.antt')].replace('/', '.')}"
-            own = {old: one.new for old, one in self.homes.get(here, {}).items()}
         lines = text.split("\n")
         for number, line in enumerate(lines):
             if IMPORT.match(line):
                 lines[number] = self.imported(line, local, modules)
-        local |= own
+        local |= {old: one.new for old, one in self.homes.get(place_of(path), {}).items()}
         changed = {old: new for old, new in local.items() if old != new}
         self.look_for_clashes(path, changed)
         is_data = False
