@@ -1,10 +1,12 @@
-"""Reads what the sources import, and says which imports name nothing: `bench/imports.sh`. `rename.py` uses it."""
+"""Says which imports of the sources name nothing, and what a file uses without an import: `bench/imports.sh`. `rename.py` uses
+it, too."""
 import collections
 import os
 import re
+import signal
 import sys
 
-from sources import TOP, crates, files
+from sources import TOP, crates, definitions_of, files
 
 # What a kit's derive or an impl adds to a type's name: the trait. The others are found in the sources.
 TRAITS = {"Clone", "Copy", "Debug", "Default", "Drop", "Eq", "Hash", "Ord", "PartialEq", "PartialOrd", "Error", "Display"}
@@ -175,11 +177,59 @@ def unresolved(tree):
     return found
 
 
+# Operators of the logic that a file has to import. (Others are written in comments and as parts of names, too.)
+OPERATORS = ("[]", "∷", "++", "≡", "≢", "≤", "⊎", "↔", "∙", "&&", "||")
+
+
+def untold(tree):
+    """What files of definitions and proofs use and neither import nor define: operators, and definitions of the crate that
+    begin with a capital letter."""
+    own = collections.defaultdict(set)
+    for crate in tree.crates:
+        for path in files(crate, "specs", ".antt"):
+            own[crate] |= {one.name for one in definitions_of(crate, path) if one.name[:1].isupper()}
+    for path, text in tree.texts.items():
+        # (the kit reads a former by its place)
+        if not path.endswith(".antt") or "/formers/" in path:
+            continue
+        names, body = set(), []
+        for line in text.split("\n"):
+            named = IMPORT.match(line)
+            if named and named[3] is None:
+                names.add(named[4][4:] if named[4] else named[2].split(".")[-1])
+            elif named:
+                names |= {it.partition(" as ")[2].strip() or it.strip() for it in named[3].split(",")}
+            elif not re.match(r"\s*--|(pub )?mod ", line):
+                body.append(line)
+        text = re.sub(r'"[^"]*"', "", "\n".join(body))
+        words = r"(?:(?:abbrev|unfoldable|opaque|private|pub|record|data|infix\w*|\d+) )*"
+        names |= set(re.findall(rf"^ *{words}([^\s(){{}}\[\],;:]+)", text, re.M))
+        names |= {word for binder in re.findall(r"[(λ{∀]\s*([^():{}.]+?)\s*[:.]", text) for word in binder.split()}
+        parts = {part for name in names for part in name.split("◌")}
+        used = set(re.findall(r"\[\]|[^\s(){}\[\],;:@\"`]+", text))
+        for it in sorted(used):
+            if it in OPERATORS and it not in parts or it.split(".")[0] in own[path.split("/")[1]] - names:
+                yield path, f"{it} is used, and isn't imported"
+
+
+def unfolded(tree):
+    """The definitions and lemmas that attributes of functions name, as `crate::specs::Module::name`, and that aren't there."""
+    for path in tree.modules.values():
+        for first, side, rest in re.findall(r"\b(\w+)::(specs|proofs)::([\w:'-]+)", tree.texts[path]):
+            *module, name = rest.split("::")
+            crate = path.split("/")[1] if first == "crate" else first
+            place = f"crates/{crate}/{side}/{'/'.join(module)}.antt"
+            if crate in tree.crates and not re.search(rf"(?<![\w'-]){re.escape(name)}(?![\w'-])", tree.texts.get(place, "")):
+                yield path, f"{first}::{side}::{rest} isn't there"
+
+
 def main():
-    found = sorted(unresolved(Tree()))
+    tree = Tree()
+    found = sorted({*unresolved(tree), *untold(tree), *unfolded(tree)})
     print("\n".join(f"{path}: {what}" for path, what in found) if found else "each import names what is there")
     return 1 if found else 0
 
 
 if __name__ == "__main__":
+    signal.signal(signal.SIGPIPE, signal.SIG_DFL)  # a reader may stop early
     sys.exit(main())
