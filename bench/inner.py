@@ -1,7 +1,8 @@
 """Moves definitions on which no public contract rests from specs/ to specs/inner/, file by file, and follows their imports.
 Then it writes the lines of bench/meanings.txt above the definitions that they are of.
 
-`bench/believe.sh --move` calls it. It proves nothing: look at what it did with `git diff`, and prove the crates again.
+`bench/believe.sh --move` calls it. It proves nothing: look at what it did with `git diff` and `bench/imports.sh`, and prove
+the crates again.
 A file of specs/ that holds some of both is cut into two of the same name. What it can't cut, a file with a module
 inside, it names and leaves. A private definition that both parts need has to be made public by hand."""
 import collections
@@ -171,13 +172,26 @@ def follow(whole, parts):
             path = f"{folder}/{name}"
             with open(path, encoding="utf-8") as file:
                 old = file.read()
-            if "Rattle." not in old:
+            if "Rattle." not in old and "::specs::" not in old:
                 continue
             own = re.search(r"crates/(\w+)/specs/(.*)\.antt$", path)
             new = followed(old, whole, parts, own and (own[1], own[2].replace("/", ".")))
+            if name.endswith((".rt", ".edit")):
+                new = in_attributes(new, os.path.relpath(path, f"{TOP}/crates").split("/")[0], whole, parts)
             if new != old:
                 with open(path, "w", encoding="utf-8") as file:
                     file.write(new)
+
+
+def in_attributes(text, crate, whole, parts):
+    """The names in attributes of functions, as `crate::specs::Module::name`, of what moved."""
+
+    def name(found):
+        key = crate if found[1] == "crate" else found[1], found[2].replace("::", ".")
+        is_moved = key in whole or found[3] in parts.get(key, ())
+        return f"{found[1]}::specs::inner::{found[2]}::{found[3]}" if is_moved else found[0]
+
+    return re.sub(r"\b(\w+)::specs::((?:\w+::)*\w+)::([^\s,()]+)", name, text)
 
 
 def followed(text, whole, parts, own):
