@@ -1,6 +1,7 @@
 """Says which imports of the sources name nothing, and what a file uses without an import: `bench/imports.sh`. `rename.py` uses
 it, too."""
 import collections
+import functools
 import os
 import re
 import signal
@@ -136,6 +137,17 @@ def unresolved(tree):
             return all(part in tree.texts.get(path, "") for part in name.split("◌") if part)
         return name in words[path]
 
+    @functools.cache
+    def private(path):
+        """What a file of definitions or proofs has for itself alone."""
+        begins = re.compile(r"((?:(?:abbrev|unfoldable|opaque|private|pub|record|data) )*)([^\s(){}\[\],;:]+)(?= *[:({])")
+        first = {}
+        for line in tree.texts[path].split("\n"):
+            found = begins.match(line)
+            if found:
+                first.setdefault(found[2], "pub" in found[1].split())
+        return {name for name, is_public in first.items() if not is_public}
+
     def makes(path, name):
         """Whether a name is a type of that file, or what the kit makes of one: with a trait, or with words beside it."""
         name = name.rstrip("'")
@@ -147,7 +159,7 @@ def unresolved(tree):
         place = f"crates/{crate}/{side}/{'/'.join(rest)}.antt"
         if place in tree.texts:
             # (a module that names others' again may have any name)
-            return [name for name in names if not has(place, name) and "pub use " not in tree.texts[place]]
+            return [name for name in names if name in private(place) or not has(place, name) and "pub use " not in tree.texts[place]]
         if side == "specs" and rest[0] not in ("declared", "contracts"):
             above = f"crates/{crate}/specs/{'/'.join(rest[:-1]) or 'Lib'}.antt"
             return [] if has(above, rest[-1]) else [".".join(rest)]
