@@ -194,6 +194,11 @@ def check(house):
         # (the kit reads what describes a type's form by its place)
         if not module.startswith(("inner.", "formers.")) and not any((crate, module, name) in public for name in names):
             wrong.append(f"crates/{crate}/specs/{module.replace('.', '/')}.antt: no public contract rests on it")
+    seen = set()
+    for key in (key for keys in lists_of(house) for key in house.ordered(keys)):
+        for used in house.uses[key] - seen - {key}:
+            wrong.append(f"{house.definitions[key].path}: {key[2]} comes before {used[2]} of {used[1]}, which it uses")
+        seen.add(key)
     if order_of(house) != page_parts()[1]:
         wrong.append(f"{PAGE} isn't what `bench/believe.sh --page` makes of the sources")
     print("\n".join(wrong) if wrong else f"all that has to be believed is in specs/ and in {PAGE}")
@@ -225,20 +230,26 @@ def how_much(house, keys):
     return f"{len(keys):,} definitions, {house.size(keys):,} lines:"
 
 
+def lists_of(house):
+    """What the page lists, in its order: for each command what those before it don't rest on, and then the rest."""
+    seen, found = set(), []
+    for command in LISTED:
+        found.append(house.reached(roots(house, command)) - seen)
+        seen |= found[-1]
+    return [*found, set().union(*(house.of_contracts(functions) for functions in CALLS.values())) - seen]
+
+
 def order_of(house):
     """The order in which to read what is believed, as Markdown: a row for each file, with its definitions."""
-    said, seen = ["| to believe | definitions | lines | files |", "|---|---|---|---|", *counts_of(house), ""], set()
-    for command in LISTED:
-        keys = house.reached(roots(house, command))
-        new = keys - seen
-        what = "read besides" if seen else "read in this order"
+    said = ["| to believe | definitions | lines | files |", "|---|---|---|---|", *counts_of(house), ""]
+    *lists, rest = lists_of(house)
+    for command, keys in zip(LISTED, lists):
+        what = "read in this order" if command == LISTED[0] else "read besides"
         said += [f"### `{command}`", ""]
-        if new:
-            said += [f"To believe it, {what}, {how_much(house, new)}", "", *table_of(house, new), ""]
+        if keys:
+            said += [f"To believe it, {what}, {how_much(house, keys)}", "", *table_of(house, keys), ""]
         else:
             said += ["It rests on nothing else.", ""]
-        seen |= keys
-    rest = set().union(*(house.of_contracts(functions) for functions in CALLS.values())) - seen
     said += ["### The calls", "", f"What `run` and `lab` say of each command alike, {how_much(house, rest)}", ""]
     return "\n".join(said + table_of(house, rest))
 

@@ -691,15 +691,21 @@ class Tables:
 
 
 def readme(pages, page):
-    """The README has at most 80 lines of 120 columns, and says about how much one has to believe for `sim`."""
+    """The README has at most 80 lines of 120 columns, and says about how much one has to believe for `sim`
+    and for all of `run`."""
     with open(page, encoding="utf-8") as text:
         lines = text.read().rstrip("\n").split("\n")
-    said = re.search(r"about ([0-9,]+) definitions in ([0-9,]+) lines", " ".join(lines))
     counts = subprocess.run(["bench/believe.sh", "--counts"], stdout=subprocess.PIPE, check=True).stdout.decode()
-    for there, found in zip(re.search(r"`sim` \| ([0-9,]+) \| ([0-9,]+)", counts).groups(), said.groups()):
-        there, found = int(there.replace(",", "")), int(found.replace(",", ""))
-        if abs(there - found) > there / 20:
-            pages.say("README.md", f"about {found} to believe, and there are {there}")
+    for what, said in (("`sim`", r"about ([0-9,]+) definitions in ([0-9,]+) lines"), ("all that `run` says", r"all of `run` it is ([0-9,]+) in ([0-9,]+)\.")):
+        there = re.search(what + r" \| ([0-9,]+) \| ([0-9,]+)", counts).groups()
+        found = re.search(said, " ".join(lines))
+        if not found:
+            pages.say("README.md", f"it doesn't say how much one has to believe for {what}")
+            continue
+        for number, claimed in zip(there, found.groups()):
+            number, claimed = int(number.replace(",", "")), int(claimed.replace(",", ""))
+            if abs(number - claimed) > number / 20:
+                pages.say("README.md", f"about {claimed} to believe for {what}, and there are {number}")
     if len(lines) > 80:
         pages.say("README.md", f"{len(lines)} lines")
     for number, line in enumerate(lines, 1):
