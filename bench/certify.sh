@@ -15,12 +15,9 @@ set -eu
 cd "$(dirname "$0")/.."
 . bench/cost.sh
 
-program=${1:-$PWD/crates/koika_cli/out/koika_cli}
-lab=${2:-$PWD/crates/lab_cli/out/lab_cli}
-if [ $# = 0 ]; then # what isn't there is built
-    ./koika check <examples/counter.koika >/dev/null
-    ./koika profile --cycles 0 <examples/counter.koika >/dev/null
-fi
+. bench/programs.sh
+take_program "${1-}"
+take_lab "${2-}"
 limit=${SECONDS_OF_STEP-600}
 wrong=0
 

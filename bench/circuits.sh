@@ -4,9 +4,9 @@
 set -eu
 cd "$(dirname "$0")/.."
 . bench/cost.sh
+. bench/programs.sh
 
-program=${1:-crates/koika_cli/out/koika_cli}
-[ $# = 1 ] || ./koika check <examples/counter.koika >/dev/null # builds the program if need be
+take_program "${1-}"
 
 # The row of a design with this name.
 row() {

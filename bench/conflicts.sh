@@ -9,8 +9,8 @@
 set -eu
 cd "$(dirname "$0")/.."
 
-lab=${1:-$PWD/crates/lab_cli/out/lab_cli}
-[ $# = 1 ] || ./koika profile --cycles 0 <examples/counter.koika >/dev/null # builds the program if need be
+. bench/programs.sh
+take_lab "${1-}"
 room=$(mktemp -d)
 trap 'rm -rf "$room"' EXIT
 wrong=0 tried=0

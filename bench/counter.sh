@@ -4,10 +4,10 @@
 set -eu
 cd "$(dirname "$0")/.."
 . bench/cost.sh
+. bench/programs.sh
 
 counter=examples/counter.koika
-program=${1:-crates/koika_cli/out/koika_cli}
-[ $# = 1 ] || ./koika sim --cycles 0 <"$counter" >/dev/null # builds the program if need be
+take_program "${1-}"
 
 bytes() {
     wc -c <"$1" | awk '{ print $1 }'

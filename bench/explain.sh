@@ -1,13 +1,16 @@
 #!/usr/bin/env bash
-# Tries what bin/explain says: for each row of docs/FAULTS.md, docs/AIGER.md and docs/JOURNAL.md and each example of
-# docs/BTOR2.md, through a file and a pipe, standard output and the status are those of the program, and standard error
-# has the fault, its meaning, its line with a caret, and advice. What hands write from habit has a hint. The examples of
-# `./koika --help` are run, and the stored designs with their stimulus in a file of its own. It takes another program than
-# the built one as its argument, and is run by hand.
+# Tries what bin/explain says: for each row of docs/FAULTS.md, docs/AIGER.md, docs/JOURNAL.md and docs/LAB.md and each
+# example of docs/BTOR2.md, through a file and a pipe, standard output and the status are those of the program, and
+# standard error has the fault, its meaning, its line with a caret, and advice. What hands write from habit has a hint. The
+# examples of `./koika --help` are run, and the stored designs with their stimulus in a file of its own. It takes other
+# programs than the built ones as its arguments, and is run by hand:
+#
+#     bench/explain.sh [PROGRAM LAB_PROGRAM]
 set -eu
 cd "$(dirname "$0")/.."
-program=${1:-crates/koika_cli/out/koika_cli}
-[ $# = 1 ] || ./koika check <examples/counter.koika >/dev/null # builds the program if need be
+. bench/programs.sh
+take_program "${1-}"
+take_lab "${2-}"
 
 export FINDINGS_SECONDS=600 # an unproved program is slow
 room=$(mktemp -d)
@@ -71,19 +74,26 @@ spelled() {
         }'
 }
 
-while IFS=$'\t' read -r command number place source; do
-    spelled "$source" >"$room/source"
-    # shellcheck disable=SC2086 # the words of a command
-    try "fault $number at $place" $command
-done < <(awk '
-    /^\| fault \|/ { split($0, cells, / \| /); command = cells[4]; sub(/^[^`]*`/, "", command); sub(/`.*/, "", command); next }
-    /^\| [0-9]+ \|/ {
-        split(substr($0, 3), cells, / \| /)
-        source = cells[4]
-        sub(/^[^`]*`/, "", source)
-        sub(/`[^`]*$/, "", source)
-        if (cells[5] ~ /:/) print command "\t" cells[1] "\t" cells[5] "\t" source
-    }' docs/FAULTS.md docs/AIGER.md docs/JOURNAL.md)
+# The rows of faults of these pages, each with a small source, by a program.
+try_rows() {
+    local program=$1 command number place source
+    shift
+    while IFS=$'\t' read -r command number place source; do
+        spelled "$source" >"$room/source"
+        # shellcheck disable=SC2086 # the words of a command
+        try "fault $number at $place" $command
+    done < <(awk '
+        /^\| fault \|/ { split($0, cells, / \| /); command = cells[4]; sub(/^[^`]*`/, "", command); sub(/`.*/, "", command); next }
+        /^\| [0-9]+ \|/ {
+            split(substr($0, 3), cells, / \| /)
+            source = cells[4]
+            sub(/^[^`]*`/, "", source)
+            sub(/`[^`]*$/, "", source)
+            if (cells[5] ~ /:/) print command "\t" cells[1] "\t" cells[5] "\t" source
+        }' "$@")
+}
+try_rows "$program" docs/FAULTS.md docs/AIGER.md docs/JOURNAL.md
+try_rows "$lab" docs/LAB.md
 
 # The examples of BTOR2.md, after the lines that the page has before its table.
 lines=$(awk '/^Each example follows|Each example follows the lines/ { on = 1; next } on && /^    / { print substr($0, 5) } on && /^and is refused/ { exit }' docs/BTOR2.md)
@@ -275,17 +285,22 @@ for number in $(awk '/ : /{ print NR }' "$room/journal"); do
     grep -q "^fault 82 at $((lines + number)):1" "$room/out" || complain "$line with another answer: $(cat "$room/out")"
 done
 
-# The other statuses: what is said, and that nothing else changes.
-while IFS='|' read -r words wanted; do
-    tried=$((tried + 1))
-    code=0 status=0
-    # shellcheck disable=SC2086
-    "$program" $words </dev/null >"$room/out" 2>/dev/null || code=$?
-    # shellcheck disable=SC2086
-    bin/explain "$program" $words </dev/null >"$room/explained" 2>"$room/said" || status=$?
-    [ "$code" = 1 ] && [ "$status" = 1 ] && cmp -s "$room/out" "$room/explained" && grep -q -e "$wanted" "$room/said" &&
-        grep -q 'koika: usage:' "$room/said" || complain "$words: $(cat "$room/said")"
-done <<'USES'
+# The other statuses: what a program's invalid words get, and that nothing else changes. They are read from standard
+# input, each with what is to be said.
+try_uses() {
+    local program=$1 words wanted code status
+    while IFS='|' read -r words wanted; do
+        tried=$((tried + 1))
+        code=0 status=0
+        # shellcheck disable=SC2086
+        "$program" $words </dev/null >"$room/out" 2>/dev/null || code=$?
+        # shellcheck disable=SC2086
+        bin/explain "$program" $words </dev/null >"$room/explained" 2>"$room/said" || status=$?
+        [ "$code" = 1 ] && [ "$status" = 1 ] && cmp -s "$room/out" "$room/explained" && grep -q -e "$wanted" "$room/said" &&
+            grep -q 'koika: usage:' "$room/said" || complain "$words: $(cat "$room/said")"
+    done
+}
+try_uses "$program" <<'USES'
 |which command
 sim|--cycles N
 sim examples/counter.koika|file name
@@ -325,6 +340,26 @@ gen x|decimal digits
 simulate|no command
 --help|command comes first
 USES
+try_uses "$lab" <<'USES'
+why|--cycle C
+why --cycle 0|counted from 1
+why --cycle 1 --cycles 0|counted from 1
+why --cycle x|decimal digits
+why --cycle 4294967296|too many
+why --cycle 1 --cycle 1|twice
+why --cycle 1 --rule|needs a value
+why --cycle 1 --rule 2b|no name of a rule
+why --cycle 1 --strict|no option
+why --cycle 1 design.koika|file name
+profile|--cycles N
+profile --cycles 1 --strict --strict|twice
+profile --cycles 1 --rule a|no option
+waves|--cycles N
+waves --cycles 1 --cycles=1|twice
+waves --cycles 1 --strict|no option
+step --cycles 1|no option
+step design.koika|file name
+USES
 for ends in 3 4; do
     tried=$((tried + 1))
     status=0
@@ -336,17 +371,20 @@ for ends in 3 4; do
     [ "$status" = "$ends" ] && grep -q '^koika: standard' "$room/said" || complain "status $ends: $status, $(cat "$room/said")"
 done
 
-# A copy of the launcher that takes this program for the built one.
+# A copy of the launcher that takes these programs for the built ones.
 tree=$room/tree
-mkdir -p "$tree/crates/koika_cli/out"
+mkdir -p "$tree/crates/koika_cli/out" "$tree/crates/lab_cli/out"
 cp -r koika bin docs examples crates.txt CHANGELOG.md "$tree"
 cp "$program" "$tree/crates/koika_cli/out/koika_cli"
+cp "$lab" "$tree/crates/lab_cli/out/lab_cli"
 (
     top=$tree
     # shellcheck source=bin/files.sh
     . bin/files.sh
-    set_program koika_cli
-    look >"$seen" || true # the copy has no sources
+    for name in koika_cli lab_cli; do
+        set_program "$name"
+        look >"$seen" || true # the copy has no sources
+    done
 )
 # The examples of the commands.
 while read -r example; do
@@ -354,7 +392,7 @@ while read -r example; do
     (cd "$tree" && bash -o pipefail -c "$example") </dev/null >"$room/out" 2>"$room/said" ||
         complain "$example: $(cat "$room/said")"
     case $example in *">"*) ;; *) [ -s "$room/out" ] || complain "$example writes nothing" ;; esac
-done < <(grep '^\./koika' bin/commands.txt)
+done < <(grep -h -E '^(\./koika|printf .*\| \./koika)' bin/commands.txt bin/commands_lab.txt)
 # Designs and stimuli in files of their own give the same, and a journal with them.
 for design in examples/*.koika; do
     grep -q '^%%$' "$design" || continue

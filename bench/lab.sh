@@ -8,12 +8,9 @@ set -eu
 cd "$(dirname "$0")/.."
 . bench/cost.sh
 
-program=${1:-crates/koika_cli/out/koika_cli}
-lab=${2:-crates/lab_cli/out/lab_cli}
-if [ $# = 0 ]; then # what isn't there is built
-    ./koika check <examples/counter.koika >/dev/null
-    ./koika profile --cycles 0 <examples/counter.koika >/dev/null
-fi
+. bench/programs.sh
+take_program "${1-}"
+take_lab "${2-}"
 
 # The first cycles, in which a pipeline fills, are left out. No run is longer than `most`.
 first=100 cycles=800 most=1048576

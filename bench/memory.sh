@@ -7,8 +7,8 @@ set -eu
 cd "$(dirname "$0")/.."
 export LC_ALL=C
 
-program=${1:-crates/koika_cli/out/koika_cli}
-[ $# = 1 ] || ./koika check <examples/counter.koika >/dev/null # builds the program if need be
+. bench/programs.sh
+take_program "${1-}"
 command -v cc >/dev/null || { echo "there is no C compiler" >&2; exit 1; }
 room=$(mktemp -d)
 trap 'rm -rf "$room"' EXIT

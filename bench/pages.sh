@@ -20,15 +20,10 @@ while :; do
     esac
     shift 2
 done
-# What isn't named is built if need be.
-if [ -z "$koika_cli" ]; then
-    koika_cli=crates/koika_cli/out/koika_cli
-    ./koika check <examples/counter.koika >/dev/null
-fi
-if [ -z "$lab_cli" ]; then
-    lab_cli=crates/lab_cli/out/lab_cli
-    ./koika profile --cycles 0 <examples/counter.koika >/dev/null
-fi
+. bench/programs.sh
+take_program "$koika_cli"
+take_lab "$lab_cli"
+koika_cli=$program lab_cli=$lab
 if [ $# = 0 ]; then
     set -- README.md docs/LANGUAGE.md docs/FROM-BLUESPEC.md docs/FAULTS.md docs/LIMITS.md docs/FORMATS.md \
         docs/GENERATING.md docs/SWEEPS.md docs/LAB.md docs/TESTBENCH.md docs/BTOR2.md docs/AIGER.md docs/CIRCUITS.md \

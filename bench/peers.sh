@@ -23,8 +23,8 @@ g++ g++
 make make
 COMMANDS
 
-program=${1:-crates/koika_cli/out/koika_cli}
-[ $# = 1 ] || ./koika check <examples/counter.koika >/dev/null # builds the program if need be
+. bench/programs.sh
+take_program "${1-}"
 
 # The Verilog of a BTOR2 file that `compile` wrote of a design without inputs: a wire for each value, a register for
 # each state. At an edge of `clk` each state takes its next value; where `show` is 1, the row of that cycle is written:

@@ -18,12 +18,9 @@ if [ "${1-}" = --anew ]; then
     anew=yes
     shift
 fi
-program=${1:-$PWD/crates/koika_cli/out/koika_cli}
-lab=${2:-$PWD/crates/lab_cli/out/lab_cli}
-if [ $# = 0 ]; then # what isn't there is built
-    ./koika check <examples/counter.koika >/dev/null
-    ./koika profile --cycles 0 <examples/counter.koika >/dev/null
-fi
+. bench/programs.sh
+take_program "${1-}"
+take_lab "${2-}"
 room=$(mktemp -d)
 trap 'rm -rf "$room"' EXIT
 tried=0 wrong=0

@@ -6,8 +6,8 @@
 set -eu
 cd "$(dirname "$0")/.."
 
-program=$(realpath "${1:-crates/koika_cli/out/koika_cli}")
-[ $# = 1 ] || ./koika check <examples/counter.koika >/dev/null # builds the program if need be
+. bench/programs.sh
+take_program "${1-}"
 room=$(mktemp -d)
 trap 'rm -rf "$room"' EXIT
 failed=0 tried=0

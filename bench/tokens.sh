@@ -6,9 +6,9 @@
 set -eu
 cd "$(dirname "$0")/.."
 . bench/cost.sh
+. bench/programs.sh
 
-program=crates/koika_cli/out/koika_cli
-./koika print <examples/counter.koika >/dev/null # builds the program if need be
+take_program
 
 size=1048576
 

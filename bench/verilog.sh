@@ -28,12 +28,9 @@ while :; do
     shift 2
 done
 parts=${parts:- rows built lint equal cells}
-program=${1:-crates/koika_cli/out/koika_cli}
-lab=${2:-crates/lab_cli/out/lab_cli}
-if [ $# = 0 ]; then # what isn't there is built
-    ./koika check <examples/counter.koika >/dev/null
-    ./koika profile --cycles 0 <examples/counter.koika >/dev/null
-fi
+. bench/programs.sh
+take_program "${1-}"
+take_lab "${2-}"
 cycles=100
 room=$(mktemp -d)
 trap 'rm -rf "$room"' EXIT

@@ -2,21 +2,18 @@
 # Compares the lab with the rest, on each design of examples/ for as many cycles as a journal reaches (fault 49). Each
 # verdict of `why` with its cause is the line `committed` or `skipped` of a journal by one worker, and the events of a
 # rule that fired are those of its attempt there. The registers of a line `cycle` are those of the report's line before.
-# What `profile` writes is counted once more, of what `why` writes. It takes other programs than the built ones as its
-# arguments, and is run by hand:
+# What `profile` writes is counted once more, of what `why` writes. It takes other programs than the built ones and other
+# designs than the stored ones as its arguments, and is run by hand:
 #
-#     bench/why.sh [PROGRAM LAB_PROGRAM]
+#     bench/why.sh [PROGRAM LAB_PROGRAM [DESIGN..]]
 #
 # The status is 1 if anything differs.
 set -eu
 cd "$(dirname "$0")/.."
 
-program=${1:-crates/koika_cli/out/koika_cli}
-lab=${2:-crates/lab_cli/out/lab_cli}
-if [ $# = 0 ]; then # what isn't there is built
-    ./koika check <examples/counter.koika >/dev/null
-    ./koika profile --cycles 0 <examples/counter.koika >/dev/null
-fi
+. bench/programs.sh
+take_program "${1-}"
+take_lab "${2-}"
 room=$(mktemp -d)
 trap 'rm -rf "$room"' EXIT
 wrong=0
@@ -124,7 +121,7 @@ while read -r design; do
     registers_of_why >"$room/found"
     same registers
     echo "$design: $cycles cycles, $verdicts verdicts"
-done < <(find examples -name '*.koika' | LC_ALL=C sort)
+done < <(if [ $# -gt 2 ]; then printf '%s\n' "${@:3}"; else find examples -name '*.koika' | LC_ALL=C sort; fi)
 [ "$wrong" = 0 ] || {
     echo "$wrong differ"
     exit 1

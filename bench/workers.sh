@@ -7,9 +7,9 @@
 set -eu
 cd "$(dirname "$0")/.."
 . bench/cost.sh
+. bench/programs.sh
 
-program=${1:-crates/koika_cli/out/koika_cli}
-[ $# = 1 ] || ./koika check <examples/counter.koika >/dev/null # builds the program if need be
+take_program "${1-}"
 
 # The first cycles, in which a pipeline fills, are left out of the instructions. No run has more than one batch.
 first=128 batch=256

@@ -4,8 +4,8 @@
 # program than the built one as its argument, needs vim and python3, and is run by hand.
 set -eu
 cd "$(dirname "$0")/.."
-program=${1:-crates/koika_cli/out/koika_cli}
-[ $# = 1 ] || ./koika check <examples/counter.koika >/dev/null # builds the program if need be
+. bench/programs.sh
+take_program "${1-}"
 python3 editors/check.py "$program" examples/*.koika
 python3 editors/extension.py "$program"
 bash editors/completion/check.bash
