@@ -10,6 +10,7 @@ RUN = 6  # lines that a pair shares at least
 COMMON = 8  # a run that is in more places than this is a form, not a copy
 PARAMETERS = 7
 COLUMNS = 200
+THOUSAND = 1000
 NOTHING = r"(0|&\[\]|\"\"|Lowered::unit\(\)|Ok\(Lowered::unit\(\)\))"
 DEFAULT = rf"(None|_) => {NOTHING},|unwrap_or\({NOTHING}\)|unwrap_or_default\("
 
@@ -128,6 +129,32 @@ def uncommented():
                     yield f"{path}:{found.first} {found.name}"
 
 
+def constants():
+    """Constants of src/ and numbers of specs/ that have one value or one name in two places or more: values from 1,000 on,
+    and names."""
+    places, names = collections.defaultdict(list), collections.defaultdict(list)
+    for crate, path in [*texts("src", ".rt"), *texts("specs", ".antt")]:
+        if crate.endswith("_runs") or crate.endswith("_tests"):
+            continue
+        for number, line in enumerate(lines_of(path), 1):
+            found = re.match(r"\s*(?:pub(?:\([a-z]+\))? )?const (\w+): \w+ = ([\d_]+);", line) or re.match(r"(\w+) = (\d+)$", line)
+            if found:
+                value = int(found[2].replace("_", ""))
+                if value >= THOUSAND:
+                    places[value].append(f"{path}:{number} {found[1]}")
+                elif path.endswith(".rt"):
+                    names[found[1], value].append(f"{path}:{number}")
+            elif not re.match(r"\s*(--|//)", line):
+                for value in re.findall(r"(?<![\w.])(\d{4,})(?!\w)", line):
+                    places[int(value)].append(f"{path}:{number}")
+    for value, found in sorted(places.items()):
+        if len(found) > 1 and any(" " in it for it in found):
+            yield f"{value:,}: {', '.join(found)}"
+    for (name, value), found in sorted(names.items()):
+        if len(found) > 1:
+            yield f"{name} = {value}: {', '.join(found)}"
+
+
 MEASURES = {
     "code": ("pairs of src/ in different crates that share six lines or more", lambda: pairs("src", ".rt")),
     "specs": ("pairs of specs/ in different crates that share six lines or more", lambda: pairs("specs", ".antt")),
@@ -135,6 +162,7 @@ MEASURES = {
     "lemmas": ("lemmas that two files or more have to the letter", lemmas),
     "parameters": ("functions with seven parameters or more", parameters),
     "defaults": ("defaults for cases that can't be", defaults),
+    "constants": ("numbers that are in two places or more", constants),
     "wide": ("lines over 200 columns", wide),
     "uncommented": ("definitions without a comment line", uncommented),
 }

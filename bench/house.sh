@@ -6,6 +6,8 @@
 #   lemmas         lemmas that two files or more have to the letter
 #   parameters     functions with seven parameters or more
 #   defaults       defaults for cases that can't be, after the list bench/house.txt; what it doesn't list is called new
+#   constants      numbers from 1,000 on that are in two places or more, one of them a constant or a definition, and
+#                  constants of one name and one value
 #   wide           lines over 200 columns
 #   uncommented    definitions without a comment line
 set -eu
