@@ -25,11 +25,15 @@ COMMANDS = {
     "profile": "AnswersProfile",
     "waves": "AnswersWaves",
     "step": "stream_run.Sessions.IsKept",
+    "lint": "AnswersLint",
+    "verilog": "AnswersVerilog",
+    "obligation": "AnswersObligation",
+    "certify": "AnswersCertify",
 }
 BEGINS_TYPE = r"^ *(?:pub(?:\([a-z]+\))? )?(?:struct|enum|const|type) "
 # The commands in the order in which docs/DEFINITIONS.md lists what they rest on: each brings what those before it don't.
-LISTED = ["sim", "compile", "why", "profile", "waves", "step", "check", "print", "gen", "journal", "recheck", "aiger", "aigsim",
-          "btorsim"]
+LISTED = ["sim", "compile", "why", "profile", "waves", "step", "lint", "check", "print", "gen", "journal", "recheck", "aiger",
+          "aigsim", "btorsim", "verilog", "obligation", "certify"]
 PAGE = "docs/DEFINITIONS.md"
 # The lines of the page between which the order stands.
 BEGIN, END = "<!-- made by bench/believe.sh --page -->", "<!-- end of what is made -->"
@@ -160,6 +164,13 @@ class House:
         place = {module: at for at, module in enumerate(order)}
         return sorted(reached, key=lambda key: (place[key[:2]], self.definitions[key].first))
 
+    def answers(self, command):
+        """The definition that a command's answer is, by its name, which is written with its module where two have it."""
+        return [key for key in self.definitions if COMMANDS[command] in (key[2], ".".join(key))]
+
+    def has_command(self, command):
+        return bool(self.answers(command))
+
     def size(self, keys):
         return sum(self.definitions[key].last - self.definitions[key].first + 1 for key in keys)
 
@@ -233,7 +244,7 @@ def how_much(house, keys):
 def lists_of(house):
     """What the page lists, in its order: for each command what those before it don't rest on, and then the rest."""
     seen, found = set(), []
-    for command in LISTED:
+    for command in filter(house.has_command, LISTED):
         found.append(house.reached(roots(house, command)) - seen)
         seen |= found[-1]
     return [*found, set().union(*(house.of_contracts(functions) for functions in CALLS.values())) - seen]
@@ -243,7 +254,7 @@ def order_of(house):
     """The order in which to read what is believed, as Markdown: a row for each file, with its definitions."""
     said = ["| to believe | definitions | lines | files |", "|---|---|---|---|", *counts_of(house), ""]
     *lists, rest = lists_of(house)
-    for command, keys in zip(LISTED, lists):
+    for command, keys in zip(filter(house.has_command, LISTED), lists):
         what = "read in this order" if command == LISTED[0] else "read besides"
         said += [f"### `{command}`", ""]
         if keys:
@@ -275,7 +286,7 @@ def counts_of(house):
     """A row for each command and call: how much it is to believe."""
     rows = []
     for name, keys in [
-        *((f"`{it}`", house.reached(roots(house, it))) for it in COMMANDS),
+        *((f"`{it}`", house.reached(roots(house, it))) for it in COMMANDS if house.has_command(it)),
         *((f"all that `{it}` says", house.of_contracts(functions)) for it, functions in CALLS.items()),
     ]:
         rows.append(f"| {name} | {len(keys):,} | {house.size(keys):,} | {len({key[:2] for key in keys})} |")
@@ -283,7 +294,7 @@ def counts_of(house):
 
 
 def roots(house, command):
-    found = [key for key in house.definitions if COMMANDS[command] in (key[2], ".".join(key))]
+    found = house.answers(command)
     if len(found) != 1:
         sys.exit(f"{len(found)} definitions are called {COMMANDS[command]}")
     return found
