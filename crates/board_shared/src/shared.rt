@@ -35,8 +35,8 @@ impl<L: Ledger> SharedBoard<L> {
         (SharedBoard { locked }, count)
     }
 
-    /// A worker's place at the board.
-    pub fn seat<'a, R: Wait>(
+    /// A worker's place at the board. Sitting down waits for nobody.
+    pub fn seat<'a, R>(
         &'a self,
         rt: &'a R,
         worker: u32,
@@ -54,10 +54,11 @@ impl<L: Ledger> SharedBoard<L> {
         }
     }
 
-    /// The core, and how many attempts were stored. Where these counts have all parts of the ledger, that number is the
-    /// sum of theirs.
+    /// The core, and how many attempts were stored. That number is at least the sum of these counts, and where they have
+    /// all parts of the ledger, it is the sum.
     pub fn stored(self, mut counts: Vec<SeatCount<L>>) -> (Core, u64)
         ensures sum { sum_by (λ c. c.share.parts) counts.items ≡ L.parts → result.1 ≡ sum_by (λ c. c.amount) counts.items }
+        ensures most { sum_by (λ c. c.amount) counts.items ≤ result.1 }
         ensures plain { AtPlain result.0 }
     {
         let Locked {
@@ -79,13 +80,32 @@ impl<L: Ledger> SharedBoard<L> {
     }
 }
 
-/// A worker's place at a shared board. Each call takes the lock and makes the call of `Locked` of its name.
+/// A worker's place at a shared board. `job`, `submit` and `settle` take the lock and make the call of `Locked` of their
+/// name; the others wait for nobody.
 #[derive(Drop)]
-pub struct SharedSeat<'a, L: Ledger, R: Wait> {
+pub struct SharedSeat<'a, L: Ledger, R> {
     board: &'a SharedBoard<L>,
     rt: &'a R,
     worker: u32,
     count: SeatCount<L>,
+}
+
+impl<'a, L: Ledger, R> SharedSeat<'a, L, R> {
+    /// The worker's number.
+    pub fn worker(&self) -> u32
+        ensures { result ≡ self.now.worker }
+    {
+        self.worker
+    }
+
+    /// Gives back its count.
+    pub fn finish(self) -> SeatCount<L>
+        ensures amount { result.amount ≡ self.entry.count.amount }
+        ensures parts { result.share.parts ≡ self.entry.count.share.parts }
+    {
+        let SharedSeat { count, .. } = self;
+        count
+    }
 }
 
 impl<'a, L: Ledger, R: Wait> SharedSeat<'a, L, R> {
@@ -122,21 +142,5 @@ impl<'a, L: Ledger, R: Wait> SharedSeat<'a, L, R> {
         ensures parts { self.new.count.share.parts ≡ self.old.count.share.parts }
     {
         self.board.locked.lock(self.rt).settle()
-    }
-
-    /// The worker's number.
-    pub fn worker(&self) -> u32
-        ensures { result ≡ self.now.worker }
-    {
-        self.worker
-    }
-
-    /// Gives back its count.
-    pub fn finish(self) -> SeatCount<L>
-        ensures amount { result.amount ≡ self.entry.count.amount }
-        ensures parts { result.share.parts ≡ self.entry.count.share.parts }
-    {
-        let SharedSeat { count, .. } = self;
-        count
     }
 }

@@ -1,9 +1,10 @@
 //! Tests on boards of two rules, of which one sends a number and the other copies it.
 
-ghost use Rattle.std.specs.Prelude.{◌≡◌, ◌≤◌, []};
+ghost use Rattle.std.specs.Prelude.{◌≡◌, ◌≤◌, [], ◌∷◌, map};
 ghost use Rattle.std.specs.Arc.{arc_value};
 ghost use Rattle.typed_core.specs.Valid.{externs_of};
-ghost use Rattle.typed_core.specs.Widths.{HaveWidths, register_widths};
+ghost use Rattle.kw_bits.specs.Laws.{HasWidth};
+ghost use Rattle.typed_core.specs.Widths.{HaveWidths, input_widths, register_widths};
 ghost use Rattle.one_rule.specs.Externs.{kept};
 ghost use Rattle.one_rule.specs.Stimulus.{StimulusFits};
 ghost use Rattle.attempt_log.specs.Seats.{IfJob};
@@ -16,7 +17,7 @@ use crate::shared::{SharedBoard, SharedSeat};
 use attempt_log::{Attempt, JobAnswer, attempt};
 use board_core::Core;
 use kw_bits::{Bits, NoMemory, Sequence, Text};
-use one_rule::{Externs, Regs, Stimulus, first_values};
+use one_rule::{Externs, Inputs, Regs, Stimulus, first_values};
 use std::alloc::{AllocError, Global};
 use std::marker::Brand;
 use std::process::Abort;
@@ -25,11 +26,13 @@ use std::sync::{Arc, Wait};
 use std::test::*;
 use std::thread;
 use std::thread::Threads;
-use typed_core::{Action, Design, Next, Node, Parts, RegDecl, Rule};
+use typed_core::{Action, Design, InputDecl, Next, Node, Parts, RegDecl, Rule};
 
 const MEMORY: &str = "memory";
 
-fn bits(rt: &impl Abort, number: u128) -> Bits {
+fn bits(rt: &impl Abort, number: u128) -> Bits
+    ensures { HasWidth result 8 }
+{
     Bits::new(8, number).expect(rt, "a bit vector")
 }
 
@@ -45,6 +48,19 @@ fn registers(rt: &impl Abort, alloc: Global) -> Sequence<RegDecl> {
         registers.push(register).expect(rt, MEMORY);
     }
     registers
+}
+
+// One input.
+fn inputs(rt: &impl Abort, alloc: Global) -> Sequence<InputDecl>
+    ensures { map (λ decl. decl.width) result ≡ 8 ∷ [] }
+{
+    let input = InputDecl {
+        name: Text::new(alloc),
+        width: 8,
+    };
+    let mut inputs = Sequence::new(alloc);
+    inputs.push(input).expect(rt, MEMORY);
+    inputs
 }
 
 fn rule_that_writes(rt: &impl Abort, alloc: Global, register: u32, value: Action) -> Rule {
@@ -79,12 +95,12 @@ fn nodes(rt: &impl Abort, alloc: Global) -> Sequence<Node> {
 }
 
 fn design_that_sends(rt: &impl Abort, alloc: Global, number: u128) -> Design
-    ensures inputs { result.inputs ≡ [] }
+    ensures inputs { input_widths result ≡ 8 ∷ [] }
     ensures hosts { result.hosts ≡ [] }
 {
     let parts = Parts {
         regs: registers(rt, alloc),
-        inputs: Sequence::new(alloc),
+        inputs: inputs(rt, alloc),
         tables: Sequence::new(alloc),
         hosts: Sequence::new(alloc),
         rules: rules(rt, alloc, number),
@@ -103,13 +119,16 @@ struct Setting {
     ghost externs_fit: { kept (arc_value externs) ≡ externs_of (arc_value design) },
     ghost stimulus_fits: { StimulusFits (arc_value design) (arc_value stimulus) },
     ghost regs_fit: { HaveWidths (register_widths (arc_value design)) regs },
+    ghost one_input: { input_widths (arc_value design) ≡ 8 ∷ [] },
 }
 
 fn setting_that_sends(rt: &impl Abort, alloc: Global, number: u128) -> Setting {
     let design = design_that_sends(rt, alloc, number);
     let externs = Externs::new(alloc, &design, &[]).expect(rt, MEMORY);
     let regs = first_values(alloc, &design).expect(rt, MEMORY);
-    let stimulus = Stimulus::new(alloc, Vec::new(alloc));
+    let mut widths = Vec::new(alloc);
+    widths.push(8).expect(rt, MEMORY);
+    let stimulus = Stimulus::new(alloc, widths);
     Setting {
         design: Arc::new(alloc, design).expect(rt, MEMORY),
         externs: Arc::new(alloc, externs).expect(rt, MEMORY),
@@ -120,6 +139,7 @@ fn setting_that_sends(rt: &impl Abort, alloc: Global, number: u128) -> Setting {
 
 fn core_that_sends(rt: &impl Abort, alloc: Global, number: u128, to: u32) -> Core
     requires { to ≤ 1000 }
+    ensures { input_widths result.opening.design ≡ 8 ∷ [] }
 {
     let Setting {
         design,
@@ -172,7 +192,7 @@ fn hand_in<L: Ledger, R: Abort + Wait>(
     assert_eq!(rt; name(&seat.submit(attempt)), want);
 }
 
-// An attempt at the second rule, of a design that sends 8.
+// An attempt at the second rule of a design that sends 8.
 fn stranger(rt: &impl Abort, alloc: Global) -> Attempt {
     let core = core_that_sends(rt, alloc, 8, 1);
     let answer = core.job(1).expect(rt, MEMORY);
@@ -181,26 +201,59 @@ fn stranger(rt: &impl Abort, alloc: Global) -> Attempt {
     attempt
 }
 
+// The value of the one input.
+fn input_of(rt: &impl Abort, alloc: Global, number: u128) -> Inputs
+    ensures { HaveWidths (8 ∷ []) result }
+{
+    let mut inputs = Inputs::new(alloc);
+    inputs.push(bits(rt, number)).expect(rt, MEMORY);
+    inputs
+}
+
+// An attempt at the second rule of a design that sends 7, where the input is 5. No stimulus gives it a value.
+fn stranger_by_inputs(rt: &impl Abort, alloc: Global) -> Attempt {
+    let core = core_that_sends(rt, alloc, 7, 1);
+    let JobAnswer::Job(mut job) = core.job(1).expect(rt, MEMORY) else {
+        panic!(rt; "no job");
+    };
+    job.inputs = input_of(rt, alloc, 5);
+    attempt(alloc, &job).expect(rt, MEMORY)
+}
+
+// A seat is taken and left again, which waits for nobody.
+fn sit<L: Ledger>(rt: &impl Abort, board: &SharedBoard<L>, count: SeatCount<L>) -> SeatCount<L> {
+    let seat = board.seat(rt, 5, count);
+    assert_eq!(rt; seat.worker(), 5);
+    seat.finish()
+}
+
+// What isn't for a full board is a stranger all the same. The attempt that it stored is counted where no count that is
+// given back has it.
 fn fill<L: Ledger, R: Abort + Wait>(rt: &R, alloc: Global, blank: Blank)
     requires name { blank.name ≡ L.name }
     requires parts { blank.parts ≡ L.parts }
-    requires some { 1 ≤ blank.parts }
+    requires two { blank.parts ≡ 2 }
 {
     let core = core_that_sends(rt, alloc, 7, 1);
     let mut counts = Vec::with_capacity(alloc, 1).expect(rt, MEMORY);
-    let (board, count) = SharedBoard::<L>::new(blank, core, 1);
+    let (board, mut count) = SharedBoard::<L>::new(blank, core, 1);
+    let spare = count.split();
+    counts.push_reserved(sit(rt, &board, spare));
     let mut seat = board.seat(rt, 5, count);
     hand_in(rt, alloc, &mut seat, 0, "stored");
     hand_in(rt, alloc, &mut seat, 1, "full");
-    let strange = stranger(rt, alloc);
-    assert_eq!(rt; name(&seat.submit(strange)), "stranger");
-    counts.push_reserved(seat.finish());
+    let of_another = stranger(rt, alloc);
+    assert_eq!(rt; name(&seat.submit(of_another)), "stranger");
+    let by_inputs = stranger_by_inputs(rt, alloc);
+    assert_eq!(rt; name(&seat.submit(by_inputs)), "stranger");
+    assert_eq!(rt; seat.finish().amount(), 1);
+    assert_eq!(rt; sum_of(&counts), 0);
     assert_eq!(rt; board.stored(counts).1, 1);
 }
 
 #[test]
 fn a_full_board_still_tells_strangers(rt: HostRuntime) {
-    fill::<Brand, HostRuntime>(&rt, rt.alloc(), Blank::new(1));
+    fill::<Brand, HostRuntime>(&rt, rt.alloc(), Blank::new(2));
 }
 
 fn ask<L: Ledger>(rt: &impl Abort, alloc: Global, blank: Blank)
