@@ -6,8 +6,15 @@ pub mod Results
 pub mod OneSource
 pub mod SomeSource
 pub mod WordNames
+pub mod DistinctNames
+pub mod CutAgain
+pub mod OneCertified
 pub mod FewCycles
 pub mod Reading
 pub mod LoweredRuns
+pub mod Wired
+pub mod WordSymbols
+pub mod Blasted
+pub mod FirstValues
 pub mod Told
 pub mod Promises

@@ -7,7 +7,7 @@ use Rattle.kw_base.specs.declared.fault.Fault.{Fault}
 use Rattle.kw_io.specs.Portions.{TakesAll}
 use Rattle.kw_bits.specs.declared.host.HostSpec.{HostSpec}
 use Rattle.front_end.specs.Calls.{Call, CountsReadFault, IsAnswerTo, IsKept, LeavesUnread, ReadsAll, command_in, known_in}
-use Rattle.front_end.specs.Program.{IsAnswer, Program, known_source, reads_source, status_of, text_in, text_of}
+use Rattle.front_end.specs.Program.{Agrees, IsAnswer, Program, known_source, reads_source, status_of, text_in, text_of}
 use Rattle.front_end.specs.Streams.{Gains, GainsFront, GainsNothing, Stream}
 use Rattle.front_end.specs.declared.answer.Answer.{Answer}
 use Rattle.front_end.specs.declared.answer.Answer.TheVariants.{Usage, Refused, Written}
@@ -62,13 +62,6 @@ no-read (Refused fault) e = let bad : status.Refused ≡ status.ReadFault = e in
 no-read (Written text) e = let bad : status.Done ≡ status.ReadFault = e in absurd cc
 
 -- ---- programs
-
--- the answers and statuses of a program agree with what is written
-pub record Agrees {C A S : Type 0} (p : Program C A S) : Type 0 where
-  pub ends : (a : A) → p.ends (p.answered a) ≡ status_of (p.plain a)
-  pub written : (a : A) (text : List ℕ) → p.plain a ≡ Written text → a ≡ p.written (p.answered a) text
-  pub refused : (a : A) (fault : Fault) → p.plain a ≡ Refused fault → a ≡ p.refused fault
-  pub is_refused : (fault : Fault) → p.plain (p.refused fault) ≡ Refused fault
 
 -- all answers to a command and a source have one status, and one text where there is one; none is how to use the program
 pub record IsDefinite {C A S : Type 0} (p : Program C A S) : Type 0 where
@@ -152,6 +145,7 @@ module _ {C A S : Type 0} (p : Program C A S) (agrees : Agrees p) where
           read_fault = read_fault;
           nothing_written = λ d. absurd (never-read c.sink c.status mine told d);
           write_fault = told.cause;
+          agrees = agrees;
         }
 
       -- nothing was
@@ -175,6 +169,7 @@ module _ {C A S : Type 0} (p : Program C A S) (agrees : Agrees p) where
           read_fault = read_fault;
           nothing_written = λ d. kept;
           write_fault = λ d. absurd (not-so status.WriteFault (λ bad. absurd cc) (λ bad. absurd cc) d);
+          agrees = agrees;
         }
 
       -- what was told keeps each promise

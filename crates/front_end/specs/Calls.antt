@@ -5,7 +5,7 @@ use Rattle.kw_base.specs.FaultLine.{line_of_fault}
 use Rattle.kw_base.specs.declared.fault.Fault.{Fault}
 use Rattle.kw_bits.specs.Faults.{Rose}
 use Rattle.kw_bits.specs.declared.host.HostSpec.{HostSpec}
-use Rattle.front_end.specs.Program.{IsAnswer, IsFailure, Program, known_source, reads_source, text_in}
+use Rattle.front_end.specs.Program.{Agrees, IsAnswer, IsFailure, Program, known_source, reads_source, text_in}
 use Rattle.front_end.specs.Streams.{Gains, GainsFront, GainsNothing, Stream}
 use Rattle.front_end.specs.declared.status.Status.TheVariants.{Done, Usage, Refused, ReadFault, WriteFault, NoMemory}
 
@@ -113,3 +113,5 @@ pub record IsKept {C A S : Type 0} (p : Program C A S) (untouched : Type 0) (c :
   pub read_fault : CountsReadFault p c
   pub nothing_written : WritesNothing p c
   pub write_fault : CountsWriteFault p c
+  -- what these say of the program's own answers and statuses is so of what is written
+  pub agrees : Agrees p

@@ -1,5 +1,8 @@
 pub mod Sources
+pub mod Certified
 pub mod Systems
+pub mod Circuits
+pub mod Aigs
 pub mod Marks
 pub mod Names
 pub mod Lengths

@@ -62,6 +62,16 @@ module _ {C A S : Type 0} (p : Program C A S) where
   abbrev pub known_source : Option C → Option (List ℕ) → Option (List ℕ)
   known_source command left = if reads_source command then left else Some []
 
+-- What a program says of its answers and statuses agrees with what is written: an answer's status ends the call as what is
+-- written of the answer does. An answer of which a text is written is the answer that is this text, and of that one this text
+-- is written; so it is for a fault.
+pub record Agrees {C A S : Type 0} (p : Program C A S) : Type 0 where
+  pub ends : (a : A) → p.ends (p.answered a) ≡ status_of (p.plain a)
+  pub written : (a : A) (text : List ℕ) → p.plain a ≡ Written text → a ≡ p.written (p.answered a) text
+  pub is_written : (s : S) (text : List ℕ) → p.plain (p.written s text) ≡ Written text
+  pub refused : (a : A) (fault : Fault) → p.plain a ≡ Refused fault → a ≡ p.refused fault
+  pub is_refused : (fault : Fault) → p.plain (p.refused fault) ≡ Refused fault
+
 -- reading or writing failed, or memory ran out
 abbrev pub IsFailure : Status → Type 0
 IsFailure result = (result ≡ statuses.ReadFault) ⊎ ((result ≡ statuses.WriteFault) ⊎ (result ≡ statuses.NoMemory))

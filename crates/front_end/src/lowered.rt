@@ -8,7 +8,7 @@ ghost use Rattle.koika_lower.specs.Lowering.{IsLowered, input_widths};
 ghost use Rattle.one_rule.specs.Externs.{kept};
 ghost use Rattle.one_rule.specs.Hosts.{host_specs};
 ghost use Rattle.typed_core.specs.Valid.{externs_of};
-ghost use Rattle.front_end.specs.Names.{HasWordNames, IsWord-prop};
+ghost use Rattle.front_end.specs.Names.{AreDistinct, HasWordNames, IsWord-prop, names_of};
 ghost use Rattle.front_end.specs.Sources.{shape_of};
 
 use crate::source::Spelled;
@@ -32,6 +32,7 @@ pub struct Lowered {
     pub externs: Arc<Externs>,
     pub stimulus: Arc<Stimulus>,
     ghost names: { HasWordNames checked } by { Prim.hlevel IsWord-prop },
+    ghost distinct: { AreDistinct (names_of checked) },
     ghost shape_fits: { shape ≡ shape_of checked },
     ghost lowered: { IsLowered checked (arc_value design) },
     ghost externs_fit: { kept (arc_value externs) ≡ externs_of (arc_value design) },

@@ -6,7 +6,7 @@ ghost use Rattle.koika_check.specs.Typing.{IsTypedDesign};
 ghost use Rattle.koika_check.specs.declared.checked.Host.{Host};
 ghost use Rattle.koika_lower.specs.Lowering.{input_widths};
 ghost use Rattle.one_rule.specs.Hosts.{host_specs};
-ghost use Rattle.front_end.specs.Names.{HasWordNames, IsWord-prop};
+ghost use Rattle.front_end.specs.Names.{AreDistinct, HasWordNames, IsWord-prop, names_of};
 ghost use Rattle.front_end.specs.Sources.{IsIllTyped, IsUnread, IsUnspelled, Spells, SpellsDesign, SpellsTree, longest_source};
 ghost use Rattle.front_end.specs.Sources as sources;
 
@@ -38,6 +38,7 @@ pub struct Spelled {
     pub shape: Shape,
     pub stimulus: Stimulus,
     ghost names: { HasWordNames design } by { Prim.hlevel IsWord-prop },
+    ghost distinct: { AreDistinct (names_of design) },
     ghost shape_fits: { shape ≡ sources.shape_of design },
     ghost stimulus_fits: { stimulus.widths ≡ input_widths design },
 }

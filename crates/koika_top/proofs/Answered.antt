@@ -24,9 +24,10 @@ use Rattle.koika_print.specs.Printed.{printed}
 use Rattle.one_rule.specs.Stimulus.{InputVectors, inputs_of}
 use Rattle.stim_report.specs.Cuts.{cut_at, ends_line, is_mark, parts_of, with_line_feed}
 use Rattle.kw_bits.specs.declared.host.HostSpec.{HostSpec}
-use Rattle.koika_top.specs.Aiger.{AnswersAiger, most_bits}
+use Rattle.front_end.specs.Aigs.{most_bits}
+use Rattle.front_end.specs.Certified.{SpellsBoth}
+use Rattle.koika_top.specs.Aiger.{AnswersAiger}
 use Rattle.koika_top.specs.Answer.{Answers, IsAnswer, is_answered}
-use Rattle.koika_top.specs.Btorsim.{longest_circuit}
 use Rattle.koika_top.specs.Compile.{AnswersCompile}
 use Rattle.koika_top.specs.Generator.{pipeline}
 use Rattle.koika_top.specs.Journal.{AnswersJournal, HasJournal, is_too_heavy}
@@ -43,7 +44,8 @@ use Rattle.front_end.specs.declared.answer.Answer.TheVariants.{Usage, Refused, W
 use Rattle.koika_top.specs.declared.shown.Shown.{Shown}
 use Rattle.koika_top.specs.declared.words.Command.{Command}
 use Rattle.koika_top.specs.declared.words.Command.TheVariants.{Check, Print, Sim, Compile, Btorsim, Gen, Aiger, Aigsim, Journal, Recheck}
-use Rattle.front_end.proofs.SomeSource.{stimulus_told, tree_or_fault, design_or_fault, spelled_or_fault}
+use Rattle.front_end.proofs.OneCertified.{parts_or_fault}
+use Rattle.front_end.proofs.SomeSource.{tree_or_fault, spelled_or_fault}
 use Rattle.koika_top.proofs.AigAnswered.{aigsim_answer}
 use Rattle.koika_top.proofs.CircuitAnswered.{btorsim_answer, yes_or_no}
 
@@ -170,7 +172,7 @@ module _ (hosts : List HostSpec) (cycles : ℕ) (source : List ℕ) where
   abbrev IsOrMay : Type 0
   IsOrMay = ((fault : Fault) × recheck.IsRefusedBefore hosts cycles source fault) ⊎ ((design : Checked) × (stimulus : InputVectors) × recheck.MayHaveJournal hosts cycles source design stimulus)
 
-  may_have_journal : (d : Checked) (s : InputVectors) → recheck.SpellsBoth hosts source d s → IsOrMay
+  may_have_journal : (d : Checked) (s : InputVectors) → SpellsBoth hosts source d s → IsOrMay
   may_have_journal d s spelled =
       ⊎_elim
       (λ long. inl (fault_of_source 45, inr (d, s, spelled, inl (refl, long))))
@@ -181,24 +183,9 @@ module _ (hosts : List HostSpec) (cycles : ℕ) (source : List ℕ) where
       (yes_or_no (is_too_heavy cycles d)))
       (yes_or_no (is_too_long_for cycles d))
 
-  first_part : (d : Checked) → recheck.SpellsFirst hosts source d → IsOrMay
-  first_part d first =
-      ⊎_elim
-      (λ given. may_have_journal d given.0 (record { first = first; given = given.1 }))
-      (λ wrong. inl (wrong.0, inl (inr (inr (d, first, wrong.1)))))
-      (stimulus_told (recheck.stimulus_in source d))
-
   pub some_recheck : IsOrMay
   some_recheck =
       ⊎_elim
-      (λ long. inl (fault_of_source 40, inl (inl (refl, inl long))))
-      (λ short.
-      ⊎_elim
-      (λ long. inl (fault_of_source 40, inl (inl (refl, inr long))))
-      (λ brief.
-      ⊎_elim
-      (λ found. first_part found.0 (record { short = short; spelled = found.1 }))
-      (λ wrong. inl (wrong.0, inl (inr (inl (short, wrong.1)))))
-      (design_or_fault hosts (recheck.parts_of source).design brief))
-      (cases_lt longest_source (length (recheck.parts_of source).design)))
-      (cases_lt longest_circuit (length source))
+      (λ found. may_have_journal found.0 found.1 found.2)
+      (λ wrong. inl (wrong.0, inl wrong.1))
+      (parts_or_fault hosts source)

@@ -12,18 +12,10 @@ use Rattle.btor2_net.specs.Translations.{name_of, output_widths}
 use Rattle.koika_assert.specs.Bads.{bad_line, bad_lines, flag_lines, marked, with_bads}
 use Rattle.one_rule.specs.Run.{InputsByCycle}
 use Rattle.one_rule.specs.declared.rows.Row.{Row}
+use Rattle.front_end.proofs.Blasted.{all-ones}
 use Rattle.koika_top.proofs.CircuitLines.{AreNumbered, HasSymbol, numbered-behind}
 
 -- ---- flags
-
--- where all measures are 1, the test of it keeps all
-pub all-ones : {X Y : Type 0} (f : X → ℕ) (xs : List X) (ys : List Y) → map f xs ≡ map (λ y. 1) ys → filter (λ x. f x == 1) xs ≡ xs
-all-ones f [] ys e = refl
-all-ones f (x ∷ xs) [] e = absurd cc
-all-ones f (x ∷ xs) (y ∷ ys) e =
-    let head : f x ≡ 1 = cc in
-    let tail : map f xs ≡ map (λ y. 1) ys = cc in
-    rw head (ap (λ rest. x ∷ rest) (all-ones f xs ys tail))
 
 -- outputs that have one bit each are all flags
 pub flags-all : {Y : Type 0} (lines : List Line) (ys : List Y) → output_widths lines ≡ map (λ y. 1) ys → flag_lines lines ≡ text.lines_of is_output lines

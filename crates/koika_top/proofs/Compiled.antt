@@ -28,7 +28,8 @@ use Rattle.stim_report.specs.declared.shape.Shape.{Shape}
 use Rattle.kw_bits.specs.declared.host.HostSpec.{HostSpec}
 use Rattle.koika_top.specs.Btorsim as text
 use Rattle.koika_top.specs.Btorsim.{AnswersBtorsim, HoldsRun, HoldsText, longest_circuit}
-use Rattle.koika_top.specs.Compile.{AreCircuitOf, IsStimulusFor, ShowsCircuit}
+use Rattle.front_end.specs.Circuits.{IsStimulusFor}
+use Rattle.koika_top.specs.Compile.{AreCircuitOf, ShowsCircuit}
 use Rattle.front_end.specs.Lengths as lengths
 use Rattle.koika_top.specs.Sim.{AnswersSim, rows_text, text_of_run}
 use Rattle.front_end.specs.Marks.{marked_name, marks_of}

@@ -18,11 +18,12 @@ use Rattle.stim_report.specs.Cuts.{parts_of}
 use Rattle.stim_report.specs.Stimuli.{stimulus_of}
 use Rattle.stim_report.specs.declared.shape.NameWidth.{NameWidth}
 use Rattle.stim_report.specs.declared.shape.Shape.{Shape}
-use Rattle.koika_top.specs.Aiger.{AnswersRows, IsAigOf, ShowsAig}
+use Rattle.front_end.specs.Aigs.{IsAigOf}
+use Rattle.front_end.specs.Circuits.{IsStimulusFor}
+use Rattle.koika_top.specs.Aiger.{AnswersRows, ShowsAig}
 use Rattle.koika_top.specs.Aigsim as bits
 use Rattle.koika_top.specs.Aigsim.{AnswersAigsim, HoldsAig, HoldsRun}
 use Rattle.koika_top.specs.Btorsim.{longest_circuit}
-use Rattle.koika_top.specs.Compile.{IsStimulusFor}
 use Rattle.front_end.specs.Lengths as lengths
 use Rattle.koika_top.specs.Sim.{rows_text}
 use Rattle.front_end.specs.Sources as sources

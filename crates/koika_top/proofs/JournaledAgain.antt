@@ -37,14 +37,15 @@ use Rattle.koika_check.proofs.TypedTrees.{typed-design}
 use Rattle.koika_lower.specs.Lowering.{IsLowered, register_of}
 use Rattle.koika_lower.proofs.Values.{constant-stands}
 use Rattle.koika_top.specs.Journal.{IsMadeBy}
-use Rattle.koika_top.specs.Recheck.{AnswersRecheck, HasPartsOf, IsJournaledOf, SpellsJournal, SpellsSame, parts_of}
+use Rattle.front_end.specs.Certified.{parts_of}
+use Rattle.koika_top.specs.Recheck.{AnswersRecheck, HasPartsOf, IsJournaledOf, SpellsJournal, SpellsSame}
 use Rattle.koika_top.specs.Sim.{AnswersSim, text_of_run}
 use Rattle.front_end.specs.Sources.{Spells, SpellsDesign, design_part, longest_source, shape_of}
 use Rattle.front_end.specs.declared.answer.Answer.{Answer}
 use Rattle.front_end.specs.declared.answer.Answer.TheVariants.{Usage, Refused, Written}
 use Rattle.koika_top.specs.declared.shown.Shown.TheVariants.{Report}
 use Rattle.front_end.proofs.FewCycles.{few-cycles}
-use Rattle.koika_top.proofs.CutAgain.{design_part-again}
+use Rattle.front_end.proofs.CutAgain.{design_part-again}
 use Rattle.koika_top.proofs.DeclaredNames.{HasDeclaredNames, declared-names, lowered-own, lowered-shown}
 use Rattle.koika_top.proofs.EmptyLines.{longer, longer-equal, longer-same, longer-text}
 use Rattle.koika_top.proofs.LineFeeds.{HasTokens, has_feeds}
@@ -127,7 +128,7 @@ module _ (hosts : List HostSpec) (offered : All (λ (host : HostSpec). TakesWidt
   core = is.shows.core
 
   abbrev line : ℕ
-  line = (parts_of other).journal_line
+  line = (parts_of other).certificate_line
 
   abbrev journal : Journal
   journal = renumbered core line is.shows.journal
@@ -147,10 +148,10 @@ module _ (hosts : List HostSpec) (offered : All (λ (host : HostSpec). TakesWidt
       is.shows.journal (first-wide d typed core is.shows.lowered) some few
       is.shows.is.workers_are is.shows.is.good (made-in core stimulus workers is.shows.journal.batches is.shows.is.made)
 
-  read : IsJournal core again line (parts_of other).journal journal
+  read : IsJournal core again line (parts_of other).certificate journal
   read =
-      journal-same stimulus again is.same core line (parts_of other).journal journal
-      (read-back core stimulus line is.shows.journal (parts_of other).journal (lowered-shown d core is.shows.lowered names) fit (is.journal ∙ is.shows.told))
+      journal-same stimulus again is.same core line (parts_of other).certificate journal
+      (read-back core stimulus line is.shows.journal (parts_of other).certificate (lowered-shown d core is.shows.lowered names) fit (is.journal ∙ is.shows.told))
 
   spelled : SpellsJournal hosts cycles other d again core journal
   spelled = record {

@@ -6,7 +6,6 @@ pub mod OneOfWords
 pub mod LoweredTwins
 pub mod ValidWidths
 pub mod PlainNames
-pub mod SymbolNames
 pub mod CircuitLines
 pub mod BadLines
 pub mod Answered
@@ -18,7 +17,6 @@ pub mod Answering
 pub mod Promises
 pub mod ReadWords
 pub mod Wiring
-pub mod AigWiring
 pub mod Options
 pub mod Reading
 pub mod Shapes
@@ -46,7 +44,6 @@ pub mod RoundTrip
 pub mod Records
 pub mod JournalNames
 pub mod Rechecked
-pub mod CutAgain
 pub mod SomeHistories
 pub mod JournalBatches
 pub mod DeclaredNames

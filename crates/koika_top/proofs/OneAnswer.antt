@@ -20,7 +20,8 @@ use Rattle.koika_check.specs.declared.checked.Checked.{Checked}
 use Rattle.koika_check.specs.declared.stop.Wrong.{Wrong}
 use Rattle.one_rule.specs.Stimulus.{InputVectors, inputs_of}
 use Rattle.kw_bits.specs.declared.host.HostSpec.{HostSpec}
-use Rattle.koika_top.specs.Aiger.{AnswersAiger, HasTooManyBits, most_bits}
+use Rattle.front_end.specs.Aigs.{most_bits}
+use Rattle.koika_top.specs.Aiger.{AnswersAiger, HasTooManyBits}
 use Rattle.koika_top.specs.Answer.{IsLikeAnswer, IsSameAnswer, text_of}
 use Rattle.koika_top.specs.Compile.{AnswersCompile, ShowsCircuit}
 use Rattle.koika_top.specs.Journal.{AnswersJournal, HasJournal, HasNoJournal, is_too_heavy}

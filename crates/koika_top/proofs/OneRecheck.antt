@@ -1,5 +1,5 @@
 -- `recheck` has one answer to a source, whatever the source's design is lowered to.
-use Rattle.std.proofs.Common.{◌≡◌, ◌⊎◌, ◌<◌, ◌≤◌, ℕ, true, false, List, length, refl, sym, ap, ap₂, subst, ◌∙◌, inl, inr, arith}
+use Rattle.std.proofs.Common.{◌≡◌, ◌⊎◌, ℕ, true, false, List, refl, sym, ap, ap₂, subst, ◌∙◌, inl, inr}
 use Rattle.kw_base.specs.declared.fault.Fault.{Fault}
 use Rattle.kw_bits.specs.declared.host.HostSpec.{HostSpec}
 use Rattle.typed_core.specs.Widths.{HaveWidths}
@@ -17,79 +17,37 @@ use Rattle.journal_check.proofs.Twins.{twins_fail_alike, twins_pass_alike, twins
 use Rattle.koika_check.specs.declared.checked.Checked.{Checked}
 use Rattle.koika_lower.specs.Lowering.{IsLowered, input_widths}
 use Rattle.koika_top.specs.Answer.{IsSameAnswer, text_of}
-use Rattle.koika_top.specs.Btorsim.{longest_circuit}
 use Rattle.koika_top.specs.Journal.{is_too_heavy}
-use Rattle.koika_top.specs.Recheck.{AnswersRecheck, HasNoDesign, HasNoLength, HasNoLines, HasNoParts, IsRefusedBefore, IsTooLong, IsWrong, MayHaveJournal, ShowsChecked, SpellsBoth, SpellsFirst, parts_of, stimulus_in}
+use Rattle.koika_top.specs.Recheck.{AnswersRecheck, HasNoLength, HasNoLines, IsRefusedBefore, IsWrong, MayHaveJournal, ShowsChecked}
+use Rattle.front_end.specs.Certified.{SpellsBoth, SpellsFirst, parts_of}
 use Rattle.front_end.specs.Lengths.{is_too_long_for}
 use Rattle.koika_top.specs.Sim.{text_of_run}
-use Rattle.front_end.specs.Sources.{longest_source, shape_of}
+use Rattle.front_end.specs.Sources.{shape_of}
 use Rattle.front_end.specs.declared.answer.Answer.{Answer}
 use Rattle.front_end.specs.declared.answer.Answer.TheVariants.{Usage, Refused, Written}
 use Rattle.koika_top.specs.declared.shown.Shown.TheVariants.{Report}
 use Rattle.koika_top.proofs.JournalNames.{lowered-plain}
 use Rattle.koika_top.proofs.LoweredTwins.{lowered-twins}
-use Rattle.front_end.proofs.OneSource.{ill-same, ill-short, same_design, typed_or_not}
+use Rattle.front_end.proofs.OneCertified.{no_parts-same, one_design, one_stimulus, parts_or_not}
 use Rattle.front_end.proofs.WordNames.{word-names}
 use Rattle.front_end.proofs.Reading.{stimulus-fits}
-use Rattle.front_end.proofs.Results.{err-same, ok-same, ok_or_err}
 use Rattle.koika_top.proofs.StimuliFit.{stimulus-always}
 use Rattle.koika_top.proofs.ValidWidths.{registers-valid, shape-valid}
 
-not_both : (m n : ℕ) → m < n → n ≤ m → ⊥
-not_both m n a b = omega (arith, a, b)
-
 module _ (hosts : List HostSpec) (cycles : ℕ) (bytes : List ℕ) where
-  abbrev design_text : List ℕ
-  design_text = (parts_of bytes).design
-
   abbrev line : ℕ
-  line = (parts_of bytes).journal_line
+  line = (parts_of bytes).certificate_line
 
   abbrev text : List ℕ
-  text = (parts_of bytes).journal
-
-  -- ---- a design and a stimulus
-
-  one_design : (d e : Checked) → SpellsFirst hosts bytes d → SpellsFirst hosts bytes e → d ≡ e
-  one_design d e h k = same_design hosts design_text d e h.spelled k.spelled
-
-  one_stimulus : (d e : Checked) (s r : InputVectors) → SpellsBoth hosts bytes d s → SpellsBoth hosts bytes e r → s ≡ r
-  one_stimulus d e s r h k = ok-same s r (stimulus_in bytes e) (sym (ap (stimulus_in bytes) (one_design d e h.first k.first)) ∙ h.given) k.given
-
-  long_or_first : (f : Fault) (d : Checked) → IsTooLong bytes f → SpellsFirst hosts bytes d → ⊥
-  long_or_first f d (e, inl long) h = not_both longest_circuit (length bytes) long h.short
-  long_or_first f d (e, inr long) h = not_both longest_source (length design_text) long h.spelled.spelled.short
-
-  typed_or_none : (f : Fault) (d : Checked) → HasNoDesign hosts bytes f → SpellsFirst hosts bytes d → ⊥
-  typed_or_none f d none h = typed_or_not hosts design_text f d none.1 h.spelled
-
-  parts_or_not : (f : Fault) (d : Checked) (s : InputVectors) → HasNoParts hosts bytes f → SpellsBoth hosts bytes d s → ⊥
-  parts_or_not f d s (inl long) h = long_or_first f d long h.first
-  parts_or_not f d s (inr (inl none)) h = typed_or_none f d none h.first
-  parts_or_not f d s (inr (inr none)) h = ok_or_err s f (stimulus_in bytes d) h.given (sym (ap (stimulus_in bytes) (one_design none.0 d none.1 h.first)) ∙ none.2)
-
-  long_or_none : (f g : Fault) → IsTooLong bytes f → HasNoDesign hosts bytes g → ⊥
-  long_or_none f g (e, inl long) none = not_both longest_circuit (length bytes) long none.0
-  long_or_none f g (e, inr long) none = not_both longest_source (length design_text) long (ill-short hosts design_text g none.1)
-
-  no_parts-same : (f g : Fault) → HasNoParts hosts bytes f → HasNoParts hosts bytes g → f ≡ g
-  no_parts-same f g (inl a) (inl b) = a.0 ∙ sym b.0
-  no_parts-same f g (inl a) (inr (inl b)) = absurd (long_or_none f g a b)
-  no_parts-same f g (inl a) (inr (inr b)) = absurd (long_or_first f b.0 a b.1)
-  no_parts-same f g (inr (inl a)) (inl b) = absurd (long_or_none g f b a)
-  no_parts-same f g (inr (inl a)) (inr (inl b)) = ill-same hosts design_text f g a.1 b.1
-  no_parts-same f g (inr (inl a)) (inr (inr b)) = absurd (typed_or_none f b.0 a b.1)
-  no_parts-same f g (inr (inr a)) (inl b) = absurd (long_or_first g a.0 b a.1)
-  no_parts-same f g (inr (inr a)) (inr (inl b)) = absurd (typed_or_none g a.0 b a.1)
-  no_parts-same f g (inr (inr a)) (inr (inr b)) = err-same f g (stimulus_in bytes b.0) (sym (ap (stimulus_in bytes) (one_design a.0 b.0 a.1 b.1)) ∙ a.2) b.2
+  text = (parts_of bytes).certificate
 
   -- ---- lengths
 
   long_or_within : (d e : Checked) → SpellsFirst hosts bytes d → SpellsFirst hosts bytes e → is_too_long_for cycles d ≡ true → is_too_long_for cycles e ≡ false → ⊥
-  long_or_within d e h k long within = let bad : true ≡ false = sym long ∙ ap (is_too_long_for cycles) (one_design d e h k) ∙ within in absurd cc
+  long_or_within d e h k long within = let bad : true ≡ false = sym long ∙ ap (is_too_long_for cycles) (one_design hosts bytes d e h k) ∙ within in absurd cc
 
   heavy_or_light : (d e : Checked) → SpellsFirst hosts bytes d → SpellsFirst hosts bytes e → is_too_heavy cycles d ≡ true → is_too_heavy cycles e ≡ false → ⊥
-  heavy_or_light d e h k heavy light = let bad : true ≡ false = sym heavy ∙ ap (is_too_heavy cycles) (one_design d e h k) ∙ light in absurd cc
+  heavy_or_light d e h k heavy light = let bad : true ≡ false = sym heavy ∙ ap (is_too_heavy cycles) (one_design hosts bytes d e h k) ∙ light in absurd cc
 
   no_length-same : (f g : Fault) → HasNoLength hosts cycles bytes f → HasNoLength hosts cycles bytes g → f ≡ g
   no_length-same f g (d, s, h, inl a) (e, r, k, inl b) = a.0 ∙ sym b.0
@@ -98,14 +56,14 @@ module _ (hosts : List HostSpec) (cycles : ℕ) (bytes : List ℕ) where
   no_length-same f g (d, s, h, inr a) (e, r, k, inr b) = a.0 ∙ sym b.0
 
   before-same : (f g : Fault) → IsRefusedBefore hosts cycles bytes f → IsRefusedBefore hosts cycles bytes g → f ≡ g
-  before-same f g (inl a) (inl b) = no_parts-same f g a b
-  before-same f g (inl a) (inr b) = absurd (parts_or_not f b.0 b.1 a b.2)
-  before-same f g (inr a) (inl b) = absurd (parts_or_not g a.0 a.1 b a.2)
+  before-same f g (inl a) (inl b) = no_parts-same hosts bytes f g a b
+  before-same f g (inl a) (inr b) = absurd (parts_or_not hosts bytes f b.0 b.1 a b.2)
+  before-same f g (inr a) (inl b) = absurd (parts_or_not hosts bytes g a.0 a.1 b a.2)
   before-same f g (inr a) (inr b) = no_length-same f g a b
 
   -- no source both may have a journal and is refused before it
   pub before_or_may : (f : Fault) (d : Checked) (s : InputVectors) → MayHaveJournal hosts cycles bytes d s → IsRefusedBefore hosts cycles bytes f → ⊥
-  before_or_may f d s may (inl none) = parts_or_not f d s none may.spelled
+  before_or_may f d s may (inl none) = parts_or_not hosts bytes f d s none may.spelled
   before_or_may f d s may (inr (e, r, h, inl long)) = long_or_within e d h.first may.spelled.first long.1 may.within
   before_or_may f d s may (inr (e, r, h, inr heavy)) = heavy_or_light e d h.first may.spelled.first heavy.2 may.light
 
@@ -128,13 +86,13 @@ module _ (hosts : List HostSpec) (cycles : ℕ) (bytes : List ℕ) where
   -- what is said of a journal with the other is said with this
   module _ (d e : Checked) (s r : InputVectors) (core other : Core) (may : MayHaveJournal hosts cycles bytes d s) (also : MayHaveJournal hosts cycles bytes e r) (lowered : IsLowered d core) (besides : IsLowered e other) where
     given : r ≡ s
-    given = one_stimulus e d r s also.spelled may.spelled
+    given = one_stimulus hosts bytes e d r s also.spelled may.spelled
 
     twins : AreTwins s other core
     twins =
         let spelled = may.spelled.first.spelled in
         lowered-twins d s other core (registers-valid hosts spelled.tree d spelled.typed) (fits d s may.spelled)
-        (subst (λ (x : Checked). IsLowered x other) (one_design e d also.spelled.first may.spelled.first) besides) lowered
+        (subst (λ (x : Checked). IsLowered x other) (one_design hosts bytes e d also.spelled.first may.spelled.first) besides) lowered
 
     pub read-across : (j : Journal) → IsJournal other r line text j → IsJournal core s line text j
     read-across j h = twins_read_alike s other core line text j twins (subst (λ (x : InputVectors). IsJournal other x line text j) given h)
@@ -221,7 +179,7 @@ module _ (hosts : List HostSpec) (cycles : ℕ) (bytes : List ℕ) where
       let mine = h.spelled.spelled.spelled in
       let other = k.spelled.spelled.spelled in
       h.told
-      ∙ ap₂ (λ (d : Checked) (s : InputVectors). text_of_run d s cycles Report) (one_design h.design k.design mine.first other.first) (one_stimulus h.design k.design h.stimulus k.stimulus mine other)
+      ∙ ap₂ (λ (d : Checked) (s : InputVectors). text_of_run d s cycles Report) (one_design hosts bytes h.design k.design mine.first other.first) (one_stimulus hosts bytes h.design k.design h.stimulus k.stimulus mine other)
       ∙ sym k.told
 
   refused-same : (f g : Fault) → AnswersRecheck hosts cycles bytes (Refused f) → AnswersRecheck hosts cycles bytes (Refused g) → f ≡ g

@@ -16,7 +16,7 @@ use Rattle.aig_blast.specs.Aigs.{AigParts}
 use Rattle.front_end.specs.Calls as calls
 use Rattle.front_end.specs.Calls.{CountsReadFault, IsAnswerTo, command_in, known_in}
 use Rattle.front_end.specs.Lengths.{is_too_long_for}
-use Rattle.front_end.specs.Program.{IsFailure, known_source, status_of}
+use Rattle.front_end.specs.Program.{Agrees, IsFailure, known_source, status_of}
 use Rattle.front_end.specs.Sources.{Spells, fault_of_source}
 use Rattle.front_end.specs.Streams.{GainsNothing, Stream}
 use Rattle.front_end.specs.Told.{TellsText, Told, status_by}
@@ -28,8 +28,9 @@ use Rattle.front_end.specs.declared.untold.Untold.{Untold}
 use Rattle.front_end.specs.inner.Steps as steps
 use Rattle.front_end.specs.inner.Steps.{IsReply, Replies, TellsCall}
 use Rattle.front_end.proofs.Promises as promises
-use Rattle.front_end.proofs.Promises.{Agrees, IsDefinite, of-any, of-known}
-use Rattle.koika_top.specs.Aiger.{AnswersAiger, most_bits}
+use Rattle.front_end.proofs.Promises.{IsDefinite, of-any, of-known}
+use Rattle.front_end.specs.Aigs.{most_bits}
+use Rattle.koika_top.specs.Aiger.{AnswersAiger}
 use Rattle.koika_top.specs.Aigsim as aigsim
 use Rattle.koika_top.specs.Aigsim.{AnswersAigsim}
 use Rattle.koika_top.specs.Answer.{Answers, IsAnswer, is_of_source, koika}
@@ -58,6 +59,7 @@ agrees : Agrees koika
 agrees = record {
   ends = λ a. refl;
   written = λ a text e. e;
+  is_written = λ s text. refl;
   refused = λ a fault e. e;
   is_refused = λ fault. refl;
 }

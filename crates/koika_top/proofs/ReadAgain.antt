@@ -11,7 +11,7 @@ use Rattle.btor2_net.specs.Translations as translation
 use Rattle.btor2_net.specs.Translations.{HasLines}
 use Rattle.koika_check.specs.declared.checked.Checked.{Checked}
 use Rattle.koika_top.specs.Compile.{AreCircuitOf}
-use Rattle.koika_top.specs.inner.Wired.{IsWiredAs}
+use Rattle.front_end.specs.Circuits.{IsWiredAs}
 use Rattle.front_end.proofs.Results.{no-fault, value-is}
 
 -- ---- lines that are read again

@@ -9,7 +9,8 @@ use Rattle.koika_lower.specs.Lowering.{IsLowered}
 use Rattle.front_end.specs.Program.{IsFailure, status_of}
 use Rattle.koika_top.specs.Calls.{IsDecided}
 use Rattle.koika_top.specs.Journal.{AnswersJournal, HasJournal}
-use Rattle.koika_top.specs.Recheck.{AnswersRecheck, MayHaveJournal, parts_of}
+use Rattle.front_end.specs.Certified.{parts_of}
+use Rattle.koika_top.specs.Recheck.{AnswersRecheck, MayHaveJournal}
 use Rattle.front_end.specs.declared.answer.Answer.{Answer}
 use Rattle.front_end.specs.declared.answer.Answer.TheVariants.{Usage, Refused, Written}
 use Rattle.front_end.specs.declared.status.Status.{Status}
@@ -28,7 +29,7 @@ journaled hosts cycles workers bytes (Written text) result design stimulus has i
 -- and one to `recheck`, where the source may have a journal
 pub rechecked : (hosts : List HostSpec) (cycles : ℕ) (bytes : List ℕ) (d : Checked) (s : InputVectors) (core : Core) → MayHaveJournal hosts cycles bytes d s → IsLowered d core → (answer : Answer) (result : Status)
     → AnswersRecheck hosts cycles bytes answer → (result ≡ status_of answer) ⊎ ((result ≡ status.WriteFault) ⊎ (result ≡ status.NoMemory))
-    → IsDecided core s cycles (parts_of bytes).journal_line (parts_of bytes).journal result
+    → IsDecided core s cycles (parts_of bytes).certificate_line (parts_of bytes).certificate result
 rechecked hosts cycles bytes d s core may lowered Usage result is told = absurd is
 rechecked hosts cycles bytes d s core may lowered (Refused f) result is (inr failed) =
     record { good = λ j read good. inr (inr failed); other = λ j read bad. inr (inr failed); none = λ no. inr (inr failed) }

@@ -1,50 +1,24 @@
 -- What `aiger` answers to a source: an AIGER text (Biere, Heljanko and Wieringa, 2011) that is read as a bit-level circuit
 -- whose run is that of the source's design, for every stimulus. Which one is left open: any that is so.
-use Rattle.std.specs.Prelude.{◌≡◌, ℕ, ◌<◌, ◌≤◌, ◌⊎◌, false, List, length, map, Ok}
-use Rattle.aig_blast.specs.Aigs as aigs
-use Rattle.aig_blast.specs.Aigs.{AigParts, latch_widths}
-use Rattle.aig_blast.specs.AigRun as bits
-use Rattle.aig_blast.specs.declared.aig.InputWord.{InputWord}
-use Rattle.aig_blast.specs.declared.aig.LatchWord.{LatchWord}
-use Rattle.aig_blast.specs.declared.aig.OutputBit.{OutputBit}
+use Rattle.std.specs.Prelude.{◌≡◌, ℕ, ◌<◌, ◌≤◌, ◌⊎◌, false, List, length, Ok}
+use Rattle.aig_blast.specs.Aigs.{AigParts}
 use Rattle.aiger_text.specs.Printing.{text_of}
 use Rattle.aiger_text.specs.Reading.{aig_of}
 use Rattle.kw_base.specs.declared.fault.Fault.{Fault}
 use Rattle.kw_bits.specs.declared.host.HostSpec.{HostSpec}
 use Rattle.koika_check.specs.BitWeights.{bit_weight}
 use Rattle.koika_check.specs.declared.checked.Checked.{Checked}
-use Rattle.koika_check.specs.declared.checked.Input.{Input}
-use Rattle.koika_check.specs.declared.checked.Register.{Register}
 use Rattle.one_rule.specs.Stimulus.{InputVectors, inputs_of}
 use Rattle.stim_report.specs.Cuts as cuts
+use Rattle.front_end.specs.Aigs.{IsAigOf, most_bits}
 use Rattle.koika_top.specs.Btorsim.{longest_circuit}
-use Rattle.koika_top.specs.Compile.{IsStimulusFor, input_widths}
 use Rattle.koika_top.specs.Sim.{AnswersSim, rows_text}
 use Rattle.front_end.specs.Lengths.{is_too_long_for}
-use Rattle.front_end.specs.Sources.{IsTooLong, IsUnspelled, Spells, fault_of_source, name_of, shape_of}
+use Rattle.front_end.specs.Sources.{IsTooLong, IsUnspelled, Spells, fault_of_source, shape_of}
 use Rattle.front_end.specs.Systems as typed
 use Rattle.front_end.specs.declared.answer.Answer.{Answer}
 use Rattle.front_end.specs.declared.answer.Answer.TheVariants.{Usage, Refused, Written}
 use Rattle.koika_top.specs.declared.shown.Shown.{Shown}
-
--- the greatest bit weight of a design that `aiger` takes
-abbrev pub most_bits : ℕ
-most_bits = 1048576
-
--- on every stimulus for the design's inputs, the circuit's rows of every number of cycles are the design's
-abbrev pub RunsAs : Checked → AigParts → Type 0
-RunsAs d aig = (stimulus : InputVectors) (n : ℕ) → IsStimulusFor d stimulus
-    → bits.run_of aig (inputs_of stimulus) n ≡ typed.run_of d (inputs_of stimulus) n
-
--- A bit-level circuit is one of the design: it has a word for each of the design's inputs and registers and an output for
--- each rule, in order and of the same names and widths, and its run.
-pub record IsAigOf (d : Checked) (aig : AigParts) : Type 0 where
-  pub inputs : map (λ (word : InputWord). word.name) aig.inputs ≡ map (λ (i : Input). i.name) d.inputs
-  pub input_widths : aigs.input_widths aig.inputs ≡ input_widths d
-  pub latches : map (λ (word : LatchWord). word.name) aig.latches ≡ map (λ (r : Register). r.name) d.registers
-  pub latch_widths : latch_widths aig.latches ≡ map (λ (r : Register). r.width) d.registers
-  pub outputs : map (λ (output : OutputBit). output.name) aig.outputs ≡ map name_of d.rules
-  pub run : RunsAs d aig
 
 -- The text is accepted and read as a circuit of the source's design, whose bit i of the word `x` has the symbol `x[i]`; the
 -- source spells a stimulus for the design too, which isn't too heavy.

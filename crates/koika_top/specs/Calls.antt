@@ -14,10 +14,11 @@ use Rattle.front_end.specs.Program.{IsFailure}
 use Rattle.front_end.specs.Sources.{Spells}
 use Rattle.front_end.specs.declared.status.Status.{Status}
 use Rattle.front_end.specs.declared.status.Status.TheVariants.{Done, Refused as IsRefused}
-use Rattle.koika_top.specs.Aiger.{most_bits}
+use Rattle.front_end.specs.Aigs.{most_bits}
+use Rattle.front_end.specs.Certified.{parts_of}
 use Rattle.koika_top.specs.Answer.{koika}
 use Rattle.koika_top.specs.Journal.{HasJournal}
-use Rattle.koika_top.specs.Recheck.{MayHaveJournal, parts_of}
+use Rattle.koika_top.specs.Recheck.{MayHaveJournal}
 use Rattle.koika_top.specs.declared.words.Command.TheVariants.{Aiger, Compile, Journal, Recheck}
 
 -- a call of the program
@@ -40,7 +41,7 @@ abbrev pub JournalsSpelled : Call → Type 0
 JournalsSpelled c =
     (cycles workers : ℕ) → command_in koika c ≡ Some (Journal cycles workers) → IfSome (known_in koika c) (λ bytes. (design : Checked) (stimulus : InputVectors) → HasJournal c.hosts cycles bytes design stimulus → (c.status ≡ Done) ⊎ IsFailure c.status)
 
--- What `recheck` makes of the third part of a source: it has status 0 for a good journal of the design, and status 2 for
+-- What `recheck` makes of the certificate of a source: it has status 0 for a good journal of the design, and status 2 for
 -- one that isn't good, and where the part is no journal, unless reading or writing fails or memory runs out.
 pub record IsDecided (core : Parts) (stimulus : InputVectors) (cycles line : ℕ) (text : List ℕ) (result : Status) : Type 0 where
   pub good : (journal : JournalOf) → IsJournal core stimulus line text journal → IsGood core stimulus cycles journal → (result ≡ Done) ⊎ IsFailure result
@@ -52,11 +53,11 @@ abbrev pub RechecksSpelled : Call → Type 0
 RechecksSpelled c =
     (cycles : ℕ) → command_in koika c ≡ Some (Recheck cycles)
     → IfSome (known_in koika c) (λ bytes. (design : Checked) (stimulus : InputVectors) (core : Parts) → MayHaveJournal c.hosts cycles bytes design stimulus → IsLowered design core
-    → let parts = parts_of bytes in IsDecided core stimulus cycles parts.journal_line parts.journal c.status)
+    → let parts = parts_of bytes in IsDecided core stimulus cycles parts.certificate_line parts.certificate c.status)
 
 -- all of it
 pub record IsKept (untouched : Type 0) (c : Call) : Type 0 where
-  -- the fourteen promises of each program, by their names: done, whole, usage, usage_only, usage_front, unread, refused,
+  -- the fifteen promises of each program, by their names: agrees, done, whole, usage, usage_only, usage_front, unread, refused,
   -- refused_line, exact, front, some, read_fault, nothing_written, write_fault
   pub any : calls.IsKept koika untouched c
   pub open any use *

@@ -16,26 +16,19 @@ use Rattle.koika_check.specs.declared.checked.Checked.{Checked}
 use Rattle.koika_check.specs.declared.checked.Input.{Input}
 use Rattle.koika_check.specs.declared.checked.Register.{Register}
 use Rattle.koika_check.specs.declared.checked.Rule.{Rule}
-use Rattle.one_rule.specs.Stimulus.{AlwaysFits, InputVectors, inputs_of}
+use Rattle.one_rule.specs.Stimulus.{InputVectors, inputs_of}
 use Rattle.one_rule.specs.declared.rows.Row.{Row}
 use Rattle.stim_report.specs.Cuts as cuts
 use Rattle.stim_report.specs.Summary.{has_fired}
 use Rattle.kw_bits.specs.declared.host.HostSpec.{HostSpec}
+use Rattle.koika_lower.specs.Lowering.{input_widths}
+use Rattle.front_end.specs.Circuits.{IsStimulusFor}
 use Rattle.koika_top.specs.Btorsim.{longest_circuit}
 use Rattle.front_end.specs.Marks.{marks_of}
 use Rattle.front_end.specs.Sources.{IsTooLong, IsUnspelled, Spells, name_of}
 use Rattle.front_end.specs.Systems as typed
 use Rattle.front_end.specs.declared.answer.Answer.{Answer}
 use Rattle.front_end.specs.declared.answer.Answer.TheVariants.{Usage, Refused, Written}
-
--- the widths of a typed design's inputs
-abbrev pub input_widths : Checked → List ℕ
-input_widths d = map (λ (i : Input). i.width) d.inputs
-
--- the stimulus is one for the design's inputs
-pub record IsStimulusFor (d : Checked) (stimulus : InputVectors) : Type 0 where
-  pub widths : stimulus.widths ≡ input_widths d
-  pub fits : AlwaysFits stimulus
 
 -- The text has an input for each of the design's, a state for each register, an output of one bit for each rule and a
 -- bad line for each mark, in order and of the same names and widths.
@@ -49,8 +42,8 @@ pub record HasPartsOf (d : Checked) (lines : List Line) : Type 0 where
   pub bads : names_of is_bad lines ≡ (marks_of d).names
 
 -- on every stimulus for the design's inputs, the text's own rows of every number of cycles are the design's
-abbrev pub RunsAs : Checked → List Line → Type 0
-RunsAs d lines = (stimulus : InputVectors) (n : ℕ) → IsStimulusFor d stimulus
+abbrev pub CircuitRunsAs : Checked → List Line → Type 0
+CircuitRunsAs d lines = (stimulus : InputVectors) (n : ℕ) → IsStimulusFor d stimulus
     → circuit.run_of lines (inputs_of stimulus) n ≡ typed.run_of d (inputs_of stimulus) n
 
 -- and in each cycle of these rows the bad lines are violated whose rules fire
@@ -65,7 +58,7 @@ pub record AreCircuitOf (d : Checked) (lines : List Line) : Type 0 where
   pub layout : AreLaidOut lines
   pub tidy : AreTidy lines
   pub parts : HasPartsOf d lines
-  pub run : RunsAs d lines
+  pub run : CircuitRunsAs d lines
   pub violated : IsViolatedAs d lines
 
 -- the text's lines are a circuit of the source's design, printed; the source spells a stimulus for it too

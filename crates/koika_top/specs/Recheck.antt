@@ -1,88 +1,39 @@
 -- What `recheck` answers to a source: a design, a stimulus and a journal, each after a line `%%` but the first. A good
 -- journal certifies the run that is reported (McConnell et al., Certifying algorithms, Computer Science Review 2011).
 -- How the journal came about isn't said.
-use Rattle.std.specs.Prelude.{◌≡◌, ℕ, ◌+◌, ◌-◌, ◌<◌, ◌≤◌, ◌⊎◌, Bool, true, false, List, [], ◌++◌, length, replicate, position, Result, Ok, Err, if◌then◌else◌, is_some}
-use Rattle.std.specs.List.{slice_split}
-use Rattle.kw_base.specs.Place.{capped}
+use Rattle.std.specs.Prelude.{◌≡◌, ℕ, ◌≤◌, ◌⊎◌, true, false, List, [], ◌++◌, length, replicate}
 use Rattle.kw_base.specs.declared.fault.Fault.{Fault}
 use Rattle.kw_bits.specs.declared.host.HostSpec.{HostSpec}
 use Rattle.typed_core.specs.declared.design.Parts.{Parts as Core}
 use Rattle.one_rule.specs.Stimulus.{AreSame, InputVectors}
 use Rattle.journal_check.specs.Checking.{IsFirstFault, IsGood}
-use Rattle.journal_check.specs.Reading.{IsFirstMalformed, IsJournal, number_after}
+use Rattle.journal_check.specs.Reading.{IsFirstMalformed, IsJournal}
 use Rattle.journal_check.specs.declared.journal.Journal.{Journal}
 use Rattle.koika_check.specs.declared.checked.Checked.{Checked}
 use Rattle.koika_lower.specs.Lowering.{IsLowered}
 use Rattle.stim_report.specs.Cuts as cuts
-use Rattle.stim_report.specs.Stimuli.{stimulus_of}
-use Rattle.koika_top.specs.Btorsim.{longest_circuit}
 use Rattle.koika_top.specs.Journal.{ShowsJournal, is_too_heavy}
 use Rattle.front_end.specs.Lengths.{is_too_long_for}
 use Rattle.koika_top.specs.Sim.{text_of_run}
-use Rattle.front_end.specs.Sources.{IsIllTyped, SpellsDesign, fault_of_source, longest_source, shape_of}
+use Rattle.front_end.specs.Certified.{HasNoParts, SpellsBoth, longest_certified, parts_of}
+use Rattle.front_end.specs.Sources.{fault_of_source, longest_source}
 use Rattle.front_end.specs.declared.answer.Answer.{Answer}
 use Rattle.front_end.specs.declared.answer.Answer.TheVariants.{Usage, Refused, Written}
 use Rattle.koika_top.specs.declared.shown.Shown.TheVariants.{Report}
 
 -- ---- sources
 
--- the bytes before the first line `%%`, those up to the second one, and those after it, with the numbers of the lines
--- with which they begin
-pub record JournalParts : Type 0 where
-  pub design : List ℕ
-  pub stimulus : List ℕ
-  pub stimulus_line : ℕ
-  pub journal : List ℕ
-  pub journal_line : ℕ
-
--- there is a line `%%`
-abbrev pub has_mark : List ℕ → Bool
-has_mark bytes = is_some (position cuts.is_mark (slice_split cuts.ends_line bytes))
-
--- the number of the line with which the bytes after the second mark begin, where the bytes after the first one begin
--- with this number; without a second mark it is the line after the last
-abbrev pub journal_line : List ℕ → List ℕ → ℕ → ℕ
-journal_line source rest number =
-    if has_mark rest then capped (number + (cuts.parts_of rest).first_line - 1) else number_after 1 (length (cuts.lines_of source))
-
--- the design, the stimulus and the journal of a source
-abbrev pub parts_of : List ℕ → JournalParts
-parts_of source =
-    let front = cuts.parts_of source in
-    let back = cuts.parts_of front.stimulus in
-    record {
-      design = front.design;
-      stimulus = back.design;
-      stimulus_line = front.first_line;
-      journal = back.stimulus;
-      journal_line = journal_line source front.stimulus front.first_line;
-    }
-
--- the stimulus of a source for a design, or its first fault
-abbrev pub stimulus_in : List ℕ → Checked → Result InputVectors Fault
-stimulus_in source design = let parts = parts_of source in stimulus_of (shape_of design) parts.stimulus_line parts.stimulus
-
--- the source isn't too long, and its first part spells this design, as a source by itself
-pub record SpellsFirst (hosts : List HostSpec) (source : List ℕ) (design : Checked) : Type 0 where
-  pub short : length source ≤ longest_circuit
-  pub spelled : SpellsDesign hosts (parts_of source).design design
-
--- and its second part this stimulus for it
-pub record SpellsBoth (hosts : List HostSpec) (source : List ℕ) (design : Checked) (stimulus : InputVectors) : Type 0 where
-  pub first : SpellsFirst hosts source design
-  pub given : stimulus_in source design ≡ Ok stimulus
-
--- that many cycles may have a journal
+-- the source spells a design and a stimulus, and that many cycles may have a journal
 pub record MayHaveJournal (hosts : List HostSpec) (cycles : ℕ) (source : List ℕ) (design : Checked) (stimulus : InputVectors) : Type 0 where
   pub spelled : SpellsBoth hosts source design stimulus
   pub within : is_too_long_for cycles design ≡ false
   pub light : is_too_heavy cycles design ≡ false
 
--- its third part is this journal of the design, lowered
+-- its certificate is this journal of the design, lowered
 pub record SpellsJournal (hosts : List HostSpec) (cycles : ℕ) (source : List ℕ) (design : Checked) (stimulus : InputVectors) (core : Core) (journal : Journal) : Type 0 where
   pub spelled : MayHaveJournal hosts cycles source design stimulus
   pub lowered : IsLowered design core
-  pub read : IsJournal core stimulus (parts_of source).journal_line (parts_of source).journal journal
+  pub read : IsJournal core stimulus (parts_of source).certificate_line (parts_of source).certificate journal
 
 -- ---- answers
 
@@ -96,38 +47,23 @@ pub record ShowsChecked (hosts : List HostSpec) (cycles : ℕ) (source text : Li
   pub good : IsGood core stimulus cycles journal
   pub told : text ≡ text_of_run design stimulus cycles Report
 
--- 40 where the source, or its first part, is too long
-abbrev pub IsTooLong : List ℕ → Fault → Type 0
-IsTooLong source fault = (fault ≡ fault_of_source 40) × ((longest_circuit < length source) ⊎ (longest_source < length (parts_of source).design))
-
--- else the first fault of the design, as of a source by itself
-abbrev pub HasNoDesign : List HostSpec → List ℕ → Fault → Type 0
-HasNoDesign hosts source fault = (length source ≤ longest_circuit) × IsIllTyped hosts (parts_of source).design fault
-
--- else that of the stimulus
-abbrev pub HasNoStimulus : List HostSpec → List ℕ → Fault → Type 0
-HasNoStimulus hosts source fault = (design : Checked) × SpellsFirst hosts source design × (stimulus_in source design ≡ Err fault)
-
--- else 45 where a run of that many cycles is too long, and then 49 where they are too many for a journal
+-- 45 where a run of that many cycles is too long, and then 49 where they are too many for a journal
 abbrev pub HasNoLength : List HostSpec → ℕ → List ℕ → Fault → Type 0
 HasNoLength hosts cycles source fault =
     (design : Checked) × (stimulus : InputVectors) × SpellsBoth hosts source design stimulus
     × (((fault ≡ fault_of_source 45) × (is_too_long_for cycles design ≡ true))
     ⊎ ((fault ≡ fault_of_source 49) × (is_too_long_for cycles design ≡ false) × (is_too_heavy cycles design ≡ true)))
 
--- the first two parts spell no design with a stimulus, and this is why; no journal is looked at, and this is why
-abbrev pub HasNoParts : List HostSpec → List ℕ → Fault → Type 0
-HasNoParts hosts source fault = IsTooLong source fault ⊎ (HasNoDesign hosts source fault ⊎ HasNoStimulus hosts source fault)
-
--- the source is refused before its journal is looked at
+-- the source is refused before its journal is looked at: its first two parts spell no design with a stimulus, or else the
+-- cycles are too many
 abbrev pub IsRefusedBefore : List HostSpec → ℕ → List ℕ → Fault → Type 0
 IsRefusedBefore hosts cycles source fault = HasNoParts hosts source fault ⊎ HasNoLength hosts cycles source fault
 
--- else 80 at the first line of the third part that is of no form
+-- else 80 at the first line of the certificate that is of no form
 abbrev pub HasNoLines : List HostSpec → ℕ → List ℕ → Fault → Type 0
 HasNoLines hosts cycles source fault =
     (design : Checked) × (stimulus : InputVectors) × (core : Core) × MayHaveJournal hosts cycles source design stimulus × IsLowered design core
-    × IsFirstMalformed core stimulus (parts_of source).journal_line (parts_of source).journal fault
+    × IsFirstMalformed core stimulus (parts_of source).certificate_line (parts_of source).certificate fault
 
 -- else the first fault of a journal that isn't good: 81, 82, 83
 abbrev pub IsWrong : List HostSpec → ℕ → List ℕ → Fault → Type 0
@@ -154,7 +90,7 @@ pub record HasPartsOf (source other : List ℕ) : Type 0 where
   pub design : (parts_of other).design ≡ (cuts.parts_of source).design ++ replicate line_feeds 10
   pub empty_lines : ℕ
   pub stimulus : cuts.lines_of (parts_of other).stimulus ≡ cuts.lines_of (cuts.parts_of source).stimulus ++ replicate empty_lines []
-  pub short : length other ≤ longest_circuit
+  pub short : length other ≤ longest_certified
   pub design_short : length (parts_of other).design ≤ longest_source
 
 -- it spells this design, and a stimulus with the same inputs in every cycle; without more lines it is the same stimulus
@@ -172,4 +108,4 @@ pub record IsJournaledOf (hosts : List HostSpec) (cycles workers : ℕ) (source 
   pub again : InputVectors
   pub same : AreSame shows.stimulus again
   pub spelled : SpellsBoth hosts other shows.design again
-  pub journal : (parts_of other).journal ≡ text
+  pub journal : (parts_of other).certificate ≡ text

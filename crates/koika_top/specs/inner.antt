@@ -7,5 +7,4 @@ pub mod Histories
 pub mod Journaling
 pub mod Steps
 pub mod Telling
-pub mod Wired
 pub mod Works

@@ -2,19 +2,21 @@
 use Rattle.std.proofs.Common.{◌≡◌, ℕ, Bool, true, false, List, refl, ap}
 use Rattle.kw_base.specs.declared.fault.Fault.{Fault}
 use Rattle.kw_bits.specs.declared.host.HostSpec.{HostSpec}
-use Rattle.front_end.specs.Program.{status_of, text_in}
+use Rattle.front_end.specs.Program.{Agrees, status_of, text_in}
 use Rattle.front_end.specs.declared.answer.Answer.{Answer}
 use Rattle.front_end.specs.declared.answer.Answer.TheVariants as plain_answers
 use Rattle.front_end.specs.declared.status.Status.{Status}
 use Rattle.front_end.specs.declared.status.Status.TheVariants as plain_statuses
 use Rattle.front_end.specs.inner.Steps.{IsReply}
-use Rattle.front_end.proofs.Promises.{Agrees, IsDefinite}
+use Rattle.front_end.proofs.Promises.{IsDefinite}
 use Rattle.front_end.proofs.Told.{Embeds}
 use Rattle.lab_top.specs.Answer.{Answers, answered, ends, lab, plain, written}
 use Rattle.lab_top.specs.Words.{command_of}
 use Rattle.lab_top.specs.inner.Steps.{answer_if, status_if}
 use Rattle.lab_top.specs.declared.answer.LabAnswer.{LabAnswer}
 use Rattle.lab_top.specs.declared.answer.LabAnswer.TheVariants.{Usage, Refused, Written, Failed}
+use Rattle.lab_top.specs.declared.status.LabStatus.{LabStatus}
+use Rattle.lab_top.specs.declared.status.LabStatus.TheVariants as statuses
 use Rattle.lab_top.specs.declared.words.Command.{Command}
 use Rattle.lab_top.specs.declared.words.Command.TheVariants.{Why, Profile, Waves}
 use Rattle.lab_top.proofs.OneAnswer.{asked-same}
@@ -37,8 +39,17 @@ refused-agree (Refused own) fault e = let same : own ≡ fault = cc in ap (λ x.
 refused-agree (Written text) fault e = let bad : plain_answers.Written text ≡ plain_answers.Refused fault = e in absurd cc
 refused-agree (Failed text) fault e = let bad : plain_answers.Written text ≡ plain_answers.Refused fault = e in absurd cc
 
+is-written : (s : LabStatus) (text : List ℕ) → plain (written s text) ≡ plain_answers.Written text
+is-written statuses.Done text = refl
+is-written statuses.Usage text = refl
+is-written statuses.Refused text = refl
+is-written statuses.ReadFault text = refl
+is-written statuses.WriteFault text = refl
+is-written statuses.NoMemory text = refl
+is-written statuses.Failed text = refl
+
 pub agrees : Agrees lab
-agrees = record { ends = ends-agree; written = written-agree; refused = refused-agree; is_refused = λ fault. refl }
+agrees = record { ends = ends-agree; written = written-agree; is_written = is-written; refused = refused-agree; is_refused = λ fault. refl }
 
 replies : (hosts : List HostSpec) (command : Command) (bytes : List ℕ) (a : LabAnswer) → Answers hosts command bytes a → IsReply (plain a)
 replies hosts (Why cycle cycles name) bytes Usage h = h

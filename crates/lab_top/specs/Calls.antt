@@ -17,8 +17,8 @@ FailsIfStrict c = c.status ≡ Failed → (cycles : ℕ) × (command_in lab c �
 
 -- all of it
 pub record IsKept (untouched : Type 0) (c : Call) : Type 0 where
-  -- the fourteen promises of each program, by their names: done, whole, usage, usage_only, usage_front, unread,
-  -- refused, refused_line, exact, front, some, read_fault, nothing_written, write_fault
+  -- the fifteen promises of each program, by their names: agrees, done, whole, usage, usage_only, usage_front,
+  -- unread, refused, refused_line, exact, front, some, read_fault, nothing_written, write_fault
   pub any : calls.IsKept lab untouched c
   pub open any use *
   -- by which words a call fails

@@ -1,7 +1,7 @@
 use Rattle.std.proofs.Common.{inl, inr, subst}
 use Rattle.std.proofs.lemmas.Result.{err_from_is_err_and}
 use Rattle.koika_check.specs.declared.checked.Checked.{Checked}
-use Rattle.koika_top.specs.Aiger.{IsAigOf}
+use Rattle.front_end.specs.Aigs.{IsAigOf}
 use Rattle.front_end.proofs.Reading.{fault-of-part}
 use Rattle.koika_top.proofs.aiger.convert_source.Goals as goal
 

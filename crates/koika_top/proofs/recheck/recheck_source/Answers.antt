@@ -21,11 +21,11 @@ returns-in_err-lowered-clause-refused g c =
 pub returns-in_err-journal-clause-refused : goal.returns-in_err-journal-clause-refused
 returns-in_err-journal-clause-refused g c =
     let it = c.in_ok-lowered.lowered in
-    let parts = c.journal_parts-parts.ensures in
+    let parts = c.certified_parts-parts.ensures in
     let p = err_from_is_err_and c.from_residual-in_err-journal.result c.from_residual-in_err-journal.ensures.1 in
     rw (p.1, p.2)
     (fault-of-part _ _ c.in_err-journal.field-0.0
-    (λ fault h. inr (inl (it.checked, arc_value it.stimulus, arc_value it.design, c.in_ok-lowered.ensures.lowered, it.lowered, malformed-at _ _ _ _ _ _ _ _ fault c.deref-design.ensures c.deref-stimulus.ensures parts.journal_line parts.journal h)))
+    (λ fault h. inr (inl (it.checked, arc_value it.stimulus, arc_value it.design, c.in_ok-lowered.ensures.lowered, it.lowered, malformed-at _ _ _ _ _ _ _ _ fault c.deref-design.ensures c.deref-stimulus.ensures parts.certificate_line parts.certificate h)))
     c.in_err-journal.ensures.fault)
 
 pub certified_rows-requires-clause-last : goal.certified_rows-requires-clause-last
@@ -34,19 +34,19 @@ certified_rows-requires-clause-last g c = few-cycles c.args.cycles _ _ c.in_ok-l
 pub certified_rows-requires-clause-fits : goal.certified_rows-requires-clause-fits
 certified_rows-requires-clause-fits g c =
     let it = c.in_ok-lowered.lowered in
-    let parts = c.journal_parts-parts.ensures in
+    let parts = c.certified_parts-parts.ensures in
     read_journals_fit (arc_value it.design) (arc_value it.stimulus) _ _ c.in_ok-journal.journal
-    (journal-at _ _ _ _ _ _ _ _ c.in_ok-journal.journal c.deref-design.ensures c.deref-stimulus.ensures parts.journal_line parts.journal c.in_ok-journal.ensures.journal)
+    (journal-at _ _ _ _ _ _ _ _ c.in_ok-journal.journal c.deref-design.ensures c.deref-stimulus.ensures parts.certificate_line parts.certificate c.in_ok-journal.ensures.journal)
 
 pub returns-in_err-rows-clause-refused : goal.returns-in_err-rows-clause-refused
 returns-in_err-rows-clause-refused g c =
     let it = c.in_ok-lowered.lowered in
-    let parts = c.journal_parts-parts.ensures in
+    let parts = c.certified_parts-parts.ensures in
     let spells : SpellsJournal (host_specs c.args.hosts.now) c.args.cycles c.args.source.now it.checked (arc_value it.stimulus) (arc_value it.design) c.in_ok-journal.journal =
     record {
       spelled = c.in_ok-lowered.ensures.lowered;
       lowered = it.lowered;
-      read = journal-at _ _ _ _ _ _ _ _ c.in_ok-journal.journal c.deref-design.ensures c.deref-stimulus.ensures parts.journal_line parts.journal c.in_ok-journal.ensures.journal;
+      read = journal-at _ _ _ _ _ _ _ _ c.in_ok-journal.journal c.deref-design.ensures c.deref-stimulus.ensures parts.certificate_line parts.certificate c.in_ok-journal.ensures.journal;
     }
     in
     let p = err_from_is_err_and c.from_residual-in_err-rows.result c.from_residual-in_err-rows.ensures.1 in
@@ -63,7 +63,7 @@ report_rows-requires-clause-some g c =
 pub returns-clause-text : goal.returns-clause-text
 returns-clause-text g c =
     let it = c.in_ok-lowered.lowered in
-    let parts = c.journal_parts-parts.ensures in
+    let parts = c.certified_parts-parts.ensures in
     record {
       design = it.checked;
       stimulus = arc_value it.stimulus;
@@ -72,7 +72,7 @@ returns-clause-text g c =
       spelled = record {
         spelled = c.in_ok-lowered.ensures.lowered;
         lowered = it.lowered;
-        read = journal-at _ _ _ _ _ _ _ _ c.in_ok-journal.journal c.deref-design.ensures c.deref-stimulus.ensures parts.journal_line parts.journal c.in_ok-journal.ensures.journal;
+        read = journal-at _ _ _ _ _ _ _ _ c.in_ok-journal.journal c.deref-design.ensures c.deref-stimulus.ensures parts.certificate_line parts.certificate c.in_ok-journal.ensures.journal;
       };
       good = c.in_ok-rows.ensures.good;
       told = c.in_ok-text.ensures ∙ (λ i. text_of_rows Report (it.shape_fits i) (marks_of it.checked) (c.in_ok-rows.ensures.run i));

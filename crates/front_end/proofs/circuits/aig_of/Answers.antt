@@ -1,5 +1,5 @@
-use Rattle.koika_top.proofs.AigWiring.{has-symbols, is-aig}
-use Rattle.koika_top.proofs.circuits.aig_of.Goals as goal
+use Rattle.front_end.proofs.Blasted.{has-symbols, is-aig}
+use Rattle.front_end.proofs.circuits.aig_of.Goals as goal
 
 pub blast-requires : goal.blast-requires
 blast-requires c = record { names = has-symbols c.args.lowered.now.checked c.in_ok-circuit.circuit c.args.lowered.now.names c.in_ok-circuit.ensures.wired }

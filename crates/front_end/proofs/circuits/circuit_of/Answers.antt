@@ -2,8 +2,8 @@ use Rattle.std.proofs.Common.{ap, sym, subst, ◌∙◌}
 use Rattle.koika_lower.specs.Lowering.{IsLowered}
 use Rattle.one_rule.specs.Externs.{kept}
 use Rattle.typed_core.specs.Valid.{externs_of}
-use Rattle.koika_top.proofs.Wiring.{wired}
-use Rattle.koika_top.proofs.circuits.circuit_of.Goals as goal
+use Rattle.front_end.proofs.Wired.{wired}
+use Rattle.front_end.proofs.circuits.circuit_of.Goals as goal
 
 pub build-requires : goal.build-requires
 build-requires c = record { externs = ap kept c.deref-externs.ensures ∙ c.args.lowered.now.externs_fit ∙ sym (ap externs_of c.deref-design.ensures) }

@@ -2,10 +2,11 @@ use Rattle.std.proofs.Common.{List, ℕ, sym, ap, subst, ◌∙◌}
 use Rattle.one_rule.specs.Hosts.{host_specs}
 use Rattle.stim_report.specs.Stimuli.{stimulus_of}
 use Rattle.front_end.specs.Sources.{SpellsDesign, design_part}
-use Rattle.koika_top.proofs.CutAgain.{design_part-again}
+use Rattle.front_end.proofs.CutAgain.{design_part-again}
+use Rattle.front_end.proofs.DistinctNames.{distinct-names}
 use Rattle.front_end.proofs.WordNames.{word-names}
 use Rattle.front_end.proofs.Reading.{stimulus-fits, widths-valid}
-use Rattle.koika_top.proofs.recheck.spell_parts.Goals as goal
+use Rattle.front_end.proofs.certified.spell_parts.Goals as goal
 
 pub read_design-requires-clause-cut : goal.read_design-requires-clause-cut
 read_design-requires-clause-cut g c = c.requires.design ∙ sym (design_part-again c.args.source.now) ∙ ap design_part (sym c.requires.design)
@@ -24,6 +25,9 @@ pub invariant_of-result-clause-names : goal.invariant_of-result-clause-names
 invariant_of-result-clause-names g c =
     let design = c.in_ok-design.ensures.spelled in
     word-names (host_specs c.args.hosts.now) design.tree c.in_ok-design.design design.spelled.derived.design.declarations design.typed
+
+pub invariant_of-result-clause-distinct : goal.invariant_of-result-clause-distinct
+invariant_of-result-clause-distinct g c = distinct-names (host_specs c.args.hosts.now) c.args.parts.design.now c.in_ok-design.design c.in_ok-design.ensures.spelled
 
 pub invariant_of-result-clause-stimulus_fits : goal.invariant_of-result-clause-stimulus_fits
 invariant_of-result-clause-stimulus_fits g c = stimulus-fits c.in_ok-design.design c.in_ok-shape.shape _ _ _ c.in_ok-shape.ensures c.in_ok-stimulus.ensures.stimulus

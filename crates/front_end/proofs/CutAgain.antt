@@ -7,9 +7,8 @@ use Rattle.std.proofs.lemmas.Bool.{false≢true, le-ltb, lt-ltb, ltb-true}
 use Rattle.std.proofs.lemmas.List.Elements.{All-from_recursion}
 use Rattle.std.proofs.lemmas.List.Splits.{join_with_byte-slice_split, slice_split_at}
 use Rattle.kw_base.specs.Place.{capped}
-use Rattle.stim_report.specs.Cuts.{cut_at, ends_line, is_mark, lines_of, parts_of, with_line_feed}
-use Rattle.journal_check.specs.Reading.{number_after}
-use Rattle.koika_top.specs.Recheck.{journal_line}
+use Rattle.stim_report.specs.Cuts.{cut_at, ends_line, is_mark, parts_of, with_line_feed}
+use Rattle.front_end.specs.Certified.{end_line, line_after_mark}
 use Rattle.front_end.specs.Sources.{design_part}
 
 -- ---- lengths
@@ -78,15 +77,15 @@ mark-by_length source = of (nat_lt n (length lines)) refl
         lt-ltb (length (flat_map with_line_feed (take n lines))) (length source) (subst (λ (bytes : List ℕ). length (flat_map with_line_feed (take n lines)) < length bytes) (join_with_byte-slice_split 10 source) (front_length lines (ltb-true n (length lines) is)))
     of false is = le-ltb (length source) (length source) (omega arith)
 
--- the number of the line with which a journal begins: after the second mark, where there is one
-pub line-marked : (source rest : List ℕ) (number : ℕ) → length (parts_of rest).design < length rest → journal_line source rest number ≡ capped (number + (parts_of rest).first_line - 1)
+-- the number of the line with which the bytes after the next mark begin, where there is one
+pub line-marked : (source rest : List ℕ) (number : ℕ) → length (parts_of rest).design < length rest → line_after_mark source rest number ≡ capped (number + (parts_of rest).first_line - 1)
 line-marked source rest number less =
-    ap (λ (b : Bool). if b then capped (number + (parts_of rest).first_line - 1) else number_after 1 (length (lines_of source)))
+    ap (λ (b : Bool). if b then capped (number + (parts_of rest).first_line - 1) else end_line source)
     (sym (mark-by_length rest) ∙ lt-ltb (length (parts_of rest).design) (length rest) less)
 
-pub line-unmarked : (source rest : List ℕ) (number : ℕ) → length rest ≤ length (parts_of rest).design → journal_line source rest number ≡ number_after 1 (length (lines_of source))
+pub line-unmarked : (source rest : List ℕ) (number : ℕ) → length rest ≤ length (parts_of rest).design → line_after_mark source rest number ≡ end_line source
 line-unmarked source rest number all =
-    ap (λ (b : Bool). if b then capped (number + (parts_of rest).first_line - 1) else number_after 1 (length (lines_of source)))
+    ap (λ (b : Bool). if b then capped (number + (parts_of rest).first_line - 1) else end_line source)
     (sym (mark-by_length rest) ∙ le-ltb (length (parts_of rest).design) (length rest) all)
 
 -- lines are counted from 1
