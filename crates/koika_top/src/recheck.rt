@@ -48,8 +48,13 @@ pub(crate) fn recheck_source(
     let lowered = lower_parts(alloc, hosts, cycles, source, parts)?;
     let design: &Design = &lowered.design;
     let stimulus: &Stimulus = &lowered.stimulus;
-    let (text, line) = (parts.certificate, parts.certificate_line);
-    let journal = read_journal(alloc, text, line, design, stimulus)?;
+    let journal = read_journal(
+        alloc,
+        parts.certificate,
+        parts.certificate_line,
+        design,
+        stimulus,
+    )?;
     let rows = certified_rows(alloc, &lowered, journal, cycles)?;
     let text = report_rows(alloc, &lowered, &rows)?;
     Ok(text)
