@@ -235,9 +235,24 @@ def unfolded(tree):
                 yield path, f"{first}::{side}::{rest} isn't there"
 
 
+def of_rust(tree):
+    """The imports of Rust that name nothing that is there, as far as they name modules of the repository."""
+    words = r"(?:fn|struct|enum|trait|type|const|static|mod|macro)"
+    has = {}
+    for at, path in tree.modules.items():
+        text = tree.texts[path]
+        has[at] = set(re.findall(rf"^ *(?:pub(?:\([a-z ]+\))? )?(?:const |unsafe )*{words} (\w+)", text, re.M))
+        has[at] |= set(re.findall(r"\bmacro_rules! (\w+)", text)) | {alias or used[-1] for used, alias in tree.uses[at]}
+    for at, uses in tree.uses.items():
+        for used, _ in uses:
+            there = tree.place(at, used[:-1]) if len(used) > 1 else None
+            if there and there != at and used[-1] != "*" and used[-1] not in has[there] and "*" not in has[there]:
+                yield tree.modules[at], f"{'::'.join(used)} isn't there"
+
+
 def main():
     tree = Tree()
-    found = sorted({*unresolved(tree), *untold(tree), *unfolded(tree)})
+    found = sorted({*unresolved(tree), *untold(tree), *unfolded(tree), *of_rust(tree)})
     print("\n".join(f"{path}: {what}" for path, what in found) if found else "each import names what is there")
     return 1 if found else 0
 

@@ -15,6 +15,8 @@ Rename = collections.namedtuple("Rename", "crate kind module old new")
 # A name of antt with its modules, and one of Rust with its modules.
 CHAIN = re.compile(r"[^\s(){}\[\],;:@\"`]+")
 PATH = re.compile(r"[A-Za-z_]\w*(?:::[A-Za-z_]\w*)*")
+# An import of Rust.
+USE = re.compile(r"(^ *(?:pub(?:\([a-z ]+\))? )?use )((?!Rattle\.)[^;]*);", re.M)
 
 
 def place_of(path):
@@ -200,7 +202,14 @@ class Change:
         return CHAIN.sub(lambda it: self.chained(it[0], ghost, modules), line)
 
     def rust_code(self, at, text, scope):
-        """Code, where these names change."""
+        """Code, where these names change. Imports change by what they name."""
+        said, last = [], 0
+        for item in USE.finditer(text):
+            said += [self.outside_imports(at, text[last : item.start()], scope), self.used(at, item[0])]
+            last = item.end()
+        return "".join([*said, self.outside_imports(at, text[last:], scope)])
+
+    def outside_imports(self, at, text, scope):
         cases = cases_of(text)
 
         def name(found):
@@ -228,7 +237,7 @@ class Change:
                 piece += text[at_ : found.start()] + name(found)
                 at_ = found.end()
             said.append(piece + text[at_:end])
-        return self.used(at, "".join(said))
+        return "".join(said)
 
     def rust_path(self, at, chain, scope):
         parts = chain.split("::")
@@ -273,7 +282,7 @@ class Change:
 
             return f"{found[1]}{walk(found[2], ())};"
 
-        return re.sub(r"(^ *(?:pub(?:\([a-z ]+\))? )?use )((?!Rattle\.)[^;]*);", item, text, flags=re.M)
+        return USE.sub(item, text)
 
     # ---- files
 
