@@ -8,6 +8,7 @@
 #![tactic(auto)]
 
 mod bits;
+mod certificate;
 mod cone;
 mod draft;
 pub mod fault_number;
@@ -17,6 +18,7 @@ mod read;
 mod text;
 mod words;
 
+pub use certificate::certify;
 pub use laws::a_kept_invariant_holds_in_every_run;
 pub use obligations::obligation;
 pub use read::read_invariant;
