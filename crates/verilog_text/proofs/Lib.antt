@@ -2,7 +2,12 @@ pub mod Constants
 pub mod Cutting
 pub mod Drafts
 pub mod FormValues
+pub mod Forms
 pub mod NamedModules
+pub mod OneModule
+pub mod Operands
 pub mod Pieces
+pub mod ReadLines
 pub mod SignBits
+pub mod Stretches
 pub mod Translated

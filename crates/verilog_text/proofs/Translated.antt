@@ -1,5 +1,5 @@
 -- The module of a circuit is legal, and its run is the circuit's.
-use Rattle.std.proofs.Common.{◌≡◌, ℕ, zero, suc, ◌+◌, ◌<◌, ◌≤◌, Bool, true, false, cond, eqb, filter, List, [], ◌∷◌, length, map, get_or, arith, refl, sym, ap, ap₂, subst, ◌∙◌}
+use Rattle.std.proofs.Common.{◌≡◌, ℕ, zero, suc, ◌+◌, ◌<◌, ◌≤◌, ◌^◌, Bool, true, false, cond, eqb, filter, List, [], ◌∷◌, length, map, get_or, arith, refl, sym, ap, ap₂, subst, ◌∙◌}
 use Rattle.std.specs.Prelude.{All}
 use Rattle.std.specs.List.{AllByRecursion}
 use Rattle.std.proofs.lemmas.List.Elements.{All-map, recursion_from_All}
@@ -280,8 +280,9 @@ module _ (c : Wires) (options : Options) (valid : IsCircuit c) (flags : HasFlags
       subst (λ (ws : Widths). HasOperand ws (operand_at draft.operands id) (width_at (widths_of c.net) id)) widths-are
       (some-shown.shows id within).has
 
-  pub is-legal : IsLegal m
-  is-legal = record {
+  pub is-legal : length m.wires < 2 ^ 64 → IsLegal m
+  is-legal few = record {
+    few = few;
     inputs = subst (All (λ (p : Port). legal.IsWidth p.width)) (sym m-inputs)
         (All-map (λ (p : Port). legal.IsWidth p.width) input_of c.inputs valid.inputs);
     registers = subst (All (λ (r : Register). IsBits r.first)) (sym m-registers)

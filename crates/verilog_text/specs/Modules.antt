@@ -1,7 +1,6 @@
 -- Which modules are legal (IEEE 1364-2005): names that differ and are no reserved words, and expressions whose operands
--- are
--- declared before them and have the widths that they ask for (5.4), so that no operand is extended or truncated.
-use Rattle.std.specs.Prelude.{◌≡◌, ◌≢◌, ◌⊎◌, ℕ, ◌+◌, ◌-◌, ◌<◌, ◌≤◌, ◌==◌, ◌||◌, IsTrue, Bool, false, Some, List, [], ◌∷◌, ◌++◌, All, AllPairs, map, slice_get}
+-- are declared before them and have the widths that they ask for (5.4), so that no operand is extended or truncated.
+use Rattle.std.specs.Prelude.{◌≡◌, ◌≢◌, ◌⊎◌, ℕ, ◌+◌, ◌-◌, ◌<◌, ◌≤◌, ◌==◌, ◌||◌, IsTrue, ◌^◌, Bool, false, Some, List, [], ◌∷◌, ◌++◌, length, All, AllPairs, map, slice_get}
 use Rattle.std.specs.Char.{is_ascii_alphabetic, is_ascii_alphanumeric}
 use Rattle.std.specs.List.{list_all}
 use Rattle.std.specs.Option.{option_to_list}
@@ -121,7 +120,7 @@ WiresFit ws [] = Unit {0}
 WiresFit ws (wire ∷ wires) =
     IsWidth wire.width × FormFits ws wire.width wire.form × WiresFit (with_wire ws wire.width) wires
 
--- the widths of the inputs and registers, and those of all signals
+-- the widths of the inputs and registers
 abbrev pub outer_widths : Module → Widths
 outer_widths m =
     record {
@@ -130,13 +129,16 @@ outer_widths m =
       wires = [];
     }
 
+-- the widths of all signals
 abbrev pub widths_of : Module → Widths
 widths_of m = record (outer_widths m) { wires = map (λ (wire : Wire). wire.width) m.wires }
 
--- a register's next value has the width of its first one, and an output one bit
+-- A register's next value has the width of its first one, and an output one bit. Numbers of wires have at most 20
+-- digits.
 pub record IsLegal (m : Module) : Type 0 where
   pub inputs : All (λ (port : Port). IsWidth port.width) m.inputs
   pub registers : All (λ (register : Register). IsBits register.first) m.registers
   pub wires : WiresFit (outer_widths m) m.wires
+  pub few : length m.wires < 2 ^ 64
   pub nexts : All (λ (register : Register). HasOperand (widths_of m) register.next register.first.width) m.registers
   pub outputs : All (λ (output : Output). HasOperand (widths_of m) output.value 1) m.outputs

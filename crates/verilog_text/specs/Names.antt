@@ -1,6 +1,5 @@
 -- Names in a module. A name of a circuit that is a reserved word has a `$` after it, so no name is an escaped
--- identifier
--- (2.7.1). No name of a circuit has a `$`.
+-- identifier (2.7.1). No name of a circuit has a `$`.
 use Rattle.std.specs.Prelude.{ℕ, ◌==◌, Bool, if◌then◌else◌, List, [], ◌∷◌, ◌++◌, bytes_eq, codes}
 use Rattle.std.specs.List.{list_any, slice_split}
 
@@ -30,9 +29,11 @@ reserved_text =
     ++ codes "unsigned until until_with untyped use uwire var vectored virtual void wait wait_order wand weak "
     ++ codes "weak0 weak1 while wildcard wire with within wone wor wreal xnor xor"
 
+-- words of the list are separated by single spaces
 abbrev pub is_blank : ℕ → Bool
 is_blank b = b == 32
 
+-- whether a name is one of these words
 unfoldable pub is_reserved : List ℕ → Bool
 is_reserved name = list_any (λ word. bytes_eq word name) (slice_split is_blank reserved_text)
 

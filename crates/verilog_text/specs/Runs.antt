@@ -35,6 +35,7 @@ no_bits = record { width = 0; number = 0 }
 abbrev pub signal : List BitVector → ℕ → BitVector
 signal values number = slice_index_or values number no_bits
 
+-- the value of an operand
 abbrev pub operand_value : Signals → Operand → BitVector
 operand_value s (Constant value) = value
 operand_value s (Input number) = signal s.inputs number
@@ -50,10 +51,9 @@ prefix_value ones.RedOr a = op.redor a
 prefix_value ones.RedXor a = op.redxor a
 
 -- bitwise operators (5.1.10), arithmetic (5.1.5), shifts, of which `>>>` on a signed operand fills with the sign bit
--- and
--- takes every amount as unsigned (5.1.12), equality (5.1.8), relations, which are signed where both operands are
--- (5.1.7),
--- and concatenation, the first operand above the second (5.1.14). `$signed` reads an operand in two's complement (5.5)
+-- and takes every amount as unsigned (5.1.12), equality (5.1.8), relations, which are signed where both operands are
+-- (5.1.7), and concatenation, the first operand above the second (5.1.14). `$signed` reads an operand in two's
+-- complement (5.5)
 unfoldable pub infix_value : Infix → BitVector → BitVector → BitVector
 infix_value twos.And a b = op.and a b
 infix_value twos.Or a b = op.or a b
@@ -131,8 +131,7 @@ row_after m reset inputs registers =
     record { regs = if is_reset m.reset reset then first_values m else next_values m s; fired = output_flags m s }
 
 -- the rows of this many cycles after the last one, from the values that it left in the registers, with the reset as
--- given
--- by cycle
+-- given by cycle
 unfoldable pub rows_after : Module → (ℕ → Bool) → InputsByCycle → ℕ → ℕ → List BitVector → List Row
 rows_after m resets inputs zero last registers = []
 rows_after m resets inputs (suc count) last registers =

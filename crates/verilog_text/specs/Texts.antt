@@ -26,15 +26,17 @@ constant_text value = decimal value.width ++ codes "'d" ++ decimal value.number
 abbrev pub wire_name : ℕ → List ℕ
 wire_name number = codes "w$" ++ decimal number
 
--- the name of an input, and of a register, that may be there
+-- the name of an input that may be there
 abbrev pub input_name : Option Port → List ℕ
 input_name None = []
 input_name (Some port) = port.name
 
+-- the name of a register that may be there
 abbrev pub register_name : Option Register → List ℕ
 register_name None = []
 register_name (Some register) = register.name
 
+-- a constant, or a name
 unfoldable pub operand_text : Module → Operand → List ℕ
 operand_text m (Constant value) = constant_text value
 operand_text m (Input number) = input_name (slice_get m.inputs number)
@@ -51,7 +53,7 @@ sign ones.RedAnd = codes "&"
 sign ones.RedOr = codes "|"
 sign ones.RedXor = codes "^"
 
--- what is written before the first of two operands, between them and after the second
+-- what is written before the first of two operands
 abbrev pub opening : Infix → List ℕ
 opening twos.Nand = codes "~("
 opening twos.Nor = codes "~("
@@ -62,6 +64,7 @@ opening twos.SignedAtMost = codes "$signed("
 opening twos.Join = codes "{"
 opening other = []
 
+-- what is written between them
 abbrev pub middle : Infix → List ℕ
 middle twos.And = codes " & "
 middle twos.Or = codes " | "
@@ -83,6 +86,7 @@ middle twos.SignedBelow = codes ") < $signed("
 middle twos.SignedAtMost = codes ") <= $signed("
 middle twos.Join = codes ", "
 
+-- what is written after the second
 abbrev pub closing : Infix → List ℕ
 closing twos.Nand = codes ")"
 closing twos.Nor = codes ")"
@@ -92,10 +96,11 @@ closing twos.SignedAtMost = codes ")"
 closing twos.Join = codes "}"
 closing other = []
 
--- a bit of a signal, and its bits from a lower bound to an upper (5.2.1)
+-- a bit of a signal (5.2.1)
 abbrev pub bit_text : ℕ → List ℕ
 bit_text index = codes "[" ++ decimal index ++ codes "]"
 
+-- the bits from a lower bound to an upper
 abbrev pub bits_text : ℕ → ℕ → List ℕ
 bits_text upper lower =
     if upper == lower then bit_text upper else codes "[" ++ decimal upper ++ codes ":" ++ decimal lower ++ codes "]"
@@ -104,22 +109,26 @@ bits_text upper lower =
 abbrev pub top_text : ℕ → List ℕ
 top_text top = if top == 0 then [] else bit_text top
 
--- two operands, the conditional operator (5.1.13), and a replication above an operand (5.1.14)
+-- an operator with two operands
 unfoldable pub two_text : Module → Infix → Operand → Operand → List ℕ
 two_text m operator a b =
     opening operator ++ operand_text m a ++ middle operator ++ operand_text m b ++ closing operator
 
+-- the conditional operator (5.1.13)
 unfoldable pub choice_text : Module → Operand → Operand → Operand → List ℕ
 choice_text m condition a b =
     operand_text m condition ++ codes " ? " ++ operand_text m a ++ codes " : " ++ operand_text m b
 
+-- the highest bit of an operand, repeated (5.1.14)
 unfoldable pub repeated_text : Module → Operand → ℕ → ℕ → List ℕ
 repeated_text m a top count =
     codes "{{" ++ decimal count ++ codes "{" ++ operand_text m a ++ top_text top ++ codes "}}, "
 
+-- the operand below it
 unfoldable pub extension_text : Module → Operand → ℕ → ℕ → List ℕ
 extension_text m a top count = repeated_text m a top count ++ operand_text m a ++ codes "}"
 
+-- the text of an expression
 unfoldable pub form_text : Module → Form → List ℕ
 form_text m (One operator a) = sign operator ++ operand_text m a
 form_text m (Two operator a b) = two_text m operator a b
@@ -146,12 +155,15 @@ range_text width = if width == 1 then [] else codes "[" ++ decimal (width - 1) +
 abbrev pub port_text : List ℕ → List ℕ
 port_text name = codes ", " ++ name
 
+-- an input as a port
 abbrev pub input_port : Port → List ℕ
 input_port port = port_text port.name
 
+-- an output as a port
 abbrev pub output_port : Output → List ℕ
 output_port output = port_text output.name
 
+-- a register as a port, where it is one
 abbrev pub register_port : Register → List ℕ
 register_port register = if register.is_port then port_text register.name else []
 
@@ -159,28 +171,32 @@ register_port register = if register.is_port then port_text register.name else [
 abbrev pub input_line : ℕ → List ℕ → List ℕ
 input_line width name = line (codes "  input " ++ range_text width ++ name ++ codes ";")
 
+-- the declaration of an input
 abbrev pub port_line : Port → List ℕ
 port_line port = input_line port.width port.name
 
+-- the declaration of an output
 abbrev pub output_line : Output → List ℕ
 output_line output = line (codes "  output " ++ output.name ++ codes ";")
 
--- the declaration of a register with its first value, where it is an output and where it isn't (6.2.1)
+-- what a register's declaration begins with, where it is an output and where it isn't
 abbrev pub kind_text : Bool → List ℕ
 kind_text is_port = if is_port then codes "  output reg " else codes "  reg "
 
+-- the declaration of a register with its first value (6.2.1)
 abbrev pub register_line : Register → List ℕ
 register_line register =
     line (kind_text register.is_port ++ range_text register.first.width ++ register.name ++ codes " = "
     ++ constant_text register.first
     ++ codes ";")
 
--- the declaration of the wire of this number with its expression (6.1.1), and those of the wires from this number on
+-- the declaration of the wire of this number with its expression (6.1.1)
 abbrev pub wire_line : Module → ℕ → Wire → List ℕ
 wire_line m number wire =
     line (codes "  wire " ++ range_text wire.width ++ wire_name number ++ codes " = " ++ form_text m wire.form
     ++ codes ";")
 
+-- the declarations of wires from this number on
 abbrev pub wire_lines : Module → ℕ → List Wire → List ℕ
 wire_lines m number [] = []
 wire_lines m number (wire ∷ wires) = wire_line m number wire ++ wire_lines m (number + 1) wires
@@ -190,27 +206,32 @@ abbrev pub assign_line : Module → Output → List ℕ
 assign_line m output =
     line (codes "  assign " ++ output.name ++ codes " = " ++ operand_text m output.value ++ codes ";")
 
--- what a register takes at a rising edge, after these blanks (9.2.2)
+-- what a register's new value is written after (9.2.2)
 abbrev pub target : List ℕ → Register → List ℕ
 target blanks register = blanks ++ register.name ++ codes " <= "
 
+-- a register takes a value
 abbrev pub set_line : List ℕ → Register → List ℕ → List ℕ
 set_line blanks register value = line (target blanks register ++ value ++ codes ";")
 
+-- it takes its next value
 abbrev pub next_line : Module → List ℕ → Register → List ℕ
 next_line m blanks register = set_line blanks register (operand_text m register.next)
 
+-- it takes its first value
 abbrev pub first_line : Register → List ℕ
 first_line register = set_line (codes "      ") register (constant_text register.first)
 
--- at a rising edge registers take their first values where a reset of this name is 1, else the next ones
+-- the branch in which a reset of this name is 1
 abbrev pub first_branch : Module → List ℕ → List ℕ
 first_branch m reset = line (codes "    if (" ++ reset ++ codes ") begin") ++ each first_line m.registers
 
+-- the other branch
 abbrev pub next_branch : Module → List ℕ
 next_branch m =
     line (codes "    end else begin") ++ each (next_line m (codes "      ")) m.registers ++ line (codes "    end")
 
+-- both branches
 abbrev pub either : Module → List ℕ → List ℕ
 either m reset = first_branch m reset ++ next_branch m
 
@@ -221,11 +242,12 @@ block m (Some reset) = either m reset
 
 -- ---- modules
 
--- the port of the reset and its declaration, if there is one
+-- the port of the reset, if there is one
 abbrev pub reset_port : Option (List ℕ) → List ℕ
 reset_port None = []
 reset_port (Some reset) = port_text reset
 
+-- its declaration, if there is one
 abbrev pub reset_line : Option (List ℕ) → List ℕ
 reset_line None = []
 reset_line (Some reset) = input_line 1 reset
@@ -235,14 +257,17 @@ unfoldable pub ports_text : Module → List ℕ
 ports_text m =
     reset_port m.reset ++ each input_port m.inputs ++ each output_port m.outputs ++ each register_port m.registers
 
+-- the line with the ports
 unfoldable pub head_text : Module → List ℕ
 head_text m = line (codes "module " ++ m.name ++ codes "(" ++ m.clock ++ ports_text m ++ codes ");")
 
+-- declarations, wires and outputs
 unfoldable pub declarations_text : Module → List ℕ
 declarations_text m =
     input_line 1 m.clock ++ reset_line m.reset ++ each port_line m.inputs ++ each output_line m.outputs
     ++ each register_line m.registers ++ wire_lines m 0 m.wires ++ each (assign_line m) m.outputs
 
+-- the block of the clock
 unfoldable pub block_text : Module → List ℕ
 block_text m =
     line (codes "  always @(posedge " ++ m.clock ++ codes ") begin") ++ block m m.reset ++ line (codes "  end")

@@ -1,6 +1,5 @@
 -- When a text is the Verilog module of a circuit: its ports and registers are the circuit's by name and order, and its
--- run by
--- IEEE 1364-2005 is the circuit's.
+-- run by IEEE 1364-2005 is the circuit's.
 use Rattle.std.specs.Prelude.{◌≡◌, ℕ, Bool, false, if◌then◌else◌, None, Some, List, ◌++◌, All, AllPairs, ◌≢◌, codes, map}
 use Rattle.net_graph.specs.Nets.{width_at, widths_of}
 use Rattle.one_rule.specs.Stimulus.{AlwaysFits, InputVectors, inputs_of}
@@ -36,8 +35,7 @@ pub record HasNames (c : Wires) : Type 0 where
   pub distinct : AllPairs (λ a b. a ≢ b) (names_of c)
 
 -- The module has an input for each of the circuit's, an output for each output and a register for each state, in order
--- and
--- of the same names, widths and first values. A clock is there always, a reset and the registers among the ports as
+-- and of the same names, widths and first values. A clock is there always, a reset and the registers among the ports as
 -- asked.
 pub record HasParts (c : Wires) (options : Options) (m : Module) : Type 0 where
   pub name : m.name ≡ own_name (names_of c) (codes "koika")
@@ -57,8 +55,7 @@ abbrev pub IsNeverReset : Module → (ℕ → Bool) → Type 0
 IsNeverReset m resets = (cycle : ℕ) → run.is_reset m.reset (resets cycle) ≡ false
 
 -- on every stimulus for the circuit's inputs, where the reset is 1 in no cycle, the module's rows of every number of
--- cycles
--- are the circuit's
+-- cycles are the circuit's
 abbrev pub RunsAs : Wires → Module → Type 0
 RunsAs c m = (stimulus : InputVectors) (resets : ℕ → Bool) (n : ℕ)
     → stimulus.widths ≡ input_widths c.inputs → AlwaysFits stimulus → IsNeverReset m resets

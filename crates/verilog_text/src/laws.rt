@@ -6,3 +6,8 @@ ghost use Rattle.verilog_text.specs.Laws as law;
 pub fn a_reset_leaves_the_first_values()
     ensures { law.LeaveFirstValues }
 {}
+
+/// A text is that of one module at most.
+pub fn texts_have_one_module()
+    ensures { law.HaveOneModule }
+{}

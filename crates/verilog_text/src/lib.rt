@@ -17,5 +17,5 @@ mod text;
 mod verilog;
 mod words;
 
-pub use laws::a_reset_leaves_the_first_values;
+pub use laws::{a_reset_leaves_the_first_values, texts_have_one_module};
 pub use verilog::{Options, module_text};

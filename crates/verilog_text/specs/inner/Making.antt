@@ -52,6 +52,7 @@ one_form net_ones.RedXor width a = One ones.RedXor a
 abbrev pub least : BitVector → ℕ
 least value = min value.number value.width
 
+-- the amount of a shift
 abbrev pub amount : Operand → Operand
 amount (Constant value) = Constant (record { width = value.width; number = least value })
 amount other = other
@@ -108,10 +109,12 @@ abbrev pub zext_of : Operand → ℕ → Piece
 zext_of operand added =
     if added == 0 then Same operand else Made (Two twos.Join (Constant (zero_at added)) operand)
 
+-- copies of the highest bit above an operand that has it
 abbrev pub sext_piece : Operand → ℕ → ℕ → Piece
 sext_piece (Constant value) width added = Same (Constant (op.sext value (width + added)))
 sext_piece other width added = Made (Extension other (width - 1) added)
 
+-- the same, where there may be none
 abbrev pub sext_of : Operand → ℕ → ℕ → Piece
 sext_of operand width added = if added == 0 then Same operand else sext_piece operand width added
 
@@ -145,33 +148,41 @@ with_nodes widths d [] = d
 with_nodes widths d (node ∷ more) =
     with_nodes widths (with_piece d (width_at widths (length d.operands)) (piece_of widths d.operands node)) more
 
+-- no nodes
 abbrev pub blank : Draft
 blank = record { wires = []; operands = [] }
 
+-- all nodes of a net
 unfoldable pub draft_of : List NetOp → Draft
 draft_of net = with_nodes (widths_of net) blank net
 
 -- ---- modules
 
--- whether an input, an output or a state has a name
+-- whether an input has a name
 abbrev pub is_input : List InputWire → List ℕ → Bool
 is_input inputs name = list_any (λ (wire : InputWire). bytes_eq wire.name name) inputs
 
+-- whether an output has a name
 abbrev pub is_output : List OutputWire → List ℕ → Bool
 is_output outputs name = list_any (λ (wire : OutputWire). bytes_eq wire.name name) outputs
 
+-- whether a state has a name
 abbrev pub is_state : List StateWire → List ℕ → Bool
 is_state states name = list_any (λ (wire : StateWire). bytes_eq wire.name name) states
 
+-- whether one of them has it
 abbrev pub has_name : List InputWire → List OutputWire → List StateWire → List ℕ → Bool
 has_name inputs outputs states name = is_input inputs name || is_output outputs name || is_state states name
 
+-- the input of a wire
 abbrev pub input_of : InputWire → Port
 input_of wire = record { name = written wire.name; width = wire.width }
 
+-- the output of a wire
 abbrev pub output_of : List Operand → OutputWire → Output
 output_of operands wire = record { name = written wire.name; value = operand_at operands wire.id }
 
+-- the register of a state
 abbrev pub register_of : Bool → List Operand → StateWire → Register
 register_of are_ports operands wire =
     record { name = written wire.name; is_port = are_ports; first = wire.first; next = operand_at operands wire.next }

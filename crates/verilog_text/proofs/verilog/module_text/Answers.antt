@@ -1,8 +1,9 @@
-use Rattle.std.proofs.Common.{◌≡◌, ap, subst, ◌∙◌}
+use Rattle.std.proofs.Common.{◌≡◌, ◌^◌, ◌<◌, length, ap, subst, ◌∙◌}
 use Rattle.circuit_eval.specs.Circuits.{IsCircuit}
 use Rattle.circuit_eval.specs.declared.circuit.Wires.{Wires}
 use Rattle.verilog_text.specs.Texts.{text_of}
 use Rattle.verilog_text.specs.declared.draft.Draft.{Draft}
+use Rattle.verilog_text.specs.declared.module.Module.{Module}
 use Rattle.verilog_text.specs.declared.verilog.Options.{Options}
 use Rattle.verilog_text.specs.inner.Making.{draft_of, module_of, module_with}
 use Rattle.verilog_text.proofs.NamedModules.{are-named}
@@ -21,7 +22,8 @@ returns c =
     record {
       of = module_of circuit options;
       printed = c.in_ok-text.ensures ∙ ap text_of same;
-      legal = is-legal circuit options valid c.requires;
+      legal = is-legal circuit options valid c.requires
+          (subst (λ (m : Module). length m.wires < 2 ^ 64) same c.has_few_wires.ensures);
       named = λ names. are-named circuit names (draft_of circuit.net) options;
       parts = parts circuit options valid c.requires;
       run = runs circuit options valid c.requires;
