@@ -15,6 +15,7 @@ Rename = collections.namedtuple("Rename", "crate kind module old new")
 # A name of antt with its modules, and one of Rust with its modules.
 CHAIN = re.compile(r"[^\s(){}\[\],;:@\"`]+")
 PATH = re.compile(r"[A-Za-z_]\w*(?:::[A-Za-z_]\w*)*")
+MASK = "\0"
 # An import of Rust.
 USE = re.compile(r"(^ *(?:pub(?:\([a-z ]+\))? )?use )((?!Rattle\.)[^;]*);", re.M)
 
@@ -157,20 +158,21 @@ class Change:
         local |= {old: one.new for old, one in self.homes.get(place_of(path), {}).items()}
         changed = {old: new for old, new in local.items() if old != new}
         self.look_for_clashes(path, changed)
-        is_data = False
+        text, is_of = masked("\n".join(lines)), ""
+        lines = text.split("\n")
         for number, line in enumerate(lines):
             if not line.startswith(" "):
-                is_data = re.match(r"(\w+ )*data ", line) is not None
-            if IMPORT.match(line):
-                continue
-            lines[number] = self.antt_line(line, changed, modules, is_data and line.startswith(" "))
-        return "\n".join(lines)
+                is_of = (re.match(r"(?:\w+ )*(data|record) ", line) or [None, ""])[1]
+            if not IMPORT.match(line):
+                lines[number] = self.antt_line(line, changed, modules, is_of if line.startswith(" ") else "")
+        return "\n".join(lines).replace(MASK, "")
 
-    def antt_line(self, line, changed, modules, is_case=False):
+    def antt_line(self, line, changed, modules, is_of=""):
         if line.lstrip().startswith("--"):
             return in_quotes(line, changed)
-        # (a case of a data type keeps its name)
-        begin = re.match(r"\s+(?:pub )?\S+ : ", line)[0] if is_case and re.match(r"\s+(?:pub )?\S+ : ", line) else ""
+        # (a case of a data type and a field of a record keep their names)
+        begin = re.match(r"\s+(?:pub )?[^():{}]+ : ", line)
+        begin = begin[0] if is_of and begin else ""
         return begin + CHAIN.sub(lambda it: self.chained(it[0], changed, modules), line[len(begin) :])
 
     # ---- names of Rust
@@ -191,7 +193,8 @@ class Change:
         for first, end in clauses_of(text):
             said.append(self.rust_code(at, text[last:first], scope))
             said.append("\n".join(
-                line if IMPORT.match(line) else self.clause_line(line, ghost, modules) for line in text[first:end].split("\n")))
+                line if IMPORT.match(line) else self.clause_line(line, ghost, modules) for line in masked(text[first:end]).split("\n"))
+                .replace(MASK, ""))
             last = end
         said.append(self.rust_code(at, text[last:], scope))
         return "".join(said)
@@ -367,6 +370,11 @@ class Change:
                             new = re.sub(rf"(?<=[-+]){re.escape(old)}(?=$|[-+])", one.new, new)
                     if new != name:
                         yield f"{folder}/{name}", f"{folder}/{new}"
+
+
+def masked(text):
+    """A text in which the names of fields that records are given are no names: those between `{` or `;` and `=`."""
+    return re.sub(r"([{;]\s*)(?=[^\s(){}\[\],;:@\"`.]+ = )", rf"\g<1>{MASK}", text)
 
 
 def in_quotes(line, changed):
