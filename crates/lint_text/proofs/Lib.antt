@@ -1,0 +1,7 @@
+pub mod Found
+pub mod Marked
+pub mod NeverOne
+pub mod Noted
+pub mod Orders
+pub mod Ranges
+pub mod Sizes

@@ -1,0 +1,22 @@
+//! Lint's text: what is noted of a design before its first run, and how it is written.
+//!
+//! `specs/Notes.antt` says which notes there are, `specs/Text.antt` how they are written, `specs/Never.antt` which outputs
+//! of a circuit are never 1, and `specs/Lint.antt` which texts may be written of a design. `specs/Findings.antt` says what is
+//! found of it first; the lists of accesses are those of `lab_lint`. No command uses it yet.
+#![tactic(auto)]
+
+mod findings;
+mod flags;
+mod never;
+mod note;
+mod notes;
+mod places;
+mod shown;
+mod text;
+mod uses;
+mod words;
+
+pub use findings::Findings;
+pub use never::never_one;
+pub use note::{Note, Use};
+pub use places::{Places, places_in};
