@@ -18,4 +18,5 @@ mod verilog;
 mod words;
 
 pub use laws::{a_reset_leaves_the_first_values, texts_have_one_module};
+pub use module::{Form, Infix, Module, Operand, Output, Port, Prefix, Register, Wire};
 pub use verilog::{Options, module_text};

@@ -4,7 +4,7 @@ use kw_bits::{Bits, Sequence, Text};
 
 /// What stands in an expression: a constant, or an input, a register or a wire by its number.
 #[derive(Clone, Copy)]
-pub(crate) enum Operand {
+pub enum Operand {
     Constant(Bits),
     Input(u32),
     Register(u32),
@@ -13,7 +13,7 @@ pub(crate) enum Operand {
 
 /// The operators on one operand.
 #[derive(Clone, Copy)]
-pub(crate) enum Prefix {
+pub enum Prefix {
     Not,
     Neg,
     RedAnd,
@@ -23,7 +23,7 @@ pub(crate) enum Prefix {
 
 /// The expressions over two operands.
 #[derive(Clone, Copy)]
-pub(crate) enum Infix {
+pub enum Infix {
     And,
     Or,
     Xor,
@@ -47,7 +47,7 @@ pub(crate) enum Infix {
 
 /// The expression of a wire.
 #[derive(Clone, Copy)]
-pub(crate) enum Form {
+pub enum Form {
     /// An operator on one operand.
     One(Prefix, Operand),
     /// An expression over two operands.
@@ -62,44 +62,44 @@ pub(crate) enum Form {
 
 /// A wire: its width and its expression. Its number is how many wires are before it.
 #[derive(Clone, Copy)]
-pub(crate) struct Wire {
-    pub(crate) width: u32,
-    pub(crate) form: Form,
+pub struct Wire {
+    pub width: u32,
+    pub form: Form,
 }
 
 /// An input: its name and its width.
 #[derive(Drop)]
-pub(crate) struct Port {
-    pub(crate) name: Text,
-    pub(crate) width: u32,
+pub struct Port {
+    pub name: Text,
+    pub width: u32,
 }
 
 /// An output of one bit: its name and its value.
 #[derive(Drop)]
-pub(crate) struct Output {
-    pub(crate) name: Text,
-    pub(crate) value: Operand,
+pub struct Output {
+    pub name: Text,
+    pub value: Operand,
 }
 
 /// A register: its name, whether it is an output too, its first value and the value that it takes at a rising edge of
 /// the clock.
 #[derive(Drop)]
-pub(crate) struct Register {
-    pub(crate) name: Text,
-    pub(crate) is_port: bool,
-    pub(crate) first: Bits,
-    pub(crate) next: Operand,
+pub struct Register {
+    pub name: Text,
+    pub is_port: bool,
+    pub first: Bits,
+    pub next: Operand,
 }
 
 /// A module. Names are as they are written.
 #[derive(Drop)]
-pub(crate) struct Module {
-    pub(crate) name: Text,
-    pub(crate) clock: Text,
+pub struct Module {
+    pub name: Text,
+    pub clock: Text,
     /// The input that gives registers their first values, if there is one.
-    pub(crate) reset: Option<Text>,
-    pub(crate) inputs: Sequence<Port>,
-    pub(crate) outputs: Sequence<Output>,
-    pub(crate) registers: Sequence<Register>,
-    pub(crate) wires: Sequence<Wire>,
+    pub reset: Option<Text>,
+    pub inputs: Sequence<Port>,
+    pub outputs: Sequence<Output>,
+    pub registers: Sequence<Register>,
+    pub wires: Sequence<Wire>,
 }
