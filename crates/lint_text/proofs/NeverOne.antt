@@ -1,6 +1,6 @@
 -- Outputs that are the constant 0 are 0 in every run.
-use Rattle.std.proofs.Common.{◌≡◌, ℕ, zero, suc, ◌+◌, Bool, true, false, cond, eqb, filter, List, [], ◌∷◌, length, map, get_or, nat_eq, eqb-true, arith, refl, sym, ap, ap₂, subst, ◌∙◌}
-use Rattle.std.specs.Prelude.{All, Option, Some, None, slice_get, slice_index_or, ◌==◌}
+use Rattle.std.proofs.Common.{◌≡◌, ℕ, zero, suc, ◌+◌, Bool, true, false, cond, filter, List, [], ◌∷◌, map, get_or, nat_eq, eqb-true, arith, refl, sym, ap, subst, ◌∙◌}
+use Rattle.std.specs.Prelude.{All, Option, Some, None, slice_get}
 use Rattle.std.proofs.lemmas.Option.{none-some}
 use Rattle.kw_bits.specs.BitVector.{BitVector}
 use Rattle.net_graph.specs.Laws.{Feeds}
@@ -15,12 +15,12 @@ use Rattle.one_rule.specs.Run.{InputsByCycle}
 use Rattle.one_rule.specs.Stimulus.{inputs_of}
 use Rattle.one_rule.specs.declared.rows.Row.{Row}
 use Rattle.circuit_eval.specs.Circuits.{AreBits, IsCircuit, input_widths, state_widths}
-use Rattle.circuit_eval.specs.Run.{first_row, first_states, flags, is_one, is_one_bit, outputs_in, row_after, rows_after, run_of, values_in, zero_outputs}
+use Rattle.circuit_eval.specs.Run.{first_row, first_states, flags, is_one, is_one_bit, row_after, rows_after}
 use Rattle.circuit_eval.specs.declared.circuit.OutputWire.{OutputWire}
 use Rattle.circuit_eval.specs.declared.circuit.Wires.{Wires}
 use Rattle.circuit_eval.proofs.Fitting.{first_states-AreBits, next_states-AreBits, step_feeds}
 use Rattle.circuit_eval.proofs.Stimuli.{HaveWidths-AreBits}
-use Rattle.lint_text.specs.Never.{AreNeverOne, HasFlags, IsNeverOne}
+use Rattle.lint_text.specs.Never.{HasFlags, IsNeverOne}
 use Rattle.lint_text.specs.inner.Zeros.{is_zero, is_zero_node, is_zero_op}
 
 -- ---- flags

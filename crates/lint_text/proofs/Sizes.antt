@@ -1,8 +1,8 @@
 -- The weights and the depths of a typed design's rules are within the limits, so they are counted as they are.
-use Rattle.std.proofs.Common.{◌≡◌, ℕ, ◌+◌, ◌≤◌, List, [], ◌∷◌, map, max, min, refl, ap, ap₂, ◌∙◌, arith}
+use Rattle.std.proofs.Common.{◌≡◌, ℕ, ◌+◌, ◌≤◌, List, [], ◌∷◌, map, min, refl, ap, ap₂, ◌∙◌, arith}
 use Rattle.std.proofs.lemmas.List.Sums.{sum_by-cons}
 use Rattle.koika_check.specs.Capped.{capped}
-use Rattle.koika_check.specs.Sizes.{Size, deepest, depths, node_weights, rule_sizes, weights}
+use Rattle.koika_check.specs.Sizes.{Size, depths, rule_sizes, weights}
 use Rattle.koika_check.specs.Typing.{IsTypedDesign}
 use Rattle.koika_check.specs.declared.checked.Checked.{Checked}
 use Rattle.lint_text.specs.Notes.{sizes_from}

@@ -1,6 +1,6 @@
 -- How notes are written: a line for each, of tokens with one space between them. Accesses have the form of journals,
 -- without their register. This project's own text form.
-use Rattle.std.specs.Prelude.{ℕ, List, [], ◌∷◌, ◌++◌, map, codes, decimal, Option, Some, None, slice_get, if◌then◌else◌}
+use Rattle.std.specs.Prelude.{ℕ, List, [], ◌∷◌, ◌++◌, codes, decimal, Option, Some, None, slice_get, if◌then◌else◌}
 use Rattle.std.specs.List.{flat_map}
 use Rattle.kw_base.specs.declared.place.Place.{Place}
 use Rattle.typed_core.specs.declared.access.Access.{Access}
