@@ -1,5 +1,4 @@
 pub mod Findings
-pub mod Lint
 pub mod Never
 pub mod Notes
 pub mod Places

@@ -1,8 +1,8 @@
 //! Lint's text: what is noted of a design before its first run, and how it is written.
 //!
-//! `specs/Notes.antt` says which notes there are, `specs/Text.antt` how they are written, `specs/Never.antt` which outputs
-//! of a circuit are never 1, and `specs/Lint.antt` which texts may be written of a design. `specs/Findings.antt` says what is
-//! found of it first; the lists of accesses are those of `lab_lint`. No command uses it yet.
+//! `specs/Notes.antt` says which notes there are, `specs/Text.antt` how they are written, and `specs/Never.antt` which
+//! outputs of a circuit are never 1. `specs/Findings.antt` says what is found of a design first; the lists of accesses are
+//! those of `lab_lint`. No command uses it yet.
 #![tactic(auto)]
 
 mod findings;
