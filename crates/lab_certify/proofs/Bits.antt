@@ -9,7 +9,6 @@ use Rattle.koika_check.specs.declared.checked.Checked.{Checked}
 use Rattle.koika_check.specs.declared.checked.Register.{Register}
 use Rattle.front_end.specs.Aigs.{IsAigOf}
 use Rattle.front_end.specs.Sources.{name_of}
-use Rattle.front_end.specs.Systems.{first_values}
 use Rattle.front_end.proofs.FirstValues.{aig-first}
 use Rattle.aig_blast.specs.AigRun.{first_words}
 use Rattle.aig_blast.specs.Aigs.{AigParts}
@@ -19,7 +18,7 @@ use Rattle.clause_check.specs.Clauses.{Clause}
 use Rattle.invariant_check.specs.Bits as bits
 use Rattle.invariant_check.specs.Bits.{bit_names}
 use Rattle.invariant_check.specs.Invariants.{invariant_of}
-use Rattle.lab_certify.specs.Claims.{InvariantPart, invariant_in, register_bits}
+use Rattle.lab_certify.specs.Claims.{invariant_in, register_bits}
 
 bits_by : List Register → List (List ℕ)
 bits_by [] = []

@@ -1,7 +1,6 @@
 -- What holds in every run of a design's bit-level circuit holds in every run of the design.
-use Rattle.std.proofs.Common.{◌≡◌, List, sym, subst, ◌∙◌}
+use Rattle.std.proofs.Common.{List, sym, subst, ◌∙◌}
 use Rattle.std.specs.Prelude.{All}
-use Rattle.one_rule.specs.Stimulus.{inputs_of}
 use Rattle.one_rule.specs.declared.rows.Row.{Row}
 use Rattle.front_end.specs.Aigs.{IsAigOf}
 use Rattle.aig_blast.specs.Aigs.{AigParts}

@@ -1,5 +1,4 @@
 pub mod Bits
 pub mod Holding
-pub mod Naming
 pub mod OneClaim
 pub mod SomeClaim

@@ -1,18 +1,16 @@
 -- A source claims one thing, or has one fault; and with one circuit it has one answer.
-use Rattle.std.proofs.Common.{◌≡◌, ◌⊎◌, ◌<◌, ◌≤◌, ℕ, List, ◌∷◌, length, Option, Some, None, Result, Ok, Err, refl, sym, ap, ap₂, subst, ◌∙◌, inl, inr, arith}
+use Rattle.std.proofs.Common.{◌≡◌, ◌⊎◌, ◌<◌, ◌≤◌, ℕ, List, Option, Some, None, sym, ap, subst, ◌∙◌, inl, inr, arith}
 use Rattle.kw_base.specs.declared.fault.Fault.{Fault}
 use Rattle.kw_bits.specs.declared.host.HostSpec.{HostSpec}
 use Rattle.koika_check.specs.BitWeights.{bit_weight}
 use Rattle.koika_check.specs.declared.checked.Checked.{Checked}
-use Rattle.one_rule.specs.Stimulus.{InputVectors}
 use Rattle.front_end.specs.Aigs.{most_bits}
 use Rattle.front_end.specs.Certified.{HasNoParts}
 use Rattle.front_end.proofs.OneCertified.{no_parts-same, one_design, parts_or_not}
 use Rattle.front_end.proofs.Results.{err-same, ok-same, ok_or_err}
 use Rattle.aig_blast.specs.Aigs.{AigParts}
-use Rattle.clause_check.specs.Clauses.{Clause}
 use Rattle.invariant_check.specs.Texts.{text_of}
-use Rattle.lab_certify.specs.Certificates.{IsUncertified, IsUnrefuted, ShowsCertified, ShowsObligation, claim_text, fault_in, obligation_in}
+use Rattle.lab_certify.specs.Certificates.{IsUncertified, ShowsCertified, ShowsObligation, claim_text, fault_in, obligation_in}
 use Rattle.lab_certify.specs.Claims.{Claim, Claims, HasNoClaim, HasNoInvariant, HasTooManyBits, InvariantPart, NamesNoRule, SpellsLight, claimed_of, invariant_in, last_part, third_part}
 
 not_both : (m n : ℕ) → m < n → n ≤ m → ⊥

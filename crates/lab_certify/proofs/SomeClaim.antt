@@ -1,5 +1,5 @@
 -- A source claims something, or has a fault.
-use Rattle.std.proofs.Common.{◌≡◌, ◌⊎◌, ◌<◌, ◌≤◌, ℕ, List, length, Option, Some, None, Result, Ok, Err, refl, inl, inr, arith, ⊎_elim}
+use Rattle.std.proofs.Common.{◌≡◌, ◌⊎◌, ℕ, List, Option, Some, None, Result, Ok, Err, refl, inl, inr, ⊎_elim}
 use Rattle.std.proofs.lemmas.Bool.{cases_lt}
 use Rattle.kw_base.specs.declared.fault.Fault.{Fault}
 use Rattle.kw_bits.specs.declared.host.HostSpec.{HostSpec}
@@ -10,7 +10,6 @@ use Rattle.front_end.specs.Aigs.{most_bits}
 use Rattle.front_end.specs.Certified.{SpellsBoth}
 use Rattle.front_end.specs.Sources.{fault_of_source}
 use Rattle.front_end.proofs.OneCertified.{parts_or_fault}
-use Rattle.clause_check.specs.Clauses.{Clause}
 use Rattle.lab_certify.specs.Claims.{Claim, Claims, HasNoClaim, InvariantPart, SpellsLight, claimed_of, invariant_in}
 
 option_cases : {X : Type 0} (found : Option X) → ((x : X) × (found ≡ Some x)) ⊎ (found ≡ None)

@@ -1,5 +1,4 @@
 use Rattle.std.proofs.Common.{subst}
-use Rattle.clause_check.specs.Clauses.{Cnf}
 use Rattle.lab_certify.specs.Certificates.{KeepsPromise}
 use Rattle.lab_certify.specs.inner.Read.{claim_of}
 use Rattle.lab_certify.proofs.Bits.{outputs-within}
