@@ -18,8 +18,8 @@ use Rattle.lab_top.specs.declared.answer.LabAnswer.TheVariants.{Usage, Refused, 
 use Rattle.lab_top.specs.declared.status.LabStatus.{LabStatus}
 use Rattle.lab_top.specs.declared.status.LabStatus.TheVariants as statuses
 use Rattle.lab_top.specs.declared.words.Command.{Command}
-use Rattle.lab_top.specs.declared.words.Command.TheVariants.{Why, Profile, Waves}
-use Rattle.lab_top.proofs.OneAnswer.{asked-same}
+use Rattle.lab_top.specs.declared.words.Command.TheVariants.{Why, Profile, Waves, Verilog}
+use Rattle.lab_top.proofs.OneAnswer.{asked-like, asked-same}
 
 ends-agree : (a : LabAnswer) → ends (answered a) ≡ status_of (plain a)
 ends-agree Usage = refl
@@ -55,14 +55,15 @@ replies : (hosts : List HostSpec) (command : Command) (bytes : List ℕ) (a : La
 replies hosts (Why cycle cycles name) bytes Usage h = h
 replies hosts (Profile cycles is_strict) bytes Usage h = h
 replies hosts (Waves cycles) bytes Usage h = h
+replies hosts (Verilog ports) bytes Usage h = h
 replies hosts command bytes (Refused fault) h = tt
 replies hosts command bytes (Written text) h = tt
 replies hosts command bytes (Failed text) h = tt
 
 pub definite : IsDefinite lab
 definite = record {
-  status = λ hosts words bytes a b h k. ap answered (asked-same hosts (command_of words) bytes a b h k);
-  text = λ hosts words bytes a b one h k. ap (text_in lab) (asked-same hosts (command_of words) bytes a b h k);
+  status = λ hosts words bytes a b h k. (asked-like hosts (command_of words) bytes a b h k).status;
+  text = λ hosts words bytes a b one h k. ap (text_in lab) (asked-same hosts (command_of words) bytes a b one h k);
   reply = replies;
 }
 

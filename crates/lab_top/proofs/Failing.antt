@@ -1,4 +1,4 @@
--- Which calls of the lab fail.
+-- Which calls of the lab fail, and that all is kept that is promised of a call.
 use Rattle.std.proofs.Common.{◌≡◌, ◌&&◌, ℕ, Bool, true, false, Option, Some, refl, sym, ap, ◌∙◌}
 use Rattle.front_end.specs.Calls as calls
 use Rattle.front_end.specs.declared.status.Status.{Status}
@@ -10,6 +10,7 @@ use Rattle.lab_top.specs.declared.status.LabStatus.{LabStatus}
 use Rattle.lab_top.specs.declared.status.LabStatus.TheVariants as statuses
 use Rattle.lab_top.specs.declared.words.Command.{Command}
 use Rattle.lab_top.specs.declared.words.Command.TheVariants.{Profile}
+use Rattle.lab_top.proofs.Taking.{takes-spelled}
 
 -- a status is that of a failure only where it is asked to be
 failed-done : (fails : Bool) → done_if fails ≡ statuses.Failed → fails ≡ true
@@ -45,4 +46,4 @@ fails-asked command asked result is fails failed =
 
 -- a call that keeps what any program promises, and fails only so, keeps all that the lab promises
 pub kept-all : (untouched : Type 0) (c : Call) → calls.IsKept lab untouched c → FailsIfStrict c → IsKept untouched c
-kept-all untouched c any fails = record { any = any; fails = fails }
+kept-all untouched c any fails = record { any = any; fails = fails; takes = takes-spelled untouched c any }

@@ -11,6 +11,8 @@ pub mod Reading
 pub mod WhyTexts
 pub mod Counts
 pub mod Telling
+pub mod Taking
+pub mod Modules
 pub mod Failing
 pub mod WaveRuns
 pub mod WavesOfSources

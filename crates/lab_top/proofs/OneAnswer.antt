@@ -1,23 +1,27 @@
--- Words and a source have one answer.
+-- Words and a source have one answer, or answers that are alike.
 use Rattle.std.proofs.Common.{◌≡◌, ◌⊎◌, ◌&&◌, ℕ, inl, inr, Bool, true, false, true≢false, List, Option, Some, None, refl, sym, ap, ◌∙◌}
 use Rattle.std.specs.Prelude.{MatchOption}
+use Rattle.std.proofs.lemmas.Bool.{false≢true}
 use Rattle.kw_base.specs.declared.fault.Fault.{Fault}
 use Rattle.kw_bits.specs.declared.host.HostSpec.{HostSpec}
 use Rattle.koika_check.specs.declared.checked.Checked.{Checked}
 use Rattle.one_rule.specs.Stimulus.{InputVectors, inputs_of}
 use Rattle.front_end.specs.Lengths.{HasNoRun, is_too_long_for}
-use Rattle.front_end.specs.Sources.{IsTooLong, Spells}
+use Rattle.front_end.specs.Sources.{IsTooLong, IsUnspelled, Spells}
 use Rattle.front_end.specs.declared.answer.Answer.TheVariants as plain_answers
-use Rattle.front_end.proofs.OneSource.{long_or_no_run, long_or_spelled, no_run-same, run_or_long, same_design, same_stimulus}
-use Rattle.lab_top.specs.Answer.{Answers, plain}
+use Rattle.front_end.proofs.OneSource.{long_or_no_run, long_or_spelled, long_or_unspelled, no_run-same, run_or_long, same_design, same_stimulus, spelled_or_not, unspelled-same}
+use Rattle.lab_top.specs.Answer.{Answers, IsLikeAnswer, answered, has_one_text, plain}
+use Rattle.lab_top.specs.OfDesigns.{AnswersOf}
 use Rattle.lab_top.specs.Profile.{AnswersProfile, ShowsProfile}
 use Rattle.lab_top.specs.Runs.{asked_of, is_in_doubt, profile_in, waves_in, why_text}
+use Rattle.lab_top.specs.Verilog.{IsModuleOf}
 use Rattle.lab_top.specs.Waves.{AnswersWaves, ShowsWaves}
 use Rattle.lab_top.specs.Why.{AnswersWhy, NamesNoRule, ShowsWhy, last_of}
 use Rattle.lab_top.specs.declared.answer.LabAnswer.{LabAnswer}
 use Rattle.lab_top.specs.declared.answer.LabAnswer.TheVariants.{Usage, Refused, Written, Failed}
+use Rattle.lab_top.specs.declared.status.LabStatus.TheVariants as statuses
 use Rattle.lab_top.specs.declared.words.Command.{Command}
-use Rattle.lab_top.specs.declared.words.Command.TheVariants.{Why, Profile, Waves}
+use Rattle.lab_top.specs.declared.words.Command.TheVariants.{Why, Profile, Waves, Verilog}
 
 module _ (hosts : List HostSpec) (source : List ℕ) where
   -- two sources' designs and stimuli are one
@@ -127,6 +131,39 @@ module _ (hosts : List HostSpec) (source : List ℕ) where
         absurd (refused_or_run cycles g h.design h.stimulus k h.spelled h.within)
     waves-same (Written text) (Written other) h k = ap (λ x. Written x) (dumps text other h k)
 
+  -- ---- texts of designs
+
+  abbrev IsUntold : Fault → Type 0
+  IsUntold f = IsTooLong source f ⊎ IsUnspelled hosts source f
+
+  untold-same : (f g : Fault) → IsUntold f → IsUntold g → f ≡ g
+  untold-same f g (inl a) (inl b) = a.0 ∙ sym b.0
+  untold-same f g (inl a) (inr b) = absurd (long_or_unspelled hosts source f g a b)
+  untold-same f g (inr a) (inl b) = absurd (long_or_unspelled hosts source g f b a)
+  untold-same f g (inr a) (inr b) = unspelled-same hosts source f g a b
+
+  -- no source both spells a design and a stimulus and is refused
+  pub spelled_or_untold : (f : Fault) (d : Checked) (s : InputVectors) → IsUntold f → Spells hosts source d s → ⊥
+  spelled_or_untold f d s (inl long) spelled = long_or_spelled hosts source f d long spelled.spelled
+  spelled_or_untold f d s (inr fault) spelled = spelled_or_not hosts source f d s fault spelled
+
+  module _ (IsTextOf : Checked → List ℕ → Type 0) where
+    pub of-like : (a b : LabAnswer) → AnswersOf IsTextOf hosts source a → AnswersOf IsTextOf hosts source b → IsLikeAnswer a b
+    of-like Usage b h k = absurd h
+    of-like (Failed text) b h k = absurd h
+    of-like (Refused f) Usage h k = absurd k
+    of-like (Refused f) (Failed text) h k = absurd k
+    of-like (Refused f) (Refused g) h k =
+        record { status = refl; refusal = λ _. ap (λ x. Refused x) (untold-same f g h k) }
+    of-like (Refused f) (Written text) h k = absurd (spelled_or_untold f k.design k.stimulus h k.spelled)
+    of-like (Written text) Usage h k = absurd k
+    of-like (Written text) (Failed other) h k = absurd k
+    of-like (Written text) (Refused g) h k = absurd (spelled_or_untold g h.design h.stimulus k h.spelled)
+    of-like (Written text) (Written other) h k = record {
+      status = refl;
+      refusal = λ e. let bad : statuses.Done ≡ statuses.Refused = e in absurd cc;
+    }
+
 -- ---- words
 
 -- only how to use the lab is written as such
@@ -136,13 +173,30 @@ plain-usage (Refused fault) e = let bad : plain_answers.Refused fault ≡ plain_
 plain-usage (Written text) e = let bad : plain_answers.Written text ≡ plain_answers.Usage = e in absurd cc
 plain-usage (Failed text) e = let bad : plain_answers.Written text ≡ plain_answers.Usage = e in absurd cc
 
-command-same : (hosts : List HostSpec) (command : Command) (source : List ℕ) (a b : LabAnswer) → Answers hosts command source a → Answers hosts command source b → a ≡ b
-command-same hosts (Why cycle cycles name) source a b h k = why-same hosts source cycle cycles name a b h k
-command-same hosts (Profile cycles is_strict) source a b h k = profile-same hosts source cycles is_strict a b h k
-command-same hosts (Waves cycles) source a b h k = waves-same hosts source cycles a b h k
+-- equal answers are alike
+same-like : (a b : LabAnswer) → a ≡ b → IsLikeAnswer a b
+same-like a b same = record { status = ap answered same; refusal = λ _. same }
 
--- all answers are one
-pub asked-same : (hosts : List HostSpec) (command : Option Command) (source : List ℕ) (a b : LabAnswer) → MatchOption command (plain a ≡ plain_answers.Usage) (λ asked. Answers hosts asked source a)
+command-same : (hosts : List HostSpec) (command : Command) (source : List ℕ) (a b : LabAnswer) → has_one_text (Some command) ≡ true → Answers hosts command source a → Answers hosts command source b → a ≡ b
+command-same hosts (Why cycle cycles name) source a b one h k = why-same hosts source cycle cycles name a b h k
+command-same hosts (Profile cycles is_strict) source a b one h k = profile-same hosts source cycles is_strict a b h k
+command-same hosts (Waves cycles) source a b one h k = waves-same hosts source cycles a b h k
+command-same hosts (Verilog ports) source a b one h k = absurd (false≢true one)
+
+command-like : (hosts : List HostSpec) (command : Command) (source : List ℕ) (a b : LabAnswer) → Answers hosts command source a → Answers hosts command source b → IsLikeAnswer a b
+command-like hosts (Why cycle cycles name) source a b h k = same-like a b (why-same hosts source cycle cycles name a b h k)
+command-like hosts (Profile cycles is_strict) source a b h k = same-like a b (profile-same hosts source cycles is_strict a b h k)
+command-like hosts (Waves cycles) source a b h k = same-like a b (waves-same hosts source cycles a b h k)
+command-like hosts (Verilog ports) source a b h k = of-like hosts source (IsModuleOf ports) a b h k
+
+-- all answers are one, where there is one text
+pub asked-same : (hosts : List HostSpec) (command : Option Command) (source : List ℕ) (a b : LabAnswer) → has_one_text command ≡ true → MatchOption command (plain a ≡ plain_answers.Usage) (λ asked. Answers hosts asked source a)
     → MatchOption command (plain b ≡ plain_answers.Usage) (λ asked. Answers hosts asked source b) → a ≡ b
-asked-same hosts None source a b h k = plain-usage a h ∙ sym (plain-usage b k)
-asked-same hosts (Some command) source a b h k = command-same hosts command source a b h k
+asked-same hosts None source a b one h k = plain-usage a h ∙ sym (plain-usage b k)
+asked-same hosts (Some command) source a b one h k = command-same hosts command source a b one h k
+
+-- and all answers are alike
+pub asked-like : (hosts : List HostSpec) (command : Option Command) (source : List ℕ) (a b : LabAnswer) → MatchOption command (plain a ≡ plain_answers.Usage) (λ asked. Answers hosts asked source a)
+    → MatchOption command (plain b ≡ plain_answers.Usage) (λ asked. Answers hosts asked source b) → IsLikeAnswer a b
+asked-like hosts None source a b h k = same-like a b (plain-usage a h ∙ sym (plain-usage b k))
+asked-like hosts (Some command) source a b h k = command-like hosts command source a b h k

@@ -1,26 +1,33 @@
 -- What was read of a source is what the lab answers of it.
-use Rattle.std.proofs.Common.{◌≡◌, ◌<◌, ◌&&◌, ℕ, Bool, true, false, List, length, Option, Some, sym, ◌∙◌, inl}
+use Rattle.std.proofs.Common.{◌≡◌, ◌<◌, ◌&&◌, ℕ, Bool, true, false, List, length, Option, Some, Result, Ok, Err, sym, ◌∙◌, inl, inr}
+use Rattle.std.specs.Prelude.{IfOk}
+use Rattle.kw_base.specs.Fault.{IfFault}
+use Rattle.kw_base.specs.declared.fault.Refusal.{Refusal}
+use Rattle.kw_base.specs.declared.fault.Refusal.TheVariants as refusals
 use Rattle.kw_base.specs.declared.fault.Fault.{Fault}
 use Rattle.kw_bits.specs.declared.host.HostSpec.{HostSpec}
 use Rattle.koika_check.specs.declared.checked.Checked.{Checked}
 use Rattle.one_rule.specs.Stimulus.{InputVectors, inputs_of}
 use Rattle.front_end.specs.Lengths.{is_too_long_for}
-use Rattle.front_end.specs.Sources.{Spells, fault_of_source, longest_source}
+use Rattle.front_end.specs.Sources.{IsUnspelled, Spells, fault_of_source}
+use Rattle.front_end.specs.inner.Steps.{Makes}
 use Rattle.lab_top.specs.Answer.{Answers}
+use Rattle.lab_top.specs.OfDesigns.{AnswersOf, TellsOf}
 use Rattle.lab_top.specs.Profile.{AnswersProfile, CountsRun}
 use Rattle.lab_top.specs.Runs.{asked_of, waves_in, why_text}
 use Rattle.lab_top.specs.Waves.{AnswersWaves}
 use Rattle.lab_top.specs.Why.{AnswersWhy, last_of}
-use Rattle.lab_top.specs.inner.Steps.{text_if}
+use Rattle.lab_top.specs.inner.Steps.{answer_if, longest_of, text_if}
 use Rattle.lab_top.specs.declared.answer.LabAnswer.TheVariants.{Refused, Written}
 use Rattle.lab_top.specs.declared.words.Command.{Command}
-use Rattle.lab_top.specs.declared.words.Command.TheVariants.{Why, Profile, Waves}
+use Rattle.lab_top.specs.declared.words.Command.TheVariants.{Why, Profile, Waves, Verilog}
 
 -- a source that is too long is refused by each command
-pub refuses-long : (hosts : List HostSpec) (command : Command) (fault : Fault) → fault ≡ fault_of_source 40 → (bytes : List ℕ) → longest_source < length bytes → Answers hosts command bytes (Refused fault)
+pub refuses-long : (hosts : List HostSpec) (command : Command) (fault : Fault) → fault ≡ fault_of_source 40 → (bytes : List ℕ) → longest_of command < length bytes → Answers hosts command bytes (Refused fault)
 refuses-long hosts (Why cycle cycles name) fault is bytes long = inl (inl (is, long))
 refuses-long hosts (Profile cycles is_strict) fault is bytes long = inl (is, long)
 refuses-long hosts (Waves cycles) fault is bytes long = inl (is, long)
+refuses-long hosts (Verilog ports) fault is bytes long = inl (is, long)
 
 -- the text of a run that was read
 pub shows-why : (hosts : List HostSpec) (cycle cycles : ℕ) (name : Option (List ℕ)) (source : List ℕ) (d : Checked) (s : InputVectors) (c n : ℕ) (only : Option ℕ) → Spells hosts source d s → c ≡ cycle → n ≡ cycles
@@ -51,3 +58,10 @@ shows-waves hosts cycles source d s n spelled count within = record {
   within = (λ i. is_too_long_for (sym count i) d) ∙ within;
   told = λ i. waves_in d (inputs_of s) (count i);
 }
+
+-- what was made of a source's design
+pub makes-of : (IsTextOf : Checked → List ℕ → Type 0) (hosts : List HostSpec) (source : List ℕ) (made : Result (List ℕ) Refusal) → IfOk made (TellsOf IsTextOf hosts source) → IfFault made (IsUnspelled hosts source)
+    → Makes (λ answer. AnswersOf IsTextOf hosts source (answer_if false answer)) made
+makes-of IsTextOf hosts source (Ok text) told refused = told
+makes-of IsTextOf hosts source (Err (refusals.Fault fault)) told refused = inr refused
+makes-of IsTextOf hosts source (Err refusals.NoMemory) told refused = tt

@@ -1,7 +1,7 @@
 -- Words and a source have an answer.
 use Rattle.std.proofs.Common.{◌≡◌, ◌⊎◌, ◌&&◌, ℕ, inl, inr, Bool, true, false, List, length, Option, Some, None, refl, ⊎_elim}
 use Rattle.std.specs.Prelude.{MatchOption}
-use Rattle.std.proofs.lemmas.Bool.{cases_lt}
+use Rattle.std.proofs.lemmas.Bool.{cases_lt, false≢true}
 use Rattle.kw_base.specs.declared.fault.Fault.{Fault}
 use Rattle.kw_bits.specs.declared.host.HostSpec.{HostSpec}
 use Rattle.koika_check.specs.declared.checked.Checked.{Checked}
@@ -11,16 +11,19 @@ use Rattle.front_end.specs.Program.{IsAnswer}
 use Rattle.front_end.specs.Sources.{IsTooLong, Spells, fault_of_source, longest_source}
 use Rattle.front_end.specs.declared.answer.Answer.TheVariants as plain_answers
 use Rattle.front_end.proofs.SomeSource.{spelled_or_fault}
-use Rattle.lab_top.specs.Answer.{Answers, lab, plain}
+use Rattle.lab_top.specs.Answer.{Answers, is_answered, lab, plain}
+use Rattle.lab_top.specs.Calls.{takes_spelled}
+use Rattle.lab_top.specs.OfDesigns.{AnswersOf}
 use Rattle.lab_top.specs.Profile.{AnswersProfile, CountsRun}
 use Rattle.lab_top.specs.Runs.{asked_of, is_in_doubt, profile_in, waves_in, why_text}
+use Rattle.lab_top.specs.Verilog.{IsModuleOf}
 use Rattle.lab_top.specs.Waves.{AnswersWaves}
 use Rattle.lab_top.specs.Why.{AnswersWhy, last_of}
 use Rattle.lab_top.specs.Words.{command_of}
 use Rattle.lab_top.specs.declared.answer.LabAnswer.{LabAnswer}
 use Rattle.lab_top.specs.declared.answer.LabAnswer.TheVariants.{Usage, Refused, Written, Failed}
 use Rattle.lab_top.specs.declared.words.Command.{Command}
-use Rattle.lab_top.specs.declared.words.Command.TheVariants.{Why, Profile, Waves}
+use Rattle.lab_top.specs.declared.words.Command.TheVariants.{Why, Profile, Waves, Verilog}
 
 module _ (hosts : List HostSpec) (source : List ℕ) where
   -- the source has a run of that many cycles, or is refused
@@ -77,14 +80,33 @@ module _ (hosts : List HostSpec) (source : List ℕ) where
   waves_answer : (cycles : ℕ) → (answer : LabAnswer) × AnswersWaves hosts cycles source answer
   waves_answer cycles = ⊎_elim (λ run. drawn cycles run) (λ none. (Refused none.0, none.1)) (run_or_fault cycles)
 
-command_answer : (hosts : List HostSpec) (command : Command) (source : List ℕ) → (answer : LabAnswer) × Answers hosts command source answer
-command_answer hosts (Why cycle cycles name) source = why_answer hosts source cycle cycles name
-command_answer hosts (Profile cycles is_strict) source = profile_answer hosts source cycles is_strict
-command_answer hosts (Waves cycles) source = waves_answer hosts source cycles
+  -- a source is refused, or spells a design and a stimulus
+  abbrev IsSpelled : Type 0
+  IsSpelled = (d : Checked) × (s : InputVectors) × Spells hosts source d s
 
-asked_answer : (hosts : List HostSpec) (command : Option Command) (source : List ℕ) → (answer : LabAnswer) × MatchOption command (plain answer ≡ plain_answers.Usage) (λ asked. Answers hosts asked source answer)
-asked_answer hosts None source = (Usage, refl)
-asked_answer hosts (Some command) source = command_answer hosts command source
+  refused_or_told : (IsTextOf : Checked → List ℕ → Type 0) → ((f : Fault) × AnswersOf IsTextOf hosts source (Refused f)) ⊎ IsSpelled
+  refused_or_told IsTextOf =
+      ⊎_elim
+      (λ long. inl (fault_of_source 40, inl (refl, long)))
+      (λ short. ⊎_elim (λ found. inr found) (λ wrong. inl (wrong.0, inr wrong.1)) (spelled_or_fault hosts source short))
+      (cases_lt longest_source (length source))
 
-pub some_answer : (hosts : List HostSpec) (words : List (List ℕ)) (source : List ℕ) → (answer : LabAnswer) × IsAnswer lab hosts words source answer
-some_answer hosts words source = asked_answer hosts (command_of words) source
+command_answer : (hosts : List HostSpec) (command : Command) (source : List ℕ) → is_answered (Some command) ≡ true → (answer : LabAnswer) × Answers hosts command source answer
+command_answer hosts (Why cycle cycles name) source one = why_answer hosts source cycle cycles name
+command_answer hosts (Profile cycles is_strict) source one = profile_answer hosts source cycles is_strict
+command_answer hosts (Waves cycles) source one = waves_answer hosts source cycles
+command_answer hosts (Verilog ports) source one = absurd (false≢true one)
+
+asked_answer : (hosts : List HostSpec) (command : Option Command) (source : List ℕ) → is_answered command ≡ true → (answer : LabAnswer) × MatchOption command (plain answer ≡ plain_answers.Usage) (λ asked. Answers hosts asked source answer)
+asked_answer hosts None source one = (Usage, refl)
+asked_answer hosts (Some command) source one = command_answer hosts command source one
+
+pub some_answer : (hosts : List HostSpec) (words : List (List ℕ)) (source : List ℕ) → is_answered (command_of words) ≡ true → (answer : LabAnswer) × IsAnswer lab hosts words source answer
+some_answer hosts words source one = asked_answer hosts (command_of words) source one
+
+-- a command that takes what spells a design and a stimulus refuses a source, or the source spells them
+pub refused_or_spelled : (hosts : List HostSpec) (command : Command) (source : List ℕ) → takes_spelled command ≡ true → ((f : Fault) × Answers hosts command source (Refused f)) ⊎ IsSpelled hosts source
+refused_or_spelled hosts (Why cycle cycles name) source takes = absurd (false≢true takes)
+refused_or_spelled hosts (Profile cycles is_strict) source takes = absurd (false≢true takes)
+refused_or_spelled hosts (Waves cycles) source takes = absurd (false≢true takes)
+refused_or_spelled hosts (Verilog ports) source takes = refused_or_told hosts source (IsModuleOf ports)

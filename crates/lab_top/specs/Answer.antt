@@ -1,6 +1,6 @@
 -- What the lab answers to the words of its command line and to the bytes of its source, as a program. A command's own
 -- answers are in the file of its name.
-use Rattle.std.specs.Prelude.{ℕ, Bool, true, List, [], ◌∷◌, ◌++◌, codes, Option}
+use Rattle.std.specs.Prelude.{◌≡◌, ℕ, Bool, false, true, List, [], ◌∷◌, ◌++◌, codes, Option, Some}
 use Rattle.kw_base.specs.declared.fault.Fault.{Fault}
 use Rattle.kw_bits.specs.declared.host.HostSpec.{HostSpec}
 use Rattle.front_end.specs.Program.{Program}
@@ -9,6 +9,7 @@ use Rattle.front_end.specs.declared.answer.Answer.TheVariants as plain_answers
 use Rattle.front_end.specs.declared.status.Status.{Status}
 use Rattle.front_end.specs.declared.status.Status.TheVariants as plain_statuses
 use Rattle.lab_top.specs.Profile.{AnswersProfile}
+use Rattle.lab_top.specs.Verilog.{AnswersVerilog}
 use Rattle.lab_top.specs.Waves.{AnswersWaves}
 use Rattle.lab_top.specs.Why.{AnswersWhy}
 use Rattle.lab_top.specs.Words.{command_of}
@@ -17,13 +18,14 @@ use Rattle.lab_top.specs.declared.answer.LabAnswer.TheVariants.{Usage, Refused, 
 use Rattle.lab_top.specs.declared.status.LabStatus.{LabStatus}
 use Rattle.lab_top.specs.declared.status.LabStatus.TheVariants as statuses
 use Rattle.lab_top.specs.declared.words.Command.{Command}
-use Rattle.lab_top.specs.declared.words.Command.TheVariants.{Why, Profile, Waves}
+use Rattle.lab_top.specs.declared.words.Command.TheVariants.{Why, Profile, Waves, Verilog}
 
 -- the answer to a command, where these host functions are handed in
 abbrev pub Answers : List HostSpec → Command → List ℕ → LabAnswer → Type 0
 Answers hosts (Why cycle cycles name) source answer = AnswersWhy hosts cycle cycles name source answer
 Answers hosts (Profile cycles is_strict) source answer = AnswersProfile hosts cycles is_strict source answer
 Answers hosts (Waves cycles) source answer = AnswersWaves hosts cycles source answer
+Answers hosts (Verilog options) source answer = AnswersVerilog hosts options source answer
 
 -- what is written where words are invalid
 abbrev pub usage_line : List ℕ
@@ -58,13 +60,24 @@ ends statuses.WriteFault = plain_statuses.WriteFault
 ends statuses.NoMemory = plain_statuses.NoMemory
 ends statuses.Failed = plain_statuses.Done
 
--- each command is answered by its source, and has one text
+-- each command is answered by its source
 abbrev pub is_of_source : Command → Bool
 is_of_source command = true
 
--- every command has one text for a source
+-- whether there is one text at most that is written: a design has several modules
 abbrev pub has_one_text : Option Command → Bool
-has_one_text command = true
+has_one_text (Some (Verilog options)) = false
+has_one_text other = true
+
+-- whether definitions alone make an answer: a design's module is made by the program's functions
+abbrev pub is_answered : Option Command → Bool
+is_answered (Some (Verilog options)) = false
+is_answered other = true
+
+-- two answers that have one status, and are one if they are refusals
+pub record IsLikeAnswer (a b : LabAnswer) : Type 0 where
+  pub status : answered a ≡ answered b
+  pub refusal : answered a ≡ statuses.Refused → a ≡ b
 
 -- the lab
 abbrev pub lab : Program Command LabAnswer LabStatus

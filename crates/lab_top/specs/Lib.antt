@@ -4,6 +4,8 @@ pub mod Runs
 pub mod Why
 pub mod Profile
 pub mod Waves
+pub mod OfDesigns
+pub mod Verilog
 pub mod Answer
 pub mod Step
 pub mod Calls

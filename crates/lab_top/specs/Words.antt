@@ -1,13 +1,14 @@
 -- Which arguments of the lab are valid, as words of the command line, and what they ask for. The program's own name
 -- isn't among them. This project's own.
 use Rattle.std.specs.Prelude.{ℕ, ◌&&◌, ◌||◌, ◌==◌, nat_le, Bool, true, false, if◌then◌else◌}
-use Rattle.std.specs.Prelude.{List, [], ◌∷◌, codes, take, drop, Option, Some, None, unwrap_or}
+use Rattle.std.specs.Prelude.{List, [], ◌∷◌, codes, fold, take, drop, Option, Some, None, unwrap_or}
 use Rattle.std.specs.List.{list_all}
 use Rattle.std.specs.Char.{is_ascii_alphabetic, is_ascii_digit}
 use Rattle.std.specs.Str.{bytes_eq}
 use Rattle.front_end.specs.NumberWords.{number_of}
+use Rattle.verilog_text.specs.declared.verilog.Options.{Options as Ports}
 use Rattle.lab_top.specs.declared.words.Command.{Command}
-use Rattle.lab_top.specs.declared.words.Command.TheVariants.{Why, Profile, Waves}
+use Rattle.lab_top.specs.declared.words.Command.TheVariants.{Why, Profile, Waves, Verilog}
 use Rattle.lab_top.specs.declared.words.Options.{Options}
 
 -- a name begins with an ASCII letter or `_`, and goes on with these and digits
@@ -119,6 +120,35 @@ abbrev pub waves_of : Option Options → Option Command
 waves_of None = None
 waves_of (Some options) = waves_by options.cycle options.cycles options.rule options.is_strict
 
+-- no reset is asked for, and no registers as ports
+abbrev pub no_ports : Ports
+no_ports = record { reset = false; registers = false }
+
+-- ports with a reset, which isn't asked for yet
+abbrev pub with_reset : Ports → Option Ports
+with_reset ports = if ports.reset then None else Some (record ports { reset = true })
+
+-- ports with the registers, which aren't asked for yet
+abbrev pub with_registers : Ports → Option Ports
+with_registers ports = if ports.registers then None else Some (record ports { registers = true })
+
+-- ports, if they are valid, with those that one word more asks for
+abbrev pub with_port : Option Ports → List ℕ → Option Ports
+with_port None word = None
+with_port (Some ports) word =
+    if bytes_eq word (codes "--reset") then with_reset ports
+    else if bytes_eq word (codes "--registers") then with_registers ports
+    else None
+
+-- `verilog` with ports, if they are valid
+abbrev pub verilog_by : Option Ports → Option Command
+verilog_by None = None
+verilog_by (Some ports) = Some (Verilog ports)
+
+-- `verilog` with the ports that words ask for: each is asked for at most once, in any order
+abbrev pub verilog_of : List (List ℕ) → Option Command
+verilog_of words = verilog_by (fold with_port (Some no_ports) words)
+
 -- the command that words ask for; no other words are valid
 abbrev pub command_of : List (List ℕ) → Option Command
 command_of [] = None
@@ -126,4 +156,5 @@ command_of (word ∷ rest) =
     if bytes_eq word (codes "why") then why_of (options_of rest)
     else if bytes_eq word (codes "profile") then profile_of (options_of rest)
     else if bytes_eq word (codes "waves") then waves_of (options_of rest)
+    else if bytes_eq word (codes "verilog") then verilog_of rest
     else None

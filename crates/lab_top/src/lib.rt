@@ -1,5 +1,5 @@
 //! The lab: arguments and a source's bytes in, a text or a refusal out. It says why rules fire or don't, and writes
-//! waves.
+//! waves and Verilog.
 //!
 //! `specs/Answer.antt` says what the lab is as a program: its words, its answers and its statuses. `specs/Calls.antt`
 //! says what is promised of each call: what `front_end` says of every program, and by which words a call fails. The
@@ -14,12 +14,13 @@ mod profile;
 mod program;
 mod runs;
 mod status;
+mod verilog;
 mod waves;
 mod why;
 mod words;
 
 pub use answer::LabAnswer;
-pub use laws::{numbers, one_answer, some_answer};
+pub use laws::{never_both, numbers, one_answer, one_status, refused_or_spelled, some_answer};
 pub use program::lab;
 pub use status::LabStatus;
 pub use words::Command;

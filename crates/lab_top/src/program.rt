@@ -11,29 +11,31 @@ ghost use Rattle.lab_top.specs.Answer.{Answers, ends, lab, plain};
 ghost use Rattle.lab_top.specs.Calls.{IsKept};
 ghost use Rattle.lab_top.specs.Profile.{AnswersProfile};
 ghost use Rattle.lab_top.specs.Step.{IsSession, asks_step};
+ghost use Rattle.lab_top.specs.Verilog.{AnswersVerilog};
 ghost use Rattle.lab_top.specs.Waves.{AnswersWaves};
 ghost use Rattle.lab_top.specs.Why.{AnswersWhy};
-ghost use Rattle.lab_top.specs.inner.Steps.{FailsBy, HasSomeCycles};
+ghost use Rattle.lab_top.specs.inner.Steps.{FailsBy, HasSomeCycles, longest_of};
 
 use crate::profile::count_source;
 use crate::status::LabStatus;
+use crate::verilog::verilog_source;
 use crate::waves::WavesRun;
 use crate::why::WhyRun;
 use crate::words::{Command, command_of};
-use front_end::{Status, fault_of_source, status_by, write_fault, write_refusal, write_text};
+use front_end::{
+    Status, fault_of_source, status_by, write_fault, write_made, write_refusal, write_text,
+};
 use host_fn::HostFn;
 use kw_base::fault_number;
 use kw_bits::{NoMemory, Text};
 use kw_io::{ReadAll, Sink, Source, read_all};
 use std::alloc::Global;
 use stream_run::step;
+use verilog_text::Options as Ports;
 
 // How to call the lab.
 const USAGE_LINE: &[u8] =
     b"usage: koika_lab why|profile|lint|waves|step|verilog|obligation|certify\n";
-
-// A source may have this many bytes.
-const LONGEST_SOURCE: usize = 1_048_576;
 
 /// Runs the lab on its arguments, without the program's own name: reads the source if the arguments are valid, and
 /// writes the answer to the sink. Designs may declare the host functions. The clauses on content hold where the bytes
@@ -105,7 +107,7 @@ fn answer_source<S: Source, K: Sink>(
     ensures read_fault { ends result ≡ Status.ReadFault → Rose (S.faults source.old) (S.faults source.new) }
     ensures fails { FailsBy command result }
 {
-    match read_all(alloc, source, LONGEST_SOURCE) {
+    match read_all(alloc, source, command.longest_source()) {
         Ok(bytes) => answer_bytes(alloc, command, hosts, &bytes, sink),
         Err(ReadAll::TooLong) => {
             let fault = fault_of_source(fault_number::SOURCE_TOO_LONG);
@@ -125,7 +127,7 @@ fn answer_bytes<K: Sink>(
     source: &[u8],
     sink: &mut K,
 ) -> LabStatus
-    requires short { length source.now ≤ longest_source }
+    requires short { length source.now ≤ longest_of command }
     requires some { HasSomeCycles command }
     ensures tells { Tells lab (Answers (host_specs hosts.now) command source.now)
         (stream K.written K.faults sink.old sink.new) result }
@@ -141,6 +143,7 @@ fn answer_bytes<K: Sink>(
             profile(alloc, cycles, is_strict, hosts, source, sink)
         }
         Command::Waves { cycles } => draw(alloc, cycles, hosts, source, sink),
+        Command::Verilog(ports) => translate(alloc, ports, hosts, source, sink),
     }
 }
 
@@ -207,4 +210,21 @@ fn draw<K: Sink>(
         Ok(run) => LabStatus::of(status_by(run.write(alloc, sink), Status::Done), false),
         Err(refusal) => LabStatus::of(write_refusal(alloc, refusal, sink), false),
     }
+}
+
+// Writes the Verilog module of the source's design, or the line of the source's fault.
+fn translate<K: Sink>(
+    alloc: Global,
+    ports: Ports,
+    hosts: &[HostFn],
+    source: &[u8],
+    sink: &mut K,
+) -> LabStatus
+    requires { length source.now ≤ longest_source }
+    ensures tells { Tells lab (AnswersVerilog (host_specs hosts.now) ports source.now)
+        (stream K.written K.faults sink.old sink.new) result }
+    ensures fails { result ≢ LabStatus.Failed }
+{
+    let made = verilog_source(alloc, ports, hosts, source);
+    LabStatus::of(write_made(alloc, made, sink), false)
 }

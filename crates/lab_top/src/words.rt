@@ -1,16 +1,18 @@
 //! Program: the arguments, and what they ask for.
 
-ghost use Rattle.std.specs.Prelude.{◌≡◌, Some, map, string_bytes, IfOk, IfSome};
+ghost use Rattle.std.specs.Prelude.{◌≡◌, Some, fold, map, string_bytes, IfOk, IfSome};
 ghost use Rattle.std.specs.List.{list_all};
-ghost use Rattle.lab_top.specs.inner.Steps.{HasSomeCycles};
+ghost use Rattle.lab_top.specs.inner.Steps.{HasSomeCycles, longest_of};
 ghost use Rattle.lab_top.specs.Words.{begins_name, command_of, continues_name, is_name, name_of, options_of};
-ghost use Rattle.lab_top.specs.Words.{profile_of, waves_of, why_from, why_of};
+ghost use Rattle.lab_top.specs.Words.{profile_of, verilog_by, verilog_of, waves_of, why_from, why_of};
 ghost use Rattle.lab_top.specs.Words.{with_cycle, with_cycles, with_name, with_rule, with_strict, with_word};
+ghost use Rattle.lab_top.specs.Words.{no_ports, with_port, with_registers, with_reset};
 
 use crate::given::read_options;
 use front_end::number_of;
 use kw_bits::{NoMemory, Text};
 use std::alloc::Global;
+use verilog_text::Options as Ports;
 
 /// What the arguments ask for.
 #[derive(Debug, Drop)]
@@ -30,6 +32,20 @@ pub enum Command {
     Waves {
         cycles: u32,
     },
+    /// The Verilog module of a design, with these ports beside its inputs and rules.
+    Verilog(Ports),
+}
+
+// A source may have this many bytes.
+const LONGEST_SOURCE: usize = 1_048_576;
+
+impl Command {
+    /// How many bytes the source of the command may have.
+    pub(crate) fn longest_source(&self) -> usize
+        ensures { result ≡ longest_of self.now }
+    {
+        LONGEST_SOURCE
+    }
 }
 
 /// The options that are given.
@@ -59,6 +75,7 @@ pub(crate) fn command_of(alloc: Global, words: &[String]) -> Result<Option<Comma
         [command, options @ ..] if command.as_str() == "waves" => {
             Ok(waves_of(given(alloc, "waves", options)?))
         }
+        [command, options @ ..] if command.as_str() == "verilog" => Ok(verilog_of(options)),
         _ => Ok(None),
     }
 }
@@ -137,6 +154,69 @@ fn waves_of(options: Option<Options>) -> Option<Command>
     }
     Some(Command::Waves {
         cycles: options.cycles?,
+    })
+}
+
+// `verilog` with the ports that words ask for, if they are valid.
+fn verilog_of(words: &[String]) -> Option<Command>
+    ensures command { result ≡ verilog_of (map string_bytes words.now) }
+    ensures some { IfSome result HasSomeCycles }
+{
+    let ports = ports_of(words)?;
+    Some(Command::Verilog(ports))
+}
+
+// The ports that words ask for, each at most once.
+fn ports_of(words: &[String]) -> Option<Ports>
+    ensures { result ≡ fold with_port (Some no_ports) (map string_bytes words.now) }
+{
+    let mut ports = Some(Ports {
+        reset: false,
+        registers: false,
+    });
+    for word in words {
+        ports = with_port(ports, word.as_bytes());
+    }
+    ports
+}
+
+// Ports, if they are valid, with those that one word more asks for.
+fn with_port(ports: Option<Ports>, word: &[u8]) -> Option<Ports>
+    ensures { result ≡ with_port ports word.now }
+{
+    let ports = ports?;
+    if word == b"--reset".as_slice() {
+        return with_reset(ports);
+    }
+    if word == b"--registers".as_slice() {
+        return with_registers(ports);
+    }
+    None
+}
+
+// Ports with a reset, which isn't asked for yet.
+fn with_reset(ports: Ports) -> Option<Ports>
+    ensures { result ≡ with_reset ports }
+{
+    if ports.reset {
+        return None;
+    }
+    Some(Ports {
+        reset: true,
+        registers: ports.registers,
+    })
+}
+
+// Ports with the registers, which aren't asked for yet.
+fn with_registers(ports: Ports) -> Option<Ports>
+    ensures { result ≡ with_registers ports }
+{
+    if ports.registers {
+        return None;
+    }
+    Some(Ports {
+        reset: ports.reset,
+        registers: true,
     })
 }
 

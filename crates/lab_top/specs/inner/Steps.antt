@@ -1,5 +1,6 @@
 -- How the lab ends and answers where what is shared by programs ended and answered so.
 use Rattle.std.specs.Prelude.{◌≡◌, ℕ, ◌≤◌, ⊤, List, Bool, true, false}
+use Rattle.front_end.specs.Sources.{longest_source}
 use Rattle.front_end.specs.declared.answer.Answer.{Answer}
 use Rattle.front_end.specs.declared.answer.Answer.TheVariants as plain_answers
 use Rattle.front_end.specs.declared.status.Status.{Status}
@@ -9,7 +10,7 @@ use Rattle.lab_top.specs.declared.answer.LabAnswer.TheVariants.{Usage, Refused, 
 use Rattle.lab_top.specs.declared.status.LabStatus.{LabStatus}
 use Rattle.lab_top.specs.declared.status.LabStatus.TheVariants as statuses
 use Rattle.lab_top.specs.declared.words.Command.{Command}
-use Rattle.lab_top.specs.declared.words.Command.TheVariants.{Why, Profile, Waves}
+use Rattle.lab_top.specs.declared.words.Command.TheVariants.{Why, Profile}
 
 -- done, or a failure
 abbrev pub done_if : Bool → LabStatus
@@ -39,8 +40,11 @@ answer_if fails (plain_answers.Written text) = text_if fails text
 -- `why` begins with a cycle from 1 on, and is for some cycles
 abbrev pub HasSomeCycles : Command → Type 0
 HasSomeCycles (Why cycle cycles name) = (1 ≤ cycle) × (1 ≤ cycles)
-HasSomeCycles (Profile cycles is_strict) = ⊤
-HasSomeCycles (Waves cycles) = ⊤
+HasSomeCycles other = ⊤
+
+-- how many bytes the source of a command may have
+abbrev pub longest_of : Command → ℕ
+longest_of command = longest_source
 
 -- a call fails only by a strict profile
 abbrev pub FailsBy : Command → LabStatus → Type 0

@@ -21,7 +21,7 @@ pub returns-in-Err-TooLong-clause-tells : goal.returns-in-Err-TooLong-clause-tel
 returns-in-Err-TooLong-clause-tells g c =
     let fault = c.fault_of_source-fault.result in
     tells-long lab definite (host_specs c.args.hosts.now) c.args.command _ (Refused fault) tt (refuses-long (host_specs c.args.hosts.now) c.args.command fault c.fault_of_source-fault.ensures) _ _ _
-    (c.in-Err-TooLong.ensures.longer (ap (λ e. Err e) c.in-Err-TooLong.field-0-is))
+    (rw c.longest_source.ensures at c.in-Err-TooLong.ensures.longer (ap (λ e. Err e) c.in-Err-TooLong.field-0-is))
     (fault-told _ c.write_fault.result c.status_by-ended.result _ fault c.write_fault.ensures c.status_by-ended.ensures c.of.ensures)
 
 pub returns-in-Err-Fault-clause-tells : goal.returns-in-Err-Fault-clause-tells
