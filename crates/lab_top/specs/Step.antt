@@ -1,5 +1,5 @@
 -- What is promised of the lab's command `step`, which reads its source line by line.
-use Rattle.std.specs.Prelude.{◌≡◌, ◌≢◌, ℕ, Bool, false, List, [], ◌∷◌, codes}
+use Rattle.std.specs.Prelude.{◌≢◌, ℕ, Bool, false, List, [], ◌∷◌, codes}
 use Rattle.std.specs.Str.{bytes_eq}
 use Rattle.kw_bits.specs.declared.host.HostSpec.{HostSpec}
 use Rattle.front_end.specs.Streams.{Stream}
