@@ -9,7 +9,7 @@ use Rattle.std.proofs.lemmas.Option.{slice_get_within}
 use Rattle.kw_bits.specs.BitVector.{BitVector}
 use Rattle.kw_bits.specs.Laws.{HasWidth}
 use Rattle.typed_core.specs.Alone.{is_refused, is_write_below, seen}
-use Rattle.typed_core.specs.Evaluation.{Environment, Part, Progress, Stop, Value, bind, evaluate, unit}
+use Rattle.typed_core.specs.Evaluation.{Environment, Evaluation, Progress, Stop, Value, bind, evaluate, unit}
 use Rattle.typed_core.specs.Fits.{EventsFit, PortsFit, ProgressFits}
 use Rattle.typed_core.specs.Valid.{IsPort}
 use Rattle.typed_core.specs.Widths.{HaveWidths}
@@ -144,7 +144,7 @@ module _ (widths : List ℕ) (log : RegisterLog) (before : List Event) (stands :
       R : List Event → Progress BitVector Stopped → Progress BitVector Stopped → Type 0
       R es p q = p ≡ q
 
-      bound : (p q : Progress BitVector Stopped) (f g : BitVector → Part BitVector Stopped) → p ≡ q → ((value : BitVector) (es : List Event) → f value es ≡ g value es) → bind p.events p.ending f ≡ bind q.events q.ending g
+      bound : (p q : Progress BitVector Stopped) (f g : BitVector → Evaluation BitVector Stopped) → p ≡ q → ((value : BitVector) (es : List Event) → f value es ≡ g value es) → bind p.events p.ending f ≡ bind q.events q.ending g
       bound p q f g e h = subst (λ (r : Progress BitVector Stopped). bind r.events r.ending f ≡ bind q.events q.ending g) (sym e) (same q.ending)
         where
           same : (ending : _) → bind q.events ending f ≡ bind q.events ending g
@@ -214,7 +214,7 @@ writes_follow env before regs action locals events h = evaluate_related env (por
     Free : Event → Type 0
     Free e = e.access.write ≡ true → is_refused before e.access ≡ false
 
-    bound : (es : List Event) (p : Progress BitVector Stopped) (f g : BitVector → Part BitVector Stopped) → R es p p → ((value : BitVector) (es : List Event) → R es (f value es) (g value es)) → (ending : _) → p.ending ≡ ending → WritesFollow before es → WritesFollow before (bind p.events ending f).events
+    bound : (es : List Event) (p : Progress BitVector Stopped) (f g : BitVector → Evaluation BitVector Stopped) → R es p p → ((value : BitVector) (es : List Event) → R es (f value es) (g value es)) → (ending : _) → p.ending ≡ ending → WritesFollow before es → WritesFollow before (bind p.events ending f).events
     bound es p f g h k (Value value) e follow = k value p.events (h follow)
     bound es p f g h k (Stop cause) e follow = h follow
 

@@ -26,7 +26,7 @@ use Rattle.circuit_eval.specs.declared.circuit.Wires.{Wires}
 use Rattle.circuit_eval.proofs.Fitting.{first_states-AreBits, next_states-AreBits, step_feeds}
 use Rattle.circuit_eval.proofs.Stimuli.{HaveWidths-AreBits}
 use Rattle.aig_blast.specs.Aigs as aigs
-use Rattle.aig_blast.specs.Aigs.{AigParts, IsAig, IsInputWord, IsLatchWord, IsOutputBit, IsSymbol, IsWordName, input_widths, latch_widths, sources}
+use Rattle.aig_blast.specs.Aigs.{AigParts, IsAig, IsInputWord, IsLatchWord, IsOutputBit, IsSymbol, IsWordName, input_word_widths, latch_widths, sources}
 use Rattle.aig_blast.specs.AigRun.{bits_of, first_words, next_words, outputs_in, row_after, rows_after}
 use Rattle.aig_blast.specs.BitLists.{as_bits}
 use Rattle.aig_blast.specs.Blasted.{HasSymbols, HasWires, RunsAs}
@@ -124,7 +124,7 @@ pub input_word-names : (wires : List InputWire) → map (λ (word : InputWord). 
 input_word-names [] = refl
 input_word-names (wire ∷ wires) = ap (λ (names : List (List ℕ)). wire.name ∷ names) (input_word-names wires)
 
-pub input_word-widths : (wires : List InputWire) → input_widths (map input_word wires) ≡ circuit.input_widths wires
+pub input_word-widths : (wires : List InputWire) → input_word_widths (map input_word wires) ≡ circuit.input_widths wires
 input_word-widths [] = refl
 input_word-widths (wire ∷ wires) = ap (λ (ws : List ℕ). wire.width ∷ ws) (input_word-widths wires)
 

@@ -15,8 +15,8 @@ pub record AigParts : Type 0 where
   pub gates : List Gate
 
 -- the widths of the words of inputs, and of latches, in order
-abbrev pub input_widths : List InputWord → List ℕ
-input_widths words = map (λ (word : InputWord). word.width) words
+abbrev pub input_word_widths : List InputWord → List ℕ
+input_word_widths words = map (λ (word : InputWord). word.width) words
 
 -- the widths of words of latches
 abbrev pub latch_widths : List LatchWord → List ℕ
@@ -24,7 +24,7 @@ latch_widths words = map (λ (word : LatchWord). word.first.width) words
 
 -- how many inputs and latches there are, and how many variables besides variable 0
 abbrev pub sources : AigParts → ℕ
-sources a = sum (input_widths a.inputs) + sum (latch_widths a.latches)
+sources a = sum (input_word_widths a.inputs) + sum (latch_widths a.latches)
 
 -- how many variables a graph has: its inputs, its latches and its gates
 abbrev pub variables : AigParts → ℕ

@@ -8,7 +8,7 @@ use Rattle.circuit_eval.specs.declared.circuit.InputWire.{InputWire}
 use Rattle.circuit_eval.specs.declared.circuit.OutputWire.{OutputWire}
 use Rattle.circuit_eval.specs.declared.circuit.StateWire.{StateWire}
 use Rattle.circuit_eval.specs.declared.circuit.Wires.{Wires}
-use Rattle.aig_blast.specs.Aigs.{AigParts, IsSymbol, IsWordName, input_widths, latch_widths}
+use Rattle.aig_blast.specs.Aigs.{AigParts, IsSymbol, IsWordName, input_word_widths, latch_widths}
 use Rattle.aig_blast.specs.AigRun.{run_of}
 use Rattle.aig_blast.specs.declared.aig.InputWord.{InputWord}
 use Rattle.aig_blast.specs.declared.aig.LatchWord.{LatchWord}
@@ -27,7 +27,7 @@ flag_wires c = filter (λ (wire : OutputWire). nat_eq (width_at (widths_of c.net
 -- a word for each input and state and a bit for each output of one bit, in order, of the same names and widths
 pub record HasWires (c : Wires) (a : AigParts) : Type 0 where
   pub inputs : map (λ (word : InputWord). word.name) a.inputs ≡ map (λ (wire : InputWire). wire.name) c.inputs
-  pub input_widths : input_widths a.inputs ≡ circuit.input_widths c.inputs
+  pub input_widths : input_word_widths a.inputs ≡ circuit.input_widths c.inputs
   pub states : map (λ (word : LatchWord). word.name) a.latches ≡ map (λ (wire : StateWire). wire.name) c.states
   pub state_widths : latch_widths a.latches ≡ circuit.state_widths c.states
   pub outputs : map (λ (output : OutputBit). output.name) a.outputs ≡ map (λ (wire : OutputWire). wire.name) (flag_wires c)

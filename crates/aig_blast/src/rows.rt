@@ -3,7 +3,7 @@
 ghost use Rattle.std.specs.Prelude.{◌≡◌, ◌≤◌, ◌-◌, IfOk, OnErr, OnOk, map};
 ghost use Rattle.one_rule.specs.Stimulus.{inputs_of};
 ghost use Rattle.circuit_eval.specs.Run.{is_one};
-ghost use Rattle.aig_blast.specs.Aigs.{input_widths};
+ghost use Rattle.aig_blast.specs.Aigs.{input_word_widths};
 ghost use Rattle.aig_blast.specs.AigRun.{run_of};
 ghost use Rattle.aig_blast.specs.AigSims.{MadeSome, after_steps, row_at, rows_from};
 
@@ -15,7 +15,7 @@ use std::alloc::{AllocError, Global};
 
 /// The rows of a bit-level circuit's run of n cycles, whose flags are the outputs. The stimulus is for its words of inputs.
 pub fn run_aig(alloc: Global, aig: &Aig, stimulus: &Stimulus, n: u32) -> Result<Rows, NoMemory>
-    requires { stimulus.now.widths ≡ input_widths aig.now.inputs }
+    requires { stimulus.now.widths ≡ input_word_widths aig.now.inputs }
     ensures { IfOk result (λ rows. rows ≡ run_of aig.now (inputs_of stimulus.now) n) }
 {
     let mut sim = AigSim::begin(alloc, aig)?;
@@ -34,7 +34,7 @@ pub fn run_on(
     to: u32,
 ) -> Result<Rows, NoMemory>
     requires order { from ≤ to }
-    requires widths { stimulus.now.widths ≡ input_widths sim.old.aig.inputs }
+    requires widths { stimulus.now.widths ≡ input_word_widths sim.old.aig.inputs }
     ensures rows { IfOk result (λ rows. rows ≡ rows_from sim.old (inputs_of stimulus.now) from to) }
     ensures sim { OnOk result (sim.new ≡ after_steps (inputs_of stimulus.now) (to - from) from sim.old) }
     ensures short { OnErr result (MadeSome (inputs_of stimulus.now) (to - from) from sim.old sim.new) }

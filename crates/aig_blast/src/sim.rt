@@ -2,7 +2,7 @@
 
 ghost use Rattle.std.specs.Prelude.{◌≡◌, ◌+◌, ◌*◌, ◌/◌, ◌^◌, ◌<◌, ◌≤◌, ◌++◌, ◌∷◌, [], false, IfOk, OnOk, length, map, replicate, sum, take, All};
 ghost use Rattle.circuit_eval.specs.Circuits.{AreBits};
-ghost use Rattle.aig_blast.specs.Aigs.{input_widths, latch_widths, variables};
+ghost use Rattle.aig_blast.specs.Aigs.{input_word_widths, latch_widths, variables};
 ghost use Rattle.aig_blast.specs.AigRun.{bits_of, first_words as first_words_lem, next_words, values_in};
 ghost use Rattle.aig_blast.specs.AigSims.{flags_in, no_flags as no_flags_lem};
 ghost use Rattle.aig_blast.specs.inner.AigSims.{IsReadable};
@@ -57,7 +57,7 @@ impl<'a> AigSim<'a> {
 
     /// One step with a value of its width for each word of inputs. It takes no memory.
     pub fn step(&mut self, inputs: &Inputs)
-        requires { AreBits inputs.now (input_widths self.old.aig.inputs) }
+        requires { AreBits inputs.now (input_word_widths self.old.aig.inputs) }
         ensures { self.new ≡ after_step self.old inputs.now }
     {
         let aig: &Aig = self.aig;
@@ -109,7 +109,7 @@ fn room_for(alloc: Global, aig: &Aig) -> Result<Vec<bool>, NoMemory>
 }
 
 fn add_input_room(values: &mut Vec<bool>, words: &[InputWord]) -> Result<(), NoMemory>
-    ensures { OnOk result (values.new.items ≡ values.old.items ++ replicate (sum (input_widths words.now)) false) }
+    ensures { OnOk result (values.new.items ≡ values.old.items ++ replicate (sum (input_word_widths words.now)) false) }
 {
     for word in words {
         add_room(values, word.width as usize)?;
@@ -137,7 +137,7 @@ fn add_room(values: &mut Vec<bool>, count: usize) -> Result<(), NoMemory>
 
 // Writes the values of the variables in a step that begins with these words in the latches.
 fn put_values(aig: &Aig, inputs: &[Bits], states: &[Bits], values: &mut [bool])
-    requires inputs { AreBits inputs.now (input_widths aig.now.inputs) }
+    requires inputs { AreBits inputs.now (input_word_widths aig.now.inputs) }
     requires states { AreBits states.now (latch_widths aig.now.latches) }
     requires room { length values.old ≡ 1 + variables aig.now }
     requires first { take 1 values.old ≡ false ∷ [] }

@@ -9,13 +9,13 @@ use Rattle.std.proofs.lemmas.Fmt.{decimal_is_IsNumeral}
 use Rattle.std.proofs.lemmas.List.{length-append, length-take, length-take-le, take-append-drop}
 use Rattle.std.proofs.lemmas.List.Elements.{All-from_recursion, All-take, All-drop}
 use Rattle.std.proofs.lemmas.List.Sums.{sum_by-cons}
-use Rattle.aig_blast.specs.Aigs.{input_widths, IsInputWord, IsLatchWord, IsOutputBit, IsSymbol, IsWordName, latch_widths}
+use Rattle.aig_blast.specs.Aigs.{input_word_widths, IsInputWord, IsLatchWord, IsOutputBit, IsSymbol, IsWordName, latch_widths}
 use Rattle.aig_blast.specs.BitLists.{as_bits}
 use Rattle.aig_blast.specs.Graphs.{Below}
 use Rattle.aig_blast.specs.declared.aig.InputWord.{InputWord}
 use Rattle.aig_blast.specs.declared.aig.LatchWord.{LatchWord}
 use Rattle.aig_blast.proofs.Numbers.{number-lt}
-use Rattle.aiger_text.specs.Runs.{begins_run, begun, begun_by, goes_on, latch_words, name_or, output_bits, Run, wider, words_from, words_of}
+use Rattle.aiger_text.specs.Runs.{begins_run, begun, begun_by, goes_on, latch_words, name_or, output_bits, WordRun, wider, words_from, words_of_bits}
 use Rattle.aiger_text.specs.inner.Sound.{AreSymbols}
 use Rattle.aiger_text.proofs.Running.{goes_on-below}
 
@@ -64,7 +64,7 @@ begun_by-word : (symbol : List ℕ) → IsSymbol symbol → IsInputWord (begun_b
 begun_by-word symbol is = by (begins_run symbol) refl
   where
     by : (t : Bool) → begins_run symbol ≡ t
-        → IsInputWord (cond {A = Run} t (record { word = record { name = take (length symbol - 3) symbol; width = 1 }; is_run = true }) (record { word = record { name = symbol; width = 1 }; is_run = false })).word
+        → IsInputWord (cond {A = WordRun} t (record { word = record { name = take (length symbol - 3) symbol; width = 1 }; is_run = true }) (record { word = record { name = symbol; width = 1 }; is_run = false })).word
     by true begins =
         let long : 3 < length symbol = ltb-true 3 (length symbol) (and_parts (nat_lt 3 (length symbol)) _ begins).0 in
         record { name = IsWordName-front symbol (length symbol - 3) (omega arith) (omega arith) is; some = omega arith; most = omega arith }
@@ -75,7 +75,7 @@ module _ (kind : ℕ) (feed : kind ≢ 10) (return : kind ≢ 13) (space : kind 
   begun-word index None small is = record { name = (IsSymbol-default kind index feed return space tab small).word; some = omega arith; most = omega arith }
   begun-word index (Some symbol) small is = begun_by-word symbol is
 
-  words_from-words : (index : ℕ) (run : Run) (symbols : List (Option (List ℕ))) → index + length symbols ≤ 2 ^ 60 → IsInputWord run.word → AreSymbols symbols → AllByRecursion IsInputWord (words_from kind index run symbols)
+  words_from-words : (index : ℕ) (run : WordRun) (symbols : List (Option (List ℕ))) → index + length symbols ≤ 2 ^ 60 → IsInputWord run.word → AreSymbols symbols → AllByRecursion IsInputWord (words_from kind index run symbols)
   words_from-words index run [] few is all = (is, tt)
   words_from-words index run (symbol ∷ symbols) few is all =
       by (λ own. words_from-words (index + 1) (wider run) symbols (omega (arith, few)) own all.1)
@@ -88,17 +88,17 @@ module _ (kind : ℕ) (feed : kind ≢ 10) (return : kind ≢ 13) (space : kind 
           more (record { name = is.name; some = omega arith; most = omega (arith, below) })
       by more others false ends = (is, others)
 
-  pub words_of-words : (symbols : List (Option (List ℕ))) → length symbols ≤ 2 ^ 60 → AreSymbols symbols → AllByRecursion IsInputWord (words_of kind symbols)
-  unfolding words_of
-  words_of-words [] few all = tt
-  words_of-words (symbol ∷ symbols) few all = words_from-words 1 (begun kind 0 symbol) symbols (omega (arith, few)) (begun-word 0 symbol (omega arith) all.0) all.1
+  pub words_of_bits-words : (symbols : List (Option (List ℕ))) → length symbols ≤ 2 ^ 60 → AreSymbols symbols → AllByRecursion IsInputWord (words_of_bits kind symbols)
+  unfolding words_of_bits
+  words_of_bits-words [] few all = tt
+  words_of_bits-words (symbol ∷ symbols) few all = words_from-words 1 (begun kind 0 symbol) symbols (omega (arith, few)) (begun-word 0 symbol (omega arith) all.0) all.1
 
 -- ---- how many bits words have
 
 begun_by-width : (symbol : List ℕ) → (begun_by symbol).word.width ≡ 1
 begun_by-width symbol = by (begins_run symbol)
   where
-    by : (t : Bool) → (cond {A = Run} t (record { word = record { name = take (length symbol - 3) symbol; width = 1 }; is_run = true }) (record { word = record { name = symbol; width = 1 }; is_run = false })).word.width ≡ 1
+    by : (t : Bool) → (cond {A = WordRun} t (record { word = record { name = take (length symbol - 3) symbol; width = 1 }; is_run = true }) (record { word = record { name = symbol; width = 1 }; is_run = false })).word.width ≡ 1
     by true = refl
     by false = refl
 
@@ -106,23 +106,23 @@ begun-width : (kind index : ℕ) (symbol : Option (List ℕ)) → (begun kind in
 begun-width kind index None = refl
 begun-width kind index (Some symbol) = begun_by-width symbol
 
-widths-cons : (word : InputWord) (words : List InputWord) → sum (input_widths (word ∷ words)) ≡ word.width + sum (input_widths words)
-widths-cons word words = sum_by-cons (λ (n : ℕ). n) word.width (input_widths words)
+widths-cons : (word : InputWord) (words : List InputWord) → sum (input_word_widths (word ∷ words)) ≡ word.width + sum (input_word_widths words)
+widths-cons word words = sum_by-cons (λ (n : ℕ). n) word.width (input_word_widths words)
 
-words_from-width : (kind index : ℕ) (run : Run) (symbols : List (Option (List ℕ))) → sum (input_widths (words_from kind index run symbols)) ≡ run.word.width + length symbols
+words_from-width : (kind index : ℕ) (run : WordRun) (symbols : List (Option (List ℕ))) → sum (input_word_widths (words_from kind index run symbols)) ≡ run.word.width + length symbols
 words_from-width kind index run [] = widths-cons run.word []
 words_from-width kind index run (symbol ∷ symbols) = by (words_from-width kind (index + 1) (wider run) symbols) (words_from-width kind (index + 1) (begun kind index symbol) symbols) (goes_on run symbol)
   where
-    by : sum (input_widths (words_from kind (index + 1) (wider run) symbols)) ≡ run.word.width + 1 + length symbols
-        → sum (input_widths (words_from kind (index + 1) (begun kind index symbol) symbols)) ≡ (begun kind index symbol).word.width + length symbols
-        → (t : Bool) → sum (input_widths (cond t (words_from kind (index + 1) (wider run) symbols) (run.word ∷ words_from kind (index + 1) (begun kind index symbol) symbols))) ≡ run.word.width + suc (length symbols)
+    by : sum (input_word_widths (words_from kind (index + 1) (wider run) symbols)) ≡ run.word.width + 1 + length symbols
+        → sum (input_word_widths (words_from kind (index + 1) (begun kind index symbol) symbols)) ≡ (begun kind index symbol).word.width + length symbols
+        → (t : Bool) → sum (input_word_widths (cond t (words_from kind (index + 1) (wider run) symbols) (run.word ∷ words_from kind (index + 1) (begun kind index symbol) symbols))) ≡ run.word.width + suc (length symbols)
     by more others true = omega (arith, more)
     by more others false = omega (arith, widths-cons run.word (words_from kind (index + 1) (begun kind index symbol) symbols), others, begun-width kind index symbol)
 
-pub words_of-width : (kind : ℕ) (symbols : List (Option (List ℕ))) → sum (input_widths (words_of kind symbols)) ≡ length symbols
-unfolding words_of
-words_of-width kind [] = refl
-words_of-width kind (symbol ∷ symbols) = omega (arith, words_from-width kind 1 (begun kind 0 symbol) symbols, begun-width kind 0 symbol)
+pub words_of_bits-width : (kind : ℕ) (symbols : List (Option (List ℕ))) → sum (input_word_widths (words_of_bits kind symbols)) ≡ length symbols
+unfolding words_of_bits
+words_of_bits-width kind [] = refl
+words_of_bits-width kind (symbol ∷ symbols) = omega (arith, words_from-width kind 1 (begun kind 0 symbol) symbols, begun-width kind 0 symbol)
 
 -- ---- latches and outputs
 
@@ -132,24 +132,24 @@ latch_widths-cons word words = sum_by-cons (λ (n : ℕ). n) word.first.width (l
 rest-length : {X : Type 0} (n m : ℕ) (xs : List X) → length xs ≡ n + m → length (drop n xs) ≡ m
 rest-length n m xs all = omega (arith, ap length (take-append-drop n xs), length-append (take n xs) (drop n xs), length-take-le n xs (omega (arith, all)))
 
-pub latch_words-width : (words : List InputWord) (nexts : List ℕ) (resets : List Bool) → length resets ≡ sum (input_widths words) → sum (latch_widths (latch_words words nexts resets)) ≡ sum (input_widths words)
+pub latch_words-width : (words : List InputWord) (nexts : List ℕ) (resets : List Bool) → length resets ≡ sum (input_word_widths words) → sum (latch_widths (latch_words words nexts resets)) ≡ sum (input_word_widths words)
 latch_words-width [] nexts resets all = refl
 latch_words-width (word ∷ words) nexts resets all =
-    let wide : length resets ≡ word.width + sum (input_widths words) = all ∙ widths-cons word words in
+    let wide : length resets ≡ word.width + sum (input_word_widths words) = all ∙ widths-cons word words in
     omega (
       arith,
       latch_widths-cons (record { name = word.name; first = as_bits (take word.width resets); nexts = take word.width nexts }) (latch_words words (drop word.width nexts) (drop word.width resets)),
       widths-cons word words,
       length-take-le word.width resets (omega (arith, wide)),
-      latch_words-width words (drop word.width nexts) (drop word.width resets) (rest-length word.width (sum (input_widths words)) resets wide),
+      latch_words-width words (drop word.width nexts) (drop word.width resets) (rest-length word.width (sum (input_word_widths words)) resets wide),
     )
 
-pub latch_words-words : (count : ℕ) (words : List InputWord) (nexts : List ℕ) (resets : List Bool) → AllByRecursion IsInputWord words → length nexts ≡ sum (input_widths words) → length resets ≡ sum (input_widths words)
+pub latch_words-words : (count : ℕ) (words : List InputWord) (nexts : List ℕ) (resets : List Bool) → AllByRecursion IsInputWord words → length nexts ≡ sum (input_word_widths words) → length resets ≡ sum (input_word_widths words)
     → All (Below count) nexts → AllByRecursion (IsLatchWord count) (latch_words words nexts resets)
 latch_words-words count [] nexts resets are lits bits below = tt
 latch_words-words count (word ∷ words) nexts resets are lits bits below =
     let w : ℕ = word.width in
-    let left : ℕ = sum (input_widths words) in
+    let left : ℕ = sum (input_word_widths words) in
     let lits' : length nexts ≡ w + left = lits ∙ widths-cons word words in
     let bits' : length resets ≡ w + left = bits ∙ widths-cons word words in
     let own_bits : length (take w resets) ≡ w = length-take-le w resets (omega (arith, bits')) in

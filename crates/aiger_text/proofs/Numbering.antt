@@ -6,7 +6,7 @@ use Rattle.std.specs.Option.{SomeIff}
 use Rattle.std.specs.List.{list_all}
 use Rattle.std.specs.Prelude.{nat_lt, if◌then◌else◌, ◌&&◌}
 use Rattle.std.specs.Str.Parse.{AllDigits, IsNumeral, digits_value}
-use Rattle.aiger_text.specs.Cuts.{is_numeral, number_of}
+use Rattle.aiger_text.specs.Cuts.{is_numeral, decimal_number}
 use Rattle.std.proofs.lemmas.Bool.{lt-ltb, ltb-true}
 use Rattle.std.proofs.lemmas.Int.Digits.{digits_value_more}
 
@@ -52,13 +52,13 @@ numeral_digits [] is = absurd (true≢false (sym is))
 numeral_digits (b ∷ word) is = (omega arith, all_digits (b ∷ word) is)
 
 -- what is no numeral writes no number
-pub number_none : (word : List ℕ) → is_numeral word ≡ false → number_of word ≡ None
-unfolding number_of
+pub number_none : (word : List ℕ) → is_numeral word ≡ false → decimal_number word ≡ None
+unfolding decimal_number
 number_none word is = ap (λ b. if b && nat_lt (digits_value 10 word) (2 ^ 63) then Some (digits_value 10 word) else None) is
 
 -- a numeral writes its value, where that is below 2 to the 63
-pub number_is : (word : List ℕ) (read : Option ℕ) → is_numeral word ≡ true → SomeIff read (digits_value 10 word < 2 ^ 63) (digits_value 10 word) → read ≡ number_of word
-unfolding number_of
+pub number_is : (word : List ℕ) (read : Option ℕ) → is_numeral word ≡ true → SomeIff read (digits_value 10 word < 2 ^ 63) (digits_value 10 word) → read ≡ decimal_number word
+unfolding decimal_number
 number_is word read is reads = by read (digits_value 10 word) reads (nat_lt (digits_value 10 word) (2 ^ 63)) refl ∙ sym (ap (λ b. if b && nat_lt (digits_value 10 word) (2 ^ 63) then Some (digits_value 10 word) else None) is)
   where
     by : (read : Option ℕ) (v : ℕ) → SomeIff read (v < 2 ^ 63) v → (t : Bool) → nat_lt v (2 ^ 63) ≡ t → read ≡ (if true && nat_lt v (2 ^ 63) then Some v else None)

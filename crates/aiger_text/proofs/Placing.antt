@@ -6,7 +6,7 @@ use Rattle.kw_base.specs.declared.fault.Fault.{Fault}
 use Rattle.aig_blast.specs.declared.gate.Gate.{Gate}
 use Rattle.stim_report.specs.Stimuli.{after, next_line}
 use Rattle.aiger_text.specs.Drafts.{fault_in}
-use Rattle.aiger_text.specs.Reading.{all_placed, gates_placed, known, placed, placed_gate}
+use Rattle.aiger_text.specs.Reading.{all_placed, gates_placed, known, placed_literal, placed_gate}
 
 -- items before what is left, if that has no fault
 abbrev pub joined_to : {X : Type 0} → List X → Result (List X) Fault → Result (List X) Fault
@@ -34,7 +34,7 @@ none_left : {X : Type 0} (found : List X) (whole rest : Result (List X) Fault) �
 none_left found whole rest none so_far = so_far ∙ ap (joined_to found) none ∙ ap Ok (append-nil found)
 
 module _ (variables : List ℕ) (bound : ℕ) where
-  pub all_placed-more : (lits : List ℕ) (k number next d other : ℕ) (found new : List ℕ) (whole : Result (List ℕ) Fault) → k < length lits → next ≡ next_line number → Some other ≡ placed variables bound (get_or lits k d)
+  pub all_placed-more : (lits : List ℕ) (k number next d other : ℕ) (found new : List ℕ) (whole : Result (List ℕ) Fault) → k < length lits → next ≡ next_line number → Some other ≡ placed_literal variables bound (get_or lits k d)
       → new ≡ found ++ other ∷ [] → whole ≡ joined_to found (all_placed variables bound number (drop k lits)) → whole ≡ joined_to new (all_placed variables bound next (drop (k + 1) lits))
   all_placed-more lits k number next d other found new whole within then has pushed so_far =
       let rest : Result (List ℕ) Fault = all_placed variables bound (next_line number) (drop (k + 1) lits) in
@@ -43,7 +43,7 @@ module _ (variables : List ℕ) (bound : ℕ) where
       ∙ joined-more found other rest ∙ ap (λ n. joined_to (found ++ other ∷ []) (all_placed variables bound n (drop (k + 1) lits))) (sym then)
       ∙ ap (λ front. joined_to front (all_placed variables bound next (drop (k + 1) lits))) (sym pushed)
 
-  pub all_placed-fault : (lits : List ℕ) (k number d : ℕ) (found : List ℕ) (whole : Result (List ℕ) Fault) → k < length lits → None ≡ placed variables bound (get_or lits k d)
+  pub all_placed-fault : (lits : List ℕ) (k number d : ℕ) (found : List ℕ) (whole : Result (List ℕ) Fault) → k < length lits → None ≡ placed_literal variables bound (get_or lits k d)
       → whole ≡ joined_to found (all_placed variables bound number (drop k lits)) → whole ≡ Err (fault_in 74 number)
   all_placed-fault lits k number d found whole within none so_far =
       let rest : Result (List ℕ) Fault = all_placed variables bound (next_line number) (drop (k + 1) lits) in

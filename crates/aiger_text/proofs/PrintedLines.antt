@@ -8,8 +8,8 @@ use Rattle.std.proofs.lemmas.Bool.{eqb-true, lt-ltb, not_from_false}
 use Rattle.std.proofs.lemmas.Fmt.{decimal_is_IsNumeral}
 use Rattle.std.proofs.lemmas.List.Elements.{All-from_recursion}
 use Rattle.aiger_text.specs.inner.Classes.{StopsAt}
-use Rattle.aiger_text.specs.Cuts.{before_bytes, ends_line, is_numeral, joined, lines_of, not_blank, number_of, numbers_of, without_returns, words_of}
-use Rattle.aiger_text.specs.Printing.{line_text, spaced}
+use Rattle.aiger_text.specs.Cuts.{before_bytes, ends_line, is_numeral, numbers_if_all, lines_of, not_blank, decimal_number, numbers_of, without_returns, words_of}
+use Rattle.aiger_text.specs.Printing.{numbers_text, spaced}
 use Rattle.aiger_text.proofs.Cutting.{lines_of-more, lines_of-nil, not_return, pieces_first, words_of-blank, words_of-nil, words_of-word}
 use Rattle.aiger_text.proofs.LineEnds.{all_joined, HasNoFeed, IsLine}
 use Rattle.aiger_text.proofs.Naming.{digits_other, ends_other}
@@ -57,8 +57,8 @@ AllSmall numbers = AllByRecursion (λ (n : ℕ). n < 2 ^ 63) numbers
 abbrev pub numbers_line : ℕ → List ℕ → List ℕ
 numbers_line first others = decimal first ++ flat_map spaced others
 
-pub line_text-closed : (first : ℕ) (others : List ℕ) → line_text first others ≡ closed (numbers_line first others)
-line_text-closed first others = sym (append_assoc (decimal first) (flat_map spaced others) (10 ∷ []))
+pub numbers_text-closed : (first : ℕ) (others : List ℕ) → numbers_text first others ≡ closed (numbers_line first others)
+numbers_text-closed first others = sym (append_assoc (decimal first) (flat_map spaced others) (10 ∷ []))
 
 digits_of-decimal : (n : ℕ) → n < 2 ^ 63 → AllDigits 10 (decimal n)
 digits_of-decimal n small = (decimal_is_IsNumeral n (omega (arith, small))).0.1
@@ -120,12 +120,12 @@ numeral : (digits : List ℕ) → 0 < length digits → AllDigits 10 digits → 
 numeral [] some all = absurd (omega (arith, some))
 numeral (b ∷ digits) some all = all_digits (b ∷ digits) all
 
-pub number_of-decimal : (n : ℕ) → n < 2 ^ 63 → number_of (decimal n) ≡ Some n
-number_of-decimal n small =
+pub decimal_number-decimal : (n : ℕ) → n < 2 ^ 63 → decimal_number (decimal n) ≡ Some n
+decimal_number-decimal n small =
     let is = decimal_is_IsNumeral n (omega (arith, small)) in
     let below : digits_value 10 (decimal n) < 2 ^ 63 = omega (arith, is.1, small) in
     sym (number_is (decimal n) (Some n) (numeral (decimal n) is.0.0 is.0.1) (below, sym is.1))
 
 pub numbers_of-decimals : (numbers : List ℕ) → AllSmall numbers → numbers_of (map decimal numbers) ≡ Some numbers
 numbers_of-decimals [] all = refl
-numbers_of-decimals (n ∷ numbers) all = ap₂ (λ (first : Option ℕ) (others : Option (List ℕ)). joined first others) (number_of-decimal n all.0) (numbers_of-decimals numbers all.1)
+numbers_of-decimals (n ∷ numbers) all = ap₂ (λ (first : Option ℕ) (others : Option (List ℕ)). numbers_if_all first others) (decimal_number-decimal n all.0) (numbers_of-decimals numbers all.1)

@@ -4,15 +4,15 @@ use Rattle.std.specs.Prelude.{codes, nat_eq, sum}
 use Rattle.std.specs.List.{flat_map}
 use Rattle.std.proofs.lemmas.List.{take_more, take_all, length-take-le}
 use Rattle.std.proofs.lemmas.List.Sums.{sum_by-cons}
-use Rattle.aig_blast.specs.Aigs.{AigParts, input_widths, latch_widths, sources, variables}
+use Rattle.aig_blast.specs.Aigs.{AigParts, input_word_widths, latch_widths, sources, variables}
 use Rattle.aig_blast.specs.Steps.{digits}
 use Rattle.aig_blast.specs.declared.aig.InputWord.{InputWord}
 use Rattle.aig_blast.specs.declared.aig.LatchWord.{LatchWord}
 use Rattle.aig_blast.specs.declared.aig.OutputBit.{OutputBit}
 use Rattle.aig_blast.specs.declared.gate.Gate.{Gate}
 use Rattle.aig_blast.proofs.Digits.{length-digits}
-use Rattle.aiger_text.specs.Printing.{bit_name, gate_text, input_lines, input_symbols, input_word_text, laid, latch_line, latch_symbols, latch_width_of, latch_word_text, line_text, one_of, output_symbol, output_text, reset_text, rest_text, spaced, symbol_text, text_of, texts_below, width_of, word_symbols}
-use Rattle.aiger_text.proofs.PrintedLines.{closed, line_text-closed, numbers_line, text_by, text_by-append}
+use Rattle.aiger_text.specs.Printing.{bit_name, gate_text, input_lines, input_symbols, input_word_text, laid, latch_line, latch_symbols, latch_width_of, latch_word_text, numbers_text, one_of, output_symbol, output_text, reset_text, rest_text, spaced, symbol_text, text_of, texts_below, input_line_count, word_symbols}
+use Rattle.aiger_text.proofs.PrintedLines.{closed, numbers_text-closed, numbers_line, text_by, text_by-append}
 use Rattle.aiger_text.proofs.Rebuilding.{as_inputs, names_from, names_of, nexts_in, output_lits, output_names, resets_in}
 use Rattle.aiger_text.proofs.Sections.{gate_rows, input_rows, latch_rows, output_rows}
 use Rattle.aiger_text.proofs.Symbols.{symbol_row, symbol_rows, symbol_rows-append}
@@ -39,16 +39,16 @@ input_lines-rows : (k m : ℕ) → input_lines (1 + k) m ≡ text_by (input_rows
 input_lines-rows k zero = refl
 input_lines-rows k (suc m) =
     let same : 1 + k + m ≡ suc (k + m) = omega arith in
-    ap₂ (λ (front : List ℕ) (n : ℕ). front ++ line_text (2 * n) []) (input_lines-rows k m) same ∙ ap (λ t. text_by (input_rows k m) ++ t) (line_text-closed (2 * suc (k + m)) [])
+    ap₂ (λ (front : List ℕ) (n : ℕ). front ++ numbers_text (2 * n) []) (input_lines-rows k m) same ∙ ap (λ t. text_by (input_rows k m) ++ t) (numbers_text-closed (2 * suc (k + m)) [])
     ∙ sym (text_by-push (input_rows k m) (numbers_line (2 * suc (k + m)) [])) ∙ ap text_by (input_rows-push k m)
 
-inputs-rows : (k : ℕ) (words : List InputWord) → laid width_of input_word_text (1 + k) words ≡ text_by (input_rows k (sum (input_widths words)))
+inputs-rows : (k : ℕ) (words : List InputWord) → laid input_line_count input_word_text (1 + k) words ≡ text_by (input_rows k (sum (input_word_widths words)))
 inputs-rows k [] = refl
 inputs-rows k (word ∷ words) =
     let next : 1 + k + word.width ≡ 1 + (k + word.width) = omega arith in
-    let all : word.width + sum (input_widths words) ≡ sum (input_widths (word ∷ words)) = sym (sum_by-cons (λ (n : ℕ). n) word.width (input_widths words)) in
-    ap₂ (λ (front : List ℕ) (n : ℕ). front ++ laid width_of input_word_text n words) (input_lines-rows k word.width) next ∙ ap (λ t. text_by (input_rows k word.width) ++ t) (inputs-rows (k + word.width) words)
-    ∙ sym (text_by-append (input_rows k word.width) (input_rows (k + word.width) (sum (input_widths words)))) ∙ ap text_by (input_rows-append k word.width (sum (input_widths words))) ∙ ap (λ n. text_by (input_rows k n)) all
+    let all : word.width + sum (input_word_widths words) ≡ sum (input_word_widths (word ∷ words)) = sym (sum_by-cons (λ (n : ℕ). n) word.width (input_word_widths words)) in
+    ap₂ (λ (front : List ℕ) (n : ℕ). front ++ laid input_line_count input_word_text n words) (input_lines-rows k word.width) next ∙ ap (λ t. text_by (input_rows k word.width) ++ t) (inputs-rows (k + word.width) words)
+    ∙ sym (text_by-append (input_rows k word.width) (input_rows (k + word.width) (sum (input_word_widths words)))) ∙ ap text_by (input_rows-append k word.width (sum (input_word_widths words))) ∙ ap (λ n. text_by (input_rows k n)) all
 
 -- ---- latches
 
@@ -68,8 +68,8 @@ latch_lines-rows k number nexts (suc m) few =
     let long : length (take m nexts) ≡ m = length-take-le m nexts (omega (arith, few)) in
     let same : 1 + k + m ≡ suc (k + length (take m nexts)) = omega (arith, long) in
     let up : suc m ≡ m + 1 = omega arith in
-    ap₂ (λ (front : List ℕ) (n : ℕ). front ++ line_text (2 * n) (next ∷ reset_text reset)) (latch_lines-rows k number nexts m (omega (arith, few))) same
-    ∙ ap (λ t. text_by (latch_rows k (take m nexts) (digits number m)) ++ t) (line_text-closed (2 * suc (k + length (take m nexts))) (next ∷ reset_text reset))
+    ap₂ (λ (front : List ℕ) (n : ℕ). front ++ numbers_text (2 * n) (next ∷ reset_text reset)) (latch_lines-rows k number nexts m (omega (arith, few))) same
+    ∙ ap (λ t. text_by (latch_rows k (take m nexts) (digits number m)) ++ t) (numbers_text-closed (2 * suc (k + length (take m nexts))) (next ∷ reset_text reset))
     ∙ sym (text_by-push (latch_rows k (take m nexts) (digits number m)) (numbers_line (2 * suc (k + length (take m nexts))) (next ∷ reset_text reset)))
     ∙ ap text_by (latch_rows-append k (take m nexts) (next ∷ []) (digits number m) (reset ∷ []) (length-digits number m ∙ sym long))
     ∙ ap (λ ns. text_by (latch_rows k ns (digits number (suc m)))) (sym (take_more nexts m 0 (omega (arith, few))) ∙ ap (λ i. take i nexts) (sym up))
@@ -95,15 +95,15 @@ latches-rows k (word ∷ words) all =
 
 outputs-rows : (outputs : List OutputBit) → flat_map output_text outputs ≡ text_by (output_rows (output_lits outputs))
 outputs-rows [] = refl
-outputs-rows (output ∷ outputs) = ap₂ (λ (xs ys : List ℕ). xs ++ ys) (line_text-closed output.lit []) (outputs-rows outputs)
+outputs-rows (output ∷ outputs) = ap₂ (λ (xs ys : List ℕ). xs ++ ys) (numbers_text-closed output.lit []) (outputs-rows outputs)
 
 gates-rows : (k : ℕ) (gates : List Gate) → laid one_of gate_text (1 + k) gates ≡ text_by (gate_rows k gates)
 gates-rows k [] = refl
 gates-rows k (gate ∷ gates) =
     let here : 1 + k ≡ suc k = omega arith in
     let next : 1 + k + 1 ≡ 1 + suc k = omega arith in
-    ap₂ (λ (n m : ℕ). line_text (2 * n) (gate.left ∷ gate.right ∷ []) ++ laid one_of gate_text m gates) here next
-    ∙ ap₂ (λ (xs ys : List ℕ). xs ++ ys) (line_text-closed (2 * suc k) (gate.left ∷ gate.right ∷ [])) (gates-rows (suc k) gates)
+    ap₂ (λ (n m : ℕ). numbers_text (2 * n) (gate.left ∷ gate.right ∷ []) ++ laid one_of gate_text m gates) here next
+    ∙ ap₂ (λ (xs ys : List ℕ). xs ++ ys) (numbers_text-closed (2 * suc k) (gate.left ∷ gate.right ∷ [])) (gates-rows (suc k) gates)
 
 -- ---- symbols
 
@@ -136,7 +136,7 @@ one_symbols kind index name m names rest is =
     ap₂ (λ (xs ys : List ℕ). xs ++ ys) (word_symbols-rows kind index name m) (is ∙ ap (λ n. text_by (symbol_rows kind n names)) long)
     ∙ sym (text_by-append (symbol_rows kind index (names_from name 0 m)) (symbol_rows kind (index + length (names_from name 0 m)) names)) ∙ ap text_by (sym (symbol_rows-append kind index (names_from name 0 m) names))
 
-input_symbols-rows : (index : ℕ) (words : List InputWord) → laid width_of input_symbols index words ≡ text_by (symbol_rows 105 index (names_of words))
+input_symbols-rows : (index : ℕ) (words : List InputWord) → laid input_line_count input_symbols index words ≡ text_by (symbol_rows 105 index (names_of words))
 input_symbols-rows index [] = refl
 input_symbols-rows index (word ∷ words) = one_symbols 105 index word.name word.width (names_of words) _ (input_symbols-rows (index + word.width) words)
 
@@ -153,11 +153,11 @@ output_symbols-rows index (output ∷ outputs) =
 -- ---- all lines
 
 abbrev pub header_row : AigParts → List ℕ
-header_row a = codes "aag" ++ flat_map spaced (variables a ∷ sum (input_widths a.inputs) ∷ sum (latch_widths a.latches) ∷ length a.outputs ∷ length a.gates ∷ [])
+header_row a = codes "aag" ++ flat_map spaced (variables a ∷ sum (input_word_widths a.inputs) ∷ sum (latch_widths a.latches) ∷ length a.outputs ∷ length a.gates ∷ [])
 
 abbrev pub number_rows : AigParts → List (List ℕ)
 number_rows a =
-    input_rows 0 (sum (input_widths a.inputs)) ++ (latch_rows (sum (input_widths a.inputs)) (nexts_in a.latches) (resets_in a.latches) ++ (output_rows (output_lits a.outputs) ++ gate_rows (sources a) a.gates))
+    input_rows 0 (sum (input_word_widths a.inputs)) ++ (latch_rows (sum (input_word_widths a.inputs)) (nexts_in a.latches) (resets_in a.latches) ++ (output_rows (output_lits a.outputs) ++ gate_rows (sources a) a.gates))
 
 abbrev pub name_rows : AigParts → List (List ℕ)
 name_rows a = symbol_rows 105 0 (names_of a.inputs) ++ (symbol_rows 108 0 (names_of (as_inputs a.latches)) ++ symbol_rows 111 0 (output_names a.outputs))
@@ -170,7 +170,7 @@ right_nested h i l o g x y z = simp append_assoc
 
 pub text_of-rows : (a : AigParts) → AllNexts a.latches → text_of a ≡ text_by (rows a)
 text_of-rows a all =
-    let i : ℕ = sum (input_widths a.inputs) in
+    let i : ℕ = sum (input_word_widths a.inputs) in
     let I : List (List ℕ) = input_rows 0 i in
     let L : List (List ℕ) = latch_rows i (nexts_in a.latches) (resets_in a.latches) in
     let O : List (List ℕ) = output_rows (output_lits a.outputs) in
@@ -180,9 +180,9 @@ text_of-rows a all =
     let Z : List (List ℕ) = symbol_rows 111 0 (output_names a.outputs) in
     let head : codes "aag" ++ rest_text (variables a ∷ i ∷ sum (latch_widths a.latches) ∷ length a.outputs ∷ length a.gates ∷ []) ≡ closed (header_row a) =
     sym (append_assoc (codes "aag") (flat_map spaced (variables a ∷ i ∷ sum (latch_widths a.latches) ∷ length a.outputs ∷ length a.gates ∷ [])) (10 ∷ [])) in
-    ap₂ (λ (h t : List ℕ). ((((((h ++ t) ++ laid latch_width_of latch_word_text (1 + i) a.latches) ++ flat_map output_text a.outputs) ++ laid one_of gate_text (1 + sources a) a.gates) ++ laid width_of input_symbols 0 a.inputs)
+    ap₂ (λ (h t : List ℕ). ((((((h ++ t) ++ laid latch_width_of latch_word_text (1 + i) a.latches) ++ flat_map output_text a.outputs) ++ laid one_of gate_text (1 + sources a) a.gates) ++ laid input_line_count input_symbols 0 a.inputs)
     ++ laid latch_width_of latch_symbols 0 a.latches) ++ laid one_of output_symbol 0 a.outputs) head (inputs-rows 0 a.inputs)
-    ∙ ap₂ (λ (l o : List ℕ). ((((((closed (header_row a) ++ text_by I) ++ l) ++ o) ++ laid one_of gate_text (1 + sources a) a.gates) ++ laid width_of input_symbols 0 a.inputs) ++ laid latch_width_of latch_symbols 0 a.latches)
+    ∙ ap₂ (λ (l o : List ℕ). ((((((closed (header_row a) ++ text_by I) ++ l) ++ o) ++ laid one_of gate_text (1 + sources a) a.gates) ++ laid input_line_count input_symbols 0 a.inputs) ++ laid latch_width_of latch_symbols 0 a.latches)
     ++ laid one_of output_symbol 0 a.outputs) (latches-rows i a.latches all) (outputs-rows a.outputs)
     ∙ ap₂ (λ (g x : List ℕ). ((((((closed (header_row a) ++ text_by I) ++ text_by L) ++ text_by O) ++ g) ++ x) ++ laid latch_width_of latch_symbols 0 a.latches) ++ laid one_of output_symbol 0 a.outputs) (gates-rows (sources a) a.gates)
     (input_symbols-rows 0 a.inputs)

@@ -5,7 +5,7 @@ use Rattle.std.specs.List.{position_from}
 use Rattle.std.proofs.lemmas.Bool.{eq-eqb, lt-ltb, ne_eqb}
 use Rattle.std.proofs.lemmas.Iterator.Adapters.{position_from-zero}
 use Rattle.aiger_text.specs.Places.{is_defined, place_after, place_of}
-use Rattle.aiger_text.specs.Reading.{literal_at, placed}
+use Rattle.aiger_text.specs.Reading.{literal_at, placed_literal}
 
 -- that many numbers after one
 abbrev pub range : ℕ → ℕ → List ℕ
@@ -47,7 +47,7 @@ place_of-range m (suc j) within =
     ∙ ap place_after (position_from-zero (nat_eq (suc j)) (range 0 m) ∙ ap (λ n. position_from (nat_eq (suc n)) 0 (range 0 m)) same ∙ position-range 0 m j 0 (omega (arith, within))) ∙ ap Some next
 
 -- and each literal stays as it is
-pub placed-range : (m bound lit : ℕ) → lit / 2 ≤ m → lit / 2 < bound → placed (range 0 m) bound lit ≡ Some lit
-placed-range m bound lit within below =
+pub placed_literal-range : (m bound lit : ℕ) → lit / 2 ≤ m → lit / 2 < bound → placed_literal (range 0 m) bound lit ≡ Some lit
+placed_literal-range m bound lit within below =
     let whole : 2 * (lit / 2) + lit % 2 ≡ lit = omega arith in
     ap (λ p. literal_at bound p (lit % 2)) (place_of-range m (lit / 2) within) ∙ ap (λ t. cond t (Some (2 * (lit / 2) + lit % 2)) None) (lt-ltb (lit / 2) bound below) ∙ ap Some whole

@@ -9,7 +9,7 @@ use Rattle.std.proofs.lemmas.List.{length-append, length-map}
 use Rattle.std.proofs.lemmas.List.Elements.{All-from_recursion, recursion_from_All}
 use Rattle.std.proofs.lemmas.List.Sums.{sum_by-cons}
 use Rattle.kw_base.specs.Place.{capped}
-use Rattle.aig_blast.specs.Aigs.{AigParts, input_widths, IsAig, IsInputWord, IsLatchWord, IsOutputBit, IsWordName, latch_widths, sources, variables}
+use Rattle.aig_blast.specs.Aigs.{AigParts, input_word_widths, IsAig, IsInputWord, IsLatchWord, IsOutputBit, IsWordName, latch_widths, sources, variables}
 use Rattle.aig_blast.specs.Graphs.{AllStand, Below, Stands}
 use Rattle.aig_blast.specs.Steps.{digits}
 use Rattle.aig_blast.specs.declared.aig.InputWord.{InputWord}
@@ -32,7 +32,7 @@ use Rattle.aiger_text.proofs.Naming.{digits_other, ends_other}
 use Rattle.aiger_text.proofs.PrintedLines.{AllSmall, IsLine-numbers, lines_of-text, numbers_of-decimals, spaced-stops, spaced_other, word-first, words_of-spaced}
 use Rattle.aiger_text.proofs.PrintedText.{AllNexts, header_row, length-names_from, name_rows, number_rows, rows, text_of-rows}
 use Rattle.aiger_text.proofs.Ranges.{length-range, range}
-use Rattle.aiger_text.proofs.Rebuilding.{all_placed-own, as_inputs, gates_placed-own, latch_words-own, names_from, names_of, nexts_in, output_bits-own, output_lits, output_names, resets_in, StandFrom, words_of-names}
+use Rattle.aiger_text.proofs.Rebuilding.{all_placed-own, as_inputs, gates_placed-own, latch_words-own, names_from, names_of, nexts_in, output_bits-own, output_lits, output_names, resets_in, StandFrom, words_of_bits-names}
 use Rattle.aiger_text.proofs.Running.{eq-false}
 use Rattle.aiger_text.proofs.Sections.{gate_rows, gates_lead, input_rows, inputs_lead, latch_rows, latches_lead, nones, output_rows, outputs_lead, Roomy}
 use Rattle.aiger_text.proofs.Stepping.{at-symbol, Leads, leads-append}
@@ -71,17 +71,17 @@ names_of-all P [] each are = tt
 names_of-all P (word ∷ words) each are =
     all_joined P (names_from word.name 0 word.width) (names_of words) (names_from-all P word.name 0 word.width (λ k low. each word.name k (omega (arith, low, are.0.most)) are.0.name)) (names_of-all P words each are.1)
 
-length-names_of : (words : List InputWord) → length (names_of words) ≡ sum (input_widths words)
+length-names_of : (words : List InputWord) → length (names_of words) ≡ sum (input_word_widths words)
 length-names_of [] = refl
 length-names_of (word ∷ words) =
-    omega (arith, length-append (names_from word.name 0 word.width) (names_of words), length-names_from word.name 0 word.width, length-names_of words, sum_by-cons (λ (n : ℕ). n) word.width (input_widths words))
+    omega (arith, length-append (names_from word.name 0 word.width) (names_of words), length-names_from word.name 0 word.width, length-names_of words, sum_by-cons (λ (n : ℕ). n) word.width (input_word_widths words))
 
 -- words of latches as words of inputs
 as_inputs-words : (count : ℕ) (words : List LatchWord) → AllByRecursion (IsLatchWord count) words → AllByRecursion IsInputWord (as_inputs words)
 as_inputs-words count [] are = tt
 as_inputs-words count (word ∷ words) are = (record { name = are.0.name; some = are.0.first.some_bit; most = are.0.first.no_wider }, as_inputs-words count words are.1)
 
-as_inputs-widths : (words : List LatchWord) → input_widths (as_inputs words) ≡ latch_widths words
+as_inputs-widths : (words : List LatchWord) → input_word_widths (as_inputs words) ≡ latch_widths words
 as_inputs-widths [] = refl
 as_inputs-widths (word ∷ words) = ap (λ (ns : List ℕ). word.first.width ∷ ns) (as_inputs-widths words)
 
@@ -199,10 +199,10 @@ outputs-ends count (output ∷ outputs) are = (record { one_line = are.0.name.wo
 -- ---- the header
 
 abbrev header_numbers : AigParts → List ℕ
-header_numbers a = variables a ∷ sum (input_widths a.inputs) ∷ sum (latch_widths a.latches) ∷ length a.outputs ∷ length a.gates ∷ []
+header_numbers a = variables a ∷ sum (input_word_widths a.inputs) ∷ sum (latch_widths a.latches) ∷ length a.outputs ∷ length a.gates ∷ []
 
 abbrev header_by_parts : AigParts → Header
-header_by_parts a = record { most = variables a; inputs = sum (input_widths a.inputs); latches = sum (latch_widths a.latches); outputs = length a.outputs; gates = length a.gates }
+header_by_parts a = record { most = variables a; inputs = sum (input_word_widths a.inputs); latches = sum (latch_widths a.latches); outputs = length a.outputs; gates = length a.gates }
 
 header_small : (a : AigParts) → variables a ≤ 2 ^ 60 → length a.outputs < 2 ^ 63 → AllSmall (header_numbers a)
 header_small a few outputs = (omega (arith, few), (omega (arith, few), (omega (arith, few), (outputs, (omega (arith, few), tt)))))
@@ -214,7 +214,7 @@ header_words a small =
 header_read : (a : AigParts) → AllSmall (header_numbers a) → header_of (words_of (header_row a)) ≡ Some (header_by_parts a)
 header_read a small =
     ap header_of (header_words a small) ∙ ap header_by (numbers_of-decimals (header_numbers a) small)
-    ∙ ap (λ t. cond t (Some (header_by_parts a)) None) (le-leb (sum (input_widths a.inputs) + sum (latch_widths a.latches) + length a.gates) (variables a) (omega arith))
+    ∙ ap (λ t. cond t (Some (header_by_parts a)) None) (le-leb (sum (input_word_widths a.inputs) + sum (latch_widths a.latches) + length a.gates) (variables a) (omega arith))
 
 header_other : (a : AigParts) (b : ℕ) → digit_value b ≡ 36 → 32 ≢ b → AllSmall (header_numbers a) → 97 ≢ b → 103 ≢ b → AllByRecursion (λ (byte : ℕ). byte ≢ b) (header_row a)
 header_other a b is space small first last = (first, (first, (last, spaced_other (header_numbers a) b is space small)))
@@ -230,7 +230,7 @@ header_line a small = record {
 abbrev numbered : AigParts → Draft
 numbered a = record {
   variables = range 0 (variables a);
-  inputs = nones (sum (input_widths a.inputs));
+  inputs = nones (sum (input_word_widths a.inputs));
   latches = nones (sum (latch_widths a.latches));
   outputs = nones (length a.outputs);
   nexts = nexts_in a.latches;
@@ -272,7 +272,7 @@ parts_of_circuit a is written = record {
 
 module _ (a : AigParts) (p : Parts a) where
   abbrev i : ℕ
-  i = sum (input_widths a.inputs)
+  i = sum (input_word_widths a.inputs)
 
   abbrev l : ℕ
   l = sum (latch_widths a.latches)
@@ -397,7 +397,7 @@ module _ (a : AigParts) (p : Parts a) where
   circuit_read : parts_by (said a) (nexts_in a.latches) (output_lits a.outputs) a.gates ≡ a
   circuit_read =
       ap₂ (λ (ins : List InputWord) (names : List InputWord). record { inputs = ins; latches = latch_words names (nexts_in a.latches) (resets_in a.latches); outputs = output_bits 0 (map Some (output_names a.outputs)) (output_lits a.outputs); gates = a.gates })
-      (words_of-names 105 a.inputs p.inputs) (words_of-names 108 (as_inputs a.latches) latch_inputs)
+      (words_of_bits-names 105 a.inputs p.inputs) (words_of_bits-names 108 (as_inputs a.latches) latch_inputs)
       ∙ ap₂ (λ (ls : List LatchWord) (os : List OutputBit). record { inputs = a.inputs; latches = ls; outputs = os; gates = a.gates }) (latch_words-own (variables a) a.latches p.latches) (output_bits-own 0 a.outputs)
 
   whole : aig_of (text_of a) ≡ Ok a

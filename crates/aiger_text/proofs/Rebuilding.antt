@@ -22,9 +22,9 @@ use Rattle.aig_blast.proofs.Digits.{digits-formula, length-digits}
 use Rattle.stim_report.specs.Stimuli.{after, next_line}
 use Rattle.aiger_text.specs.Printing.{bit_name}
 use Rattle.aiger_text.specs.Reading.{all_placed, gate_by, gates_placed, known}
-use Rattle.aiger_text.specs.Runs.{begun, begun_by, first_of, goes_on, latch_words, output_bits, Run, wider, words_from, words_of}
+use Rattle.aiger_text.specs.Runs.{begun, begun_by, run_begun, goes_on, latch_words, output_bits, WordRun, wider, words_from, words_of_bits}
 use Rattle.aiger_text.proofs.Naming.{digits_other}
-use Rattle.aiger_text.proofs.Ranges.{placed-range, range}
+use Rattle.aiger_text.proofs.Ranges.{placed_literal-range, range}
 
 -- ---- names of bits
 
@@ -71,7 +71,7 @@ abbrev pub names_of : List InputWord → List (List ℕ)
 names_of [] = []
 names_of (word ∷ words) = names_from word.name 0 word.width ++ names_of words
 
-abbrev run_at : List ℕ → ℕ → Run
+abbrev run_at : List ℕ → ℕ → WordRun
 run_at name j = record { word = record { name = name; width = j }; is_run = true }
 
 length-filled : (name : List ℕ) → name ≢ [] → 0 < length name
@@ -87,7 +87,7 @@ begun-first kind index name some =
     let ends : drop (length (name ++ codes "[0]") - 3) (name ++ codes "[0]") ≡ codes "[0]" = ap (λ n. drop n (name ++ codes "[0]")) cut ∙ drop-append_seam name (codes "[0]") in
     let front : take (length (name ++ codes "[0]") - 3) (name ++ codes "[0]") ≡ name = ap (λ n. take n (name ++ codes "[0]")) cut ∙ take-append_seam name (codes "[0]") in
     ap begun_by parts
-    ∙ ap₂ (λ (b : Bool) (n : List ℕ). cond {A = Run} b (first_of n) (record { word = record { name = name ++ codes "[0]"; width = 1 }; is_run = false }))
+    ∙ ap₂ (λ (b : Bool) (n : List ℕ). cond {A = WordRun} b (run_begun n) (record { word = record { name = name ++ codes "[0]"; width = 1 }; is_run = false }))
     (ap₂ (λ s t. s && t) (lt-ltb 3 (length (name ++ codes "[0]")) filled) ((bytes_eq-Decides _ (codes "[0]")).1 ends)) front
 
 goes_on-next : (name : List ℕ) (j : ℕ) → j < 128 → goes_on (run_at name j) (Some (bit_name name j)) ≡ true
@@ -122,7 +122,7 @@ one_word : (kind at index : ℕ) (word : InputWord) (words : List InputWord) (v 
     → words_from kind index (begun kind at (Some (bit_name word.name 0))) (map Some (names_from word.name 1 v ++ names_of words)) ≡ word ∷ words
 one_word kind at index word words v wide is others =
     let whole : 1 + v ≡ word.width = omega (arith, wide) in
-    ap₂ (λ (run : Run) (symbols : List (Option (List ℕ))). words_from kind index run symbols) (begun-first kind at word.name is.name.some) (map-append Some (names_from word.name 1 v) (names_of words))
+    ap₂ (λ (run : WordRun) (symbols : List (Option (List ℕ))). words_from kind index run symbols) (begun-first kind at word.name is.name.some) (map-append Some (names_from word.name 1 v) (names_of words))
     ∙ words_from-word kind word.name v 1 index (map Some (names_of words)) (omega (arith, wide, is.most)) ∙ ap (λ n. words_from kind (index + v) (run_at word.name n) (map Some (names_of words))) whole ∙ others (index + v)
 
 -- all bits of words after a word
@@ -140,15 +140,15 @@ words_from-all kind (word ∷ words) name w index some most are = by (λ i. word
         ∙ ap (λ ws. record { name = name; width = w } ∷ ws) (one_word kind index (index + 1) word words v is are.0 others)
 
 -- the words of all names
-pub words_of-names : (kind : ℕ) (words : List InputWord) → AllByRecursion IsInputWord words → words_of kind (map Some (names_of words)) ≡ words
-unfolding words_of
-words_of-names kind [] are = refl
-words_of-names kind (word ∷ words) are = by word.width refl
+pub words_of_bits-names : (kind : ℕ) (words : List InputWord) → AllByRecursion IsInputWord words → words_of_bits kind (map Some (names_of words)) ≡ words
+unfolding words_of_bits
+words_of_bits-names kind [] are = refl
+words_of_bits-names kind (word ∷ words) are = by word.width refl
   where
-    by : (v : ℕ) → word.width ≡ v → words_of kind (map Some (names_of (word ∷ words))) ≡ word ∷ words
+    by : (v : ℕ) → word.width ≡ v → words_of_bits kind (map Some (names_of (word ∷ words))) ≡ word ∷ words
     by zero is = absurd (omega (arith, is, are.0.some))
     by (suc v) is =
-        ap (words_of kind) (first_cut word words v is) ∙ one_word kind 0 1 word words v is are.0 (λ i. words_from-all kind words word.name word.width i are.0.some are.0.most are.1)
+        ap (words_of_bits kind) (first_cut word words v is) ∙ one_word kind 0 1 word words v is are.0 (λ i. words_from-all kind words word.name word.width i are.0.some are.0.most are.1)
 
 -- ---- latches, outputs and gates
 
@@ -198,7 +198,7 @@ pub all_placed-own : (n number : ℕ) (lits : List ℕ) → AllByRecursion (Belo
 all_placed-own n number [] below = refl
 all_placed-own n number (lit ∷ lits) below =
     let low : lit / 2 ≤ n = omega (arith, below.0) in
-    ap (λ (p : Option ℕ). after (known number p) (λ first. after (all_placed (range 0 n) (1 + n) (next_line number) lits) (λ others. Ok (first ∷ others)))) (placed-range n (1 + n) lit low (omega (arith, low)))
+    ap (λ (p : Option ℕ). after (known number p) (λ first. after (all_placed (range 0 n) (1 + n) (next_line number) lits) (λ others. Ok (first ∷ others)))) (placed_literal-range n (1 + n) lit low (omega (arith, low)))
     ∙ ap (λ (r : Result (List ℕ) Fault). after r (λ others. Ok (lit ∷ others))) (all_placed-own n (next_line number) lits below.1)
 
 -- gates that stand after this many variables, one after another
@@ -212,6 +212,6 @@ gates_placed-own n k number (gate ∷ gates) fits stand =
     let next : 1 + k + 1 ≡ 1 + suc k = omega arith in
     let rest : Result (List Gate) Fault = gates_placed (range 0 n) (1 + k + 1) (next_line number) gates in
     ap₂ (λ (l r : Option ℕ). after (known number (gate_by l r)) (λ first. after rest (λ others. Ok (first ∷ others))))
-    (placed-range n (1 + k) gate.left (omega (arith, stand.0, fits)) (omega (arith, stand.0))) (placed-range n (1 + k) gate.right (omega (arith, stand.1, fits)) (omega (arith, stand.1)))
+    (placed_literal-range n (1 + k) gate.left (omega (arith, stand.0, fits)) (omega (arith, stand.0))) (placed_literal-range n (1 + k) gate.right (omega (arith, stand.1, fits)) (omega (arith, stand.1)))
     ∙ ap (λ (b : ℕ). after (gates_placed (range 0 n) b (next_line number) gates) (λ others. Ok (gate ∷ others))) next
     ∙ ap (λ (r : Result (List Gate) Fault). after r (λ others. Ok (gate ∷ others))) (gates_placed-own n (suc k) (next_line number) gates (omega (arith, fits)) stand.2)

@@ -6,12 +6,12 @@ use Rattle.std.proofs.lemmas.Bool.{and_left, and_right, eqb-true, false_from_ne_
 use Rattle.std.proofs.lemmas.Bool.Decides.{Decides-eqb}
 use Rattle.std.proofs.lemmas.List.{drop_all}
 use Rattle.std.proofs.lemmas.List.Sums.{sum_by-cons}
-use Rattle.aig_blast.specs.Aigs.{input_widths}
+use Rattle.aig_blast.specs.Aigs.{input_word_widths}
 use Rattle.aig_blast.specs.BitLists.{as_bits}
 use Rattle.aig_blast.specs.declared.aig.InputWord.{InputWord}
 use Rattle.aig_blast.specs.declared.aig.LatchWord.{LatchWord}
 use Rattle.aig_blast.specs.declared.aig.OutputBit.{OutputBit}
-use Rattle.aiger_text.specs.Runs.{begun, goes_on, latch_words, name_or, output_bits, Run, words_from, words_of}
+use Rattle.aiger_text.specs.Runs.{begun, goes_on, latch_words, name_or, output_bits, WordRun, words_from, words_of_bits}
 use Rattle.aiger_text.specs.Printing.{bit_name}
 use Rattle.aiger_text.proofs.Placing.{cut_at}
 
@@ -78,7 +78,7 @@ name-other symbol front back name k b parts same is differs =
     differs ∙ sym (and_left (bytes_eq front name) (bytes_eq back tail) (sym is ∙ differs)) ∙ sym (bytes_eq-append front back name tail same) ∙ ap (λ bs. bytes_eq bs (name ++ tail)) (sym parts) ∙ ap (bytes_eq symbol) (bit_name-parts name k)
 
 -- a run that goes on isn't full
-pub goes_on-below : (run : Run) (symbol : Option (List ℕ)) → goes_on run symbol ≡ true → run.word.width < 128
+pub goes_on-below : (run : WordRun) (symbol : Option (List ℕ)) → goes_on run symbol ≡ true → run.word.width < 128
 goes_on-below run symbol goes = by run.is_run (nat_lt run.word.width 128) _ refl goes
   where
     by : (is below has : Bool) → nat_lt run.word.width 128 ≡ below → (is && (below && has)) ≡ true → run.word.width < 128
@@ -87,23 +87,23 @@ goes_on-below run symbol goes = by run.is_run (nat_lt run.word.width 128) _ refl
     by false below has few goes = absurd (true≢false (sym goes))
 
 -- the words of no bit, and of some
-pub words_of-none : (kind : ℕ) (symbols : List (Option (List ℕ))) (words : List InputWord) → symbols ≡ [] → words ≡ [] → words ≡ words_of kind symbols
-unfolding words_of
-words_of-none kind symbols words none empty = empty ∙ ap (words_of kind) (sym none)
+pub words_of_bits-none : (kind : ℕ) (symbols : List (Option (List ℕ))) (words : List InputWord) → symbols ≡ [] → words ≡ [] → words ≡ words_of_bits kind symbols
+unfolding words_of_bits
+words_of_bits-none kind symbols words none empty = empty ∙ ap (words_of_bits kind) (sym none)
 
-pub words_of-first : (kind : ℕ) (symbols others : List (Option (List ℕ))) (first : Option (List ℕ)) (run : Run) (words : List InputWord) → symbols ≡ first ∷ others → run ≡ begun kind 0 first → words ≡ []
-    → words ++ words_from kind 1 run others ≡ words_of kind symbols
-unfolding words_of
-words_of-first kind symbols others first run words parts begins empty =
-    ap₂ (λ (front : List InputWord) (r : Run). front ++ words_from kind 1 r others) empty begins ∙ ap (words_of kind) (sym parts)
+pub words_of_bits-first : (kind : ℕ) (symbols others : List (Option (List ℕ))) (first : Option (List ℕ)) (run : WordRun) (words : List InputWord) → symbols ≡ first ∷ others → run ≡ begun kind 0 first → words ≡ []
+    → words ++ words_from kind 1 run others ≡ words_of_bits kind symbols
+unfolding words_of_bits
+words_of_bits-first kind symbols others first run words parts begins empty =
+    ap₂ (λ (front : List InputWord) (r : WordRun). front ++ words_from kind 1 r others) empty begins ∙ ap (words_of_bits kind) (sym parts)
 
-pub words_from-step : (kind index next : ℕ) (run more : Run) (others : List (Option (List ℕ))) (k : ℕ) (d : Option (List ℕ)) (words new whole : List InputWord) → k < length others
+pub words_from-step : (kind index next : ℕ) (run more : WordRun) (others : List (Option (List ℕ))) (k : ℕ) (d : Option (List ℕ)) (words new whole : List InputWord) → k < length others
     → ((rest : List (Option (List ℕ))) → new ++ words_from kind next more rest ≡ words ++ words_from kind index run (get_or others k d ∷ rest))
     → words ++ words_from kind index run (drop k others) ≡ whole → new ++ words_from kind next more (drop (k + 1) others) ≡ whole
 words_from-step kind index next run more others k d words new whole within goes so_far =
     goes (drop (k + 1) others) ∙ ap (λ ss. words ++ words_from kind index run ss) (sym (cut_at others k d within)) ∙ so_far
 
-pub words_from-end : (kind index : ℕ) (run : Run) (others : List (Option (List ℕ))) (k : ℕ) (words new whole : List InputWord) → length others ≤ k → new ≡ words ++ run.word ∷ []
+pub words_from-end : (kind index : ℕ) (run : WordRun) (others : List (Option (List ℕ))) (k : ℕ) (words new whole : List InputWord) → length others ≤ k → new ≡ words ++ run.word ∷ []
     → words ++ words_from kind index run (drop k others) ≡ whole → new ≡ whole
 words_from-end kind index run others k words new whole past pushed so_far =
     pushed ∙ sym (ap (λ ss. words ++ words_from kind index run ss) (drop_all k others past)) ∙ so_far
@@ -124,9 +124,9 @@ output_bits-end symbols lits k outputs whole past so_far =
     sym (ap (λ ss. outputs ++ output_bits k ss (drop k lits)) (drop_all k symbols past) ∙ append-nil outputs) ∙ so_far
 
 -- how many bits are left, with one word less
-pub widths-left : (words : List InputWord) (k : ℕ) (word : InputWord) → k < length words → word ≡ get_or words k word → sum (input_widths (drop k words)) ≡ word.width + sum (input_widths (drop (k + 1) words))
+pub widths-left : (words : List InputWord) (k : ℕ) (word : InputWord) → k < length words → word ≡ get_or words k word → sum (input_word_widths (drop k words)) ≡ word.width + sum (input_word_widths (drop (k + 1) words))
 widths-left words k word within is =
-    ap (λ ws. sum (input_widths ws)) (cut_at words k word within ∙ ap (λ (w : InputWord). w ∷ drop (k + 1) words) (sym is)) ∙ sum_by-cons (λ (n : ℕ). n) word.width (input_widths (drop (k + 1) words))
+    ap (λ ws. sum (input_word_widths ws)) (cut_at words k word within ∙ ap (λ (w : InputWord). w ∷ drop (k + 1) words) (sym is)) ∙ sum_by-cons (λ (n : ℕ). n) word.width (input_word_widths (drop (k + 1) words))
 
 -- the words of latches with one more
 pub latch_words-more : (words : List InputWord) (k : ℕ) (word : InputWord) (literals own others : List ℕ) (values first last : List Bool) (latch : LatchWord) (latches new whole : List LatchWord) → k < length words

@@ -6,15 +6,15 @@ use Rattle.std.proofs.lemmas.List.{length_push}
 use Rattle.kw_base.specs.declared.fault.Fault.{Fault}
 use Rattle.aig_blast.specs.Aigs.{IsSymbol}
 use Rattle.stim_report.specs.Stimuli.{after, next_line}
-use Rattle.aiger_text.specs.Cuts.{lines_of, number_of, words_of}
+use Rattle.aiger_text.specs.Cuts.{lines_of, decimal_number, words_of}
 use Rattle.aiger_text.specs.Drafts.{Draft, defined, draft_by, draft_from, draft_in, draft_of, ended, flaw_of, has_above, in_line, is_end, more_gates, more_inputs, more_latches, more_outputs, name_after, named_at, no_lines, output_by, put_symbol, section_of, symbol_at, symbol_by, symbol_of, unless, with_gate, with_input, with_latch, with_line, with_line_in, with_output, word_before}
-use Rattle.aiger_text.specs.Headers.{header_of, numbers_in}
+use Rattle.aiger_text.specs.Headers.{header_of, line_numbers}
 use Rattle.aiger_text.specs.inner.Sound.{AreSymbols, IsDraft}
 use Rattle.aiger_text.specs.declared.header.Header.{Header}
 use Rattle.aiger_text.specs.declared.header.Section.{Section}
 use Rattle.aiger_text.specs.declared.header.Section.TheVariants as sections
-use Rattle.aiger_text.specs.declared.numbers.Numbers.{Numbers}
-use Rattle.aiger_text.specs.declared.numbers.Numbers.TheVariants as numbers
+use Rattle.aiger_text.specs.declared.numbers.LineNumbers.{LineNumbers}
+use Rattle.aiger_text.specs.declared.numbers.LineNumbers.TheVariants as numbers
 use Rattle.aiger_text.proofs.Drafting.{with_line-at}
 use Rattle.aiger_text.proofs.LineEnds.{IsLine, IsSymbol-after, lines_of-lines}
 
@@ -143,16 +143,16 @@ symbol_at-sound d new kind (Some k) (b ∷ bytes) is draft reads = symbol_by-sou
 
 symbol_of-sound : (d new : Draft) (word name : List ℕ) → (name ≢ [] → IsSymbol name) → IsDraft d → symbol_of d word name ≡ Ok new → IsDraft new
 symbol_of-sound d new [] name is draft reads = absurd (cc)
-symbol_of-sound d new (kind ∷ digits) name is draft reads = symbol_at-sound d new kind (number_of digits) name is draft reads
+symbol_of-sound d new (kind ∷ digits) name is draft reads = symbol_at-sound d new kind (decimal_number digits) name is draft reads
 
 -- a line more
-with_input-sound : (h : Header) (d new : Draft) (line : Numbers) → IsDraft d → with_input h d line ≡ Ok new → IsDraft new
+with_input-sound : (h : Header) (d new : Draft) (line : LineNumbers) → IsDraft d → with_input h d line ≡ Ok new → IsDraft new
 with_input-sound h d new (numbers.One lit) draft reads = subst IsDraft (unless-ok (flaw_of h d.variables lit (lit ∷ []) 0) (more_inputs (defined d lit)) new reads) (input-sound d lit draft)
 with_input-sound h d new (numbers.Two a b) draft reads = absurd (cc)
 with_input-sound h d new (numbers.Three a b c) draft reads = absurd (cc)
 with_input-sound h d new numbers.Other draft reads = absurd (cc)
 
-with_latch-sound : (h : Header) (d new : Draft) (line : Numbers) → IsDraft d → with_latch h d line ≡ Ok new → IsDraft new
+with_latch-sound : (h : Header) (d new : Draft) (line : LineNumbers) → IsDraft d → with_latch h d line ≡ Ok new → IsDraft new
 with_latch-sound h d new (numbers.One a) draft reads = absurd (cc)
 with_latch-sound h d new (numbers.Two lit next) draft reads =
     subst IsDraft (unless-ok (flaw_of h d.variables lit (lit ∷ next ∷ []) 0) (more_latches next 0 (defined d lit)) new reads) (latch-sound d lit next 0 draft)
@@ -167,13 +167,13 @@ output_by-sound h d new lit draft reads = by (has_above h.most (lit ∷ [])) rea
     by true reads = absurd (cc)
     by false reads = let same : more_outputs lit d ≡ new = cc in subst IsDraft same (output-sound d lit draft)
 
-with_output-sound : (h : Header) (d new : Draft) (line : Numbers) → IsDraft d → with_output h d line ≡ Ok new → IsDraft new
+with_output-sound : (h : Header) (d new : Draft) (line : LineNumbers) → IsDraft d → with_output h d line ≡ Ok new → IsDraft new
 with_output-sound h d new (numbers.One lit) draft reads = output_by-sound h d new lit draft reads
 with_output-sound h d new (numbers.Two a b) draft reads = absurd (cc)
 with_output-sound h d new (numbers.Three a b c) draft reads = absurd (cc)
 with_output-sound h d new numbers.Other draft reads = absurd (cc)
 
-with_gate-sound : (h : Header) (d new : Draft) (line : Numbers) → IsDraft d → with_gate h d line ≡ Ok new → IsDraft new
+with_gate-sound : (h : Header) (d new : Draft) (line : LineNumbers) → IsDraft d → with_gate h d line ≡ Ok new → IsDraft new
 with_gate-sound h d new (numbers.One a) draft reads = absurd (cc)
 with_gate-sound h d new (numbers.Two a b) draft reads = absurd (cc)
 with_gate-sound h d new (numbers.Three lit left right) draft reads =
@@ -181,10 +181,10 @@ with_gate-sound h d new (numbers.Three lit left right) draft reads =
 with_gate-sound h d new numbers.Other draft reads = absurd (cc)
 
 with_line_in-sound : (s : Section) (h : Header) (d new : Draft) (line : List ℕ) → IsLine line → IsDraft d → with_line_in s h d line ≡ Ok new → IsDraft new
-with_line_in-sound sections.Input h d new line is draft reads = with_input-sound h d new (numbers_in line) draft reads
-with_line_in-sound sections.Latch h d new line is draft reads = with_latch-sound h d new (numbers_in line) draft reads
-with_line_in-sound sections.Output h d new line is draft reads = with_output-sound h d new (numbers_in line) draft reads
-with_line_in-sound sections.Gate h d new line is draft reads = with_gate-sound h d new (numbers_in line) draft reads
+with_line_in-sound sections.Input h d new line is draft reads = with_input-sound h d new (line_numbers line) draft reads
+with_line_in-sound sections.Latch h d new line is draft reads = with_latch-sound h d new (line_numbers line) draft reads
+with_line_in-sound sections.Output h d new line is draft reads = with_output-sound h d new (line_numbers line) draft reads
+with_line_in-sound sections.Gate h d new line is draft reads = with_gate-sound h d new (line_numbers line) draft reads
 with_line_in-sound sections.Symbol h d new line is draft reads = symbol_of-sound d new (word_before line) (name_after line) (IsSymbol-after line is) draft reads
 
 pub with_line-sound : (h : Header) (d new : Draft) (line : List ℕ) → IsLine line → IsDraft d → with_line h d line ≡ Ok new → IsDraft new

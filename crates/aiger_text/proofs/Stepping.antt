@@ -7,7 +7,7 @@ use Rattle.kw_base.specs.declared.fault.Fault.{Fault}
 use Rattle.stim_report.specs.Stimuli.{after, next_line}
 use Rattle.aiger_text.specs.Cuts.{numbers_of}
 use Rattle.aiger_text.specs.Drafts.{Draft, defined, draft_from, flaw_of, has_above, in_line, is_end, more_gates, more_inputs, more_latches, more_outputs, section_of, unless, with_gate, with_input, with_latch, with_line, with_output}
-use Rattle.aiger_text.specs.Headers.{numbers_by, numbers_in}
+use Rattle.aiger_text.specs.Headers.{numbers_by, line_numbers}
 use Rattle.aiger_text.specs.Places.{is_defined}
 use Rattle.aiger_text.specs.Printing.{reset_text}
 use Rattle.aiger_text.specs.declared.header.Header.{Header}
@@ -84,32 +84,32 @@ flaw_of-none h k lits reset all bit =
         → cond {A = Option ℕ} a (Some 71) (cond {A = Option ℕ} b (Some 72) (cond {A = Option ℕ} (c || e) (Some 73) (cond {A = Option ℕ} f (Some 75) None))) ≡ None
     by a b c e f above twice low odd left = rw (above, twice, low, odd, left) refl
 
-pub numbers_in-line : (first : ℕ) (others : List ℕ) → first < 2 ^ 63 → AllSmall others → numbers_in (numbers_line first others) ≡ numbers_by (Some (first ∷ others))
-numbers_in-line first others small all = ap numbers_by (ap numbers_of (words_of-numbers first others small all) ∙ numbers_of-decimals (first ∷ others) (small, all))
+pub line_numbers-line : (first : ℕ) (others : List ℕ) → first < 2 ^ 63 → AllSmall others → line_numbers (numbers_line first others) ≡ numbers_by (Some (first ∷ others))
+line_numbers-line first others small all = ap numbers_by (ap numbers_of (words_of-numbers first others small all) ∙ numbers_of-decimals (first ∷ others) (small, all))
 
 -- ---- one line of each kind
 
 pub input_line : (h : Header) (d : Draft) (k : ℕ) → d.variables ≡ range 0 k → length d.inputs < h.inputs → suc k ≤ h.most → 2 * suc k < 2 ^ 63 → with_line h d (numbers_line (2 * suc k) []) ≡ Ok (more_inputs (defined d (2 * suc k)))
 input_line h d k are some fits small =
-    with_line-at sections.Input h d (numbers_line (2 * suc k) []) (at-input h d some) ∙ ap (with_input h d) (numbers_in-line (2 * suc k) [] small tt)
+    with_line-at sections.Input h d (numbers_line (2 * suc k) []) (at-input h d some) ∙ ap (with_input h d) (line_numbers-line (2 * suc k) [] small tt)
     ∙ ap (λ flaw. unless flaw (more_inputs (defined d (2 * suc k)))) (ap (λ vs. flaw_of h vs (2 * suc k) (2 * suc k ∷ []) 0) are ∙ flaw_of-none h k (2 * suc k ∷ []) 0 (omega arith, tt) (omega arith))
 
 pub latch_line_read : (h : Header) (d : Draft) (k next : ℕ) (reset : Bool) → d.variables ≡ range 0 k → h.inputs ≤ length d.inputs → length d.latches < h.latches → suc k ≤ h.most → next / 2 ≤ h.most → 2 * suc k < 2 ^ 63
     → next < 2 ^ 63 → with_line h d (numbers_line (2 * suc k) (next ∷ reset_text reset)) ≡ Ok (record d { variables = d.variables ++ 2 * suc k / 2 ∷ []; latches = d.latches ++ None ∷ []; nexts = d.nexts ++ next ∷ []; resets = d.resets ++ reset ∷ [] })
 latch_line_read h d k next true are inputs some fits below small next_small =
-    with_line-at sections.Latch h d (numbers_line (2 * suc k) (next ∷ 1 ∷ [])) (at-latch h d inputs some) ∙ ap (with_latch h d) (numbers_in-line (2 * suc k) (next ∷ 1 ∷ []) small (next_small, (omega arith, tt)))
+    with_line-at sections.Latch h d (numbers_line (2 * suc k) (next ∷ 1 ∷ [])) (at-latch h d inputs some) ∙ ap (with_latch h d) (line_numbers-line (2 * suc k) (next ∷ 1 ∷ []) small (next_small, (omega arith, tt)))
     ∙ ap (λ flaw. unless flaw (more_latches next 1 (defined d (2 * suc k)))) (ap (λ vs. flaw_of h vs (2 * suc k) (2 * suc k ∷ next ∷ []) 1) are ∙ flaw_of-none h k (2 * suc k ∷ next ∷ []) 1 (omega arith, (below, tt)) (omega arith))
 latch_line_read h d k next false are inputs some fits below small next_small =
-    with_line-at sections.Latch h d (numbers_line (2 * suc k) (next ∷ [])) (at-latch h d inputs some) ∙ ap (with_latch h d) (numbers_in-line (2 * suc k) (next ∷ []) small (next_small, tt))
+    with_line-at sections.Latch h d (numbers_line (2 * suc k) (next ∷ [])) (at-latch h d inputs some) ∙ ap (with_latch h d) (line_numbers-line (2 * suc k) (next ∷ []) small (next_small, tt))
     ∙ ap (λ flaw. unless flaw (more_latches next 0 (defined d (2 * suc k)))) (ap (λ vs. flaw_of h vs (2 * suc k) (2 * suc k ∷ next ∷ []) 0) are ∙ flaw_of-none h k (2 * suc k ∷ next ∷ []) 0 (omega arith, (below, tt)) (omega arith))
 
 pub output_line : (h : Header) (d : Draft) (lit : ℕ) → h.inputs ≤ length d.inputs → h.latches ≤ length d.latches → length d.outputs < h.outputs → lit / 2 ≤ h.most → lit < 2 ^ 63 → with_line h d (numbers_line lit []) ≡ Ok (more_outputs lit d)
 output_line h d lit inputs latches some below small =
-    with_line-at sections.Output h d (numbers_line lit []) (at-output h d inputs latches some) ∙ ap (with_output h d) (numbers_in-line lit [] small tt)
+    with_line-at sections.Output h d (numbers_line lit []) (at-output h d inputs latches some) ∙ ap (with_output h d) (line_numbers-line lit [] small tt)
     ∙ ap (λ t. cond {A = Result Draft ℕ} t (Err 71) (Ok (more_outputs lit d))) (none_above h.most (lit ∷ []) (below, tt))
 
 pub gate_line : (h : Header) (d : Draft) (k left right : ℕ) → d.variables ≡ range 0 k → h.inputs ≤ length d.inputs → h.latches ≤ length d.latches → h.outputs ≤ length d.outputs → length d.gates < h.gates → suc k ≤ h.most
     → left / 2 ≤ h.most → right / 2 ≤ h.most → 2 * suc k < 2 ^ 63 → left < 2 ^ 63 → right < 2 ^ 63 → with_line h d (numbers_line (2 * suc k) (left ∷ right ∷ [])) ≡ Ok (more_gates left right (defined d (2 * suc k)))
 gate_line h d k left right are inputs latches outputs some fits l r small left_small right_small =
-    with_line-at sections.Gate h d (numbers_line (2 * suc k) (left ∷ right ∷ [])) (at-gate h d inputs latches outputs some) ∙ ap (with_gate h d) (numbers_in-line (2 * suc k) (left ∷ right ∷ []) small (left_small, (right_small, tt)))
+    with_line-at sections.Gate h d (numbers_line (2 * suc k) (left ∷ right ∷ [])) (at-gate h d inputs latches outputs some) ∙ ap (with_gate h d) (line_numbers-line (2 * suc k) (left ∷ right ∷ []) small (left_small, (right_small, tt)))
     ∙ ap (λ flaw. unless flaw (more_gates left right (defined d (2 * suc k)))) (ap (λ vs. flaw_of h vs (2 * suc k) (2 * suc k ∷ left ∷ right ∷ []) 0) are ∙ flaw_of-none h k (2 * suc k ∷ left ∷ right ∷ []) 0 (omega arith, (l, (r, tt))) (omega arith))

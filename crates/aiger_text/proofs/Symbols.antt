@@ -16,7 +16,7 @@ use Rattle.aiger_text.proofs.Cutting.{front_of-parts, rest_of-parts}
 use Rattle.aiger_text.proofs.Drafting.{put_symbol-within, with_line-at}
 use Rattle.aiger_text.proofs.LineEnds.{all_joined, IsLine}
 use Rattle.aiger_text.proofs.Naming.{digits_other}
-use Rattle.aiger_text.proofs.PrintedLines.{digits-not_blank, number_of-decimal}
+use Rattle.aiger_text.proofs.PrintedLines.{digits-not_blank, decimal_number-decimal}
 use Rattle.aiger_text.proofs.Sections.{nones}
 use Rattle.aiger_text.proofs.Stepping.{Leads, leads-line, leads-none}
 
@@ -62,7 +62,7 @@ with_symbol-row : (d : Draft) (kind index : ℕ) (name : List ℕ) → is_blank 
 with_symbol-row d kind index name filled small is =
     let parts = word_before-row kind index name filled small in
     ap₂ (λ (word : List ℕ) (rest : List ℕ). symbol_of d word (without_blanks rest)) parts.0 parts.1 ∙ ap (symbol_of d (kind ∷ decimal index)) (starts name is_blank is.begins)
-    ∙ ap (λ k. symbol_at d kind k name) (number_of-decimal index small) ∙ symbol_at-name d kind index name is.some
+    ∙ ap (λ k. symbol_at d kind k name) (decimal_number-decimal index small) ∙ symbol_at-name d kind index name is.some
 
 -- the first place without a symbol
 named_at-next : (done rest : List (Option (List ℕ))) (name : List ℕ) → named_at (done ++ None ∷ rest) (length done) name ≡ done ++ Some name ∷ rest

@@ -69,16 +69,16 @@ abbrev pub is_numeral : List ℕ → Bool
 is_numeral word = has_bytes word && list_all (λ b. is_digit b 10) word
 
 -- the number that a word of decimal digits is, below 2^63
-unfoldable pub number_of : List ℕ → Option ℕ
-number_of word = if is_numeral word && nat_lt (digits_value 10 word) (2 ^ 63) then Some (digits_value 10 word) else None
+unfoldable pub decimal_number : List ℕ → Option ℕ
+decimal_number word = if is_numeral word && nat_lt (digits_value 10 word) (2 ^ 63) then Some (digits_value 10 word) else None
 
 -- the numbers that words write, if each writes one
-abbrev pub joined : Option ℕ → Option (List ℕ) → Option (List ℕ)
-joined (Some number) (Some numbers) = Some (number ∷ numbers)
-joined (Some number) None = None
-joined None numbers = None
+abbrev pub numbers_if_all : Option ℕ → Option (List ℕ) → Option (List ℕ)
+numbers_if_all (Some number) (Some numbers) = Some (number ∷ numbers)
+numbers_if_all (Some number) None = None
+numbers_if_all None numbers = None
 
 -- the numbers that words are, if all are numbers
 abbrev pub numbers_of : List (List ℕ) → Option (List ℕ)
 numbers_of [] = Some []
-numbers_of (word ∷ words) = joined (number_of word) (numbers_of words)
+numbers_of (word ∷ words) = numbers_if_all (decimal_number word) (numbers_of words)

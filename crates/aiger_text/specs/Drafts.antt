@@ -7,12 +7,12 @@ use Rattle.kw_base.specs.Fault.{fault_at}
 use Rattle.kw_base.specs.declared.fault.Fault.{Fault}
 use Rattle.aig_blast.specs.declared.gate.Gate.{Gate}
 use Rattle.stim_report.specs.Stimuli.{after, next_line}
-use Rattle.aiger_text.specs.Cuts.{front_of, lines_of, not_blank, number_of, rest_of, without_blanks, words_of}
-use Rattle.aiger_text.specs.Headers.{header_of, numbers_in}
+use Rattle.aiger_text.specs.Cuts.{front_of, lines_of, not_blank, decimal_number, rest_of, without_blanks, words_of}
+use Rattle.aiger_text.specs.Headers.{header_of, line_numbers}
 use Rattle.aiger_text.specs.Places.{is_defined}
 use Rattle.aiger_text.specs.declared.header.Header.{Header}
-use Rattle.aiger_text.specs.declared.numbers.Numbers.{Numbers}
-use Rattle.aiger_text.specs.declared.numbers.Numbers.TheVariants as numbers
+use Rattle.aiger_text.specs.declared.numbers.LineNumbers.{LineNumbers}
+use Rattle.aiger_text.specs.declared.numbers.LineNumbers.TheVariants as numbers
 use Rattle.aiger_text.specs.declared.header.Section.{Section}
 use Rattle.aiger_text.specs.declared.header.Section.TheVariants as sections
 
@@ -77,7 +77,7 @@ abbrev pub input_by : Header → Draft → ℕ → Result Draft ℕ
 input_by h d lit = unless (flaw_of h d.variables lit (lit ∷ []) 0) (more_inputs (defined d lit))
 
 -- a draft with a line of an input
-abbrev pub with_input : Header → Draft → Numbers → Result Draft ℕ
+abbrev pub with_input : Header → Draft → LineNumbers → Result Draft ℕ
 with_input h d (numbers.One lit) = input_by h d lit
 with_input h d _ = Err 70
 
@@ -86,7 +86,7 @@ abbrev pub latch_by : Header → Draft → ℕ → ℕ → ℕ → Result Draft 
 latch_by h d lit next reset = unless (flaw_of h d.variables lit (lit ∷ next ∷ []) reset) (more_latches next reset (defined d lit))
 
 -- a draft with a line of a latch: two literals, or three with its reset value
-abbrev pub with_latch : Header → Draft → Numbers → Result Draft ℕ
+abbrev pub with_latch : Header → Draft → LineNumbers → Result Draft ℕ
 with_latch h d (numbers.Two lit next) = latch_by h d lit next 0
 with_latch h d (numbers.Three lit next reset) = latch_by h d lit next reset
 with_latch h d _ = Err 70
@@ -96,7 +96,7 @@ abbrev pub output_by : Header → Draft → ℕ → Result Draft ℕ
 output_by h d lit = if has_above h.most (lit ∷ []) then Err 71 else Ok (more_outputs lit d)
 
 -- a draft with a line of an output
-abbrev pub with_output : Header → Draft → Numbers → Result Draft ℕ
+abbrev pub with_output : Header → Draft → LineNumbers → Result Draft ℕ
 with_output h d (numbers.One lit) = output_by h d lit
 with_output h d _ = Err 70
 
@@ -105,7 +105,7 @@ abbrev pub gate_by : Header → Draft → ℕ → ℕ → ℕ → Result Draft �
 gate_by h d lit left right = unless (flaw_of h d.variables lit (lit ∷ left ∷ right ∷ []) 0) (more_gates left right (defined d lit))
 
 -- a draft with a line of a gate
-abbrev pub with_gate : Header → Draft → Numbers → Result Draft ℕ
+abbrev pub with_gate : Header → Draft → LineNumbers → Result Draft ℕ
 with_gate h d (numbers.Three lit left right) = gate_by h d lit left right
 with_gate h d _ = Err 70
 
@@ -140,7 +140,7 @@ symbol_at d kind (Some k) (b ∷ bytes) = symbol_by d kind k (b ∷ bytes)
 -- a draft with a symbol whose word is a letter and an index
 abbrev pub symbol_of : Draft → List ℕ → List ℕ → Result Draft ℕ
 symbol_of d [] name = Err 70
-symbol_of d (kind ∷ digits) name = symbol_at d kind (number_of digits) name
+symbol_of d (kind ∷ digits) name = symbol_at d kind (decimal_number digits) name
 
 -- the first word of a line
 abbrev pub word_before : List ℕ → List ℕ
@@ -164,10 +164,10 @@ section_of h d =
 
 -- what the lines say with one more, or the fault of that line
 abbrev pub with_line_in : Section → Header → Draft → List ℕ → Result Draft ℕ
-with_line_in sections.Input h d line = with_input h d (numbers_in line)
-with_line_in sections.Latch h d line = with_latch h d (numbers_in line)
-with_line_in sections.Output h d line = with_output h d (numbers_in line)
-with_line_in sections.Gate h d line = with_gate h d (numbers_in line)
+with_line_in sections.Input h d line = with_input h d (line_numbers line)
+with_line_in sections.Latch h d line = with_latch h d (line_numbers line)
+with_line_in sections.Output h d line = with_output h d (line_numbers line)
+with_line_in sections.Gate h d line = with_gate h d (line_numbers line)
 with_line_in sections.Symbol h d line = with_symbol d line
 
 -- a draft with one more line, by the section that the draft has come to

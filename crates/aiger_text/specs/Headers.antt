@@ -3,19 +3,19 @@
 use Rattle.std.specs.Prelude.{ℕ, ◌+◌, if◌then◌else◌, nat_le, List, [], ◌∷◌, codes, bytes_eq, Option, None, Some}
 use Rattle.aiger_text.specs.Cuts.{numbers_of, words_of}
 use Rattle.aiger_text.specs.declared.header.Header.{Header}
-use Rattle.aiger_text.specs.declared.numbers.Numbers.{Numbers}
-use Rattle.aiger_text.specs.declared.numbers.Numbers.TheVariants as numbers
+use Rattle.aiger_text.specs.declared.numbers.LineNumbers.{LineNumbers}
+use Rattle.aiger_text.specs.declared.numbers.LineNumbers.TheVariants as numbers
 
 -- the numbers of a line, if it has one, two or three and nothing else
-abbrev pub numbers_by : Option (List ℕ) → Numbers
+abbrev pub numbers_by : Option (List ℕ) → LineNumbers
 numbers_by (Some (a ∷ [])) = numbers.One a
 numbers_by (Some (a ∷ b ∷ [])) = numbers.Two a b
 numbers_by (Some (a ∷ b ∷ c ∷ [])) = numbers.Three a b c
 numbers_by _ = numbers.Other
 
 -- the numbers of a line, by how many there are
-abbrev pub numbers_in : List ℕ → Numbers
-numbers_in line = numbers_by (numbers_of (words_of line))
+abbrev pub line_numbers : List ℕ → LineNumbers
+line_numbers line = numbers_by (numbers_of (words_of line))
 
 -- the header of a line: `aag` and five numbers, the first not less than the second, third and fifth together
 abbrev pub header_by : Option (List ℕ) → Option Header

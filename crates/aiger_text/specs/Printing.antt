@@ -3,7 +3,7 @@
 -- has the symbol `x[k]`.
 use Rattle.std.specs.Prelude.{ℕ, Bool, zero, suc, ◌+◌, ◌*◌, ◌/◌, ◌%◌, ◌^◌, nat_eq, if◌then◌else◌, List, [], ◌∷◌, ◌++◌, codes, decimal, length, slice_index_or}
 use Rattle.std.specs.List.{flat_map}
-use Rattle.aig_blast.specs.Aigs.{AigParts, input_widths, latch_widths, sources, variables}
+use Rattle.aig_blast.specs.Aigs.{AigParts, input_word_widths, latch_widths, sources, variables}
 use Rattle.std.specs.Prelude.{sum}
 use Rattle.kw_bits.specs.BitVector.{BitVector}
 use Rattle.aig_blast.specs.declared.aig.InputWord.{InputWord}
@@ -20,8 +20,8 @@ abbrev pub rest_text : List ℕ → List ℕ
 rest_text numbers = flat_map spaced numbers ++ 10 ∷ []
 
 -- a line of numbers with one space between two
-abbrev pub line_text : ℕ → List ℕ → List ℕ
-line_text first others = decimal first ++ rest_text others
+abbrev pub numbers_text : ℕ → List ℕ → List ℕ
+numbers_text first others = decimal first ++ rest_text others
 
 -- the texts for 0, 1 and so on, that many
 abbrev pub texts_below : (ℕ → List ℕ) → ℕ → List ℕ
@@ -35,7 +35,7 @@ laid width f number (x ∷ xs) = f number x ++ laid width f (number + width x) x
 
 -- the lines of a word of inputs, and of latches, whose first variable is this one
 abbrev pub input_lines : ℕ → ℕ → List ℕ
-input_lines variable width = texts_below (λ k. line_text (2 * (variable + k)) []) width
+input_lines variable width = texts_below (λ k. numbers_text (2 * (variable + k)) []) width
 
 -- the lines of an input word, one for each bit
 abbrev pub input_word_text : ℕ → InputWord → List ℕ
@@ -47,7 +47,7 @@ reset_text reset = if reset then 1 ∷ [] else []
 
 -- the line of a latch: its literal, its next literal, and its reset value where it is 1
 abbrev pub latch_line : ℕ → ℕ → List ℕ → ℕ → List ℕ
-latch_line variable resets nexts k = line_text (2 * (variable + k)) (slice_index_or nexts k 0 ∷ reset_text (nat_eq (resets / 2 ^ k % 2) 1))
+latch_line variable resets nexts k = numbers_text (2 * (variable + k)) (slice_index_or nexts k 0 ∷ reset_text (nat_eq (resets / 2 ^ k % 2) 1))
 
 -- the lines of the latches of a word, bit 0 first
 abbrev pub latch_lines : ℕ → BitVector → List ℕ → List ℕ
@@ -59,11 +59,11 @@ latch_word_text variable word = latch_lines variable word.first word.nexts
 
 -- the line of an output
 abbrev pub output_text : OutputBit → List ℕ
-output_text output = line_text output.lit []
+output_text output = numbers_text output.lit []
 
 -- the line of a gate
 abbrev pub gate_text : ℕ → Gate → List ℕ
-gate_text variable gate = line_text (2 * variable) (gate.left ∷ gate.right ∷ [])
+gate_text variable gate = numbers_text (2 * variable) (gate.left ∷ gate.right ∷ [])
 
 -- a symbol: a kind and an index, and a name
 abbrev pub symbol_text : ℕ → ℕ → List ℕ → List ℕ
@@ -78,8 +78,8 @@ abbrev pub word_symbols : ℕ → ℕ → List ℕ → ℕ → List ℕ
 word_symbols kind index name width = texts_below (λ k. symbol_text kind (index + k) (bit_name name k)) width
 
 -- how many input lines an input word has
-abbrev pub width_of : InputWord → ℕ
-width_of word = word.width
+abbrev pub input_line_count : InputWord → ℕ
+input_line_count word = word.width
 
 -- how many latch lines a latch word has
 abbrev pub latch_width_of : LatchWord → ℕ
@@ -104,10 +104,10 @@ output_symbol index output = symbol_text 111 index output.name
 -- the text of a bit-level circuit
 abbrev pub text_of : AigParts → List ℕ
 text_of a =
-    let inputs : ℕ = sum (input_widths a.inputs) in
+    let inputs : ℕ = sum (input_word_widths a.inputs) in
     codes "aag" ++ rest_text (variables a ∷ inputs ∷ sum (latch_widths a.latches) ∷ length a.outputs ∷ length a.gates ∷ [])
-    ++ laid width_of input_word_text 1 a.inputs ++ laid latch_width_of latch_word_text (1 + inputs) a.latches ++ flat_map output_text a.outputs
+    ++ laid input_line_count input_word_text 1 a.inputs ++ laid latch_width_of latch_word_text (1 + inputs) a.latches ++ flat_map output_text a.outputs
     ++ laid one_of gate_text (1 + sources a) a.gates
-    ++ laid width_of input_symbols 0 a.inputs
+    ++ laid input_line_count input_symbols 0 a.inputs
     ++ laid latch_width_of latch_symbols 0 a.latches
     ++ laid one_of output_symbol 0 a.outputs

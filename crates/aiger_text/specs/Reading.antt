@@ -9,7 +9,7 @@ use Rattle.aig_blast.specs.declared.gate.Gate.{Gate}
 use Rattle.stim_report.specs.Stimuli.{after, next_line}
 use Rattle.aiger_text.specs.Drafts.{Draft, draft_of, fault_in}
 use Rattle.aiger_text.specs.Places.{place_of}
-use Rattle.aiger_text.specs.Runs.{latch_words, output_bits, words_of}
+use Rattle.aiger_text.specs.Runs.{latch_words, output_bits, words_of_bits}
 
 -- the literal with a place for its variable, where that is before a bound
 abbrev pub literal_at : ℕ → Option ℕ → ℕ → Option ℕ
@@ -17,8 +17,8 @@ literal_at bound None sign = None
 literal_at bound (Some place) sign = if nat_lt place bound then Some (2 * place + sign) else None
 
 -- a literal over the variables' places, if its variable is defined and below a bound
-abbrev pub placed : List ℕ → ℕ → ℕ → Option ℕ
-placed variables bound lit = literal_at bound (place_of variables (lit / 2)) (lit % 2)
+abbrev pub placed_literal : List ℕ → ℕ → ℕ → Option ℕ
+placed_literal variables bound lit = literal_at bound (place_of variables (lit / 2)) (lit % 2)
 
 -- a literal without a place is a fault in its line
 abbrev pub known : {X : Type 0} → ℕ → Option X → Result X Fault
@@ -29,7 +29,7 @@ known number (Some x) = Ok x
 abbrev pub all_placed : List ℕ → ℕ → ℕ → List ℕ → Result (List ℕ) Fault
 all_placed variables bound number [] = Ok []
 all_placed variables bound number (lit ∷ lits) =
-    after (known number (placed variables bound lit)) (λ first.
+    after (known number (placed_literal variables bound lit)) (λ first.
     after (all_placed variables bound (next_line number) lits) (λ others. Ok (first ∷ others)))
 
 -- a gate both of whose literals have places, and gates of lines, each with a place more before it than the last
@@ -40,7 +40,7 @@ gate_by None right = None
 
 -- a gate over the variables' places
 abbrev pub placed_gate : List ℕ → ℕ → Gate → Option Gate
-placed_gate variables bound gate = gate_by (placed variables bound gate.left) (placed variables bound gate.right)
+placed_gate variables bound gate = gate_by (placed_literal variables bound gate.left) (placed_literal variables bound gate.right)
 
 -- gates over the variables' places, each over those before it; the first one that isn't is a fault
 abbrev pub gates_placed : List ℕ → ℕ → ℕ → List Gate → Result (List Gate) Fault
@@ -54,8 +54,8 @@ gates_placed variables bound number (gate ∷ gates) =
 abbrev pub parts_by : Draft → List ℕ → List ℕ → List Gate → AigParts
 parts_by d nexts lits gates =
     record {
-      inputs = words_of 105 d.inputs;
-      latches = latch_words (words_of 108 d.latches) nexts d.resets;
+      inputs = words_of_bits 105 d.inputs;
+      latches = latch_words (words_of_bits 108 d.latches) nexts d.resets;
       outputs = output_bits 0 d.outputs lits;
       gates = gates;
     }

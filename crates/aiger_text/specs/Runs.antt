@@ -8,17 +8,17 @@ use Rattle.aig_blast.specs.declared.aig.OutputBit.{OutputBit}
 use Rattle.aiger_text.specs.Printing.{bit_name}
 
 -- a word so far, and whether it is a run
-pub record Run : Type 0 where
+pub record WordRun : Type 0 where
   pub word : InputWord
   pub is_run : Bool
 
 -- a word of one bit of this name, and a run that begins
-abbrev pub alone : List ℕ → Run
+abbrev pub alone : List ℕ → WordRun
 alone name = record { word = record { name = name; width = 1 }; is_run = false }
 
 -- a run of symbols that begins with bit 0 of a name
-abbrev pub first_of : List ℕ → Run
-first_of name = record { word = record { name = name; width = 1 }; is_run = true }
+abbrev pub run_begun : List ℕ → WordRun
+run_begun name = record { word = record { name = name; width = 1 }; is_run = true }
 
 -- a symbol ends with `[0]`, after a byte or more
 abbrev pub begins_run : List ℕ → Bool
@@ -30,11 +30,11 @@ name_or kind index None = kind ∷ decimal index
 name_or kind index (Some symbol) = symbol
 
 -- the run that a symbol begins: of several bits, or alone
-abbrev pub begun_by : List ℕ → Run
-begun_by symbol = if begins_run symbol then first_of (take (length symbol - 3) symbol) else alone symbol
+abbrev pub begun_by : List ℕ → WordRun
+begun_by symbol = if begins_run symbol then run_begun (take (length symbol - 3) symbol) else alone symbol
 
 -- the run that a symbol or none begins; without one the name is a letter and the index
-abbrev pub begun : ℕ → ℕ → Option (List ℕ) → Run
+abbrev pub begun : ℕ → ℕ → Option (List ℕ) → WordRun
 begun kind index None = alone (kind ∷ decimal index)
 begun kind index (Some symbol) = begun_by symbol
 
@@ -44,24 +44,24 @@ has_symbol None name = false
 has_symbol (Some symbol) name = bytes_eq symbol name
 
 -- whether a symbol is the next bit of a run
-abbrev pub goes_on : Run → Option (List ℕ) → Bool
+abbrev pub goes_on : WordRun → Option (List ℕ) → Bool
 goes_on run symbol = run.is_run && (nat_lt run.word.width 128 && has_symbol symbol (bit_name run.word.name run.word.width))
 
 -- a run that is one bit wider
-abbrev pub wider : Run → Run
+abbrev pub wider : WordRun → WordRun
 wider run = record run { word = record { name = run.word.name; width = run.word.width + 1 } }
 
 -- the words from a run on, by the symbols of the bits after it, the first of which has this index
-abbrev pub words_from : ℕ → ℕ → Run → List (Option (List ℕ)) → List InputWord
+abbrev pub words_from : ℕ → ℕ → WordRun → List (Option (List ℕ)) → List InputWord
 words_from kind index run [] = run.word ∷ []
 words_from kind index run (symbol ∷ symbols) =
     if goes_on run symbol then words_from kind (index + 1) (wider run) symbols
     else run.word ∷ words_from kind (index + 1) (begun kind index symbol) symbols
 
 -- the words of all bits of a kind, `i` or `l`, by their symbols
-unfoldable pub words_of : ℕ → List (Option (List ℕ)) → List InputWord
-words_of kind [] = []
-words_of kind (symbol ∷ symbols) = words_from kind 1 (begun kind 0 symbol) symbols
+unfoldable pub words_of_bits : ℕ → List (Option (List ℕ)) → List InputWord
+words_of_bits kind [] = []
+words_of_bits kind (symbol ∷ symbols) = words_from kind 1 (begun kind 0 symbol) symbols
 
 -- the words of latches, by the next literals and the resets of all
 abbrev pub latch_words : List InputWord → List ℕ → List Bool → List LatchWord

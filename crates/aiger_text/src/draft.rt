@@ -7,7 +7,7 @@ ghost use Rattle.aiger_text.specs.inner.Steps.{parts_of, ReadsLine, ReadsSymbol}
 
 use crate::cuts::{first_word, without_blanks};
 use crate::header::{Header, Section};
-use crate::numbers::{Numbers, number_of, numbers_in};
+use crate::numbers::{LineNumbers, number_of, numbers_in};
 use crate::variables::Variables;
 use aig_blast::{Gate, Lit};
 use kw_base::fault_number::{
@@ -121,14 +121,14 @@ impl Draft {
         }
     }
 
-    fn add_input(&mut self, header: &Header, numbers: Numbers) -> Result<(), Flaw>
+    fn add_input(&mut self, header: &Header, numbers: LineNumbers) -> Result<(), Flaw>
         ensures { ReadsLine result (drafts.with_input header.now (parts_of self.old) numbers) (parts_of self.new) }
     {
         match numbers {
-            Numbers::One(lit) => self.add_input_of(header, lit),
-            Numbers::Two(_, _) => Err(Flaw::Fault(MALFORMED_AIGER)),
-            Numbers::Three(_, _, _) => Err(Flaw::Fault(MALFORMED_AIGER)),
-            Numbers::Other => Err(Flaw::Fault(MALFORMED_AIGER)),
+            LineNumbers::One(lit) => self.add_input_of(header, lit),
+            LineNumbers::Two(_, _) => Err(Flaw::Fault(MALFORMED_AIGER)),
+            LineNumbers::Three(_, _, _) => Err(Flaw::Fault(MALFORMED_AIGER)),
+            LineNumbers::Other => Err(Flaw::Fault(MALFORMED_AIGER)),
         }
     }
 
@@ -142,14 +142,14 @@ impl Draft {
         Ok(())
     }
 
-    fn add_latch(&mut self, header: &Header, numbers: Numbers) -> Result<(), Flaw>
+    fn add_latch(&mut self, header: &Header, numbers: LineNumbers) -> Result<(), Flaw>
         ensures { ReadsLine result (drafts.with_latch header.now (parts_of self.old) numbers) (parts_of self.new) }
     {
         match numbers {
-            Numbers::Two(lit, next) => self.add_latch_of(header, lit, next, 0),
-            Numbers::Three(lit, next, reset) => self.add_latch_of(header, lit, next, reset),
-            Numbers::One(_) => Err(Flaw::Fault(MALFORMED_AIGER)),
-            Numbers::Other => Err(Flaw::Fault(MALFORMED_AIGER)),
+            LineNumbers::Two(lit, next) => self.add_latch_of(header, lit, next, 0),
+            LineNumbers::Three(lit, next, reset) => self.add_latch_of(header, lit, next, reset),
+            LineNumbers::One(_) => Err(Flaw::Fault(MALFORMED_AIGER)),
+            LineNumbers::Other => Err(Flaw::Fault(MALFORMED_AIGER)),
         }
     }
 
@@ -165,14 +165,14 @@ impl Draft {
         Ok(())
     }
 
-    fn add_output(&mut self, header: &Header, numbers: Numbers) -> Result<(), Flaw>
+    fn add_output(&mut self, header: &Header, numbers: LineNumbers) -> Result<(), Flaw>
         ensures { ReadsLine result (drafts.with_output header.now (parts_of self.old) numbers) (parts_of self.new) }
     {
         match numbers {
-            Numbers::One(lit) => self.add_output_of(header, lit),
-            Numbers::Two(_, _) => Err(Flaw::Fault(MALFORMED_AIGER)),
-            Numbers::Three(_, _, _) => Err(Flaw::Fault(MALFORMED_AIGER)),
-            Numbers::Other => Err(Flaw::Fault(MALFORMED_AIGER)),
+            LineNumbers::One(lit) => self.add_output_of(header, lit),
+            LineNumbers::Two(_, _) => Err(Flaw::Fault(MALFORMED_AIGER)),
+            LineNumbers::Three(_, _, _) => Err(Flaw::Fault(MALFORMED_AIGER)),
+            LineNumbers::Other => Err(Flaw::Fault(MALFORMED_AIGER)),
         }
     }
 
@@ -187,14 +187,14 @@ impl Draft {
         Ok(())
     }
 
-    fn add_gate(&mut self, header: &Header, numbers: Numbers) -> Result<(), Flaw>
+    fn add_gate(&mut self, header: &Header, numbers: LineNumbers) -> Result<(), Flaw>
         ensures { ReadsLine result (drafts.with_gate header.now (parts_of self.old) numbers) (parts_of self.new) }
     {
         match numbers {
-            Numbers::Three(lit, left, right) => self.add_gate_of(header, lit, left, right),
-            Numbers::One(_) => Err(Flaw::Fault(MALFORMED_AIGER)),
-            Numbers::Two(_, _) => Err(Flaw::Fault(MALFORMED_AIGER)),
-            Numbers::Other => Err(Flaw::Fault(MALFORMED_AIGER)),
+            LineNumbers::Three(lit, left, right) => self.add_gate_of(header, lit, left, right),
+            LineNumbers::One(_) => Err(Flaw::Fault(MALFORMED_AIGER)),
+            LineNumbers::Two(_, _) => Err(Flaw::Fault(MALFORMED_AIGER)),
+            LineNumbers::Other => Err(Flaw::Fault(MALFORMED_AIGER)),
         }
     }
 

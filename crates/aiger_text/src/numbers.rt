@@ -5,7 +5,7 @@ ghost use Rattle.std.specs.Char.{is_digit};
 ghost use Rattle.std.specs.List.{list_all};
 ghost use Rattle.std.specs.Option.{SomeIff};
 ghost use Rattle.std.specs.Str.Parse.{IsNumeral, digits_value};
-ghost use Rattle.aiger_text.specs.Cuts.{joined, number_of as number_of_word, numbers_of, words_of};
+ghost use Rattle.aiger_text.specs.Cuts.{numbers_if_all, decimal_number as number_of_word, numbers_of, words_of};
 ghost use Rattle.aiger_text.specs.Cuts as cuts;
 ghost use Rattle.aiger_text.specs.Headers as headers;
 ghost use Rattle.aiger_text.specs.Headers.{numbers_by};
@@ -18,7 +18,7 @@ const TOO_GREAT: u64 = 1 << 63;
 
 /// The numbers of a line: one, two or three of them, or else something other.
 #[derive(Clone, Copy, Debug, PartialEq, Eq)]
-pub(crate) enum Numbers {
+pub(crate) enum LineNumbers {
     One(u64),
     Two(u64, u64),
     Three(u64, u64, u64),
@@ -34,43 +34,43 @@ pub(crate) enum Next<'a> {
 }
 
 /// The numbers of a line.
-pub(crate) fn numbers_in(line: &[u8]) -> Numbers
-    ensures { result ≡ headers.numbers_in line.now }
+pub(crate) fn numbers_in(line: &[u8]) -> LineNumbers
+    ensures { result ≡ headers.line_numbers line.now }
 {
     match next_number(line) {
         Next::Number(first, rest) => with_one(first, rest),
-        Next::Malformed => Numbers::Other,
-        Next::End => Numbers::Other,
+        Next::Malformed => LineNumbers::Other,
+        Next::End => LineNumbers::Other,
     }
 }
 
-fn with_one(first: u64, bytes: &[u8]) -> Numbers
-    ensures { result ≡ numbers_by (joined (Some first) (numbers_of (words_of bytes.now))) }
+fn with_one(first: u64, bytes: &[u8]) -> LineNumbers
+    ensures { result ≡ numbers_by (numbers_if_all (Some first) (numbers_of (words_of bytes.now))) }
 {
     match next_number(bytes) {
         Next::Number(second, rest) => with_two(first, second, rest),
-        Next::Malformed => Numbers::Other,
-        Next::End => Numbers::One(first),
+        Next::Malformed => LineNumbers::Other,
+        Next::End => LineNumbers::One(first),
     }
 }
 
-fn with_two(first: u64, second: u64, bytes: &[u8]) -> Numbers
-    ensures { result ≡ numbers_by (joined (Some first) (joined (Some second) (numbers_of (words_of bytes.now)))) }
+fn with_two(first: u64, second: u64, bytes: &[u8]) -> LineNumbers
+    ensures { result ≡ numbers_by (numbers_if_all (Some first) (numbers_if_all (Some second) (numbers_of (words_of bytes.now)))) }
 {
     match next_number(bytes) {
         Next::Number(third, rest) => with_three(first, second, third, rest),
-        Next::Malformed => Numbers::Other,
-        Next::End => Numbers::Two(first, second),
+        Next::Malformed => LineNumbers::Other,
+        Next::End => LineNumbers::Two(first, second),
     }
 }
 
-fn with_three(first: u64, second: u64, third: u64, bytes: &[u8]) -> Numbers
-    ensures { result ≡ numbers_by (joined (Some first) (joined (Some second) (joined (Some third) (numbers_of (words_of bytes.now))))) }
+fn with_three(first: u64, second: u64, third: u64, bytes: &[u8]) -> LineNumbers
+    ensures { result ≡ numbers_by (numbers_if_all (Some first) (numbers_if_all (Some second) (numbers_if_all (Some third) (numbers_of (words_of bytes.now))))) }
 {
     match next_number(bytes) {
-        Next::Number(_, _) => Numbers::Other,
-        Next::Malformed => Numbers::Other,
-        Next::End => Numbers::Three(first, second, third),
+        Next::Number(_, _) => LineNumbers::Other,
+        Next::Malformed => LineNumbers::Other,
+        Next::End => LineNumbers::Three(first, second, third),
     }
 }
 

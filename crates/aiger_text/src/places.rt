@@ -96,7 +96,7 @@ fn placed_gate(variables: &Variables, bound: u64, gate: &Gate) -> Option<Gate>
 // The literal of a variable's place, if that is below a bound.
 fn placed(variables: &Variables, bound: u64, lit: Lit) -> Option<Lit>
     requires { length variables.now ≤ 2 ^ 60 }
-    ensures { result ≡ reading.placed variables.now bound lit }
+    ensures { result ≡ reading.placed_literal variables.now bound lit }
 {
     let place = variables.place_of(lit / 2)?;
     if place < bound {

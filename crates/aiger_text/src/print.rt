@@ -2,9 +2,9 @@
 
 ghost use Rattle.std.specs.Prelude.{◌≡◌, ◌+◌, ◌<◌, ◌≤◌, ◌^◌, ◌++◌, ◌∷◌, [], decimal, IfOk, Ok, OnOk, length, sum, All};
 ghost use Rattle.std.specs.List.{flat_map};
-ghost use Rattle.aig_blast.specs.Aigs.{input_widths, latch_widths};
+ghost use Rattle.aig_blast.specs.Aigs.{input_word_widths, latch_widths};
 ghost use Rattle.aiger_text.specs.Reading.{aig_of};
-ghost use Rattle.aiger_text.specs.Printing.{bit_name, gate_text, input_lines, input_symbols, input_word_text, laid, latch_lines, latch_symbols, latch_width_of, latch_word_text, line_text, one_of, output_symbol, output_text, reset_text, rest_text, spaced, symbol_text, text_of, width_of, word_symbols};
+ghost use Rattle.aiger_text.specs.Printing.{bit_name, gate_text, input_lines, input_symbols, input_word_text, laid, latch_lines, latch_symbols, latch_width_of, latch_word_text, numbers_text, one_of, output_symbol, output_text, reset_text, rest_text, spaced, symbol_text, text_of, input_line_count, word_symbols};
 ghost use Rattle.aiger_text.specs.inner.Printing.{HasNexts};
 
 use aig_blast::{Aig, Gate, InputWord, LatchWord, Lit, OutputBit};
@@ -40,8 +40,8 @@ pub fn print_aiger(alloc: Global, aig: &Aig) -> Result<Text, NoMemory>
 }
 
 fn count_inputs(words: &[InputWord]) -> u64
-    requires { sum (input_widths words.now) ≤ 2 ^ 60 }
-    ensures { result ≡ sum (input_widths words.now) }
+    requires { sum (input_word_widths words.now) ≤ 2 ^ 60 }
+    ensures { result ≡ sum (input_word_widths words.now) }
 {
     let mut count: u64 = 0;
     for word in words {
@@ -95,15 +95,15 @@ fn push_spaced(text: &mut Text, numbers: &[u64]) -> Result<(), NoMemory>
 }
 
 fn push_line(text: &mut Text, first: u64, others: &[u64]) -> Result<(), NoMemory>
-    ensures { OnOk result (text.new ≡ text.old ++ line_text first others.now) }
+    ensures { OnOk result (text.new ≡ text.old ++ numbers_text first others.now) }
 {
     push_number(text, first)?;
     push_rest(text, others)
 }
 
 fn push_inputs(text: &mut Text, words: &[InputWord]) -> Result<(), NoMemory>
-    requires { sum (input_widths words.now) ≤ 2 ^ 60 }
-    ensures { OnOk result (text.new ≡ text.old ++ laid width_of input_word_text 1 words.now) }
+    requires { sum (input_word_widths words.now) ≤ 2 ^ 60 }
+    ensures { OnOk result (text.new ≡ text.old ++ laid input_line_count input_word_text 1 words.now) }
 {
     let mut variable: u64 = 1;
     for word in words {
@@ -164,7 +164,7 @@ fn push_latch_word(
 
 // The line of a latch. A reset is written where it is 1.
 fn push_latch(text: &mut Text, lit: Lit, next: Lit, reset: bool) -> Result<(), NoMemory>
-    ensures { OnOk result (text.new ≡ text.old ++ line_text lit (next ∷ reset_text reset)) }
+    ensures { OnOk result (text.new ≡ text.old ++ numbers_text lit (next ∷ reset_text reset)) }
 {
     if reset {
         push_line(text, lit, &[next, 1])
@@ -194,8 +194,8 @@ fn push_gates(text: &mut Text, first: u64, gates: &[Gate]) -> Result<(), NoMemor
 }
 
 fn push_input_symbols(text: &mut Text, words: &[InputWord]) -> Result<(), NoMemory>
-    requires { sum (input_widths words.now) ≤ 2 ^ 60 }
-    ensures { OnOk result (text.new ≡ text.old ++ laid width_of input_symbols 0 words.now) }
+    requires { sum (input_word_widths words.now) ≤ 2 ^ 60 }
+    ensures { OnOk result (text.new ≡ text.old ++ laid input_line_count input_symbols 0 words.now) }
 {
     let mut index: u64 = 0;
     for word in words {

@@ -1,7 +1,7 @@
 //! Words of inputs and latches, by the symbols of their bits.
 
 ghost use Rattle.std.specs.Prelude.{◌≡◌, ◌+◌, ◌*◌, ◌≤◌, ◌<◌, ◌^◌, ◌++◌, ◌∷◌, [], List, Option, ℕ, All, IfOk, bytes_eq, decimal, length, sum};
-ghost use Rattle.aig_blast.specs.Aigs.{input_widths};
+ghost use Rattle.aig_blast.specs.Aigs.{input_word_widths};
 ghost use Rattle.aig_blast.specs.BitLists.{as_bits, bit};
 ghost use Rattle.aiger_text.specs.Printing.{bit_name};
 ghost use Rattle.aiger_text.specs.inner.RunsSoFar.{run_of};
@@ -29,7 +29,7 @@ pub(crate) fn words_of(
     kind: u8,
     symbols: &[Option<Text>],
 ) -> Result<Vec<InputWord>, NoMemory>
-    ensures { IfOk result (λ words. words.items ≡ runs.words_of kind symbols.now) }
+    ensures { IfOk result (λ words. words.items ≡ runs.words_of_bits kind symbols.now) }
 {
     let mut words = Vec::new(alloc);
     let Some((first, others)) = symbols.split_first() else {
@@ -181,8 +181,8 @@ pub(crate) fn latch_words(
     resets: &[bool],
 ) -> Result<Vec<LatchWord>, NoMemory>
     requires widths { All (λ word. (1 ≤ word.width) × (word.width ≤ 128)) words.now }
-    requires nexts { length nexts.now ≡ sum (input_widths words.now) }
-    requires resets { length resets.now ≡ sum (input_widths words.now) }
+    requires nexts { length nexts.now ≡ sum (input_word_widths words.now) }
+    requires resets { length resets.now ≡ sum (input_word_widths words.now) }
     ensures { IfOk result (λ latches. latches.items ≡ runs.latch_words words.now nexts.now resets.now) }
 {
     let mut latches = Vec::new(alloc);

@@ -1,7 +1,7 @@
 -- Two readings of one action that agree on the events of a list give the same where one of them gives no other events.
 use Rattle.std.proofs.Common.{◌≡◌, ℕ, List, [], refl, sym, ap, ◌∙◌}
 use Rattle.kw_bits.specs.BitVector.{BitVector}
-use Rattle.typed_core.specs.Evaluation.{bind, evaluate, Ending, Environment, Part, Ports, Progress, Stop, Value}
+use Rattle.typed_core.specs.Evaluation.{bind, evaluate, Ending, Environment, Evaluation, Ports, Progress, Stop, Value}
 use Rattle.typed_core.specs.Fits.{Continues}
 use Rattle.typed_core.specs.declared.access.Event.{Event}
 use Rattle.typed_core.specs.declared.action.Action.{Action}
@@ -19,7 +19,7 @@ module _ {S : Type 0} (env : Environment) (list : List Event) (first second : Po
   abbrev Related : List Event → Progress BitVector S → Progress BitVector S → Type 0
   Related before p q = Continues before p.events × (Continues p.events list → p ≡ q)
 
-  bound : (events : List Event) (p q : Progress BitVector S) (f g : BitVector → Part BitVector S) → Related events p q → ((value : BitVector) (es : List Event) → Related es (f value es) (g value es)) → Related events (bind p.events p.ending f) (bind q.events q.ending g)
+  bound : (events : List Event) (p q : Progress BitVector S) (f g : BitVector → Evaluation BitVector S) → Related events p q → ((value : BitVector) (es : List Event) → Related es (f value es) (g value es)) → Related events (bind p.events p.ending f) (bind q.events q.ending g)
   bound events p q f g h k = (Continues-bind events p.events p.ending f h.0 (λ value es. (k value es).0), λ within. at (p.ending) refl within)
     where
       same : Continues p.events list → bind p.events p.ending g ≡ bind q.events q.ending g

@@ -4,7 +4,7 @@ use Rattle.std.specs.Prelude.{◌&&◌, ◌||◌, not, slice_get, slice_index_or
 use Rattle.std.proofs.lemmas.Bool.{both_ways}
 use Rattle.kw_bits.specs.BitVector.{BitVector}
 use Rattle.typed_core.specs.Alone.{alone_ports, is_refused, outcome_of, seen, write}
-use Rattle.typed_core.specs.Evaluation.{bind, evaluate, Ending, Environment, Part, Progress, Stop, Value, unit}
+use Rattle.typed_core.specs.Evaluation.{bind, evaluate, Ending, Environment, Evaluation, Progress, Stop, Value, unit}
 use Rattle.typed_core.specs.Fits.{Continues, EventsFit}
 use Rattle.typed_core.specs.Laws.{read_at, write_at}
 use Rattle.typed_core.specs.Widths.{register_widths}
@@ -139,7 +139,7 @@ module _ (regs : List BitVector) (fired : List Fired) (widths : List ℕ) (list 
       chosen (inl h) = inl (refl, h)
       chosen (inr h) = inr h
 
-  follows_bind : (events : List Event) (p q : Progress BitVector Stopped) (f g : BitVector → Part BitVector Stopped) → Follows events p q → ((value : BitVector) (es : List Event) → Follows es (f value es) (g value es)) → Follows events (bind p.events p.ending f) (bind q.events q.ending g)
+  follows_bind : (events : List Event) (p q : Progress BitVector Stopped) (f g : BitVector → Evaluation BitVector Stopped) → Follows events p q → ((value : BitVector) (es : List Event) → Follows es (f value es) (g value es)) → Follows events (bind p.events p.ending f) (bind q.events q.ending g)
   follows_bind events p q f g h k =
       (Continues-bind events p.events p.ending f h.0 (λ value es. (k value es).0), Continues-bind events q.events q.ending g h.1 (λ value es. (k value es).1), λ inside. met p.ending refl inside)
     where
@@ -272,7 +272,7 @@ module _ (regs : List BitVector) (fired : List Fired) (env : Environment) where
   abbrev Agrees : List Event → Progress BitVector Stopped → Progress BitVector Stopped → Type 0
   Agrees before p q = ReadsAgree regs fired [] before → ReadsAgree regs fired [] p.events
 
-  agrees_bind : (events : List Event) (p q : Progress BitVector Stopped) (f g : BitVector → Part BitVector Stopped) → Agrees events p q → ((value : BitVector) (es : List Event) → Agrees es (f value es) (g value es)) → Agrees events (bind p.events p.ending f) (bind q.events q.ending g)
+  agrees_bind : (events : List Event) (p q : Progress BitVector Stopped) (f g : BitVector → Evaluation BitVector Stopped) → Agrees events p q → ((value : BitVector) (es : List Event) → Agrees es (f value es) (g value es)) → Agrees events (bind p.events p.ending f) (bind q.events q.ending g)
   agrees_bind events p q f g h k before = at p.ending
     where
       at : (ending : Ending BitVector Stopped) → ReadsAgree regs fired [] (bind p.events ending f).events

@@ -12,7 +12,7 @@ use Rattle.typed_core.specs.declared.limits.TheConstants.{PORTS}
 use Rattle.attempt_log.specs.inner.Firsts.{access_of, clash_of, earlier_of, in_the_way, is_write_kind, port_of_kind, row, earliest_below}
 use Rattle.attempt_log.specs.Past.{Commits, StandsFor, first_from, has_access, is_access, kind, kinds}
 use Rattle.one_rule.specs.declared.cycle.Fired.{Fired}
-use Rattle.attempt_log.specs.Verdict.{clash, clash_or, first_clash, first_of, kind_before}
+use Rattle.attempt_log.specs.Verdict.{clash, clash_or, first_clash, named_first, kind_before}
 use Rattle.attempt_log.specs.declared.first.Commit.{Commit}
 use Rattle.attempt_log.specs.declared.past.Clashing.{Clashing}
 use Rattle.attempt_log.proofs.Notes.{access_parts, own_access, same_test}
@@ -203,7 +203,7 @@ module _ (access : Access) where
           let ge : own ≤ kind a.write a.port = lt_not (kind a.write a.port) own (sym (before_number a.write e.access.write a.port e.access.port least.port fit.0.port) ∙ before) in
           first_is_own h (λ number lt. least.below number (omega arith))
 
-      more : (b : Bool) → clashes access e.access ≡ b → (o : Option Access) → Says access.register o (hits events) → Says access.register (if b then Some (first_of e.access o) else o) (hits (e ∷ events))
+      more : (b : Bool) → clashes access e.access ≡ b → (o : Option Access) → Says access.register o (hits events) → Says access.register (if b then Some (named_first e.access o) else o) (hits (e ∷ events))
       more true h None none = first_is_own h (λ number lt. none number (omega (arith, own_lt)))
       more true h (Some a) least = at_true a h least (kind_before a.write a.port e.access.write e.access.port) refl
       more false h None none = λ number lt. step false h number lt ∙ none number lt

@@ -12,7 +12,7 @@ use Rattle.typed_core.specs.declared.outcome.Outcome.{Outcome}
 use Rattle.one_rule.specs.Cycle.{clash_with, clash_with_events}
 use Rattle.one_rule.proofs.Clashes.{clash_with-push, meets}
 use Rattle.one_rule.specs.declared.cycle.Fired.{Fired}
-use Rattle.attempt_log.specs.Verdict.{answer_now, at_end, clash, clash_or, decision, first_clash, first_of, is_same, staleness, verdict_from}
+use Rattle.attempt_log.specs.Verdict.{answer_now, at_end, clash, clash_or, decision, first_clash, named_first, is_same, staleness, verdict_from}
 use Rattle.attempt_log.specs.declared.cause.Cause.{Cause}
 use Rattle.attempt_log.specs.declared.cause.StaleRead.{StaleRead}
 use Rattle.attempt_log.specs.declared.cause.Verdict.{Verdict}
@@ -121,7 +121,7 @@ refused_some : (access : Access) (events : List Event) → is_refused events acc
 refused_some access [] = refl
 refused_some access (e ∷ events) = chosen (clashes access e.access) (refused_some access events)
   where
-    chosen : (b : Bool) → is_refused events access ≡ is_some (first_clash access events) → (b || is_refused events access) ≡ is_some (if b then Some (first_of e.access (first_clash access events)) else first_clash access events)
+    chosen : (b : Bool) → is_refused events access ≡ is_some (first_clash access events) → (b || is_refused events access) ≡ is_some (if b then Some (named_first e.access (first_clash access events)) else first_clash access events)
     chosen true h = refl
     chosen false h = h
 

@@ -11,12 +11,12 @@ use Rattle.attempt_log.specs.declared.job.Job.{Job}
 use Rattle.attempt_log.specs.declared.seat.Task.{Task}
 
 -- a design and a stimulus
-pub record Setting : Type 0 where
+pub record DesignAndStimulus : Type 0 where
   pub design : Parts
   pub stimulus : InputVectors
 
 -- the attempt is for the setting: for a design of equal value, and on the stimulus's inputs for its cycle
-pub record IsFor (s : Setting) (a : Attempted) : Type 0 where
+pub record IsFor (s : DesignAndStimulus) (a : Attempted) : Type 0 where
   pub design : SameDesign a.design s.design
   pub inputs : a.inputs ≡ inputs_of s.stimulus a.cycle
 

@@ -5,7 +5,7 @@ use Rattle.std.specs.Prelude.{◌≡◌, ℕ, Bool, false, not, ◌==◌, ◌&&�
 use Rattle.kw_bits.specs.BitVector.{BitVector, zero_at}
 use Rattle.kw_bits.specs.Laws.{HasWidth}
 use Rattle.typed_core.specs.Alone.{outcome_of, write}
-use Rattle.typed_core.specs.Evaluation.{Environment, Part, Ports, evaluate, notes}
+use Rattle.typed_core.specs.Evaluation.{Environment, Evaluation, Ports, evaluate, notes}
 use Rattle.typed_core.specs.Laws.{read_at}
 use Rattle.typed_core.specs.Widths.{register_widths}
 use Rattle.typed_core.specs.declared.access.Event.{Event}
@@ -28,7 +28,7 @@ listed widths port register None = zero_at (slice_index_or widths register 0)
 listed widths port register (Some e) = if is_read port register e then e.value else zero_at (slice_index_or widths register 0)
 
 -- a read evaluates to what is listed for it, and is noted with it
-abbrev pub read_listed : List ℕ → List Event → ℕ → ℕ → Part BitVector Stopped
+abbrev pub read_listed : List ℕ → List Event → ℕ → ℕ → Evaluation BitVector Stopped
 read_listed widths trace port register events =
     let value = listed widths port register (slice_get trace (length events)) in
     notes (record { access = read_at port register; value = value }) value events

@@ -28,15 +28,15 @@ kind_before true i false j = false
 kind_before true i true j = nat_lt i j
 
 -- of an access and another, if there is another, the one that is named first
-abbrev pub first_of : Access → Option Access → Access
-first_of a None = a
-first_of a (Some b) = if kind_before b.write b.port a.write a.port then b else a
+abbrev pub named_first : Access → Option Access → Access
+named_first a None = a
+named_first a (Some b) = if kind_before b.write b.port a.write a.port then b else a
 
 -- the first of these events' accesses that the access clashes with
 abbrev pub first_clash : Access → List Event → Option Access
 first_clash access [] = None
 first_clash access (e ∷ events) =
-    if clashes access e.access then Some (first_of e.access (first_clash access events)) else first_clash access events
+    if clashes access e.access then Some (named_first e.access (first_clash access events)) else first_clash access events
 
 -- a clash with this rule, or else what is next
 abbrev pub clash_or : Access → ℕ → Option Access → Option Cause → Option Cause

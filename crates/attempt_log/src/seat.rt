@@ -4,7 +4,7 @@ ghost use Rattle.std.specs.Prelude.{◌≡◌, ◌≤◌, [], ◌∷◌, None, S
 ghost use Rattle.kw_bits.specs.Faults.{last_count, one_more};
 ghost use Rattle.attempt_log.specs.Entries.{settle_entry, submit_entry};
 ghost use Rattle.attempt_log.specs.Seats.{Grown, HandsBack, IfJob, SeesLast, SeesMore, gives_job, has_finished, is_finished, last_task, one_more_if};
-ghost use Rattle.attempt_log.specs.Setting.{FitsItself, IsFor, Setting, attempt_of, task_of};
+ghost use Rattle.attempt_log.specs.Setting.{FitsItself, IsFor, DesignAndStimulus, attempt_of, task_of};
 
 use crate::entry::{Settled, Submitted};
 use crate::job::JobAnswer;
@@ -100,7 +100,7 @@ fn is_count(count: u64)
 /// A worker's place at a board. What its calls answer is for its kind to say; here is what a worker needs of each.
 pub trait BoardSeat {
     ghost use Rattle.std.specs.Prelude.{ℕ, List, Option};
-    ghost use Rattle.attempt_log.specs.Setting.{Setting};
+    ghost use Rattle.attempt_log.specs.Setting.{DesignAndStimulus};
     ghost use Rattle.attempt_log.specs.declared.entry.Entry.{Entry};
     ghost use Rattle.attempt_log.specs.declared.seat.Task.{Task};
 
@@ -113,7 +113,7 @@ pub trait BoardSeat {
     ghost number: { Self → ℕ };
 
     /// The design and the stimulus that its jobs and attempts are for, if it exposes them.
-    ghost setting: { Self → Option Setting };
+    ghost setting: { Self → Option DesignAndStimulus };
 
     /// The task of the last job that it gave.
     ghost task: { Self → Option Task };

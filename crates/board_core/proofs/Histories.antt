@@ -6,7 +6,7 @@ use Rattle.attempt_log.specs.Attempt.{Attempted}
 use Rattle.attempt_log.specs.Setting.{at_design}
 use Rattle.attempt_log.specs.declared.entry.Entry.{Entry}
 use Rattle.attempt_log.specs.declared.entry.Submitted.TheVariants as submitted
-use Rattle.board_core.specs.Board.{Board, Opening, Step, is_ahead, is_late, opened, run_events, stands, stays, step, stored}
+use Rattle.board_core.specs.Board.{Board, Opening, BoardStep, is_ahead, is_late, opened, run_events, stands, stays, step, stored}
 use Rattle.board_core.specs.History.{SubmitsFor, Told, answers_after, board_after, event_of, events_of, told_by, told_of}
 use Rattle.board_core.specs.Laws.{FrontIsLegal, LegalGoesOn, SubmitsAlike}
 use Rattle.board_core.specs.declared.event.BoardAnswer.{BoardAnswer}
@@ -19,7 +19,7 @@ submits_alike o board a = chosen (is_late board a) (is_ahead o board a) (stands 
     b : Attempted
     b = at_design o.design a
 
-    by : Attempted → Bool → Bool → Bool → Step
+    by : Attempted → Bool → Bool → Bool → BoardStep
     by x late ahead twice =
         if late then stays board (answer.Submit (submitted.Late x)) else if ahead then stays board (answer.Submit (submitted.Ahead x)) else if twice then stays board (answer.Submit (submitted.Twice x)) else record { answer = answer.Submit submitted.Stored; board = stored o board x }
 

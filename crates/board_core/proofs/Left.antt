@@ -20,7 +20,7 @@ use Rattle.attempt_log.specs.declared.cause.Verdict.TheVariants.{Commit, Skip, S
 use Rattle.attempt_log.specs.declared.entry.Settled.{Settled}
 use Rattle.attempt_log.specs.declared.entry.Settled.TheVariants as settled
 use Rattle.attempt_log.specs.declared.entry.Submitted.TheVariants as submitted
-use Rattle.board_core.specs.Board.{Board, Opening, Step, head, is_ahead, is_late, judged, settle, settle_at, settle_with, stands, stays, stored, submit}
+use Rattle.board_core.specs.Board.{Board, Opening, BoardStep, head, is_ahead, is_late, judged, settle, settle_at, settle_with, stands, stays, stored, submit}
 use Rattle.board_core.specs.Kept.{AtPlain, Does, Kept, StandsFor, left}
 use Rattle.board_core.specs.Laws.{GoingOnLowers, SubmitsKeep, left_of}
 use Rattle.board_core.specs.Position.{IsOpening, nodes_left, steps_left}
@@ -42,7 +42,7 @@ abbrev Measured : Opening → Board → Settled → ℕ → Type 0
 Measured o board told after = (goes_on told ≡ true → after < left_of o board) × (goes_on told ≡ false → after ≡ left_of o board)
 
 -- the measure after a step, as its answer says
-abbrev Lowers : Opening → Board → Step → Type 0
+abbrev Lowers : Opening → Board → BoardStep → Type 0
 Lowers o board s = (told : Settled) → s.answer ≡ answer.Settle told → Measured o board told (left_of o s.board)
 
 told_same : (s t : Settled) → answer.Settle s ≡ answer.Settle t → s ≡ t

@@ -28,7 +28,7 @@ use Rattle.attempt_log.specs.declared.cause.Verdict.{Verdict}
 use Rattle.attempt_log.specs.declared.cause.Verdict.TheVariants.{Commit, Skip, Stale}
 use Rattle.attempt_log.specs.declared.entry.Settled.TheVariants as settled
 use Rattle.attempt_log.specs.declared.entry.Submitted.TheVariants as submitted
-use Rattle.board_core.specs.Board.{Board, Opening, Step, closed, head, is_ahead, is_late, judged, node_at, opened, replaced, setting_of, settle, settle_at, settle_with, stands, stays, stored, submit}
+use Rattle.board_core.specs.Board.{Board, Opening, BoardStep, closed, head, is_ahead, is_late, judged, node_at, opened, with_slot, setting_of, settle, settle_at, settle_with, stands, stays, stored, submit}
 use Rattle.board_core.specs.Kept.{Does, IsAt, Kept, StandsFor, slots_from}
 use Rattle.board_core.specs.inner.Kept.{HasSlots, HoldsSame, IsBlank, IsNear, IsShaped, IsSound, comes_ahead, comes_late, opened_on}
 use Rattle.board_core.specs.Position.{IsOpening, IsPlain, StandsRight}
@@ -61,8 +61,8 @@ module _ (o : Opening) (board : Board) (a : Attempted) where
   submit_near late ahead = in_time late ∙ ap (λ (b : Bool). if b then stays board (answer.Submit (submitted.Ahead a)) else if stands board a.cycle a.rule then stays board (answer.Submit (submitted.Twice a)) else record { answer = answer.Submit submitted.Stored; board = stored o board a }) ahead
 
 -- a step that is this one
-pub steps_so : (kept : Kept) (told : BoardAnswer) (s t : Step) → s ≡ t → told ≡ t.answer → StandsFor kept t.board → (told ≡ s.answer) × StandsFor kept s.board
-steps_so kept told s t e same st = (same ∙ sym (ap (λ (x : Step). x.answer) e), subst (λ (x : Step). StandsFor kept x.board) (sym e) st)
+pub steps_so : (kept : Kept) (told : BoardAnswer) (s t : BoardStep) → s ≡ t → told ≡ t.answer → StandsFor kept t.board → (told ≡ s.answer) × StandsFor kept s.board
+steps_so kept told s t e same st = (same ∙ sym (ap (λ (x : BoardStep). x.answer) e), subst (λ (x : BoardStep). StandsFor kept x.board) (sym e) st)
 
 -- the tests are the board's
 module _ (kept : Kept) (board : Board) (st : StandsFor kept board) (a : Attempted) where
@@ -195,7 +195,7 @@ module _ (o : Opening) (board : Board) (less : board.cycle ≤ o.to) where
   settle_end here = settle_here ∙ ap (settle_at o board) here
 
 -- the rest of a board doesn't depend on the verdict
-judged_slots : (board : Board) (node : Node) (a : Attempted) (v : Verdict) → (judged board node a v).board.slots ≡ replaced board.slots board.cycle node.rule None
+judged_slots : (board : Board) (node : Node) (a : Attempted) (v : Verdict) → (judged board node a v).board.slots ≡ with_slot board.slots board.cycle node.rule None
 judged_slots board node a Commit = refl
 judged_slots board node a (Skip cause) = refl
 judged_slots board node a (Stale read) = refl
@@ -258,7 +258,7 @@ module _ (kept : Kept) (blanks : List Blank) (room : ℕ) (s : IsSound kept blan
     abbrev pub taken : Place → Kept
     taken place = record (written kept 0 node.rule None) { place = place }
 
-    taken_slots : (board : Board) → StandsFor kept board → (c r : ℕ) → home kept (slots_from kept.cycle (taken kept.place).slots c r) ≡ replaced board.slots board.cycle node.rule None c r
+    taken_slots : (board : Board) → StandsFor kept board → (c r : ℕ) → home kept (slots_from kept.cycle (taken kept.place).slots c r) ≡ with_slot board.slots board.cycle node.rule None c r
     taken_slots board st c r =
         let this : kept.cycle + 0 ≡ board.cycle = omega (arith, st.cycle) in
         ap (home kept) (slots_set kept.cycle kept.slots 0 node.rule None some_slots (has_slot kept blanks room s 0 node.rule some_slots head_rule) c r)
@@ -293,7 +293,7 @@ module _ (kept : Kept) (blanks : List Blank) (room : ℕ) (s : IsSound kept blan
         (ap (λ (c : ℕ). answer.Settle (settled.Waiting c node.rule)) st.cycle)
         (record { cycle = st.cycle; place = st.place; rows = st.rows; slots = λ c r. taken_slots board st c r ∙ unchanged board slot c r })
       where
-        unchanged : (board : Board) → board.slots board.cycle node.rule ≡ None → (c r : ℕ) → replaced board.slots board.cycle node.rule None c r ≡ board.slots c r
+        unchanged : (board : Board) → board.slots board.cycle node.rule ≡ None → (c r : ℕ) → with_slot board.slots board.cycle node.rule None c r ≡ board.slots c r
         unchanged board slot c r = by (c == board.cycle) (r == node.rule) refl refl
           where
             by : (b d : Bool) → (c == board.cycle) ≡ b → (r == node.rule) ≡ d → (if b && d then None else board.slots c r) ≡ board.slots c r
@@ -401,7 +401,7 @@ module _ (kept : Kept) (blanks : List Blank) (room : ℕ) (s : IsSound kept blan
 
 -- ---- the code's slots
 
-pub does_for : (step : Opening → Board → Step) (kept old new new' : Kept) (told : BoardAnswer) → kept ≡ old → new ≡ new' → Does step kept told new → Does step old told new'
+pub does_for : (step : Opening → Board → BoardStep) (kept old new new' : Kept) (told : BoardAnswer) → kept ≡ old → new ≡ new' → Does step kept told new → Does step old told new'
 does_for step kept old new new' told e f d = subst (λ (k : Kept). Does step k told new') e (subst (λ (k : Kept). Does step kept told k) f d)
 
 -- a list that was borrowed and written back

@@ -14,7 +14,7 @@ use Rattle.one_rule.specs.Walk.{Walk, start}
 use Rattle.one_rule.specs.declared.cycle.State.{State}
 use Rattle.one_rule.specs.declared.rows.Row.{Row}
 use Rattle.attempt_log.specs.Attempt.{Attempted}
-use Rattle.attempt_log.specs.Setting.{Setting, at_design}
+use Rattle.attempt_log.specs.Setting.{DesignAndStimulus, at_design}
 use Rattle.attempt_log.specs.Verdict.{verdict}
 use Rattle.attempt_log.specs.declared.cause.Verdict.{Verdict}
 use Rattle.attempt_log.specs.declared.cause.Verdict.TheVariants.{Commit, Skip, Stale}
@@ -37,7 +37,7 @@ pub record Opening : Type 0 where
   pub window : ℕ
 
 -- the design and the stimulus
-abbrev pub setting_of : Opening → Setting
+abbrev pub setting_of : Opening → DesignAndStimulus
 setting_of o = record { design = o.design; stimulus = o.stimulus }
 
 -- the stored attempts, by cycle and rule
@@ -78,8 +78,8 @@ abbrev pub stands : Board → ℕ → ℕ → Bool
 stands board cycle rule = is_some (board.slots cycle rule)
 
 -- the slots with another content of one
-abbrev pub replaced : Slots → ℕ → ℕ → Option Attempted → Slots
-replaced slots cycle rule held = λ c r. if (c == cycle) && (r == rule) then held else slots c r
+abbrev pub with_slot : Slots → ℕ → ℕ → Option Attempted → Slots
+with_slot slots cycle rule held = λ c r. if (c == cycle) && (r == rule) then held else slots c r
 
 -- the slots with none of a cycle
 abbrev pub without : Slots → ℕ → Slots
@@ -88,12 +88,12 @@ without slots cycle = λ c r. if c == cycle then None else slots c r
 -- ---- steps
 
 -- what is answered to an event, and the board after it
-pub record Step : Type 0 where
+pub record BoardStep : Type 0 where
   pub answer : BoardAnswer
   pub board : Board
 
 -- the board answers, and is as before
-abbrev pub stays : Board → BoardAnswer → Step
+abbrev pub stays : Board → BoardAnswer → BoardStep
 stays board answer = record { answer = answer; board = board }
 
 -- the cycle is closed, or the rule is settled in it
@@ -114,10 +114,10 @@ is_ahead o board a = is_beyond o board a.cycle
 
 -- the attempt stands, as one at the board's own design
 abbrev pub stored : Opening → Board → Attempted → Board
-stored o board a = record board { slots = replaced board.slots a.cycle a.rule (Some (at_design o.design a)) }
+stored o board a = record board { slots = with_slot board.slots a.cycle a.rule (Some (at_design o.design a)) }
 
 -- an attempt is submitted
-abbrev pub submit : Opening → Board → Attempted → Step
+abbrev pub submit : Opening → Board → Attempted → BoardStep
 submit o board a =
     if is_late board a then stays board (answer.Submit (submitted.Late a))
     else if is_ahead o board a then stays board (answer.Submit (submitted.Ahead a))
@@ -141,14 +141,14 @@ closed o board =
 
 -- the board without the attempt at a rule of the current cycle
 abbrev pub dropped : Board → ℕ → Board
-dropped board rule = record board { slots = replaced board.slots board.cycle rule None }
+dropped board rule = record board { slots = with_slot board.slots board.cycle rule None }
 
 -- the rule is settled: the cycle is come so far, and the attempt is dropped
 abbrev pub settled_by : Board → ℕ → Walk State → Board
 settled_by board rule walk = record (dropped board rule) { walk = walk; settled = board.settled ++ rule ∷ [] }
 
 -- the attempt at the rule of the head is judged
-abbrev pub judged : Board → Node → Attempted → Verdict → Step
+abbrev pub judged : Board → Node → Attempted → Verdict → BoardStep
 judged board node a Commit =
     record {
       answer = answer.Settle (settled.Committed board.cycle node.rule);
@@ -163,23 +163,23 @@ judged board node a (Stale read) =
     record { answer = answer.Settle (settled.Stale board.cycle node.rule read); board = dropped board node.rule }
 
 -- the rule of the head is settled with the attempt that stands for it, if one does
-abbrev pub settle_with : Board → Node → Option Attempted → Step
+abbrev pub settle_with : Board → Node → Option Attempted → BoardStep
 settle_with board node None = stays board (answer.Settle (settled.Waiting board.cycle node.rule))
 settle_with board node (Some a) = judged board node a (verdict board.walk.state.regs board.walk.state.past a.run)
 
 -- the head is settled; at the end the cycle is closed
-abbrev pub settle_at : Opening → Board → Option Node → Step
+abbrev pub settle_at : Opening → Board → Option Node → BoardStep
 settle_at o board None = record { answer = answer.Settle (settled.CycleClosed board.cycle); board = closed o board }
 settle_at o board (Some node) = settle_with board node (board.slots board.cycle node.rule)
 
 -- the board is to settle what it can
-abbrev pub settle : Opening → Board → Step
+abbrev pub settle : Opening → Board → BoardStep
 settle o board =
     if nat_lt o.to board.cycle then stays board (answer.Settle settled.Finished)
     else settle_at o board (head o board)
 
 -- the board step
-abbrev pub step : Opening → Board → BoardEvent → Step
+abbrev pub step : Opening → Board → BoardEvent → BoardStep
 step o board (event.Submit a) = submit o board a
 step o board event.Settle = settle o board
 

@@ -13,7 +13,7 @@ use Rattle.attempt_log.specs.Setting.{IsFor, at_design}
 use Rattle.attempt_log.specs.declared.entry.Settled.{Settled}
 use Rattle.attempt_log.specs.declared.entry.Settled.TheVariants as settled
 use Rattle.attempt_log.specs.declared.entry.Submitted.TheVariants as submitted
-use Rattle.board_core.specs.Board.{Board, Opening, Slots, Step, run_events, setting_of}
+use Rattle.board_core.specs.Board.{Board, Opening, Slots, BoardStep, run_events, setting_of}
 use Rattle.board_core.specs.Position.{IsOpening, IsPlain, steps_left}
 use Rattle.board_core.specs.declared.event.BoardAnswer.{BoardAnswer}
 use Rattle.board_core.specs.declared.event.BoardAnswer.TheVariants as answer
@@ -50,7 +50,7 @@ pub record StandsFor (kept : Kept) (board : Board) : Type 0 where
   pub slots : (cycle rule : ℕ) → option_map (at_design kept.opening.design) (slots_from kept.cycle kept.slots cycle rule) ≡ board.slots cycle rule
 
 -- from an old core to a new one: the answer is the board step's, and the new one represents the board after it
-abbrev pub Does : (Opening → Board → Step) → Kept → BoardAnswer → Kept → Type 0
+abbrev pub Does : (Opening → Board → BoardStep) → Kept → BoardAnswer → Kept → Type 0
 Does step old told new =
     (board : Board) → StandsFor old board → let next = step old.opening board in (told ≡ next.answer) × StandsFor new next.board
 

@@ -5,10 +5,10 @@ use Rattle.std.specs.Option.{option_map}
 use Rattle.btor2_text.specs.declared.line.Line.{Line}
 use Rattle.btor2_model.specs.Acceptance.{agree, init_is_fixed, is_fresh, is_known, line_fault, numeral_fits, passes, sets_first}
 use Rattle.btor2_model.specs.Rules.{bounds_fit, rule_of}
-use Rattle.btor2_model.specs.Scope.{Scope, measures_of}
+use Rattle.btor2_model.specs.Scope.{DeclaredIds, measures_of}
 
 -- each condition that a line is asked
-pub record Meets (scope : Scope) (line : Line) : Type 0 where
+pub record Meets (scope : DeclaredIds) (line : Line) : Type 0 where
   pub fresh : is_fresh scope line.id ≡ true
   pub known : list_all (is_known scope) line.arguments ≡ true
   pub agrees : agree scope line.keyword line.arguments ≡ true
@@ -28,7 +28,7 @@ all-seven true true false d e f g is = absurd (cc)
 all-seven true false c d e f g is = absurd (cc)
 all-seven false b c d e f g is = absurd (cc)
 
-pub meets : (scope : Scope) (line : Line) → line_fault scope line ≡ None → Meets scope line
+pub meets : (scope : DeclaredIds) (line : Line) → line_fault scope line ≡ None → Meets scope line
 meets scope line fine =
     let rule = rule_of line.keyword in
     let all = all-seven (is_fresh scope line.id) (list_all (is_known scope) line.arguments) (agree scope line.keyword line.arguments) (passes bounds_fit rule (measures_of scope line)) (sets_first rule scope line.arguments)
@@ -47,7 +47,7 @@ none-left true false c d e f g p q r s t u v = absurd (cc)
 none-left false b c d e f g p q r s t u v = absurd (cc)
 
 -- and the other way round
-pub no-fault : (scope : Scope) (line : Line) → Meets scope line → line_fault scope line ≡ None
+pub no-fault : (scope : DeclaredIds) (line : Line) → Meets scope line → line_fault scope line ≡ None
 no-fault scope line m =
     let rule = rule_of line.keyword in
     none-left (is_fresh scope line.id) (list_all (is_known scope) line.arguments) (agree scope line.keyword line.arguments) (passes bounds_fit rule (measures_of scope line)) (sets_first rule scope line.arguments)

@@ -10,8 +10,8 @@ use Rattle.btor2_text.specs.declared.line.Line.{Line}
 use Rattle.btor2_model.specs.Acceptance.{lines_fault, line_fault, fault_in}
 use Rattle.btor2_model.specs.inner.Known.{AreNarrow}
 use Rattle.btor2_model.specs.Rules.{rule_of, is_input}
-use Rattle.btor2_model.specs.Run.{Step, Values, ids_of, no_bits, value_by, values_behind, values_with}
-use Rattle.btor2_model.specs.Scope.{Scope, no_lines, behind}
+use Rattle.btor2_model.specs.Run.{StepValues, Values, ids_of, no_bits, value_by, values_behind, values_with}
+use Rattle.btor2_model.specs.Scope.{DeclaredIds, no_lines, behind}
 use Rattle.btor2_model.specs.inner.SlowRun.{Knows, known_value, step_with}
 use Rattle.btor2_model.specs.declared.known_values.KnownValues.{KnownValues}
 
@@ -55,7 +55,7 @@ pub accepted-lines : (lines : List Line) (other : Option Fault) → option_or (l
 accepted-lines lines other is = (option_or-none (lines_fault no_lines lines) other is).0
 
 -- nor has the next one, nor those behind it
-pub accepted-next : (lines : List Line) (place : ℕ) (scope : Scope) (line : Line) → place < length lines → line ≡ get_or lines place line → lines_fault scope (drop place lines) ≡ None
+pub accepted-next : (lines : List Line) (place : ℕ) (scope : DeclaredIds) (line : Line) → place < length lines → line ≡ get_or lines place line → lines_fault scope (drop place lines) ≡ None
     → (line_fault scope line ≡ None) × (lines_fault (behind scope line) (drop (place + 1) lines) ≡ None)
 accepted-next lines place scope line within is fine =
     let here : drop place lines ≡ line ∷ drop (place + 1) lines = drop_more lines place line within ∙ ap (λ l. l ∷ drop (place + 1) lines) (sym is) in
@@ -63,22 +63,22 @@ accepted-next lines place scope line within is fine =
     (option_map-none (fault_in line) (line_fault scope line) both.0, both.1)
 
 -- behind the lines before this place, what is known of values is so, and leads on to the values of all
-pub record Evaluated (lines : List Line) (inputs : List BitVector) (states : KnownValues) (place : ℕ) (scope : Scope) (values : KnownValues) : Type 0 where
+pub record Evaluated (lines : List Line) (inputs : List BitVector) (states : KnownValues) (place : ℕ) (scope : DeclaredIds) (values : KnownValues) : Type 0 where
   pub narrow : AreNarrow scope
   pub accepted : lines_fault scope (drop place lines) ≡ None
   pub known : (all : Values) → Knows states all
       → (before : Values) × Knows values before × (values_with lines inputs all ≡ values_behind (step_with (ids_of is_input lines) inputs all) scope before (drop place lines))
 
-pub Evaluated-start : (lines : List Line) (inputs : List BitVector) (states : KnownValues) (scope : Scope) (values : KnownValues) → scope ≡ no_lines → AreNarrow scope → lines_fault no_lines lines ≡ None → known_value values ≡ (λ _. None)
+pub Evaluated-start : (lines : List Line) (inputs : List BitVector) (states : KnownValues) (scope : DeclaredIds) (values : KnownValues) → scope ≡ no_lines → AreNarrow scope → lines_fault no_lines lines ≡ None → known_value values ≡ (λ _. None)
     → Evaluated lines inputs states 0 scope values
 Evaluated-start lines inputs states scope values is narrow fine none = record {
   narrow = narrow;
-  accepted = ap (λ (s : Scope). lines_fault s lines) is ∙ fine;
-  known = λ all knows. (λ _. no_bits, Knows-nothing values (λ _. no_bits) none, ap (λ (s : Scope). values_behind (step_with (ids_of is_input lines) inputs all) s (λ _. no_bits) lines) (sym is));
+  accepted = ap (λ (s : DeclaredIds). lines_fault s lines) is ∙ fine;
+  known = λ all knows. (λ _. no_bits, Knows-nothing values (λ _. no_bits) none, ap (λ (s : DeclaredIds). values_behind (step_with (ids_of is_input lines) inputs all) s (λ _. no_bits) lines) (sym is));
 }
 
 -- one more line
-pub Evaluated-next : (lines : List Line) (inputs : List BitVector) (states : KnownValues) (place : ℕ) (scope next : Scope) (values more : KnownValues) (line : Line) (value : Option BitVector)
+pub Evaluated-next : (lines : List Line) (inputs : List BitVector) (states : KnownValues) (place : ℕ) (scope next : DeclaredIds) (values more : KnownValues) (line : Line) (value : Option BitVector)
     → Evaluated lines inputs states place scope values → place < length lines → line ≡ get_or lines place line → next ≡ behind scope line → AreNarrow next → known_value more ≡ update nat_eq (known_value values) line.id value
     → ((before after : Values) → Knows states before → Knows values after → IfSome value (λ v. v ≡ value_by (rule_of line.keyword) (step_with (ids_of is_input lines) inputs before) scope after line))
     → Evaluated lines inputs states (place + 1) next more
@@ -86,19 +86,19 @@ Evaluated-next lines inputs states place scope next values more line value reach
     let here : drop place lines ≡ line ∷ drop (place + 1) lines = drop_more lines place line within ∙ ap (λ l. l ∷ drop (place + 1) lines) (sym is) in
     record {
       narrow = narrow;
-      accepted = ap (λ (s : Scope). lines_fault s (drop (place + 1) lines)) declares ∙ (accepted-next lines place scope line within is reached.accepted).1;
+      accepted = ap (λ (s : DeclaredIds). lines_fault s (drop (place + 1) lines)) declares ∙ (accepted-next lines place scope line within is reached.accepted).1;
       known = λ all knows.
-          let step : Step = step_with (ids_of is_input lines) inputs all in
+          let step : StepValues = step_with (ids_of is_input lines) inputs all in
           let past = reached.known all knows in
           let x : BitVector = value_by (rule_of line.keyword) step scope past.0 line in (
             λ q. cond (nat_eq line.id q) x (past.0 q),
             Knows-set values more line.id value past.0 x sets past.1 (computes all past.0 knows past.1),
-            past.2 ∙ ap (values_behind step scope past.0) here ∙ ap (λ (s : Scope). values_behind step s (λ q. cond (nat_eq line.id q) x (past.0 q)) (drop (place + 1) lines)) (sym declares),
+            past.2 ∙ ap (values_behind step scope past.0) here ∙ ap (λ (s : DeclaredIds). values_behind step s (λ q. cond (nat_eq line.id q) x (past.0 q)) (drop (place + 1) lines)) (sym declares),
           );
     }
 
 -- the end
-pub Evaluated-end : (lines : List Line) (inputs : List BitVector) (states : KnownValues) (place : ℕ) (scope : Scope) (values : KnownValues) → Evaluated lines inputs states place scope values → length lines ≤ place
+pub Evaluated-end : (lines : List Line) (inputs : List BitVector) (states : KnownValues) (place : ℕ) (scope : DeclaredIds) (values : KnownValues) → Evaluated lines inputs states place scope values → length lines ≤ place
     → (all : Values) → Knows states all → Knows values (values_with lines inputs all)
 Evaluated-end lines inputs states place scope values reached end all knows =
     let past = reached.known all knows in

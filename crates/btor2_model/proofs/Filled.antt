@@ -9,21 +9,21 @@ use Rattle.btor2_text.specs.Forms.{kinds_of, radix_of}
 use Rattle.btor2_text.specs.Printable.{FitKinds}
 use Rattle.btor2_text.specs.declared.keyword.Keyword.{Keyword}
 use Rattle.btor2_text.specs.declared.kind.Base.{Base}
-use Rattle.btor2_text.specs.declared.kind.Kind.{Kind}
-use Rattle.btor2_text.specs.declared.kind.Kind.TheVariants as kinds
+use Rattle.btor2_text.specs.declared.kind.ArgumentKind.{ArgumentKind}
+use Rattle.btor2_text.specs.declared.kind.ArgumentKind.TheVariants as kinds
 use Rattle.btor2_text.specs.declared.line.Argument.{Argument}
 use Rattle.btor2_text.specs.declared.line.Argument.TheVariants as arguments
 use Rattle.btor2_text.specs.declared.line.Line.{Line}
 use Rattle.btor2_model.specs.Acceptance.{agree, init_is_fixed, is_fresh, is_known, line_fault, names_state, numeral_fits, passes, sets_first}
 use Rattle.btor2_model.specs.Rules.{rule_of, bounds_fit, widths_agree}
 use Rattle.btor2_model.specs.Run.{base_of}
-use Rattle.btor2_model.specs.Scope.{Scope, argument_depends, measures, measures_from, measures_of, meaning_depends, sort_width_in, width_wanted}
+use Rattle.btor2_model.specs.Scope.{DeclaredIds, argument_depends, measures, measures_from, measures_of, meaning_depends, sort_width_in, width_wanted}
 use Rattle.btor2_model.specs.SlowRun.{HasValue, is_constant}
 use Rattle.btor2_model.specs.inner.SlowRun.{GivesValue, computes, IsFilled, known_value, takes_one, takes_alike, width_by}
 use Rattle.btor2_model.specs.declared.known_values.KnownValues.{KnownValues}
 use Rattle.btor2_model.specs.declared.rule.Measures.{Measures}
-use Rattle.btor2_model.specs.declared.rule.Rule.{Rule}
-use Rattle.btor2_model.specs.declared.rule.Rule.TheVariants as forms
+use Rattle.btor2_model.specs.declared.rule.FormRule.{FormRule}
+use Rattle.btor2_model.specs.declared.rule.FormRule.TheVariants as forms
 use Rattle.btor2_model.proofs.KindsByRule.{IsBaseOf, base-by, kinds-by, kinds_by}
 
 -- the first of a line's measures, which is its width where it has a value; 0 where it has none
@@ -59,16 +59,16 @@ sooner true b is = refl
 sooner false b is = absurd (cc)
 
 -- the first argument, by its kind
-sort-first : (more : List Kind) (given : List Argument) → FitKinds (kinds.Sort ∷ more) given → (id : ℕ) × (others : List Argument) × (given ≡ arguments.Id id ∷ others) × FitKinds more others
+sort-first : (more : List ArgumentKind) (given : List Argument) → FitKinds (kinds.Sort ∷ more) given → (id : ℕ) × (others : List Argument) × (given ≡ arguments.Id id ∷ others) × FitKinds more others
 sort-first more given fits = (fits.3.0, fits.1, fits.2 ∙ ap (λ (a : Argument). a ∷ fits.1) fits.3.2, fits.4)
 
-value-first : (more : List Kind) (given : List Argument) → FitKinds (kinds.Value ∷ more) given → (id : ℕ) × (others : List Argument) × (given ≡ arguments.Id id ∷ others) × FitKinds more others
+value-first : (more : List ArgumentKind) (given : List Argument) → FitKinds (kinds.Value ∷ more) given → (id : ℕ) × (others : List Argument) × (given ≡ arguments.Id id ∷ others) × FitKinds more others
 value-first more given fits = (fits.3.0, fits.1, fits.2 ∙ ap (λ (a : Argument). a ∷ fits.1) fits.3.2, fits.4)
 
-number-first : (more : List Kind) (given : List Argument) → FitKinds (kinds.Number ∷ more) given → (n : ℕ) × (others : List Argument) × (given ≡ arguments.Number n ∷ others) × FitKinds more others
+number-first : (more : List ArgumentKind) (given : List Argument) → FitKinds (kinds.Number ∷ more) given → (n : ℕ) × (others : List Argument) × (given ≡ arguments.Number n ∷ others) × FitKinds more others
 number-first more given fits = (fits.3.0, fits.1, fits.2 ∙ ap (λ (a : Argument). a ∷ fits.1) fits.3.2, fits.4)
 
-numeral-first : (base : Base) (more : List Kind) (given : List Argument) → FitKinds (kinds.Numeral base ∷ more) given → (digits : List ℕ) × (others : List Argument) × (given ≡ arguments.Numeral digits ∷ others) × FitKinds more others
+numeral-first : (base : Base) (more : List ArgumentKind) (given : List Argument) → FitKinds (kinds.Numeral base ∷ more) given → (digits : List ℕ) × (others : List Argument) × (given ≡ arguments.Numeral digits ∷ others) × FitKinds more others
 numeral-first base more given fits = (fits.3.0, fits.1, fits.2 ∙ ap (λ (a : Argument). a ∷ fits.1) fits.3.2, fits.4)
 
 -- one argument more
@@ -134,23 +134,23 @@ sort-bounds given fits =
     )
 
 -- what a line stands on: sorts of 1 to 128 bits, the values before it, and what it makes of them
-pub record Standing (given : Bool) (scope : Scope) (known : KnownValues) (keyword : Keyword) (args : List Argument) (result : Option BitVector) : Type 0 where
+pub record Standing (given : Bool) (scope : DeclaredIds) (known : KnownValues) (keyword : Keyword) (args : List Argument) (result : Option BitVector) : Type 0 where
   pub sorts : (id width : ℕ) → width_wanted kinds.Sort (scope.meanings id) ≡ Some width → (1 ≤ width) × (width ≤ 128)
   pub filled : IsFilled given scope known
   pub depends : list_any (argument_depends scope) args ≡ true → given ≡ true
   pub gives : GivesValue scope known keyword args result
 
 -- an operand's value
-operand : (given : Bool) (scope : Scope) (known : KnownValues) (keyword : Keyword) (args : List Argument) (result : Option BitVector) → Standing given scope known keyword args result
+operand : (given : Bool) (scope : DeclaredIds) (known : KnownValues) (keyword : Keyword) (args : List Argument) (result : Option BitVector) → Standing given scope known keyword args result
     → (a width : ℕ) → width_wanted kinds.Value (scope.meanings a) ≡ Some width → (meaning_depends (scope.meanings a) ≡ true → list_any (argument_depends scope) args ≡ true)
     → (x : BitVector) × (known_value known a ≡ Some x) × (x.width ≡ width)
 operand given scope known keyword args result s a width is depends = value-of (known_value known a) width (s.filled a width is (λ d. s.depends (depends d)))
 
-sort-width : (scope : Scope) (sort width : ℕ) → width_wanted kinds.Sort (scope.meanings sort) ≡ Some width → sort_width_in scope sort ≡ width
+sort-width : (scope : DeclaredIds) (sort width : ℕ) → width_wanted kinds.Sort (scope.meanings sort) ≡ Some width → sort_width_in scope sort ≡ width
 sort-width scope sort width is = ap (λ (o : Option ℕ). unwrap_or o 0) is
 
 -- operators of one operand
-one-has : (given : Bool) (scope : Scope) (known : KnownValues) (keyword : Keyword) (args : List Argument) (result : Option BitVector) (m : Measures) (rule : Rule) → Standing given scope known keyword args result
+one-has : (given : Bool) (scope : DeclaredIds) (known : KnownValues) (keyword : Keyword) (args : List Argument) (result : Option BitVector) (m : Measures) (rule : FormRule) → Standing given scope known keyword args result
     → rule_of keyword ≡ rule → FitKinds (kinds.Sort ∷ kinds.Value ∷ []) args → measures scope (kinds.Sort ∷ kinds.Value ∷ []) args ≡ Some m → takes_one rule ≡ true → width_by rule m.second ≡ m.first → HasValue result m.first
 one-has given scope known keyword args result m rule s of fits measured takes agree =
     let (sort, a, is) = sort-one args fits in
@@ -158,24 +158,24 @@ one-has given scope known keyword args result m rule s of fits measured takes ag
     (sym (ap (measures scope (kinds.Sort ∷ kinds.Value ∷ [])) is) ∙ measured) in
     let x = operand given scope known keyword args result s a m.second w.1
     (λ d. ap (list_any (argument_depends scope)) is ∙ later (meaning_depends (scope.meanings sort)) (meaning_depends (scope.meanings a) || false) (sooner (meaning_depends (scope.meanings a)) false d)) in
-    subst (HasValue result) (ap (λ (r : Rule). width_by r x.0.width) of ∙ ap (width_by rule) x.2 ∙ agree) (s.gives.one sort a x.0 is x.1 (ap takes_one of ∙ takes))
+    subst (HasValue result) (ap (λ (r : FormRule). width_by r x.0.width) of ∙ ap (width_by rule) x.2 ∙ agree) (s.gives.one sort a x.0 is x.1 (ap takes_one of ∙ takes))
 
 pub some-same : (a b : ℕ) → Some a ≡ Some b → a ≡ b
 some-same a b is = cc
 
 -- what depends among the operands makes the line depend
-second : (scope : Scope) (args : List Argument) (s a : ℕ) (more : List Argument) → args ≡ arguments.Id s ∷ arguments.Id a ∷ more → meaning_depends (scope.meanings a) ≡ true → list_any (argument_depends scope) args ≡ true
+second : (scope : DeclaredIds) (args : List Argument) (s a : ℕ) (more : List Argument) → args ≡ arguments.Id s ∷ arguments.Id a ∷ more → meaning_depends (scope.meanings a) ≡ true → list_any (argument_depends scope) args ≡ true
 second scope args s a more is d =
     ap (list_any (argument_depends scope)) is ∙ later (meaning_depends (scope.meanings s)) (meaning_depends (scope.meanings a) || list_any (argument_depends scope) more) (sooner (meaning_depends (scope.meanings a)) (list_any (argument_depends scope) more) d)
 
-third : (scope : Scope) (args : List Argument) (s a b : ℕ) (more : List Argument) → args ≡ arguments.Id s ∷ arguments.Id a ∷ arguments.Id b ∷ more → meaning_depends (scope.meanings b) ≡ true → list_any (argument_depends scope) args ≡ true
+third : (scope : DeclaredIds) (args : List Argument) (s a b : ℕ) (more : List Argument) → args ≡ arguments.Id s ∷ arguments.Id a ∷ arguments.Id b ∷ more → meaning_depends (scope.meanings b) ≡ true → list_any (argument_depends scope) args ≡ true
 third scope args s a b more is d =
     let rest = list_any (argument_depends scope) more in
     ap (list_any (argument_depends scope)) is
     ∙ later (meaning_depends (scope.meanings s)) (meaning_depends (scope.meanings a) || (meaning_depends (scope.meanings b) || rest))
     (later (meaning_depends (scope.meanings a)) (meaning_depends (scope.meanings b) || rest) (sooner (meaning_depends (scope.meanings b)) rest d))
 
-fourth : (scope : Scope) (args : List Argument) (s a b c : ℕ) (more : List Argument) → args ≡ arguments.Id s ∷ arguments.Id a ∷ arguments.Id b ∷ arguments.Id c ∷ more → meaning_depends (scope.meanings c) ≡ true → list_any (argument_depends scope) args ≡ true
+fourth : (scope : DeclaredIds) (args : List Argument) (s a b c : ℕ) (more : List Argument) → args ≡ arguments.Id s ∷ arguments.Id a ∷ arguments.Id b ∷ arguments.Id c ∷ more → meaning_depends (scope.meanings c) ≡ true → list_any (argument_depends scope) args ≡ true
 fourth scope args s a b c more is d =
     let rest = list_any (argument_depends scope) more in
     ap (list_any (argument_depends scope)) is
@@ -184,7 +184,7 @@ fourth scope args s a b c more is d =
     (later (meaning_depends (scope.meanings b)) (meaning_depends (scope.meanings c) || rest) (sooner (meaning_depends (scope.meanings c)) rest d)))
 
 -- operators of two operands of one width
-alike-has : (given : Bool) (scope : Scope) (known : KnownValues) (keyword : Keyword) (args : List Argument) (result : Option BitVector) (m : Measures) (rule : Rule) → Standing given scope known keyword args result
+alike-has : (given : Bool) (scope : DeclaredIds) (known : KnownValues) (keyword : Keyword) (args : List Argument) (result : Option BitVector) (m : Measures) (rule : FormRule) → Standing given scope known keyword args result
     → rule_of keyword ≡ rule → FitKinds (kinds.Sort ∷ kinds.Value ∷ kinds.Value ∷ []) args → measures scope (kinds.Sort ∷ kinds.Value ∷ kinds.Value ∷ []) args ≡ Some m → takes_alike rule ≡ true
     → m.second ≡ m.third → (rule ≡ forms.Boolean → m.second ≡ 1) → width_by rule m.second ≡ m.first → HasValue result m.first
 alike-has given scope known keyword args result m rule s of fits measured takes same one agree =
@@ -193,11 +193,11 @@ alike-has given scope known keyword args result m rule s of fits measured takes 
     (sym (ap (measures scope (kinds.Sort ∷ kinds.Value ∷ kinds.Value ∷ [])) is) ∙ measured) in
     let x = operand given scope known keyword args result s a m.second w.1 (second scope args sort a (arguments.Id b ∷ []) is) in
     let y = operand given scope known keyword args result s b m.third w.2 (third scope args sort a b [] is) in
-    subst (HasValue result) (ap (λ (r : Rule). width_by r x.0.width) of ∙ ap (width_by rule) x.2 ∙ agree)
+    subst (HasValue result) (ap (λ (r : FormRule). width_by r x.0.width) of ∙ ap (width_by rule) x.2 ∙ agree)
     (s.gives.alike sort a b x.0 y.0 is x.1 y.1 (x.2 ∙ same ∙ sym y.2) (ap takes_alike of ∙ takes) (λ boolean. x.2 ∙ one (sym of ∙ boolean)))
 
 -- operands that are joined
-joined-has : (given : Bool) (scope : Scope) (known : KnownValues) (keyword : Keyword) (args : List Argument) (result : Option BitVector) (m : Measures) → Standing given scope known keyword args result
+joined-has : (given : Bool) (scope : DeclaredIds) (known : KnownValues) (keyword : Keyword) (args : List Argument) (result : Option BitVector) (m : Measures) → Standing given scope known keyword args result
     → rule_of keyword ≡ forms.Joined → FitKinds (kinds.Sort ∷ kinds.Value ∷ kinds.Value ∷ []) args → measures scope (kinds.Sort ∷ kinds.Value ∷ kinds.Value ∷ []) args ≡ Some m → m.first ≡ m.second + m.third → HasValue result m.first
 joined-has given scope known keyword args result m s of fits measured agree =
     let (sort, a, b, is) = sort-two args fits in
@@ -210,7 +210,7 @@ joined-has given scope known keyword args result m s of fits measured agree =
     subst (HasValue result) total (s.gives.joined sort a b x.0 y.0 is x.1 y.1 (omega (arith, total, narrow)) of)
 
 -- an operand that is extended
-extended-has : (given : Bool) (scope : Scope) (known : KnownValues) (keyword : Keyword) (args : List Argument) (result : Option BitVector) (m : Measures) → Standing given scope known keyword args result
+extended-has : (given : Bool) (scope : DeclaredIds) (known : KnownValues) (keyword : Keyword) (args : List Argument) (result : Option BitVector) (m : Measures) → Standing given scope known keyword args result
     → FitKinds (kinds.Sort ∷ kinds.Value ∷ kinds.Number ∷ []) args → measures scope (kinds.Sort ∷ kinds.Value ∷ kinds.Number ∷ []) args ≡ Some m → m.first ≡ m.second + m.third → HasValue result m.first
 extended-has given scope known keyword args result m s fits measured agree =
     let (sort, a, n, is) = sort-number args fits in
@@ -223,7 +223,7 @@ extended-has given scope known keyword args result m s fits measured agree =
     subst (HasValue result) total (s.gives.extended sort a n x.0 is x.1 (omega (arith, total, narrow)))
 
 -- bits of an operand
-sliced-has : (given : Bool) (scope : Scope) (known : KnownValues) (keyword : Keyword) (args : List Argument) (result : Option BitVector) (m : Measures) → Standing given scope known keyword args result
+sliced-has : (given : Bool) (scope : DeclaredIds) (known : KnownValues) (keyword : Keyword) (args : List Argument) (result : Option BitVector) (m : Measures) → Standing given scope known keyword args result
     → FitKinds (kinds.Sort ∷ kinds.Value ∷ kinds.Number ∷ kinds.Number ∷ []) args → measures scope (kinds.Sort ∷ kinds.Value ∷ kinds.Number ∷ kinds.Number ∷ []) args ≡ Some m
     → m.fourth ≤ m.third → m.first + m.fourth ≡ m.third + 1 → m.third < m.second → HasValue result m.first
 sliced-has given scope known keyword args result m s fits measured order agree within =
@@ -237,7 +237,7 @@ sliced-has given scope known keyword args result m s fits measured order agree w
     subst (HasValue result) total (s.gives.sliced sort a u l x.0 is x.1 (omega (arith, upper, lower, order)) (omega (arith, upper, x.2, within)))
 
 -- one operand of two
-chosen-has : (given : Bool) (scope : Scope) (known : KnownValues) (keyword : Keyword) (args : List Argument) (result : Option BitVector) (m : Measures) → Standing given scope known keyword args result
+chosen-has : (given : Bool) (scope : DeclaredIds) (known : KnownValues) (keyword : Keyword) (args : List Argument) (result : Option BitVector) (m : Measures) → Standing given scope known keyword args result
     → FitKinds (kinds.Sort ∷ kinds.Value ∷ kinds.Value ∷ kinds.Value ∷ []) args → measures scope (kinds.Sort ∷ kinds.Value ∷ kinds.Value ∷ kinds.Value ∷ []) args ≡ Some m
     → m.third ≡ m.first → m.fourth ≡ m.first → HasValue result m.first
 chosen-has given scope known keyword args result m s fits measured one other =
@@ -250,7 +250,7 @@ chosen-has given scope known keyword args result m s fits measured one other =
     subst (HasValue result) (x.2 ∙ one) (s.gives.chosen sort c a b z.0 x.0 y.0 is z.1 x.1 y.1 (x.2 ∙ one ∙ sym other ∙ sym y.2))
 
 -- constants
-constant-has : (given : Bool) (scope : Scope) (known : KnownValues) (keyword : Keyword) (args : List Argument) (result : Option BitVector) (m : Measures) → Standing given scope known keyword args result
+constant-has : (given : Bool) (scope : DeclaredIds) (known : KnownValues) (keyword : Keyword) (args : List Argument) (result : Option BitVector) (m : Measures) → Standing given scope known keyword args result
     → rule_of keyword ≡ forms.Constant → FitKinds (kinds.Sort ∷ []) args → measures scope (kinds.Sort ∷ []) args ≡ Some m → HasValue result m.first
 constant-has given scope known keyword args result m s of fits measured =
     let (sort, is) = sort-alone args fits in
@@ -259,20 +259,20 @@ constant-has given scope known keyword args result m s of fits measured =
     let some = (s.sorts sort m.first w.0).0 in
     subst (HasValue result) width (s.gives.constant sort is (ap is_constant of) (omega (arith, width, some)))
 
-numeral-has : (given : Bool) (scope : Scope) (known : KnownValues) (keyword : Keyword) (args : List Argument) (result : Option BitVector) (m : Measures) (base : Base) → Standing given scope known keyword args result
+numeral-has : (given : Bool) (scope : DeclaredIds) (known : KnownValues) (keyword : Keyword) (args : List Argument) (result : Option BitVector) (m : Measures) (base : Base) → Standing given scope known keyword args result
     → rule_of keyword ≡ forms.Numeral base → FitKinds (kinds.Sort ∷ kinds.Numeral base ∷ []) args → measures scope (kinds.Sort ∷ kinds.Numeral base ∷ []) args ≡ Some m → numeral_fits (forms.Numeral base) scope args ≡ true → HasValue result m.first
 numeral-has given scope known keyword args result m base s of fits measured below =
     let (sort, digits, is) = sort-numeral base args fits in
     let w = each-measure (width_wanted kinds.Sort (scope.meanings sort)) (Some 0) (Some 0) (Some 0) m (sym (ap (measures scope (kinds.Sort ∷ kinds.Numeral base ∷ [])) is) ∙ measured) in
     let width = sort-width scope sort m.first w.0 in
     let some = (s.sorts sort m.first w.0).0 in
-    let written : base_of keyword ≡ base = subst (λ (r : Rule). IsBaseOf r (base_of keyword)) of (base-by keyword) in
+    let written : base_of keyword ≡ base = subst (λ (r : FormRule). IsBaseOf r (base_of keyword)) of (base-by keyword) in
     let small = ltb-true (digits_value (radix_of base) digits) (2 ^ sort_width_in scope sort) (sym (ap (numeral_fits (forms.Numeral base) scope) is) ∙ below) in
     let fits_in = subst (λ (b : Base). digits_value (radix_of b) digits < 2 ^ sort_width_in scope sort) (sym written) small in
     subst (HasValue result) width (s.gives.numeral sort digits is (omega (arith, width, some)) fits_in)
 
 -- each line of an operator or a constant
-by-rule : (given : Bool) (scope : Scope) (known : KnownValues) (keyword : Keyword) (args : List Argument) (result : Option BitVector) (m : Measures) (rule : Rule) → Standing given scope known keyword args result → rule_of keyword ≡ rule → FitKinds (kinds_by rule) args → measures scope (kinds_by rule) args ≡ Some m
+by-rule : (given : Bool) (scope : DeclaredIds) (known : KnownValues) (keyword : Keyword) (args : List Argument) (result : Option BitVector) (m : Measures) (rule : FormRule) → Standing given scope known keyword args result → rule_of keyword ≡ rule → FitKinds (kinds_by rule) args → measures scope (kinds_by rule) args ≡ Some m
     → widths_agree rule m ≡ true → bounds_fit rule m ≡ true → numeral_fits rule scope args ≡ true → computes rule ≡ true → HasValue result m.first
 by-rule given scope known keyword args result m forms.Sort s of fits ms agree bounds below value = absurd (cc)
 by-rule given scope known keyword args result m forms.Input s of fits ms agree bounds below value = absurd (cc)
@@ -318,15 +318,15 @@ all-met true true false d e f g is = absurd (cc)
 all-met true false c d e f g is = absurd (cc)
 all-met false b c d e f g is = absurd (cc)
 
-pub passes-some : (test : Rule → Measures → Bool) (rule : Rule) (found : Option Measures) → passes test rule found ≡ true → (m : Measures) × (found ≡ Some m) × (test rule m ≡ true)
+pub passes-some : (test : FormRule → Measures → Bool) (rule : FormRule) (found : Option Measures) → passes test rule found ≡ true → (m : Measures) × (found ≡ Some m) × (test rule m ≡ true)
 passes-some test rule (Some m) is = (m, refl, is)
 passes-some test rule None is = absurd (cc)
 
-pub passes-at : (test : Rule → Measures → Bool) (rule : Rule) (found : Option Measures) (m : Measures) → found ≡ Some m → passes test rule found ≡ true → test rule m ≡ true
+pub passes-at : (test : FormRule → Measures → Bool) (rule : FormRule) (found : Option Measures) (m : Measures) → found ≡ Some m → passes test rule found ≡ true → test rule m ≡ true
 passes-at test rule found m is met = sym (ap (passes test rule) is) ∙ met
 
 -- a line of an operator or a constant has a value of the width that it gives its id
-pub line-has : (given : Bool) (scope : Scope) (known : KnownValues) (line : Line) (result : Option BitVector) → line_fault scope line ≡ None → FitKinds (kinds_of line.keyword) line.arguments
+pub line-has : (given : Bool) (scope : DeclaredIds) (known : KnownValues) (line : Line) (result : Option BitVector) → line_fault scope line ≡ None → FitKinds (kinds_of line.keyword) line.arguments
     → ((id width : ℕ) → width_wanted kinds.Sort (scope.meanings id) ≡ Some width → (1 ≤ width) × (width ≤ 128)) → IsFilled given scope known → (list_any (argument_depends scope) line.arguments ≡ true → given ≡ true)
     → computes (rule_of line.keyword) ≡ true → GivesValue scope known line.keyword line.arguments result → HasValue result (first_measure (measures_of scope line))
 line-has given scope known line result fine fits sorts filled depends value gives =
@@ -336,6 +336,6 @@ line-has given scope known line result fine fits sorts filled depends value give
     let (m, measured, widths) = passes-some widths_agree rule (measures_of scope line) (both (names_state rule scope line.arguments) (passes widths_agree rule (measures_of scope line)) met.0).1 in
     let kinds_are = kinds-by line.keyword in
     let has = by-rule given scope known line.keyword line.arguments result m rule (record { sorts = sorts; filled = filled; depends = depends; gives = gives }) refl
-    (subst (λ (ks : List Kind). FitKinds ks line.arguments) kinds_are fits) (ap (λ (ks : List Kind). measures scope ks line.arguments) (sym kinds_are) ∙ measured) widths
+    (subst (λ (ks : List ArgumentKind). FitKinds ks line.arguments) kinds_are fits) (ap (λ (ks : List ArgumentKind). measures scope ks line.arguments) (sym kinds_are) ∙ measured) widths
     (passes-at bounds_fit rule (measures_of scope line) m measured met.1) met.2 value in
     subst (HasValue result) (sym (ap first_measure measured)) has

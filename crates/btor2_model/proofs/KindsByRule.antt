@@ -3,16 +3,16 @@ use Rattle.std.proofs.Common.{◌≡◌, List, [], ◌∷◌, refl}
 use Rattle.btor2_text.specs.Forms.{kinds_of}
 use Rattle.btor2_text.specs.declared.keyword.Keyword.{Keyword}
 use Rattle.btor2_text.specs.declared.keyword.Keyword.TheVariants as keywords
-use Rattle.btor2_text.specs.declared.kind.Kind.{Kind}
-use Rattle.btor2_text.specs.declared.kind.Kind.TheVariants as kinds
+use Rattle.btor2_text.specs.declared.kind.ArgumentKind.{ArgumentKind}
+use Rattle.btor2_text.specs.declared.kind.ArgumentKind.TheVariants as kinds
 use Rattle.btor2_text.specs.declared.kind.Base.{Base}
 use Rattle.btor2_model.specs.Rules.{rule_of}
 use Rattle.btor2_model.specs.Run.{base_of}
-use Rattle.btor2_model.specs.declared.rule.Rule.{Rule}
-use Rattle.btor2_model.specs.declared.rule.Rule.TheVariants as forms
+use Rattle.btor2_model.specs.declared.rule.FormRule.{FormRule}
+use Rattle.btor2_model.specs.declared.rule.FormRule.TheVariants as forms
 
 -- the kinds of a rule's arguments
-abbrev pub kinds_by : Rule → List Kind
+abbrev pub kinds_by : FormRule → List ArgumentKind
 kinds_by forms.Sort = kinds.Bitvec ∷ kinds.Number ∷ []
 kinds_by forms.Input = kinds.Sort ∷ []
 kinds_by forms.State = kinds.Sort ∷ []
@@ -85,7 +85,7 @@ kinds-by keywords.Output = refl
 kinds-by keywords.Bad = refl
 
 -- the base is that of the rule, where it is one of a numeral
-abbrev pub IsBaseOf : Rule → Base → Type 0
+abbrev pub IsBaseOf : FormRule → Base → Type 0
 IsBaseOf (forms.Numeral base) other = other ≡ base
 IsBaseOf rule other = Unit {0}
 

@@ -8,19 +8,19 @@ use Rattle.std.specs.Option.{option_and_then, option_map, unwrap_or}
 use Rattle.kw_bits.specs.BitVector.{BitVector}
 use Rattle.btor2_text.specs.Forms.{kinds_of}
 use Rattle.btor2_text.specs.Printable.{ArePrintable, FitKinds}
-use Rattle.btor2_text.specs.declared.kind.Kind.{Kind}
-use Rattle.btor2_text.specs.declared.kind.Kind.TheVariants as kinds
+use Rattle.btor2_text.specs.declared.kind.ArgumentKind.{ArgumentKind}
+use Rattle.btor2_text.specs.declared.kind.ArgumentKind.TheVariants as kinds
 use Rattle.btor2_text.specs.declared.line.Line.{Line}
 use Rattle.btor2_model.specs.Acceptance.{IsAccepted, lines_fault}
 use Rattle.btor2_model.specs.Rules.{is_init, is_input, is_next, is_output, is_state, rule_of}
-use Rattle.btor2_model.specs.Run.{flag_ids, ids_of, lines_of, width_in}
-use Rattle.btor2_model.specs.Scope.{Scope, behind, behind_all, id_at, measures, measures_of, meaning_of, no_lines, width_or_none, width_wanted}
+use Rattle.btor2_model.specs.Run.{flag_ids, ids_of, lines_by_rule, width_in}
+use Rattle.btor2_model.specs.Scope.{DeclaredIds, behind, behind_all, id_at, measures, measures_of, meaning_of, no_lines, width_or_none, width_wanted}
 use Rattle.btor2_model.specs.SlowRun.{HasValue}
 use Rattle.btor2_model.specs.inner.SlowRun.{InputsHave, IsFilled, known_value, sets}
 use Rattle.btor2_model.specs.declared.known_values.KnownValues.{KnownValues}
-use Rattle.btor2_model.specs.declared.meaning.Meaning.{Meaning}
-use Rattle.btor2_model.specs.declared.rule.Rule.{Rule}
-use Rattle.btor2_model.specs.declared.rule.Rule.TheVariants as forms
+use Rattle.btor2_model.specs.declared.meaning.IdMeaning.{IdMeaning}
+use Rattle.btor2_model.specs.declared.rule.FormRule.{FormRule}
+use Rattle.btor2_model.specs.declared.rule.FormRule.TheVariants as forms
 use Rattle.btor2_model.proofs.Declared.{IsValue, all-passing, each-fine, each-line, next-of, output-value, width-is, width_at_end}
 use Rattle.btor2_model.proofs.Ends.{SameWidth, init-found, measured-widths}
 use Rattle.btor2_model.proofs.Filled.{each-measure, some-same, sort-alone}
@@ -54,25 +54,25 @@ pub inputs-have : (lines : List Line) (given : List BitVector) → widths given 
 inputs-have lines given is = inputs-given (width_in lines) (ids_of is_input lines) given is
 
 -- each sort has 1 to 128 bits
-abbrev AreSorts : Scope → Type 0
+abbrev AreSorts : DeclaredIds → Type 0
 AreSorts scope = (id w : ℕ) → width_wanted kinds.Sort (scope.meanings id) ≡ Some w → (1 ≤ w) × (w ≤ 128)
 
-sorts-end : (lines : List Line) (scope : Scope) → lines_fault scope lines ≡ None → AreSorts scope → AreSorts (behind_all scope lines)
+sorts-end : (lines : List Line) (scope : DeclaredIds) → lines_fault scope lines ≡ None → AreSorts scope → AreSorts (behind_all scope lines)
 sorts-end [] scope fine sorts = sorts
 sorts-end (line ∷ lines) scope fine sorts =
     let each = each-fine scope line lines fine in
     sorts-end lines (behind scope line) each.1
     (λ id w wanted. sorts-at (nat_eq line.id id) (scope.meanings id) (meaning_of scope line) w (sorts id w) (sort-new (rule_of line.keyword) (measures_of scope line) w (line-met scope line each.0).1) wanted)
 
-sort-some : (o : Option Meaning) (w : ℕ) → width_wanted kinds.Sort o ≡ Some w → (m : Meaning) × (o ≡ Some m)
+sort-some : (o : Option IdMeaning) (w : ℕ) → width_wanted kinds.Sort o ≡ Some w → (m : IdMeaning) × (o ≡ Some m)
 sort-some (Some m) w is = (m, refl)
 sort-some None w is = absurd (cc)
 
-state-rule : (rule : Rule) → is_state rule ≡ true → rule ≡ forms.State
+state-rule : (rule : FormRule) → is_state rule ≡ true → rule ≡ forms.State
 state-rule forms.State is = refl
 state-rule other is = absurd (cc)
 
-abbrev pub IsSortWidth : Scope → ℕ → Type 0
+abbrev pub IsSortWidth : DeclaredIds → ℕ → Type 0
 IsSortWidth scope w = (sort : ℕ) × (width_wanted kinds.Sort (scope.meanings sort) ≡ Some w)
 
 -- a state is as wide as a sort
@@ -86,14 +86,14 @@ state-sorts lines fine printable =
     let rule = state-rule (rule_of line.keyword) passes in
     let (m, measured, widths_are) = measured-widths scope line each.0 in
     let form : kinds_of line.keyword ≡ kinds.Sort ∷ [] = kinds-by line.keyword ∙ ap kinds_by rule in
-    let (sort, is) = sort-alone line.arguments (subst (λ (ks : List Kind). FitKinds ks line.arguments) form fits) in
-    let w = (each-measure (width_wanted kinds.Sort (scope.meanings sort)) (Some 0) (Some 0) (Some 0) m (sym (ap (measures scope (kinds.Sort ∷ [])) is) ∙ ap (λ (ks : List Kind). measures scope ks line.arguments) (sym form) ∙ measured)).0 in
+    let (sort, is) = sort-alone line.arguments (subst (λ (ks : List ArgumentKind). FitKinds ks line.arguments) form fits) in
+    let w = (each-measure (width_wanted kinds.Sort (scope.meanings sort)) (Some 0) (Some 0) (Some 0) m (sym (ap (measures scope (kinds.Sort ∷ [])) is) ∙ ap (λ (ks : List ArgumentKind). measures scope ks line.arguments) (sym form) ∙ measured)).0 in
     let named = sort-some (scope.meanings sort) m.first w in
     let wanted : width_wanted kinds.Sort (end.meanings sort) ≡ Some m.first = ap (width_wanted kinds.Sort) (stays (line ∷ rest) scope sort named.0 line_fine named.1 ∙ sym named.1) ∙ w in
     let new = meaning_of scope line in
     let at : end.meanings line.id ≡ Some new = stays rest (behind scope line) line.id new each.1 (ap (λ (b : Bool). cond b (Some new) (scope.meanings line.id)) (eq-eqb line.id line.id refl)) in
-    let own : new.width ≡ m.first = ap (λ (r : Rule). width_or_none r (measures_of scope line)) rule ∙ ap (width_or_none forms.State) measured in
-    let width : width_at_end end line.id ≡ m.first = ap (λ (o : Option Meaning). unwrap_or (option_map (λ (x : Meaning). x.width) o) 0) at ∙ own in
+    let own : new.width ≡ m.first = ap (λ (r : FormRule). width_or_none r (measures_of scope line)) rule ∙ ap (width_or_none forms.State) measured in
+    let width : width_at_end end line.id ≡ m.first = ap (λ (o : Option IdMeaning). unwrap_or (option_map (λ (x : IdMeaning). x.width) o) 0) at ∙ own in
     (sort, wanted ∙ ap Some (sym width)))
     lines no_lines fine printable
 
@@ -104,7 +104,7 @@ IsNarrowId lines id = (1 ≤ width_in lines id) × (width_in lines id ≤ 128)
 pub states-narrow : (lines : List Line) → lines_fault no_lines lines ≡ None → ArePrintable lines → All (IsNarrowId lines) (ids_of is_state lines)
 states-narrow lines fine forms =
     let sorts = sorts-end lines no_lines fine (λ id w none. absurd (cc)) in
-    All-map (IsNarrowId lines) (λ (line : Line). line.id) (lines_of is_state lines)
+    All-map (IsNarrowId lines) (λ (line : Line). line.id) (lines_by_rule is_state lines)
     (all-passing is_state (λ (line : Line). IsNarrowId lines line.id) lines
     (All-weaker (λ (line : Line). is_state (rule_of line.keyword) ≡ true → IsSortWidth (behind_all no_lines lines) (width_in lines line.id)) (λ (line : Line). is_state (rule_of line.keyword) ≡ true → IsNarrowId lines line.id)
     (λ line has state. let sort = has state in sorts sort.0 (width_in lines line.id) sort.1) lines (state-sorts lines fine forms)))
@@ -164,7 +164,7 @@ unfolding SameWidth
 next-has lines values accepted filled =
     let end = behind_all no_lines lines in
     let Has : ℕ → Type 0 = λ state. HasValue (next_value lines values state) (width_in lines state) in
-    All-map Has (λ (line : Line). line.id) (lines_of is_state lines)
+    All-map Has (λ (line : Line). line.id) (lines_by_rule is_state lines)
     (all-passing is_state (λ (line : Line). Has line.id) lines
     (All-weaker (λ (line : Line). is_state (rule_of line.keyword) ≡ true → (next : Line) × (find (sets is_next line.id) lines ≡ Some next) × SameWidth end line.id (id_at next.arguments 2))
     (λ (line : Line). is_state (rule_of line.keyword) ≡ true → Has line.id)
@@ -179,8 +179,8 @@ next-has lines values accepted filled =
 pub flags-have : (lines : List Line) (values : KnownValues) → lines_fault no_lines lines ≡ None → ArePrintable lines → IsFilled true (behind_all no_lines lines) values → All (λ id. HasValue (known_value values id) (width_in lines id)) (flag_ids lines)
 flags-have lines values fine forms filled =
     let Has : ℕ → Type 0 = λ id. HasValue (known_value values id) (width_in lines id) in
-    All-filter (λ id. width_in lines id == 1) Has (map (λ (line : Line). id_at line.arguments 0) (lines_of is_output lines))
-    (All-map Has (λ (line : Line). id_at line.arguments 0) (lines_of is_output lines)
+    All-filter (λ id. width_in lines id == 1) Has (map (λ (line : Line). id_at line.arguments 0) (lines_by_rule is_output lines))
+    (All-map Has (λ (line : Line). id_at line.arguments 0) (lines_by_rule is_output lines)
     (all-passing is_output (λ (line : Line). Has (id_at line.arguments 0)) lines
     (All-weaker (λ (line : Line). is_output (rule_of line.keyword) ≡ true → IsValue (behind_all no_lines lines) (id_at line.arguments 0) (width_in lines (id_at line.arguments 0)))
     (λ (line : Line). is_output (rule_of line.keyword) ≡ true → Has (id_at line.arguments 0))

@@ -12,28 +12,28 @@ use Rattle.one_rule.specs.Run.{InputsByCycle}
 use Rattle.one_rule.specs.declared.rows.Row.{Row}
 use Rattle.btor2_text.specs.declared.line.Line.{Line}
 use Rattle.btor2_model.specs.Rules.{is_input, is_output, rule_of}
-use Rattle.btor2_model.specs.Run.{Values, ids_of, input_values, lines_of, next_values, no_bits, row_behind, rows_behind, states_at, value_set, values_in, width_in}
+use Rattle.btor2_model.specs.Run.{Values, ids_of, input_values, lines_by_rule, next_values, no_bits, row_behind, rows_behind, states_at, value_set, values_in, width_in}
 use Rattle.btor2_model.specs.Scope.{id_at}
 use Rattle.btor2_model.specs.inner.SlowRun.{sets}
-use Rattle.btor2_model.specs.declared.rule.Rule.{Rule}
+use Rattle.btor2_model.specs.declared.rule.FormRule.{FormRule}
 
 more-lines : (lines : List Line) (place : ℕ) (line : Line) → place < length lines → line ≡ get_or lines place line → take (place + 1) lines ≡ take place lines ++ line ∷ []
 more-lines lines place line within is = take_more lines place line within ∙ ap (λ l. take place lines ++ l ∷ []) (sym is)
 
-ids-more : (test : Rule → Bool) (lines : List Line) (place : ℕ) (line : Line) (passes : Bool) → place < length lines → line ≡ get_or lines place line → test (rule_of line.keyword) ≡ passes
+ids-more : (test : FormRule → Bool) (lines : List Line) (place : ℕ) (line : Line) (passes : Bool) → place < length lines → line ≡ get_or lines place line → test (rule_of line.keyword) ≡ passes
     → ids_of test (take (place + 1) lines) ≡ ids_of test (take place lines) ++ map (λ (l : Line). l.id) (cond passes (line ∷ []) [])
 ids-more test lines place line passes within is tells =
     ap (ids_of test) (more-lines lines place line within is) ∙ ap (map (λ (l : Line). l.id)) (filter-append (λ (l : Line). test (rule_of l.keyword)) (take place lines) (line ∷ []))
-    ∙ map-append (λ (l : Line). l.id) (lines_of test (take place lines)) (lines_of test (line ∷ []))
+    ∙ map-append (λ (l : Line). l.id) (lines_by_rule test (take place lines)) (lines_by_rule test (line ∷ []))
     ∙ ap (λ (b : Bool). ids_of test (take place lines) ++ map (λ (l : Line). l.id) (cond b (line ∷ []) [])) tells
 
 -- the id of one more line that passes
-pub ids-with : (test : Rule → Bool) (lines : List Line) (place : ℕ) (line : Line) (ids : List ℕ) → place < length lines → line ≡ get_or lines place line → test (rule_of line.keyword) ≡ true → ids ≡ ids_of test (take place lines)
+pub ids-with : (test : FormRule → Bool) (lines : List Line) (place : ℕ) (line : Line) (ids : List ℕ) → place < length lines → line ≡ get_or lines place line → test (rule_of line.keyword) ≡ true → ids ≡ ids_of test (take place lines)
     → ids ++ line.id ∷ [] ≡ ids_of test (take (place + 1) lines)
 ids-with test lines place line ids within is tells so_far = ap (λ (k : List ℕ). k ++ line.id ∷ []) so_far ∙ sym (ids-more test lines place line true within is tells)
 
 -- and none of one that doesn't
-pub ids-without : (test : Rule → Bool) (lines : List Line) (place : ℕ) (line : Line) (ids : List ℕ) → place < length lines → line ≡ get_or lines place line → test (rule_of line.keyword) ≡ false → ids ≡ ids_of test (take place lines)
+pub ids-without : (test : FormRule → Bool) (lines : List Line) (place : ℕ) (line : Line) (ids : List ℕ) → place < length lines → line ≡ get_or lines place line → test (rule_of line.keyword) ≡ false → ids ≡ ids_of test (take place lines)
     → ids ≡ ids_of test (take (place + 1) lines)
 ids-without test lines place line ids within is tells so_far = so_far ∙ sym (ids-more test lines place line false within is tells ∙ append-nil (ids_of test (take place lines)))
 
@@ -43,14 +43,14 @@ one-flag narrow line true one tells = ap (λ (b : Bool). cond b (id_at line.argu
 one-flag narrow line false one tells = refl
 
 -- what one more line adds to the ids that outputs name and that pass
-pub flags-more : (test : Rule → Bool) (narrow : ℕ → Bool) (lines : List Line) (place : ℕ) (line : Line) → place < length lines → line ≡ get_or lines place line
-    → filter narrow (map (λ (l : Line). id_at l.arguments 0) (lines_of test (take (place + 1) lines)))
-    ≡ filter narrow (map (λ (l : Line). id_at l.arguments 0) (lines_of test (take place lines))) ++ cond (test (rule_of line.keyword) && narrow (id_at line.arguments 0)) (id_at line.arguments 0 ∷ []) []
+pub flags-more : (test : FormRule → Bool) (narrow : ℕ → Bool) (lines : List Line) (place : ℕ) (line : Line) → place < length lines → line ≡ get_or lines place line
+    → filter narrow (map (λ (l : Line). id_at l.arguments 0) (lines_by_rule test (take (place + 1) lines)))
+    ≡ filter narrow (map (λ (l : Line). id_at l.arguments 0) (lines_by_rule test (take place lines))) ++ cond (test (rule_of line.keyword) && narrow (id_at line.arguments 0)) (id_at line.arguments 0 ∷ []) []
 flags-more test narrow lines place line within is =
     let named = λ (ls : List Line). map (λ (l : Line). id_at l.arguments 0) ls in
-    let before = lines_of test (take place lines) in
-    let last = lines_of test (line ∷ []) in
-    ap (λ (ls : List Line). filter narrow (named (lines_of test ls))) (more-lines lines place line within is)
+    let before = lines_by_rule test (take place lines) in
+    let last = lines_by_rule test (line ∷ []) in
+    ap (λ (ls : List Line). filter narrow (named (lines_by_rule test ls))) (more-lines lines place line within is)
     ∙ ap (λ (ls : List Line). filter narrow (named ls)) (filter-append (λ (l : Line). test (rule_of l.keyword)) (take place lines) (line ∷ []))
     ∙ ap (filter narrow) (map-append (λ (l : Line). id_at l.arguments 0) before last) ∙ filter-append narrow (named before) (named last)
     ∙ ap (λ (ids : List ℕ). filter narrow (named before) ++ ids) (one-flag narrow line (test (rule_of line.keyword)) (narrow (id_at line.arguments 0)) refl)
@@ -58,11 +58,11 @@ flags-more test narrow lines place line within is =
 -- the ids that outputs of one bit name, one line on
 pub flags-next : (lines : List Line) (place : ℕ) (line : Line) (flag : Bool) (ids : List ℕ) → place < length lines → line ≡ get_or lines place line
     → (is_output (rule_of line.keyword) && (width_in lines (id_at line.arguments 0) == 1)) ≡ flag
-    → ids ≡ filter (λ id. width_in lines id == 1) (map (λ (l : Line). id_at l.arguments 0) (lines_of is_output (take place lines)))
-    → ids ++ cond flag (id_at line.arguments 0 ∷ []) [] ≡ filter (λ id. width_in lines id == 1) (map (λ (l : Line). id_at l.arguments 0) (lines_of is_output (take (place + 1) lines)))
+    → ids ≡ filter (λ id. width_in lines id == 1) (map (λ (l : Line). id_at l.arguments 0) (lines_by_rule is_output (take place lines)))
+    → ids ++ cond flag (id_at line.arguments 0 ∷ []) [] ≡ filter (λ id. width_in lines id == 1) (map (λ (l : Line). id_at l.arguments 0) (lines_by_rule is_output (take (place + 1) lines)))
 flags-next lines place line flag ids within is tells so_far =
     let narrow = λ (id : ℕ). width_in lines id == 1 in
-    let before = filter narrow (map (λ (l : Line). id_at l.arguments 0) (lines_of is_output (take place lines))) in
+    let before = filter narrow (map (λ (l : Line). id_at l.arguments 0) (lines_by_rule is_output (take place lines))) in
     ap (λ (k : List ℕ). k ++ cond flag (id_at line.arguments 0 ∷ []) []) so_far ∙ ap (λ (b : Bool). before ++ cond b (id_at line.arguments 0 ∷ []) []) (sym tells)
     ∙ sym (flags-more is_output narrow lines place line within is)
 
@@ -83,7 +83,7 @@ find-filter one other (line ∷ lines) =
     ∙ ap (λ (o : Option Line). cond (one line && other line) (Some line) o) (find-filter one other lines)
 
 -- the value that the first line that sets a state gives it
-pub set-by : (test : Rule → Bool) (lines : List Line) (all : Values) (state : ℕ) (found : Option Line) → find (sets test state) lines ≡ found → value_set test lines all state ≡ option_map (λ (line : Line). all (id_at line.arguments 2)) found
+pub set-by : (test : FormRule → Bool) (lines : List Line) (all : Values) (state : ℕ) (found : Option Line) → find (sets test state) lines ≡ found → value_set test lines all state ≡ option_map (λ (line : Line). all (id_at line.arguments 2)) found
 set-by test lines all state found is =
     ap (option_map (λ (line : Line). all (id_at line.arguments 2))) (find-filter (λ (line : Line). test (rule_of line.keyword)) (λ (line : Line). nat_eq state (id_at line.arguments 1)) lines ∙ is)
 

@@ -8,48 +8,48 @@ use Rattle.kw_base.specs.declared.fault.Fault.{Fault}
 use Rattle.btor2_text.specs.declared.line.Line.{Line}
 use Rattle.btor2_model.specs.Acceptance.{lines_fault, line_fault, fault_in}
 use Rattle.btor2_model.specs.inner.Known.{AreNarrow}
-use Rattle.btor2_model.specs.Scope.{Scope, no_lines, behind, behind_all}
+use Rattle.btor2_model.specs.Scope.{DeclaredIds, no_lines, behind, behind_all}
 
 -- the lines before this place have no fault and declare this
-pub record Reached (lines : List Line) (place : ℕ) (scope : Scope) : Type 0 where
+pub record Reached (lines : List Line) (place : ℕ) (scope : DeclaredIds) : Type 0 where
   pub narrow : AreNarrow scope
   pub fault : lines_fault no_lines lines ≡ lines_fault scope (drop place lines)
   pub declared : behind_all no_lines lines ≡ behind_all scope (drop place lines)
 
-pub Reached-start : (lines : List Line) (scope : Scope) → scope ≡ no_lines → AreNarrow scope → Reached lines 0 scope
+pub Reached-start : (lines : List Line) (scope : DeclaredIds) → scope ≡ no_lines → AreNarrow scope → Reached lines 0 scope
 Reached-start lines scope is narrow = record {
   narrow = narrow;
-  fault = ap (λ (s : Scope). lines_fault s lines) (sym is);
-  declared = ap (λ (s : Scope). behind_all s lines) (sym is);
+  fault = ap (λ (s : DeclaredIds). lines_fault s lines) (sym is);
+  declared = ap (λ (s : DeclaredIds). behind_all s lines) (sym is);
 }
 
 no_fault_first : (fault : Option ℕ) (line : Line) (rest : Option Fault) → fault ≡ None → option_or (option_map (fault_in line) fault) rest ≡ rest
 no_fault_first fault line rest none = rw none refl
 
 -- one more line without a fault
-pub Reached-next : (lines : List Line) (place : ℕ) (scope next : Scope) (line : Line) → Reached lines place scope → place < length lines → line ≡ get_or lines place line
+pub Reached-next : (lines : List Line) (place : ℕ) (scope next : DeclaredIds) (line : Line) → Reached lines place scope → place < length lines → line ≡ get_or lines place line
     → line_fault scope line ≡ None → next ≡ behind scope line → AreNarrow next → Reached lines (place + 1) next
 Reached-next lines place scope next line reached within is none declares narrow =
     let here : drop place lines ≡ line ∷ drop (place + 1) lines = drop_more lines place line within ∙ ap (λ l. l ∷ drop (place + 1) lines) (sym is) in
     record {
       narrow = narrow;
       fault = reached.fault ∙ ap (lines_fault scope) here ∙ no_fault_first (line_fault scope line) line (lines_fault (behind scope line) (drop (place + 1) lines)) none
-          ∙ ap (λ (s : Scope). lines_fault s (drop (place + 1) lines)) (sym declares);
-      declared = reached.declared ∙ ap (behind_all scope) here ∙ ap (λ (s : Scope). behind_all s (drop (place + 1) lines)) (sym declares);
+          ∙ ap (λ (s : DeclaredIds). lines_fault s (drop (place + 1) lines)) (sym declares);
+      declared = reached.declared ∙ ap (behind_all scope) here ∙ ap (λ (s : DeclaredIds). behind_all s (drop (place + 1) lines)) (sym declares);
     }
 
 fault_first : (found : Option Fault) (fault : Fault) (rest : Option Fault) → found ≡ Some fault → option_or found rest ≡ Some fault
 fault_first found fault rest is = rw is refl
 
 -- or the first with one
-pub Reached-fault : (lines : List Line) (place : ℕ) (scope : Scope) (line : Line) (fault : Fault) → Reached lines place scope → place < length lines → line ≡ get_or lines place line
+pub Reached-fault : (lines : List Line) (place : ℕ) (scope : DeclaredIds) (line : Line) (fault : Fault) → Reached lines place scope → place < length lines → line ≡ get_or lines place line
     → option_map (fault_in line) (line_fault scope line) ≡ Some fault → lines_fault no_lines lines ≡ Some fault
 Reached-fault lines place scope line fault reached within is found =
     let here : drop place lines ≡ line ∷ drop (place + 1) lines = drop_more lines place line within ∙ ap (λ l. l ∷ drop (place + 1) lines) (sym is) in
     reached.fault ∙ ap (lines_fault scope) here ∙ fault_first (option_map (fault_in line) (line_fault scope line)) fault (lines_fault (behind scope line) (drop (place + 1) lines)) found
 
 -- the end
-pub Reached-end : (lines : List Line) (place : ℕ) (scope : Scope) → Reached lines place scope → length lines ≤ place → (lines_fault no_lines lines ≡ None) × (scope ≡ behind_all no_lines lines)
+pub Reached-end : (lines : List Line) (place : ℕ) (scope : DeclaredIds) → Reached lines place scope → length lines ≤ place → (lines_fault no_lines lines ≡ None) × (scope ≡ behind_all no_lines lines)
 Reached-end lines place scope reached end =
     let none = drop_all place lines end in
     (reached.fault ∙ ap (lines_fault scope) none, sym (reached.declared ∙ ap (behind_all scope) none))

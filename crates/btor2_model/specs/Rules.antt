@@ -5,12 +5,12 @@ use Rattle.btor2_text.specs.declared.keyword.Keyword.TheVariants as keywords
 use Rattle.btor2_text.specs.declared.kind.Base.TheVariants as bases
 use Rattle.btor2_model.specs.declared.meaning.Role.{Role}
 use Rattle.btor2_model.specs.declared.meaning.Role.TheVariants as roles
-use Rattle.btor2_model.specs.declared.rule.Rule.{Rule}
-use Rattle.btor2_model.specs.declared.rule.Rule.TheVariants as forms
+use Rattle.btor2_model.specs.declared.rule.FormRule.{FormRule}
+use Rattle.btor2_model.specs.declared.rule.FormRule.TheVariants as forms
 use Rattle.btor2_model.specs.declared.rule.Measures.{Measures}
 
 -- the rule of a keyword's form
-abbrev pub rule_of : Keyword → Rule
+abbrev pub rule_of : Keyword → FormRule
 rule_of keywords.Sort = forms.Sort
 rule_of keywords.Input = forms.Input
 rule_of keywords.State = forms.State
@@ -62,7 +62,7 @@ rule_of keywords.Output = forms.Output
 rule_of keywords.Bad = forms.Bad
 
 -- what a line of the form is for later lines
-abbrev pub role_of : Rule → Role
+abbrev pub role_of : FormRule → Role
 role_of forms.Sort = roles.Sort
 role_of forms.State = roles.State
 role_of forms.Init = roles.NoValue
@@ -72,47 +72,47 @@ role_of forms.Bad = roles.NoValue
 role_of other = roles.Value
 
 -- the width that a line gives its id
-abbrev pub width_given : Rule → Measures → ℕ
+abbrev pub width_given : FormRule → Measures → ℕ
 width_given forms.Sort m = m.second
 width_given other m = m.first
 
 -- the lines of single forms
-abbrev pub is_sort : Rule → Bool
+abbrev pub is_sort : FormRule → Bool
 is_sort forms.Sort = true
 is_sort other = false
 
 -- a line of an input
-abbrev pub is_input : Rule → Bool
+abbrev pub is_input : FormRule → Bool
 is_input forms.Input = true
 is_input other = false
 
 -- a line of a state
-abbrev pub is_state : Rule → Bool
+abbrev pub is_state : FormRule → Bool
 is_state forms.State = true
 is_state other = false
 
 -- a line of a state's first value
-abbrev pub is_init : Rule → Bool
+abbrev pub is_init : FormRule → Bool
 is_init forms.Init = true
 is_init other = false
 
 -- a line of a state's next value
-abbrev pub is_next : Rule → Bool
+abbrev pub is_next : FormRule → Bool
 is_next forms.Next = true
 is_next other = false
 
 -- a line of an output
-abbrev pub is_output : Rule → Bool
+abbrev pub is_output : FormRule → Bool
 is_output forms.Output = true
 is_output other = false
 
 -- a line of a bad state
-abbrev pub is_bad : Rule → Bool
+abbrev pub is_bad : FormRule → Bool
 is_bad forms.Bad = true
 is_bad other = false
 
 -- the widths and numbers of a line, in the order of its tokens, belong together as the form asks
-abbrev pub widths_agree : Rule → Measures → Bool
+abbrev pub widths_agree : FormRule → Measures → Bool
 widths_agree forms.Unary m = m.second == m.first
 widths_agree forms.Binary m = (m.second == m.first) && (m.third == m.first)
 widths_agree forms.Reduced m = m.first == 1
@@ -128,7 +128,7 @@ widths_agree forms.Bad m = m.first == 1
 widths_agree other m = true
 
 -- a sort has 1 to 128 bits, and the upper bound of a slice is below its operand's width
-abbrev pub bounds_fit : Rule → Measures → Bool
+abbrev pub bounds_fit : FormRule → Measures → Bool
 bounds_fit forms.Sort m = nat_le 1 m.second && nat_le m.second 128
 bounds_fit forms.Sliced m = nat_lt m.third m.second
 bounds_fit other m = true

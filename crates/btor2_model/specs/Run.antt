@@ -17,10 +17,10 @@ use Rattle.btor2_text.specs.declared.line.Line.{Line}
 use Rattle.one_rule.specs.Run.{InputsByCycle}
 use Rattle.one_rule.specs.declared.rows.Row.{Row}
 use Rattle.btor2_model.specs.Rules.{rule_of, is_input, is_state, is_init, is_next, is_output}
-use Rattle.btor2_model.specs.Scope.{Scope, no_lines, id_at, sort_width_in, behind, behind_all}
-use Rattle.btor2_model.specs.declared.meaning.Meaning.{Meaning}
-use Rattle.btor2_model.specs.declared.rule.Rule.{Rule}
-use Rattle.btor2_model.specs.declared.rule.Rule.TheVariants as forms
+use Rattle.btor2_model.specs.Scope.{DeclaredIds, no_lines, id_at, sort_width_in, behind, behind_all}
+use Rattle.btor2_model.specs.declared.meaning.IdMeaning.{IdMeaning}
+use Rattle.btor2_model.specs.declared.rule.FormRule.{FormRule}
+use Rattle.btor2_model.specs.declared.rule.FormRule.TheVariants as forms
 
 -- values by ids
 abbrev pub Values : Type 0
@@ -89,7 +89,7 @@ extended keywords.Sext a more = vector.sext a (a.width + more)
 extended other a more = vector.zext a (a.width + more)
 
 -- the value that an operator or a constant gives, after what is declared, by the values of earlier lines
-abbrev pub operator_value : Scope → Values → Keyword → List Argument → BitVector
+abbrev pub operator_value : DeclaredIds → Values → Keyword → List Argument → BitVector
 operator_value scope values keyword (arguments.Id sort ∷ []) = constant keyword (sort_width_in scope sort)
 operator_value scope values keyword (arguments.Id sort ∷ arguments.Numeral digits ∷ []) =
     record { width = sort_width_in scope sort; number = digits_value (radix_of (base_of keyword)) digits }
@@ -102,49 +102,49 @@ operator_value scope values keyword (arguments.Id sort ∷ arguments.Id c ∷ ar
 operator_value scope values keyword other = no_bits
 
 -- what the inputs and the states have at a step, by their ids
-pub record Step : Type 0 where
+pub record StepValues : Type 0 where
   pub inputs : Values
   pub states : Values
 
 -- the value of a line at a step
-abbrev pub value_by : Rule → Step → Scope → Values → Line → BitVector
+abbrev pub value_by : FormRule → StepValues → DeclaredIds → Values → Line → BitVector
 value_by forms.Input step scope values line = step.inputs line.id
 value_by forms.State step scope values line = step.states line.id
 value_by other step scope values line = operator_value scope values line.keyword line.arguments
 
 -- the values at a step, after what is declared and has a value so far
-abbrev pub values_behind : Step → Scope → Values → List Line → Values
+abbrev pub values_behind : StepValues → DeclaredIds → Values → List Line → Values
 values_behind step scope values [] = values
 values_behind step scope values (line ∷ lines) =
     values_behind step (behind scope line) (λ id. if nat_eq line.id id then value_by (rule_of line.keyword) step scope values line else values id) lines
 
 -- the values of a text's lines at a step
-abbrev pub values_at : List Line → Step → Values
+abbrev pub values_at : List Line → StepValues → Values
 values_at lines step = values_behind step no_lines (λ _. no_bits) lines
 
 -- a text's lines of a rule
-abbrev pub lines_of : (Rule → Bool) → List Line → List Line
-lines_of test lines = filter (λ line. test (rule_of line.keyword)) lines
+abbrev pub lines_by_rule : (FormRule → Bool) → List Line → List Line
+lines_by_rule test lines = filter (λ line. test (rule_of line.keyword)) lines
 
 -- their ids
-abbrev pub ids_of : (Rule → Bool) → List Line → List ℕ
-ids_of test lines = map (λ line. line.id) (lines_of test lines)
+abbrev pub ids_of : (FormRule → Bool) → List Line → List ℕ
+ids_of test lines = map (λ line. line.id) (lines_by_rule test lines)
 
 -- the inputs' values, given in the order of their lines
 abbrev pub input_values : List Line → List BitVector → Values
 input_values lines given id = unwrap_or (lookup (nat_eq id) (zip (ids_of is_input lines) given)) no_bits
 
 -- the value that a line of the rule sets a state to, if there is one
-abbrev pub value_set : (Rule → Bool) → List Line → Values → ℕ → Option BitVector
-value_set test lines values state = option_map (λ line. values (id_at line.arguments 2)) (find (λ line. nat_eq state (id_at line.arguments 1)) (lines_of test lines))
+abbrev pub value_set : (FormRule → Bool) → List Line → Values → ℕ → Option BitVector
+value_set test lines values state = option_map (λ line. values (id_at line.arguments 2)) (find (λ line. nat_eq state (id_at line.arguments 1)) (lines_by_rule test lines))
 
 -- the width of what an id stands for in a text
 abbrev pub width_in : List Line → ℕ → ℕ
-width_in lines id = unwrap_or (option_map (λ (meaning : Meaning). meaning.width) ((behind_all no_lines lines).meanings id)) 0
+width_in lines id = unwrap_or (option_map (λ (meaning : IdMeaning). meaning.width) ((behind_all no_lines lines).meanings id)) 0
 
 -- the first values of states: what their `init` has, which depends on no input and no state, or else 0
-abbrev pub first_values : List Line → Values
-first_values lines state =
+abbrev pub first_state_values : List Line → Values
+first_state_values lines state =
     unwrap_or (value_set is_init lines (values_at lines (record { inputs = λ _. no_bits; states = λ _. no_bits })) state) (zero_at (width_in lines state))
 
 -- the values of states after a step: what their `next` has in it
@@ -157,7 +157,7 @@ values_with lines inputs states = values_at lines (record { inputs = input_value
 
 -- the values of the states at a step, where step k takes the inputs of cycle k + 1
 abbrev pub states_at : List Line → InputsByCycle → ℕ → Values
-states_at lines inputs zero = first_values lines
+states_at lines inputs zero = first_state_values lines
 states_at lines inputs (suc step) = next_values lines (values_with lines (inputs (step + 1)) (states_at lines inputs step))
 
 -- the values of all lines at a step
@@ -166,11 +166,11 @@ values_in lines inputs step = values_with lines (inputs (step + 1)) (states_at l
 
 -- the ids that outputs of one bit name
 abbrev pub flag_ids : List Line → List ℕ
-flag_ids lines = filter (λ id. width_in lines id == 1) (map (λ line. id_at line.arguments 0) (lines_of is_output lines))
+flag_ids lines = filter (λ id. width_in lines id == 1) (map (λ line. id_at line.arguments 0) (lines_by_rule is_output lines))
 
 -- the row before all steps: the states, and no flag
 abbrev pub first_row : List Line → Row
-first_row lines = record { regs = map (first_values lines) (ids_of is_state lines); fired = map (λ _. false) (flag_ids lines) }
+first_row lines = record { regs = map (first_state_values lines) (ids_of is_state lines); fired = map (λ _. false) (flag_ids lines) }
 
 -- the row after a step: the states then, and the flags in it
 abbrev pub row_behind : List Line → InputsByCycle → ℕ → Row

@@ -2,7 +2,7 @@
 
 ghost use Rattle.std.specs.Prelude.{◌≡◌, slice_get};
 ghost use Rattle.btor2_model.specs.Acceptance.{digits_of};
-ghost use Rattle.btor2_model.specs.Scope.{id_at, number_of};
+ghost use Rattle.btor2_model.specs.Scope.{id_at, argument_number};
 
 use btor2_text::Argument;
 
@@ -28,7 +28,7 @@ pub fn digits_at(arguments: &[Argument], place: usize) -> &[u8]
 
 /// The width, bound or count that an argument is, or 0.
 pub fn number_at(arguments: &[Argument], place: usize) -> u32
-    ensures { result ≡ number_of (slice_get arguments.now place) }
+    ensures { result ≡ argument_number (slice_get arguments.now place) }
 {
     match arguments.get(place) {
         Some(Argument::Number(number)) => *number,

@@ -10,16 +10,16 @@ ghost use Rattle.btor2_model.specs.Acceptance as acceptance;
 ghost use Rattle.btor2_model.specs.inner.Known.{scope_of, AreNarrow};
 ghost use Rattle.btor2_model.specs.Rules.{rule_of};
 ghost use Rattle.btor2_model.specs.Scope as scope;
-ghost use Rattle.btor2_model.specs.declared.meaning.Meaning.{Meaning as MeaningOf};
+ghost use Rattle.btor2_model.specs.declared.meaning.IdMeaning.{IdMeaning as MeaningOf};
 ghost use Rattle.btor2_model.specs.declared.meaning.Role.TheVariants as roles;
 
 use crate::arguments::{digits_at, id_at};
-use crate::meaning::{Meaning, Role};
+use crate::meaning::{IdMeaning, Role};
 use crate::numeral::value_below;
 use crate::refusal::refusal_at;
-use crate::rule::{Measures, Rule};
+use crate::rule::{FormRule, Measures};
 use crate::table::Table;
-use btor2_text::{Argument, Keyword, Kind, Line};
+use btor2_text::{Argument, ArgumentKind, Keyword, Line};
 use kw_base::{Refusal, fault_number};
 use kw_bits::NoMemory;
 use std::alloc::Global;
@@ -28,7 +28,7 @@ use std::collections::BTreeSet;
 /// What the lines so far declare.
 #[derive(Drop)]
 pub(crate) struct Known {
-    meanings: Table<Meaning>,
+    meanings: Table<IdMeaning>,
     initialized: BTreeSet<u64>,
     continued: BTreeSet<u64>,
 }
@@ -64,11 +64,11 @@ impl Known {
     pub(crate) fn lacks_next(&self, line: &Line) -> bool
         ensures { result ≡ acceptance.lacks_next (scope_of self.now) line.now }
     {
-        Rule::of(line.keyword).is_state() && !self.continued.contains(&line.id)
+        FormRule::of(line.keyword).is_state() && !self.continued.contains(&line.id)
     }
 
     // What a line stands for, or the number of the first condition that it doesn't meet.
-    fn check(&self, line: &Line) -> Result<Meaning, u32>
+    fn check(&self, line: &Line) -> Result<IdMeaning, u32>
         requires { AreNarrow (scope_of self.now) }
         ensures accepted { OnOk result (acceptance.line_fault (scope_of self.now) line.now ≡ None) }
         ensures meaning { IfOk result (λ meaning. meaning ≡ scope.meaning_of (scope_of self.now) line.now) }
@@ -76,7 +76,7 @@ impl Known {
         ensures fault { IfErr result (λ number. acceptance.line_fault (scope_of self.now) line.now ≡ Some number) }
     {
         let arguments = line.arguments.as_slice();
-        let rule = Rule::of(line.keyword);
+        let rule = FormRule::of(line.keyword);
         if self.meaning(line.id).is_some() {
             return Err(fault_number::REPEATED_ID);
         }
@@ -98,7 +98,7 @@ impl Known {
         if !self.init_is_fixed(rule, arguments) {
             return Err(fault_number::INIT_NOT_CONSTANT);
         }
-        Ok(Meaning {
+        Ok(IdMeaning {
             role: rule.role(),
             width: rule.width(measures),
             depends: rule.is_input() || rule.is_state() || self.one_depends(arguments),
@@ -106,7 +106,7 @@ impl Known {
     }
 
     // The widths and numbers of a line, if they belong together as its form asks.
-    fn agreeing(&self, keyword: Keyword, rule: Rule, arguments: &[Argument]) -> Option<Measures>
+    fn agreeing(&self, keyword: Keyword, rule: FormRule, arguments: &[Argument]) -> Option<Measures>
         requires { rule ≡ rule_of keyword }
         ensures some { IfSome result (λ m. scope.measures (scope_of self.now) (kinds_of keyword) arguments.now ≡ Some m) }
         ensures agrees { is_some result ≡ acceptance.agree (scope_of self.now) keyword arguments.now }
@@ -120,11 +120,11 @@ impl Known {
     }
 
     // Takes what a line stands for, and the state that it sets.
-    fn declare(&mut self, line: &Line, meaning: Meaning) -> Result<(), NoMemory>
+    fn declare(&mut self, line: &Line, meaning: IdMeaning) -> Result<(), NoMemory>
         requires { meaning ≡ scope.meaning_of (scope_of self.old) line.now }
         ensures { OnOk result (scope_of self.new ≡ scope.behind (scope_of self.old) line.now) }
     {
-        let rule = Rule::of(line.keyword);
+        let rule = FormRule::of(line.keyword);
         let state = id_at(line.arguments.as_slice(), 1);
         mark(&mut self.initialized, rule.is_init(), state)?;
         mark(&mut self.continued, rule.is_next(), state)?;
@@ -132,19 +132,19 @@ impl Known {
     }
 
     // What an id stands for.
-    fn meaning(&self, id: u64) -> Option<Meaning>
+    fn meaning(&self, id: u64) -> Option<IdMeaning>
         ensures { result ≡ (scope_of self.now).meanings id }
     {
         self.meanings.get(id)
     }
 
     // The width or the number that an argument at a place stands for; 0 where there is none.
-    fn measure(&self, kinds: &[Kind], arguments: &[Argument], place: usize) -> Option<u32>
+    fn measure(&self, kinds: &[ArgumentKind], arguments: &[Argument], place: usize) -> Option<u32>
         ensures { result ≡ scope.measure (scope_of self.now) (slice_get kinds.now place) (slice_get arguments.now place) }
     {
         match (kinds.get(place), arguments.get(place)) {
             (Some(kind), Some(Argument::Id(id))) => self.meaning(*id)?.width_wanted(*kind),
-            (Some(Kind::Number), Some(Argument::Number(number))) => Some(*number),
+            (Some(ArgumentKind::Number), Some(Argument::Number(number))) => Some(*number),
             _ => Some(0),
         }
     }
@@ -227,32 +227,32 @@ impl Known {
     }
 
     // Whether an `init` and a `next` name a state.
-    fn names_state(&self, rule: Rule, arguments: &[Argument]) -> bool
+    fn names_state(&self, rule: FormRule, arguments: &[Argument]) -> bool
         ensures { result ≡ acceptance.names_state rule (scope_of self.now) arguments.now }
     {
         match rule {
-            Rule::Init | Rule::Next => self.is_state(id_at(arguments, 1)),
+            FormRule::Init | FormRule::Next => self.is_state(id_at(arguments, 1)),
             _ => true,
         }
     }
 
     // Whether the state of an `init` or a `next` has none so far.
-    fn sets_first(&self, rule: Rule, arguments: &[Argument]) -> bool
+    fn sets_first(&self, rule: FormRule, arguments: &[Argument]) -> bool
         ensures { result ≡ acceptance.sets_first rule (scope_of self.now) arguments.now }
     {
         match rule {
-            Rule::Init => !self.initialized.contains(&id_at(arguments, 1)),
-            Rule::Next => !self.continued.contains(&id_at(arguments, 1)),
+            FormRule::Init => !self.initialized.contains(&id_at(arguments, 1)),
+            FormRule::Next => !self.continued.contains(&id_at(arguments, 1)),
             _ => true,
         }
     }
 
     // Whether the value of an `init` depends on no input and no state.
-    fn init_is_fixed(&self, rule: Rule, arguments: &[Argument]) -> bool
+    fn init_is_fixed(&self, rule: FormRule, arguments: &[Argument]) -> bool
         ensures { result ≡ acceptance.init_is_fixed rule (scope_of self.now) arguments.now }
     {
         match rule {
-            Rule::Init => !self.depends(id_at(arguments, 2)),
+            FormRule::Init => !self.depends(id_at(arguments, 2)),
             _ => true,
         }
     }
@@ -274,18 +274,18 @@ impl Known {
         ensures narrow { result ≤ 128 }
     {
         match self.meaning(id) {
-            Some(meaning) => meaning.width_wanted(Kind::Sort).unwrap_or(0),
+            Some(meaning) => meaning.width_wanted(ArgumentKind::Sort).unwrap_or(0),
             None => 0,
         }
     }
 
     // Whether the numeral of a constant is below 2 to its width.
-    fn numeral_fits(&self, rule: Rule, arguments: &[Argument]) -> bool
+    fn numeral_fits(&self, rule: FormRule, arguments: &[Argument]) -> bool
         requires { AreNarrow (scope_of self.now) }
         ensures { result ≡ acceptance.numeral_fits rule (scope_of self.now) arguments.now }
     {
         match rule {
-            Rule::Numeral(base) => {
+            FormRule::Numeral(base) => {
                 let width = self.sort_width(id_at(arguments, 0));
                 value_below(digits_at(arguments, 1), base, width).is_some()
             }

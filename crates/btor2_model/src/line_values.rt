@@ -16,7 +16,7 @@ ghost use Rattle.btor2_model.specs.inner.SlowRun.{computes, known_value, step_wi
 use crate::known::Known;
 use crate::known_values::KnownValues;
 use crate::operators::{binary, chosen, extended, named_constant, sliced, unary, written_constant};
-use crate::rule::Rule;
+use crate::rule::FormRule;
 use btor2_text::{Argument, Keyword, Line};
 use kw_base::Refusal;
 use kw_bits::{Bits, NoMemory};
@@ -66,7 +66,7 @@ fn input_ids(alloc: Global, lines: &[Line]) -> Result<Vec<u64>, NoMemory>
 {
     let mut ids = Vec::new(alloc);
     for line in lines {
-        if Rule::of(line.keyword).is_input() {
+        if FormRule::of(line.keyword).is_input() {
             ids.push(line.id)?;
         }
     }
@@ -89,9 +89,9 @@ fn line_value(
     ensures value { (before after : ℕ → BitVector) → Knows states.now before → Knows values.now after
         → IfSome result (λ value. value ≡ run.value_by (form.rule_of line.now.keyword) (step_with ids.now inputs.now before) (scope_of known.now) after line.now) }
 {
-    match Rule::of(line.keyword) {
-        Rule::Input => input_value(ids, inputs, line.id),
-        Rule::State => states.get(line.id),
+    match FormRule::of(line.keyword) {
+        FormRule::Input => input_value(ids, inputs, line.id),
+        FormRule::State => states.get(line.id),
         _ => operator_value(known, values, line.keyword, line.arguments.as_slice()),
     }
 }

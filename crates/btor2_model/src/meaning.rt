@@ -3,7 +3,7 @@
 ghost use Rattle.std.specs.Prelude.{◌≡◌, Some};
 ghost use Rattle.btor2_model.specs.Scope.{width_wanted};
 
-use btor2_text::Kind;
+use btor2_text::ArgumentKind;
 
 /// What a line is for later lines.
 #[derive(Clone, Copy, Debug, PartialEq, Eq)]
@@ -17,21 +17,21 @@ pub enum Role {
 
 /// What an id stands for.
 #[derive(Clone, Copy, Debug, PartialEq, Eq)]
-pub struct Meaning {
+pub struct IdMeaning {
     pub role: Role,
     pub width: u32,
     /// Whether its value depends on an input or a state.
     pub depends: bool,
 }
 
-impl Meaning {
+impl IdMeaning {
     /// The width, where this is of the kind that is wanted.
-    pub(crate) fn width_wanted(self, kind: Kind) -> Option<u32>
+    pub(crate) fn width_wanted(self, kind: ArgumentKind) -> Option<u32>
         ensures { result ≡ width_wanted kind (Some self) }
     {
         match (kind, self.role) {
-            (Kind::Sort, Role::Sort) => Some(self.width),
-            (Kind::Sort, _) => None,
+            (ArgumentKind::Sort, Role::Sort) => Some(self.width),
+            (ArgumentKind::Sort, _) => None,
             (_, Role::Value | Role::State) => Some(self.width),
             _ => None,
         }

@@ -10,7 +10,7 @@ ghost use Rattle.btor2_model.specs.Rules.{rule_of};
 ghost use Rattle.btor2_model.specs.Run as run;
 ghost use Rattle.btor2_model.specs.SlowRun.{HasValue, is_constant};
 ghost use Rattle.btor2_model.specs.inner.SlowRun.{takes_one, takes_alike, compares, width_by};
-ghost use Rattle.btor2_model.specs.declared.rule.Rule.TheVariants as forms;
+ghost use Rattle.btor2_model.specs.declared.rule.FormRule.TheVariants as forms;
 
 use crate::numeral::value_below;
 use btor2_text::{Base, Keyword};

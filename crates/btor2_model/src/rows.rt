@@ -18,7 +18,7 @@ use crate::btor::Btor;
 use crate::known::Known;
 use crate::known_values::KnownValues;
 use crate::line_values::values_with;
-use crate::rule::Rule;
+use crate::rule::FormRule;
 use crate::states::{first_values, next_values, state_ids};
 use btor2_text::Line;
 use kw_base::Refusal;
@@ -77,7 +77,7 @@ fn first_row(
     states: &KnownValues,
 ) -> Result<Option<Row>, NoMemory>
     requires declared { scope_of known.now ≡ scope.behind_all scope.no_lines lines.now }
-    requires states { Knows states.now (run.first_values lines.now) }
+    requires states { Knows states.now (run.first_state_values lines.now) }
     ensures row { IfOk result (λ row. IfSome row (λ row. row ≡ run.first_row lines.now)) }
     ensures some { IfOk result (λ row. StatesHave lines.now states.now → IsSome row) }
 {
@@ -135,7 +135,7 @@ fn flag_ids(alloc: Global, known: &Known, lines: &[Line]) -> Result<Vec<u64>, No
 fn is_flag(known: &Known, line: &Line) -> bool
     ensures { result ≡ is_flag (scope_of known.now) line.now }
 {
-    Rule::of(line.keyword).is_output() && known.width(id_at(line.arguments.as_slice(), 0)) == 1
+    FormRule::of(line.keyword).is_output() && known.width(id_at(line.arguments.as_slice(), 0)) == 1
 }
 
 // The values of these ids, if all are known.

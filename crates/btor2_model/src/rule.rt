@@ -8,7 +8,7 @@ use btor2_text::{Base, Keyword};
 
 /// How the widths and numbers of a form belong together.
 #[derive(Clone, Copy, Debug, PartialEq, Eq)]
-pub enum Rule {
+pub enum FormRule {
     /// A sort.
     Sort,
     /// An input, of the sort.
@@ -56,21 +56,21 @@ pub struct Measures {
     pub fourth: u32,
 }
 
-impl Rule {
+impl FormRule {
     /// The rule of a keyword's form.
-    pub fn of(keyword: Keyword) -> Rule
+    pub fn of(keyword: Keyword) -> FormRule
         ensures { result ≡ form.rule_of keyword }
     {
         match keyword {
-            Keyword::Sort => Rule::Sort,
-            Keyword::Input => Rule::Input,
-            Keyword::State => Rule::State,
-            Keyword::Zero | Keyword::One | Keyword::Ones => Rule::Constant,
-            Keyword::Const => Rule::Numeral(Base::Binary),
-            Keyword::Constd => Rule::Numeral(Base::Decimal),
-            Keyword::Consth => Rule::Numeral(Base::Hexadecimal),
-            Keyword::Not | Keyword::Neg | Keyword::Inc | Keyword::Dec => Rule::Unary,
-            Keyword::Redand | Keyword::Redor | Keyword::Redxor => Rule::Reduced,
+            Keyword::Sort => FormRule::Sort,
+            Keyword::Input => FormRule::Input,
+            Keyword::State => FormRule::State,
+            Keyword::Zero | Keyword::One | Keyword::Ones => FormRule::Constant,
+            Keyword::Const => FormRule::Numeral(Base::Binary),
+            Keyword::Constd => FormRule::Numeral(Base::Decimal),
+            Keyword::Consth => FormRule::Numeral(Base::Hexadecimal),
+            Keyword::Not | Keyword::Neg | Keyword::Inc | Keyword::Dec => FormRule::Unary,
+            Keyword::Redand | Keyword::Redor | Keyword::Redxor => FormRule::Reduced,
             Keyword::And
             | Keyword::Or
             | Keyword::Xor
@@ -82,7 +82,7 @@ impl Rule {
             | Keyword::Mul
             | Keyword::Sll
             | Keyword::Srl
-            | Keyword::Sra => Rule::Binary,
+            | Keyword::Sra => FormRule::Binary,
             Keyword::Eq
             | Keyword::Neq
             | Keyword::Ult
@@ -92,16 +92,16 @@ impl Rule {
             | Keyword::Slt
             | Keyword::Slte
             | Keyword::Sgt
-            | Keyword::Sgte => Rule::Compared,
-            Keyword::Iff | Keyword::Implies => Rule::Boolean,
-            Keyword::Concat => Rule::Joined,
-            Keyword::Slice => Rule::Sliced,
-            Keyword::Uext | Keyword::Sext => Rule::Extended,
-            Keyword::Ite => Rule::Chosen,
-            Keyword::Init => Rule::Init,
-            Keyword::Next => Rule::Next,
-            Keyword::Output => Rule::Output,
-            Keyword::Bad => Rule::Bad,
+            | Keyword::Sgte => FormRule::Compared,
+            Keyword::Iff | Keyword::Implies => FormRule::Boolean,
+            Keyword::Concat => FormRule::Joined,
+            Keyword::Slice => FormRule::Sliced,
+            Keyword::Uext | Keyword::Sext => FormRule::Extended,
+            Keyword::Ite => FormRule::Chosen,
+            Keyword::Init => FormRule::Init,
+            Keyword::Next => FormRule::Next,
+            Keyword::Output => FormRule::Output,
+            Keyword::Bad => FormRule::Bad,
         }
     }
 
@@ -110,9 +110,9 @@ impl Rule {
         ensures { result ≡ form.role_of self }
     {
         match self {
-            Rule::Sort => Role::Sort,
-            Rule::State => Role::State,
-            Rule::Init | Rule::Next | Rule::Output | Rule::Bad => Role::NoValue,
+            FormRule::Sort => Role::Sort,
+            FormRule::State => Role::State,
+            FormRule::Init | FormRule::Next | FormRule::Output | FormRule::Bad => Role::NoValue,
             _ => Role::Value,
         }
     }
@@ -122,7 +122,7 @@ impl Rule {
         ensures { result ≡ form.width_given self measures }
     {
         match self {
-            Rule::Sort => measures.second,
+            FormRule::Sort => measures.second,
             _ => measures.first,
         }
     }
@@ -131,49 +131,49 @@ impl Rule {
     pub fn is_sort(self) -> bool
         ensures { result ≡ form.is_sort self }
     {
-        matches!(self, Rule::Sort)
+        matches!(self, FormRule::Sort)
     }
 
     /// Whether the line is an input.
     pub fn is_input(self) -> bool
         ensures { result ≡ form.is_input self }
     {
-        matches!(self, Rule::Input)
+        matches!(self, FormRule::Input)
     }
 
     /// Whether the line gives a state its first value.
     pub fn is_init(self) -> bool
         ensures { result ≡ form.is_init self }
     {
-        matches!(self, Rule::Init)
+        matches!(self, FormRule::Init)
     }
 
     /// Whether the line gives a state its next value.
     pub fn is_next(self) -> bool
         ensures { result ≡ form.is_next self }
     {
-        matches!(self, Rule::Next)
+        matches!(self, FormRule::Next)
     }
 
     /// Whether the line is an output.
     pub fn is_output(self) -> bool
         ensures { result ≡ form.is_output self }
     {
-        matches!(self, Rule::Output)
+        matches!(self, FormRule::Output)
     }
 
     /// Whether the line marks what must not be.
     pub fn is_bad(self) -> bool
         ensures { result ≡ form.is_bad self }
     {
-        matches!(self, Rule::Bad)
+        matches!(self, FormRule::Bad)
     }
 
     /// Whether the line is a state.
     pub fn is_state(self) -> bool
         ensures { result ≡ form.is_state self }
     {
-        matches!(self, Rule::State)
+        matches!(self, FormRule::State)
     }
 
     /// Whether the widths and numbers belong together as the form asks.
@@ -187,18 +187,18 @@ impl Rule {
             fourth,
         } = measures;
         match self {
-            Rule::Unary => second == first,
-            Rule::Binary | Rule::Init | Rule::Next => second == first && third == first,
-            Rule::Reduced | Rule::Bad => first == 1,
-            Rule::Compared => first == 1 && second == third,
-            Rule::Boolean => first == 1 && second == 1 && third == 1,
-            Rule::Joined | Rule::Extended => {
+            FormRule::Unary => second == first,
+            FormRule::Binary | FormRule::Init | FormRule::Next => second == first && third == first,
+            FormRule::Reduced | FormRule::Bad => first == 1,
+            FormRule::Compared => first == 1 && second == third,
+            FormRule::Boolean => first == 1 && second == 1 && third == 1,
+            FormRule::Joined | FormRule::Extended => {
                 u64::from(first) == u64::from(second) + u64::from(third)
             }
-            Rule::Sliced => {
+            FormRule::Sliced => {
                 fourth <= third && u64::from(first) + u64::from(fourth) == u64::from(third) + 1
             }
-            Rule::Chosen => second == 1 && third == first && fourth == first,
+            FormRule::Chosen => second == 1 && third == first && fourth == first,
             _ => true,
         }
     }
@@ -208,8 +208,8 @@ impl Rule {
         ensures { result ≡ form.bounds_fit self measures }
     {
         match self {
-            Rule::Sort => 1 <= measures.second && measures.second <= 128,
-            Rule::Sliced => measures.third < measures.second,
+            FormRule::Sort => 1 <= measures.second && measures.second <= 128,
+            FormRule::Sliced => measures.third < measures.second,
             _ => true,
         }
     }

@@ -17,7 +17,7 @@ use crate::arguments::id_at;
 use crate::known::Known;
 use crate::known_values::KnownValues;
 use crate::line_values::values_with;
-use crate::rule::Rule;
+use crate::rule::FormRule;
 use btor2_text::Line;
 use kw_bits::{Bits, NoMemory};
 use std::alloc::Global;
@@ -28,7 +28,7 @@ pub(crate) fn state_ids(alloc: Global, lines: &[Line]) -> Result<Vec<u64>, NoMem
 {
     let mut ids = Vec::new(alloc);
     for line in lines {
-        if Rule::of(line.keyword).is_state() {
+        if FormRule::of(line.keyword).is_state() {
             ids.push(line.id)?;
         }
     }
@@ -43,7 +43,7 @@ pub(crate) fn first_values(
 ) -> Result<KnownValues, NoMemory>
     requires accepted { acceptance.lines_fault scope.no_lines lines.now ≡ None }
     requires declared { scope_of known.now ≡ scope.behind_all scope.no_lines lines.now }
-    ensures known { IfOk result (λ states. Knows states (run.first_values lines.now)) }
+    ensures known { IfOk result (λ states. Knows states (run.first_state_values lines.now)) }
     ensures have { IfOk result (λ states. ArePrintable lines.now → StatesHave lines.now states) }
 {
     let values = values_with(alloc, lines, &[], &KnownValues::new(alloc))?;
@@ -85,7 +85,7 @@ fn init_of(lines: &[Line], state: u64) -> Option<u64>
 fn is_init_of(line: &Line, state: u64) -> bool
     ensures { result ≡ sets form.is_init state line.now }
 {
-    Rule::of(line.keyword).is_init() && state == id_at(line.arguments.as_slice(), 1)
+    FormRule::of(line.keyword).is_init() && state == id_at(line.arguments.as_slice(), 1)
 }
 
 /// The values of the states after a step in which lines have these values.
@@ -129,5 +129,5 @@ fn next_of(lines: &[Line], state: u64) -> Option<u64>
 fn is_next_of(line: &Line, state: u64) -> bool
     ensures { result ≡ sets form.is_next state line.now }
 {
-    Rule::of(line.keyword).is_next() && state == id_at(line.arguments.as_slice(), 1)
+    FormRule::of(line.keyword).is_next() && state == id_at(line.arguments.as_slice(), 1)
 }

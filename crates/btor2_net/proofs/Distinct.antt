@@ -11,10 +11,10 @@ use Rattle.net_graph.specs.Values.{no_bits, value_at}
 use Rattle.btor2_text.specs.declared.line.Line.{Line}
 use Rattle.btor2_model.specs.Acceptance.{fault_in, line_fault, lines_fault}
 use Rattle.btor2_model.specs.Rules.{is_input, rule_of}
-use Rattle.btor2_model.specs.Run.{Values, ids_of, input_values, lines_of}
-use Rattle.btor2_model.specs.Scope.{Scope, behind, meaning_of, no_lines}
-use Rattle.btor2_model.specs.declared.meaning.Meaning.{Meaning}
-use Rattle.btor2_model.specs.declared.rule.Rule.{Rule}
+use Rattle.btor2_model.specs.Run.{Values, ids_of, input_values, lines_by_rule}
+use Rattle.btor2_model.specs.Scope.{DeclaredIds, behind, meaning_of, no_lines}
+use Rattle.btor2_model.specs.declared.meaning.IdMeaning.{IdMeaning}
+use Rattle.btor2_model.specs.declared.rule.FormRule.{FormRule}
 use Rattle.btor2_model.proofs.Conditions.{meets}
 use Rattle.btor2_model.proofs.Evaluation.{option_map-none, option_or-none}
 use Rattle.btor2_model.proofs.Filling.{nothing-there}
@@ -24,12 +24,12 @@ use Rattle.btor2_net.specs.inner.Values.{AreGiven}
 unfoldable pub AreDistinct : List ℕ → Type 0
 AreDistinct ids = (i j id : ℕ) → slice_get ids i ≡ Some id → slice_get ids j ≡ Some id → i ≡ j
 
-none-before : (here : Bool) (new : Meaning) (old : Option Meaning) → cond here (Some new) old ≡ None → old ≡ None
+none-before : (here : Bool) (new : IdMeaning) (old : Option IdMeaning) → cond here (Some new) old ≡ None → old ≡ None
 none-before true new old is = absurd (cc)
 none-before false new old is = is
 
 -- no line is declared before it
-fresh-ids : (test : Rule → Bool) (lines : List Line) (scope : Scope) (k id : ℕ) → lines_fault scope lines ≡ None → slice_get (ids_of test lines) k ≡ Some id → scope.meanings id ≡ None
+fresh-ids : (test : FormRule → Bool) (lines : List Line) (scope : DeclaredIds) (k id : ℕ) → lines_fault scope lines ≡ None → slice_get (ids_of test lines) k ≡ Some id → scope.meanings id ≡ None
 fresh-ids test [] scope k id fine at = absurd (cc)
 fresh-ids test (line ∷ lines) scope k id fine at =
     by (test (rule_of line.keyword)) refl
@@ -43,11 +43,11 @@ fresh-ids test (line ∷ lines) scope k id fine at =
     one later zero found = let same : line.id ≡ id = cc in ap scope.meanings (sym same) ∙ nothing-there (scope.meanings line.id) (meets scope line each.0).fresh
     one later (suc j) found = later j found
 
-    by : (b : Bool) → test (rule_of line.keyword) ≡ b → ((j : ℕ) → slice_get (ids_of test lines) j ≡ Some id → scope.meanings id ≡ None) → (j : ℕ) → slice_get (map (λ (l : Line). l.id) (cond (test (rule_of line.keyword)) (line ∷ lines_of test lines) (lines_of test lines))) j ≡ Some id → scope.meanings id ≡ None
-    by true is later j found = one later j (sym (ap (λ (b : Bool). slice_get (map (λ (l : Line). l.id) (cond b (line ∷ lines_of test lines) (lines_of test lines))) j) is) ∙ found)
-    by false is later j found = later j (sym (ap (λ (b : Bool). slice_get (map (λ (l : Line). l.id) (cond b (line ∷ lines_of test lines) (lines_of test lines))) j) is) ∙ found)
+    by : (b : Bool) → test (rule_of line.keyword) ≡ b → ((j : ℕ) → slice_get (ids_of test lines) j ≡ Some id → scope.meanings id ≡ None) → (j : ℕ) → slice_get (map (λ (l : Line). l.id) (cond (test (rule_of line.keyword)) (line ∷ lines_by_rule test lines) (lines_by_rule test lines))) j ≡ Some id → scope.meanings id ≡ None
+    by true is later j found = one later j (sym (ap (λ (b : Bool). slice_get (map (λ (l : Line). l.id) (cond b (line ∷ lines_by_rule test lines) (lines_by_rule test lines))) j) is) ∙ found)
+    by false is later j found = later j (sym (ap (λ (b : Bool). slice_get (map (λ (l : Line). l.id) (cond b (line ∷ lines_by_rule test lines) (lines_by_rule test lines))) j) is) ∙ found)
 
-pub ids-distinct : (test : Rule → Bool) (lines : List Line) (scope : Scope) → lines_fault scope lines ≡ None → AreDistinct (ids_of test lines)
+pub ids-distinct : (test : FormRule → Bool) (lines : List Line) (scope : DeclaredIds) → lines_fault scope lines ≡ None → AreDistinct (ids_of test lines)
 unfolding AreDistinct
 ids-distinct test [] scope fine = λ i j id one other. absurd (cc)
 ids-distinct test (line ∷ lines) scope fine =
@@ -58,8 +58,8 @@ ids-distinct test (line ∷ lines) scope fine =
     rest = (option_or-none (option_map (fault_in line) (line_fault scope line)) (lines_fault (behind scope line) lines) fine).1
 
     both : (b : Bool) → test (rule_of line.keyword) ≡ b → ids_of test (line ∷ lines) ≡ cond (test (rule_of line.keyword)) (line.id ∷ ids_of test lines) (ids_of test lines)
-    both true is = ap (λ (b : Bool). map (λ (l : Line). l.id) (cond b (line ∷ lines_of test lines) (lines_of test lines))) is ∙ sym (ap (λ (b : Bool). cond b (line.id ∷ ids_of test lines) (ids_of test lines)) is)
-    both false is = ap (λ (b : Bool). map (λ (l : Line). l.id) (cond b (line ∷ lines_of test lines) (lines_of test lines))) is ∙ sym (ap (λ (b : Bool). cond b (line.id ∷ ids_of test lines) (ids_of test lines)) is)
+    both true is = ap (λ (b : Bool). map (λ (l : Line). l.id) (cond b (line ∷ lines_by_rule test lines) (lines_by_rule test lines))) is ∙ sym (ap (λ (b : Bool). cond b (line.id ∷ ids_of test lines) (ids_of test lines)) is)
+    both false is = ap (λ (b : Bool). map (λ (l : Line). l.id) (cond b (line ∷ lines_by_rule test lines) (lines_by_rule test lines))) is ∙ sym (ap (λ (b : Bool). cond b (line.id ∷ ids_of test lines) (ids_of test lines)) is)
 
     again : {P : Type 0} (j : ℕ) → slice_get (ids_of test lines) j ≡ Some line.id → P
     again {P} j found =

@@ -8,24 +8,24 @@ use Rattle.std.proofs.lemmas.List.Elements.{filter-append}
 use Rattle.std.proofs.lemmas.List.Folds.{find-append}
 use Rattle.btor2_text.specs.Printable.{AreTokens, IsIdNumber}
 use Rattle.btor2_text.specs.declared.keyword.Keyword.{Keyword}
-use Rattle.btor2_text.specs.declared.kind.Kind.{Kind}
+use Rattle.btor2_text.specs.declared.kind.ArgumentKind.{ArgumentKind}
 use Rattle.btor2_text.specs.declared.line.Argument.{Argument}
 use Rattle.btor2_text.specs.declared.line.Line.{Line}
 use Rattle.btor2_model.specs.Rules.{is_init, is_input, is_next, is_state, role_of, rule_of, width_given}
-use Rattle.btor2_model.specs.Run.{Step, lines_of, value_by, values_at}
-use Rattle.btor2_model.specs.Scope.{Scope, argument_depends, behind, behind_all, id_at, set_now, width_wanted}
-use Rattle.btor2_model.specs.declared.meaning.Meaning.{Meaning}
+use Rattle.btor2_model.specs.Run.{StepValues, lines_by_rule, value_by, values_at}
+use Rattle.btor2_model.specs.Scope.{DeclaredIds, argument_depends, behind, behind_all, id_at, set_now, width_wanted}
+use Rattle.btor2_model.specs.declared.meaning.IdMeaning.{IdMeaning}
 use Rattle.btor2_model.specs.declared.meaning.Role.TheVariants as roles
 use Rattle.btor2_model.specs.declared.rule.Measures.{Measures}
-use Rattle.btor2_model.specs.declared.rule.Rule.{Rule}
+use Rattle.btor2_model.specs.declared.rule.FormRule.{FormRule}
 use Rattle.btor2_net.specs.Pages.{Page, line_on, next_id, put}
 use Rattle.btor2_net.specs.Translations.{AreCounted}
 use Rattle.btor2_net.proofs.Adding.{Asked, Sound, known-within, length-put, meaning-is, means-new, means-put, put-sound, scope_of, value-new, value-put}
 
 -- what ids mean, and their values, stay
 pub record Keeps (p q : Page) : Type 0 where
-  pub means : (id : ℕ) (m : Meaning) → (scope_of p).meanings id ≡ Some m → (scope_of q).meanings id ≡ Some m
-  pub values : (step : Step) (id : ℕ) (m : Meaning) → (scope_of p).meanings id ≡ Some m → values_at q.lines step id ≡ values_at p.lines step id
+  pub means : (id : ℕ) (m : IdMeaning) → (scope_of p).meanings id ≡ Some m → (scope_of q).meanings id ≡ Some m
+  pub values : (step : StepValues) (id : ℕ) (m : IdMeaning) → (scope_of p).meanings id ≡ Some m → values_at q.lines step id ≡ values_at p.lines step id
 
 pub keeps-all : (p : Page) → Keeps p p
 keeps-all p = record { means = λ id m is. is; values = λ step id m is. refl }
@@ -37,23 +37,23 @@ keeps-both p q r one two = record {
 }
 
 -- the id is that of a sort, or of a value, of this width
-abbrev pub Names : Kind → Page → ℕ → ℕ → Type 0
+abbrev pub Names : ArgumentKind → Page → ℕ → ℕ → Type 0
 Names kind p id width = width_wanted kind ((scope_of p).meanings id) ≡ Some width
 
-pub known-by : (kind : Kind) (o : Option Meaning) (width : ℕ) → width_wanted kind o ≡ Some width → (m : Meaning) × (o ≡ Some m)
+pub known-by : (kind : ArgumentKind) (o : Option IdMeaning) (width : ℕ) → width_wanted kind o ≡ Some width → (m : IdMeaning) × (o ≡ Some m)
 known-by kind (Some m) width is = (m, refl)
 known-by kind None width is = absurd (cc)
 
-pub names-keep : (kind : Kind) (p q : Page) (id width : ℕ) → Keeps p q → Names kind p id width → Names kind q id width
+pub names-keep : (kind : ArgumentKind) (p q : Page) (id width : ℕ) → Keeps p q → Names kind p id width → Names kind q id width
 names-keep kind p q id width keeps is =
     let m = known-by kind ((scope_of p).meanings id) width is in
     ap (width_wanted kind) (keeps.means id m.0 m.1) ∙ sym (ap (width_wanted kind) m.1) ∙ is
 
-pub value-keep : (kind : Kind) (p q : Page) (step : Step) (id width : ℕ) → Keeps p q → Names kind p id width → values_at q.lines step id ≡ values_at p.lines step id
+pub value-keep : (kind : ArgumentKind) (p q : Page) (step : StepValues) (id width : ℕ) → Keeps p q → Names kind p id width → values_at q.lines step id ≡ values_at p.lines step id
 value-keep kind p q step id width keeps is = let m = known-by kind ((scope_of p).meanings id) width is in keeps.values step id m.0 m.1
 
 -- such an id can be written
-pub written-id : (kind : Kind) (p : Page) (id width : ℕ) → Sound p → Names kind p id width → length p.lines < 2 ^ 64 → IsIdNumber id
+pub written-id : (kind : ArgumentKind) (p : Page) (id width : ℕ) → Sound p → Names kind p id width → length p.lines < 2 ^ 64 → IsIdNumber id
 written-id kind p id width s is few =
     let m = known-by kind ((scope_of p).meanings id) width is in
     let within = known-within p id m.0 s m.1 in (within.0, omega (arith, within.1, few))
@@ -72,13 +72,13 @@ set-now true states line lines = refl
 set-now false states line lines = refl
 
 -- the states with an `init` are those that the lines of `init` set; so with `next`
-pub initialized-by : (lines : List Line) (scope : Scope) → (behind_all scope lines).initialized ≡ set_by scope.initialized (lines_of is_init lines)
+pub initialized-by : (lines : List Line) (scope : DeclaredIds) → (behind_all scope lines).initialized ≡ set_by scope.initialized (lines_by_rule is_init lines)
 initialized-by [] scope = refl
-initialized-by (line ∷ lines) scope = initialized-by lines (behind scope line) ∙ set-now (is_init (rule_of line.keyword)) scope.initialized line (lines_of is_init lines)
+initialized-by (line ∷ lines) scope = initialized-by lines (behind scope line) ∙ set-now (is_init (rule_of line.keyword)) scope.initialized line (lines_by_rule is_init lines)
 
-pub continued-by : (lines : List Line) (scope : Scope) → (behind_all scope lines).continued ≡ set_by scope.continued (lines_of is_next lines)
+pub continued-by : (lines : List Line) (scope : DeclaredIds) → (behind_all scope lines).continued ≡ set_by scope.continued (lines_by_rule is_next lines)
 continued-by [] scope = refl
-continued-by (line ∷ lines) scope = continued-by lines (behind scope line) ∙ set-now (is_next (rule_of line.keyword)) scope.continued line (lines_of is_next lines)
+continued-by (line ∷ lines) scope = continued-by lines (behind scope line) ∙ set-now (is_next (rule_of line.keyword)) scope.continued line (lines_by_rule is_next lines)
 
 -- a state that no line sets
 eq-turned : (a b : ℕ) → nat_eq a b ≡ false → nat_eq b a ≡ false
@@ -118,26 +118,26 @@ was-set (line ∷ lines) states id found is = by (set_of id line) refl (was-set 
     by false other more = more (sym (ap (λ (b : Bool). cond b (Some line) (find (set_of id) lines)) other) ∙ is)
 
 -- what a sort means
-abbrev pub sort_meaning : ℕ → Meaning
+abbrev pub sort_meaning : ℕ → IdMeaning
 sort_meaning width = record { role = roles.Sort; width = width; depends = false }
 
 -- a page of accepted lines, whose sorts are those that it knows; a state that isn't there yet has no `init`
 pub record Good (p : Page) : Type 0 where
   pub sound : Sound p
   pub sorted : (width id : ℕ) → p.sorts width ≡ Some id → (scope_of p).meanings id ≡ Some (sort_meaning width)
-  pub late : (id : ℕ) → length p.lines < id → find (set_of id) (lines_of is_init p.lines) ≡ None
+  pub late : (id : ℕ) → length p.lines < id → find (set_of id) (lines_by_rule is_init p.lines) ≡ None
   pub counted : AreCounted p.lines
 
 -- the lines of a rule with one more line
-pub picked : (test : Rule → Bool) (p : Page) (keyword : Keyword) (given : List Argument) (symbol : Option (List ℕ)) (b : Bool) → test (rule_of keyword) ≡ b
-    → lines_of test (put p keyword given symbol).lines ≡ lines_of test p.lines ++ cond b (line_on p keyword given symbol ∷ []) []
+pub picked : (test : FormRule → Bool) (p : Page) (keyword : Keyword) (given : List Argument) (symbol : Option (List ℕ)) (b : Bool) → test (rule_of keyword) ≡ b
+    → lines_by_rule test (put p keyword given symbol).lines ≡ lines_by_rule test p.lines ++ cond b (line_on p keyword given symbol ∷ []) []
 picked test p keyword given symbol b is =
     filter-append (λ (l : Line). test (rule_of l.keyword)) p.lines (line_on p keyword given symbol ∷ [])
-    ∙ ap (λ (c : Bool). lines_of test p.lines ++ cond c (line_on p keyword given symbol ∷ []) []) is
+    ∙ ap (λ (c : Bool). lines_by_rule test p.lines ++ cond c (line_on p keyword given symbol ∷ []) []) is
 
-pub not-picked : (test : Rule → Bool) (p : Page) (keyword : Keyword) (given : List Argument) (symbol : Option (List ℕ)) → test (rule_of keyword) ≡ false
-    → lines_of test (put p keyword given symbol).lines ≡ lines_of test p.lines
-not-picked test p keyword given symbol is = picked test p keyword given symbol false is ∙ append-nil (lines_of test p.lines)
+pub not-picked : (test : FormRule → Bool) (p : Page) (keyword : Keyword) (given : List Argument) (symbol : Option (List ℕ)) → test (rule_of keyword) ≡ false
+    → lines_by_rule test (put p keyword given symbol).lines ≡ lines_by_rule test p.lines
+not-picked test p keyword given symbol is = picked test p keyword given symbol false is ∙ append-nil (lines_by_rule test p.lines)
 
 -- an item behind others
 pub behind-others : {X : Type 0} (xs : List X) (x y : X) (k : ℕ) → slice_get (xs ++ x ∷ []) k ≡ Some y → (P : ℕ → X → Type 0) → ((j : ℕ) (z : X) → slice_get xs j ≡ Some z → P j z) → P (length xs) x → P k y
@@ -146,7 +146,7 @@ behind-others {X} [] x y (suc k) at P all own = absurd (cc)
 behind-others {X} (z ∷ xs) x y zero at P all own = all 0 y at
 behind-others {X} (z ∷ xs) x y (suc k) at P all own = behind-others xs x y k at (λ j w. P (suc j) w) (λ j w is. all (suc j) w is) own
 
-module _ (p : Page) (rule : Rule) (keyword : Keyword) (given : List Argument) (symbol : Option (List ℕ)) (m : Measures) (g : Good p) (asked : Asked p rule keyword given m) (token : AreTokens (option_to_list symbol)) where
+module _ (p : Page) (rule : FormRule) (keyword : Keyword) (given : List Argument) (symbol : Option (List ℕ)) (m : Measures) (g : Good p) (asked : Asked p rule keyword given m) (token : AreTokens (option_to_list symbol)) where
   abbrev line : Line
   line = line_on p keyword given symbol
 
@@ -165,16 +165,16 @@ module _ (p : Page) (rule : Rule) (keyword : Keyword) (given : List Argument) (s
   put-means = means-new p keyword given symbol ∙ ap Some (meaning-is p rule keyword given symbol m g.sound asked token)
 
   -- its value
-  pub put-value : (step : Step) → values_at new.lines step (next_id p) ≡ value_by rule step (scope_of p) (values_at p.lines step) line
-  put-value step = value-new p keyword given symbol step ∙ ap (λ (r : Rule). value_by r step (scope_of p) (values_at p.lines step) line) asked.of
+  pub put-value : (step : StepValues) → values_at new.lines step (next_id p) ≡ value_by rule step (scope_of p) (values_at p.lines step) line
+  put-value step = value-new p keyword given symbol step ∙ ap (λ (r : FormRule). value_by r step (scope_of p) (values_at p.lines step) line) asked.of
 
   counted-next : AreCounted new.lines
   counted-next place one at = behind-others p.lines line one place at (λ k l. l.id ≡ k + 1) g.counted refl
 
-  late-by : (b : Bool) → is_init rule ≡ b → (is_init rule ≡ true → id_at given 1 ≤ length p.lines) → (id : ℕ) → length new.lines < id → find (set_of id) (lines_of is_init new.lines) ≡ None
+  late-by : (b : Bool) → is_init rule ≡ b → (is_init rule ≡ true → id_at given 1 ≤ length p.lines) → (id : ℕ) → length new.lines < id → find (set_of id) (lines_by_rule is_init new.lines) ≡ None
   late-by true is sets id above =
       let count = length-put p keyword given symbol in
-      ap (find (set_of id)) (picked is_init p keyword given symbol true (ap is_init asked.of ∙ is)) ∙ find-append (set_of id) (lines_of is_init p.lines) (line ∷ [])
+      ap (find (set_of id)) (picked is_init p keyword given symbol true (ap is_init asked.of ∙ is)) ∙ find-append (set_of id) (lines_by_rule is_init p.lines) (line ∷ [])
       ∙ ap (λ (o : Option Line). option_or o (find (set_of id) (line ∷ []))) (g.late id (omega (arith, above, count)))
       ∙ ap (λ (b : Bool). cond b (Some line) None) (other (nat_eq id (id_at given 1)) refl (λ same. omega (arith, above, count, sets is, same)))
     where

@@ -21,9 +21,9 @@ use Rattle.btor2_text.specs.declared.line.Argument.{Argument}
 use Rattle.btor2_text.specs.declared.line.Argument.TheVariants as arguments
 use Rattle.btor2_text.specs.declared.line.Line.{Line}
 use Rattle.btor2_model.specs.Rules.{is_init, is_next, is_sort, is_state, rule_of}
-use Rattle.btor2_model.specs.Run.{ids_of, lines_of}
-use Rattle.btor2_model.specs.declared.rule.Rule.{Rule}
-use Rattle.btor2_model.specs.declared.rule.Rule.TheVariants as forms
+use Rattle.btor2_model.specs.Run.{ids_of, lines_by_rule}
+use Rattle.btor2_model.specs.declared.rule.FormRule.{FormRule}
+use Rattle.btor2_model.specs.declared.rule.FormRule.TheVariants as forms
 use Rattle.btor2_net.specs.Layout.{AreLaidOut, DifferInWidth, HasSymbol, StartsBefore, declared_width, is_named, state_set, value_set}
 use Rattle.btor2_net.specs.Pages as pages
 use Rattle.btor2_net.specs.Pages.{Draft, Page, arguments_of, id_in, id_of_line, line_on, next_id, put, sort_id, with_constant, with_inputs, with_line, with_next, with_nexts, with_node, with_nodes, with_output, with_outputs, with_sort, with_sort_by, with_state, with_states}
@@ -36,14 +36,14 @@ use Rattle.btor2_net.proofs.Written as written
 
 -- lines as far as they are made, where these states have no `init` yet
 record Stand (waiting : List ℕ) (lines : List Line) : Type 0 where
-  pub inits : map state_set (lines_of is_init lines) ++ waiting ≡ ids_of is_state lines
-  pub constants : All (StartsBefore lines) (lines_of is_init lines)
-  pub symbols : All HasSymbol (lines_of is_named lines)
+  pub inits : map state_set (lines_by_rule is_init lines) ++ waiting ≡ ids_of is_state lines
+  pub constants : All (StartsBefore lines) (lines_by_rule is_init lines)
+  pub symbols : All HasSymbol (lines_by_rule is_named lines)
 
 -- a page knows the width of each of its sorts, and each has its own
 record AreSorted (p : Page) : Type 0 where
-  pub apart : AllPairs DifferInWidth (lines_of is_sort p.lines)
-  pub known : All (λ (line : Line). p.sorts (declared_width line) ≢ None) (lines_of is_sort p.lines)
+  pub apart : AllPairs DifferInWidth (lines_by_rule is_sort p.lines)
+  pub known : All (λ (line : Line). p.sorts (declared_width line) ≢ None) (lines_by_rule is_sort p.lines)
 
 record Sits (waiting : List ℕ) (p : Page) : Type 0 where
   pub lines : Stand waiting p.lines
@@ -51,9 +51,9 @@ record Sits (waiting : List ℕ) (p : Page) : Type 0 where
 
 -- ---- one more line
 
-ids-append : (test : Rule → Bool) (lines more : List Line) → ids_of test (lines ++ more) ≡ ids_of test lines ++ ids_of test more
+ids-append : (test : FormRule → Bool) (lines more : List Line) → ids_of test (lines ++ more) ≡ ids_of test lines ++ ids_of test more
 ids-append test lines more =
-    ap (map (λ (l : Line). l.id)) (filter-append (λ (l : Line). test (rule_of l.keyword)) lines more) ∙ map-append (λ (l : Line). l.id) (lines_of test lines) (lines_of test more)
+    ap (map (λ (l : Line). l.id)) (filter-append (λ (l : Line). test (rule_of l.keyword)) lines more) ∙ map-append (λ (l : Line). l.id) (lines_by_rule test lines) (lines_by_rule test more)
 
 -- a constant is among lines
 abbrev HasConstant : List Line → ℕ → Type 0
@@ -73,15 +73,15 @@ module _ (p : Page) (keyword : Keyword) (given : List Argument) (symbol : Option
   abbrev new : Page
   new = put p keyword given symbol
 
-  symbols-put : (is_named (rule_of keyword) ≡ true → symbol ≢ None) → All HasSymbol (lines_of is_named p.lines) → All HasSymbol (lines_of is_named new.lines)
+  symbols-put : (is_named (rule_of keyword) ≡ true → symbol ≢ None) → All HasSymbol (lines_by_rule is_named p.lines) → All HasSymbol (lines_by_rule is_named new.lines)
   symbols-put named all = by (is_named (rule_of keyword)) refl
     where
-      by : (b : Bool) → is_named (rule_of keyword) ≡ b → All HasSymbol (lines_of is_named new.lines)
-      by true is = subst (All HasSymbol) (sym (picked is_named p keyword given symbol true is)) (All-push HasSymbol (lines_of is_named p.lines) line all (named is))
+      by : (b : Bool) → is_named (rule_of keyword) ≡ b → All HasSymbol (lines_by_rule is_named new.lines)
+      by true is = subst (All HasSymbol) (sym (picked is_named p keyword given symbol true is)) (All-push HasSymbol (lines_by_rule is_named p.lines) line all (named is))
       by false is = subst (All HasSymbol) (sym (not-picked is_named p keyword given symbol is)) all
 
-  starts-put : All (StartsBefore p.lines) (lines_of is_init p.lines) → All (StartsBefore new.lines) (lines_of is_init p.lines)
-  starts-put all k d within = starts-still p.lines (line ∷ []) (get_or (lines_of is_init p.lines) k d) (all k d within)
+  starts-put : All (StartsBefore p.lines) (lines_by_rule is_init p.lines) → All (StartsBefore new.lines) (lines_by_rule is_init p.lines)
+  starts-put all k d within = starts-still p.lines (line ∷ []) (get_or (lines_by_rule is_init p.lines) k d) (all k d within)
 
   -- a line of another rule
   stand-put : (waiting : List ℕ) → is_state (rule_of keyword) ≡ false → is_init (rule_of keyword) ≡ false → (is_named (rule_of keyword) ≡ true → symbol ≢ None) → Stand waiting p.lines → Stand waiting new.lines
@@ -134,10 +134,10 @@ module _ (p : Page) (width : ℕ) where
     lines = stand-put p keywords.Sort sort_given None waiting refl refl (λ is. absurd (cc)) s.lines;
     sorts = record {
       apart = subst (AllPairs DifferInWidth) (sym (picked is_sort p keywords.Sort sort_given None true refl))
-          (all_pairs_push DifferInWidth (lines_of is_sort p.lines) sort_line s.sorts.apart (λ k d within same. s.sorts.known k d within (ap p.sorts same ∙ none)));
+          (all_pairs_push DifferInWidth (lines_by_rule is_sort p.lines) sort_line s.sorts.apart (λ k d within same. s.sorts.known k d within (ap p.sorts same ∙ none)));
       known = subst (All (λ (l : Line). sorted_page.sorts (declared_width l) ≢ None)) (sym (picked is_sort p keywords.Sort sort_given None true refl))
-          (All-push (λ (l : Line). sorted_page.sorts (declared_width l) ≢ None) (lines_of is_sort p.lines) sort_line
-          (λ k d within. still-known (declared_width (get_or (lines_of is_sort p.lines) k d)) (s.sorts.known k d within)) now-known);
+          (All-push (λ (l : Line). sorted_page.sorts (declared_width l) ≢ None) (lines_by_rule is_sort p.lines) sort_line
+          (λ k d within. still-known (declared_width (get_or (lines_by_rule is_sort p.lines) k d)) (s.sorts.known k d within)) now-known);
     };
   }
 
@@ -180,7 +180,7 @@ sits-constant waiting p value s = sits-put waiting (with_sort p value.width) key
 sits-state-line : (p : Page) (given : List Argument) (name : List ℕ) → Sits [] p → Sits (next_id p ∷ []) (put p keywords.State given (Some name))
 sits-state-line p given name s =
     let line : Line = line_on p keywords.State given (Some name) in
-    let before : map state_set (lines_of is_init p.lines) ≡ ids_of is_state p.lines = sym (append-nil (map state_set (lines_of is_init p.lines))) ∙ s.lines.inits in
+    let before : map state_set (lines_by_rule is_init p.lines) ≡ ids_of is_state p.lines = sym (append-nil (map state_set (lines_by_rule is_init p.lines))) ∙ s.lines.inits in
     record {
       lines = record {
         inits = ap (λ (ls : List Line). map state_set ls ++ next_id p ∷ []) (not-picked is_init p keywords.State given (Some name) refl) ∙ ap (λ (ids : List ℕ). ids ++ next_id p ∷ []) before
@@ -200,10 +200,10 @@ sits-init-line p sort state constant s has before =
     let new : Page = put p keywords.Init given None in
     record {
       lines = record {
-        inits = append-nil (map state_set (lines_of is_init new.lines)) ∙ ap (map state_set) (picked is_init p keywords.Init given None true refl) ∙ map-append state_set (lines_of is_init p.lines) (line ∷ [])
+        inits = append-nil (map state_set (lines_by_rule is_init new.lines)) ∙ ap (map state_set) (picked is_init p keywords.Init given None true refl) ∙ map-append state_set (lines_by_rule is_init p.lines) (line ∷ [])
             ∙ s.lines.inits ∙ sym (ap (map (λ (l : Line). l.id)) (not-picked is_state p keywords.Init given None refl));
         constants = subst (All (StartsBefore new.lines)) (sym (picked is_init p keywords.Init given None true refl))
-            (All-push (StartsBefore new.lines) (lines_of is_init p.lines) line (starts-put p keywords.Init given None s.lines.constants)
+            (All-push (StartsBefore new.lines) (lines_by_rule is_init p.lines) line (starts-put p keywords.Init given None s.lines.constants)
             (record { constant = constant-stays p.lines (line ∷ []) constant has; before = before }));
         symbols = symbols-put p keywords.Init given None (λ is. absurd (cc)) s.lines.symbols;
       };
@@ -267,19 +267,19 @@ sits-inputs d (wire ∷ wires) s =
     (sits-line [] d.page wire.width keywords.Input [] [] (Some wire.name) (record { no_sort = refl; no_state = refl; no_init = refl; named = λ is none. absurd (cc) }) s)
 
 -- the line of an operator is of no other rule
-not-sort : (rule : Rule) → is_operator rule ≡ true → is_sort rule ≡ false
+not-sort : (rule : FormRule) → is_operator rule ≡ true → is_sort rule ≡ false
 not-sort forms.Sort is = absurd (cc)
 not-sort rule is = refl
 
-not-state : (rule : Rule) → is_operator rule ≡ true → is_state rule ≡ false
+not-state : (rule : FormRule) → is_operator rule ≡ true → is_state rule ≡ false
 not-state forms.State is = absurd (cc)
 not-state rule is = refl
 
-not-init : (rule : Rule) → is_operator rule ≡ true → is_init rule ≡ false
+not-init : (rule : FormRule) → is_operator rule ≡ true → is_init rule ≡ false
 not-init forms.Init is = absurd (cc)
 not-init rule is = refl
 
-not-named : (rule : Rule) → is_operator rule ≡ true → is_named rule ≡ true → ⊥
+not-named : (rule : FormRule) → is_operator rule ≡ true → is_named rule ≡ true → ⊥
 not-named forms.Input is named = cc
 not-named forms.State is named = cc
 not-named forms.Output is named = cc
@@ -289,7 +289,7 @@ not-named rule is named = cc
 plain-operator : (op : NetOp) → is_op op ≡ true → IsPlain (keyword_of op) None
 plain-operator op is =
     let rule = operator-rule op is in
-    let r : Rule = rule_of (keyword_of op) in
+    let r : FormRule = rule_of (keyword_of op) in
     record { no_sort = not-sort r rule; no_state = not-state r rule; no_init = not-init r rule; named = λ named. absurd (not-named r rule named) }
 
 sits-node : (inputs states : List ℕ) (d : Draft) (width : ℕ) (op : NetOp) → Sits [] d.page → Sits [] (with_node inputs states d width op).page
@@ -350,17 +350,17 @@ all-turns [] (wire ∷ wires) same = absurd (omega (arith, same))
 all-turns (id ∷ ids) [] same = absurd (omega (arith, same))
 all-turns (id ∷ ids) (wire ∷ wires) same = ap (λ (rest : List ℕ). id ∷ rest) (turns-later id ids 0 wires ∙ all-turns ids wires (omega (arith, same)))
 
-same-nexts : (p : Page) (width : ℕ) → lines_of is_next (with_sort p width).lines ≡ lines_of is_next p.lines
+same-nexts : (p : Page) (width : ℕ) → lines_by_rule is_next (with_sort p width).lines ≡ lines_by_rule is_next p.lines
 same-nexts p width = by (p.sorts width)
   where
-    by : (o : Option ℕ) → lines_of is_next (with_sort_by p width o).lines ≡ lines_of is_next p.lines
+    by : (o : Option ℕ) → lines_by_rule is_next (with_sort_by p width o).lines ≡ lines_by_rule is_next p.lines
     by None = not-picked is_next p keywords.Sort (arguments.Bitvec ∷ arguments.Number width ∷ []) None refl
     by (Some found) = refl
 
 nexts-set : (nodes states : List ℕ) (p : Page) (number : ℕ) (wires : List StateWire)
-    → map state_set (lines_of is_next (with_nexts nodes states p number wires).lines) ≡ map state_set (lines_of is_next p.lines) ++ turns states number wires
+    → map state_set (lines_by_rule is_next (with_nexts nodes states p number wires).lines) ≡ map state_set (lines_by_rule is_next p.lines) ++ turns states number wires
 unfolding turns
-nexts-set nodes states p number [] = sym (append-nil (map state_set (lines_of is_next p.lines)))
+nexts-set nodes states p number [] = sym (append-nil (map state_set (lines_by_rule is_next p.lines)))
 nexts-set nodes states p number (wire ∷ wires) =
     let one : Page = with_sort p wire.width in
     let id : ℕ = id_in states number in
@@ -368,9 +368,9 @@ nexts-set nodes states p number (wire ∷ wires) =
     let line : Line = line_on one keywords.Next given None in
     nexts-set nodes states (with_next nodes p wire id) (number + 1) wires
     ∙ ap (λ (ids : List ℕ). ids ++ turns states (number + 1) wires)
-    (ap (map state_set) (picked is_next one keywords.Next given None true refl) ∙ map-append state_set (lines_of is_next one.lines) (line ∷ [])
+    (ap (map state_set) (picked is_next one keywords.Next given None true refl) ∙ map-append state_set (lines_by_rule is_next one.lines) (line ∷ [])
     ∙ ap (λ (ls : List Line). map state_set ls ++ id ∷ []) (same-nexts p wire.width))
-    ∙ append_assoc (map state_set (lines_of is_next p.lines)) (id ∷ []) (turns states (number + 1) wires)
+    ∙ append_assoc (map state_set (lines_by_rule is_next p.lines)) (id ∷ []) (turns states (number + 1) wires)
 
 -- ---- all lines
 
@@ -398,7 +398,7 @@ module _ (c : Wires) (is : IsCircuit c) (tokens : HasTokens c) where
       (sits-inputs (record { page = s.page; ids = [] }) c.inputs
       (sits-states (record { page = pages.blank; ids = [] }) c.states sits-blank))))
 
-  nexts : map state_set (lines_of is_next e.lines) ≡ ids_of is_state e.lines
+  nexts : map state_set (lines_by_rule is_next e.lines) ≡ ids_of is_state e.lines
   nexts =
       ap (map state_set) ((written.has-e c is tokens).same is_next refl) ∙ nexts-set n.ids s.ids n.page 0 c.states
       ∙ ap (λ (ls : List Line). map state_set ls ++ turns s.ids 0 c.states) (written.nexts-before c is tokens) ∙ all-turns s.ids c.states (written.states-count c is tokens)
@@ -409,7 +409,7 @@ module _ (c : Wires) (is : IsCircuit c) (tokens : HasTokens c) where
   lines-laid-out = record {
     ids = written.lines-counted c is tokens;
     sorts = sits.sorts.apart;
-    inits = sym (append-nil (map state_set (lines_of is_init e.lines))) ∙ sits.lines.inits;
+    inits = sym (append-nil (map state_set (lines_by_rule is_init e.lines))) ∙ sits.lines.inits;
     constants = sits.lines.constants;
     nexts = nexts;
     symbols = sits.lines.symbols;

@@ -22,10 +22,10 @@ use Rattle.btor2_text.specs.declared.line.Line.{Line}
 use Rattle.btor2_model.specs.Acceptance.{IsAccepted}
 use Rattle.btor2_model.specs.Rules.{is_init, is_input, is_next, is_output, is_state, rule_of}
 use Rattle.btor2_model.specs.Run as text
-use Rattle.btor2_model.specs.Scope.{Scope, behind_all, id_at, meaning_depends, no_lines}
+use Rattle.btor2_model.specs.Scope.{DeclaredIds, behind_all, id_at, meaning_depends, no_lines}
 use Rattle.btor2_model.specs.inner.SlowRun.{sets}
 use Rattle.btor2_model.specs.Table.{value_in}
-use Rattle.btor2_model.specs.declared.rule.Rule.{Rule}
+use Rattle.btor2_model.specs.declared.rule.FormRule.{FormRule}
 use Rattle.btor2_model.proofs.Ends.{SameWidth, init-found}
 use Rattle.btor2_model.proofs.Selections.{set-by}
 use Rattle.btor2_net.specs.inner.Nodes.{numbering_of}
@@ -59,7 +59,7 @@ some-nat : (a b : ℕ) → Some a ≡ Some b → a ≡ b
 some-nat a b is = cc
 
 module _ (lines : List Line) (accepted : IsAccepted lines) (n : Nodes) (nodes : AreNodesOf lines (numbering_of n) n.net) where
-  abbrev end : Scope
+  abbrev end : DeclaredIds
   end = behind_all no_lines lines
 
   -- the node of a value
@@ -69,7 +69,7 @@ module _ (lines : List Line) (accepted : IsAccepted lines) (n : Nodes) (nodes : 
       let same = same-node (value_in n.nodes id) h.node h.is in
       (subst (λ (k : ℕ). k < length n.net) (sym same) h.stands, ap (λ (k : ℕ). width_at (widths_of n.net) k) same ∙ h.width_is)
 
-  node-value-at : (id w : ℕ) (step : text.Step) (s : Sources) → IsValue end id w → SameStep lines step s → node_value s n.net (node_of n id) ≡ text.values_at lines step id
+  node-value-at : (id w : ℕ) (step : text.StepValues) (s : Sources) → IsValue end id w → SameStep lines step s → node_value s n.net (node_of n id) ≡ text.values_at lines step id
   node-value-at id w step s is same =
       let h = nodes.widths id w is in
       ap (node_value s n.net) (same-node (value_in n.nodes id) h.node h.is) ∙ nodes.values step s same id h.node h.is
@@ -91,27 +91,27 @@ module _ (lines : List Line) (accepted : IsAccepted lines) (n : Nodes) (nodes : 
   states-stand k d within passes = let line = get_or lines k d in (node-at line.id (text.width_in lines line.id) (states-own k d within passes)).0
 
   -- their widths
-  widths-by : (test : Rule → Bool) → All (λ (line : Line). test (rule_of line.keyword) ≡ true → IsValue end line.id (text.width_in lines line.id)) lines
-      → map (λ (line : Line). width_of n line.id) (text.lines_of test lines) ≡ widths_in test lines
+  widths-by : (test : FormRule → Bool) → All (λ (line : Line). test (rule_of line.keyword) ≡ true → IsValue end line.id (text.width_in lines line.id)) lines
+      → map (λ (line : Line). width_of n line.id) (text.lines_by_rule test lines) ≡ widths_in test lines
   widths-by test own =
-      alike (λ (line : Line). width_of n line.id) (λ (line : Line). text.width_in lines line.id) (text.lines_of test lines)
+      alike (λ (line : Line). width_of n line.id) (λ (line : Line). text.width_in lines line.id) (text.lines_by_rule test lines)
       (all-passing test (λ (line : Line). width_of n line.id ≡ text.width_in lines line.id) lines
       (λ k d within passes. let line = get_or lines k d in (node-at line.id (text.width_in lines line.id) (own k d within passes)).1))
-      ∙ sym (map-map (text.width_in lines) (λ (line : Line). line.id) (text.lines_of test lines))
+      ∙ sym (map-map (text.width_in lines) (λ (line : Line). line.id) (text.lines_by_rule test lines))
 
   -- nodes are 1 to 128 bits wide
   wide : (id : ℕ) → node_of n id < length n.net → (1 ≤ width_of n id) × (width_of n id ≤ 128)
   wide id inside = widths_of-Wide n.net nodes.is_net (node_of n id) 0 (omega (arith, inside, length-one_by_one op_width [] n.net))
 
   -- zeros of their widths
-  zeros-widths : (test : Rule → Bool) → All (λ (line : Line). test (rule_of line.keyword) ≡ true → IsValue end line.id (text.width_in lines line.id)) lines
-      → widths (map (zero_of n) (text.lines_of test lines)) ≡ widths_in test lines
-  zeros-widths test own = map-map (λ (v : BitVector). v.width) (zero_of n) (text.lines_of test lines) ∙ widths-by test own
+  zeros-widths : (test : FormRule → Bool) → All (λ (line : Line). test (rule_of line.keyword) ≡ true → IsValue end line.id (text.width_in lines line.id)) lines
+      → widths (map (zero_of n) (text.lines_by_rule test lines)) ≡ widths_in test lines
+  zeros-widths test own = map-map (λ (v : BitVector). v.width) (zero_of n) (text.lines_by_rule test lines) ∙ widths-by test own
 
-  zeros-bits : (test : Rule → Bool) → All (λ (line : Line). test (rule_of line.keyword) ≡ true → IsValue end line.id (text.width_in lines line.id)) lines
-      → All IsBits (map (zero_of n) (text.lines_of test lines))
+  zeros-bits : (test : FormRule → Bool) → All (λ (line : Line). test (rule_of line.keyword) ≡ true → IsValue end line.id (text.width_in lines line.id)) lines
+      → All IsBits (map (zero_of n) (text.lines_by_rule test lines))
   zeros-bits test own =
-      All-map IsBits (zero_of n) (text.lines_of test lines)
+      All-map IsBits (zero_of n) (text.lines_by_rule test lines)
       (all-passing test (λ (line : Line). IsBits (zero_of n line)) lines
       (λ k d within passes.
       let line = get_or lines k d in
@@ -119,7 +119,7 @@ module _ (lines : List Line) (accepted : IsAccepted lines) (n : Nodes) (nodes : 
       (zero-bits (width_of n line.id) w.0 w.1).0))
 
   abbrev zeros : Sources
-  zeros = record { inputs = map (zero_of n) (text.lines_of is_input lines); states = map (zero_of n) (text.lines_of is_state lines) }
+  zeros = record { inputs = map (zero_of n) (text.lines_by_rule is_input lines); states = map (zero_of n) (text.lines_by_rule is_state lines) }
 
   pub feeds-zeros : Feeds zeros n.net
   feeds-zeros = record {
@@ -132,15 +132,15 @@ module _ (lines : List Line) (accepted : IsAccepted lines) (n : Nodes) (nodes : 
   abbrev constants : List BitVector
   constants = values_of zeros n.net
 
-  abbrev zero-step : text.Step
+  abbrev zero-step : text.StepValues
   zero-step = record { inputs = λ id. zero_at (width_of n id); states = λ id. zero_at (width_of n id) }
 
   zeros-same : SameStep lines zero-step zeros
   zeros-same = record {
     inputs = λ place id at. states-given (text.ids_of is_input lines) zero-step.inputs place id at
-        ∙ ap (λ (vs : List BitVector). value_at vs place) (map-map zero-step.inputs (λ (line : Line). line.id) (text.lines_of is_input lines));
+        ∙ ap (λ (vs : List BitVector). value_at vs place) (map-map zero-step.inputs (λ (line : Line). line.id) (text.lines_by_rule is_input lines));
     states = λ place id at. states-given (text.ids_of is_state lines) zero-step.states place id at
-        ∙ ap (λ (vs : List BitVector). value_at vs place) (map-map zero-step.states (λ (line : Line). line.id) (text.lines_of is_state lines));
+        ∙ ap (λ (vs : List BitVector). value_at vs place) (map-map zero-step.states (λ (line : Line). line.id) (text.lines_by_rule is_state lines));
   }
 
   constants-count : length constants ≡ length n.net
@@ -166,11 +166,11 @@ module _ (lines : List Line) (accepted : IsAccepted lines) (n : Nodes) (nodes : 
         omega (arith, constants-count, (node-at id w.0 (subst (λ (i : ℕ). IsValue end i w.0) named w.2)).0)
 
     -- the first value of a state is the text's, and of the state's width
-    first-is : (state : ℕ) → IsValue end state (text.width_in lines state) → (first_of n constants (inits state) state ≡ text.first_values lines state) × HasWidth (first_of n constants (inits state) state) (width_of n state)
+    first-is : (state : ℕ) → IsValue end state (text.width_in lines state) → (first_of n constants (inits state) state ≡ text.first_state_values lines state) × HasWidth (first_of n constants (inits state) state) (width_of n state)
     unfolding SameWidth
     first-is state own = by (inits state) refl
       where
-        by : (o : Option ℕ) → inits state ≡ o → (first_of n constants (inits state) state ≡ text.first_values lines state) × HasWidth (first_of n constants (inits state) state) (width_of n state)
+        by : (o : Option ℕ) → inits state ≡ o → (first_of n constants (inits state) state ≡ text.first_state_values lines state) × HasWidth (first_of n constants (inits state) state) (width_of n state)
         by None is =
             let at = node-at state (text.width_in lines state) own in
             let w = wide state at.0 in
@@ -201,7 +201,7 @@ module _ (lines : List Line) (accepted : IsAccepted lines) (n : Nodes) (nodes : 
 
     -- the value that a state takes next is the text's
     next-is : (line : Line) → (next : Line) × (find (sets is_next line.id) lines ≡ Some next) × SameWidth end line.id (id_at next.arguments 2)
-        → ((step : text.Step) (s : Sources) → SameStep lines step s → node_value s n.net (node_of n (unwrap_or (nexts line.id) 0)) ≡ text.next_values lines (text.values_at lines step) line.id)
+        → ((step : text.StepValues) (s : Sources) → SameStep lines step s → node_value s n.net (node_of n (unwrap_or (nexts line.id) 0)) ≡ text.next_values lines (text.values_at lines step) line.id)
         × (node_of n (unwrap_or (nexts line.id) 0) < length n.net) × (width_at (widths_of n.net) (node_of n (unwrap_or (nexts line.id) 0)) ≡ width_of n line.id)
     unfolding SameWidth
     next-is line (next, at, w) =
@@ -217,69 +217,69 @@ module _ (lines : List Line) (accepted : IsAccepted lines) (n : Nodes) (nodes : 
     abbrev wires : Wires
     wires = record {
       net = n.net;
-      states = map (state_wire n constants inits nexts) (text.lines_of is_state lines);
-      inputs = map (input_wire n) (text.lines_of is_input lines);
-      outputs = map (output_wire n) (text.lines_of is_output lines);
+      states = map (state_wire n constants inits nexts) (text.lines_by_rule is_state lines);
+      inputs = map (input_wire n) (text.lines_by_rule is_input lines);
+      outputs = map (output_wire n) (text.lines_by_rule is_output lines);
     }
 
     states-widths : state_widths wires.states ≡ widths_in is_state lines
-    states-widths = map-map (λ (wire : StateWire). wire.width) (state_wire n constants inits nexts) (text.lines_of is_state lines) ∙ widths-by is_state states-own
+    states-widths = map-map (λ (wire : StateWire). wire.width) (state_wire n constants inits nexts) (text.lines_by_rule is_state lines) ∙ widths-by is_state states-own
 
     inputs-widths : input_widths wires.inputs ≡ widths_in is_input lines
-    inputs-widths = map-map (λ (wire : InputWire). wire.width) (input_wire n) (text.lines_of is_input lines) ∙ widths-by is_input inputs-own
+    inputs-widths = map-map (λ (wire : InputWire). wire.width) (input_wire n) (text.lines_by_rule is_input lines) ∙ widths-by is_input inputs-own
 
     is-circuit : IsCircuit wires
     is-circuit = record {
       net = nodes.is_net;
       reads = subst (λ (ws : List ℕ). AllRead (input_widths wires.inputs) ws n.net) (sym states-widths) (subst (λ (ws : List ℕ). AllRead ws (widths_in is_state lines) n.net) (sym inputs-widths) nodes.reads);
-      states = All-map (IsState n.net) (state_wire n constants inits nexts) (text.lines_of is_state lines)
+      states = All-map (IsState n.net) (state_wire n constants inits nexts) (text.lines_by_rule is_state lines)
           (all-passing is_state (λ (line : Line). IsState n.net (state_wire n constants inits nexts line)) lines
           (λ k d within passes.
           let line = get_or lines k d in
           let next = next-is line (next-of lines accepted k d within passes) in
           record { first = (first-is line.id (states-own k d within passes)).1; next = next.1; next_width = next.2 }));
-      inputs = All-map IsInput (input_wire n) (text.lines_of is_input lines)
+      inputs = All-map IsInput (input_wire n) (text.lines_by_rule is_input lines)
           (all-passing is_input (λ (line : Line). IsInput (input_wire n line)) lines
           (λ k d within passes. let line = get_or lines k d in wide line.id (node-at line.id (text.width_in lines line.id) (inputs-own k d within passes)).0));
-      outputs = All-map (IsOutput n.net) (output_wire n) (text.lines_of is_output lines)
+      outputs = All-map (IsOutput n.net) (output_wire n) (text.lines_by_rule is_output lines)
           (all-passing is_output (λ (line : Line). IsOutput n.net (output_wire n line)) lines
           (λ k d within passes. let id = id_at (get_or lines k d).arguments 0 in (node-at id (text.width_in lines id) (outputs-own k d within passes)).0));
     }
 
     has-lines : HasLines lines wires
     has-lines = record {
-      inputs = map-map (λ (wire : InputWire). wire.name) (input_wire n) (text.lines_of is_input lines);
+      inputs = map-map (λ (wire : InputWire). wire.name) (input_wire n) (text.lines_by_rule is_input lines);
       input_widths = inputs-widths;
-      states = map-map (λ (wire : StateWire). wire.name) (state_wire n constants inits nexts) (text.lines_of is_state lines);
+      states = map-map (λ (wire : StateWire). wire.name) (state_wire n constants inits nexts) (text.lines_by_rule is_state lines);
       state_widths = states-widths;
-      outputs = map-map (λ (wire : OutputWire). wire.name) (output_wire n) (text.lines_of is_output lines);
-      output_widths = map-map (λ (wire : OutputWire). width_at (widths_of n.net) wire.id) (output_wire n) (text.lines_of is_output lines)
-          ∙ alike (λ (line : Line). width_of n (id_at line.arguments 0)) (λ (line : Line). text.width_in lines (id_at line.arguments 0)) (text.lines_of is_output lines)
+      outputs = map-map (λ (wire : OutputWire). wire.name) (output_wire n) (text.lines_by_rule is_output lines);
+      output_widths = map-map (λ (wire : OutputWire). width_at (widths_of n.net) wire.id) (output_wire n) (text.lines_by_rule is_output lines)
+          ∙ alike (λ (line : Line). width_of n (id_at line.arguments 0)) (λ (line : Line). text.width_in lines (id_at line.arguments 0)) (text.lines_by_rule is_output lines)
           (all-passing is_output (λ (line : Line). width_of n (id_at line.arguments 0) ≡ text.width_in lines (id_at line.arguments 0)) lines
           (λ k d within passes. let id = id_at (get_or lines k d).arguments 0 in (node-at id (text.width_in lines id) (outputs-own k d within passes)).1));
     }
 
     -- the ids of lines, and what is made of them
-    by-ids : {X : Type 0} (f : ℕ → X) (test : Rule → Bool) → map (λ (line : Line). f line.id) (text.lines_of test lines) ≡ map f (text.ids_of test lines)
-    by-ids {X} f test = sym (map-map f (λ (line : Line). line.id) (text.lines_of test lines))
+    by-ids : {X : Type 0} (f : ℕ → X) (test : FormRule → Bool) → map (λ (line : Line). f line.id) (text.lines_by_rule test lines) ≡ map f (text.ids_of test lines)
+    by-ids {X} f test = sym (map-map f (λ (line : Line). line.id) (text.lines_by_rule test lines))
 
     matches : Matches lines wires
     matches = record {
-      firsts = map-map (λ (wire : StateWire). wire.first) (state_wire n constants inits nexts) (text.lines_of is_state lines)
-          ∙ alike (λ (line : Line). first_of n constants (inits line.id) line.id) (λ (line : Line). text.first_values lines line.id) (text.lines_of is_state lines)
-          (all-passing is_state (λ (line : Line). first_of n constants (inits line.id) line.id ≡ text.first_values lines line.id) lines
+      firsts = map-map (λ (wire : StateWire). wire.first) (state_wire n constants inits nexts) (text.lines_by_rule is_state lines)
+          ∙ alike (λ (line : Line). first_of n constants (inits line.id) line.id) (λ (line : Line). text.first_state_values lines line.id) (text.lines_by_rule is_state lines)
+          (all-passing is_state (λ (line : Line). first_of n constants (inits line.id) line.id ≡ text.first_state_values lines line.id) lines
           (λ k d within passes. (first-is (get_or lines k d).id (states-own k d within passes)).0))
-          ∙ by-ids (text.first_values lines) is_state;
+          ∙ by-ids (text.first_state_values lines) is_state;
       nexts = λ step s same.
           let next = text.next_values lines (text.values_at lines step) in
-          map-map (λ (wire : StateWire). value_at (values_of s n.net) wire.next) (state_wire n constants inits nexts) (text.lines_of is_state lines)
-          ∙ alike (λ (line : Line). node_value s n.net (node_of n (unwrap_or (nexts line.id) 0))) (λ (line : Line). next line.id) (text.lines_of is_state lines)
+          map-map (λ (wire : StateWire). value_at (values_of s n.net) wire.next) (state_wire n constants inits nexts) (text.lines_by_rule is_state lines)
+          ∙ alike (λ (line : Line). node_value s n.net (node_of n (unwrap_or (nexts line.id) 0))) (λ (line : Line). next line.id) (text.lines_by_rule is_state lines)
           (all-passing is_state (λ (line : Line). node_value s n.net (node_of n (unwrap_or (nexts line.id) 0)) ≡ next line.id) lines
           (λ k d within passes. (next-is (get_or lines k d) (next-of lines accepted k d within passes)).0 step s same))
           ∙ by-ids next is_state;
       outputs = λ step s same.
-          map-map (λ (wire : OutputWire). value_at (values_of s n.net) wire.id) (output_wire n) (text.lines_of is_output lines)
-          ∙ alike (λ (line : Line). node_value s n.net (node_of n (id_at line.arguments 0))) (λ (line : Line). text.values_at lines step (id_at line.arguments 0)) (text.lines_of is_output lines)
+          map-map (λ (wire : OutputWire). value_at (values_of s n.net) wire.id) (output_wire n) (text.lines_by_rule is_output lines)
+          ∙ alike (λ (line : Line). node_value s n.net (node_of n (id_at line.arguments 0))) (λ (line : Line). text.values_at lines step (id_at line.arguments 0)) (text.lines_by_rule is_output lines)
           (all-passing is_output (λ (line : Line). node_value s n.net (node_of n (id_at line.arguments 0)) ≡ text.values_at lines step (id_at line.arguments 0)) lines
           (λ k d within passes. let id = id_at (get_or lines k d).arguments 0 in node-value-at id (text.width_in lines id) step s (outputs-own k d within passes) same));
     }

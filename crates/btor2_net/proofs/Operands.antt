@@ -20,19 +20,19 @@ use Rattle.btor2_text.specs.Printable.{FitKinds}
 use Rattle.btor2_text.specs.declared.keyword.Keyword.{Keyword}
 use Rattle.btor2_text.specs.declared.keyword.Keyword.TheVariants as keywords
 use Rattle.btor2_text.specs.declared.kind.Base.{Base}
-use Rattle.btor2_text.specs.declared.kind.Kind.{Kind}
-use Rattle.btor2_text.specs.declared.kind.Kind.TheVariants as kinds
+use Rattle.btor2_text.specs.declared.kind.ArgumentKind.{ArgumentKind}
+use Rattle.btor2_text.specs.declared.kind.ArgumentKind.TheVariants as kinds
 use Rattle.btor2_text.specs.declared.line.Argument.{Argument}
 use Rattle.btor2_text.specs.declared.line.Argument.TheVariants as arguments
 use Rattle.btor2_text.specs.declared.line.Line.{Line}
 use Rattle.btor2_model.specs.Acceptance.{names_state, passes}
 use Rattle.btor2_model.specs.Rules.{rule_of, bounds_fit, widths_agree}
 use Rattle.btor2_model.specs.Run.{Values, base_of, binary, constant, extended, operator_value, unary}
-use Rattle.btor2_model.specs.Scope.{Scope, measures, measures_of, width_or_none, width_wanted}
+use Rattle.btor2_model.specs.Scope.{DeclaredIds, measures, measures_of, width_or_none, width_wanted}
 use Rattle.btor2_model.specs.inner.SlowRun.{computes, takes_one, takes_alike, width_by}
 use Rattle.btor2_model.specs.declared.rule.Measures.{Measures}
-use Rattle.btor2_model.specs.declared.rule.Rule.{Rule}
-use Rattle.btor2_model.specs.declared.rule.Rule.TheVariants as forms
+use Rattle.btor2_model.specs.declared.rule.FormRule.{FormRule}
+use Rattle.btor2_model.specs.declared.rule.FormRule.TheVariants as forms
 use Rattle.btor2_model.proofs.Filled.{both, each-measure, passes-at, passes-some, some-same, sort-alone, sort-bounds, sort-number, sort-numeral, sort-one, sort-three, sort-two}
 use Rattle.btor2_model.proofs.KindsByRule.{kinds-by, kinds_by}
 use Rattle.btor2_model.proofs.Conditions.{Meets}
@@ -40,7 +40,7 @@ use Rattle.btor2_net.specs.inner.Nodes.{Numbering, extension, node_at, one_of, o
 use Rattle.btor2_net.specs.inner.Values.{HasNodeOf}
 
 -- what is declared has sorts of 1 to 128 bits, and a node of its width for each value
-pub record Holds (scope : Scope) (n : Numbering) (net : List NetOp) : Type 0 where
+pub record Holds (scope : DeclaredIds) (n : Numbering) (net : List NetOp) : Type 0 where
   pub sorts : (id width : ℕ) → width_wanted kinds.Sort (scope.meanings id) ≡ Some width → (n.sorts id ≡ Some width) × (1 ≤ width) × (width ≤ 128)
   pub widths : (id width : ℕ) → width_wanted kinds.Value (scope.meanings id) ≡ Some width → HasNodeOf n net id width
 
@@ -49,7 +49,7 @@ abbrev pub Follows : Numbering → List BitVector → Values → Type 0
 Follows n values text = (id node : ℕ) → n.nodes id ≡ Some node → value_at values node ≡ text id
 
 -- the operator of a form with these arguments stands, and has this width and the line's value
-pub record Works (scope : Scope) (n : Numbering) (net : List NetOp) (keyword : Keyword) (rule : Rule) (args : List Argument) (width : ℕ) : Type 0 where
+pub record Works (scope : DeclaredIds) (n : Numbering) (net : List NetOp) (keyword : Keyword) (rule : FormRule) (args : List Argument) (width : ℕ) : Type 0 where
   pub op : NetOp
   pub is : op_by n rule keyword args ≡ Some op
   pub stands : Stands (widths_of net) op
@@ -142,16 +142,16 @@ extension-reads : (keyword : Keyword) (node more : ℕ) (inputs states : List �
 extension-reads keywords.Sext node more inputs states = tt
 extension-reads other node more inputs states = tt
 
-computed-width : (rule : Rule) (m : Measures) → computes rule ≡ true → width_or_none rule (Some m) ≡ m.first
+computed-width : (rule : FormRule) (m : Measures) → computes rule ≡ true → width_or_none rule (Some m) ≡ m.first
 computed-width forms.Sort m computed = absurd (cc)
 computed-width other m computed = refl
 
 within : (net : List NetOp) (node : ℕ) → node < length net → node < length (widths_of net)
 within net node inside = omega (arith, length-one_by_one op_width [] net)
 
-module _ (scope : Scope) (n : Numbering) (net : List NetOp) (holds : Holds scope n net) where
+module _ (scope : DeclaredIds) (n : Numbering) (net : List NetOp) (holds : Holds scope n net) where
   -- operators of one operand
-  one-works : (keyword : Keyword) (rule : Rule) (sort a w v : ℕ) → rule_of keyword ≡ rule → takes_one rule ≡ true → width_wanted kinds.Value (scope.meanings a) ≡ Some v → width_by rule v ≡ w
+  one-works : (keyword : Keyword) (rule : FormRule) (sort a w v : ℕ) → rule_of keyword ≡ rule → takes_one rule ≡ true → width_wanted kinds.Value (scope.meanings a) ≡ Some v → width_by rule v ≡ w
       → let args : List Argument = arguments.Id sort ∷ arguments.Id a ∷ [] in op_by n rule keyword args ≡ option_map (λ operator. One operator (node_at n args 1)) (one_of keyword) → Works scope n net keyword rule args w
   one-works keyword rule sort a w v of takes wanted agree by =
       let node = holds.widths a v wanted in
@@ -161,13 +161,13 @@ module _ (scope : Scope) (n : Numbering) (net : List NetOp) (holds : Holds scope
         op = One one.op node.node;
         is = by ∙ some-op (λ operator. One operator (unwrap_or (n.nodes a) 0)) (one_of keyword) one.op one.is ∙ ap (λ (k : ℕ). Some (One one.op k)) at;
         stands = within net node.node node.stands;
-        width_is = ap (one_width one.op) node.width_is ∙ one.width v ∙ ap (λ (r : Rule). width_by r v) of ∙ agree;
+        width_is = ap (one_width one.op) node.width_is ∙ one.width v ∙ ap (λ (r : FormRule). width_by r v) of ∙ agree;
         reads = λ inputs states. tt;
         value = λ s values text follows. ap (one_value one.op) (follows a node.node node.is) ∙ one.value (text a);
       }
 
   -- operators of two operands of one width
-  alike-works : (keyword : Keyword) (rule : Rule) (sort a b v u w : ℕ) → rule_of keyword ≡ rule → takes_alike rule ≡ true → width_wanted kinds.Value (scope.meanings a) ≡ Some v → width_wanted kinds.Value (scope.meanings b) ≡ Some u
+  alike-works : (keyword : Keyword) (rule : FormRule) (sort a b v u w : ℕ) → rule_of keyword ≡ rule → takes_alike rule ≡ true → width_wanted kinds.Value (scope.meanings a) ≡ Some v → width_wanted kinds.Value (scope.meanings b) ≡ Some u
       → v ≡ u → (rule ≡ forms.Boolean → v ≡ 1) → width_by rule v ≡ w
       → let args : List Argument = arguments.Id sort ∷ arguments.Id a ∷ arguments.Id b ∷ [] in op_by n rule keyword args ≡ option_map (λ operator. Two operator (node_at n args 1) (node_at n args 2)) (two_of keyword) → Works scope n net keyword rule args w
   alike-works keyword rule sort a b v u w of takes wanted also same boolean agree by =
@@ -183,7 +183,7 @@ module _ (scope : Scope) (n : Numbering) (net : List NetOp) (holds : Holds scope
           within net y.node y.stands,
           two.takes (width_at (widths_of net) x.node) (width_at (widths_of net) y.node) (x.width_is ∙ same ∙ sym y.width_is) (λ is. x.width_is ∙ boolean (sym of ∙ is)),
         );
-        width_is = ap₂ (two_width two.op) x.width_is y.width_is ∙ two.width v u ∙ ap (λ (r : Rule). width_by r v) of ∙ agree;
+        width_is = ap₂ (two_width two.op) x.width_is y.width_is ∙ two.width v u ∙ ap (λ (r : FormRule). width_by r v) of ∙ agree;
         reads = λ inputs states. tt;
         value = λ s values text follows. ap₂ (two_value two.op) (follows a x.node x.is) (follows b y.node y.is) ∙ two.value (text a) (text b);
       }
@@ -281,7 +281,7 @@ module _ (scope : Scope) (n : Numbering) (net : List NetOp) (holds : Holds scope
       }
 
   -- a line of an operator or a constant, by the rule of its form
-  by-rule : (keyword : Keyword) (rule : Rule) (args : List Argument) (m : Measures) → rule_of keyword ≡ rule → FitKinds (kinds_by rule) args → measures scope (kinds_by rule) args ≡ Some m
+  by-rule : (keyword : Keyword) (rule : FormRule) (args : List Argument) (m : Measures) → rule_of keyword ≡ rule → FitKinds (kinds_by rule) args → measures scope (kinds_by rule) args ≡ Some m
       → widths_agree rule m ≡ true → bounds_fit rule m ≡ true → computes rule ≡ true → Works scope n net keyword rule args m.first
   by-rule keyword forms.Constant args m of fits ms agree bounds computed =
       let (sort, is) = sort-alone args fits in
@@ -371,6 +371,6 @@ module _ (scope : Scope) (n : Numbering) (net : List NetOp) (holds : Holds scope
       let rule = rule_of line.keyword in
       let (m, measured, widths) = passes-some widths_agree rule (measures_of scope line) (both (names_state rule scope line.arguments) (passes widths_agree rule (measures_of scope line)) met.agrees).1 in
       let kinds_are = kinds-by line.keyword in
-      let works = by-rule line.keyword rule line.arguments m refl (subst (λ (ks : List Kind). FitKinds ks line.arguments) kinds_are fits)
-      (ap (λ (ks : List Kind). measures scope ks line.arguments) (sym kinds_are) ∙ measured) widths (passes-at bounds_fit rule (measures_of scope line) m measured met.bounds) computed in
+      let works = by-rule line.keyword rule line.arguments m refl (subst (λ (ks : List ArgumentKind). FitKinds ks line.arguments) kinds_are fits)
+      (ap (λ (ks : List ArgumentKind). measures scope ks line.arguments) (sym kinds_are) ∙ measured) widths (passes-at bounds_fit rule (measures_of scope line) m measured met.bounds) computed in
       subst (Works scope n net line.keyword rule line.arguments) (sym (ap (width_or_none rule) measured ∙ computed-width rule m computed)) works

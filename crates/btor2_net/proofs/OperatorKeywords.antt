@@ -7,22 +7,22 @@ use Rattle.net_graph.specs.declared.node.NetOne.{NetOne}
 use Rattle.net_graph.specs.declared.node.NetOne.TheVariants as ones
 use Rattle.net_graph.specs.declared.node.NetTwo.{NetTwo}
 use Rattle.net_graph.specs.declared.node.NetTwo.TheVariants as twos
-use Rattle.btor2_text.specs.declared.kind.Kind.TheVariants as kinds
+use Rattle.btor2_text.specs.declared.kind.ArgumentKind.TheVariants as kinds
 use Rattle.btor2_model.specs.Rules.{rule_of}
 use Rattle.btor2_model.specs.Run.{binary, unary}
 use Rattle.btor2_model.specs.inner.SlowRun.{computes}
-use Rattle.btor2_model.specs.declared.rule.Rule.{Rule}
-use Rattle.btor2_model.specs.declared.rule.Rule.TheVariants as forms
+use Rattle.btor2_model.specs.declared.rule.FormRule.{FormRule}
+use Rattle.btor2_model.specs.declared.rule.FormRule.TheVariants as forms
 use Rattle.btor2_model.proofs.KindsByRule.{kinds_by}
 use Rattle.btor2_net.specs.Pages.{keyword_of_one, keyword_of_two}
 use Rattle.btor2_net.proofs.Asking.{Agrees, Plain, four}
 use Rattle.btor2_net.proofs.WrittenSorts.{Quiet}
 
 -- the rule of an operator is asked nothing special, and no other loop looks for its lines
-pub record Computes (rule : Rule) : Type 0 where
+pub record Computes (rule : FormRule) : Type 0 where
   pub plain : Plain rule
   pub computed : computes rule ≡ true
-  pub quiet : (test : Rule → Bool) → Quiet test → test rule ≡ false
+  pub quiet : (test : FormRule → Bool) → Quiet test → test rule ≡ false
 
 pub unary-computes : Computes forms.Unary
 unary-computes = record { plain = λ p given. record { state = refl; first = refl; numeral = refl; fixed = refl }; computed = refl; quiet = λ test quiet. quiet.unary }
@@ -53,7 +53,7 @@ chosen-computes = record { plain = λ p given. record { state = refl; first = re
 
 -- the keyword of an operator on one node
 pub record OneKeyword (op : NetOne) : Type 0 where
-  pub rule : Rule
+  pub rule : FormRule
   pub of : rule_of (keyword_of_one op) ≡ rule
   pub form : kinds_by rule ≡ kinds.Sort ∷ kinds.Value ∷ []
   pub computes : Computes rule
@@ -92,7 +92,7 @@ one-keyword ones.RedXor = reduced-keyword ones.RedXor refl (λ v. refl) (λ a. r
 
 -- the keyword of an operator on two nodes
 pub record TwoKeyword (op : NetTwo) : Type 0 where
-  pub rule : Rule
+  pub rule : FormRule
   pub of : rule_of (keyword_of_two op) ≡ rule
   pub form : kinds_by rule ≡ kinds.Sort ∷ kinds.Value ∷ kinds.Value ∷ []
   pub computes : Computes rule

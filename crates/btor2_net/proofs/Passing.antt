@@ -15,22 +15,22 @@ use Rattle.btor2_text.specs.Forms.{kinds_of, radix_of}
 use Rattle.btor2_text.specs.Printable.{FitKinds}
 use Rattle.btor2_text.specs.declared.keyword.Keyword.{Keyword}
 use Rattle.btor2_text.specs.declared.kind.Base.{Base}
-use Rattle.btor2_text.specs.declared.kind.Kind.{Kind}
-use Rattle.btor2_text.specs.declared.kind.Kind.TheVariants as kinds
+use Rattle.btor2_text.specs.declared.kind.ArgumentKind.{ArgumentKind}
+use Rattle.btor2_text.specs.declared.kind.ArgumentKind.TheVariants as kinds
 use Rattle.btor2_text.specs.declared.line.Argument.{Argument}
 use Rattle.btor2_text.specs.declared.line.Argument.TheVariants as arguments
 use Rattle.btor2_text.specs.declared.line.Line.{Line}
 use Rattle.btor2_model.specs.Acceptance.{digits_of, names_state, numeral_fits, passes}
 use Rattle.btor2_model.specs.Rules.{is_input, is_sort, is_state, role_of, rule_of, widths_agree}
-use Rattle.btor2_model.specs.Run.{Step, Values, base_of, operator_value, value_by}
-use Rattle.btor2_model.specs.Scope.{Scope, behind, id_at, meaning_of, measures, measures_of, sort_width, sort_width_in, value_width, width_or_none, width_wanted}
+use Rattle.btor2_model.specs.Run.{StepValues, Values, base_of, operator_value, value_by}
+use Rattle.btor2_model.specs.Scope.{DeclaredIds, behind, id_at, meaning_of, measures, measures_of, sort_width, sort_width_in, value_width, width_or_none, width_wanted}
 use Rattle.btor2_model.specs.SlowRun.{is_constant}
 use Rattle.btor2_model.specs.inner.SlowRun.{computes}
 use Rattle.btor2_model.specs.declared.meaning.Role.{Role}
 use Rattle.btor2_model.specs.declared.meaning.Role.TheVariants as roles
 use Rattle.btor2_model.specs.declared.rule.Measures.{Measures}
-use Rattle.btor2_model.specs.declared.rule.Rule.{Rule}
-use Rattle.btor2_model.specs.declared.rule.Rule.TheVariants as forms
+use Rattle.btor2_model.specs.declared.rule.FormRule.{FormRule}
+use Rattle.btor2_model.specs.declared.rule.FormRule.TheVariants as forms
 use Rattle.btor2_model.proofs.Conditions.{Meets}
 use Rattle.btor2_model.proofs.Filled.{both, each-measure, passes-some, some-same, sort-alone, sort-numeral}
 use Rattle.btor2_model.proofs.Filling.{nothing-there, sort-new}
@@ -41,18 +41,18 @@ use Rattle.btor2_net.proofs.Growth.{Begins, grown, inside-more, node-follows, no
 use Rattle.btor2_net.proofs.Operands.{Follows, Holds, line-works}
 
 -- a rule whose lines have no node, and no value
-pub record IsSilent (rule : Rule) : Type 0 where
+pub record IsSilent (rule : FormRule) : Type 0 where
   pub none : (n : Numbering) (keyword : Keyword) (args : List Argument) → op_by n rule keyword args ≡ None
   pub no_value : (width : ℕ) → value_width (role_of rule) width ≡ None
 
 -- what a line of a rule has for its node
-pub data Having (rule : Rule) : Type 0 where
+pub data Having (rule : FormRule) : Type 0 where
   computed : (is : computes rule ≡ true) → Having rule
   input : (is : rule ≡ forms.Input) → Having rule
   state : (is : rule ≡ forms.State) → Having rule
   silent : (is : IsSilent rule) → Having rule
 
-pub having : (rule : Rule) → Having rule
+pub having : (rule : FormRule) → Having rule
 having forms.Sort = silent (record { none = λ n keyword args. refl; no_value = λ width. refl })
 having forms.Init = silent (record { none = λ n keyword args. refl; no_value = λ width. refl })
 having forms.Next = silent (record { none = λ n keyword args. refl; no_value = λ width. refl })
@@ -69,7 +69,7 @@ pub record Stood (n : Numbering) (net : List NetOp) (line : Line) (width : ℕ) 
   pub stands : Stands (widths_of net) op
   pub width_is : op_width (widths_of net) op ≡ width
 
-constant-rule : (rule : Rule) → is_constant rule ≡ true → rule ≡ forms.Constant
+constant-rule : (rule : FormRule) → is_constant rule ≡ true → rule ≡ forms.Constant
 constant-rule forms.Constant is = refl
 constant-rule other is = absurd (cc)
 
@@ -81,7 +81,7 @@ bitvec-number given fits =
           (rest.2 ∙ ap (λ (a : Argument). a ∷ rest.1) rest.3.2 ∙ ap (λ (as_given : List Argument). arguments.Number rest.3.0 ∷ as_given) rest.4),
     )
 
-by-sort : (rule : Rule) → (rule ≡ forms.Sort) ⊎ ((is_sort rule ≡ false) × ((width : ℕ) → sort_width (role_of rule) width ≡ None))
+by-sort : (rule : FormRule) → (rule ≡ forms.Sort) ⊎ ((is_sort rule ≡ false) × ((width : ℕ) → sort_width (role_of rule) width ≡ None))
 by-sort forms.Sort = inl refl
 by-sort other = inr (refl, λ width. refl)
 
@@ -95,7 +95,7 @@ sort-is roles.Sort v w is = cc
 sort-is other v w is = absurd (cc)
 
 -- an operator or a constant has its operator's value
-computed-value : (rule : Rule) (step : Step) (scope : Scope) (values : Values) (line : Line) → computes rule ≡ true → value_by rule step scope values line ≡ operator_value scope values line.keyword line.arguments
+computed-value : (rule : FormRule) (step : StepValues) (scope : DeclaredIds) (values : Values) (line : Line) → computes rule ≡ true → value_by rule step scope values line ≡ operator_value scope values line.keyword line.arguments
 computed-value forms.Input step scope values line is = absurd (cc)
 computed-value forms.State step scope values line is = absurd (cc)
 computed-value other step scope values line is = refl
@@ -107,8 +107,8 @@ some-from-none : {P : Type 0} (o : Option NetOp) (op : NetOp) → o ≡ None →
 some-from-none {P} o op none some = absurd (cc)
 
 -- what stands behind a line without a fault
-module _ (scope : Scope) (n : Numbering) (net : List NetOp) (holds : Holds scope n net) (line : Line) (met : Meets scope line) (fits : FitKinds (kinds_of line.keyword) line.arguments) where
-  abbrev rule : Rule
+module _ (scope : DeclaredIds) (n : Numbering) (net : List NetOp) (holds : Holds scope n net) (line : Line) (met : Meets scope line) (fits : FitKinds (kinds_of line.keyword) line.arguments) where
+  abbrev rule : FormRule
   rule = rule_of line.keyword
 
   abbrev width : ℕ
@@ -117,16 +117,16 @@ module _ (scope : Scope) (n : Numbering) (net : List NetOp) (holds : Holds scope
   measured : (m : Measures) × (measures scope (kinds_by rule) line.arguments ≡ Some m) × (widths_agree rule m ≡ true) × (width ≡ width_or_none rule (Some m))
   measured =
       let (m, measured, widths) = passes-some widths_agree rule (measures_of scope line) (both (names_state rule scope line.arguments) (passes widths_agree rule (measures_of scope line)) met.agrees).1 in
-      (m, ap (λ (ks : List Kind). measures scope ks line.arguments) (sym (kinds-by line.keyword)) ∙ measured, widths, ap (width_or_none rule) measured)
+      (m, ap (λ (ks : List ArgumentKind). measures scope ks line.arguments) (sym (kinds-by line.keyword)) ∙ measured, widths, ap (width_or_none rule) measured)
 
   -- the sort of a line that has one and no operand
   alone : kinds_by rule ≡ kinds.Sort ∷ [] → (sort w : ℕ) × (line.arguments ≡ arguments.Id sort ∷ []) × (width_wanted kinds.Sort (scope.meanings sort) ≡ Some w) × ((m : Measures) → measures scope (kinds_by rule) line.arguments ≡ Some m → m.first ≡ w)
   alone form =
-      let (sort, is) = sort-alone line.arguments (subst (λ (ks : List Kind). FitKinds ks line.arguments) (kinds-by line.keyword ∙ form) fits) in
+      let (sort, is) = sort-alone line.arguments (subst (λ (ks : List ArgumentKind). FitKinds ks line.arguments) (kinds-by line.keyword ∙ form) fits) in
       let (m, ms, agree, wide) = measured in
       let each = λ (k : Measures) (ks : measures scope (kinds_by rule) line.arguments ≡ Some k).
       (each-measure (width_wanted kinds.Sort (scope.meanings sort)) (Some 0) (Some 0) (Some 0) k
-      (sym (ap (measures scope (kinds.Sort ∷ [])) is) ∙ ap (λ (fs : List Kind). measures scope fs line.arguments) (sym form) ∙ ks)).0 in
+      (sym (ap (measures scope (kinds.Sort ∷ [])) is) ∙ ap (λ (fs : List ArgumentKind). measures scope fs line.arguments) (sym form) ∙ ks)).0 in
       (sort, m.first, is, each m ms, λ k ks. some-same k.first m.first (sym (each k ks) ∙ each m ms))
 
   -- a line of this form names one sort and no more, and its operator is made of that sort's width
@@ -142,11 +142,11 @@ module _ (scope : Scope) (n : Numbering) (net : List NetOp) (holds : Holds scope
 
   pub input-op : rule ≡ forms.Input → (op_of n line ≡ Some (Input n.inputs width)) × (1 ≤ width) × (width ≤ 128)
   input-op is =
-      source (Input n.inputs) (ap kinds_by is) (λ m. ap (λ (r : Rule). width_or_none r (Some m)) is) (ap (λ (r : Rule). op_by n r line.keyword line.arguments) is)
+      source (Input n.inputs) (ap kinds_by is) (λ m. ap (λ (r : FormRule). width_or_none r (Some m)) is) (ap (λ (r : FormRule). op_by n r line.keyword line.arguments) is)
 
   pub state-op : rule ≡ forms.State → (op_of n line ≡ Some (State n.states width)) × (1 ≤ width) × (width ≤ 128)
   state-op is =
-      source (State n.states) (ap kinds_by is) (λ m. ap (λ (r : Rule). width_or_none r (Some m)) is) (ap (λ (r : Rule). op_by n r line.keyword line.arguments) is)
+      source (State n.states) (ap kinds_by is) (λ m. ap (λ (r : FormRule). width_or_none r (Some m)) is) (ap (λ (r : FormRule). op_by n r line.keyword line.arguments) is)
 
   -- each line with a node
   stood-by : Having rule → IsSilent rule ⊎ Stood n net line width
@@ -189,14 +189,14 @@ module _ (scope : Scope) (n : Numbering) (net : List NetOp) (holds : Holds scope
       → (1 ≤ sort_at n line.arguments) × (sort_at n line.arguments ≤ 128) × (numeral_at line.keyword line.arguments < 2 ^ sort_at n line.arguments)
   written-fits base is =
       let form = ap kinds_by is in
-      let (sort, digits, args) = sort-numeral base line.arguments (subst (λ (ks : List Kind). FitKinds ks line.arguments) (kinds-by line.keyword ∙ form) fits) in
+      let (sort, digits, args) = sort-numeral base line.arguments (subst (λ (ks : List ArgumentKind). FitKinds ks line.arguments) (kinds-by line.keyword ∙ form) fits) in
       let (m, ms, agree, wide) = measured in
       let wanted = (each-measure (width_wanted kinds.Sort (scope.meanings sort)) (Some 0) (Some 0) (Some 0) m
-      (sym (ap (measures scope (kinds.Sort ∷ kinds.Numeral base ∷ [])) args) ∙ ap (λ (fs : List Kind). measures scope fs line.arguments) (sym form) ∙ ms)).0 in
+      (sym (ap (measures scope (kinds.Sort ∷ kinds.Numeral base ∷ [])) args) ∙ ap (λ (fs : List ArgumentKind). measures scope fs line.arguments) (sym form) ∙ ms)).0 in
       let k = known-sort sort m.first (ap (λ (given : List Argument). id_at given 0) args) wanted in
-      let written : base_of line.keyword ≡ base = subst (λ (r : Rule). IsBaseOf r (base_of line.keyword)) is (base-by line.keyword) in
+      let written : base_of line.keyword ≡ base = subst (λ (r : FormRule). IsBaseOf r (base_of line.keyword)) is (base-by line.keyword) in
       let digits_are = digits_of (slice_get line.arguments 1) in
-      let small = ltb-true (digits_value (radix_of base) digits_are) (2 ^ sort_width_in scope (id_at line.arguments 0)) (sym (ap (λ (r : Rule). numeral_fits r scope line.arguments) is) ∙ met.numeral) in (
+      let small = ltb-true (digits_value (radix_of base) digits_are) (2 ^ sort_width_in scope (id_at line.arguments 0)) (sym (ap (λ (r : FormRule). numeral_fits r scope line.arguments) is) ∙ met.numeral) in (
         subst (λ (x : ℕ). 1 ≤ x) (sym k.0) k.2,
         subst (λ (x : ℕ). x ≤ 128) (sym k.0) k.3,
         subst (λ (b : Base). digits_value (radix_of b) digits_are < 2 ^ sort_at n line.arguments) (sym written)
@@ -211,10 +211,10 @@ module _ (scope : Scope) (n : Numbering) (net : List NetOp) (holds : Holds scope
   declared-width is =
       let (m, ms, agree, wide) = measured in
       let form = ap kinds_by is in
-      let (k, args) = bitvec-number line.arguments (subst (λ (ks : List Kind). FitKinds ks line.arguments) (kinds-by line.keyword ∙ form) fits) in
+      let (k, args) = bitvec-number line.arguments (subst (λ (ks : List ArgumentKind). FitKinds ks line.arguments) (kinds-by line.keyword ∙ form) fits) in
       let second = (each-measure (Some 0) (Some k) (Some 0) (Some 0) m
-      (sym (ap (measures scope (kinds.Bitvec ∷ kinds.Number ∷ [])) args) ∙ ap (λ (fs : List Kind). measures scope fs line.arguments) (sym form) ∙ ms)).1 in
-      ap (λ (given : List Argument). number_at given 1) args ∙ some-same k m.second second ∙ sym (wide ∙ ap (λ (r : Rule). width_or_none r (Some m)) is)
+      (sym (ap (measures scope (kinds.Bitvec ∷ kinds.Number ∷ [])) args) ∙ ap (λ (fs : List ArgumentKind). measures scope fs line.arguments) (sym form) ∙ ms)).1 in
+      ap (λ (given : List Argument). number_at given 1) args ∙ some-same k m.second second ∙ sym (wide ∙ ap (λ (r : FormRule). width_or_none r (Some m)) is)
 
   -- behind the line
   module _ (m : Numbering) (new : List NetOp) (is_net : IsNet new) (adds : AddsLine line n m net new) (inside : (id node : ℕ) → n.nodes id ≡ Some node → node < length net) where
@@ -268,7 +268,7 @@ module _ (scope : Scope) (n : Numbering) (net : List NetOp) (holds : Holds scope
         by (inl is) =
             let bounds = sort-new rule (measures_of scope line) w met.bounds wanted in
             let wide = sort-is (role_of rule) width w wanted in (
-              ap (λ (f : ℕ → Option ℕ). f id) adds.sorts ∙ ap (λ (r : Rule). cond (is_sort r) (update nat_eq n.sorts line.id (Some (number_at line.arguments 1))) n.sorts id) is
+              ap (λ (f : ℕ → Option ℕ). f id) adds.sorts ∙ ap (λ (r : FormRule). cond (is_sort r) (update nat_eq n.sorts line.id (Some (number_at line.arguments 1))) n.sorts id) is
                   ∙ ap (λ (b : Bool). cond b (Some (number_at line.arguments 1)) (n.sorts id)) here ∙ ap Some (declared-width is ∙ wide),
               bounds.0,
               bounds.1,
@@ -299,7 +299,7 @@ module _ (scope : Scope) (n : Numbering) (net : List NetOp) (holds : Holds scope
     }
 
     -- the value of the line's operator is the line's
-    value-of-op : (op : NetOp) (s : Sources) (values : List BitVector) (step : Step) (before : Values) → op_of n line ≡ Some op → Follows n values before
+    value-of-op : (op : NetOp) (s : Sources) (values : List BitVector) (step : StepValues) (before : Values) → op_of n line ≡ Some op → Follows n values before
         → (is_input rule ≡ true → step.inputs line.id ≡ value_at s.inputs n.inputs) → (is_state rule ≡ true → step.states line.id ≡ value_at s.states n.states) → op_value s values op ≡ value_by rule step scope before line
     value-of-op op s values step before is follows inputs states = by (having rule)
       where
@@ -308,9 +308,9 @@ module _ (scope : Scope) (n : Numbering) (net : List NetOp) (holds : Holds scope
             let w = line-works scope n net holds line met fits sure in
             ap (op_value s values) (some-op-same op w.op (sym is ∙ w.is)) ∙ w.value s values before follows ∙ sym (computed-value rule step scope before line sure)
         by (input sure) =
-            ap (op_value s values) (some-op-same op (Input n.inputs width) (sym is ∙ (input-op sure).0)) ∙ sym (inputs (ap is_input sure)) ∙ sym (ap (λ (r : Rule). value_by r step scope before line) sure)
+            ap (op_value s values) (some-op-same op (Input n.inputs width) (sym is ∙ (input-op sure).0)) ∙ sym (inputs (ap is_input sure)) ∙ sym (ap (λ (r : FormRule). value_by r step scope before line) sure)
         by (state sure) =
-            ap (op_value s values) (some-op-same op (State n.states width) (sym is ∙ (state-op sure).0)) ∙ sym (states (ap is_state sure)) ∙ sym (ap (λ (r : Rule). value_by r step scope before line) sure)
+            ap (op_value s values) (some-op-same op (State n.states width) (sym is ∙ (state-op sure).0)) ∙ sym (states (ap is_state sure)) ∙ sym (ap (λ (r : FormRule). value_by r step scope before line) sure)
         by (silent sure) = some-from-none (op_of n line) op (sure.none n line.keyword line.arguments) is
 
     module _ (absent : (id : ℕ) → scope.meanings id ≡ None → n.nodes id ≡ None) where
@@ -320,7 +320,7 @@ module _ (scope : Scope) (n : Numbering) (net : List NetOp) (holds : Holds scope
       follows-old : (s : Sources) (before : Values) → Follows n (values_of s net) before → Follows n (values_of s new) before
       follows-old s before follows = λ id node is. value-more s net new node begins (inside id node is) ∙ follows id node is
 
-      follows-at : (here : Bool) (s : Sources) (step : Step) (before : Values) (id node : ℕ) → nat_eq line.id id ≡ here → Follows n (values_of s net) before
+      follows-at : (here : Bool) (s : Sources) (step : StepValues) (before : Values) (id node : ℕ) → nat_eq line.id id ≡ here → Follows n (values_of s net) before
           → (is_input rule ≡ true → step.inputs line.id ≡ value_at s.inputs n.inputs) → (is_state rule ≡ true → step.states line.id ≡ value_at s.states n.states)
           → m.nodes id ≡ Some node → node_value s new node ≡ cond here (value_by rule step scope before line) (before id)
       follows-at here s step before id node at follows inputs states is = by stood here at
@@ -341,7 +341,7 @@ module _ (scope : Scope) (n : Numbering) (net : List NetOp) (holds : Holds scope
               follows-old s before follows id node (sym (ap (λ (f : ℕ → Option ℕ). f id) a.2 ∙ ap (λ (b : Bool). cond b (Some a.0) (n.nodes id)) apart) ∙ is)
 
       -- the nodes have the values of the lines with it
-      pub follows-next : (s : Sources) (step : Step) (before : Values) → Follows n (values_of s net) before
+      pub follows-next : (s : Sources) (step : StepValues) (before : Values) → Follows n (values_of s net) before
           → (is_input rule ≡ true → step.inputs line.id ≡ value_at s.inputs n.inputs) → (is_state rule ≡ true → step.states line.id ≡ value_at s.states n.states)
           → Follows m (values_of s new) (λ id. cond (nat_eq line.id id) (value_by rule step scope before line) (before id))
       follows-next s step before follows inputs states = λ id node is. follows-at (nat_eq line.id id) s step before id node refl follows inputs states is

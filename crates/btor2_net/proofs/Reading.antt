@@ -11,13 +11,13 @@ use Rattle.net_graph.specs.Nets.{IsNet, Stands, widths_of}
 use Rattle.net_graph.specs.Values.{AllRead, Sources, values_of}
 use Rattle.net_graph.specs.declared.node.NetOp.{NetOp}
 use Rattle.btor2_text.specs.Printable.{ArePrintable}
-use Rattle.btor2_text.specs.declared.kind.Kind.TheVariants as kinds
+use Rattle.btor2_text.specs.declared.kind.ArgumentKind.TheVariants as kinds
 use Rattle.btor2_text.specs.declared.line.Line.{Line}
 use Rattle.btor2_model.specs.Acceptance.{lines_fault}
 use Rattle.btor2_model.specs.Rules.{is_input, is_state, rule_of}
-use Rattle.btor2_model.specs.Run.{Step, Values, ids_of, lines_of, no_bits, value_by, values_at, values_behind, width_in}
-use Rattle.btor2_model.specs.Scope.{Scope, behind, behind_all, meaning_of, measures_of, no_lines, width_or_none, width_wanted}
-use Rattle.btor2_model.specs.declared.rule.Rule.{Rule}
+use Rattle.btor2_model.specs.Run.{StepValues, Values, ids_of, lines_by_rule, no_bits, value_by, values_at, values_behind, width_in}
+use Rattle.btor2_model.specs.Scope.{DeclaredIds, behind, behind_all, meaning_of, measures_of, no_lines, width_or_none, width_wanted}
+use Rattle.btor2_model.specs.declared.rule.FormRule.{FormRule}
 use Rattle.btor2_model.proofs.Conditions.{Meets, meets}
 use Rattle.btor2_model.proofs.Evaluation.{accepted-next}
 use Rattle.btor2_model.proofs.Filling.{width-of-line}
@@ -28,7 +28,7 @@ use Rattle.btor2_net.proofs.Operands.{Follows, Holds}
 use Rattle.btor2_net.proofs.Passing.{absent-next, follows-next, has-constant, holds-next, inside-next, may-add, reads-next}
 
 -- the lines before this place have their nodes
-pub record Reading (lines : List Line) (place : ℕ) (scope : Scope) (n : Numbering) (net : List NetOp) : Type 0 where
+pub record Reading (lines : List Line) (place : ℕ) (scope : DeclaredIds) (n : Numbering) (net : List NetOp) : Type 0 where
   pub is_net : IsNet net
   pub accepted : lines_fault scope (drop place lines) ≡ None
   pub declared : behind_all no_lines lines ≡ behind_all scope (drop place lines)
@@ -39,11 +39,11 @@ pub record Reading (lines : List Line) (place : ℕ) (scope : Scope) (n : Number
   pub absent : (id : ℕ) → scope.meanings id ≡ None → n.nodes id ≡ None
   pub inside : (id node : ℕ) → n.nodes id ≡ Some node → node < length net
   pub reads : AllRead (widths_in is_input lines) (widths_in is_state lines) net
-  pub values : (step : Step) (s : Sources) → SameStep lines step s → (before : Values) × Follows n (values_of s net) before × (values_at lines step ≡ values_behind step scope before (drop place lines))
+  pub values : (step : StepValues) (s : Sources) → SameStep lines step s → (before : Values) × Follows n (values_of s net) before × (values_at lines step ≡ values_behind step scope before (drop place lines))
 
 -- and what they declare
 abbrev pub Reads : List Line → ℕ → Numbering → List NetOp → Type 0
-Reads lines place n net = (scope : Scope) × Reading lines place scope n net
+Reads lines place n net = (scope : DeclaredIds) × Reading lines place scope n net
 
 no-nodes : IsNet []
 no-nodes = record { stand = tt; constants = λ k d within. absurd (omega arith); distinct = search rules }
@@ -68,13 +68,13 @@ reading-start lines n net fine forms inputs states sorts nodes none = (
 )
 
 -- the ids of lines that pass, where one more line is looked at
-ids-cond : (test : Rule → Bool) (line : Line) (rest : List Line) (b : Bool) → test (rule_of line.keyword) ≡ b
+ids-cond : (test : FormRule → Bool) (line : Line) (rest : List Line) (b : Bool) → test (rule_of line.keyword) ≡ b
     → ids_of test (line ∷ rest) ≡ cond b (line.id ∷ ids_of test rest) (ids_of test rest)
-ids-cond test line rest true is = ap (λ (b : Bool). map (λ (l : Line). l.id) (cond b (line ∷ lines_of test rest) (lines_of test rest))) is
-ids-cond test line rest false is = ap (λ (b : Bool). map (λ (l : Line). l.id) (cond b (line ∷ lines_of test rest) (lines_of test rest))) is
+ids-cond test line rest true is = ap (λ (b : Bool). map (λ (l : Line). l.id) (cond b (line ∷ lines_by_rule test rest) (lines_by_rule test rest))) is
+ids-cond test line rest false is = ap (λ (b : Bool). map (λ (l : Line). l.id) (cond b (line ∷ lines_by_rule test rest) (lines_by_rule test rest))) is
 
-ids-append : (test : Rule → Bool) (a b : List Line) → ids_of test (a ++ b) ≡ ids_of test a ++ ids_of test b
-ids-append test a b = ap (map (λ (l : Line). l.id)) (filter-append (λ (l : Line). test (rule_of l.keyword)) a b) ∙ map-append (λ (l : Line). l.id) (lines_of test a) (lines_of test b)
+ids-append : (test : FormRule → Bool) (a b : List Line) → ids_of test (a ++ b) ≡ ids_of test a ++ ids_of test b
+ids-append test a b = ap (map (λ (l : Line). l.id)) (filter-append (λ (l : Line). test (rule_of l.keyword)) a b) ∙ map-append (λ (l : Line). l.id) (lines_by_rule test a) (lines_by_rule test b)
 
 -- an item behind others is found at their number
 found-behind : (xs ys : List ℕ) (y k : ℕ) → k ≡ length xs → slice_get (xs ++ y ∷ ys) k ≡ Some y
@@ -92,14 +92,14 @@ module _ (lines : List Line) (place : ℕ) (line : Line) (within : place < lengt
   more = take_more lines place line within ∙ ap (λ (l : Line). take place lines ++ l ∷ []) (sym at)
 
   -- a line that passes stands behind those before it
-  number-of : (test : Rule → Bool) (k : ℕ) → test (rule_of line.keyword) ≡ true → k ≡ length (ids_of test (take place lines)) → slice_get (ids_of test lines) k ≡ Some line.id
+  number-of : (test : FormRule → Bool) (k : ℕ) → test (rule_of line.keyword) ≡ true → k ≡ length (ids_of test (take place lines)) → slice_get (ids_of test lines) k ≡ Some line.id
   number-of test k passes is =
       let all : ids_of test lines ≡ ids_of test (take place lines) ++ line.id ∷ ids_of test rest =
       ap (ids_of test) (sym (take-append-drop place lines) ∙ ap (λ (ls : List Line). take place lines ++ ls) here) ∙ ids-append test (take place lines) (line ∷ rest)
       ∙ ap (λ (ids : List ℕ). ids_of test (take place lines) ++ ids) (ids-cond test line rest true passes) in
       ap (λ (ids : List ℕ). slice_get ids k) all ∙ found-behind (ids_of test (take place lines)) (ids_of test rest) line.id k is
 
-  count-next : (test : Rule → Bool) (k : ℕ) (b : Bool) → test (rule_of line.keyword) ≡ b → k ≡ length (ids_of test (take place lines)) → cond b (k + 1) k ≡ length (ids_of test (take (place + 1) lines))
+  count-next : (test : FormRule → Bool) (k : ℕ) (b : Bool) → test (rule_of line.keyword) ≡ b → k ≡ length (ids_of test (take place lines)) → cond b (k + 1) k ≡ length (ids_of test (take (place + 1) lines))
   count-next test k true passes is =
       let ids : ids_of test (take (place + 1) lines) ≡ ids_of test (take place lines) ++ line.id ∷ [] =
       ap (ids_of test) more ∙ ids-append test (take place lines) (line ∷ []) ∙ ap (λ (ids : List ℕ). ids_of test (take place lines) ++ ids) (ids-cond test line [] true passes) in
@@ -109,13 +109,13 @@ module _ (lines : List Line) (place : ℕ) (line : Line) (within : place < lengt
       ap (ids_of test) more ∙ ids-append test (take place lines) (line ∷ []) ∙ ap (λ (ids : List ℕ). ids_of test (take place lines) ++ ids) (ids-cond test line [] false passes) in
       omega (arith, is, ap length ids, length-append (ids_of test (take place lines)) [])
 
-  count-below : (test : Rule → Bool) (k : ℕ) → length (lines_of test lines) < 2 ^ 32 → test (rule_of line.keyword) ≡ true → k ≡ length (ids_of test (take place lines)) → k + 1 < 2 ^ 32
+  count-below : (test : FormRule → Bool) (k : ℕ) → length (lines_by_rule test lines) < 2 ^ 32 → test (rule_of line.keyword) ≡ true → k ≡ length (ids_of test (take place lines)) → k + 1 < 2 ^ 32
   count-below test k few passes is =
       let found = number-of test k passes is in
       let inside = slice_get_within (ids_of test lines) k line.id found in
-      omega (arith, few, inside, length-map (lines_of test lines) (λ (l : Line). l.id))
+      omega (arith, few, inside, length-map (lines_by_rule test lines) (λ (l : Line). l.id))
 
-  module _ (scope : Scope) (n : Numbering) (net : List NetOp) (r : Reading lines place scope n net) where
+  module _ (scope : DeclaredIds) (n : Numbering) (net : List NetOp) (r : Reading lines place scope n net) where
     met : Meets scope line
     met = meets scope line (accepted-next lines place scope line within at r.accepted).0
 
@@ -129,7 +129,7 @@ module _ (lines : List Line) (place : ℕ) (line : Line) (within : place < lengt
     pub has-constant-line : HasConstant n line
     has-constant-line = has-constant scope n net r.holds line met shaped.0.arguments
 
-    pub is-few-line : length (lines_of is_input lines) < 2 ^ 32 → length (lines_of is_state lines) < 2 ^ 32 → IsFew n line
+    pub is-few-line : length (lines_by_rule is_input lines) < 2 ^ 32 → length (lines_by_rule is_state lines) < 2 ^ 32 → IsFew n line
     is-few-line few_inputs few_states = record {
       inputs = λ is. count-below is_input n.inputs few_inputs is r.inputs;
       states = λ is. count-below is_state n.states few_states is r.states;
@@ -148,7 +148,7 @@ module _ (lines : List Line) (place : ℕ) (line : Line) (within : place < lengt
           width-of-line lines rest scope line declared (accepted-next lines place scope line within at r.accepted).1
           (ap (λ (b : Bool). cond b (Some (meaning_of scope line)) (scope.meanings line.id)) (eq-eqb line.id line.id refl))
 
-      width-at : (test : Rule → Bool) (k : ℕ) → test (rule_of line.keyword) ≡ true → k ≡ length (ids_of test (take place lines)) → slice_get (widths_in test lines) k ≡ Some width
+      width-at : (test : FormRule → Bool) (k : ℕ) → test (rule_of line.keyword) ≡ true → k ≡ length (ids_of test (take place lines)) → slice_get (widths_in test lines) k ≡ Some width
       width-at test k passes is =
           slice_get-map (width_in lines) (ids_of test lines) k ∙ ap (option_map (width_in lines)) (number-of test k passes is) ∙ ap Some line-width
 
@@ -187,7 +187,7 @@ reading-end lines place n net is_net reads end =
     let declared : behind_all no_lines lines ≡ scope = r.declared ∙ ap (behind_all scope) none in
     record {
       is_net = is_net;
-      widths = λ id w wanted. r.holds.widths id w (subst (λ (s : Scope). width_wanted kinds.Value (s.meanings id) ≡ Some w) declared wanted);
+      widths = λ id w wanted. r.holds.widths id w (subst (λ (s : DeclaredIds). width_wanted kinds.Value (s.meanings id) ≡ Some w) declared wanted);
       reads = r.reads;
       values = λ step s same id node is.
           let (before, follows, all) = r.values step s same in

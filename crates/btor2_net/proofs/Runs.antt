@@ -29,10 +29,10 @@ use Rattle.btor2_net.proofs.Distinct.{inputs-given, states-given}
 
 -- the circuit begins with the text's states, and in each step its next states and its outputs are the text's
 pub record Matches (lines : List Line) (c : Wires) : Type 0 where
-  pub firsts : wired.first_states c.states ≡ map (text.first_values lines) (text.ids_of is_state lines)
-  pub nexts : (step : text.Step) (s : Sources) → SameStep lines step s → wired.next_states c.states (values_of s c.net) ≡ map (text.next_values lines (text.values_at lines step)) (text.ids_of is_state lines)
-  pub outputs : (step : text.Step) (s : Sources) → SameStep lines step s
-      → wired.outputs_in c.outputs (values_of s c.net) ≡ map (λ (line : Line). text.values_at lines step (id_at line.arguments 0)) (text.lines_of is_output lines)
+  pub firsts : wired.first_states c.states ≡ map (text.first_state_values lines) (text.ids_of is_state lines)
+  pub nexts : (step : text.StepValues) (s : Sources) → SameStep lines step s → wired.next_states c.states (values_of s c.net) ≡ map (text.next_values lines (text.values_at lines step)) (text.ids_of is_state lines)
+  pub outputs : (step : text.StepValues) (s : Sources) → SameStep lines step s
+      → wired.outputs_in c.outputs (values_of s c.net) ≡ map (λ (line : Line). text.values_at lines step (id_at line.arguments 0)) (text.lines_by_rule is_output lines)
 
 -- the flags of values whose widths are known
 flags-by : (value : ℕ → BitVector) (width : ℕ → ℕ) (ids : List ℕ) → map (λ (id : ℕ). (value id).width) ids ≡ map width ids
@@ -61,10 +61,10 @@ module _ (lines : List Line) (c : Wires) (fine : lines_fault no_lines lines ≡ 
 
   -- the ids that outputs name
   abbrev output_ids : List ℕ
-  output_ids = map (λ (line : Line). id_at line.arguments 0) (text.lines_of is_output lines)
+  output_ids = map (λ (line : Line). id_at line.arguments 0) (text.lines_by_rule is_output lines)
 
   widths-named : map (text.width_in lines) output_ids ≡ output_widths lines
-  widths-named = map-map (text.width_in lines) (λ (line : Line). id_at line.arguments 0) (text.lines_of is_output lines)
+  widths-named = map-map (text.width_in lines) (λ (line : Line). id_at line.arguments 0) (text.lines_by_rule is_output lines)
 
   -- the widths of outputs are those of their nodes
   output-values : (values : List BitVector) (outputs : List OutputWire) → map (λ (v : BitVector). v.width) values ≡ widths_of c.net
@@ -77,7 +77,7 @@ module _ (lines : List Line) (c : Wires) (fine : lines_fault no_lines lines ≡ 
     abbrev regs : ℕ → List BitVector
     regs k = map (text.states_at lines inputs k) state_ids
 
-    abbrev step : ℕ → text.Step
+    abbrev step : ℕ → text.StepValues
     step k = record { inputs = text.input_values lines (inputs (k + 1)); states = text.states_at lines inputs k }
 
     abbrev source : ℕ → Sources
@@ -96,7 +96,7 @@ module _ (lines : List Line) (c : Wires) (fine : lines_fault no_lines lines ≡ 
         let all : text.Values = text.values_in lines inputs k in
         let wide = (values-widths (source k) c.net is.net (step_feeds c (inputs (k + 1)) (regs k) is (fits (k + 1)) now)).0 in
         let outputs : wired.outputs_in c.outputs values ≡ map all output_ids =
-        m.outputs (step k) (source k) (same-step k) ∙ sym (map-map all (λ (line : Line). id_at line.arguments 0) (text.lines_of is_output lines)) in
+        m.outputs (step k) (source k) (same-step k) ∙ sym (map-map all (λ (line : Line). id_at line.arguments 0) (text.lines_by_rule is_output lines)) in
         let width_each : map (λ (id : ℕ). (all id).width) output_ids ≡ map (text.width_in lines) output_ids =
         sym (map-map (λ (v : BitVector). v.width) all output_ids) ∙ ap (map (λ (v : BitVector). v.width)) (sym outputs) ∙ output-values values c.outputs wide ∙ has.output_widths ∙ sym widths-named in
         ap wired.flags outputs ∙ flags-by all (text.width_in lines) output_ids width_each
@@ -126,7 +126,7 @@ module _ (lines : List Line) (c : Wires) (fine : lines_fault no_lines lines ≡ 
 
     -- what outputs name has these values in a step
     abbrev outputs-at : ℕ → List BitVector
-    outputs-at k = map (λ (line : Line). text.values_in lines inputs k (id_at line.arguments 0)) (text.lines_of is_output lines)
+    outputs-at k = map (λ (line : Line). text.values_in lines inputs k (id_at line.arguments 0)) (text.lines_by_rule is_output lines)
 
     outputs-are : (n k : ℕ) (outputs : List BitVector) → AreBits (regs k) (state_widths c.states) → (after_steps inputs (suc n) k (moment (regs k) outputs)).outputs ≡ outputs-at (k + n)
     unfolding after_steps
@@ -151,7 +151,7 @@ module _ (lines : List Line) (c : Wires) (fine : lines_fault no_lines lines ≡ 
   abbrev fit : (stimulus : InputVectors) → stimulus.widths ≡ input_widths c.inputs → AlwaysFits stimulus → (k : ℕ) → AreBits (inputs_of stimulus k) (input_widths c.inputs)
   fit stimulus same always k = HaveWidths-AreBits (input_widths c.inputs) (inputs_of stimulus k) (subst (λ (ws : List ℕ). HaveWidths ws (inputs_of stimulus k)) same (always k))
 
-  first-bits : AreBits (map (text.first_values lines) state_ids) (state_widths c.states)
+  first-bits : AreBits (map (text.first_state_values lines) state_ids) (state_widths c.states)
   first-bits = subst (λ (rs : List BitVector). AreBits rs (state_widths c.states)) m.firsts (first_states-AreBits c is)
 
   pub gives-outputs : GivesOutputs lines c

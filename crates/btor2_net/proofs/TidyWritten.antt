@@ -22,14 +22,14 @@ use Rattle.circuit_eval.specs.declared.circuit.OutputWire.{OutputWire}
 use Rattle.circuit_eval.specs.declared.circuit.Wires.{Wires}
 use Rattle.btor2_text.specs.declared.keyword.Keyword.{Keyword}
 use Rattle.btor2_text.specs.declared.keyword.Keyword.TheVariants as keywords
-use Rattle.btor2_text.specs.declared.kind.Kind.TheVariants as kinds
+use Rattle.btor2_text.specs.declared.kind.ArgumentKind.TheVariants as kinds
 use Rattle.btor2_text.specs.declared.line.Argument.{Argument}
 use Rattle.btor2_text.specs.declared.line.Line.{Line}
 use Rattle.btor2_model.specs.Rules.{is_input, is_next, is_output, is_state, rule_of}
-use Rattle.btor2_model.specs.Run.{ids_of, lines_of}
+use Rattle.btor2_model.specs.Run.{ids_of, lines_by_rule}
 use Rattle.btor2_model.specs.Scope.{id_at, no_lines}
-use Rattle.btor2_model.specs.declared.rule.Rule.{Rule}
-use Rattle.btor2_model.specs.declared.rule.Rule.TheVariants as forms
+use Rattle.btor2_model.specs.declared.rule.FormRule.{FormRule}
+use Rattle.btor2_model.specs.declared.rule.FormRule.TheVariants as forms
 use Rattle.btor2_net.specs.Pages as pages
 use Rattle.btor2_net.specs.Pages.{Draft, Page, arguments_of, id_in}
 use Rattle.btor2_net.specs.TidyLines as tidy
@@ -149,19 +149,19 @@ op-has-line other is = refl
 
 -- ---- rules
 
-input-state : (rule : Rule) → is_input rule ≡ true → is_state rule ≡ true → ⊥
+input-state : (rule : FormRule) → is_input rule ≡ true → is_state rule ≡ true → ⊥
 input-state forms.Input is other = cc
 input-state rule is other = cc
 
-input-constant : (rule : Rule) → is_input rule ≡ true → is_any_constant rule ≡ true → ⊥
+input-constant : (rule : FormRule) → is_input rule ≡ true → is_any_constant rule ≡ true → ⊥
 input-constant forms.Input is other = cc
 input-constant rule is other = cc
 
-state-constant : (rule : Rule) → is_state rule ≡ true → is_any_constant rule ≡ true → ⊥
+state-constant : (rule : FormRule) → is_state rule ≡ true → is_any_constant rule ≡ true → ⊥
 state-constant forms.State is other = cc
 state-constant rule is other = cc
 
-operator-constant : (rule : Rule) → is_operator rule ≡ true → is_any_constant rule ≡ true → ⊥
+operator-constant : (rule : FormRule) → is_operator rule ≡ true → is_any_constant rule ≡ true → ⊥
 operator-constant forms.Constant is other = cc
 operator-constant (forms.Numeral base) is other = cc
 operator-constant rule is other = cc
@@ -243,20 +243,20 @@ module _ (c : Wires) (is : IsCircuit c) (tokens : HasTokens c) where
 
   -- ---- the lines at the end
 
-  abbrev lines_by : (Rule → Bool) → List Line
-  lines_by test = lines_of test e.lines
+  abbrev lines_by : (FormRule → Bool) → List Line
+  lines_by test = lines_by_rule test e.lines
 
-  from-nodes : (test : Rule → Bool) → test forms.Sort ≡ false → test forms.Next ≡ false → test forms.Output ≡ false → lines_by test ≡ lines_of test n.page.lines
+  from-nodes : (test : FormRule → Bool) → test forms.Sort ≡ false → test forms.Next ≡ false → test forms.Output ≡ false → lines_by test ≡ lines_by_rule test n.page.lines
   from-nodes test no_sort no_next no_output = (written.has-e c is tokens).same test no_output ∙ (written.has-x c is tokens).same test no_sort no_next
 
   -- a line of this rule and id
-  record HasIdOf (test : Rule → Bool) (id : ℕ) : Type 0 where
+  record HasIdOf (test : FormRule → Bool) (id : ℕ) : Type 0 where
     line : Line
     there : Contains e.lines line
     id_is : line.id ≡ id
     passes : test (rule_of line.keyword) ≡ true
 
-  id-there : (test : Rule → Bool) (id : ℕ) → Contains (ids_of test e.lines) id → HasIdOf test id
+  id-there : (test : FormRule → Bool) (id : ℕ) → Contains (ids_of test e.lines) id → HasIdOf test id
   id-there test id there =
       let at = at-place (ids_of test e.lines) id there in
       let line = mapped (λ (l : Line). l.id) (lines_by test) at.0 id at.1 in
@@ -272,7 +272,7 @@ module _ (c : Wires) (is : IsCircuit c) (tokens : HasTokens c) where
       let places : first.0 ≡ second.0 = omega (arith, counted first.0 a first.1, counted second.0 b second.1, same) in
       some-first a b (sym first.1 ∙ ap (slice_get e.lines) places ∙ second.1)
 
-  not-both : (test other : Rule → Bool) (id : ℕ) → ((rule : Rule) → test rule ≡ true → other rule ≡ true → ⊥) → HasIdOf test id → HasIdOf other id → ⊥
+  not-both : (test other : FormRule → Bool) (id : ℕ) → ((rule : FormRule) → test rule ≡ true → other rule ≡ true → ⊥) → HasIdOf test id → HasIdOf other id → ⊥
   not-both test other id apart one two =
       let same = unique one.line two.line one.there two.there (one.id_is ∙ sym two.id_is) in
       apart (rule_of one.line.keyword) one.passes (ap (λ (l : Line). other (rule_of l.keyword)) same ∙ two.passes)
@@ -325,7 +325,7 @@ module _ (c : Wires) (is : IsCircuit c) (tokens : HasTokens c) where
 
   -- ---- no two nodes have one id
 
-  ids-apart : (test : Rule → Bool) → AreDistinct (ids_of test e.lines)
+  ids-apart : (test : FormRule → Bool) → AreDistinct (ids_of test e.lines)
   ids-apart test = ids-distinct test e.lines no_lines (written.fine c is tokens)
 
   one-input : (first other id : ℕ) → slice_get i.ids first ≡ Some id → slice_get i.ids other ≡ Some id → first ≡ other
@@ -401,7 +401,7 @@ module _ (c : Wires) (is : IsCircuit c) (tokens : HasTokens c) where
 
   -- ---- each operator's line is that of a node
 
-  none-before : lines_of is_operator i.page.lines ≡ []
+  none-before : lines_by_rule is_operator i.page.lines ≡ []
   none-before = (written.has-i c is tokens).same is_operator refl refl ∙ (written.has-s c is tokens).none is_operator (record { sort = refl; numeral = refl; state = refl; init = refl })
 
   node-of : (line : Line) → Contains (lines_by is_operator) line → IsNodeLine n.ids h.new c.net line

@@ -8,16 +8,16 @@ use Rattle.std.specs.Str.Parse.{AllDigits}
 use Rattle.std.proofs.lemmas.Bool.Decides.{eqb_tells}
 use Rattle.std.proofs.lemmas.Option.{slice_get-get_or, slice_get-map}
 use Rattle.std.proofs.lemmas.Fmt.{decimal_is_IsNumeral}
-use Rattle.btor2_text.specs.Printable.{ArePrintable, AreTokens, IsToken, is_plain}
+use Rattle.btor2_text.specs.Printable.{ArePrintable, AreTokens, IsPlainToken, is_plain}
 use Rattle.btor2_text.specs.declared.line.Line.{Line}
 use Rattle.btor2_model.specs.Rules.{is_input, is_output, is_state, rule_of}
-use Rattle.btor2_model.specs.Run.{lines_of}
-use Rattle.btor2_model.specs.declared.rule.Rule.{Rule}
+use Rattle.btor2_model.specs.Run.{lines_by_rule}
+use Rattle.btor2_model.specs.declared.rule.FormRule.{FormRule}
 use Rattle.circuit_eval.specs.declared.circuit.InputWire.{InputWire}
 use Rattle.circuit_eval.specs.declared.circuit.OutputWire.{OutputWire}
 use Rattle.circuit_eval.specs.declared.circuit.StateWire.{StateWire}
 use Rattle.circuit_eval.specs.declared.circuit.Wires.{Wires}
-use Rattle.btor2_net.specs.Translations.{HasLines, HasTokens, name_of, names_of}
+use Rattle.btor2_net.specs.Translations.{HasLines, HasTokens, line_name, names_of}
 
 -- digits end no token
 apart : (b c : ℕ) → digit_value c ≡ 36 → digit_value b < 36 → eqb b c ≡ false
@@ -37,35 +37,35 @@ plain-digits [] all = refl
 plain-digits (d ∷ digits) all = rw (plain-digit d (omega (arith, all.0)), plain-digits digits all.1) refl
 
 -- `n` and an id
-own-name : (id : ℕ) → id < 2 ^ 64 → IsToken (110 ∷ decimal id)
+own-name : (id : ℕ) → id < 2 ^ 64 → IsPlainToken (110 ∷ decimal id)
 own-name id small = record { some_byte = omega arith; plain = plain-digits (decimal id) (decimal_is_IsNumeral id small).0.1 }
 
-name-by : (id : ℕ) (symbol : Option (List ℕ)) (line : Line) → id < 2 ^ 64 → AreTokens (option_to_list symbol) → IsToken (name_of (record line { id = id; symbol = symbol }))
+name-by : (id : ℕ) (symbol : Option (List ℕ)) (line : Line) → id < 2 ^ 64 → AreTokens (option_to_list symbol) → IsPlainToken (line_name (record line { id = id; symbol = symbol }))
 name-by id (Some name) line small are = are.0
 name-by id None line small are = own-name id small
 
 -- the names of lines
-line-name : (line : Line) → line.id < 2 ^ 64 → AreTokens (option_to_list line.symbol) → IsToken (name_of line)
+line-name : (line : Line) → line.id < 2 ^ 64 → AreTokens (option_to_list line.symbol) → IsPlainToken (line_name line)
 line-name line small are = name-by line.id line.symbol line small are
 
 abbrev AllTokens : List (List ℕ) → Type 0
-AllTokens names = (k : ℕ) (name : List ℕ) → slice_get names k ≡ Some name → IsToken name
+AllTokens names = (k : ℕ) (name : List ℕ) → slice_get names k ≡ Some name → IsPlainToken name
 
-one-more : (name : List ℕ) (names : List (List ℕ)) → IsToken name → AllTokens names → AllTokens (name ∷ names)
-one-more name names one all zero other at = let same : name ≡ other = cc in subst IsToken same one
+one-more : (name : List ℕ) (names : List (List ℕ)) → IsPlainToken name → AllTokens names → AllTokens (name ∷ names)
+one-more name names one all zero other at = let same : name ≡ other = cc in subst IsPlainToken same one
 one-more name names one all (suc k) other at = all k other at
 
-names-tokens : (test : Rule → Bool) (lines : List Line) → ArePrintable lines → AllTokens (names_of test lines)
+names-tokens : (test : FormRule → Bool) (lines : List Line) → ArePrintable lines → AllTokens (names_of test lines)
 names-tokens test [] are = λ k name at. absurd (cc)
 names-tokens test (line ∷ lines) are = by (test (rule_of line.keyword)) refl (names-tokens test lines are.1)
   where
     by : (b : Bool) → test (rule_of line.keyword) ≡ b → AllTokens (names_of test lines) → AllTokens (names_of test (line ∷ lines))
     by true is rest =
-        subst AllTokens (sym (ap (λ (b : Bool). map name_of (cond b (line ∷ lines_of test lines) (lines_of test lines))) is))
-        (one-more (name_of line) (names_of test lines) (line-name line are.0.id.1 are.0.symbol) rest)
-    by false is rest = subst AllTokens (sym (ap (λ (b : Bool). map name_of (cond b (line ∷ lines_of test lines) (lines_of test lines))) is)) rest
+        subst AllTokens (sym (ap (λ (b : Bool). map line_name (cond b (line ∷ lines_by_rule test lines) (lines_by_rule test lines))) is))
+        (one-more (line_name line) (names_of test lines) (line-name line are.0.id.1 are.0.symbol) rest)
+    by false is rest = subst AllTokens (sym (ap (λ (b : Bool). map line_name (cond b (line ∷ lines_by_rule test lines) (lines_by_rule test lines))) is)) rest
 
-all-of : {W : Type 0} (name : W → List ℕ) (wires : List W) → AllTokens (map name wires) → All (λ (wire : W). IsToken (name wire)) wires
+all-of : {W : Type 0} (name : W → List ℕ) (wires : List W) → AllTokens (map name wires) → All (λ (wire : W). IsPlainToken (name wire)) wires
 all-of {W} name wires all k d within =
     all k (name (get_or wires k d)) (slice_get-map name wires k ∙ ap (option_map name) (slice_get-get_or wires k d within))
 

@@ -15,16 +15,16 @@ use Rattle.circuit_eval.specs.declared.circuit.OutputWire.{OutputWire}
 use Rattle.circuit_eval.specs.declared.circuit.StateWire.{StateWire}
 use Rattle.circuit_eval.specs.declared.circuit.Wires.{Wires}
 use Rattle.kw_base.specs.declared.fault.Fault.{Fault}
-use Rattle.btor2_text.specs.Printable.{IsToken}
-use Rattle.btor2_text.specs.declared.kind.Kind.TheVariants as kinds
+use Rattle.btor2_text.specs.Printable.{IsPlainToken}
+use Rattle.btor2_text.specs.declared.kind.ArgumentKind.TheVariants as kinds
 use Rattle.btor2_text.specs.declared.line.Line.{Line}
 use Rattle.btor2_model.specs.Acceptance.{IsAccepted, fault_in, first_fault, lacks_next, lines_fault}
 use Rattle.btor2_model.specs.Rules.{is_init, is_input, is_next, is_output, is_state, rule_of}
 use Rattle.btor2_model.specs.Run as text
-use Rattle.btor2_model.specs.Scope.{Scope, id_at, no_lines, width_wanted}
+use Rattle.btor2_model.specs.Scope.{DeclaredIds, id_at, no_lines, width_wanted}
 use Rattle.btor2_net.specs.Pages as pages
 use Rattle.btor2_net.specs.Pages.{Draft, Page, id_in}
-use Rattle.btor2_net.specs.Translations.{AreCounted, GivesOutputs, HasLines, HasTokens, RunsAs, name_of}
+use Rattle.btor2_net.specs.Translations.{AreCounted, GivesOutputs, HasLines, HasTokens, RunsAs, line_name}
 use Rattle.btor2_net.specs.inner.Values.{AreGiven, SameStep}
 use Rattle.btor2_net.proofs.Adding.{scope_of}
 use Rattle.btor2_model.proofs.Declared.{width-is}
@@ -56,14 +56,14 @@ pairs-from {A} {B} P (x ∷ xs) (y ∷ ys) count each = (each 0 x y refl refl, p
 
 -- the ids of states where one more line is looked at
 ids-with : Line → List Line → Bool → List ℕ
-ids-with line lines b = map (λ (l : Line). l.id) (cond b (line ∷ text.lines_of is_state lines) (text.lines_of is_state lines))
+ids-with line lines b = map (λ (l : Line). l.id) (cond b (line ∷ text.lines_by_rule is_state lines) (text.lines_by_rule is_state lines))
 
 passes : (continued : Bool) → continued ≡ true → (true && not continued) ≡ false
 passes true is = refl
 passes false is = absurd (cc)
 
 -- each state of the lines has a `next`
-none-lacks : (end : Scope) (lines : List Line) → ((k id : ℕ) → slice_get (text.ids_of is_state lines) k ≡ Some id → end.continued id ≡ true) → find (lacks_next end) lines ≡ None
+none-lacks : (end : DeclaredIds) (lines : List Line) → ((k id : ℕ) → slice_get (text.ids_of is_state lines) k ≡ Some id → end.continued id ≡ true) → find (lacks_next end) lines ≡ None
 unfolding ids-with
 none-lacks end [] all = refl
 none-lacks end (line ∷ lines) all = by (is_state (rule_of line.keyword)) refl (none-lacks end lines)
@@ -90,7 +90,7 @@ module _ (c : Wires) (is : IsCircuit c) (tokens : HasTokens c) where
   pub has-s : states.HasStates s c.states
   has-s =
       states.has-states (record { page = pages.blank; ids = [] }) [] c.states states.no-states
-      (λ k wire at. ((one-of-all (IsState c.net) c.states k wire is.states at).first, one-of-all (λ (w : StateWire). IsToken w.name) c.states k wire tokens.states at))
+      (λ k wire at. ((one-of-all (IsState c.net) c.states k wire is.states at).first, one-of-all (λ (w : StateWire). IsPlainToken w.name) c.states k wire tokens.states at))
 
   -- the inputs
   abbrev i : Draft
@@ -102,10 +102,10 @@ module _ (c : Wires) (is : IsCircuit c) (tokens : HasTokens c) where
   pub has-i : ins.HasInputs s.page i c.inputs
   has-i =
       ins.has-inputs s.page (record { page = s.page; ids = [] }) [] c.inputs (ins.no-inputs s.page has-s.good (has-s.none is_input no-input))
-      (λ k wire at. let bounds = one-of-all IsInput c.inputs k wire is.inputs at in record { some = bounds.0; most = bounds.1; token = one-of-all (λ (w : InputWire). IsToken w.name) c.inputs k wire tokens.inputs at })
+      (λ k wire at. let bounds = one-of-all IsInput c.inputs k wire is.inputs at in record { some = bounds.0; most = bounds.1; token = one-of-all (λ (w : InputWire). IsPlainToken w.name) c.inputs k wire tokens.inputs at })
 
-  inits-i : text.lines_of is_init i.page.lines ≡ text.lines_of is_init s.page.lines ++ []
-  inits-i = has-i.same is_init refl refl ∙ sym (append-nil (text.lines_of is_init s.page.lines))
+  inits-i : text.lines_by_rule is_init i.page.lines ≡ text.lines_by_rule is_init s.page.lines ++ []
+  inits-i = has-i.same is_init refl refl ∙ sym (append-nil (text.lines_by_rule is_init s.page.lines))
 
   pub states-i : Pairs (IsStateOn i.page) s.ids c.states
   states-i = pairs-weaker (IsStateOn s.page) (IsStateOn i.page) s.ids c.states (λ id wire on. states.state-stays s.page i.page [] id wire has-i.keeps inits-i on) has-s.states
@@ -114,7 +114,7 @@ module _ (c : Wires) (is : IsCircuit c) (tokens : HasTokens c) where
   abbrev n : Draft
   n = pages.nodes_of c
 
-  pub input-sources : nodes.AreSources c.net is.net i.ids s.ids i.page i.ids (λ (step : text.Step). step.inputs) (input_widths c.inputs)
+  pub input-sources : nodes.AreSources c.net is.net i.ids s.ids i.page i.ids (λ (step : text.StepValues). step.inputs) (input_widths c.inputs)
   input-sources number width reads =
       let w = mapped (λ (wire : InputWire). wire.width) c.inputs number width reads in
       let p = pairs-at (ins.IsInputOn i.page) i.ids c.inputs number w.0 has-i.inputs w.1 in
@@ -125,7 +125,7 @@ module _ (c : Wires) (is : IsCircuit c) (tokens : HasTokens c) where
         value = λ step. subst (λ (k : ℕ). text.values_at i.page.lines step k ≡ step.inputs k) id (p.2.value step);
       }
 
-  pub state-sources : nodes.AreSources c.net is.net i.ids s.ids i.page s.ids (λ (step : text.Step). step.states) (state_widths c.states)
+  pub state-sources : nodes.AreSources c.net is.net i.ids s.ids i.page s.ids (λ (step : text.StepValues). step.states) (state_widths c.states)
   state-sources number width reads =
       let w = mapped (λ (wire : StateWire). wire.width) c.states number width reads in
       let p = pairs-at (IsStateOn i.page) s.ids c.states number w.0 states-i w.1 in
@@ -175,7 +175,7 @@ module _ (c : Wires) (is : IsCircuit c) (tokens : HasTokens c) where
   no-next : NoState is_next
   no-next = record { sort = refl; numeral = refl; state = refl; init = refl }
 
-  pub nexts-before : text.lines_of is_next n.page.lines ≡ []
+  pub nexts-before : text.lines_by_rule is_next n.page.lines ≡ []
   nexts-before = has-n.same is_next quiet-next ∙ has-i.same is_next refl refl ∙ has-s.none is_next no-next
 
   pub has-x : ends.HasNexts n.ids s.ids distinct c.states n.page x (0 + length c.states)
@@ -197,7 +197,7 @@ module _ (c : Wires) (is : IsCircuit c) (tokens : HasTokens c) where
       (ends.no-outputs n.ids x has-x.good (has-x.same is_output refl refl ∙ has-n.same is_output quiet-output ∙ has-i.same is_output refl refl ∙ has-s.none is_output no-output))
       (λ k wire at.
       let node = node-n wire.id (one-of-all (IsOutput c.net) c.outputs k wire is.outputs at) in
-      record { width = width_at ws wire.id; value = names-keep kinds.Value n.page x (id_in n.ids wire.id) (width_at ws wire.id) has-x.keeps node.named; token = one-of-all (λ (w : OutputWire). IsToken w.name) c.outputs k wire tokens.outputs at })
+      record { width = width_at ws wire.id; value = names-keep kinds.Value n.page x (id_in n.ids wire.id) (width_at ws wire.id) has-x.keeps node.named; token = one-of-all (λ (w : OutputWire). IsPlainToken w.name) c.outputs k wire tokens.outputs at })
 
   -- what stands at the end
   from-n : Keeps n.page e
@@ -212,13 +212,13 @@ module _ (c : Wires) (is : IsCircuit c) (tokens : HasTokens c) where
   node-e : (node : ℕ) → node < length c.net → nodes.IsNodeOn c.net is.net i.ids s.ids e (id_in n.ids node) node
   node-e node within = nodes.node-stays c.net is.net i.ids s.ids n.page e (id_in n.ids node) node from-n (node-n node within)
 
-  inits-e : text.lines_of is_init e.lines ≡ text.lines_of is_init s.page.lines ++ []
+  inits-e : text.lines_by_rule is_init e.lines ≡ text.lines_by_rule is_init s.page.lines ++ []
   inits-e = has-e.same is_init refl ∙ has-x.same is_init refl refl ∙ has-n.same is_init states.quiet-init ∙ inits-i
 
-  states-are : text.lines_of is_state e.lines ≡ text.lines_of is_state s.page.lines
+  states-are : text.lines_by_rule is_state e.lines ≡ text.lines_by_rule is_state s.page.lines
   states-are = has-e.same is_state refl ∙ has-x.same is_state refl refl ∙ has-n.same is_state states.quiet-state ∙ has-i.same is_state refl refl
 
-  inputs-are : text.lines_of is_input e.lines ≡ text.lines_of is_input i.page.lines
+  inputs-are : text.lines_by_rule is_input e.lines ≡ text.lines_by_rule is_input i.page.lines
   inputs-are = has-e.same is_input refl ∙ has-x.same is_input refl refl ∙ has-n.same is_input quiet-input
 
   pub state-ids : text.ids_of is_state e.lines ≡ s.ids
@@ -244,7 +244,7 @@ module _ (c : Wires) (is : IsCircuit c) (tokens : HasTokens c) where
       (λ k id wire one two.
       let inside : k < 0 + length c.states = omega (arith, slice_get_within c.states k wire two) in
       let same : id_in s.ids k ≡ id = get_or_from_slice_get s.ids k id 0 one in
-      let all : text.lines_of is_next e.lines ≡ text.lines_of is_next x.lines ++ [] = has-e.same is_next refl ∙ sym (append-nil (text.lines_of is_next x.lines)) in
+      let all : text.lines_by_rule is_next e.lines ≡ text.lines_by_rule is_next x.lines ++ [] = has-e.same is_next refl ∙ sym (append-nil (text.lines_by_rule is_next x.lines)) in
       record {
         next = subst (λ (j : ℕ). ends.IsNextOn e j (id_in n.ids wire.next)) same (ends.next-stays x e [] (id_in s.ids k) (id_in n.ids wire.next) all (has-x.before k wire inside two));
         within = (one-of-all (IsState c.net) c.states k wire is.states two).next;
@@ -257,7 +257,7 @@ module _ (c : Wires) (is : IsCircuit c) (tokens : HasTokens c) where
   goes-on k id at =
       let here : slice_get s.ids k ≡ Some id = sym (ap (λ (ids : List ℕ). slice_get ids k) state-ids) ∙ at in
       let on = pairs-first GoesOn s.ids c.states k id nexts-e here in
-      ap (λ (f : ℕ → Bool). f id) (continued-by e.lines no_lines) ∙ was-set (text.lines_of is_next e.lines) (λ _. false) id on.1.next.set on.1.next.found
+      ap (λ (f : ℕ → Bool). f id) (continued-by e.lines no_lines) ∙ was-set (text.lines_by_rule is_next e.lines) (λ _. false) id on.1.next.set on.1.next.found
 
   no-fault : first_fault e.lines ≡ None
   no-fault =
@@ -273,39 +273,39 @@ module _ (c : Wires) (is : IsCircuit c) (tokens : HasTokens c) where
   -- names and widths
   has-lines : HasLines e.lines c
   has-lines = record {
-    inputs = sym (ap (map name_of) inputs-are ∙ has-i.names);
+    inputs = sym (ap (map line_name) inputs-are ∙ has-i.names);
     input_widths = sym (ap (map (text.width_in e.lines)) input-ids
         ∙ pairs-map (ins.IsInputOn e) (text.width_in e.lines) (λ (wire : InputWire). wire.width) i.ids c.inputs (λ id wire on. width-e id wire.width on.named) inputs-e);
-    states = sym (ap (map name_of) states-are ∙ has-s.names);
+    states = sym (ap (map line_name) states-are ∙ has-s.names);
     state_widths = sym (ap (map (text.width_in e.lines)) state-ids
         ∙ pairs-map (IsStateOn e) (text.width_in e.lines) (λ (wire : StateWire). wire.width) s.ids c.states (λ id wire on. width-e id wire.width (ap (width_wanted kinds.Value) on.means)) states-e);
     outputs = sym has-e.names;
-    output_widths = sym (sym (map-map (text.width_in e.lines) (λ (line : Line). id_at line.arguments 0) (text.lines_of is_output e.lines)) ∙ ap (map (text.width_in e.lines)) has-e.ids
+    output_widths = sym (sym (map-map (text.width_in e.lines) (λ (line : Line). id_at line.arguments 0) (text.lines_by_rule is_output e.lines)) ∙ ap (map (text.width_in e.lines)) has-e.ids
         ∙ map-map (text.width_in e.lines) (λ (wire : OutputWire). id_in n.ids wire.id) c.outputs
         ∙ map-each (λ (wire : OutputWire). text.width_in e.lines (id_in n.ids wire.id)) (λ (wire : OutputWire). width_at ws wire.id) c.outputs
         (λ k wire at. width-e (id_in n.ids wire.id) (width_at ws wire.id) (node-e wire.id (one-of-all (IsOutput c.net) c.outputs k wire is.outputs at)).named));
   }
 
   -- what a step gives the ids
-  given-inputs : (step : text.Step) (sources : Sources) → SameStep e.lines step sources → AreGiven i.ids step.inputs sources.inputs
+  given-inputs : (step : text.StepValues) (sources : Sources) → SameStep e.lines step sources → AreGiven i.ids step.inputs sources.inputs
   given-inputs step sources same = subst (λ (ids : List ℕ). AreGiven ids step.inputs sources.inputs) input-ids same.inputs
 
-  given-states : (step : text.Step) (sources : Sources) → SameStep e.lines step sources → AreGiven s.ids step.states sources.states
+  given-states : (step : text.StepValues) (sources : Sources) → SameStep e.lines step sources → AreGiven s.ids step.states sources.states
   given-states step sources same = subst (λ (ids : List ℕ). AreGiven ids step.states sources.states) state-ids same.states
 
   -- a node's value
-  value-e : (step : text.Step) (sources : Sources) → SameStep e.lines step sources → (node : ℕ) → node < length c.net → text.values_at e.lines step (id_in n.ids node) ≡ node_value sources c.net node
+  value-e : (step : text.StepValues) (sources : Sources) → SameStep e.lines step sources → (node : ℕ) → node < length c.net → text.values_at e.lines step (id_in n.ids node) ≡ node_value sources c.net node
   value-e step sources same node within = (node-e node within).value step sources (given-inputs step sources same) (given-states step sources same)
 
   abbrev nothing : text.Values
   nothing = text.values_at e.lines (record { inputs = λ _. text.no_bits; states = λ _. text.no_bits })
 
-  first-of : (id : ℕ) (wire : StateWire) → IsStateOn e id wire → text.first_values e.lines id ≡ wire.first
+  first-of : (id : ℕ) (wire : StateWire) → IsStateOn e id wire → text.first_state_values e.lines id ≡ wire.first
   first-of id wire on =
       ap (λ (o : Option Line). unwrap_or (option_map (λ (line : Line). nothing (id_at line.arguments 2)) o) (zero_at (text.width_in e.lines id))) on.found
       ∙ on.gives (record { inputs = λ _. text.no_bits; states = λ _. text.no_bits })
 
-  next-of : (step : text.Step) (sources : Sources) → SameStep e.lines step sources → (id : ℕ) (wire : StateWire) → GoesOn id wire
+  next-of : (step : text.StepValues) (sources : Sources) → SameStep e.lines step sources → (id : ℕ) (wire : StateWire) → GoesOn id wire
       → text.next_values e.lines (text.values_at e.lines step) id ≡ value_at (values_of sources c.net) wire.next
   next-of step sources same id wire on =
       ap (λ (o : Option Line). unwrap_or (option_map (λ (line : Line). text.values_at e.lines step (id_at line.arguments 2)) o) text.no_bits) on.next.found
@@ -313,10 +313,10 @@ module _ (c : Wires) (is : IsCircuit c) (tokens : HasTokens c) where
 
   matches : Matches e.lines c
   matches = record {
-    firsts = sym (ap (map (text.first_values e.lines)) state-ids ∙ pairs-map (IsStateOn e) (text.first_values e.lines) (λ (wire : StateWire). wire.first) s.ids c.states first-of states-e);
+    firsts = sym (ap (map (text.first_state_values e.lines)) state-ids ∙ pairs-map (IsStateOn e) (text.first_state_values e.lines) (λ (wire : StateWire). wire.first) s.ids c.states first-of states-e);
     nexts = λ step sources same. sym (ap (map (text.next_values e.lines (text.values_at e.lines step))) state-ids
         ∙ pairs-map GoesOn (text.next_values e.lines (text.values_at e.lines step)) (λ (wire : StateWire). value_at (values_of sources c.net) wire.next) s.ids c.states (next-of step sources same) nexts-e);
-    outputs = λ step sources same. sym (sym (map-map (text.values_at e.lines step) (λ (line : Line). id_at line.arguments 0) (text.lines_of is_output e.lines)) ∙ ap (map (text.values_at e.lines step)) has-e.ids
+    outputs = λ step sources same. sym (sym (map-map (text.values_at e.lines step) (λ (line : Line). id_at line.arguments 0) (text.lines_by_rule is_output e.lines)) ∙ ap (map (text.values_at e.lines step)) has-e.ids
         ∙ map-map (text.values_at e.lines step) (λ (wire : OutputWire). id_in n.ids wire.id) c.outputs
         ∙ map-each (λ (wire : OutputWire). text.values_at e.lines step (id_in n.ids wire.id)) (λ (wire : OutputWire). value_at (values_of sources c.net) wire.id) c.outputs
         (λ k wire at. value-e step sources same wire.id (one-of-all (IsOutput c.net) c.outputs k wire is.outputs at)));

@@ -8,20 +8,20 @@ use Rattle.std.proofs.lemmas.List.{map-append}
 use Rattle.std.proofs.lemmas.List.Folds.{find-append}
 use Rattle.circuit_eval.specs.declared.circuit.OutputWire.{OutputWire}
 use Rattle.circuit_eval.specs.declared.circuit.StateWire.{StateWire}
-use Rattle.btor2_text.specs.Printable.{IsToken}
+use Rattle.btor2_text.specs.Printable.{IsPlainToken}
 use Rattle.btor2_text.specs.declared.keyword.Keyword.TheVariants as keywords
-use Rattle.btor2_text.specs.declared.kind.Kind.TheVariants as kinds
+use Rattle.btor2_text.specs.declared.kind.ArgumentKind.TheVariants as kinds
 use Rattle.btor2_text.specs.declared.line.Argument.{Argument}
 use Rattle.btor2_text.specs.declared.line.Argument.TheVariants as arguments
 use Rattle.btor2_text.specs.declared.line.Line.{Line}
 use Rattle.btor2_model.specs.Acceptance.{stands_for_state}
 use Rattle.btor2_model.specs.Rules.{is_next, is_output}
-use Rattle.btor2_model.specs.Run.{lines_of}
+use Rattle.btor2_model.specs.Run.{lines_by_rule}
 use Rattle.btor2_model.specs.Scope.{id_at, no_lines, width_wanted}
-use Rattle.btor2_model.specs.declared.rule.Rule.{Rule}
-use Rattle.btor2_model.specs.declared.rule.Rule.TheVariants as forms
+use Rattle.btor2_model.specs.declared.rule.FormRule.{FormRule}
+use Rattle.btor2_model.specs.declared.rule.FormRule.TheVariants as forms
 use Rattle.btor2_net.specs.Pages.{Page, arguments_of, id_in, line_on, sort_id, with_next, with_nexts, with_output, with_outputs, with_sort}
-use Rattle.btor2_net.specs.Translations.{name_of}
+use Rattle.btor2_net.specs.Translations.{line_name}
 use Rattle.btor2_net.proofs.Adding.{Asked, scope_of}
 use Rattle.btor2_net.proofs.Asking.{asked-one, asked-three, four, sort-given, value-given}
 use Rattle.btor2_net.proofs.Distinct.{AreDistinct}
@@ -37,13 +37,13 @@ both-true false b first second = absurd (cc)
 -- the `next` of a state names this value
 pub record IsNextOn (p : Page) (state value : ℕ) : Type 0 where
   pub set : Line
-  pub found : find (set_of state) (lines_of is_next p.lines) ≡ Some set
+  pub found : find (set_of state) (lines_by_rule is_next p.lines) ≡ Some set
   pub named : id_at set.arguments 2 ≡ value
 
-pub next-stays : (p q : Page) (more : List Line) (state value : ℕ) → lines_of is_next q.lines ≡ lines_of is_next p.lines ++ more → IsNextOn p state value → IsNextOn q state value
+pub next-stays : (p q : Page) (more : List Line) (state value : ℕ) → lines_by_rule is_next q.lines ≡ lines_by_rule is_next p.lines ++ more → IsNextOn p state value → IsNextOn q state value
 next-stays p q more state value adds on = record {
   set = on.set;
-  found = ap (find (set_of state)) adds ∙ find-append (set_of state) (lines_of is_next p.lines) more ∙ ap (λ (o : Option Line). option_or o (find (set_of state) more)) on.found;
+  found = ap (find (set_of state)) adds ∙ find-append (set_of state) (lines_by_rule is_next p.lines) more ∙ ap (λ (o : Option Line). option_or o (find (set_of state) more)) on.found;
   named = on.named;
 }
 
@@ -69,9 +69,9 @@ module _ (nodes states : List ℕ) (distinct : AreDistinct states) where
   pub record HasNexts (wires : List StateWire) (p q : Page) (number : ℕ) : Type 0 where
     pub good : Good q
     pub keeps : Keeps p q
-    pub same : (test : Rule → Bool) → test forms.Sort ≡ false → test forms.Next ≡ false → lines_of test q.lines ≡ lines_of test p.lines
+    pub same : (test : FormRule → Bool) → test forms.Sort ≡ false → test forms.Next ≡ false → lines_by_rule test q.lines ≡ lines_by_rule test p.lines
     pub before : (j : ℕ) (wire : StateWire) → j < number → slice_get wires j ≡ Some wire → IsNextOn q (id_in states j) (id_in nodes wire.next)
-    pub after : (j id : ℕ) → number ≤ j → slice_get states j ≡ Some id → find (set_of id) (lines_of is_next q.lines) ≡ None
+    pub after : (j id : ℕ) → number ≤ j → slice_get states j ≡ Some id → find (set_of id) (lines_by_rule is_next q.lines) ≡ None
 
   -- one more
   module _ (wires : List StateWire) (p q : Page) (number : ℕ) (wire : StateWire) (h : HasNexts wires p q number) (may : MayGoOn q number wire) (at : slice_get wires number ≡ Some wire) where
@@ -96,7 +96,7 @@ module _ (nodes states : List ℕ) (distinct : AreDistinct states) where
     abbrev new : Page
     new = with_next nodes q wire state
 
-    nexts-before : HasSort q one w → find (set_of state) (lines_of is_next one.lines) ≡ None
+    nexts-before : HasSort q one w → find (set_of state) (lines_by_rule is_next one.lines) ≡ None
     nexts-before s = ap (find (set_of state)) (s.same is_next refl) ∙ h.after number state (omega arith) may.at
 
     asked : HasSort q one w → Asked one forms.Next keywords.Next given (four w w w 0)
@@ -107,7 +107,7 @@ module _ (nodes states : List ℕ) (distinct : AreDistinct states) where
         (record {
           state = ap stands_for_state on.state;
           first = not-so ((scope_of one).continued state)
-              (ap (λ (f : ℕ → Bool). f state) (continued-by one.lines no_lines) ∙ unset (lines_of is_next one.lines) (λ _. false) state refl (nexts-before s));
+              (ap (λ (f : ℕ → Bool). f state) (continued-by one.lines no_lines) ∙ unset (lines_by_rule is_next one.lines) (λ _. false) state refl (nexts-before s));
           numeral = refl;
           fixed = refl;
         })
@@ -116,14 +116,14 @@ module _ (nodes states : List ℕ) (distinct : AreDistinct states) where
     l : HasLine q one new w line forms.Next (four w w w 0)
     l = has-line q w keywords.Next (state ∷ value ∷ []) [] None forms.Next (four w w w 0) h.good may.some may.most asked tt (λ is. absurd (cc))
 
-    nexts : lines_of is_next new.lines ≡ lines_of is_next q.lines ++ line ∷ []
+    nexts : lines_by_rule is_next new.lines ≡ lines_by_rule is_next q.lines ++ line ∷ []
     nexts = l.picked is_next ∙ ap (λ (ls : List Line). ls ++ line ∷ []) (l.sorted.same is_next refl)
 
     -- this state's
     here : IsNextOn new state value
     here = record {
       set = line;
-      found = ap (find (set_of state)) (l.picked is_next) ∙ find-append (set_of state) (lines_of is_next one.lines) (line ∷ []) ∙ ap (λ (o : Option Line). option_or o (find (set_of state) (line ∷ []))) (nexts-before l.sorted)
+      found = ap (find (set_of state)) (l.picked is_next) ∙ find-append (set_of state) (lines_by_rule is_next one.lines) (line ∷ []) ∙ ap (λ (o : Option Line). option_or o (find (set_of state) (line ∷ []))) (nexts-before l.sorted)
           ∙ ap (λ (b : Bool). cond b (Some line) None) (eq-eqb state state refl);
       named = refl;
     }
@@ -139,10 +139,10 @@ module _ (nodes states : List ℕ) (distinct : AreDistinct states) where
             let one_wire : wire ≡ other = cc in
             subst (λ (i : ℕ). IsNextOn new (id_in states i) (id_in nodes other.next)) same (subst (λ (x : StateWire). IsNextOn new state (id_in nodes x.next)) one_wire here)
 
-    later : (j id : ℕ) → number + 1 ≤ j → slice_get states j ≡ Some id → find (set_of id) (lines_of is_next new.lines) ≡ None
+    later : (j id : ℕ) → number + 1 ≤ j → slice_get states j ≡ Some id → find (set_of id) (lines_by_rule is_next new.lines) ≡ None
     unfolding AreDistinct
     later j id behind found =
-        ap (find (set_of id)) nexts ∙ find-append (set_of id) (lines_of is_next q.lines) (line ∷ [])
+        ap (find (set_of id)) nexts ∙ find-append (set_of id) (lines_by_rule is_next q.lines) (line ∷ [])
         ∙ ap (λ (o : Option Line). option_or o (find (set_of id) (line ∷ []))) (h.after j id (omega (arith, behind)) found) ∙ ap (λ (b : Bool). cond b (Some line) None) (by (nat_eq id state) refl)
       where
         by : (b : Bool) → nat_eq id state ≡ b → nat_eq id state ≡ false
@@ -153,7 +153,7 @@ module _ (nodes states : List ℕ) (distinct : AreDistinct states) where
     one-next = record {
       good = l.good;
       keeps = keeps-both p q new h.keeps l.keeps;
-      same = λ test no_sort no_next. l.picked test ∙ ap (λ (b : Bool). lines_of test one.lines ++ cond b (line ∷ []) []) no_next ∙ append-nil (lines_of test one.lines) ∙ l.sorted.same test no_sort
+      same = λ test no_sort no_next. l.picked test ∙ ap (λ (b : Bool). lines_by_rule test one.lines ++ cond b (line ∷ []) []) no_next ∙ append-nil (lines_by_rule test one.lines) ∙ l.sorted.same test no_sort
           ∙ h.same test no_sort no_next;
       before = earlier;
       after = later;
@@ -172,7 +172,7 @@ module _ (nodes states : List ℕ) (distinct : AreDistinct states) where
       (λ j other found. let turn : number + suc j ≡ (number + 1) + j = omega arith in subst (λ (i : ℕ). slice_get wires i ≡ Some other) turn (places (suc j) other found)) may)
 
   -- none yet
-  pub no-nexts : (wires : List StateWire) (p : Page) → Good p → lines_of is_next p.lines ≡ [] → HasNexts wires p p 0
+  pub no-nexts : (wires : List StateWire) (p : Page) → Good p → lines_by_rule is_next p.lines ≡ [] → HasNexts wires p p 0
   no-nexts wires p g none = record {
     good = g;
     keeps = keeps-all p;
@@ -185,15 +185,15 @@ module _ (nodes states : List ℕ) (distinct : AreDistinct states) where
 pub record HasOutputs (nodes : List ℕ) (p q : Page) (wires : List OutputWire) : Type 0 where
   pub good : Good q
   pub keeps : Keeps p q
-  pub same : (test : Rule → Bool) → test forms.Output ≡ false → lines_of test q.lines ≡ lines_of test p.lines
-  pub names : map name_of (lines_of is_output q.lines) ≡ map (λ (wire : OutputWire). wire.name) wires
-  pub ids : map (λ (line : Line). id_at line.arguments 0) (lines_of is_output q.lines) ≡ map (λ (wire : OutputWire). id_in nodes wire.id) wires
+  pub same : (test : FormRule → Bool) → test forms.Output ≡ false → lines_by_rule test q.lines ≡ lines_by_rule test p.lines
+  pub names : map line_name (lines_by_rule is_output q.lines) ≡ map (λ (wire : OutputWire). wire.name) wires
+  pub ids : map (λ (line : Line). id_at line.arguments 0) (lines_by_rule is_output q.lines) ≡ map (λ (wire : OutputWire). id_in nodes wire.id) wires
 
 -- an output that can be written
 pub record MayCome (nodes : List ℕ) (p : Page) (wire : OutputWire) : Type 0 where
   pub width : ℕ
   pub value : Names kinds.Value p (id_in nodes wire.id) width
-  pub token : IsToken wire.name
+  pub token : IsPlainToken wire.name
 
 one-output : (nodes : List ℕ) (p q : Page) (done : List OutputWire) (wire : OutputWire) → HasOutputs nodes p q done → MayCome nodes p wire → HasOutputs nodes p (with_output nodes q wire) (done ++ wire ∷ [])
 one-output nodes p q done wire h may =
@@ -204,14 +204,14 @@ one-output nodes p q done wire h may =
     let asked : Asked q forms.Output keywords.Output given (four may.width 0 0 0) =
     asked-one q forms.Output keywords.Output refl kinds.Value (arguments.Id id) may.width refl (value-given q id may.width h.good.sound (names-keep kinds.Value p q id may.width h.keeps may.value))
     (record { state = refl; first = refl; numeral = refl; fixed = refl }) (record { widths = refl; bounds = refl }) in
-    let outputs : lines_of is_output new.lines ≡ lines_of is_output q.lines ++ line ∷ [] = picked is_output q keywords.Output given (Some wire.name) true refl in
+    let outputs : lines_by_rule is_output new.lines ≡ lines_by_rule is_output q.lines ++ line ∷ [] = picked is_output q keywords.Output given (Some wire.name) true refl in
     record {
       good = put-good q forms.Output keywords.Output given (Some wire.name) (four may.width 0 0 0) h.good asked (may.token, tt) (λ is. absurd (cc));
       keeps = keeps-both p q new h.keeps (put-keeps q forms.Output keywords.Output given (Some wire.name) (four may.width 0 0 0) h.good asked (may.token, tt));
       same = λ test no. not-picked test q keywords.Output given (Some wire.name) no ∙ h.same test no;
-      names = ap (map name_of) outputs ∙ map-append name_of (lines_of is_output q.lines) (line ∷ []) ∙ ap (λ (names : List (List ℕ)). names ++ wire.name ∷ []) h.names
+      names = ap (map line_name) outputs ∙ map-append line_name (lines_by_rule is_output q.lines) (line ∷ []) ∙ ap (λ (names : List (List ℕ)). names ++ wire.name ∷ []) h.names
           ∙ sym (map-append (λ (w : OutputWire). w.name) done (wire ∷ []));
-      ids = ap (map (λ (l : Line). id_at l.arguments 0)) outputs ∙ map-append (λ (l : Line). id_at l.arguments 0) (lines_of is_output q.lines) (line ∷ []) ∙ ap (λ (ids : List ℕ). ids ++ id ∷ []) h.ids
+      ids = ap (map (λ (l : Line). id_at l.arguments 0)) outputs ∙ map-append (λ (l : Line). id_at l.arguments 0) (lines_by_rule is_output q.lines) (line ∷ []) ∙ ap (λ (ids : List ℕ). ids ++ id ∷ []) h.ids
           ∙ sym (map-append (λ (w : OutputWire). id_in nodes w.id) done (wire ∷ []));
     }
 
@@ -222,11 +222,11 @@ has-outputs nodes p q done (wire ∷ wires) h may =
     subst (HasOutputs nodes p (with_outputs nodes (with_output nodes q wire) wires)) (append_assoc done (wire ∷ []) wires)
     (has-outputs nodes p (with_output nodes q wire) (done ++ wire ∷ []) wires (one-output nodes p q done wire h (may 0 wire refl)) (λ k w at. may (suc k) w at))
 
-pub no-outputs : (nodes : List ℕ) (p : Page) → Good p → lines_of is_output p.lines ≡ [] → HasOutputs nodes p p []
+pub no-outputs : (nodes : List ℕ) (p : Page) → Good p → lines_by_rule is_output p.lines ≡ [] → HasOutputs nodes p p []
 no-outputs nodes p g none = record {
   good = g;
   keeps = keeps-all p;
   same = λ test no. refl;
-  names = ap (map name_of) none;
+  names = ap (map line_name) none;
   ids = ap (map (λ (line : Line). id_at line.arguments 0)) none;
 }

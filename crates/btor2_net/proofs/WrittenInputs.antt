@@ -3,19 +3,19 @@ use Rattle.std.proofs.Common.{◌≡◌, ℕ, suc, ◌≤◌, Bool, false, cond,
 use Rattle.std.specs.Prelude.{slice_get}
 use Rattle.std.proofs.lemmas.List.{map-append}
 use Rattle.circuit_eval.specs.declared.circuit.InputWire.{InputWire}
-use Rattle.btor2_text.specs.Printable.{IsToken}
+use Rattle.btor2_text.specs.Printable.{IsPlainToken}
 use Rattle.btor2_text.specs.declared.keyword.Keyword.TheVariants as keywords
-use Rattle.btor2_text.specs.declared.kind.Kind.TheVariants as kinds
+use Rattle.btor2_text.specs.declared.kind.ArgumentKind.TheVariants as kinds
 use Rattle.btor2_text.specs.declared.line.Argument.{Argument}
 use Rattle.btor2_text.specs.declared.line.Argument.TheVariants as arguments
 use Rattle.btor2_text.specs.declared.line.Line.{Line}
 use Rattle.btor2_model.specs.Rules.{is_input}
-use Rattle.btor2_model.specs.Run.{Step, ids_of, lines_of, values_at}
+use Rattle.btor2_model.specs.Run.{StepValues, ids_of, lines_by_rule, values_at}
 use Rattle.btor2_model.specs.Scope.{width_wanted}
-use Rattle.btor2_model.specs.declared.rule.Rule.{Rule}
-use Rattle.btor2_model.specs.declared.rule.Rule.TheVariants as forms
+use Rattle.btor2_model.specs.declared.rule.FormRule.{FormRule}
+use Rattle.btor2_model.specs.declared.rule.FormRule.TheVariants as forms
 use Rattle.btor2_net.specs.Pages.{Draft, Page, arguments_of, line_on, sort_id, with_input, with_inputs, with_sort}
-use Rattle.btor2_net.specs.Translations.{name_of}
+use Rattle.btor2_net.specs.Translations.{line_name}
 use Rattle.btor2_net.proofs.Asking.{asked-one, four, sort-given}
 use Rattle.btor2_net.proofs.Keeping.{Good, Keeps, Names, keeps-all, keeps-both, names-keep, value-keep}
 use Rattle.btor2_net.proofs.WrittenLines.{HasLine, Pairs, has-line, pairs-push, pairs-weaker}
@@ -23,7 +23,7 @@ use Rattle.btor2_net.proofs.WrittenLines.{HasLine, Pairs, has-line, pairs-push, 
 -- the id is that of an input with the wire's width
 pub record IsInputOn (p : Page) (id : ℕ) (wire : InputWire) : Type 0 where
   pub named : Names kinds.Value p id wire.width
-  pub value : (step : Step) → values_at p.lines step id ≡ step.inputs id
+  pub value : (step : StepValues) → values_at p.lines step id ≡ step.inputs id
 
 pub input-stays : (p q : Page) (id : ℕ) (wire : InputWire) → Keeps p q → IsInputOn p id wire → IsInputOn q id wire
 input-stays p q id wire keeps on = record {
@@ -37,14 +37,14 @@ pub record HasInputs (p : Page) (d : Draft) (wires : List InputWire) : Type 0 wh
   pub keeps : Keeps p d.page
   pub inputs : Pairs (IsInputOn d.page) d.ids wires
   pub ids : ids_of is_input d.page.lines ≡ d.ids
-  pub names : map name_of (lines_of is_input d.page.lines) ≡ map (λ (wire : InputWire). wire.name) wires
-  pub same : (test : Rule → Bool) → test forms.Sort ≡ false → test forms.Input ≡ false → lines_of test d.page.lines ≡ lines_of test p.lines
+  pub names : map line_name (lines_by_rule is_input d.page.lines) ≡ map (λ (wire : InputWire). wire.name) wires
+  pub same : (test : FormRule → Bool) → test forms.Sort ≡ false → test forms.Input ≡ false → lines_by_rule test d.page.lines ≡ lines_by_rule test p.lines
 
 -- an input that can be written
 pub record IsWritable (wire : InputWire) : Type 0 where
   pub some : 1 ≤ wire.width
   pub most : wire.width ≤ 128
-  pub token : IsToken wire.name
+  pub token : IsPlainToken wire.name
 
 pub one-more : (p : Page) (d : Draft) (done : List InputWire) (wire : InputWire) → HasInputs p d done → IsWritable wire → HasInputs p (with_input d wire) (done ++ wire ∷ [])
 one-more p d done wire h is =
@@ -58,16 +58,16 @@ one-more p d done wire h is =
     (λ s. asked-one one forms.Input keywords.Input refl kinds.Sort (arguments.Id (sort_id one w)) w refl (sort-given one (sort_id one w) w s.good.sound (ap (width_wanted kinds.Sort) s.sort))
     (record { state = refl; first = refl; numeral = refl; fixed = refl }) (record { widths = refl; bounds = refl }))
     (is.token, tt) (λ is. absurd (cc)) in
-    let lines : lines_of is_input next.page.lines ≡ lines_of is_input d.page.lines ++ line ∷ [] = l.picked is_input ∙ ap (λ (ls : List Line). ls ++ line ∷ []) (l.sorted.same is_input refl) in
+    let lines : lines_by_rule is_input next.page.lines ≡ lines_by_rule is_input d.page.lines ++ line ∷ [] = l.picked is_input ∙ ap (λ (ls : List Line). ls ++ line ∷ []) (l.sorted.same is_input refl) in
     record {
       good = l.good;
       keeps = keeps-both p d.page next.page h.keeps l.keeps;
       inputs = pairs-push (IsInputOn next.page) d.ids done line.id wire (pairs-weaker (IsInputOn d.page) (IsInputOn next.page) d.ids done (λ id x on. input-stays d.page next.page id x l.keeps on) h.inputs)
           (record { named = ap (width_wanted kinds.Value) l.means; value = l.value });
-      ids = ap (map (λ (l : Line). l.id)) lines ∙ map-append (λ (l : Line). l.id) (lines_of is_input d.page.lines) (line ∷ []) ∙ ap (λ (ids : List ℕ). ids ++ line.id ∷ []) h.ids;
-      names = ap (map name_of) lines ∙ map-append name_of (lines_of is_input d.page.lines) (line ∷ []) ∙ ap (λ (names : List (List ℕ)). names ++ wire.name ∷ []) h.names
+      ids = ap (map (λ (l : Line). l.id)) lines ∙ map-append (λ (l : Line). l.id) (lines_by_rule is_input d.page.lines) (line ∷ []) ∙ ap (λ (ids : List ℕ). ids ++ line.id ∷ []) h.ids;
+      names = ap (map line_name) lines ∙ map-append line_name (lines_by_rule is_input d.page.lines) (line ∷ []) ∙ ap (λ (names : List (List ℕ)). names ++ wire.name ∷ []) h.names
           ∙ sym (map-append (λ (w : InputWire). w.name) done (wire ∷ []));
-      same = λ test no_sort no_input. l.picked test ∙ ap (λ (b : Bool). lines_of test one.lines ++ cond b (line ∷ []) []) no_input ∙ append-nil (lines_of test one.lines) ∙ l.sorted.same test no_sort
+      same = λ test no_sort no_input. l.picked test ∙ ap (λ (b : Bool). lines_by_rule test one.lines ++ cond b (line ∷ []) []) no_input ∙ append-nil (lines_by_rule test one.lines) ∙ l.sorted.same test no_sort
           ∙ h.same test no_sort no_input;
     }
 
@@ -78,12 +78,12 @@ has-inputs p d done (wire ∷ wires) h writable =
     (has-inputs p (with_input d wire) (done ++ wire ∷ []) wires (one-more p d done wire h (writable 0 wire refl)) (λ k w at. writable (suc k) w at))
 
 -- no inputs
-pub no-inputs : (p : Page) → Good p → lines_of is_input p.lines ≡ [] → HasInputs p (record { page = p; ids = [] }) []
+pub no-inputs : (p : Page) → Good p → lines_by_rule is_input p.lines ≡ [] → HasInputs p (record { page = p; ids = [] }) []
 no-inputs p g none = record {
   good = g;
   keeps = keeps-all p;
   inputs = tt;
   ids = ap (map (λ (l : Line). l.id)) none;
-  names = ap (map name_of) none;
+  names = ap (map line_name) none;
   same = λ test no_sort no_input. refl;
 }

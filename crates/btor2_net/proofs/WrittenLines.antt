@@ -9,27 +9,27 @@ use Rattle.btor2_text.specs.declared.keyword.Keyword.{Keyword}
 use Rattle.btor2_text.specs.declared.line.Argument.{Argument}
 use Rattle.btor2_text.specs.declared.line.Line.{Line}
 use Rattle.btor2_model.specs.Rules.{is_init, is_input, is_state, role_of, width_given}
-use Rattle.btor2_model.specs.Run.{Step, lines_of, value_by, values_at}
+use Rattle.btor2_model.specs.Run.{StepValues, lines_by_rule, value_by, values_at}
 use Rattle.btor2_model.specs.Scope.{argument_depends, id_at}
 use Rattle.btor2_model.specs.declared.rule.Measures.{Measures}
-use Rattle.btor2_model.specs.declared.rule.Rule.{Rule}
+use Rattle.btor2_model.specs.declared.rule.FormRule.{FormRule}
 use Rattle.btor2_net.specs.Pages.{Page, arguments_of, line_on, sort_id, with_line, with_sort}
 use Rattle.btor2_net.proofs.Adding.{Asked, scope_of}
 use Rattle.btor2_net.proofs.Keeping.{Good, Keeps, keeps-both, picked, put-good, put-keeps, put-means, put-value}
 use Rattle.btor2_net.proofs.WrittenSorts.{HasSort, has-sort}
 
 -- a page with one more line behind another
-pub record HasLine (p one q : Page) (width : ℕ) (line : Line) (rule : Rule) (m : Measures) : Type 0 where
+pub record HasLine (p one q : Page) (width : ℕ) (line : Line) (rule : FormRule) (m : Measures) : Type 0 where
   pub sorted : HasSort p one width
   pub good : Good q
   pub last : Keeps one q
   pub keeps : Keeps p q
   pub means : (scope_of q).meanings line.id
       ≡ Some (record { role = role_of rule; width = width_given rule m; depends = (is_input rule || is_state rule) || list_any (argument_depends (scope_of one)) line.arguments })
-  pub value : (step : Step) → values_at q.lines step line.id ≡ value_by rule step (scope_of one) (values_at one.lines step) line
-  pub picked : (test : Rule → Bool) → lines_of test q.lines ≡ lines_of test one.lines ++ cond (test rule) (line ∷ []) []
+  pub value : (step : StepValues) → values_at q.lines step line.id ≡ value_by rule step (scope_of one) (values_at one.lines step) line
+  pub picked : (test : FormRule → Bool) → lines_by_rule test q.lines ≡ lines_by_rule test one.lines ++ cond (test rule) (line ∷ []) []
 
-module _ (p : Page) (width : ℕ) (keyword : Keyword) (ids numbers : List ℕ) (symbol : Option (List ℕ)) (rule : Rule) (m : Measures) (g : Good p) (some : 1 ≤ width) (most : width ≤ 128) where
+module _ (p : Page) (width : ℕ) (keyword : Keyword) (ids numbers : List ℕ) (symbol : Option (List ℕ)) (rule : FormRule) (m : Measures) (g : Good p) (some : 1 ≤ width) (most : width ≤ 128) where
   abbrev one : Page
   one = with_sort p width
 

@@ -18,16 +18,16 @@ use Rattle.net_graph.proofs.NodeWidths.{widths_of-Wide}
 use Rattle.net_graph.proofs.Standing.{stands_at}
 use Rattle.btor2_text.specs.declared.keyword.Keyword.{Keyword}
 use Rattle.btor2_text.specs.declared.keyword.Keyword.TheVariants as keywords
-use Rattle.btor2_text.specs.declared.kind.Kind.TheVariants as kinds
+use Rattle.btor2_text.specs.declared.kind.ArgumentKind.TheVariants as kinds
 use Rattle.btor2_text.specs.declared.line.Argument.TheVariants as arguments
 use Rattle.btor2_text.specs.declared.line.Line.{Line}
 use Rattle.btor2_model.specs.Rules.{is_init, role_of, rule_of, width_given}
-use Rattle.btor2_model.specs.Run.{Step, Values, extended, lines_of, operator_value, value_by, values_at}
-use Rattle.btor2_model.specs.Scope.{Scope, value_width, width_wanted}
+use Rattle.btor2_model.specs.Run.{StepValues, Values, extended, lines_by_rule, operator_value, value_by, values_at}
+use Rattle.btor2_model.specs.Scope.{DeclaredIds, value_width, width_wanted}
 use Rattle.btor2_model.specs.inner.SlowRun.{computes}
 use Rattle.btor2_model.specs.declared.rule.Measures.{Measures}
-use Rattle.btor2_model.specs.declared.rule.Rule.{Rule}
-use Rattle.btor2_model.specs.declared.rule.Rule.TheVariants as forms
+use Rattle.btor2_model.specs.declared.rule.FormRule.{FormRule}
+use Rattle.btor2_model.specs.declared.rule.FormRule.TheVariants as forms
 use Rattle.btor2_net.specs.Pages.{Draft, Page, arguments_of, id_in, id_of_line, keyword_of_one, keyword_of_two, line_on, sort_id, with_node, with_node_line, with_nodes, with_sort}
 use Rattle.btor2_net.specs.inner.Values.{AreGiven}
 use Rattle.btor2_net.proofs.Adding.{Asked, scope_of}
@@ -39,7 +39,7 @@ use Rattle.btor2_net.proofs.WrittenLines.{HasLine, has-line}
 use Rattle.btor2_net.proofs.WrittenSorts.{HasSort, Quiet, has-constant, has-sort}
 
 -- a rule that computes has a value of its first measure, which is its operator's
-computed-width : (rule : Rule) (m : Measures) → computes rule ≡ true → value_width (role_of rule) (width_given rule m) ≡ Some m.first
+computed-width : (rule : FormRule) (m : Measures) → computes rule ≡ true → value_width (role_of rule) (width_given rule m) ≡ Some m.first
 computed-width forms.Sort m computed = absurd (cc)
 computed-width forms.Input m computed = absurd (cc)
 computed-width forms.State m computed = absurd (cc)
@@ -49,12 +49,12 @@ computed-width forms.Output m computed = absurd (cc)
 computed-width forms.Bad m computed = absurd (cc)
 computed-width other m computed = refl
 
-computed-value : (rule : Rule) (step : Step) (scope : Scope) (values : Values) (line : Line) → computes rule ≡ true → value_by rule step scope values line ≡ operator_value scope values line.keyword line.arguments
+computed-value : (rule : FormRule) (step : StepValues) (scope : DeclaredIds) (values : Values) (line : Line) → computes rule ≡ true → value_by rule step scope values line ≡ operator_value scope values line.keyword line.arguments
 computed-value forms.Input step scope values line computed = absurd (cc)
 computed-value forms.State step scope values line computed = absurd (cc)
 computed-value other step scope values line computed = refl
 
-no-init : (rule : Rule) → computes rule ≡ true → is_init rule ≡ true → ⊥
+no-init : (rule : FormRule) → computes rule ≡ true → is_init rule ≡ true → ⊥
 no-init forms.Init computed is = cc
 no-init other computed is = cc
 
@@ -65,7 +65,7 @@ module _ (net : List NetOp) (is_net : IsNet net) (inputs states : List ℕ) wher
   -- the id is that of a value that has the width and the values of a node
   pub record IsNodeOn (p : Page) (id node : ℕ) : Type 0 where
     pub named : Names kinds.Value p id (width_at ws node)
-    pub value : (step : Step) (s : Sources) → AreGiven inputs step.inputs s.inputs → AreGiven states step.states s.states → values_at p.lines step id ≡ node_value s net node
+    pub value : (step : StepValues) (s : Sources) → AreGiven inputs step.inputs s.inputs → AreGiven states step.states s.states → values_at p.lines step id ≡ node_value s net node
 
   pub node-stays : (p q : Page) (id node : ℕ) → Keeps p q → IsNodeOn p id node → IsNodeOn q id node
   node-stays p q id node keeps on = record {
@@ -90,7 +90,7 @@ module _ (net : List NetOp) (is_net : IsNet net) (inputs states : List ℕ) wher
   pub record HasNode (d next : Draft) : Type 0 where
     pub good : Good next.page
     pub keeps : Keeps d.page next.page
-    pub same : (test : Rule → Bool) → Quiet test → lines_of test next.page.lines ≡ lines_of test d.page.lines
+    pub same : (test : FormRule → Bool) → Quiet test → lines_by_rule test next.page.lines ≡ lines_by_rule test d.page.lines
     pub id : ℕ
     pub ids : next.ids ≡ d.ids ++ id ∷ []
     pub node : IsNodeOn next.page id (length d.ids)
@@ -143,8 +143,8 @@ module _ (net : List NetOp) (is_net : IsNet net) (inputs states : List ℕ) wher
     sort-named = ap (width_wanted kinds.Sort) h.sort
 
     -- a node that is a line
-    line-node : (keyword : Keyword) (ids numbers : List ℕ) (rule : Rule) (m : Measures) → Computes rule → m.first ≡ w → rule_of keyword ≡ rule → Asked one rule keyword (arguments_of sort ids numbers) m
-        → ((step : Step) (s : Sources) → AreGiven inputs step.inputs s.inputs → AreGiven states step.states s.states
+    line-node : (keyword : Keyword) (ids numbers : List ℕ) (rule : FormRule) (m : Measures) → Computes rule → m.first ≡ w → rule_of keyword ≡ rule → Asked one rule keyword (arguments_of sort ids numbers) m
+        → ((step : StepValues) (s : Sources) → AreGiven inputs step.inputs s.inputs → AreGiven states step.states s.states
         → operator_value (scope_of one) (values_at one.lines step) keyword (arguments_of sort ids numbers) ≡ op_value s (values_of s net) op)
         → HasNode d (with_node_line d w keyword ids numbers)
     line-node keyword ids numbers rule m is first of asked value =
@@ -154,7 +154,7 @@ module _ (net : List NetOp) (is_net : IsNet net) (inputs states : List ℕ) wher
         record {
           good = l.good;
           keeps = l.keeps;
-          same = λ test quiet. l.picked test ∙ ap (λ (b : Bool). lines_of test one.lines ++ cond b (line ∷ []) []) (is.quiet test quiet) ∙ append-nil (lines_of test one.lines) ∙ h.same test quiet.sort;
+          same = λ test quiet. l.picked test ∙ ap (λ (b : Bool). lines_by_rule test one.lines ++ cond b (line ∷ []) []) (is.quiet test quiet) ∙ append-nil (lines_by_rule test one.lines) ∙ h.same test quiet.sort;
           id = line.id;
           ids = refl;
           node = record {
@@ -166,7 +166,7 @@ module _ (net : List NetOp) (is_net : IsNet net) (inputs states : List ℕ) wher
 
     -- and one that isn't
     there-node : (id : ℕ) → Names kinds.Value d.page id w
-        → ((step : Step) (s : Sources) → AreGiven inputs step.inputs s.inputs → AreGiven states step.states s.states → values_at d.page.lines step id ≡ op_value s (values_of s net) op)
+        → ((step : StepValues) (s : Sources) → AreGiven inputs step.inputs s.inputs → AreGiven states step.states s.states → values_at d.page.lines step id ≡ op_value s (values_of s net) op)
         → HasNode d (record { page = d.page; ids = d.ids ++ id ∷ [] })
     there-node id named value = record {
       good = g;
@@ -311,15 +311,15 @@ module _ (net : List NetOp) (is_net : IsNet net) (inputs states : List ℕ) wher
       ∙ ap (ite_value (node_value s net c) (node_value s net a)) (y.value step s by_inputs by_states))
 
   -- the id of what is read from outside
-  pub record HasSource (p : Page) (ids : List ℕ) (source : Step → Values) (number width : ℕ) : Type 0 where
+  pub record HasSource (p : Page) (ids : List ℕ) (source : StepValues → Values) (number width : ℕ) : Type 0 where
     pub at : slice_get ids number ≡ Some (id_in ids number)
     pub named : Names kinds.Value p (id_in ids number) width
-    pub value : (step : Step) → values_at p.lines step (id_in ids number) ≡ source step (id_in ids number)
+    pub value : (step : StepValues) → values_at p.lines step (id_in ids number) ≡ source step (id_in ids number)
 
-  abbrev pub AreSources : Page → List ℕ → (Step → Values) → List ℕ → Type 0
+  abbrev pub AreSources : Page → List ℕ → (StepValues → Values) → List ℕ → Type 0
   AreSources p ids source widths = (number width : ℕ) → slice_get widths number ≡ Some width → HasSource p ids source number width
 
-  sources-stay : (p q : Page) (ids : List ℕ) (source : Step → Values) (widths : List ℕ) → Keeps p q → AreSources p ids source widths → AreSources q ids source widths
+  sources-stay : (p q : Page) (ids : List ℕ) (source : StepValues → Values) (widths : List ℕ) → Keeps p q → AreSources p ids source widths → AreSources q ids source widths
   sources-stay p q ids source widths keeps all number width reads =
       let one = all number width reads in
       record {
@@ -330,7 +330,7 @@ module _ (net : List NetOp) (is_net : IsNet net) (inputs states : List ℕ) wher
 
   module _ (in_widths state_widths : List ℕ) where
     has-node : (d : Draft) (op : NetOp) → Good d.page → AreNodesOn d.page d.ids → slice_get net (length d.ids) ≡ Some op → Reads in_widths state_widths op
-        → AreSources d.page inputs (λ (step : Step). step.inputs) in_widths → AreSources d.page states (λ (step : Step). step.states) state_widths
+        → AreSources d.page inputs (λ (step : StepValues). step.inputs) in_widths → AreSources d.page states (λ (step : StepValues). step.states) state_widths
         → HasNode d (with_node inputs states d (width_at ws (length d.ids)) op)
     unfolding uext_value sext_value
     has-node d (Const value) g all at reads ins outs = const-node d value g all at
@@ -357,11 +357,11 @@ module _ (net : List NetOp) (is_net : IsNet net) (inputs states : List ℕ) wher
     pub record HasNodes (p : Page) (d : Draft) : Type 0 where
       pub good : Good d.page
       pub keeps : Keeps p d.page
-      pub same : (test : Rule → Bool) → Quiet test → lines_of test d.page.lines ≡ lines_of test p.lines
+      pub same : (test : FormRule → Bool) → Quiet test → lines_by_rule test d.page.lines ≡ lines_by_rule test p.lines
       pub nodes : AreNodesOn d.page d.ids
 
     pub has-nodes : (p : Page) (d : Draft) (ops : List NetOp) → HasNodes p d → ((j : ℕ) (op : NetOp) → slice_get ops j ≡ Some op → slice_get net (length d.ids + j) ≡ Some op) → AllRead in_widths state_widths net
-        → AreSources p inputs (λ (step : Step). step.inputs) in_widths → AreSources p states (λ (step : Step). step.states) state_widths
+        → AreSources p inputs (λ (step : StepValues). step.inputs) in_widths → AreSources p states (λ (step : StepValues). step.states) state_widths
         → HasNodes p (with_nodes inputs states ws d ops) × (length (with_nodes inputs states ws d ops).ids ≡ length d.ids + length ops)
     has-nodes p d [] h rest reads ins outs = (h, omega arith)
     has-nodes p d (op ∷ ops) h rest reads ins outs =
@@ -371,7 +371,7 @@ module _ (net : List NetOp) (is_net : IsNet net) (inputs states : List ℕ) wher
         let at : slice_get net (length d.ids) ≡ Some op = subst (λ (i : ℕ). slice_get net i ≡ Some op) zero (rest 0 op refl) in
         let own : Reads in_widths state_widths op = subst (Reads in_widths state_widths) (get_or_from_slice_get net (length d.ids) op op at) (reads (length d.ids) op (slice_get_within net (length d.ids) op at)) in
         let n : HasNode d next =
-        has-node d op h.good h.nodes at own (sources-stay p d.page inputs (λ (step : Step). step.inputs) in_widths h.keeps ins) (sources-stay p d.page states (λ (step : Step). step.states) state_widths h.keeps outs) in
+        has-node d op h.good h.nodes at own (sources-stay p d.page inputs (λ (step : StepValues). step.inputs) in_widths h.keeps ins) (sources-stay p d.page states (λ (step : StepValues). step.states) state_widths h.keeps outs) in
         let more : length next.ids ≡ length d.ids + 1 = omega (arith, ap length n.ids, length-append d.ids (n.id ∷ [])) in
         let others = has-nodes p next ops
         (record {

@@ -9,15 +9,15 @@ use Rattle.std.proofs.lemmas.Fmt.{decimal_is_IsNumeral_wide}
 use Rattle.kw_bits.specs.BitVector.{BitVector, IsBits}
 use Rattle.btor2_text.specs.declared.keyword.Keyword.TheVariants as keywords
 use Rattle.btor2_text.specs.declared.kind.Base.TheVariants as bases
-use Rattle.btor2_text.specs.declared.kind.Kind.TheVariants as kinds
+use Rattle.btor2_text.specs.declared.kind.ArgumentKind.TheVariants as kinds
 use Rattle.btor2_text.specs.declared.line.Argument.{Argument}
 use Rattle.btor2_text.specs.declared.line.Argument.TheVariants as arguments
-use Rattle.btor2_model.specs.Run.{Step, lines_of, values_at}
+use Rattle.btor2_model.specs.Run.{StepValues, lines_by_rule, values_at}
 use Rattle.btor2_model.specs.Scope.{meaning_depends, sort_width_in, width_wanted}
-use Rattle.btor2_model.specs.declared.meaning.Meaning.{Meaning}
+use Rattle.btor2_model.specs.declared.meaning.IdMeaning.{IdMeaning}
 use Rattle.btor2_model.specs.declared.meaning.Role.TheVariants as roles
-use Rattle.btor2_model.specs.declared.rule.Rule.{Rule}
-use Rattle.btor2_model.specs.declared.rule.Rule.TheVariants as forms
+use Rattle.btor2_model.specs.declared.rule.FormRule.{FormRule}
+use Rattle.btor2_model.specs.declared.rule.FormRule.TheVariants as forms
 use Rattle.btor2_net.specs.Pages.{Page, blank, id_of_line, next_id, put, sort_id, with_constant, with_sort, with_sort_by}
 use Rattle.btor2_net.proofs.Adding.{Asked, scope_of}
 use Rattle.btor2_net.proofs.Asking.{Agrees, Special, asked-two, bitvec-given, four, number-given, numeral-given, sort-given}
@@ -37,7 +37,7 @@ pub record HasSort (p q : Page) (width : ℕ) : Type 0 where
   pub good : Good q
   pub keeps : Keeps p q
   pub sort : (scope_of q).meanings (sort_id q width) ≡ Some (sort_meaning width)
-  pub same : (test : Rule → Bool) → test forms.Sort ≡ false → lines_of test q.lines ≡ lines_of test p.lines
+  pub same : (test : FormRule → Bool) → test forms.Sort ≡ false → lines_by_rule test q.lines ≡ lines_by_rule test p.lines
 
 abbrev pub sort_arguments : ℕ → List Argument
 sort_arguments width = arguments.Bitvec ∷ arguments.Number width ∷ []
@@ -101,7 +101,7 @@ module _ (p : Page) (width : ℕ) (g : Good p) (some : 1 ≤ width) (most : widt
       }
 
 -- no line of a rule that is a sort, a constant or an operator
-pub record Quiet (test : Rule → Bool) : Type 0 where
+pub record Quiet (test : FormRule → Bool) : Type 0 where
   pub sort : test forms.Sort ≡ false
   pub numeral : test (forms.Numeral bases.Decimal) ≡ false
   pub unary : test forms.Unary ≡ false
@@ -119,8 +119,8 @@ pub record HasConstant (p q : Page) (id : ℕ) (value : BitVector) : Type 0 wher
   pub good : Good q
   pub keeps : Keeps p q
   pub means : (scope_of q).meanings id ≡ Some (record { role = roles.Value; width = value.width; depends = false })
-  pub gives : (step : Step) → values_at q.lines step id ≡ value
-  pub same : (test : Rule → Bool) → test forms.Sort ≡ false → test (forms.Numeral bases.Decimal) ≡ false → lines_of test q.lines ≡ lines_of test p.lines
+  pub gives : (step : StepValues) → values_at q.lines step id ≡ value
+  pub same : (test : FormRule → Bool) → test forms.Sort ≡ false → test (forms.Numeral bases.Decimal) ≡ false → lines_by_rule test q.lines ≡ lines_by_rule test p.lines
 
 module _ (p : Page) (value : BitVector) (g : Good p) (is : IsBits value) where
   abbrev one : Page
@@ -167,7 +167,7 @@ module _ (p : Page) (value : BitVector) (g : Good p) (is : IsBits value) where
     good = put-good one (forms.Numeral bases.Decimal) keywords.Constd given None (four value.width 0 0 0) h.good constant-asked tt (λ is. absurd (cc));
     keeps = keeps-both p one (with_constant p value) h.keeps (put-keeps one (forms.Numeral bases.Decimal) keywords.Constd given None (four value.width 0 0 0) h.good constant-asked tt);
     means = put-means one (forms.Numeral bases.Decimal) keywords.Constd given None (four value.width 0 0 0) h.good constant-asked tt
-        ∙ ap (λ (b : Bool). Some (let m : Meaning = record { role = roles.Value; width = value.width; depends = b || false } in m)) (ap meaning_depends h.sort);
+        ∙ ap (λ (b : Bool). Some (let m : IdMeaning = record { role = roles.Value; width = value.width; depends = b || false } in m)) (ap meaning_depends h.sort);
     gives = λ step. put-value one (forms.Numeral bases.Decimal) keywords.Constd given None (four value.width 0 0 0) h.good constant-asked tt step
         ∙ ap₂ (λ (w n : ℕ). let v : BitVector = record { width = w; number = n } in v) (ap (λ (o : Option ℕ). unwrap_or o 0) sort-named) (decimal_is_IsNumeral_wide value.number small).1;
     same = λ test no_sort no_numeral. not-picked test one keywords.Constd given None no_numeral ∙ h.same test no_sort;

@@ -8,54 +8,54 @@ use Rattle.std.proofs.lemmas.List.{map-append}
 use Rattle.std.proofs.lemmas.List.Folds.{find-append}
 use Rattle.kw_bits.specs.Laws.{HasWidth}
 use Rattle.circuit_eval.specs.declared.circuit.StateWire.{StateWire}
-use Rattle.btor2_text.specs.Printable.{IsToken}
+use Rattle.btor2_text.specs.Printable.{IsPlainToken}
 use Rattle.btor2_text.specs.declared.keyword.Keyword.TheVariants as keywords
 use Rattle.btor2_text.specs.declared.kind.Base.TheVariants as bases
-use Rattle.btor2_text.specs.declared.kind.Kind.TheVariants as kinds
+use Rattle.btor2_text.specs.declared.kind.ArgumentKind.TheVariants as kinds
 use Rattle.btor2_text.specs.declared.line.Argument.{Argument}
 use Rattle.btor2_text.specs.declared.line.Argument.TheVariants as arguments
 use Rattle.btor2_text.specs.declared.line.Line.{Line}
 use Rattle.btor2_model.specs.Acceptance.{stands_for_state}
 use Rattle.btor2_model.specs.Rules.{is_init, is_state}
-use Rattle.btor2_model.specs.Run.{Step, ids_of, lines_of, values_at}
+use Rattle.btor2_model.specs.Run.{StepValues, ids_of, lines_by_rule, values_at}
 use Rattle.btor2_model.specs.Scope.{id_at, meaning_depends, no_lines, width_wanted}
-use Rattle.btor2_model.specs.declared.meaning.Meaning.{Meaning}
+use Rattle.btor2_model.specs.declared.meaning.IdMeaning.{IdMeaning}
 use Rattle.btor2_model.specs.declared.meaning.Role.TheVariants as roles
-use Rattle.btor2_model.specs.declared.rule.Rule.{Rule}
-use Rattle.btor2_model.specs.declared.rule.Rule.TheVariants as forms
+use Rattle.btor2_model.specs.declared.rule.FormRule.{FormRule}
+use Rattle.btor2_model.specs.declared.rule.FormRule.TheVariants as forms
 use Rattle.btor2_net.specs.Pages.{Draft, Page, arguments_of, blank, id_of_line, line_on, sort_id, with_constant, with_line, with_sort, with_state, with_states}
-use Rattle.btor2_net.specs.Translations.{name_of}
+use Rattle.btor2_net.specs.Translations.{line_name}
 use Rattle.btor2_net.proofs.Adding.{known-within, scope_of}
 use Rattle.btor2_net.proofs.Asking.{Agrees, Special, asked-one, asked-three, four, sort-given, value-given}
 use Rattle.btor2_net.proofs.Keeping.{Good, Keeps, Names, initialized-by, keeps-both, names-keep, set_of, unset, value-keep}
 use Rattle.btor2_net.proofs.WrittenLines.{HasLine, Pairs, has-line, pairs-push, pairs-weaker}
 use Rattle.btor2_net.proofs.WrittenSorts.{HasConstant, HasSort, Quiet, blank-good, has-constant, has-sort}
 
-abbrev pub state_meaning : ℕ → Meaning
+abbrev pub state_meaning : ℕ → IdMeaning
 state_meaning width = record { role = roles.State; width = width; depends = true }
 
 -- the id is that of a state with the wire's width, whose `init` names its first value
 pub record IsStateOn (p : Page) (id : ℕ) (wire : StateWire) : Type 0 where
   pub means : (scope_of p).meanings id ≡ Some (state_meaning wire.width)
-  pub value : (step : Step) → values_at p.lines step id ≡ step.states id
+  pub value : (step : StepValues) → values_at p.lines step id ≡ step.states id
   pub set : Line
-  pub found : find (set_of id) (lines_of is_init p.lines) ≡ Some set
+  pub found : find (set_of id) (lines_by_rule is_init p.lines) ≡ Some set
   pub named : Names kinds.Value p (id_at set.arguments 2) wire.width
-  pub gives : (step : Step) → values_at p.lines step (id_at set.arguments 2) ≡ wire.first
+  pub gives : (step : StepValues) → values_at p.lines step (id_at set.arguments 2) ≡ wire.first
 
 -- it stays while the lines of `init` are added to
-pub state-stays : (p q : Page) (more : List Line) (id : ℕ) (wire : StateWire) → Keeps p q → lines_of is_init q.lines ≡ lines_of is_init p.lines ++ more → IsStateOn p id wire → IsStateOn q id wire
+pub state-stays : (p q : Page) (more : List Line) (id : ℕ) (wire : StateWire) → Keeps p q → lines_by_rule is_init q.lines ≡ lines_by_rule is_init p.lines ++ more → IsStateOn p id wire → IsStateOn q id wire
 state-stays p q more id wire keeps adds s = record {
   means = keeps.means id (state_meaning wire.width) s.means;
   value = λ step. keeps.values step id (state_meaning wire.width) s.means ∙ s.value step;
   set = s.set;
-  found = ap (find (set_of id)) adds ∙ find-append (set_of id) (lines_of is_init p.lines) more ∙ ap (λ (o : Option Line). option_or o (find (set_of id) more)) s.found;
+  found = ap (find (set_of id)) adds ∙ find-append (set_of id) (lines_by_rule is_init p.lines) more ∙ ap (λ (o : Option Line). option_or o (find (set_of id) more)) s.found;
   named = names-keep kinds.Value p q (id_at s.set.arguments 2) wire.width keeps s.named;
   gives = λ step. value-keep kinds.Value p q step (id_at s.set.arguments 2) wire.width keeps s.named ∙ s.gives step;
 }
 
 -- no line of a rule that the states have
-pub record NoState (test : Rule → Bool) : Type 0 where
+pub record NoState (test : FormRule → Bool) : Type 0 where
   pub sort : test forms.Sort ≡ false
   pub numeral : test (forms.Numeral bases.Decimal) ≡ false
   pub state : test forms.State ≡ false
@@ -67,12 +67,12 @@ pub record HasState (p q : Page) (id : ℕ) (wire : StateWire) : Type 0 where
   pub keeps : Keeps p q
   pub state : IsStateOn q id wire
   pub line : Line
-  pub states : lines_of is_state q.lines ≡ lines_of is_state p.lines ++ line ∷ []
+  pub states : lines_by_rule is_state q.lines ≡ lines_by_rule is_state p.lines ++ line ∷ []
   pub id_is : line.id ≡ id
-  pub name_is : name_of line ≡ wire.name
+  pub name_is : line_name line ≡ wire.name
   pub init : Line
-  pub inits : lines_of is_init q.lines ≡ lines_of is_init p.lines ++ init ∷ []
-  pub same : (test : Rule → Bool) → NoState test → lines_of test q.lines ≡ lines_of test p.lines
+  pub inits : lines_by_rule is_init q.lines ≡ lines_by_rule is_init p.lines ++ init ∷ []
+  pub same : (test : FormRule → Bool) → NoState test → lines_by_rule test q.lines ≡ lines_by_rule test p.lines
 
 both-true : (a b : Bool) → a ≡ true → b ≡ true → (a && b) ≡ true
 both-true true b first second = second
@@ -88,7 +88,7 @@ quiet-state = record { sort = refl; numeral = refl; unary = refl; reduced = refl
 pub quiet-init : Quiet is_init
 quiet-init = record { sort = refl; numeral = refl; unary = refl; reduced = refl; binary = refl; compared = refl; boolean = refl; joined = refl; sliced = refl; extended = refl; chosen = refl }
 
-module _ (d : Draft) (wire : StateWire) (g : Good d.page) (first : HasWidth wire.first wire.width) (token : IsToken wire.name) where
+module _ (d : Draft) (wire : StateWire) (g : Good d.page) (first : HasWidth wire.first wire.width) (token : IsPlainToken wire.name) where
   abbrev p : Page
   p = d.page
 
@@ -147,8 +147,8 @@ module _ (d : Draft) (wire : StateWire) (g : Good d.page) (first : HasWidth wire
   abbrev q : Page
   q = with_line s w keywords.Init (state_id ∷ constant_id ∷ []) [] None
 
-  no-init : find (set_of state_id) (lines_of is_init s.lines) ≡ None
-  no-init = ap (find (set_of state_id)) (has-s.picked is_init ∙ append-nil (lines_of is_init before.lines)) ∙ has-s.sorted.good.late state_id (omega arith)
+  no-init : find (set_of state_id) (lines_by_rule is_init s.lines) ≡ None
+  no-init = ap (find (set_of state_id)) (has-s.picked is_init ∙ append-nil (lines_by_rule is_init before.lines)) ∙ has-s.sorted.good.late state_id (omega arith)
 
   module _ (h : HasSort s middle w) where
     state-in-middle : (scope_of middle).meanings state_id ≡ Some (state_meaning w)
@@ -156,11 +156,11 @@ module _ (d : Draft) (wire : StateWire) (g : Good d.page) (first : HasWidth wire
 
     constant-in-middle : (scope_of middle).meanings constant_id ≡ Some (record { role = roles.Value; width = wire.first.width; depends = false })
     constant-in-middle =
-        let m : Meaning = record { role = roles.Value; width = wire.first.width; depends = false } in h.keeps.means constant_id m (has-s.keeps.means constant_id m has-c.means)
+        let m : IdMeaning = record { role = roles.Value; width = wire.first.width; depends = false } in h.keeps.means constant_id m (has-s.keeps.means constant_id m has-c.means)
 
     not-yet : (scope_of middle).initialized state_id ≡ false
     not-yet =
-        ap (λ (f : ℕ → Bool). f state_id) (initialized-by middle.lines no_lines) ∙ unset (lines_of is_init middle.lines) (λ _. false) state_id refl (ap (find (set_of state_id)) (h.same is_init refl) ∙ no-init)
+        ap (λ (f : ℕ → Bool). f state_id) (initialized-by middle.lines no_lines) ∙ unset (lines_by_rule is_init middle.lines) (λ _. false) state_id refl (ap (find (set_of state_id)) (h.same is_init refl) ∙ no-init)
 
     init-special : Special middle forms.Init init_given
     init-special = record {
@@ -199,14 +199,14 @@ module _ (d : Draft) (wire : StateWire) (g : Good d.page) (first : HasWidth wire
   q-constant : Names kinds.Value q constant_id w
   q-constant = names-keep kinds.Value middle q constant_id w has-q.last (constant-named has-q.sorted)
 
-  inits-are : lines_of is_init q.lines ≡ lines_of is_init p.lines ++ init_line ∷ []
+  inits-are : lines_by_rule is_init q.lines ≡ lines_by_rule is_init p.lines ++ init_line ∷ []
   inits-are =
       has-q.picked is_init
-      ∙ ap (λ (ls : List Line). ls ++ init_line ∷ []) (has-q.sorted.same is_init refl ∙ has-s.picked is_init ∙ append-nil (lines_of is_init before.lines) ∙ has-s.sorted.same is_init refl ∙ has-c.same is_init refl refl)
+      ∙ ap (λ (ls : List Line). ls ++ init_line ∷ []) (has-q.sorted.same is_init refl ∙ has-s.picked is_init ∙ append-nil (lines_by_rule is_init before.lines) ∙ has-s.sorted.same is_init refl ∙ has-c.same is_init refl refl)
 
-  found-init : find (set_of state_id) (lines_of is_init q.lines) ≡ Some init_line
+  found-init : find (set_of state_id) (lines_by_rule is_init q.lines) ≡ Some init_line
   found-init =
-      ap (find (set_of state_id)) (has-q.picked is_init) ∙ find-append (set_of state_id) (lines_of is_init middle.lines) (init_line ∷ [])
+      ap (find (set_of state_id)) (has-q.picked is_init) ∙ find-append (set_of state_id) (lines_by_rule is_init middle.lines) (init_line ∷ [])
       ∙ ap (λ (o : Option Line). option_or o (find (set_of state_id) (init_line ∷ []))) (ap (find (set_of state_id)) (has-q.sorted.same is_init refl) ∙ no-init)
       ∙ ap (λ (b : Bool). cond b (Some init_line) None) (eq-eqb state_id state_id refl)
 
@@ -221,19 +221,19 @@ module _ (d : Draft) (wire : StateWire) (g : Good d.page) (first : HasWidth wire
       found = found-init;
       named = q-constant;
       gives = λ step.
-          let m : Meaning = record { role = roles.Value; width = wire.first.width; depends = false } in
+          let m : IdMeaning = record { role = roles.Value; width = wire.first.width; depends = false } in
           has-q.keeps.values step constant_id m (has-s.keeps.means constant_id m has-c.means) ∙ has-s.keeps.values step constant_id m has-c.means ∙ has-c.gives step;
     };
     line = state_line;
-    states = has-q.picked is_state ∙ append-nil (lines_of is_state middle.lines) ∙ has-q.sorted.same is_state refl ∙ has-s.picked is_state
+    states = has-q.picked is_state ∙ append-nil (lines_by_rule is_state middle.lines) ∙ has-q.sorted.same is_state refl ∙ has-s.picked is_state
         ∙ ap (λ (ls : List Line). ls ++ state_line ∷ []) (has-s.sorted.same is_state refl ∙ has-c.same is_state refl refl);
     id_is = refl;
     name_is = refl;
     init = init_line;
     inits = inits-are;
     same = λ test no.
-        has-q.picked test ∙ ap (λ (b : Bool). lines_of test middle.lines ++ cond b (init_line ∷ []) []) no.init ∙ append-nil (lines_of test middle.lines) ∙ has-q.sorted.same test no.sort
-        ∙ has-s.picked test ∙ ap (λ (b : Bool). lines_of test before.lines ++ cond b (state_line ∷ []) []) no.state ∙ append-nil (lines_of test before.lines) ∙ has-s.sorted.same test no.sort
+        has-q.picked test ∙ ap (λ (b : Bool). lines_by_rule test middle.lines ++ cond b (init_line ∷ []) []) no.init ∙ append-nil (lines_by_rule test middle.lines) ∙ has-q.sorted.same test no.sort
+        ∙ has-s.picked test ∙ ap (λ (b : Bool). lines_by_rule test before.lines ++ cond b (state_line ∷ []) []) no.state ∙ append-nil (lines_by_rule test before.lines) ∙ has-s.sorted.same test no.sort
         ∙ has-c.same test no.sort no.numeral;
   }
 
@@ -242,12 +242,12 @@ pub record HasStates (d : Draft) (wires : List StateWire) : Type 0 where
   pub good : Good d.page
   pub states : Pairs (IsStateOn d.page) d.ids wires
   pub ids : ids_of is_state d.page.lines ≡ d.ids
-  pub names : map name_of (lines_of is_state d.page.lines) ≡ map (λ (wire : StateWire). wire.name) wires
-  pub none : (test : Rule → Bool) → NoState test → lines_of test d.page.lines ≡ []
+  pub names : map line_name (lines_by_rule is_state d.page.lines) ≡ map (λ (wire : StateWire). wire.name) wires
+  pub none : (test : FormRule → Bool) → NoState test → lines_by_rule test d.page.lines ≡ []
 
 -- a state that can be written
 abbrev pub IsWritable : StateWire → Type 0
-IsWritable wire = HasWidth wire.first wire.width × IsToken wire.name
+IsWritable wire = HasWidth wire.first wire.width × IsPlainToken wire.name
 
 pub one-more : (d : Draft) (done : List StateWire) (wire : StateWire) → HasStates d done → IsWritable wire → HasStates (with_state d wire) (done ++ wire ∷ [])
 one-more d done wire h is =
@@ -257,9 +257,9 @@ one-more d done wire h is =
       good = s.good;
       states = pairs-push (IsStateOn next.page) d.ids done (id_of_line (with_constant d.page wire.first) wire.width) wire
           (pairs-weaker (IsStateOn d.page) (IsStateOn next.page) d.ids done (λ id w on. state-stays d.page next.page (s.init ∷ []) id w s.keeps s.inits on) h.states) s.state;
-      ids = ap (map (λ (l : Line). l.id)) s.states ∙ map-append (λ (l : Line). l.id) (lines_of is_state d.page.lines) (s.line ∷ [])
+      ids = ap (map (λ (l : Line). l.id)) s.states ∙ map-append (λ (l : Line). l.id) (lines_by_rule is_state d.page.lines) (s.line ∷ [])
           ∙ ap₂ (λ (ids : List ℕ) (id : ℕ). ids ++ id ∷ []) h.ids s.id_is;
-      names = ap (map name_of) s.states ∙ map-append name_of (lines_of is_state d.page.lines) (s.line ∷ []) ∙ ap₂ (λ (names : List (List ℕ)) (name : List ℕ). names ++ name ∷ []) h.names s.name_is
+      names = ap (map line_name) s.states ∙ map-append line_name (lines_by_rule is_state d.page.lines) (s.line ∷ []) ∙ ap₂ (λ (names : List (List ℕ)) (name : List ℕ). names ++ name ∷ []) h.names s.name_is
           ∙ sym (map-append (λ (w : StateWire). w.name) done (wire ∷ []));
       none = λ test no. s.same test no ∙ h.none test no;
     }

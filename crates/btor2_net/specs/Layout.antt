@@ -3,16 +3,16 @@
 use Rattle.std.specs.Prelude.{◌≡◌, ◌≢◌, ℕ, ◌<◌, Bool, true, false, List, All, AllPairs, Contains, None, map, slice_get}
 use Rattle.btor2_text.specs.declared.line.Line.{Line}
 use Rattle.btor2_model.specs.Rules.{is_init, is_next, is_sort, is_state}
-use Rattle.btor2_model.specs.Run.{ids_of, lines_of}
-use Rattle.btor2_model.specs.Scope.{id_at, number_of}
-use Rattle.btor2_model.specs.declared.rule.Rule.{Rule}
-use Rattle.btor2_model.specs.declared.rule.Rule.TheVariants as forms
+use Rattle.btor2_model.specs.Run.{ids_of, lines_by_rule}
+use Rattle.btor2_model.specs.Scope.{id_at, argument_number}
+use Rattle.btor2_model.specs.declared.rule.FormRule.{FormRule}
+use Rattle.btor2_model.specs.declared.rule.FormRule.TheVariants as forms
 use Rattle.btor2_net.specs.TidyLines.{is_any_constant}
 use Rattle.btor2_net.specs.Translations.{AreCounted}
 
 -- the width that a sort line declares
 abbrev pub declared_width : Line → ℕ
-declared_width line = number_of (slice_get line.arguments 1)
+declared_width line = argument_number (slice_get line.arguments 1)
 
 -- sorts of two widths
 abbrev pub DifferInWidth : Line → Line → Type 0
@@ -32,7 +32,7 @@ pub record StartsBefore (lines : List Line) (line : Line) : Type 0 where
   pub before : value_set line < state_set line
 
 -- the lines of what has a name
-abbrev pub is_named : Rule → Bool
+abbrev pub is_named : FormRule → Bool
 is_named forms.Input = true
 is_named forms.State = true
 is_named forms.Output = true
@@ -47,8 +47,8 @@ HasSymbol line = line.symbol ≢ None
 -- the order of the states, by a constant before it, and one `next`, in the same order. Lines with names have symbols.
 pub record AreLaidOut (lines : List Line) : Type 0 where
   pub ids : AreCounted lines
-  pub sorts : AllPairs DifferInWidth (lines_of is_sort lines)
-  pub inits : map state_set (lines_of is_init lines) ≡ ids_of is_state lines
-  pub constants : All (StartsBefore lines) (lines_of is_init lines)
-  pub nexts : map state_set (lines_of is_next lines) ≡ ids_of is_state lines
-  pub symbols : All HasSymbol (lines_of is_named lines)
+  pub sorts : AllPairs DifferInWidth (lines_by_rule is_sort lines)
+  pub inits : map state_set (lines_by_rule is_init lines) ≡ ids_of is_state lines
+  pub constants : All (StartsBefore lines) (lines_by_rule is_init lines)
+  pub nexts : map state_set (lines_by_rule is_next lines) ≡ ids_of is_state lines
+  pub symbols : All HasSymbol (lines_by_rule is_named lines)

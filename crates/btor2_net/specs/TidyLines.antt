@@ -8,13 +8,13 @@ use Rattle.btor2_text.specs.declared.line.Argument.{Argument}
 use Rattle.btor2_text.specs.declared.line.Argument.TheVariants as arguments
 use Rattle.btor2_text.specs.declared.line.Line.{Line}
 use Rattle.btor2_model.specs.Rules.{is_next, is_output}
-use Rattle.btor2_model.specs.Run.{ids_of, lines_of}
+use Rattle.btor2_model.specs.Run.{ids_of, lines_by_rule}
 use Rattle.btor2_model.specs.Scope.{id_at}
-use Rattle.btor2_model.specs.declared.rule.Rule.{Rule}
-use Rattle.btor2_model.specs.declared.rule.Rule.TheVariants as forms
+use Rattle.btor2_model.specs.declared.rule.FormRule.{FormRule}
+use Rattle.btor2_model.specs.declared.rule.FormRule.TheVariants as forms
 
 -- the line is that of an operator
-abbrev pub is_operator : Rule → Bool
+abbrev pub is_operator : FormRule → Bool
 is_operator forms.Unary = true
 is_operator forms.Reduced = true
 is_operator forms.Binary = true
@@ -27,7 +27,7 @@ is_operator forms.Chosen = true
 is_operator other = false
 
 -- the line is that of a constant, by its name or by its digits
-abbrev pub is_any_constant : Rule → Bool
+abbrev pub is_any_constant : FormRule → Bool
 is_any_constant forms.Constant = true
 is_any_constant (forms.Numeral base) = true
 is_any_constant other = false
@@ -48,9 +48,9 @@ Differ a b = ¬ ((a.keyword ≡ b.keyword) × (a.arguments ≡ b.arguments) × (
 
 -- an id serves a `next` or an output: it is the value of one, or an operand of an operator's line that does
 pub data IdServes (lines : List Line) : ℕ → Type 0 where
-  next : (line : Line) → Contains (lines_of is_next lines) line → IdServes lines (id_at line.arguments 2)
-  output : (line : Line) → Contains (lines_of is_output lines) line → IdServes lines (id_at line.arguments 0)
-  operand : (id : ℕ) (user : Line) → Contains (lines_of is_operator lines) user → Contains (operand_ids user.arguments) id → IdServes lines user.id → IdServes lines id
+  next : (line : Line) → Contains (lines_by_rule is_next lines) line → IdServes lines (id_at line.arguments 2)
+  output : (line : Line) → Contains (lines_by_rule is_output lines) line → IdServes lines (id_at line.arguments 0)
+  operand : (id : ℕ) (user : Line) → Contains (lines_by_rule is_operator lines) user → Contains (operand_ids user.arguments) id → IdServes lines user.id → IdServes lines id
 
 -- a line has an operand that is no constant
 abbrev pub IsOpenLine : List Line → Line → Type 0
@@ -71,7 +71,7 @@ IsNeededLine lines line = IsNeededBy lines line.keyword line.arguments
 -- lines are tidy: no two lines of operators agree in all but their ids, each serves, none has constants alone as
 -- operands, and each is needed
 pub record AreTidy (lines : List Line) : Type 0 where
-  pub distinct : AllPairs Differ (lines_of is_operator lines)
-  pub serve : All (λ (line : Line). IdServes lines line.id) (lines_of is_operator lines)
-  pub are_open : All (IsOpenLine lines) (lines_of is_operator lines)
+  pub distinct : AllPairs Differ (lines_by_rule is_operator lines)
+  pub serve : All (λ (line : Line). IdServes lines line.id) (lines_by_rule is_operator lines)
+  pub are_open : All (IsOpenLine lines) (lines_by_rule is_operator lines)
   pub needed : All (IsNeededLine lines) lines

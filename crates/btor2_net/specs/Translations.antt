@@ -10,28 +10,28 @@ use Rattle.circuit_eval.specs.declared.circuit.InputWire.{InputWire}
 use Rattle.circuit_eval.specs.declared.circuit.OutputWire.{OutputWire}
 use Rattle.circuit_eval.specs.declared.circuit.StateWire.{StateWire}
 use Rattle.circuit_eval.specs.declared.circuit.Wires.{Wires}
-use Rattle.btor2_text.specs.Printable.{IsToken}
+use Rattle.btor2_text.specs.Printable.{IsPlainToken}
 use Rattle.btor2_text.specs.declared.line.Line.{Line}
 use Rattle.btor2_model.specs.Rules.{is_input, is_output, is_state}
 use Rattle.btor2_model.specs.Run as text
 use Rattle.btor2_model.specs.Scope.{id_at}
-use Rattle.btor2_model.specs.declared.rule.Rule.{Rule}
+use Rattle.btor2_model.specs.declared.rule.FormRule.{FormRule}
 
 -- the name of a line: its symbol, or else `n` and its id
-abbrev pub name_of : Line → List ℕ
-name_of line = unwrap_or line.symbol (110 ∷ decimal line.id)
+abbrev pub line_name : Line → List ℕ
+line_name line = unwrap_or line.symbol (110 ∷ decimal line.id)
 
 -- the names of a text's lines of a rule
-abbrev pub names_of : (Rule → Bool) → List Line → List (List ℕ)
-names_of test lines = map name_of (text.lines_of test lines)
+abbrev pub names_of : (FormRule → Bool) → List Line → List (List ℕ)
+names_of test lines = map line_name (text.lines_by_rule test lines)
 
 -- the widths of a text's lines of a rule
-abbrev pub widths_in : (Rule → Bool) → List Line → List ℕ
+abbrev pub widths_in : (FormRule → Bool) → List Line → List ℕ
 widths_in test lines = map (text.width_in lines) (text.ids_of test lines)
 
 -- the widths of the values that outputs name
 abbrev pub output_widths : List Line → List ℕ
-output_widths lines = map (λ (line : Line). text.width_in lines (id_at line.arguments 0)) (text.lines_of is_output lines)
+output_widths lines = map (λ (line : Line). text.width_in lines (id_at line.arguments 0)) (text.lines_by_rule is_output lines)
 
 -- the circuit has an input, a state and an output for each of the text's, in order and of the same names and widths
 pub record HasLines (lines : List Line) (c : Wires) : Type 0 where
@@ -51,13 +51,13 @@ RunsAs lines c = (stimulus : InputVectors) (n : ℕ) → stimulus.widths ≡ cir
 abbrev pub GivesOutputs : List Line → Wires → Type 0
 GivesOutputs lines c = (stimulus : InputVectors) (step : ℕ) → stimulus.widths ≡ circuit.input_widths c.inputs → AlwaysFits stimulus
     → (after_steps (inputs_of stimulus) (step + 1) 0 (beginning c)).outputs
-    ≡ map (λ (line : Line). text.values_in lines (inputs_of stimulus) step (id_at line.arguments 0)) (text.lines_of is_output lines)
+    ≡ map (λ (line : Line). text.values_in lines (inputs_of stimulus) step (id_at line.arguments 0)) (text.lines_by_rule is_output lines)
 
 -- each name of the circuit can be written: a byte or more, and no blank, semicolon or end of a line
 pub record HasTokens (c : Wires) : Type 0 where
-  pub inputs : All (λ (wire : InputWire). IsToken wire.name) c.inputs
-  pub states : All (λ (wire : StateWire). IsToken wire.name) c.states
-  pub outputs : All (λ (wire : OutputWire). IsToken wire.name) c.outputs
+  pub inputs : All (λ (wire : InputWire). IsPlainToken wire.name) c.inputs
+  pub states : All (λ (wire : StateWire). IsPlainToken wire.name) c.states
+  pub outputs : All (λ (wire : OutputWire). IsPlainToken wire.name) c.outputs
 
 -- the ids of lines are 1, 2, 3 and so on
 abbrev pub AreCounted : List Line → Type 0

@@ -3,7 +3,7 @@
 ghost use Rattle.std.specs.Prelude.{◌<◌, ◌^◌, IfOk, length};
 ghost use Rattle.btor2_model.specs.Acceptance.{IsAccepted};
 ghost use Rattle.btor2_model.specs.Rules.{is_input, is_state};
-ghost use Rattle.btor2_model.specs.Run.{lines_of};
+ghost use Rattle.btor2_model.specs.Run.{lines_by_rule};
 ghost use Rattle.btor2_net.specs.Translations.{GivesOutputs, HasLines, HasTokens, RunsAs};
 ghost use Rattle.btor2_net.specs.inner.Wires.{AreWiresOf};
 
@@ -19,8 +19,8 @@ use std::alloc::Global;
 
 /// The circuit of a text, whose run is the text's. Its inputs, states and outputs have the names of the lines.
 pub fn to_circuit(alloc: Global, text: &Btor) -> Result<Circuit, NoMemory>
-    requires inputs { length (lines_of is_input text.now) < 2 ^ 32 }
-    requires states { length (lines_of is_state text.now) < 2 ^ 32 }
+    requires inputs { length (lines_by_rule is_input text.now) < 2 ^ 32 }
+    requires states { length (lines_by_rule is_state text.now) < 2 ^ 32 }
     ensures lines { IfOk result (HasLines text.now) }
     ensures run { IfOk result (RunsAs text.now) }
     ensures outputs { IfOk result (GivesOutputs text.now) }
@@ -33,8 +33,8 @@ pub fn to_circuit(alloc: Global, text: &Btor) -> Result<Circuit, NoMemory>
 // What the circuit of an accepted text is made of.
 fn wires_of(alloc: Global, lines: &[Line]) -> Result<Wires, NoMemory>
     requires accepted { IsAccepted lines.now }
-    requires inputs { length (lines_of is_input lines.now) < 2 ^ 32 }
-    requires states { length (lines_of is_state lines.now) < 2 ^ 32 }
+    requires inputs { length (lines_by_rule is_input lines.now) < 2 ^ 32 }
+    requires states { length (lines_by_rule is_state lines.now) < 2 ^ 32 }
     ensures { IfOk result (AreWiresOf lines.now) }
 {
     let nodes = nodes_of(alloc, lines)?;

@@ -4,7 +4,7 @@ ghost use Rattle.std.specs.Prelude.{◌≡◌};
 ghost use Rattle.btor2_model.specs.Rules.{rule_of};
 ghost use Rattle.btor2_net.specs.inner.Wires.{is_form};
 
-use btor2_model::Rule;
+use btor2_model::FormRule;
 use btor2_text::Line;
 
 /// The lines that one pass over a text looks at.
@@ -22,7 +22,7 @@ impl Form {
     pub(crate) fn is_of(self, line: &Line) -> bool
         ensures { result ≡ is_form self (rule_of line.now.keyword) }
     {
-        let rule = Rule::of(line.keyword);
+        let rule = FormRule::of(line.keyword);
         match self {
             Form::Input => rule.is_input(),
             Form::State => rule.is_state(),

@@ -1,7 +1,7 @@
 //! Circuits: the names of lines.
 
 ghost use Rattle.std.specs.Prelude.{◌≡◌, ◌∷◌, IfOk, decimal};
-ghost use Rattle.btor2_net.specs.Translations.{name_of};
+ghost use Rattle.btor2_net.specs.Translations.{line_name};
 
 use btor2_text::Line;
 use itoa::Buffer;
@@ -10,7 +10,7 @@ use std::alloc::Global;
 
 /// The name of a line: its symbol, or else `n` and its id.
 pub(crate) fn name_of(alloc: Global, line: &Line) -> Result<Text, NoMemory>
-    ensures { IfOk result (λ name. name ≡ name_of line.now) }
+    ensures { IfOk result (λ name. name ≡ line_name line.now) }
 {
     match &line.symbol {
         Some(symbol) => Text::from_slice(alloc, symbol.as_slice()),

@@ -16,7 +16,7 @@ ghost use Rattle.btor2_net.specs.inner.Values.{AreNodesOf};
 ghost use Rattle.btor2_net.specs.inner.Wires.{node_of};
 
 use crate::operators::{one_of, two_of};
-use btor2_model::{Rule, Table, digits_at, id_at, named_constant, number_at, written_constant};
+use btor2_model::{FormRule, Table, digits_at, id_at, named_constant, number_at, written_constant};
 use btor2_text::{Argument, Keyword, Line};
 use kw_bits::{Bits, NoMemory};
 use net_graph::{Net, NetId, NetOp};
@@ -26,8 +26,8 @@ use std::alloc::Global;
 pub(crate) fn nodes_of(alloc: Global, lines: &[Line]) -> Result<Nodes, NoMemory>
     requires fine { lines_fault no_lines lines.now ≡ None }
     requires forms { ArePrintable lines.now }
-    requires inputs { length (run.lines_of is_input lines.now) < 2 ^ 32 }
-    requires states { length (run.lines_of is_state lines.now) < 2 ^ 32 }
+    requires inputs { length (run.lines_by_rule is_input lines.now) < 2 ^ 32 }
+    requires states { length (run.lines_by_rule is_state lines.now) < 2 ^ 32 }
     ensures { IfOk result (λ n. AreNodesOf lines.now (numbering.numbering_of n) n.net) }
 {
     let mut nodes = Nodes::new(alloc, lines.len())?;
@@ -77,7 +77,7 @@ impl Nodes {
     {
         self.add_node(line)?;
         self.add_sort(line)?;
-        let rule = Rule::of(line.keyword);
+        let rule = FormRule::of(line.keyword);
         if rule.is_input() {
             self.inputs += 1;
         }
@@ -112,7 +112,7 @@ impl Nodes {
         ensures inputs { OnOk result (self.new.inputs ≡ self.old.inputs) }
         ensures states { OnOk result (self.new.states ≡ self.old.states) }
     {
-        if Rule::of(line.keyword).is_sort() {
+        if FormRule::of(line.keyword).is_sort() {
             let width = number_at(line.arguments.as_slice(), 1);
             self.sorts.insert(line.id, width)?;
         }
@@ -126,31 +126,34 @@ impl Nodes {
     {
         let keyword = line.keyword;
         let given = line.arguments.as_slice();
-        match Rule::of(keyword) {
-            Rule::Input => Some(NetOp::Input(self.inputs, self.sort(given))),
-            Rule::State => Some(NetOp::State(self.states, self.sort(given))),
-            Rule::Constant => Some(NetOp::Const(named(keyword, self.sort(given)))),
-            Rule::Numeral(_) => Some(NetOp::Const(written(keyword, self.sort(given), given))),
-            Rule::Unary | Rule::Reduced => {
+        match FormRule::of(keyword) {
+            FormRule::Input => Some(NetOp::Input(self.inputs, self.sort(given))),
+            FormRule::State => Some(NetOp::State(self.states, self.sort(given))),
+            FormRule::Constant => Some(NetOp::Const(named(keyword, self.sort(given)))),
+            FormRule::Numeral(_) => Some(NetOp::Const(written(keyword, self.sort(given), given))),
+            FormRule::Unary | FormRule::Reduced => {
                 Some(NetOp::One(one_of(keyword)?, self.node(given, 1)))
             }
-            Rule::Binary | Rule::Compared | Rule::Boolean | Rule::Joined => Some(NetOp::Two(
-                two_of(keyword)?,
-                self.node(given, 1),
-                self.node(given, 2),
-            )),
-            Rule::Sliced => Some(NetOp::Slice(
+            FormRule::Binary | FormRule::Compared | FormRule::Boolean | FormRule::Joined => Some(
+                NetOp::Two(two_of(keyword)?, self.node(given, 1), self.node(given, 2)),
+            ),
+            FormRule::Sliced => Some(NetOp::Slice(
                 self.node(given, 1),
                 number_at(given, 2),
                 number_at(given, 3),
             )),
-            Rule::Extended => Some(extension(keyword, self.node(given, 1), number_at(given, 2))),
-            Rule::Chosen => Some(NetOp::Ite(
+            FormRule::Extended => Some(extension(
+                keyword,
+                self.node(given, 1),
+                number_at(given, 2),
+            )),
+            FormRule::Chosen => Some(NetOp::Ite(
                 self.node(given, 1),
                 self.node(given, 2),
                 self.node(given, 3),
             )),
-            Rule::Sort | Rule::Init | Rule::Next | Rule::Output | Rule::Bad => None,
+            FormRule::Sort | FormRule::Init | FormRule::Next | FormRule::Output | FormRule::Bad =>
+                None,
         }
     }
 

@@ -5,7 +5,7 @@ ghost use Rattle.std.specs.Prelude.{◌≡◌, ◌<◌, IfOk, Some, length, map,
 ghost use Rattle.net_graph.specs.Laws.{Feeds};
 ghost use Rattle.net_graph.specs.Values.{values_of};
 ghost use Rattle.btor2_model.specs.Rules.{is_input, is_output, is_state};
-ghost use Rattle.btor2_model.specs.Run.{lines_of};
+ghost use Rattle.btor2_model.specs.Run.{lines_by_rule};
 ghost use Rattle.btor2_model.specs.Table.{value_in};
 ghost use Rattle.btor2_net.specs.inner.Wires as wires;
 ghost use Rattle.btor2_net.specs.declared.form.Form.TheVariants as forms;
@@ -27,7 +27,7 @@ pub(crate) fn inputs(
     lines: &[Line],
 ) -> Result<Sequence<InputWire>, NoMemory>
     requires { wires.Stand nodes.now forms.Input lines.now }
-    ensures { IfOk result (λ inputs. inputs ≡ map (wires.input_wire nodes.now) (lines_of is_input lines.now)) }
+    ensures { IfOk result (λ inputs. inputs ≡ map (wires.input_wire nodes.now) (lines_by_rule is_input lines.now)) }
 {
     let mut inputs = Sequence::new(alloc);
     for line in lines {
@@ -47,7 +47,7 @@ pub(crate) fn outputs(
     nodes: &Nodes,
     lines: &[Line],
 ) -> Result<Sequence<OutputWire>, NoMemory>
-    ensures { IfOk result (λ outputs. outputs ≡ map (wires.output_wire nodes.now) (lines_of is_output lines.now)) }
+    ensures { IfOk result (λ outputs. outputs ≡ map (wires.output_wire nodes.now) (lines_by_rule is_output lines.now)) }
 {
     let mut outputs = Sequence::new(alloc);
     for line in lines {
@@ -84,7 +84,7 @@ pub(crate) fn zeros(
     lines: &[Line],
 ) -> Result<Vec<Bits>, NoMemory>
     requires { wires.Stand nodes.now form lines.now }
-    ensures { IfOk result (λ zeros. zeros.items ≡ map (wires.zero_of nodes.now) (lines_of (wires.is_form form) lines.now)) }
+    ensures { IfOk result (λ zeros. zeros.items ≡ map (wires.zero_of nodes.now) (lines_by_rule (wires.is_form form) lines.now)) }
 {
     let mut zeros = Vec::new(alloc);
     for line in lines {
@@ -106,7 +106,7 @@ pub(crate) fn states(
 ) -> Result<Sequence<StateWire>, NoMemory>
     requires stand { wires.Stand nodes.now forms.State lines.now }
     requires first { (state id : ℕ) → value_in inits.now state ≡ Some id → wires.node_of nodes.now id < length constants.now }
-    ensures { IfOk result (λ states. states ≡ map (wires.state_wire nodes.now constants.now (value_in inits.now) (value_in nexts.now)) (lines_of is_state lines.now)) }
+    ensures { IfOk result (λ states. states ≡ map (wires.state_wire nodes.now constants.now (value_in inits.now) (value_in nexts.now)) (lines_by_rule is_state lines.now)) }
 {
     let mut states = Sequence::new(alloc);
     for line in lines {

@@ -7,7 +7,7 @@ use Rattle.btor2_text.specs.inner.Flaws.{MatchRead}
 use Rattle.btor2_text.specs.Forms.{keyword_text, kinds_of, left_out}
 use Rattle.btor2_text.specs.Lines.{IsId, BeginWithArguments, HasMinus, IsLine, IsArraySort, IsLeftOut, IsNegated, IsOutside, IsMalformed}
 use Rattle.btor2_text.specs.declared.keyword.Keyword.{Keyword}
-use Rattle.btor2_text.specs.declared.kind.Kind.{Kind}
+use Rattle.btor2_text.specs.declared.kind.ArgumentKind.{ArgumentKind}
 use Rattle.btor2_text.specs.declared.line.Argument.{Argument}
 use Rattle.btor2_text.specs.declared.line.Line.{Line}
 use Rattle.btor2_text.specs.declared.reader.Flaw.{Flaw}
@@ -43,7 +43,7 @@ parts_of number id keyword others line is =
     }
 
 -- a form's arguments take as many tokens
-pub enough_tokens : (kinds : List Kind) (tokens : List (List ℕ)) (given : List Argument) → BeginWithArguments kinds tokens given → length kinds ≤ length tokens
+pub enough_tokens : (kinds : List ArgumentKind) (tokens : List (List ℕ)) (given : List Argument) → BeginWithArguments kinds tokens given → length kinds ≤ length tokens
 enough_tokens [] tokens given are = omega arith
 enough_tokens (kind ∷ kinds) [] given are = absurd are
 enough_tokens (kind ∷ kinds) (token ∷ tokens) given are = let rest = enough_tokens kinds tokens are.1 are.4 in omega (arith, rest)

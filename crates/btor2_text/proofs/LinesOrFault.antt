@@ -14,10 +14,10 @@ use Rattle.kw_base.specs.declared.fault.Fault.{Fault}
 use Rattle.btor2_text.specs.Cut.{lines_of, number_after, tokens_of}
 use Rattle.btor2_text.specs.Forms.{keyword_text, kinds_of, left_out, may_be_negative, radix_of}
 use Rattle.btor2_text.specs.Lines.{BeginWithArguments, HasMinus, IsArgument, IsArraySort, IsId, IsLeftOut, IsLine, IsMalformed, IsNegative, IsNumber, IsOutside}
-use Rattle.btor2_text.specs.Reading.{AreLines, AreLinesOf, Gives, IsFirstFault, IsFirstFaultOf, line_place}
+use Rattle.btor2_text.specs.Reading.{AreLines, AreLinesOf, Gives, IsFirstLineFault, IsFirstFaultOf, line_place}
 use Rattle.btor2_text.specs.declared.keyword.Keyword.{Keyword}
-use Rattle.btor2_text.specs.declared.kind.Kind.{Kind}
-use Rattle.btor2_text.specs.declared.kind.Kind.TheVariants as kinds
+use Rattle.btor2_text.specs.declared.kind.ArgumentKind.{ArgumentKind}
+use Rattle.btor2_text.specs.declared.kind.ArgumentKind.TheVariants as kinds
 use Rattle.btor2_text.specs.declared.line.Argument.{Argument}
 use Rattle.btor2_text.specs.declared.line.Argument.TheVariants as arguments
 use Rattle.btor2_text.specs.declared.line.Line.{Line}
@@ -79,7 +79,7 @@ argument_of_id : (token : List ℕ) → SomeOrNone (λ (argument : Argument). (i
 argument_of_id token =
     ⊎_elim (λ is. inl (arguments.Id is.0, (is.0, is.1, refl))) (λ never. inr (λ argument is. never is.0 is.1)) (id_or_none token)
 
-argument_or_none : (kind : Kind) (token : List ℕ) → SomeOrNone (IsArgument kind token)
+argument_or_none : (kind : ArgumentKind) (token : List ℕ) → SomeOrNone (IsArgument kind token)
 argument_or_none kinds.Bitvec token =
     ⊎_elim
     (λ is. inl (arguments.Bitvec, (is, refl)))
@@ -92,7 +92,7 @@ argument_or_none kinds.Value token = argument_of_id token
 argument_or_none (kinds.Numeral base) token =
     ⊎_elim (λ is. inl (arguments.Numeral token, (is, refl))) (λ never. inr (λ argument is. never is.0)) (numeral_or_not (radix_of base) token)
 
-arguments_or_none : (kinds : List Kind) (tokens : List (List ℕ)) → SomeOrNone (BeginWithArguments kinds tokens)
+arguments_or_none : (kinds : List ArgumentKind) (tokens : List (List ℕ)) → SomeOrNone (BeginWithArguments kinds tokens)
 arguments_or_none [] tokens = inl ([], refl)
 arguments_or_none (kind ∷ kinds) [] = inr (λ given are. are)
 arguments_or_none (kind ∷ kinds) (token ∷ tokens) =
@@ -113,14 +113,14 @@ begins_with_minus_or_not (b ∷ bytes) =
     (λ other. inr (λ is. let e = is.1 in other cc))
     (decided _ (Decides-eqb b 45))
 
-negative_or_not : (kind : Kind) (token : List ℕ) → IsNegative kind token ⊎ ¬ IsNegative kind token
+negative_or_not : (kind : ArgumentKind) (token : List ℕ) → IsNegative kind token ⊎ ¬ IsNegative kind token
 negative_or_not kind token =
     ⊎_elim
     (λ may. ⊎_elim (λ is. inl (may, is)) (λ never. inr (λ is. never is.1)) (begins_with_minus_or_not token))
     (λ never. inr (λ is. never is.0))
     (decided (may_be_negative kind) (λ may. may, λ may. may))
 
-minus_or_not : (kinds : List Kind) (tokens : List (List ℕ)) → HasMinus kinds tokens ⊎ ¬ HasMinus kinds tokens
+minus_or_not : (kinds : List ArgumentKind) (tokens : List (List ℕ)) → HasMinus kinds tokens ⊎ ¬ HasMinus kinds tokens
 minus_or_not [] tokens = inr (λ has. has)
 minus_or_not (kind ∷ kinds) [] = inr (λ has. has)
 minus_or_not (kind ∷ kinds) (token ∷ tokens) =
@@ -255,7 +255,7 @@ tokens_read number [] = inl (None, refl)
 tokens_read number (id ∷ []) = read_from_told number (id ∷ []) (inr (inr (malformed-one id)))
 tokens_read number (id ∷ word ∷ others) = read_from_told number (id ∷ word ∷ others) (word_told number id word others)
 
-texts_read : (number : ℕ) (texts : List (List ℕ)) → ((lines : List Line) × AreLines number texts lines) ⊎ ((fault : Fault) × IsFirstFault number texts fault)
+texts_read : (number : ℕ) (texts : List (List ℕ)) → ((lines : List Line) × AreLines number texts lines) ⊎ ((fault : Fault) × IsFirstLineFault number texts fault)
 texts_read number [] = inl ([], refl)
 texts_read number (text ∷ texts) =
     ⊎_elim

@@ -11,8 +11,8 @@ use Rattle.btor2_text.specs.declared.keyword.Keyword.{Keyword}
 use Rattle.btor2_text.specs.declared.keyword.Keyword.TheVariants as keywords
 use Rattle.btor2_text.specs.declared.kind.Base.{Base}
 use Rattle.btor2_text.specs.declared.kind.Base.TheVariants as bases
-use Rattle.btor2_text.specs.declared.kind.Kind.{Kind}
-use Rattle.btor2_text.specs.declared.kind.Kind.TheVariants as kinds
+use Rattle.btor2_text.specs.declared.kind.ArgumentKind.{ArgumentKind}
+use Rattle.btor2_text.specs.declared.kind.ArgumentKind.TheVariants as kinds
 use Rattle.btor2_text.specs.declared.line.Argument.{Argument}
 use Rattle.btor2_text.specs.declared.line.Line.{Line}
 use Rattle.btor2_text.proofs.FormsOfLines.{negation_of, same_word, same_others}
@@ -91,7 +91,7 @@ minus_is_no_digit bases.Hexadecimal = λ h. omega (arith, h)
 first_digit : (radix : ℕ) (token digits : List ℕ) → AllDigits radix token → token ≡ 45 ∷ digits → digit_value 45 < radix
 first_digit radix token digits all is = (subst (λ t. AllDigits radix t) is all).0
 
-not_negative : (kind : Kind) (token : List ℕ) (argument : Argument) → IsArgument kind token argument → ¬ IsNegative kind token
+not_negative : (kind : ArgumentKind) (token : List ℕ) (argument : Argument) → IsArgument kind token argument → ¬ IsNegative kind token
 not_negative kinds.Bitvec token argument reads = λ negative. true≢false (sym negative.0)
 not_negative kinds.Number token argument reads = λ negative. true≢false (sym negative.0)
 not_negative kinds.Sort token argument reads = λ negative. true≢false (sym negative.0)
@@ -99,7 +99,7 @@ not_negative kinds.Value token argument reads = λ negative. minus_is_no_digit b
 not_negative (kinds.Numeral base) token argument reads = λ negative. minus_is_no_digit base (first_digit (radix_of base) token negative.1.0 reads.0.1 negative.1.1)
 
 -- arguments have no minus sign
-pub no_minus : (kinds : List Kind) (tokens : List (List ℕ)) (given : List Argument) → BeginWithArguments kinds tokens given → ¬ HasMinus kinds tokens
+pub no_minus : (kinds : List ArgumentKind) (tokens : List (List ℕ)) (given : List Argument) → BeginWithArguments kinds tokens given → ¬ HasMinus kinds tokens
 no_minus [] tokens given are = λ has. has
 no_minus (kind ∷ kinds) [] given are = λ has. has
 no_minus (kind ∷ kinds) (token ∷ tokens) given are = λ has. ⊎_elim (λ here. not_negative kind token are.0 are.3 here) (λ later. no_minus kinds tokens are.1 are.4 later) has

@@ -7,8 +7,8 @@ use Rattle.btor2_text.specs.Forms.{keyword_text, kinds_of}
 use Rattle.btor2_text.specs.Lines.{IsArgument, BeginWithArguments, IsLine}
 use Rattle.btor2_text.specs.Printable.{FitsKind, FitKinds, is_plain, AreTokens, IsPrintable, ArePrintable}
 use Rattle.btor2_text.specs.Reading.{Gives, AreLines, AreLinesOf}
-use Rattle.btor2_text.specs.declared.kind.Kind.{Kind}
-use Rattle.btor2_text.specs.declared.kind.Kind.TheVariants as kinds
+use Rattle.btor2_text.specs.declared.kind.ArgumentKind.{ArgumentKind}
+use Rattle.btor2_text.specs.declared.kind.ArgumentKind.TheVariants as kinds
 use Rattle.btor2_text.specs.declared.line.Argument.{Argument}
 use Rattle.btor2_text.specs.declared.line.Line.{Line}
 use Rattle.btor2_text.proofs.Conjunction.{and-true, and-left, and-right}
@@ -89,14 +89,14 @@ AreTokens-drop zero tokens are = are
 AreTokens-drop (suc n) [] are = tt
 AreTokens-drop (suc n) (token ∷ tokens) are = AreTokens-drop n tokens are.1
 
-FitsKind-IsArgument : (kind : Kind) (token : List ℕ) (argument : Argument) → IsArgument kind token argument → FitsKind kind argument
+FitsKind-IsArgument : (kind : ArgumentKind) (token : List ℕ) (argument : Argument) → IsArgument kind token argument → FitsKind kind argument
 FitsKind-IsArgument kinds.Bitvec token argument is = is.1
 FitsKind-IsArgument kinds.Number token argument is = (is.0, is.1.high, is.2)
 FitsKind-IsArgument kinds.Sort token argument is = (is.0, (is.1.low, is.1.high), is.2)
 FitsKind-IsArgument kinds.Value token argument is = (is.0, (is.1.low, is.1.high), is.2)
 FitsKind-IsArgument (kinds.Numeral base) token argument is = (token, is.0, is.1)
 
-FitKinds-arguments : (kinds : List Kind) (tokens : List (List ℕ)) (given : List Argument) → BeginWithArguments kinds tokens given → FitKinds kinds given
+FitKinds-arguments : (kinds : List ArgumentKind) (tokens : List (List ℕ)) (given : List Argument) → BeginWithArguments kinds tokens given → FitKinds kinds given
 FitKinds-arguments [] tokens given are = are
 FitKinds-arguments (kind ∷ kinds) [] given are = absurd are
 FitKinds-arguments (kind ∷ kinds) (token ∷ tokens) given are = (are.0, are.1, are.2, FitsKind-IsArgument kind token are.0 are.3, FitKinds-arguments kinds tokens are.1 are.4)

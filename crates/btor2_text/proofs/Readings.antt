@@ -10,12 +10,12 @@ use Rattle.btor2_text.specs.Cut.{lines_of, number_after, tokens_of}
 use Rattle.btor2_text.specs.inner.Flaws.{GivesLine, IsRefusal}
 use Rattle.btor2_text.specs.declared.reader.Flaw.{Flaw}
 use Rattle.btor2_text.specs.declared.reader.Flaw.TheVariants as flaws
-use Rattle.btor2_text.specs.Reading.{Gives, AreLines, IsFirstFault, AreLinesOf, IsFirstFaultOf}
+use Rattle.btor2_text.specs.Reading.{Gives, AreLines, IsFirstLineFault, AreLinesOf, IsFirstFaultOf}
 use Rattle.btor2_text.specs.Forms.{kinds_of}
 use Rattle.btor2_text.specs.Lines.{IsArgument, BeginWithArguments, IsLine, IsOutside}
 use Rattle.btor2_text.specs.declared.keyword.Keyword.{Keyword}
-use Rattle.btor2_text.specs.declared.kind.Kind.{Kind}
-use Rattle.btor2_text.specs.declared.kind.Kind.TheVariants as kinds
+use Rattle.btor2_text.specs.declared.kind.ArgumentKind.{ArgumentKind}
+use Rattle.btor2_text.specs.declared.kind.ArgumentKind.TheVariants as kinds
 use Rattle.btor2_text.specs.declared.line.Argument.{Argument}
 use Rattle.btor2_text.specs.declared.line.Argument.TheVariants as arguments
 use Rattle.btor2_text.specs.declared.line.Line.{Line}
@@ -25,7 +25,7 @@ use Rattle.btor2_text.proofs.NotOutside.{line_not_outside}
 -- the first texts give these lines, and others are left, numbered from here on
 pub record ReadTo (all : List (List ℕ)) (lines : List Line) (number : ℕ) (left : List (List ℕ)) : Type 0 where
   pub forth : (others : List Line) → AreLines (number_after number) left others → AreLines 1 all (lines ++ others)
-  pub fault : (fault : Fault) → IsFirstFault (number_after number) left fault → IsFirstFault 1 all fault
+  pub fault : (fault : Fault) → IsFirstLineFault (number_after number) left fault → IsFirstLineFault 1 all fault
 
 pub ReadTo-start : (all : List (List ℕ)) → ReadTo all [] 0 all
 ReadTo-start all = record { forth = λ others are. are; fault = λ fault is. is }
@@ -38,20 +38,20 @@ ReadTo-next all lines number left to text texts splits here is_here read gives =
       let whole : AreLines here left (option_to_list read ++ others) = rw splits (read, others, refl, gives, are) in
       rw append_assoc (to.forth (option_to_list read ++ others) (rw is_here at whole));
   fault = λ fault is.
-      let whole : IsFirstFault here left fault = rw splits (inr (read, gives, is)) in to.fault fault (rw is_here at whole);
+      let whole : IsFirstLineFault here left fault = rw splits (inr (read, gives, is)) in to.fault fault (rw is_here at whole);
 }
 
 pub ReadTo-fault : (all : List (List ℕ)) (lines : List Line) (number : ℕ) (left : List (List ℕ)) → ReadTo all lines number left
-    → (text : List ℕ) (texts : List (List ℕ)) → left ≡ text ∷ texts → (fault : Fault) → Gives (number_after number) (tokens_of text) (Err fault) → IsFirstFault 1 all fault
+    → (text : List ℕ) (texts : List (List ℕ)) → left ≡ text ∷ texts → (fault : Fault) → Gives (number_after number) (tokens_of text) (Err fault) → IsFirstLineFault 1 all fault
 ReadTo-fault all lines number left to text texts splits fault gives =
-    let whole : IsFirstFault (number_after number) left fault = rw splits (inl gives) in to.fault fault whole
+    let whole : IsFirstLineFault (number_after number) left fault = rw splits (inl gives) in to.fault fault whole
 
 pub ReadTo-end : (all : List (List ℕ)) (lines : List Line) (number : ℕ) (left : List (List ℕ)) → ReadTo all lines number left → left ≡ [] → AreLines 1 all lines
 ReadTo-end all lines number left to none =
     let whole : AreLines (number_after number) left [] = rw none refl in
     subst (λ found. AreLines 1 all found) (append-nil lines) (to.forth [] whole)
 
-same_arguments : (kind : Kind) (token : List ℕ) (a b : Argument) → IsArgument kind token a → IsArgument kind token b → a ≡ b
+same_arguments : (kind : ArgumentKind) (token : List ℕ) (a b : Argument) → IsArgument kind token a → IsArgument kind token b → a ≡ b
 same_arguments kinds.Bitvec token a b p q = p.1 ∙ sym q.1
 same_arguments kinds.Number token a b p q = p.2 ∙ ap (λ n. arguments.Number n) (p.1.value ∙ sym q.1.value) ∙ sym q.2
 same_arguments kinds.Sort token a b p q = p.2 ∙ ap (λ n. arguments.Id n) (p.1.value ∙ sym q.1.value) ∙ sym q.2
@@ -59,7 +59,7 @@ same_arguments kinds.Value token a b p q = p.2 ∙ ap (λ n. arguments.Id n) (p.
 same_arguments (kinds.Numeral base) token a b p q = p.1 ∙ sym q.1
 
 -- a form's tokens are one list of arguments
-one_list : (kinds : List Kind) (tokens : List (List ℕ)) (a b : List Argument) → BeginWithArguments kinds tokens a → BeginWithArguments kinds tokens b → a ≡ b
+one_list : (kinds : List ArgumentKind) (tokens : List (List ℕ)) (a b : List Argument) → BeginWithArguments kinds tokens a → BeginWithArguments kinds tokens b → a ≡ b
 one_list [] tokens a b p q = p ∙ sym q
 one_list (kind ∷ kinds) [] a b p q = absurd p
 one_list (kind ∷ kinds) (token ∷ tokens) a b p q =
@@ -134,7 +134,7 @@ same_readings number (text ∷ texts) a b p q =
     p.2 ∙ ap (λ read. option_to_list read ++ p.1) first ∙ ap (λ lines. option_to_list q.0 ++ lines) others ∙ sym q.2
 
 -- or one first fault
-pub same_faults : (number : ℕ) (texts : List (List ℕ)) (a b : Fault) → IsFirstFault number texts a → IsFirstFault number texts b → a ≡ b
+pub same_faults : (number : ℕ) (texts : List (List ℕ)) (a b : Fault) → IsFirstLineFault number texts a → IsFirstLineFault number texts b → a ≡ b
 same_faults number [] a b p q = absurd p
 same_faults number (text ∷ texts) a b p q = ⊎_elim
     (λ first. ⊎_elim
@@ -146,7 +146,7 @@ same_faults number (text ∷ texts) a b p q = ⊎_elim
     p
 
 -- and never both
-pub lines_or_fault : (number : ℕ) (texts : List (List ℕ)) (lines : List Line) (fault : Fault) → AreLines number texts lines → ¬ IsFirstFault number texts fault
+pub lines_or_fault : (number : ℕ) (texts : List (List ℕ)) (lines : List Line) (fault : Fault) → AreLines number texts lines → ¬ IsFirstLineFault number texts fault
 lines_or_fault number [] lines fault p = λ q. q
 lines_or_fault number (text ∷ texts) lines fault p = λ q. ⊎_elim
     (λ here. not_both number (tokens_of text) p.0 fault p.3 here)

@@ -12,15 +12,15 @@ use Rattle.std.proofs.lemmas.List.Sums.{AllPass-from_list_all}
 use Rattle.btor2_text.specs.Cut.{is_blank, begins_comment, ends_line, lines_of, number_after, words_of, tokens_of}
 use Rattle.btor2_text.specs.Forms.{keyword_text, kinds_of, radix_of}
 use Rattle.btor2_text.specs.Lines.{IsArgument, BeginWithArguments, IsId, IsLine}
-use Rattle.btor2_text.specs.Printable.{IsIdNumber, FitsKind, FitKinds, is_plain, IsToken, AreTokens, IsPrintable, ArePrintable, numbered_from}
+use Rattle.btor2_text.specs.Printable.{IsIdNumber, FitsKind, FitKinds, is_plain, IsPlainToken, AreTokens, IsPrintable, ArePrintable, numbered_from}
 use Rattle.btor2_text.specs.Printing.{argument_text, spaced, spaced_argument, line_text, text_of}
 use Rattle.btor2_text.specs.Reading.{AreLines}
 use Rattle.btor2_text.specs.declared.keyword.Keyword.{Keyword}
 use Rattle.btor2_text.specs.declared.keyword.Keyword.TheVariants as keywords
 use Rattle.btor2_text.specs.declared.kind.Base.{Base}
 use Rattle.btor2_text.specs.declared.kind.Base.TheVariants as bases
-use Rattle.btor2_text.specs.declared.kind.Kind.{Kind}
-use Rattle.btor2_text.specs.declared.kind.Kind.TheVariants as kinds
+use Rattle.btor2_text.specs.declared.kind.ArgumentKind.{ArgumentKind}
+use Rattle.btor2_text.specs.declared.kind.ArgumentKind.TheVariants as kinds
 use Rattle.btor2_text.specs.declared.line.Argument.{Argument}
 use Rattle.btor2_text.specs.declared.line.Line.{Line}
 use Rattle.btor2_text.proofs.Cuts.{before_first-append, lines_of-first, words_of-blank, words_of-word, words_of-nil}
@@ -85,8 +85,8 @@ plain_digits : (radix : ℕ) → radix ≤ 36 → (digits : List ℕ) → AllDig
 plain_digits radix small [] all = refl
 plain_digits radix small (d ∷ digits) all = and-true (is_plain d) (list_all is_plain digits) (plain_digit d (omega (arith, all.0))) (plain_digits radix small digits all.1)
 
-IsToken-digits : (radix : ℕ) → radix ≤ 36 → (digits : List ℕ) → IsNumeral radix digits → IsToken digits
-IsToken-digits radix small digits is = record { some_byte = is.0; plain = plain_digits radix small digits is.1 }
+IsPlainToken-digits : (radix : ℕ) → radix ≤ 36 → (digits : List ℕ) → IsNumeral radix digits → IsPlainToken digits
+IsPlainToken-digits radix small digits is = record { some_byte = is.0; plain = plain_digits radix small digits is.1 }
 
 small_radix : (base : Base) → radix_of base ≤ 36
 small_radix bases.Binary = lit≤ tt
@@ -96,88 +96,88 @@ small_radix bases.Hexadecimal = lit≤ tt
 IsId-decimal : (id : ℕ) → IsIdNumber id → IsId (decimal id) id
 IsId-decimal id is = let written = decimal_is_IsNumeral id is.1 in record { digits = written.0; value = sym written.1; low = is.0; high = is.1 }
 
-IsToken-decimal : (id : ℕ) → id < 2 ^ 64 → IsToken (decimal id)
-IsToken-decimal id small = IsToken-digits 10 (lit≤ tt) (decimal id) (decimal_is_IsNumeral id small).0
+IsPlainToken-decimal : (id : ℕ) → id < 2 ^ 64 → IsPlainToken (decimal id)
+IsPlainToken-decimal id small = IsPlainToken-digits 10 (lit≤ tt) (decimal id) (decimal_is_IsNumeral id small).0
 
 -- keywords are tokens
-IsToken-keyword : (keyword : Keyword) → IsToken (keyword_text keyword)
-IsToken-keyword keywords.Sort = record { some_byte = lit< tt; plain = refl }
-IsToken-keyword keywords.Input = record { some_byte = lit< tt; plain = refl }
-IsToken-keyword keywords.State = record { some_byte = lit< tt; plain = refl }
-IsToken-keyword keywords.Zero = record { some_byte = lit< tt; plain = refl }
-IsToken-keyword keywords.One = record { some_byte = lit< tt; plain = refl }
-IsToken-keyword keywords.Ones = record { some_byte = lit< tt; plain = refl }
-IsToken-keyword keywords.Const = record { some_byte = lit< tt; plain = refl }
-IsToken-keyword keywords.Constd = record { some_byte = lit< tt; plain = refl }
-IsToken-keyword keywords.Consth = record { some_byte = lit< tt; plain = refl }
-IsToken-keyword keywords.Not = record { some_byte = lit< tt; plain = refl }
-IsToken-keyword keywords.Neg = record { some_byte = lit< tt; plain = refl }
-IsToken-keyword keywords.Inc = record { some_byte = lit< tt; plain = refl }
-IsToken-keyword keywords.Dec = record { some_byte = lit< tt; plain = refl }
-IsToken-keyword keywords.Redand = record { some_byte = lit< tt; plain = refl }
-IsToken-keyword keywords.Redor = record { some_byte = lit< tt; plain = refl }
-IsToken-keyword keywords.Redxor = record { some_byte = lit< tt; plain = refl }
-IsToken-keyword keywords.And = record { some_byte = lit< tt; plain = refl }
-IsToken-keyword keywords.Or = record { some_byte = lit< tt; plain = refl }
-IsToken-keyword keywords.Xor = record { some_byte = lit< tt; plain = refl }
-IsToken-keyword keywords.Nand = record { some_byte = lit< tt; plain = refl }
-IsToken-keyword keywords.Nor = record { some_byte = lit< tt; plain = refl }
-IsToken-keyword keywords.Xnor = record { some_byte = lit< tt; plain = refl }
-IsToken-keyword keywords.Add = record { some_byte = lit< tt; plain = refl }
-IsToken-keyword keywords.Sub = record { some_byte = lit< tt; plain = refl }
-IsToken-keyword keywords.Mul = record { some_byte = lit< tt; plain = refl }
-IsToken-keyword keywords.Sll = record { some_byte = lit< tt; plain = refl }
-IsToken-keyword keywords.Srl = record { some_byte = lit< tt; plain = refl }
-IsToken-keyword keywords.Sra = record { some_byte = lit< tt; plain = refl }
-IsToken-keyword keywords.Eq = record { some_byte = lit< tt; plain = refl }
-IsToken-keyword keywords.Neq = record { some_byte = lit< tt; plain = refl }
-IsToken-keyword keywords.Ult = record { some_byte = lit< tt; plain = refl }
-IsToken-keyword keywords.Ulte = record { some_byte = lit< tt; plain = refl }
-IsToken-keyword keywords.Ugt = record { some_byte = lit< tt; plain = refl }
-IsToken-keyword keywords.Ugte = record { some_byte = lit< tt; plain = refl }
-IsToken-keyword keywords.Slt = record { some_byte = lit< tt; plain = refl }
-IsToken-keyword keywords.Slte = record { some_byte = lit< tt; plain = refl }
-IsToken-keyword keywords.Sgt = record { some_byte = lit< tt; plain = refl }
-IsToken-keyword keywords.Sgte = record { some_byte = lit< tt; plain = refl }
-IsToken-keyword keywords.Iff = record { some_byte = lit< tt; plain = refl }
-IsToken-keyword keywords.Implies = record { some_byte = lit< tt; plain = refl }
-IsToken-keyword keywords.Concat = record { some_byte = lit< tt; plain = refl }
-IsToken-keyword keywords.Slice = record { some_byte = lit< tt; plain = refl }
-IsToken-keyword keywords.Uext = record { some_byte = lit< tt; plain = refl }
-IsToken-keyword keywords.Sext = record { some_byte = lit< tt; plain = refl }
-IsToken-keyword keywords.Ite = record { some_byte = lit< tt; plain = refl }
-IsToken-keyword keywords.Init = record { some_byte = lit< tt; plain = refl }
-IsToken-keyword keywords.Next = record { some_byte = lit< tt; plain = refl }
-IsToken-keyword keywords.Output = record { some_byte = lit< tt; plain = refl }
-IsToken-keyword keywords.Bad = record { some_byte = lit< tt; plain = refl }
+IsPlainToken-keyword : (keyword : Keyword) → IsPlainToken (keyword_text keyword)
+IsPlainToken-keyword keywords.Sort = record { some_byte = lit< tt; plain = refl }
+IsPlainToken-keyword keywords.Input = record { some_byte = lit< tt; plain = refl }
+IsPlainToken-keyword keywords.State = record { some_byte = lit< tt; plain = refl }
+IsPlainToken-keyword keywords.Zero = record { some_byte = lit< tt; plain = refl }
+IsPlainToken-keyword keywords.One = record { some_byte = lit< tt; plain = refl }
+IsPlainToken-keyword keywords.Ones = record { some_byte = lit< tt; plain = refl }
+IsPlainToken-keyword keywords.Const = record { some_byte = lit< tt; plain = refl }
+IsPlainToken-keyword keywords.Constd = record { some_byte = lit< tt; plain = refl }
+IsPlainToken-keyword keywords.Consth = record { some_byte = lit< tt; plain = refl }
+IsPlainToken-keyword keywords.Not = record { some_byte = lit< tt; plain = refl }
+IsPlainToken-keyword keywords.Neg = record { some_byte = lit< tt; plain = refl }
+IsPlainToken-keyword keywords.Inc = record { some_byte = lit< tt; plain = refl }
+IsPlainToken-keyword keywords.Dec = record { some_byte = lit< tt; plain = refl }
+IsPlainToken-keyword keywords.Redand = record { some_byte = lit< tt; plain = refl }
+IsPlainToken-keyword keywords.Redor = record { some_byte = lit< tt; plain = refl }
+IsPlainToken-keyword keywords.Redxor = record { some_byte = lit< tt; plain = refl }
+IsPlainToken-keyword keywords.And = record { some_byte = lit< tt; plain = refl }
+IsPlainToken-keyword keywords.Or = record { some_byte = lit< tt; plain = refl }
+IsPlainToken-keyword keywords.Xor = record { some_byte = lit< tt; plain = refl }
+IsPlainToken-keyword keywords.Nand = record { some_byte = lit< tt; plain = refl }
+IsPlainToken-keyword keywords.Nor = record { some_byte = lit< tt; plain = refl }
+IsPlainToken-keyword keywords.Xnor = record { some_byte = lit< tt; plain = refl }
+IsPlainToken-keyword keywords.Add = record { some_byte = lit< tt; plain = refl }
+IsPlainToken-keyword keywords.Sub = record { some_byte = lit< tt; plain = refl }
+IsPlainToken-keyword keywords.Mul = record { some_byte = lit< tt; plain = refl }
+IsPlainToken-keyword keywords.Sll = record { some_byte = lit< tt; plain = refl }
+IsPlainToken-keyword keywords.Srl = record { some_byte = lit< tt; plain = refl }
+IsPlainToken-keyword keywords.Sra = record { some_byte = lit< tt; plain = refl }
+IsPlainToken-keyword keywords.Eq = record { some_byte = lit< tt; plain = refl }
+IsPlainToken-keyword keywords.Neq = record { some_byte = lit< tt; plain = refl }
+IsPlainToken-keyword keywords.Ult = record { some_byte = lit< tt; plain = refl }
+IsPlainToken-keyword keywords.Ulte = record { some_byte = lit< tt; plain = refl }
+IsPlainToken-keyword keywords.Ugt = record { some_byte = lit< tt; plain = refl }
+IsPlainToken-keyword keywords.Ugte = record { some_byte = lit< tt; plain = refl }
+IsPlainToken-keyword keywords.Slt = record { some_byte = lit< tt; plain = refl }
+IsPlainToken-keyword keywords.Slte = record { some_byte = lit< tt; plain = refl }
+IsPlainToken-keyword keywords.Sgt = record { some_byte = lit< tt; plain = refl }
+IsPlainToken-keyword keywords.Sgte = record { some_byte = lit< tt; plain = refl }
+IsPlainToken-keyword keywords.Iff = record { some_byte = lit< tt; plain = refl }
+IsPlainToken-keyword keywords.Implies = record { some_byte = lit< tt; plain = refl }
+IsPlainToken-keyword keywords.Concat = record { some_byte = lit< tt; plain = refl }
+IsPlainToken-keyword keywords.Slice = record { some_byte = lit< tt; plain = refl }
+IsPlainToken-keyword keywords.Uext = record { some_byte = lit< tt; plain = refl }
+IsPlainToken-keyword keywords.Sext = record { some_byte = lit< tt; plain = refl }
+IsPlainToken-keyword keywords.Ite = record { some_byte = lit< tt; plain = refl }
+IsPlainToken-keyword keywords.Init = record { some_byte = lit< tt; plain = refl }
+IsPlainToken-keyword keywords.Next = record { some_byte = lit< tt; plain = refl }
+IsPlainToken-keyword keywords.Output = record { some_byte = lit< tt; plain = refl }
+IsPlainToken-keyword keywords.Bad = record { some_byte = lit< tt; plain = refl }
 
 -- an argument's token is the argument again
-IsArgument-text : (kind : Kind) (argument : Argument) → FitsKind kind argument → IsArgument kind (argument_text argument) argument × IsToken (argument_text argument)
+IsArgument-text : (kind : ArgumentKind) (argument : Argument) → FitsKind kind argument → IsArgument kind (argument_text argument) argument × IsPlainToken (argument_text argument)
 IsArgument-text kinds.Bitvec argument fits =
-    let P : Argument → Type 0 = λ a. IsArgument kinds.Bitvec (argument_text a) a × IsToken (argument_text a) in
+    let P : Argument → Type 0 = λ a. IsArgument kinds.Bitvec (argument_text a) a × IsPlainToken (argument_text a) in
     subst P (sym fits) ((refl, refl), record { some_byte = lit< tt; plain = refl })
 IsArgument-text kinds.Number argument fits =
-    let P : Argument → Type 0 = λ a. IsArgument kinds.Number (argument_text a) a × IsToken (argument_text a) in
+    let P : Argument → Type 0 = λ a. IsArgument kinds.Number (argument_text a) a × IsPlainToken (argument_text a) in
     let wide : fits.0 < 2 ^ 64 = omega (arith, fits.1) in
     let written = decimal_is_IsNumeral fits.0 wide in
-    subst P (sym fits.2) ((fits.0, record { digits = written.0; value = sym written.1; high = fits.1 }, refl), IsToken-decimal fits.0 wide)
+    subst P (sym fits.2) ((fits.0, record { digits = written.0; value = sym written.1; high = fits.1 }, refl), IsPlainToken-decimal fits.0 wide)
 IsArgument-text kinds.Sort argument fits =
-    let P : Argument → Type 0 = λ a. IsArgument kinds.Sort (argument_text a) a × IsToken (argument_text a) in
-    subst P (sym fits.2) ((fits.0, IsId-decimal fits.0 fits.1, refl), IsToken-decimal fits.0 fits.1.1)
+    let P : Argument → Type 0 = λ a. IsArgument kinds.Sort (argument_text a) a × IsPlainToken (argument_text a) in
+    subst P (sym fits.2) ((fits.0, IsId-decimal fits.0 fits.1, refl), IsPlainToken-decimal fits.0 fits.1.1)
 IsArgument-text kinds.Value argument fits =
-    let P : Argument → Type 0 = λ a. IsArgument kinds.Value (argument_text a) a × IsToken (argument_text a) in
-    subst P (sym fits.2) ((fits.0, IsId-decimal fits.0 fits.1, refl), IsToken-decimal fits.0 fits.1.1)
+    let P : Argument → Type 0 = λ a. IsArgument kinds.Value (argument_text a) a × IsPlainToken (argument_text a) in
+    subst P (sym fits.2) ((fits.0, IsId-decimal fits.0 fits.1, refl), IsPlainToken-decimal fits.0 fits.1.1)
 IsArgument-text (kinds.Numeral base) argument fits =
-    let P : Argument → Type 0 = λ a. IsArgument (kinds.Numeral base) (argument_text a) a × IsToken (argument_text a) in
-    subst P (sym fits.2) ((fits.1, refl), IsToken-digits (radix_of base) (small_radix base) fits.0 fits.1)
+    let P : Argument → Type 0 = λ a. IsArgument (kinds.Numeral base) (argument_text a) a × IsPlainToken (argument_text a) in
+    subst P (sym fits.2) ((fits.1, refl), IsPlainToken-digits (radix_of base) (small_radix base) fits.0 fits.1)
 
 -- and so are a form's arguments; what follows them is left
-record Written (kinds : List Kind) (given : List Argument) (behind : List (List ℕ)) : Type 0 where
+record Written (kinds : List ArgumentKind) (given : List Argument) (behind : List (List ℕ)) : Type 0 where
   arguments : BeginWithArguments kinds (map argument_text given ++ behind) given
   rest : drop (length kinds) (map argument_text given ++ behind) ≡ behind
   tokens : AreTokens behind → AreTokens (map argument_text given ++ behind)
 
-written : (kinds : List Kind) (given : List Argument) (behind : List (List ℕ)) → FitKinds kinds given → Written kinds given behind
+written : (kinds : List ArgumentKind) (given : List Argument) (behind : List (List ℕ)) → FitKinds kinds given → Written kinds given behind
 written [] given behind fit =
     let P : List Argument → Type 0 = λ list. Written [] list behind in
     subst P (sym fit) (record { arguments = refl; rest = refl; tokens = λ are. are })
@@ -213,7 +213,7 @@ line_text-row line =
 are_tokens : (line : Line) → IsPrintable line → AreTokens (decimal line.id ∷ row line)
 unfolding row
 are_tokens line is =
-    (IsToken-decimal line.id is.id.1, (IsToken-keyword line.keyword, (written (kinds_of line.keyword) line.arguments (option_to_list line.symbol) is.arguments).tokens is.symbol))
+    (IsPlainToken-decimal line.id is.id.1, (IsPlainToken-keyword line.keyword, (written (kinds_of line.keyword) line.arguments (option_to_list line.symbol) is.arguments).tokens is.symbol))
 
 -- all of a line's text but its line feed
 all-row_text : (p : ℕ → Bool) → ((b : ℕ) → is_plain b ≡ true → p b ≡ true) → p 32 ≡ true → (line : Line) → IsPrintable line → list_all p (row_text line) ≡ true

@@ -4,8 +4,8 @@
 use Rattle.std.specs.Prelude.{ℕ, Bool, true, false, List, [], ◌∷◌, codes}
 use Rattle.btor2_text.specs.declared.kind.Base.{Base}
 use Rattle.btor2_text.specs.declared.kind.Base.TheVariants as bases
-use Rattle.btor2_text.specs.declared.kind.Kind.{Kind}
-use Rattle.btor2_text.specs.declared.kind.Kind.TheVariants as kinds
+use Rattle.btor2_text.specs.declared.kind.ArgumentKind.{ArgumentKind}
+use Rattle.btor2_text.specs.declared.kind.ArgumentKind.TheVariants as kinds
 use Rattle.btor2_text.specs.declared.keyword.Keyword.{Keyword}
 use Rattle.btor2_text.specs.declared.keyword.Keyword.TheVariants as keywords
 
@@ -62,7 +62,7 @@ keyword_text keywords.Output = codes "output"
 keyword_text keywords.Bad = codes "bad"
 
 -- the kinds of the tokens after a keyword, in order
-abbrev pub kinds_of : Keyword → List Kind
+abbrev pub kinds_of : Keyword → List ArgumentKind
 kinds_of keywords.Sort = kinds.Bitvec ∷ kinds.Number ∷ []
 kinds_of keywords.Input = kinds.Sort ∷ []
 kinds_of keywords.State = kinds.Sort ∷ []
@@ -143,7 +143,7 @@ radix_of bases.Decimal = 10
 radix_of bases.Hexadecimal = 16
 
 -- a minus sign before a token of this kind belongs to a form that is left out: a negated operand, or a negative numeral
-abbrev pub may_be_negative : Kind → Bool
+abbrev pub may_be_negative : ArgumentKind → Bool
 may_be_negative kinds.Bitvec = false
 may_be_negative kinds.Number = false
 may_be_negative kinds.Sort = false

@@ -5,8 +5,8 @@ use Rattle.std.specs.Option.{option_to_list}
 use Rattle.std.specs.Str.Parse.{IsNumeral, digits_value}
 use Rattle.btor2_text.specs.Forms.{keyword_text, kinds_of, left_out, radix_of, may_be_negative}
 use Rattle.btor2_text.specs.declared.keyword.Keyword.{Keyword}
-use Rattle.btor2_text.specs.declared.kind.Kind.{Kind}
-use Rattle.btor2_text.specs.declared.kind.Kind.TheVariants as kinds
+use Rattle.btor2_text.specs.declared.kind.ArgumentKind.{ArgumentKind}
+use Rattle.btor2_text.specs.declared.kind.ArgumentKind.TheVariants as kinds
 use Rattle.btor2_text.specs.declared.line.Argument.{Argument}
 use Rattle.btor2_text.specs.declared.line.Argument.TheVariants as arguments
 use Rattle.btor2_text.specs.declared.line.Line.{Line}
@@ -25,7 +25,7 @@ pub record IsNumber (token : List ℕ) (number : ℕ) : Type 0 where
   pub high : number < 2 ^ 32
 
 -- the token is this argument of a kind
-abbrev pub IsArgument : Kind → List ℕ → Argument → Type 0
+abbrev pub IsArgument : ArgumentKind → List ℕ → Argument → Type 0
 IsArgument kinds.Bitvec token argument = (token ≡ codes "bitvec") × (argument ≡ arguments.Bitvec)
 IsArgument kinds.Number token argument = (number : ℕ) × IsNumber token number × (argument ≡ arguments.Number number)
 IsArgument kinds.Sort token argument = (id : ℕ) × IsId token id × (argument ≡ arguments.Id id)
@@ -33,7 +33,7 @@ IsArgument kinds.Value token argument = (id : ℕ) × IsId token id × (argument
 IsArgument (kinds.Numeral base) token argument = IsNumeral (radix_of base) token × (argument ≡ arguments.Numeral token)
 
 -- the first tokens are these arguments of the kinds
-abbrev pub BeginWithArguments : List Kind → List (List ℕ) → List Argument → Type 0
+abbrev pub BeginWithArguments : List ArgumentKind → List (List ℕ) → List Argument → Type 0
 BeginWithArguments [] tokens given = given ≡ []
 BeginWithArguments (kind ∷ kinds) [] given = ⊥
 BeginWithArguments (kind ∷ kinds) (token ∷ tokens) given =
@@ -62,11 +62,11 @@ pub record IsLeftOut (tokens : List (List ℕ)) : Type 0 where
   pub left : Contains left_out word ⊎ IsArraySort word others
 
 -- the token is an operand or a numeral and begins with a minus sign
-abbrev pub IsNegative : Kind → List ℕ → Type 0
+abbrev pub IsNegative : ArgumentKind → List ℕ → Type 0
 IsNegative kind token = IsTrue (may_be_negative kind) × ((digits : List ℕ) × (token ≡ 45 ∷ digits))
 
 -- one of the first tokens, by these kinds, is a negative operand or numeral
-abbrev pub HasMinus : List Kind → List (List ℕ) → Type 0
+abbrev pub HasMinus : List ArgumentKind → List (List ℕ) → Type 0
 HasMinus [] tokens = ⊥
 HasMinus (kind ∷ kinds) [] = ⊥
 HasMinus (kind ∷ kinds) (token ∷ tokens) = IsNegative kind token ⊎ HasMinus kinds tokens

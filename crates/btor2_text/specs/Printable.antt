@@ -6,8 +6,8 @@ use Rattle.std.specs.Option.{option_to_list}
 use Rattle.std.specs.Str.Parse.{IsNumeral}
 use Rattle.btor2_text.specs.Cut.{is_blank, begins_comment, ends_line, number_after}
 use Rattle.btor2_text.specs.Forms.{kinds_of, radix_of}
-use Rattle.btor2_text.specs.declared.kind.Kind.{Kind}
-use Rattle.btor2_text.specs.declared.kind.Kind.TheVariants as kinds
+use Rattle.btor2_text.specs.declared.kind.ArgumentKind.{ArgumentKind}
+use Rattle.btor2_text.specs.declared.kind.ArgumentKind.TheVariants as kinds
 use Rattle.btor2_text.specs.declared.line.Argument.{Argument}
 use Rattle.btor2_text.specs.declared.line.Argument.TheVariants as arguments
 use Rattle.btor2_text.specs.declared.line.Line.{Line}
@@ -17,7 +17,7 @@ abbrev pub IsIdNumber : ℕ → Type 0
 IsIdNumber id = (1 ≤ id) × (id < 2 ^ 64)
 
 -- the argument is of the kind
-abbrev pub FitsKind : Kind → Argument → Type 0
+abbrev pub FitsKind : ArgumentKind → Argument → Type 0
 FitsKind kinds.Bitvec argument = argument ≡ arguments.Bitvec
 FitsKind kinds.Number argument = (number : ℕ) × (number < 2 ^ 32) × (argument ≡ arguments.Number number)
 FitsKind kinds.Sort argument = (id : ℕ) × IsIdNumber id × (argument ≡ arguments.Id id)
@@ -25,7 +25,7 @@ FitsKind kinds.Value argument = (id : ℕ) × IsIdNumber id × (argument ≡ arg
 FitsKind (kinds.Numeral base) argument = (digits : List ℕ) × IsNumeral (radix_of base) digits × (argument ≡ arguments.Numeral digits)
 
 -- there is one argument of each kind, in order
-abbrev pub FitKinds : List Kind → List Argument → Type 0
+abbrev pub FitKinds : List ArgumentKind → List Argument → Type 0
 FitKinds [] given = given ≡ []
 FitKinds (kind ∷ kinds) given = (first : Argument) × (others : List Argument) × (given ≡ first ∷ others) × FitsKind kind first × FitKinds kinds others
 
@@ -34,14 +34,14 @@ abbrev pub is_plain : ℕ → Bool
 is_plain b = not ((is_blank b || begins_comment b) || ends_line b)
 
 -- bytes that are a token: one or more, all plain
-pub record IsToken (bytes : List ℕ) : Type 0 where
+pub record IsPlainToken (bytes : List ℕ) : Type 0 where
   pub some_byte : 0 < length bytes
   pub plain : IsTrue (list_all is_plain bytes)
 
 -- each is a token
 abbrev pub AreTokens : List (List ℕ) → Type 0
 AreTokens [] = Unit {0}
-AreTokens (token ∷ tokens) = IsToken token × AreTokens tokens
+AreTokens (token ∷ tokens) = IsPlainToken token × AreTokens tokens
 
 -- the line is of its form
 pub record IsPrintable (line : Line) : Type 0 where

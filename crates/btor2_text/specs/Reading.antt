@@ -27,10 +27,10 @@ AreLines number (text ∷ texts) lines =
     (read : Option Line) × (others : List Line) × (lines ≡ option_to_list read ++ others) × Gives number (tokens_of text) (Ok read) × AreLines (number_after number) texts others
 
 -- the first fault of the texts, numbered from this number on
-abbrev pub IsFirstFault : (number : ℕ) → List (List ℕ) → Fault → Type 0
-IsFirstFault number [] fault = ⊥
-IsFirstFault number (text ∷ texts) fault =
-    Gives number (tokens_of text) (Err fault) ⊎ ((read : Option Line) × Gives number (tokens_of text) (Ok read) × IsFirstFault (number_after number) texts fault)
+abbrev pub IsFirstLineFault : (number : ℕ) → List (List ℕ) → Fault → Type 0
+IsFirstLineFault number [] fault = ⊥
+IsFirstLineFault number (text ∷ texts) fault =
+    Gives number (tokens_of text) (Err fault) ⊎ ((read : Option Line) × Gives number (tokens_of text) (Ok read) × IsFirstLineFault (number_after number) texts fault)
 
 -- a text's lines
 abbrev pub AreLinesOf : List ℕ → List Line → Type 0
@@ -38,4 +38,4 @@ AreLinesOf text lines = AreLines 1 (lines_of text) lines
 
 -- a text's first fault
 abbrev pub IsFirstFaultOf : List ℕ → Fault → Type 0
-IsFirstFaultOf text fault = IsFirstFault 1 (lines_of text) fault
+IsFirstFaultOf text fault = IsFirstLineFault 1 (lines_of text) fault

@@ -10,7 +10,7 @@ ghost use Rattle.btor2_text.specs.declared.line.Argument.{Argument as ArgumentOf
 use crate::cut::next_token;
 use crate::numeral::{is_numeral, number_of};
 use crate::reader::Flaw;
-use crate::{Argument, Kind};
+use crate::{Argument, ArgumentKind};
 use kw_bits::{Sequence, Text};
 use std::alloc::Global;
 
@@ -35,14 +35,18 @@ fn read_number(token: &[u8]) -> Result<u32, Flaw>
 }
 
 /// The argument of a kind that a token is.
-pub(crate) fn read_argument(alloc: Global, kind: Kind, token: &[u8]) -> Result<Argument, Flaw>
+pub(crate) fn read_argument(
+    alloc: Global,
+    kind: ArgumentKind,
+    token: &[u8],
+) -> Result<Argument, Flaw>
     ensures { IfRead result (IsArgument kind token.now) ((argument : ArgumentOf) → ¬ IsArgument kind token.now argument) }
 {
     match kind {
-        Kind::Bitvec if token == b"bitvec".as_slice() => Ok(Argument::Bitvec),
-        Kind::Number => Ok(Argument::Number(read_number(token)?)),
-        Kind::Sort | Kind::Value => Ok(Argument::Id(read_id(token)?)),
-        Kind::Numeral(base) if is_numeral(token, base) => {
+        ArgumentKind::Bitvec if token == b"bitvec".as_slice() => Ok(Argument::Bitvec),
+        ArgumentKind::Number => Ok(Argument::Number(read_number(token)?)),
+        ArgumentKind::Sort | ArgumentKind::Value => Ok(Argument::Id(read_id(token)?)),
+        ArgumentKind::Numeral(base) if is_numeral(token, base) => {
             Ok(Argument::Numeral(Text::from_slice(alloc, token)?))
         }
         _ => Err(Flaw::Malformed),
@@ -52,7 +56,7 @@ pub(crate) fn read_argument(alloc: Global, kind: Kind, token: &[u8]) -> Result<A
 /// The arguments of these kinds that the first tokens of some bytes are.
 pub(crate) fn read_arguments(
     alloc: Global,
-    kinds: &[Kind],
+    kinds: &[ArgumentKind],
     bytes: &[u8],
 ) -> Result<Sequence<Argument>, Flaw>
     ensures { IfRead result
@@ -72,14 +76,14 @@ pub(crate) fn read_arguments(
 }
 
 // Whether a token is an operand or a numeral that begins with a minus sign.
-fn is_negative(kind: Kind, token: &[u8]) -> bool
+fn is_negative(kind: ArgumentKind, token: &[u8]) -> bool
     ensures { IsTrue result ↔ IsNegative kind token.now }
 {
     matches!(token, [b'-', ..]) && kind.may_be_negative()
 }
 
 /// Whether one of the first tokens is an operand or a numeral of these kinds that begins with a minus sign.
-pub(crate) fn has_minus(kinds: &[Kind], bytes: &[u8]) -> bool
+pub(crate) fn has_minus(kinds: &[ArgumentKind], bytes: &[u8]) -> bool
     ensures { IsTrue result ↔ HasMinus kinds.now (words_of bytes.now) }
 {
     let mut rest = bytes;

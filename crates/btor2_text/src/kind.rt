@@ -26,7 +26,7 @@ impl Base {
 
 /// What a token after a keyword is.
 #[derive(Clone, Copy, Debug, PartialEq, Eq)]
-pub enum Kind {
+pub enum ArgumentKind {
     /// The word `bitvec`.
     Bitvec,
     /// A width, a bound or a count: decimal digits of a number below 2^32.
@@ -39,11 +39,11 @@ pub enum Kind {
     Numeral(Base),
 }
 
-impl Kind {
+impl ArgumentKind {
     /// Whether a minus sign before such a token belongs to a form that is left out.
     pub(crate) fn may_be_negative(self) -> bool
         ensures { result ≡ forms.may_be_negative self }
     {
-        matches!(self, Kind::Value | Kind::Numeral(_))
+        matches!(self, ArgumentKind::Value | ArgumentKind::Numeral(_))
     }
 }

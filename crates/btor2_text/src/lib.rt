@@ -17,7 +17,7 @@ mod print;
 mod reader;
 
 pub use keyword::Keyword;
-pub use kind::{Base, Kind};
+pub use kind::{ArgumentKind, Base};
 pub use laws::{a_text_has_lines_or_a_fault, a_text_is_read_in_one_way};
 pub use line::{Argument, Line, Lines};
 pub use print::print_lines;

@@ -17,7 +17,7 @@ use Rattle.attempt_log.specs.declared.entry.Submitted.{Submitted}
 use Rattle.attempt_log.specs.declared.job.Job.{Job}
 use Rattle.attempt_log.specs.declared.job.JobAnswer.{JobAnswer}
 use Rattle.attempt_log.specs.declared.job.JobAnswer.TheVariants as jobs
-use Rattle.board_core.specs.Board.{Board, Opening, Step, closed, dropped, head, judged, node_at, settle, settle_at, settle_with, stays, submit}
+use Rattle.board_core.specs.Board.{Board, Opening, BoardStep, closed, dropped, head, judged, node_at, settle, settle_at, settle_with, stays, submit}
 use Rattle.board_core.specs.Candidates.{Chooses}
 use Rattle.board_core.specs.Kept.{AtPlain, Does, Kept, StandsFor}
 use Rattle.board_core.specs.Laws.{IsRuleSettled, head_attempt}
@@ -48,7 +48,7 @@ record Knows (o : Opening) (told : Settled) (after : Board) : Type 0 where
   awaits : needs_head told ≡ true → Awaits o after
   past : is_finished told ≡ true → o.to < after.cycle
 
-abbrev After : Opening → Step → Type 0
+abbrev After : Opening → BoardStep → Type 0
 After o s = (told : Settled) → s.answer ≡ answer.Settle told → Knows o told s.board
 
 told_same : (s t : Settled) → answer.Settle s ≡ answer.Settle t → s ≡ t

@@ -12,7 +12,7 @@ use Rattle.aig_blast.specs.Blasted.{HasSymbols, HasWires, RunsAs, flag_wires}
 use Rattle.koika_check.specs.declared.checked.Checked.{Checked}
 use Rattle.koika_check.specs.declared.checked.Input.{Input}
 use Rattle.koika_check.specs.declared.checked.Register.{Register}
-use Rattle.koika_check.specs.declared.checked.Rule.{Rule}
+use Rattle.koika_check.specs.declared.checked.CheckedRule.{CheckedRule}
 use Rattle.koika_syntax.specs.Lexemes.{IsWord}
 use Rattle.front_end.specs.Names.{HasWordNames}
 use Rattle.front_end.specs.Aigs.{IsAigOf}
@@ -36,8 +36,8 @@ has-symbols d c names is = record {
       (All-weaker (λ (i : Input). IsWord i.name) (λ (i : Input). IsWordName i.name) (λ i word. word-name i.name word) d.inputs names.inputs);
   states = named-so IsWordName (λ (wire : StateWire). wire.name) (λ (r : Register). r.name) c.states d.registers is.states
       (All-weaker (λ (r : Register). IsWord r.name) (λ (r : Register). IsWordName r.name) (λ r word. word-name r.name word) d.registers names.registers);
-  outputs = named-so IsSymbol (λ (wire : OutputWire). wire.name) (λ (r : Rule). r.name) c.outputs d.rules is.outputs
-      (All-weaker (λ (r : Rule). IsWord r.name) (λ (r : Rule). IsSymbol r.name) (λ r word. word-symbol r.name word) d.rules names.rules);
+  outputs = named-so IsSymbol (λ (wire : OutputWire). wire.name) (λ (r : CheckedRule). r.name) c.outputs d.rules is.outputs
+      (All-weaker (λ (r : CheckedRule). IsWord r.name) (λ (r : CheckedRule). IsSymbol r.name) (λ r word. word-symbol r.name word) d.rules names.rules);
 }
 
 -- outputs of one bit are all kept

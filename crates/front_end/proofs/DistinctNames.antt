@@ -14,7 +14,7 @@ use Rattle.koika_syntax.specs.declared.tree.Declaration.{Declaration}
 use Rattle.koika_syntax.specs.declared.tree.Declaration.TheVariants as declarations
 use Rattle.koika_syntax.specs.declared.tree.Field.{Field as WrittenField}
 use Rattle.koika_syntax.specs.declared.tree.Literal.{Literal as WrittenLiteral}
-use Rattle.koika_syntax.specs.declared.tree.Member.{Member as WrittenMember}
+use Rattle.koika_syntax.specs.declared.tree.EnumMember.{EnumMember as WrittenMember}
 use Rattle.koika_syntax.specs.declared.tree.Name.{Name}
 use Rattle.koika_syntax.specs.declared.tree.Tree.{Tree}
 use Rattle.koika_syntax.specs.declared.tree.TypeExpression.{TypeExpression}
@@ -24,15 +24,15 @@ use Rattle.koika_check.specs.Checks.{checked, scheduled}
 use Rattle.koika_check.specs.Constants.{constant_of}
 use Rattle.koika_check.specs.Declarations.{add_field, add_member, add_parameter, assert_with, declare, enum_of, enum_typed, enum_with, function_body, function_of, function_result, function_typed, function_with, host_of, host_with, input_of, is_host, input_typed, input_with, is_declared, new_name, nothing, register_known, register_of, register_typed, register_with, result_of, rule_of, rule_typed, rule_with, struct_of, struct_typed, struct_with, table_of, table_with}
 use Rattle.koika_check.specs.Expressions.{block_in}
-use Rattle.koika_check.specs.Outcomes.{Gives, Outcome, ◌>>=◌, found, holds, one_by_one, where_all, wrong}
+use Rattle.koika_check.specs.Outcomes.{Gives, CheckResult, ◌>>=◌, found, holds, one_by_one, where_all, wrong}
 use Rattle.koika_check.specs.Schedule.{scheduler_nodes}
 use Rattle.koika_check.specs.Types.{type_of}
 use Rattle.koika_check.specs.declared.checked.Checked.{Checked}
-use Rattle.koika_check.specs.declared.checked.Function.{Function}
+use Rattle.koika_check.specs.declared.checked.CheckedFunction.{CheckedFunction}
 use Rattle.koika_check.specs.declared.checked.Host.{Host}
 use Rattle.koika_check.specs.declared.checked.Input.{Input}
 use Rattle.koika_check.specs.declared.checked.Register.{Register}
-use Rattle.koika_check.specs.declared.checked.Rule.{Rule}
+use Rattle.koika_check.specs.declared.checked.CheckedRule.{CheckedRule}
 use Rattle.koika_check.specs.declared.checked.Struct.{Struct}
 use Rattle.koika_check.specs.declared.checked.Table.{Table}
 use Rattle.front_end.specs.Names.{AreDistinct, global_names, names_of}
@@ -178,7 +178,7 @@ module _ (d : Checked) where
   hosts = map (λ (h : Host). h.name) d.hosts
 
   abbrev functions : List (List ℕ)
-  functions = map (λ (f : Function). f.name) d.functions
+  functions = map (λ (f : CheckedFunction). f.name) d.functions
 
   abbrev rules : List (List ℕ)
   rules = map name_of d.rules
@@ -270,19 +270,19 @@ module _ (d : Checked) (n : Name) where
       behind (IsNew d) (λ (one : Host). IsNew d one.name) (new_name d n) (host_of offered n input output) (new-name d n) (λ name new.
       behind-any (λ (one : Host). IsNew d one.name) (found (find (is_host name input.number.value output.number.value) offered) (wrong UNKNOWN_HOST_FUNCTION n.place)) (λ (spec : HostSpec). Gives (record { name = name; spec = spec })) (λ spec. new))
 
-  new-function : (parameters : List WrittenField) (written : Option TypeExpression) (body : Block) → GivesSuch (λ (one : Function). IsNew d one.name) (function_with d n parameters written body)
+  new-function : (parameters : List WrittenField) (written : Option TypeExpression) (body : Block) → GivesSuch (λ (one : CheckedFunction). IsNew d one.name) (function_with d n parameters written body)
   new-function parameters written body =
-      behind (IsNew d) (λ (one : Function). IsNew d one.name) (new_name d n) (function_of d parameters written body) (new-name d n) (λ name new.
-      behind-any (λ (one : Function). IsNew d one.name) (one_by_one (add_parameter d) parameters []) (function_result d written body name) (λ locals.
-      behind-any (λ (one : Function). IsNew d one.name) (result_of d written) (function_body d body name locals) (λ gives.
-      behind-any (λ (one : Function). IsNew d one.name) (block_in body (record { design = d; locals = locals })) (function_typed name locals gives) (λ typing.
-      unless-such (λ (one : Function). IsNew d one.name) _ _ new))))
+      behind (IsNew d) (λ (one : CheckedFunction). IsNew d one.name) (new_name d n) (function_of d parameters written body) (new-name d n) (λ name new.
+      behind-any (λ (one : CheckedFunction). IsNew d one.name) (one_by_one (add_parameter d) parameters []) (function_result d written body name) (λ locals.
+      behind-any (λ (one : CheckedFunction). IsNew d one.name) (result_of d written) (function_body d body name locals) (λ gives.
+      behind-any (λ (one : CheckedFunction). IsNew d one.name) (block_in body (record { design = d; locals = locals })) (function_typed name locals gives) (λ typing.
+      unless-such (λ (one : CheckedFunction). IsNew d one.name) _ _ new))))
 
-  new-rule : (body : Block) → GivesSuch (λ (one : Rule). IsNew d one.name) (rule_with d n body)
+  new-rule : (body : Block) → GivesSuch (λ (one : CheckedRule). IsNew d one.name) (rule_with d n body)
   new-rule body =
-      behind (IsNew d) (λ (one : Rule). IsNew d one.name) (new_name d n) (rule_of d body) (new-name d n) (λ name new.
-      behind-any (λ (one : Rule). IsNew d one.name) (block_in body (record { design = d; locals = [] })) (rule_typed name) (λ typing.
-      unless-such (λ (one : Rule). IsNew d one.name) _ _ new))
+      behind (IsNew d) (λ (one : CheckedRule). IsNew d one.name) (new_name d n) (rule_of d body) (new-name d n) (λ name new.
+      behind-any (λ (one : CheckedRule). IsNew d one.name) (block_in body (record { design = d; locals = [] })) (rule_typed name) (λ typing.
+      unless-such (λ (one : CheckedRule). IsNew d one.name) _ _ new))
 
 -- ---- designs
 
@@ -319,12 +319,12 @@ module _ (d : Checked) (fine : Fine d) where
       (adds-behind one.name (enums d) _ _ (adds-behind one.name (structs d) _ _ (adds-behind one.name (registers d) _ _ (adds-behind one.name (inputs d) _ _ (adds-behind one.name (tables d) _ _
       (adds-here (λ (h : Host). h.name) d.hosts one _)))))).distinct (fresh-new d one.name new) fine
 
-  with-function : (one : Function) → IsNew d one.name → Fine (record d { functions = d.functions ++ one ∷ [] })
+  with-function : (one : CheckedFunction) → IsNew d one.name → Fine (record d { functions = d.functions ++ one ∷ [] })
   with-function one new =
       (adds-behind one.name (enums d) _ _ (adds-behind one.name (structs d) _ _ (adds-behind one.name (registers d) _ _ (adds-behind one.name (inputs d) _ _ (adds-behind one.name (tables d) _ _ (adds-behind one.name (hosts d) _ _
-      (adds-here (λ (f : Function). f.name) d.functions one _))))))).distinct (fresh-new d one.name new) fine
+      (adds-here (λ (f : CheckedFunction). f.name) d.functions one _))))))).distinct (fresh-new d one.name new) fine
 
-  with-rule : (one : Rule) → IsNew d one.name → Fine (record d { rules = d.rules ++ one ∷ [] })
+  with-rule : (one : CheckedRule) → IsNew d one.name → Fine (record d { rules = d.rules ++ one ∷ [] })
   with-rule one new =
       (adds-behind one.name (enums d) _ _ (adds-behind one.name (structs d) _ _ (adds-behind one.name (registers d) _ _ (adds-behind one.name (inputs d) _ _ (adds-behind one.name (tables d) _ _ (adds-behind one.name (hosts d) _ _ (adds-behind one.name (functions d) _ _
       (adds-last name_of d.rules one)))))))).distinct (fresh-new d one.name new) fine
@@ -343,9 +343,9 @@ declared offered (declarations.Table n input output entries) d fine =
 declared offered (declarations.Host n input output) d fine =
     behind (λ (one : Host). IsNew d one.name) Fine (host_with offered d n input output) _ (new-host d n offered input output) (with-host d fine)
 declared offered (declarations.Function n parameters written body) d fine =
-    behind (λ (one : Function). IsNew d one.name) Fine (function_with d n parameters written body) _ (new-function d n parameters written body) (with-function d fine)
+    behind (λ (one : CheckedFunction). IsNew d one.name) Fine (function_with d n parameters written body) _ (new-function d n parameters written body) (with-function d fine)
 declared offered (declarations.Rule n body) d fine =
-    behind (λ (one : Rule). IsNew d one.name) Fine (rule_with d n body) _ (new-rule d n body) (with-rule d fine)
+    behind (λ (one : CheckedRule). IsNew d one.name) Fine (rule_with d n body) _ (new-rule d n body) (with-rule d fine)
 declared offered (declarations.Assert n) d fine =
     behind-any Fine (assert_with d n) _ (λ one. fine)
 

@@ -16,7 +16,7 @@ use Rattle.aig_blast.specs.Aigs.{AigParts}
 use Rattle.aig_blast.specs.AigRun.{first_words}
 use Rattle.koika_check.specs.Typing.{IsTypedDesign}
 use Rattle.koika_check.specs.declared.checked.Checked.{Checked}
-use Rattle.koika_lower.specs.Lowering.{input_widths}
+use Rattle.koika_lower.specs.Lowering.{typed_input_widths}
 use Rattle.front_end.specs.Sources.{of_input, shape_of}
 use Rattle.front_end.specs.Systems.{first_values}
 use Rattle.front_end.proofs.LoweredRuns.{twice}
@@ -31,15 +31,15 @@ first_registers (row ∷ rows) = row.regs
 
 module _ (d : Checked) (typed : IsTypedDesign d) where
   abbrev no_lines : InputVectors
-  no_lines = record { widths = input_widths d; cycles = [] }
+  no_lines = record { widths = typed_input_widths d; cycles = [] }
 
-  valid : All IsWidth (input_widths d)
+  valid : All IsWidth (typed_input_widths d)
   valid = subst (All IsWidth) (twice of_input (λ (n : NameWidth). n.width) d.inputs) (widths-valid d (shape_of d) typed refl)
 
-  all-zero : HaveWidths (input_widths d) (inputs_by (input_widths d) [])
-  all-zero = inputs_by_fits (input_widths d) [] valid (All-nil (Assigns (input_widths d)))
+  all-zero : HaveWidths (typed_input_widths d) (inputs_by (typed_input_widths d) [])
+  all-zero = inputs_by_fits (typed_input_widths d) [] valid (All-nil (Assigns (typed_input_widths d)))
 
-  no_lines-fits : (cycle : ℕ) → HaveWidths (input_widths d) (inputs_of no_lines cycle)
+  no_lines-fits : (cycle : ℕ) → HaveWidths (typed_input_widths d) (inputs_of no_lines cycle)
   unfolding inputs_of
   no_lines-fits zero = all-zero
   no_lines-fits (suc before) = all-zero

@@ -25,8 +25,8 @@ use Rattle.one_rule.proofs.Fitting.{first_values_fit, run_fits}
 use Rattle.stim_report.specs.Shapes as core_shapes
 use Rattle.koika_check.specs.declared.checked.Checked.{Checked}
 use Rattle.koika_check.specs.declared.checked.Host.{Host}
-use Rattle.koika_check.specs.declared.checked.Rule.{Rule}
-use Rattle.koika_lower.specs.Lowering.{IsLowered, input_of, input_widths, register_of, register_widths}
+use Rattle.koika_check.specs.declared.checked.CheckedRule.{CheckedRule}
+use Rattle.koika_lower.specs.Lowering.{IsLowered, core_input, typed_input_widths, register_of, register_widths}
 use Rattle.front_end.specs.Sources.{name_of, of_register}
 use Rattle.front_end.specs.Systems.{first_values, run_of, system_of, typed_alone_if}
 
@@ -63,19 +63,19 @@ module _ (d : Checked) (design : Parts) (lowered : IsLowered d design) where
   pub registers-wide : core.register_widths design ≡ register_widths d
   registers-wide = ap (map (λ (decl : RegDecl). decl.width)) lowered.registers ∙ twice register_of (λ (decl : RegDecl). decl.width) d.registers
 
-  pub inputs-wide : core.input_widths design ≡ input_widths d
-  inputs-wide = ap (map (λ (decl : InputDecl). decl.width)) lowered.inputs ∙ twice input_of (λ (decl : InputDecl). decl.width) d.inputs
+  pub inputs-wide : core.input_widths design ≡ typed_input_widths d
+  inputs-wide = ap (map (λ (decl : InputDecl). decl.width)) lowered.inputs ∙ twice core_input (λ (decl : InputDecl). decl.width) d.inputs
 
   pub first-same : core_run.first_values design ≡ first_values d
   first-same = ap (map (λ (decl : RegDecl). decl.first)) lowered.registers ∙ twice register_of (λ (decl : RegDecl). decl.first) d.registers
 
   pub rules-count : length design.rules ≡ length d.rules
-  rules-count = sym (length-map design.rules (λ (c : CoreRule). c.name)) ∙ ap length lowered.names ∙ length-map d.rules (λ (r : Rule). r.name)
+  rules-count = sym (length-map design.rules (λ (c : CoreRule). c.name)) ∙ ap length lowered.names ∙ length-map d.rules (λ (r : CheckedRule). r.name)
 
   -- ---- rules
 
-  module _ (rule : ℕ) (values regs : List BitVector) (wide : HaveWidths (input_widths d) values) (held : HaveWidths (register_widths d) regs) where
-    found-same : (o : Option CoreRule) (p : Option Rule) → slice_get design.rules rule ≡ o → slice_get d.rules rule ≡ p → alone_if (environment design values) regs o ≡ typed_alone_if d values regs p
+  module _ (rule : ℕ) (values regs : List BitVector) (wide : HaveWidths (typed_input_widths d) values) (held : HaveWidths (register_widths d) regs) where
+    found-same : (o : Option CoreRule) (p : Option CheckedRule) → slice_get design.rules rule ≡ o → slice_get d.rules rule ≡ p → alone_if (environment design values) regs o ≡ typed_alone_if d values regs p
     found-same (Some c) (Some r) e h = lowered.alone rule r c h e values regs wide held
     found-same None None e h = refl
     found-same (Some c) None e h =
@@ -88,7 +88,7 @@ module _ (d : Checked) (design : Parts) (lowered : IsLowered d design) where
 
   -- ---- systems and runs
 
-  pub same-alone : IsValid design → DoTheSameAlone (input_widths d) (register_widths d) (core_cycle.system_of design) (system_of d)
+  pub same-alone : IsValid design → DoTheSameAlone (typed_input_widths d) (register_widths d) (core_cycle.system_of design) (system_of d)
   same-alone valid = record {
     rules = rules-count;
     nodes = lowered.nodes;
@@ -99,8 +99,8 @@ module _ (d : Checked) (design : Parts) (lowered : IsLowered d design) where
   }
 
   -- the run of what the design is lowered to is the run of the typed design
-  pub run-same : IsValid design → (inputs : InputsByCycle) → ((k : ℕ) → HaveWidths (input_widths d) (inputs k)) → (cycles : ℕ) → core_run.run_of design inputs cycles ≡ run_of d inputs cycles
+  pub run-same : IsValid design → (inputs : InputsByCycle) → ((k : ℕ) → HaveWidths (typed_input_widths d) (inputs k)) → (cycles : ℕ) → core_run.run_of design inputs cycles ≡ run_of d inputs cycles
   run-same valid inputs fit cycles =
-      same_runs (input_widths d) (register_widths d) (core_cycle.system_of design) (system_of d) inputs (core_run.first_values design) 0 cycles (same-alone valid) fit
+      same_runs (typed_input_widths d) (register_widths d) (core_cycle.system_of design) (system_of d) inputs (core_run.first_values design) 0 cycles (same-alone valid) fit
       (subst (λ ws. HaveWidths ws (core_run.first_values design)) registers-wide (first_values_fit design valid))
       ∙ ap (λ regs. run (system_of d) inputs regs 0 cycles) first-same

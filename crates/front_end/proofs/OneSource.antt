@@ -13,7 +13,7 @@ use Rattle.koika_parse.specs.Outline.{SameTree}
 use Rattle.koika_parse.proofs.OneFault as grammar
 use Rattle.koika_parse.proofs.Unambiguous.{one_tree}
 use Rattle.koika_check.specs.Checks.{checked}
-use Rattle.koika_check.specs.Outcomes.{Outcome, Fails, Gives}
+use Rattle.koika_check.specs.Outcomes.{CheckResult, Fails, Gives}
 use Rattle.koika_check.specs.declared.checked.Checked.{Checked}
 use Rattle.koika_check.specs.declared.stop.Wrong.{Wrong}
 use Rattle.one_rule.specs.Stimulus.{InputVectors}
@@ -23,13 +23,13 @@ use Rattle.front_end.specs.Sources.{HasNoTree, IsIllTyped, IsTooLong, IsUnread, 
 use Rattle.front_end.proofs.Results.{err-same, ok-same, ok_or_err}
 use Rattle.front_end.proofs.SameChecked.{same_checked}
 
-pub gives-same : {X : Type 0} (x y : X) (o : Outcome X) → o ≡ Gives x → o ≡ Gives y → x ≡ y
+pub gives-same : {X : Type 0} (x y : X) (o : CheckResult X) → o ≡ Gives x → o ≡ Gives y → x ≡ y
 gives-same x y o h k = let e : Gives x ≡ Gives y = sym h ∙ k in cc
 
-pub fails-same : {X : Type 0} (w v : Wrong) (o : Outcome X) → o ≡ Fails w → o ≡ Fails v → w ≡ v
-fails-same {X} w v o h k = let e : ◌≡◌ {A = Outcome X} (Fails w) (Fails v) = sym h ∙ k in cc
+pub fails-same : {X : Type 0} (w v : Wrong) (o : CheckResult X) → o ≡ Fails w → o ≡ Fails v → w ≡ v
+fails-same {X} w v o h k = let e : ◌≡◌ {A = CheckResult X} (Fails w) (Fails v) = sym h ∙ k in cc
 
-pub gives_or_fails : {X : Type 0} (x : X) (w : Wrong) (o : Outcome X) → o ≡ Gives x → o ≡ Fails w → ⊥
+pub gives_or_fails : {X : Type 0} (x : X) (w : Wrong) (o : CheckResult X) → o ≡ Gives x → o ≡ Fails w → ⊥
 gives_or_fails x w o h k = let e : Gives x ≡ Fails w = sym h ∙ k in absurd cc
 
 -- ---- tokens and trees

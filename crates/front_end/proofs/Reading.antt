@@ -14,7 +14,7 @@ use Rattle.koika_check.specs.Typing.{IsInput, IsTypedDesign}
 use Rattle.koika_check.specs.declared.checked.Checked.{Checked}
 use Rattle.koika_check.specs.declared.checked.Input.{Input}
 use Rattle.typed_core.specs.Valid.{IsWidth}
-use Rattle.koika_lower.specs.Lowering.{input_widths}
+use Rattle.koika_lower.specs.Lowering.{typed_input_widths}
 use Rattle.front_end.specs.Sources.{IsIllTyped, IsUnread, SpellsDesign, SpellsTree, design_part, longest_source, of_input, shape_of, stimulus_in}
 use Rattle.kw_bits.specs.declared.host.HostSpec.{HostSpec}
 use Rattle.koika_syntax.specs.Grammar.{Derives, tree_leaves}
@@ -56,7 +56,7 @@ widths-named [] = refl
 widths-named (i ∷ inputs) = ap (λ (widths : List ℕ). i.width ∷ widths) (widths-named inputs)
 
 -- and these are the widths of a design's inputs
-pub stimulus-fits : (d : Checked) (shape : Shape) (line : ℕ) (text : List ℕ) (stimulus : InputVectors) → shape ≡ shape_of d → stimulus_of shape line text ≡ Ok stimulus → stimulus.widths ≡ input_widths d
+pub stimulus-fits : (d : Checked) (shape : Shape) (line : ℕ) (text : List ℕ) (stimulus : InputVectors) → shape ≡ shape_of d → stimulus_of shape line text ≡ Ok stimulus → stimulus.widths ≡ typed_input_widths d
 stimulus-fits d shape line text stimulus is e =
     stimulus-widths shape line text stimulus e ∙ ap (λ (s : Shape). widths_of s.inputs) is ∙ widths-named d.inputs
 

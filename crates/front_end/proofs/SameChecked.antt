@@ -16,7 +16,7 @@ use Rattle.koika_syntax.specs.declared.tree.Declaration.{Declaration}
 use Rattle.koika_syntax.specs.declared.tree.Declaration.TheVariants as declarations
 use Rattle.koika_syntax.specs.declared.tree.Field.{Field}
 use Rattle.koika_syntax.specs.declared.tree.Literal.{Literal}
-use Rattle.koika_syntax.specs.declared.tree.Member.{Member}
+use Rattle.koika_syntax.specs.declared.tree.EnumMember.{EnumMember}
 use Rattle.koika_syntax.specs.declared.tree.Name.{Name}
 use Rattle.koika_syntax.specs.declared.tree.Scheduler.{Scheduler, Scheduler-F, map-Scheduler, roll-Scheduler, fold-roll-Scheduler, ind-Scheduler}
 use Rattle.koika_syntax.specs.declared.tree.Tree.{Tree}
@@ -29,8 +29,8 @@ use Rattle.koika_check.specs.Checks.{at_most, checked, input_place, places_if, p
 use Rattle.koika_check.specs.inner.Checks.{choice_places}
 use Rattle.koika_check.specs.Constants as constants
 use Rattle.koika_check.specs.Declarations.{add_parameter, declare, enum_with, host_with, input_typed, new_name, nothing, register_known, result_of, function_typed, rule_typed, struct_with, table_with, assert_with, other_name, add_field, struct_typed}
-use Rattle.koika_check.specs.Expressions.{Meaning, block_in}
-use Rattle.koika_check.specs.Outcomes.{Condition, Outcome, ◌>>=◌, Fails, Gives, earlier, first, one_by_one, unless, wrong}
+use Rattle.koika_check.specs.Expressions.{ExpressionTyping, block_in}
+use Rattle.koika_check.specs.Outcomes.{Condition, CheckResult, ◌>>=◌, Fails, Gives, earlier, first, one_by_one, unless, wrong}
 use Rattle.koika_check.specs.Schedule as schedules
 use Rattle.koika_check.specs.Schedule.{Nodes, at_the_end, in_a_row, path_behind, scheduler_nodes}
 use Rattle.koika_check.specs.inner.Schedule.{choice_nodes}
@@ -38,7 +38,7 @@ use Rattle.koika_check.specs.Scopes.{Local}
 use Rattle.koika_check.specs.Sizes.{Size, design_size}
 use Rattle.koika_check.specs.Types.{type_of}
 use Rattle.koika_check.specs.declared.checked.Checked.{Checked}
-use Rattle.koika_check.specs.declared.checked.Field.{Field as CheckedField}
+use Rattle.koika_check.specs.declared.checked.CheckedField.{CheckedField as CheckedField}
 use Rattle.koika_check.specs.declared.typed.ValueType.{ValueType}
 use Rattle.front_end.proofs.Senses.{Sensed, map-each, name_at, literal_at, map-twice, place_at, sense, unlisted, unlisted-listed}
 use Rattle.front_end.proofs.SensesOfTypes.{constant_sense, constant-at, here, type_at, type-at, width_at}
@@ -81,7 +81,7 @@ rules_by [] = unplanned
 
 abbrev try_by : List P → Planned
 try_by (rule ∷ taken ∷ other ∷ ss) = record {
-  nodes = schedules.choice_step (record { rule = name_at rule.raw; then = taken.here.nodes; otherwise = other.here.nodes });
+  nodes = schedules.nodes_of_choice (record { rule = name_at rule.raw; then = taken.here.nodes; otherwise = other.here.nodes });
   places = (name_at rule.raw).place ∷ taken.here.places ++ other.here.places;
 }
 try_by (last ∷ ss) = last.here
@@ -113,8 +113,8 @@ names-at (n ∷ rules) = ap (λ ns. n ∷ ns) (names-at rules)
 rules_agree : (rules : List Name) (last : Option (Box Choice Global)) → IfSome last (λ b. ChoiceAgrees b.value) →
     let d : SchedulerLayer = record { rules = rules; last = last } in
     let o = scheduler_outline_step here (map-Scheduler Choice Scheduler Outline Outline (choice_outline here) (scheduler_outline here) d) in
-    (schedules.scheduler_step (map-Scheduler Choice Scheduler Nodes Nodes choice_nodes scheduler_nodes d) ≡ (plan o).nodes)
-    × (checks.scheduler_step (map-Scheduler Choice Scheduler (List ℕ) (List ℕ) choice_places scheduler_places d) ≡ (plan o).places)
+    (schedules.nodes_of_scheduler (map-Scheduler Choice Scheduler Nodes Nodes choice_nodes scheduler_nodes d) ≡ (plan o).nodes)
+    × (checks.places_in_scheduler (map-Scheduler Choice Scheduler (List ℕ) (List ℕ) choice_places scheduler_places d) ≡ (plan o).places)
 rules_agree rules None each = (ap (λ ns. rules_nodes ns None) (sym (names-at rules)), ap (λ ns. places_of ns ++ []) (sym (names-at rules)))
 rules_agree rules (Some b) each = (
   ap₂ (λ ns (last : Nodes). rules_nodes ns (Some last)) (sym (names-at rules)) each.0,
@@ -136,8 +136,8 @@ unfolding scheduler_nodes choice_nodes scheduler_places choice_places scheduler_
 scheduler_of_layer d y same =
     let agree = rules_agree d.rules d.last (subst LastAgrees same (last_agrees y)) in
     let drawn = fold-roll-Scheduler Outline Outline (choice_outline_step here) (scheduler_outline_step here) d in (
-      fold-roll-Scheduler Nodes Nodes schedules.choice_step schedules.scheduler_step d ∙ agree.0 ∙ ap (λ o. (plan o).nodes) (sym drawn),
-      fold-roll-Scheduler (List ℕ) (List ℕ) checks.choice_step checks.scheduler_step d ∙ agree.1 ∙ ap (λ o. (plan o).places) (sym drawn),
+      fold-roll-Scheduler Nodes Nodes schedules.nodes_of_choice schedules.nodes_of_scheduler d ∙ agree.0 ∙ ap (λ o. (plan o).nodes) (sym drawn),
+      fold-roll-Scheduler (List ℕ) (List ℕ) checks.places_in_choice checks.places_in_scheduler d ∙ agree.1 ∙ ap (λ o. (plan o).places) (sym drawn),
     )
 
 choice_of_layer : (d : Choice-F Choice Scheduler) (y : Choice-F (Such ChoiceAgrees) (Such SchedulerAgrees)) → map-Choice (Such ChoiceAgrees) (Such SchedulerAgrees) Choice Scheduler (λ e. e.0) (λ e. e.0) y ≡ d → ChoiceAgrees (roll-Choice d)
@@ -146,10 +146,10 @@ choice_of_layer d y same =
     let then_agrees = subst (λ (d : Choice-F Choice Scheduler). SchedulerAgrees d.then) same y.then.1 in
     let otherwise_agrees = subst (λ (d : Choice-F Choice Scheduler). SchedulerAgrees d.otherwise) same y.otherwise.1 in
     let drawn = fold-roll-Choice Outline Outline (choice_outline_step here) (scheduler_outline_step here) d in (
-      fold-roll-Choice Nodes Nodes schedules.choice_step schedules.scheduler_step d
-          ∙ ap₂ {C = Nodes} (λ (taken other : Nodes). schedules.choice_step (record { rule = d.rule; then = taken; otherwise = other })) then_agrees.0 otherwise_agrees.0
+      fold-roll-Choice Nodes Nodes schedules.nodes_of_choice schedules.nodes_of_scheduler d
+          ∙ ap₂ {C = Nodes} (λ (taken other : Nodes). schedules.nodes_of_choice (record { rule = d.rule; then = taken; otherwise = other })) then_agrees.0 otherwise_agrees.0
           ∙ ap (λ o. (plan o).nodes) (sym drawn),
-      fold-roll-Choice (List ℕ) (List ℕ) checks.choice_step checks.scheduler_step d
+      fold-roll-Choice (List ℕ) (List ℕ) checks.places_in_choice checks.places_in_scheduler d
           ∙ ap₂ (λ (taken other : List ℕ). d.rule.place ∷ taken ++ other) then_agrees.1 otherwise_agrees.1
           ∙ ap (λ o. (plan o).places) (sym drawn),
     )
@@ -160,9 +160,9 @@ scheduler-at = ind-Scheduler ChoiceAgrees SchedulerAgrees choice_of_layer schedu
 -- ---- declarations
 
 abbrev pub Declares : Type 0
-Declares = Checked → Outcome Checked
+Declares = Checked → CheckResult Checked
 
-abbrev member_at : Outline → Member
+abbrev member_at : Outline → EnumMember
 member_at (Outline.pair l (Outline.pair n (Outline.pair v rest))) = record { name = name_at n; value = literal_at v }
 member_at o = record { name = name_at o; value = literal_at o }
 
@@ -183,7 +183,7 @@ struct_by (n ∷ fields) = struct_from (name_at n) (map field_at fields)
 struct_by os = λ d. Fails (wrong 0 0)
 
 -- a register by what its type and its constant come to
-abbrev register_from : Name → (Checked → Outcome ValueType) → constants.Meaning → Declares
+abbrev register_from : Name → (Checked → CheckResult ValueType) → constants.ConstantMeaning → Declares
 register_from n of known d =
     (new_name d n >>= λ name. of d >>= λ t. known d >>= register_known d name t) >>= λ one. Gives (record d { registers = d.registers ++ one ∷ [] })
 
@@ -191,7 +191,7 @@ abbrev register_by : List Outline → Declares
 register_by (n ∷ of ∷ k ∷ os) = register_from (name_at n) (λ d. type_of d (type_at of)) (constant_sense k).constant
 register_by os = λ d. Fails (wrong 0 0)
 
-abbrev input_from : Name → (Checked → Outcome ValueType) → Declares
+abbrev input_from : Name → (Checked → CheckResult ValueType) → Declares
 input_from n of d = (new_name d n >>= λ name. of d >>= input_typed d name) >>= λ one. Gives (record d { inputs = d.inputs ++ one ∷ [] })
 
 abbrev input_by : List Outline → Declares
@@ -211,7 +211,7 @@ abbrev result_at : Outline → Option TypeExpression
 result_at (Outline.token (Terminal.keyword k) place) = None
 result_at o = Some (type_at o)
 
-abbrev function_from : Name → (Checked → Outcome (List Local)) → (Checked → Outcome (Option ValueType)) → Meaning → Declares
+abbrev function_from : Name → (Checked → CheckResult (List Local)) → (Checked → CheckResult (Option ValueType)) → ExpressionTyping → Declares
 function_from n parameters gives body d =
     (new_name d n >>= λ name. parameters d >>= λ locals. gives d >>= λ of. body (record { design = d; locals = locals }) >>= function_typed name locals of)
     >>= λ one. Gives (record d { functions = d.functions ++ one ∷ [] })
@@ -221,7 +221,7 @@ function_by (n ∷ parameters ∷ result ∷ body ∷ os) =
     function_from (name_at n) (λ d. one_by_one (add_parameter d) (map field_at (unlisted parameters)) []) (λ d. result_of d (result_at result)) (block_meaning body)
 function_by os = λ d. Fails (wrong 0 0)
 
-abbrev rule_from : Name → Meaning → Declares
+abbrev rule_from : Name → ExpressionTyping → Declares
 rule_from n body d = (new_name d n >>= λ name. body (record { design = d; locals = [] }) >>= rule_typed name) >>= λ one. Gives (record d { rules = d.rules ++ one ∷ [] })
 
 abbrev rule_by : List Outline → Declares
@@ -258,7 +258,7 @@ declared_by hosts o = declared_in hosts (production_of o) (parts_in o)
 at_node : (hosts : List HostSpec) (production : List ℕ) (os : List Outline) → declared_in hosts production os ≡ declared_by hosts (node production os)
 at_node hosts production os = ap (declared_in hosts production) (sym (unlisted-listed os))
 
-members-at : (members : List Member) → members ≡ map member_at (map (enum_member_outline here) members)
+members-at : (members : List EnumMember) → members ≡ map member_at (map (enum_member_outline here) members)
 members-at [] = refl
 members-at (m ∷ members) = ap (λ ms. m ∷ ms) (members-at members)
 
@@ -294,9 +294,9 @@ result-at d (Some of) = ap (λ o. o >>= λ t. Gives (Some t)) (type-at d of) ∙
 abbrev DeclaredAt : List HostSpec → Declaration → Type 0
 DeclaredAt hosts t = declare hosts t ≡ declared_by hosts (declaration_outline here t)
 
-declared-enum : (hosts : List HostSpec) (n : Name) (width : Width) (members : List Member) → DeclaredAt hosts (declarations.Enum n width members)
+declared-enum : (hosts : List HostSpec) (n : Name) (width : Width) (members : List EnumMember) → DeclaredAt hosts (declarations.Enum n width members)
 declared-enum hosts n width members =
-    ap {B = Declares} (λ (ms : List Member) d. enum_with d n width ms >>= λ one. Gives (record d { enums = d.enums ++ one ∷ [] })) (members-at members)
+    ap {B = Declares} (λ (ms : List EnumMember) d. enum_with d n width ms >>= λ one. Gives (record d { enums = d.enums ++ one ∷ [] })) (members-at members)
     ∙ at_node hosts (codes "enum") (name_outline here n ∷ width_outline here width ∷ map (enum_member_outline here) members)
 
 struct-at : (n : Name) (fields : List Field) → struct_from n fields ≡ struct_from n (map field_at (map (field_outline here) fields))
@@ -388,7 +388,7 @@ seen_limits s size = earlier
     ∷ []))
     (size_within s.schedule size)
 
-abbrev checked_as : Seen → Outcome Checked
+abbrev checked_as : Seen → CheckResult Checked
 checked_as s = one_by_one (λ (declares : Declares). declares) s.declares nothing >>= λ d. s.planned.nodes d [] 0 >>= λ nodes.
     unless (seen_limits s (design_size (record d { nodes = nodes }))) (record (record d { nodes = nodes }) { weight = (design_size (record d { nodes = nodes })).weight })
 
@@ -402,7 +402,7 @@ seen_of hosts t = record {
   planned = record { nodes = scheduler_nodes t.scheduler; places = scheduler_places t.scheduler };
 }
 
-one_by_one-mapped : {X S : Type 0} (look : X → S → Outcome S) (xs : List X) (s : S) → one_by_one look xs s ≡ one_by_one (λ (f : S → Outcome S). f) (map look xs) s
+one_by_one-mapped : {X S : Type 0} (look : X → S → CheckResult S) (xs : List X) (s : S) → one_by_one look xs s ≡ one_by_one (λ (f : S → CheckResult S). f) (map look xs) s
 one_by_one-mapped look [] s = refl
 one_by_one-mapped look (x ∷ xs) s = λ i. look x s >>= λ next. one_by_one-mapped look xs next i
 

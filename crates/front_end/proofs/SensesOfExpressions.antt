@@ -28,8 +28,8 @@ use Rattle.koika_syntax.specs.declared.tree.Name.{Name}
 use Rattle.koika_syntax.specs.declared.tree.Number.{Number}
 use Rattle.koika_syntax.specs.declared.tree.TypeExpression.{TypeExpression}
 use Rattle.koika_syntax.specs.declared.tree.Operand.{Operand, Operand-F, map-Operand, roll-Operand, every-Operand, every_held-Operand, every_here-Operand, out-roll-Operand, fold-Operand, fold-roll-Operand}
-use Rattle.koika_syntax.specs.declared.tree.Part.{Part}
-use Rattle.koika_syntax.specs.declared.tree.Part.TheVariants as parts
+use Rattle.koika_syntax.specs.declared.tree.UpdatedPart.{UpdatedPart}
+use Rattle.koika_syntax.specs.declared.tree.UpdatedPart.TheVariants as parts
 use Rattle.koika_syntax.specs.declared.tree.Prefix.{Prefix}
 use Rattle.koika_syntax.specs.declared.tree.Statement.{Statement, Statement-F, map-Statement, out-Statement, roll-Statement, every-Statement, every_held-Statement, every_here-Statement, out-roll-Statement, fold-Statement, fold-roll-Statement, fold_out-Statement}
 use Rattle.koika_syntax.specs.declared.tree.Suffix.{Suffix}
@@ -37,13 +37,13 @@ use Rattle.koika_syntax.specs.declared.tree.Suffix.TheVariants as suffixes
 use Rattle.koika_parse.specs.Outline.{Outline, node, arm_outline, arm_outline_step, block_outline, block_outline_step, expression_outline, expression_outline_step, field_value_outline, field_value_outline_step, name_outline, number_outline, operand_outline, operand_outline_step, part_outline, prefix_outline, statement_outline, statement_outline_step, suffix_outline, type_outline}
 use Rattle.koika_check.proofs.TreeParts.{Such, EachOfExpression, EachOfStatement, EachOfArm, EachOfBlock, EachOfFieldValue, EachOfOperand, each_of_expression, each_of_statement, each_of_arm, each_of_block, each_of_field_value, each_of_operand}
 use Rattle.koika_check.specs.Constructs.{abort_at, array_in, call, comparison, conditional, extended, literal, member_in, named, packed, postfix, read_in, struct_in, typing, unary, unpacked, updated, written}
-use Rattle.koika_check.specs.Expressions.{Armed, Fielded, Joining, Meaning, Stepped, all_in, arm_step, block_from, block_in, block_step, chain_in, expression_step, field_value_step, held, operand_step, otherwise_in, statement_step}
+use Rattle.koika_check.specs.Expressions.{Armed, Fielded, Joining, ExpressionTyping, StatementTyping, all_in, arm_step, block_from, block_in, block_step, chain_in, expression_step, field_value_step, held, operand_step, otherwise_in, statement_step}
 use Rattle.koika_check.specs.inner.Expressions.{arm_in, expression_in, field_value_in, operand_in, statement_in}
-use Rattle.koika_check.specs.Outcomes.{Outcome, ◌>>=◌, Fails, Gives, found, wrong}
+use Rattle.koika_check.specs.Outcomes.{CheckResult, ◌>>=◌, Fails, Gives, found, wrong}
 use Rattle.koika_check.specs.Scopes.{Scope, bound, called, register}
 use Rattle.koika_check.specs.Types.{struct_named, type_of, wrong_type}
 use Rattle.koika_check.specs.declared.checked.Checked.{Checked}
-use Rattle.koika_check.specs.declared.typed.Step.TheVariants as step
+use Rattle.koika_check.specs.declared.typed.TypedStep.TheVariants as step
 use Rattle.koika_check.specs.declared.typed.ValueType.{ValueType}
 use Rattle.front_end.proofs.Senses.{Sensed, Unmarked, front, front-of, keyword_at, kept, kept-list, last, last-of, map-join, name_at, number_at, place_at, sense, sensed, sense-node, symbol_at, is_of}
 use Rattle.front_end.proofs.SensesOfTypes.{here, type_at, type-at}
@@ -107,11 +107,11 @@ suffix-at (suffixes.Field n) = refl
 suffix-at (suffixes.Index n) = refl
 suffix-at (suffixes.Slice high low) = refl
 
-abbrev pub part_at : Outline → Part
+abbrev pub part_at : Outline → UpdatedPart
 part_at (Outline.token (Terminal.number n) place) = parts.Index (record { value = n; place = place })
 part_at o = parts.Field (name_at o)
 
-part-at : (p : Part) → part_at (part_outline here p) ≡ p
+part-at : (p : UpdatedPart) → part_at (part_outline here p) ≡ p
 part-at (parts.Field n) = refl
 part-at (parts.Index n) = refl
 
@@ -124,20 +124,20 @@ prefix-at p = ap (λ (o : UnaryOperator). record { operator = o; place = p.place
 -- ---- what is made of outlines
 
 pub record Made : Type 0 where
-  pub expression : Meaning
-  pub statement : Stepped
+  pub expression : ExpressionTyping
+  pub statement : StatementTyping
   pub arm : Armed
-  pub block : Meaning
+  pub block : ExpressionTyping
   pub field : Fielded
   pub operand : Joining
 
-abbrev pub silent : {X : Type 0} → Scope → Outcome X
+abbrev pub silent : {X : Type 0} → Scope → CheckResult X
 silent scope = Fails (wrong 0 0)
 
 abbrev pub no_operand : Joining
 no_operand = record { operator = binary.Or; operand = silent }
 
-abbrev pub token_expression : Terminal → ℕ → Meaning
+abbrev pub token_expression : Terminal → ℕ → ExpressionTyping
 token_expression (Terminal.literal b) place scope = Gives (literal (record { bits = b; place = place }))
 token_expression (Terminal.name text) place scope = named scope (record { text = text; place = place })
 token_expression t place scope = Fails (wrong 0 0)
@@ -151,10 +151,10 @@ other = record { expression = silent; statement = silent; arm = silent; block = 
 abbrev pub S : Type 0
 S = Sensed Made
 
-abbrev pub expressions : List S → List Meaning
+abbrev pub expressions : List S → List ExpressionTyping
 expressions = map (λ s. s.here.expression)
 
-abbrev pub chain_by : List S → Meaning
+abbrev pub chain_by : List S → ExpressionTyping
 chain_by (one ∷ rest) scope = one.here.expression scope >>= chain_in scope (map (λ s. s.here.operand) rest)
 chain_by ss scope = Fails (wrong 0 0)
 
@@ -163,78 +163,78 @@ abbrev pub prefixes_of : List S → List Prefix
 prefixes_of (s ∷ t ∷ ss) = prefix_at s.raw ∷ prefixes_of (t ∷ ss)
 prefixes_of ss = []
 
-abbrev pub end_of : List S → Meaning
+abbrev pub end_of : List S → ExpressionTyping
 end_of (s ∷ t ∷ ss) = end_of (t ∷ ss)
 end_of (s ∷ []) = s.here.expression
 end_of [] = silent
 
-abbrev pub unary_by : List S → Meaning
+abbrev pub unary_by : List S → ExpressionTyping
 unary_by ss scope = end_of ss scope >>= unary (prefixes_of ss)
 
-abbrev pub postfix_by : List S → Meaning
+abbrev pub postfix_by : List S → ExpressionTyping
 postfix_by (one ∷ rest) scope = one.here.expression scope >>= postfix scope.design (map (λ s. suffix_at s.raw) rest)
 postfix_by ss scope = Fails (wrong 0 0)
 
-abbrev pub call_by : List S → Meaning
+abbrev pub call_by : List S → ExpressionTyping
 call_by (n ∷ rest) scope = called scope.design (name_at n.raw) >>= λ c. all_in scope (expressions rest) >>= call (name_at n.raw) c
 call_by ss scope = Fails (wrong 0 0)
 
-abbrev pub member_by : List S → Meaning
+abbrev pub member_by : List S → ExpressionTyping
 member_by (of ∷ m ∷ ss) scope = member_in scope.design (name_at of.raw) (name_at m.raw)
 member_by ss scope = Fails (wrong 0 0)
 
-abbrev pub struct_by : List S → Meaning
+abbrev pub struct_by : List S → ExpressionTyping
 struct_by (of ∷ fields ∷ close ∷ ss) scope = found (struct_named scope.design (name_at of.raw).text) (wrong UNKNOWN_NAME (name_at of.raw).place) >>= λ number.
     all_in scope (map (λ x. x.field) fields.list) >>= struct_in scope.design number (name_at of.raw).place (place_at close.raw)
 struct_by ss scope = Fails (wrong 0 0)
 
-abbrev pub array_by : List S → Meaning
+abbrev pub array_by : List S → ExpressionTyping
 array_by (bracket ∷ rest) scope = all_in scope (expressions rest) >>= array_in scope.design (place_at bracket.raw)
 array_by ss scope = Fails (wrong 0 0)
 
-abbrev pub parentheses_by : List S → Meaning
+abbrev pub parentheses_by : List S → ExpressionTyping
 parentheses_by (bracket ∷ inside ∷ ss) scope = inside.here.expression scope >>= λ inner. Gives (typing inner.part.of (place_at bracket.raw) inner.typed)
 parentheses_by ss scope = Fails (wrong 0 0)
 
-abbrev pub if_by : List S → Meaning
+abbrev pub if_by : List S → ExpressionTyping
 if_by ss scope =
     all_in scope (map (λ s. s.here.arm) (front (codes "else") ss)) >>= λ typed_arms.
     otherwise_in scope (held (last (codes "else") ss) (λ m. m.block)) >>= conditional typed_arms
 
-abbrev pub block_by : List S → Meaning
+abbrev pub block_by : List S → ExpressionTyping
 block_by (bracket ∷ ss) = block_from (place_at bracket.raw) (map (λ s. s.here.statement) (front (codes "value") ss)) (held (last (codes "value") ss) (λ m. m.expression))
 block_by [] = silent
 
 -- the arguments of a keyword
-abbrev pub read_by : (place port : ℕ) → List S → Meaning
+abbrev pub read_by : (place port : ℕ) → List S → ExpressionTyping
 read_by place port (r ∷ ss) scope = read_in scope.design place port (name_at r.raw)
 read_by place port ss scope = Fails (wrong 0 0)
 
-abbrev pub write_by : (place port : ℕ) → List S → Meaning
+abbrev pub write_by : (place port : ℕ) → List S → ExpressionTyping
 write_by place port (r ∷ v ∷ ss) scope = register scope.design (name_at r.raw) >>= λ number. v.here.expression scope >>= written scope.design place port number
 write_by place port ss scope = Fails (wrong 0 0)
 
-abbrev pub pack_by : (place : ℕ) → List S → Meaning
+abbrev pub pack_by : (place : ℕ) → List S → ExpressionTyping
 pack_by place (v ∷ ss) scope = v.here.expression scope >>= packed scope.design place
 pack_by place ss scope = Fails (wrong 0 0)
 
-abbrev pub unpack_by : (place : ℕ) → List S → Meaning
+abbrev pub unpack_by : (place : ℕ) → List S → ExpressionTyping
 unpack_by place (to ∷ v ∷ ss) scope = type_of scope.design (type_at to.raw) >>= λ of. v.here.expression scope >>= unpacked scope.design place of
 unpack_by place ss scope = Fails (wrong 0 0)
 
-abbrev pub extend_by : (place : ℕ) → Extension → List S → Meaning
+abbrev pub extend_by : (place : ℕ) → Extension → List S → ExpressionTyping
 extend_by place e (v ∷ n ∷ ss) scope = v.here.expression scope >>= extended place e (number_at n.raw)
 extend_by place e ss scope = Fails (wrong 0 0)
 
-abbrev pub compare_by : (place : ℕ) → SignedComparison → List S → Meaning
+abbrev pub compare_by : (place : ℕ) → SignedComparison → List S → ExpressionTyping
 compare_by place o (left ∷ right ∷ ss) scope = left.here.expression scope >>= λ one. right.here.expression scope >>= comparison place o one
 compare_by place o ss scope = Fails (wrong 0 0)
 
-abbrev pub update_by : (place : ℕ) → List S → Meaning
+abbrev pub update_by : (place : ℕ) → List S → ExpressionTyping
 update_by place (whole ∷ part ∷ v ∷ ss) scope = whole.here.expression scope >>= λ old. v.here.expression scope >>= updated scope.design place (part_at part.raw) old
 update_by place ss scope = Fails (wrong 0 0)
 
-abbrev pub word_by : Keyword → ℕ → List S → Meaning
+abbrev pub word_by : Keyword → ℕ → List S → ExpressionTyping
 word_by keywords.Read0 place = read_by place 0
 word_by keywords.Read1 place = read_by place 1
 word_by keywords.Read2 place = read_by place 2
@@ -254,20 +254,20 @@ word_by keywords.Sge place = compare_by place comparisons.GreaterOrEqual
 word_by keywords.Update place = update_by place
 word_by k place = λ ss scope. Gives (abort_at place)
 
-abbrev pub words_by : List S → Meaning
+abbrev pub words_by : List S → ExpressionTyping
 words_by (k ∷ ss) = word_by (keyword_at k.raw) (place_at k.raw) ss
 words_by [] = silent
 
 -- the value behind `value`, and the block behind `else`
-abbrev pub value_by : List S → Meaning
+abbrev pub value_by : List S → ExpressionTyping
 value_by (s ∷ ss) = s.here.expression
 value_by [] = silent
 
-abbrev pub else_by : List S → Meaning
+abbrev pub else_by : List S → ExpressionTyping
 else_by (s ∷ ss) = s.here.block
 else_by [] = silent
 
-abbrev pub expression_by : List ℕ → List S → Meaning
+abbrev pub expression_by : List ℕ → List S → ExpressionTyping
 expression_by production ss =
     if bytes_eq production (codes "chain") then chain_by ss
     else if bytes_eq production (codes "unary") then unary_by ss
@@ -282,18 +282,18 @@ expression_by production ss =
     else if bytes_eq production (codes "block") then block_by ss
     else value_by ss
 
-abbrev pub block_here : List ℕ → List S → Meaning
+abbrev pub block_here : List ℕ → List S → ExpressionTyping
 block_here production ss = if bytes_eq production (codes "block") then block_by ss else else_by ss
 
-abbrev pub let_by : (n v : S) → Stepped
+abbrev pub let_by : (n v : S) → StatementTyping
 let_by n v scope = v.here.expression scope >>= λ inner.
     found inner.part.of (wrong_type inner.part) >>= λ of.
     Gives (record { step = step.Let inner.typed; behind = bound (name_at n.raw).text of scope })
 
-abbrev pub do_by : S → Stepped
+abbrev pub do_by : S → StatementTyping
 do_by v scope = v.here.expression scope >>= λ inner. Gives (record { step = step.Do inner.typed; behind = scope })
 
-abbrev pub statement_by : List S → Stepped
+abbrev pub statement_by : List S → StatementTyping
 statement_by (n ∷ v ∷ ss) = let_by n v
 statement_by (v ∷ []) = do_by v
 statement_by [] = silent
@@ -326,7 +326,7 @@ abbrev pub make : Outline → Made
 make = sense leaf other made
 
 -- a block by its outline
-abbrev pub block_meaning : Outline → Meaning
+abbrev pub block_meaning : Outline → ExpressionTyping
 block_meaning o = (make o).block
 
 abbrev pub part_of : Outline → S
@@ -469,8 +469,8 @@ block-both b =
 abbrev pub Layer : Type 0
 Layer = Expression-F Expression Statement Arm Block FieldValue Operand
 
-abbrev pub meaning_of : Layer → Meaning
-meaning_of d = expression_step (map-Expression Expression Statement Arm Block FieldValue Operand Meaning Stepped Armed Meaning Fielded Joining expression_in statement_in arm_in block_in field_value_in operand_in d)
+abbrev pub meaning_of : Layer → ExpressionTyping
+meaning_of d = expression_step (map-Expression Expression Statement Arm Block FieldValue Operand ExpressionTyping StatementTyping Armed ExpressionTyping Fielded Joining expression_in statement_in arm_in block_in field_value_in operand_in d)
 
 abbrev pub outline_of : Layer → Outline
 outline_of d = expression_outline_step here (map-Expression Expression Statement Arm Block FieldValue Operand Outline Outline Outline Outline Outline Outline (expression_outline here) (statement_outline here) (arm_outline here) (block_outline here) (field_value_outline here) (operand_outline here) d)
@@ -488,7 +488,7 @@ node-expression production os = sym (ap (λ m. m.expression) (make-node producti
 expressions-kept : (es : List Expression) → AllByRecursion IsExpression es → AllByRecursion AgreesExpression es → map expression_in es ≡ expressions (map part_of (map (expression_outline here) es))
 expressions-kept es is each = kept leaf other made expression_in (expression_outline here) (λ m. m.expression) es (given IsExpression (λ e. expression_in e ≡ (make (expression_outline here e)).expression) es is each)
 
-abbrev pub if_from : List Armed → Option Meaning → Meaning
+abbrev pub if_from : List Armed → Option ExpressionTyping → ExpressionTyping
 if_from arms otherwise scope = all_in scope arms >>= λ typed_arms. otherwise_in scope otherwise >>= conditional typed_arms
 
 arms-kept : (arms : List Arm) (end : List Outline) → front (codes "else") (map part_of end) ≡ [] → AllByRecursion IsArm arms → AllByRecursion AgreesArm arms → map arm_in arms ≡ map (λ s. s.here.arm) (front (codes "else") (map part_of (map (arm_outline here) arms ++ end)))
@@ -506,87 +506,87 @@ Given d = IsExpressionLayer d → ExpressionIs d → ExpressionAgrees d → Agre
 
 agree-if : (arms : Vec Arm Global) → Given (expression.If arms None)
 agree-if arms it is each =
-    ap₂ {C = Meaning} if_from (arms-kept arms.items [] refl is.0 each.0) (sym (ap (λ (l : Option Made). held l (λ m. m.block)) (else-kept arms.items [])))
+    ap₂ {C = ExpressionTyping} if_from (arms-kept arms.items [] refl is.0 each.0) (sym (ap (λ (l : Option Made). held l (λ m. m.block)) (else-kept arms.items [])))
     ∙ node-expression (codes "if") (map (arm_outline here) arms.items ++ [])
 
 agree-else : (arms : Vec Arm Global) (b : Block) → Given (expression.If arms (Some b))
 agree-else arms b it is each =
     let end : List Outline = node (codes "else") (block_outline here b ∷ []) ∷ [] in
-    ap₂ {C = Meaning} if_from (arms-kept arms.items end refl is.0 each.0) (ap (λ (m : Meaning). Some m) (each.1 is.1) ∙ sym (ap (λ (l : Option Made). held l (λ m. m.block)) (else-kept arms.items end)))
+    ap₂ {C = ExpressionTyping} if_from (arms-kept arms.items end refl is.0 each.0) (ap (λ (m : ExpressionTyping). Some m) (each.1 is.1) ∙ sym (ap (λ (l : Option Made). held l (λ m. m.block)) (else-kept arms.items end)))
     ∙ node-expression (codes "if") (map (arm_outline here) arms.items ++ end)
 
 agree-chain : (first : Box Expression Global) (rest : Vec Operand Global) → Given (expression.Chain first rest)
 agree-chain first rest it is each =
-    ap₂ {C = Meaning} (λ (m : Meaning) (os : List Joining) scope. m scope >>= chain_in scope os) (each.0 is.0)
+    ap₂ {C = ExpressionTyping} (λ (m : ExpressionTyping) (os : List Joining) scope. m scope >>= chain_in scope os) (each.0 is.0)
     (kept leaf other made operand_in (operand_outline here) (λ m. m.operand) rest.items (given IsOperand (λ o. operand_in o ≡ (make (operand_outline here o)).operand) rest.items is.1 each.1))
     ∙ node-expression (codes "chain") (expression_outline here first.value ∷ map (operand_outline here) rest.items)
 
 agree-unary : (prefixes : List Prefix) (operand : Box Expression Global) → Given (expression.Unary prefixes operand)
 agree-unary prefixes operand it is each =
     let x = expression_outline here operand.value in
-    ap₂ {C = Meaning} (λ (m : Meaning) (ps : List Prefix) scope. m scope >>= unary ps) (each is ∙ sym (end-of prefixes x)) (sym (prefixes-of prefixes x))
+    ap₂ {C = ExpressionTyping} (λ (m : ExpressionTyping) (ps : List Prefix) scope. m scope >>= unary ps) (each is ∙ sym (end-of prefixes x)) (sym (prefixes-of prefixes x))
     ∙ node-expression (codes "unary") (map (prefix_outline here) prefixes ++ x ∷ [])
 
 agree-postfix : (primary : Box Expression Global) (suffixes : List Suffix) → Given (expression.Postfix primary suffixes)
 agree-postfix primary suffixes it is each =
-    ap₂ {C = Meaning} (λ (m : Meaning) (ss : List Suffix) scope. m scope >>= postfix scope.design ss) (each is) (sym (raws suffix_at (suffix_outline here) suffix-at suffixes))
+    ap₂ {C = ExpressionTyping} (λ (m : ExpressionTyping) (ss : List Suffix) scope. m scope >>= postfix scope.design ss) (each is) (sym (raws suffix_at (suffix_outline here) suffix-at suffixes))
     ∙ node-expression (codes "postfix") (expression_outline here primary.value ∷ map (suffix_outline here) suffixes)
 
 agree-call : (n : Name) (arguments : Vec Expression Global) → Given (expression.Call n arguments)
 agree-call n arguments it is each =
-    ap {B = Meaning} (λ (ms : List Meaning) scope. called scope.design n >>= λ c. all_in scope ms >>= call n c) (expressions-kept arguments.items is each)
+    ap {B = ExpressionTyping} (λ (ms : List ExpressionTyping) scope. called scope.design n >>= λ c. all_in scope ms >>= call n c) (expressions-kept arguments.items is each)
     ∙ node-expression (codes "call") (name_outline here n ∷ map (expression_outline here) arguments.items)
 
 agree-struct : (of : Name) (fields : Vec FieldValue Global) (close : ℕ) → Given (expression.Struct of fields close)
 agree-struct of fields close it is each =
-    ap {B = Meaning} (λ (fs : List Fielded) scope. found (struct_named scope.design of.text) (wrong UNKNOWN_NAME of.place) >>= λ number. all_in scope fs >>= struct_in scope.design number of.place close)
+    ap {B = ExpressionTyping} (λ (fs : List Fielded) scope. found (struct_named scope.design of.text) (wrong UNKNOWN_NAME of.place) >>= λ number. all_in scope fs >>= struct_in scope.design number of.place close)
     (kept-list leaf other made field_value_in (field_value_outline here) (λ m. m.field) fields.items (given IsFieldValue (λ f. field_value_in f ≡ (make (field_value_outline here f)).field) fields.items is each))
 
 agree-array : (place : ℕ) (elements : Vec Expression Global) → Given (expression.Array place elements)
 agree-array place elements it is each =
-    ap {B = Meaning} (λ (ms : List Meaning) scope. all_in scope ms >>= array_in scope.design place) (expressions-kept elements.items is each)
+    ap {B = ExpressionTyping} (λ (ms : List ExpressionTyping) scope. all_in scope ms >>= array_in scope.design place) (expressions-kept elements.items is each)
     ∙ node-expression (codes "array") (Outline.token (symbol symbols.LeftBracket) place ∷ map (expression_outline here) elements.items)
 
 agree-parentheses : (place : ℕ) (inside : Box Expression Global) → Given (expression.Parentheses place inside)
 agree-parentheses place inside it is each =
-    ap {B = Meaning} (λ (m : Meaning) scope. m scope >>= λ inner. Gives (typing inner.part.of place inner.typed)) (each is)
+    ap {B = ExpressionTyping} (λ (m : ExpressionTyping) scope. m scope >>= λ inner. Gives (typing inner.part.of place inner.typed)) (each is)
 
 agree-read : (place port : ℕ) (r : Name) → Given (expression.Read place port r)
-agree-read place port r it is each = sym (ap (λ (f : List S → Meaning). f (part_of (name_outline here r) ∷ [])) (read-word port place it.0))
+agree-read place port r it is each = sym (ap (λ (f : List S → ExpressionTyping). f (part_of (name_outline here r) ∷ [])) (read-word port place it.0))
 
 agree-write : (place port : ℕ) (r : Name) (value : Box Expression Global) → Given (expression.Write place port r value)
 agree-write place port r value it is each =
-    ap {B = Meaning} (λ (m : Meaning) scope. register scope.design r >>= λ number. m scope >>= written scope.design place port number) (each is)
-    ∙ sym (ap (λ (f : List S → Meaning). f (part_of (name_outline here r) ∷ part_of (expression_outline here value.value) ∷ [])) (write-word port place it.0))
+    ap {B = ExpressionTyping} (λ (m : ExpressionTyping) scope. register scope.design r >>= λ number. m scope >>= written scope.design place port number) (each is)
+    ∙ sym (ap (λ (f : List S → ExpressionTyping). f (part_of (name_outline here r) ∷ part_of (expression_outline here value.value) ∷ [])) (write-word port place it.0))
 
 agree-pack : (place : ℕ) (value : Box Expression Global) → Given (expression.Pack place value)
-agree-pack place value it is each = ap {B = Meaning} (λ (m : Meaning) scope. m scope >>= packed scope.design place) (each is)
+agree-pack place value it is each = ap {B = ExpressionTyping} (λ (m : ExpressionTyping) scope. m scope >>= packed scope.design place) (each is)
 
-abbrev pub unpack_from : ℕ → (Checked → Outcome ValueType) → Meaning → Meaning
+abbrev pub unpack_from : ℕ → (Checked → CheckResult ValueType) → ExpressionTyping → ExpressionTyping
 unpack_from place to m scope = to scope.design >>= λ of. m scope >>= unpacked scope.design place of
 
-unpack-at : (place : ℕ) (to : TypeExpression) (m : Meaning) → unpack_from place (λ d. type_of d to) m ≡ unpack_from place (λ d. type_of d (type_at (type_outline here to))) m
+unpack-at : (place : ℕ) (to : TypeExpression) (m : ExpressionTyping) → unpack_from place (λ d. type_of d to) m ≡ unpack_from place (λ d. type_of d (type_at (type_outline here to))) m
 unpack-at place to m = λ i. unpack_from place (λ d. type-at d to i) m
 
 agree-unpack : (place : ℕ) (to : TypeExpression) (value : Box Expression Global) → Given (expression.Unpack place to value)
 agree-unpack place to value it is each =
-    ap {B = Meaning} (λ (m : Meaning) scope. type_of scope.design to >>= λ of. m scope >>= unpacked scope.design place of) (each is)
+    ap {B = ExpressionTyping} (λ (m : ExpressionTyping) scope. type_of scope.design to >>= λ of. m scope >>= unpacked scope.design place of) (each is)
     ∙ unpack-at place to (make (expression_outline here value.value)).expression
 
 agree-extend : (place : ℕ) (e : Extension) (value : Box Expression Global) (width : Number) → Given (expression.Extend place e value width)
 agree-extend place e value width it is each =
-    ap {B = Meaning} (λ (m : Meaning) scope. m scope >>= extended place e width) (each is)
-    ∙ sym (ap (λ (f : List S → Meaning). f (part_of (expression_outline here value.value) ∷ part_of (number_outline here width) ∷ [])) (extend-word e place))
+    ap {B = ExpressionTyping} (λ (m : ExpressionTyping) scope. m scope >>= extended place e width) (each is)
+    ∙ sym (ap (λ (f : List S → ExpressionTyping). f (part_of (expression_outline here value.value) ∷ part_of (number_outline here width) ∷ [])) (extend-word e place))
 
 agree-compare : (place : ℕ) (o : SignedComparison) (left right : Box Expression Global) → Given (expression.Compare place o left right)
 agree-compare place o left right it is each =
-    ap₂ {C = Meaning} (λ (m k : Meaning) scope. m scope >>= λ one. k scope >>= comparison place o one) (each.0 is.0) (each.1 is.1)
-    ∙ sym (ap (λ (f : List S → Meaning). f (part_of (expression_outline here left.value) ∷ part_of (expression_outline here right.value) ∷ [])) (compare-word o place))
+    ap₂ {C = ExpressionTyping} (λ (m k : ExpressionTyping) scope. m scope >>= λ one. k scope >>= comparison place o one) (each.0 is.0) (each.1 is.1)
+    ∙ sym (ap (λ (f : List S → ExpressionTyping). f (part_of (expression_outline here left.value) ∷ part_of (expression_outline here right.value) ∷ [])) (compare-word o place))
 
-agree-update : (place : ℕ) (whole : Box Expression Global) (part : Part) (value : Box Expression Global) → Given (expression.Update place whole part value)
+agree-update : (place : ℕ) (whole : Box Expression Global) (part : UpdatedPart) (value : Box Expression Global) → Given (expression.Update place whole part value)
 agree-update place whole part value it is each =
-    ap₂ {C = Meaning} (λ (m k : Meaning) scope. m scope >>= λ old. k scope >>= updated scope.design place part old) (each.0 is.0) (each.1 is.1)
-    ∙ ap {B = Meaning} (λ (p : Part) scope. (make (expression_outline here whole.value)).expression scope >>= λ old. (make (expression_outline here value.value)).expression scope >>= updated scope.design place p old) (sym (part-at part))
+    ap₂ {C = ExpressionTyping} (λ (m k : ExpressionTyping) scope. m scope >>= λ old. k scope >>= updated scope.design place part old) (each.0 is.0) (each.1 is.1)
+    ∙ ap {B = ExpressionTyping} (λ (p : UpdatedPart) scope. (make (expression_outline here whole.value)).expression scope >>= λ old. (make (expression_outline here value.value)).expression scope >>= updated scope.design place p old) (sym (part-at part))
 
 expression_agrees : (d : Layer) → Given d
 expression_agrees (expression.If arms None) = agree-if arms
@@ -617,32 +617,32 @@ abbrev pub statement_layer : Statement-F Expression Statement Arm Block FieldVal
 statement_layer d = statement_outline_step here (map-Statement Expression Statement Arm Block FieldValue Operand Outline Outline Outline Outline Outline Outline (expression_outline here) (statement_outline here) (arm_outline here) (block_outline here) (field_value_outline here) (operand_outline here) d)
 
 statement_agrees : (d : Statement-F Expression Statement Arm Block FieldValue Operand) → IsStatementLayer d → EachOfStatement IsExpression IsStatement IsArm IsBlock IsFieldValue IsOperand d → EachOfStatement AgreesExpression AgreesStatement AgreesArm AgreesBlock AgreesFieldValue AgreesOperand d →
-    statement_step (map-Statement Expression Statement Arm Block FieldValue Operand Meaning Stepped Armed Meaning Fielded Joining expression_in statement_in arm_in block_in field_value_in operand_in d) ≡ (make (statement_layer d)).statement
+    statement_step (map-Statement Expression Statement Arm Block FieldValue Operand ExpressionTyping StatementTyping Armed ExpressionTyping Fielded Joining expression_in statement_in arm_in block_in field_value_in operand_in d) ≡ (make (statement_layer d)).statement
 statement_agrees (expression.Let n value) it is each =
-    ap {B = Stepped} (λ (m : Meaning) scope. m scope >>= λ inner. found inner.part.of (wrong_type inner.part) >>= λ of. Gives (record { step = step.Let inner.typed; behind = bound n.text of scope })) (each is)
-statement_agrees (expression.Do value) it is each = ap {B = Stepped} (λ (m : Meaning) scope. m scope >>= λ inner. Gives (record { step = step.Do inner.typed; behind = scope })) (each is)
+    ap {B = StatementTyping} (λ (m : ExpressionTyping) scope. m scope >>= λ inner. found inner.part.of (wrong_type inner.part) >>= λ of. Gives (record { step = step.Let inner.typed; behind = bound n.text of scope })) (each is)
+statement_agrees (expression.Do value) it is each = ap {B = StatementTyping} (λ (m : ExpressionTyping) scope. m scope >>= λ inner. Gives (record { step = step.Do inner.typed; behind = scope })) (each is)
 
 abbrev pub arm_layer : Arm-F Expression Statement Arm Block FieldValue Operand → Outline
 arm_layer d = arm_outline_step here (map-Arm Expression Statement Arm Block FieldValue Operand Outline Outline Outline Outline Outline Outline (expression_outline here) (statement_outline here) (arm_outline here) (block_outline here) (field_value_outline here) (operand_outline here) d)
 
 arm_agrees : (d : Arm-F Expression Statement Arm Block FieldValue Operand) → IsArmLayer d → EachOfArm IsExpression IsStatement IsArm IsBlock IsFieldValue IsOperand d → EachOfArm AgreesExpression AgreesStatement AgreesArm AgreesBlock AgreesFieldValue AgreesOperand d →
-    arm_step (map-Arm Expression Statement Arm Block FieldValue Operand Meaning Stepped Armed Meaning Fielded Joining expression_in statement_in arm_in block_in field_value_in operand_in d) ≡ (make (arm_layer d)).arm
+    arm_step (map-Arm Expression Statement Arm Block FieldValue Operand ExpressionTyping StatementTyping Armed ExpressionTyping Fielded Joining expression_in statement_in arm_in block_in field_value_in operand_in d) ≡ (make (arm_layer d)).arm
 arm_agrees d it is each =
-    ap₂ {C = Armed} (λ (m k : Meaning) scope. m scope >>= λ condition. k scope >>= λ body. Gives (record { place = d.place; condition = condition; body = body })) (each.0 is.0) (each.1 is.1)
+    ap₂ {C = Armed} (λ (m k : ExpressionTyping) scope. m scope >>= λ condition. k scope >>= λ body. Gives (record { place = d.place; condition = condition; body = body })) (each.0 is.0) (each.1 is.1)
 
 abbrev pub field_value_layer : FieldValue-F Expression Statement Arm Block FieldValue Operand → Outline
 field_value_layer d = field_value_outline_step here (map-FieldValue Expression Statement Arm Block FieldValue Operand Outline Outline Outline Outline Outline Outline (expression_outline here) (statement_outline here) (arm_outline here) (block_outline here) (field_value_outline here) (operand_outline here) d)
 
 field_value_agrees : (d : FieldValue-F Expression Statement Arm Block FieldValue Operand) → IsFieldValueLayer d → EachOfFieldValue IsExpression IsStatement IsArm IsBlock IsFieldValue IsOperand d → EachOfFieldValue AgreesExpression AgreesStatement AgreesArm AgreesBlock AgreesFieldValue AgreesOperand d →
-    field_value_step (map-FieldValue Expression Statement Arm Block FieldValue Operand Meaning Stepped Armed Meaning Fielded Joining expression_in statement_in arm_in block_in field_value_in operand_in d) ≡ (make (field_value_layer d)).field
-field_value_agrees d it is each = ap {B = Fielded} (λ (m : Meaning) scope. m scope >>= λ inner. Gives (record { name = d.name; typing = inner })) (each is)
+    field_value_step (map-FieldValue Expression Statement Arm Block FieldValue Operand ExpressionTyping StatementTyping Armed ExpressionTyping Fielded Joining expression_in statement_in arm_in block_in field_value_in operand_in d) ≡ (make (field_value_layer d)).field
+field_value_agrees d it is each = ap {B = Fielded} (λ (m : ExpressionTyping) scope. m scope >>= λ inner. Gives (record { name = d.name; typing = inner })) (each is)
 
 abbrev pub operand_layer : Operand-F Expression Statement Arm Block FieldValue Operand → Outline
 operand_layer d = operand_outline_step here (map-Operand Expression Statement Arm Block FieldValue Operand Outline Outline Outline Outline Outline Outline (expression_outline here) (statement_outline here) (arm_outline here) (block_outline here) (field_value_outline here) (operand_outline here) d)
 
 operand_agrees : (d : Operand-F Expression Statement Arm Block FieldValue Operand) → IsOperandLayer d → EachOfOperand IsExpression IsStatement IsArm IsBlock IsFieldValue IsOperand d → EachOfOperand AgreesExpression AgreesStatement AgreesArm AgreesBlock AgreesFieldValue AgreesOperand d →
-    operand_step (map-Operand Expression Statement Arm Block FieldValue Operand Meaning Stepped Armed Meaning Fielded Joining expression_in statement_in arm_in block_in field_value_in operand_in d) ≡ (make (operand_layer d)).operand
-operand_agrees d it is each = ap₂ {C = Joining} (λ (o : BinaryOperator) (m : Meaning). record { operator = o; operand = m }) (sym (binary-of d.operator)) (each is)
+    operand_step (map-Operand Expression Statement Arm Block FieldValue Operand ExpressionTyping StatementTyping Armed ExpressionTyping Fielded Joining expression_in statement_in arm_in block_in field_value_in operand_in d) ≡ (make (operand_layer d)).operand
+operand_agrees d it is each = ap₂ {C = Joining} (λ (o : BinaryOperator) (m : ExpressionTyping). record { operator = o; operand = m }) (sym (binary-of d.operator)) (each is)
 
 abbrev pub block_layer : Block-F Expression Statement Arm Block FieldValue Operand → Outline
 block_layer d = block_outline_step here (map-Block Expression Statement Arm Block FieldValue Operand Outline Outline Outline Outline Outline Outline (expression_outline here) (statement_outline here) (arm_outline here) (block_outline here) (field_value_outline here) (operand_outline here) d)
@@ -660,17 +660,17 @@ abbrev pub block_with : (place : ℕ) (ts : Vec Statement Global) (value : Optio
 block_with place ts value = record { place = place; statements = ts; value = value }
 
 block_agrees : (d : Block-F Expression Statement Arm Block FieldValue Operand) → IsBlockLayer d → EachOfBlock IsExpression IsStatement IsArm IsBlock IsFieldValue IsOperand d → EachOfBlock AgreesExpression AgreesStatement AgreesArm AgreesBlock AgreesFieldValue AgreesOperand d →
-    block_step (map-Block Expression Statement Arm Block FieldValue Operand Meaning Stepped Armed Meaning Fielded Joining expression_in statement_in arm_in block_in field_value_in operand_in d) ≡ (make (block_layer d)).block
+    block_step (map-Block Expression Statement Arm Block FieldValue Operand ExpressionTyping StatementTyping Armed ExpressionTyping Fielded Joining expression_in statement_in arm_in block_in field_value_in operand_in d) ≡ (make (block_layer d)).block
 block_agrees d it is each = of_parts d.place d.statements d.value is each
   where
     of_parts : (place : ℕ) (ts : Vec Statement Global) (value : Option (Box Expression Global)) → EachOfBlock IsExpression IsStatement IsArm IsBlock IsFieldValue IsOperand (block_with place ts value) → EachOfBlock AgreesExpression AgreesStatement AgreesArm AgreesBlock AgreesFieldValue AgreesOperand (block_with place ts value) →
-        block_step (map-Block Expression Statement Arm Block FieldValue Operand Meaning Stepped Armed Meaning Fielded Joining expression_in statement_in arm_in block_in field_value_in operand_in (block_with place ts value)) ≡ (make (block_layer (block_with place ts value))).block
+        block_step (map-Block Expression Statement Arm Block FieldValue Operand ExpressionTyping StatementTyping Armed ExpressionTyping Fielded Joining expression_in statement_in arm_in block_in field_value_in operand_in (block_with place ts value)) ≡ (make (block_layer (block_with place ts value))).block
     of_parts place ts None is each =
-        ap₂ {C = Meaning} (block_from place) (statements-kept ts.items [] refl is.0 each.0) (sym (ap (λ (l : Option Made). held l (λ m. m.expression)) (value-kept ts.items [])))
+        ap₂ {C = ExpressionTyping} (block_from place) (statements-kept ts.items [] refl is.0 each.0) (sym (ap (λ (l : Option Made). held l (λ m. m.expression)) (value-kept ts.items [])))
         ∙ node-block (Outline.token (symbol symbols.LeftBrace) place ∷ map (statement_outline here) ts.items ++ [])
     of_parts place ts (Some b) is each =
         let end : List Outline = node (codes "value") (expression_outline here b.value ∷ []) ∷ [] in
-        ap₂ {C = Meaning} (block_from place) (statements-kept ts.items end refl is.0 each.0) (ap (λ (m : Meaning). Some m) (each.1 is.1) ∙ sym (ap (λ (l : Option Made). held l (λ m. m.expression)) (value-kept ts.items end)))
+        ap₂ {C = ExpressionTyping} (block_from place) (statements-kept ts.items end refl is.0 each.0) (ap (λ (m : ExpressionTyping). Some m) (each.1 is.1) ∙ sym (ap (λ (l : Option Made). held l (λ m. m.expression)) (value-kept ts.items end)))
         ∙ node-block (Outline.token (symbol symbols.LeftBrace) place ∷ map (statement_outline here) ts.items ++ end)
 
 expression_of_layer : (d : Expression-F Expression Statement Arm Block FieldValue Operand) (y : Expression-F (Such AgreesExpression) (Such AgreesStatement) (Such AgreesArm) (Such AgreesBlock) (Such AgreesFieldValue) (Such AgreesOperand)) → map-Expression (Such AgreesExpression) (Such AgreesStatement) (Such AgreesArm) (Such AgreesBlock) (Such AgreesFieldValue) (Such AgreesOperand) Expression Statement Arm Block FieldValue Operand (λ e. e.0) (λ e. e.0) (λ e. e.0) (λ e. e.0) (λ e. e.0) (λ e. e.0) y ≡ d → AgreesExpression (roll-Expression d)
@@ -680,7 +680,7 @@ expression_of_layer d y same is =
     let it = subst IsExpressionLayer (out-roll-Expression d) (every_here-Expression IsExpressionLayer IsStatementLayer IsArmLayer IsBlockLayer IsFieldValueLayer IsOperandLayer (roll-Expression d) is) in
     let parts_are = subst (EachOfExpression IsExpression IsStatement IsArm IsBlock IsFieldValue IsOperand) (held.1 ∙ out-roll-Expression d) (each_of_expression IsExpression IsStatement IsArm IsBlock IsFieldValue IsOperand held.0) in
     let parts_agree = subst (EachOfExpression AgreesExpression AgreesStatement AgreesArm AgreesBlock AgreesFieldValue AgreesOperand) same (each_of_expression AgreesExpression AgreesStatement AgreesArm AgreesBlock AgreesFieldValue AgreesOperand y) in
-    fold-roll-Expression Meaning Stepped Armed Meaning Fielded Joining expression_step statement_step arm_step block_step field_value_step operand_step d
+    fold-roll-Expression ExpressionTyping StatementTyping Armed ExpressionTyping Fielded Joining expression_step statement_step arm_step block_step field_value_step operand_step d
     ∙ expression_agrees d it parts_are parts_agree
     ∙ ap (λ o. (make o).expression) (sym (fold-roll-Expression Outline Outline Outline Outline Outline Outline (expression_outline_step here) (statement_outline_step here) (arm_outline_step here) (block_outline_step here) (field_value_outline_step here) (operand_outline_step here) d))
 
@@ -691,7 +691,7 @@ statement_of_layer d y same is =
     let it = subst IsStatementLayer (out-roll-Statement d) (every_here-Statement IsExpressionLayer IsStatementLayer IsArmLayer IsBlockLayer IsFieldValueLayer IsOperandLayer (roll-Statement d) is) in
     let parts_are = subst (EachOfStatement IsExpression IsStatement IsArm IsBlock IsFieldValue IsOperand) (held.1 ∙ out-roll-Statement d) (each_of_statement IsExpression IsStatement IsArm IsBlock IsFieldValue IsOperand held.0) in
     let parts_agree = subst (EachOfStatement AgreesExpression AgreesStatement AgreesArm AgreesBlock AgreesFieldValue AgreesOperand) same (each_of_statement AgreesExpression AgreesStatement AgreesArm AgreesBlock AgreesFieldValue AgreesOperand y) in
-    fold-roll-Statement Meaning Stepped Armed Meaning Fielded Joining expression_step statement_step arm_step block_step field_value_step operand_step d
+    fold-roll-Statement ExpressionTyping StatementTyping Armed ExpressionTyping Fielded Joining expression_step statement_step arm_step block_step field_value_step operand_step d
     ∙ statement_agrees d it parts_are parts_agree
     ∙ ap (λ o. (make o).statement) (sym (fold-roll-Statement Outline Outline Outline Outline Outline Outline (expression_outline_step here) (statement_outline_step here) (arm_outline_step here) (block_outline_step here) (field_value_outline_step here) (operand_outline_step here) d))
 
@@ -702,7 +702,7 @@ arm_of_layer d y same is =
     let it = subst IsArmLayer (out-roll-Arm d) (every_here-Arm IsExpressionLayer IsStatementLayer IsArmLayer IsBlockLayer IsFieldValueLayer IsOperandLayer (roll-Arm d) is) in
     let parts_are = subst (EachOfArm IsExpression IsStatement IsArm IsBlock IsFieldValue IsOperand) (held.1 ∙ out-roll-Arm d) (each_of_arm IsExpression IsStatement IsArm IsBlock IsFieldValue IsOperand held.0) in
     let parts_agree = subst (EachOfArm AgreesExpression AgreesStatement AgreesArm AgreesBlock AgreesFieldValue AgreesOperand) same (each_of_arm AgreesExpression AgreesStatement AgreesArm AgreesBlock AgreesFieldValue AgreesOperand y) in
-    fold-roll-Arm Meaning Stepped Armed Meaning Fielded Joining expression_step statement_step arm_step block_step field_value_step operand_step d
+    fold-roll-Arm ExpressionTyping StatementTyping Armed ExpressionTyping Fielded Joining expression_step statement_step arm_step block_step field_value_step operand_step d
     ∙ arm_agrees d it parts_are parts_agree
     ∙ ap (λ o. (make o).arm) (sym (fold-roll-Arm Outline Outline Outline Outline Outline Outline (expression_outline_step here) (statement_outline_step here) (arm_outline_step here) (block_outline_step here) (field_value_outline_step here) (operand_outline_step here) d))
 
@@ -713,7 +713,7 @@ block_of_layer d y same is =
     let it = subst IsBlockLayer (out-roll-Block d) (every_here-Block IsExpressionLayer IsStatementLayer IsArmLayer IsBlockLayer IsFieldValueLayer IsOperandLayer (roll-Block d) is) in
     let parts_are = subst (EachOfBlock IsExpression IsStatement IsArm IsBlock IsFieldValue IsOperand) (held.1 ∙ out-roll-Block d) (each_of_block IsExpression IsStatement IsArm IsBlock IsFieldValue IsOperand held.0) in
     let parts_agree = subst (EachOfBlock AgreesExpression AgreesStatement AgreesArm AgreesBlock AgreesFieldValue AgreesOperand) same (each_of_block AgreesExpression AgreesStatement AgreesArm AgreesBlock AgreesFieldValue AgreesOperand y) in
-    fold-roll-Block Meaning Stepped Armed Meaning Fielded Joining expression_step statement_step arm_step block_step field_value_step operand_step d
+    fold-roll-Block ExpressionTyping StatementTyping Armed ExpressionTyping Fielded Joining expression_step statement_step arm_step block_step field_value_step operand_step d
     ∙ block_agrees d it parts_are parts_agree
     ∙ ap (λ o. (make o).block) (sym (fold-roll-Block Outline Outline Outline Outline Outline Outline (expression_outline_step here) (statement_outline_step here) (arm_outline_step here) (block_outline_step here) (field_value_outline_step here) (operand_outline_step here) d))
 
@@ -724,7 +724,7 @@ field_value_of_layer d y same is =
     let it = subst IsFieldValueLayer (out-roll-FieldValue d) (every_here-FieldValue IsExpressionLayer IsStatementLayer IsArmLayer IsBlockLayer IsFieldValueLayer IsOperandLayer (roll-FieldValue d) is) in
     let parts_are = subst (EachOfFieldValue IsExpression IsStatement IsArm IsBlock IsFieldValue IsOperand) (held.1 ∙ out-roll-FieldValue d) (each_of_field_value IsExpression IsStatement IsArm IsBlock IsFieldValue IsOperand held.0) in
     let parts_agree = subst (EachOfFieldValue AgreesExpression AgreesStatement AgreesArm AgreesBlock AgreesFieldValue AgreesOperand) same (each_of_field_value AgreesExpression AgreesStatement AgreesArm AgreesBlock AgreesFieldValue AgreesOperand y) in
-    fold-roll-FieldValue Meaning Stepped Armed Meaning Fielded Joining expression_step statement_step arm_step block_step field_value_step operand_step d
+    fold-roll-FieldValue ExpressionTyping StatementTyping Armed ExpressionTyping Fielded Joining expression_step statement_step arm_step block_step field_value_step operand_step d
     ∙ field_value_agrees d it parts_are parts_agree
     ∙ ap (λ o. (make o).field) (sym (fold-roll-FieldValue Outline Outline Outline Outline Outline Outline (expression_outline_step here) (statement_outline_step here) (arm_outline_step here) (block_outline_step here) (field_value_outline_step here) (operand_outline_step here) d))
 
@@ -735,7 +735,7 @@ operand_of_layer d y same is =
     let it = subst IsOperandLayer (out-roll-Operand d) (every_here-Operand IsExpressionLayer IsStatementLayer IsArmLayer IsBlockLayer IsFieldValueLayer IsOperandLayer (roll-Operand d) is) in
     let parts_are = subst (EachOfOperand IsExpression IsStatement IsArm IsBlock IsFieldValue IsOperand) (held.1 ∙ out-roll-Operand d) (each_of_operand IsExpression IsStatement IsArm IsBlock IsFieldValue IsOperand held.0) in
     let parts_agree = subst (EachOfOperand AgreesExpression AgreesStatement AgreesArm AgreesBlock AgreesFieldValue AgreesOperand) same (each_of_operand AgreesExpression AgreesStatement AgreesArm AgreesBlock AgreesFieldValue AgreesOperand y) in
-    fold-roll-Operand Meaning Stepped Armed Meaning Fielded Joining expression_step statement_step arm_step block_step field_value_step operand_step d
+    fold-roll-Operand ExpressionTyping StatementTyping Armed ExpressionTyping Fielded Joining expression_step statement_step arm_step block_step field_value_step operand_step d
     ∙ operand_agrees d it parts_are parts_agree
     ∙ ap (λ o. (make o).operand) (sym (fold-roll-Operand Outline Outline Outline Outline Outline Outline (expression_outline_step here) (statement_outline_step here) (arm_outline_step here) (block_outline_step here) (field_value_outline_step here) (operand_outline_step here) d))
 

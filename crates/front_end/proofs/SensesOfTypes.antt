@@ -14,10 +14,10 @@ use Rattle.koika_syntax.specs.declared.tree.TypeExpression.{TypeExpression, Bits
 use Rattle.koika_syntax.specs.declared.tree.Width.{Width}
 use Rattle.koika_parse.specs.Outline.{Outline, type_outline, constant_outline, constant_field_outline, constant_outline_step, constant_field_outline_step}
 use Rattle.koika_check.proofs.TreeParts.{Such, firsts}
-use Rattle.koika_check.specs.Constants.{Meaning, FieldMeaning, array_known, constant_field_step, constant_of, constant_step, known_member, struct_known}
+use Rattle.koika_check.specs.Constants.{ConstantMeaning, FieldMeaning, array_known, constant_field_step, constant_of, constant_step, known_member, struct_known}
 use Rattle.koika_check.specs.inner.Constants.{constant_field_of}
 use Rattle.koika_check.specs.Composites.{member}
-use Rattle.koika_check.specs.Outcomes.{Outcome, ◌>>=◌, Fails, Gives, found, in_turn, wrong}
+use Rattle.koika_check.specs.Outcomes.{CheckResult, ◌>>=◌, Fails, Gives, found, in_turn, wrong}
 use Rattle.koika_check.specs.Types.{array_type, bits, part, struct_named, type_of}
 use Rattle.koika_check.specs.declared.checked.Checked.{Checked}
 use Rattle.koika_types.specs.declared.value.Value.TheVariants as value
@@ -53,37 +53,37 @@ type-at d (Array' place q element size) = ap (λ o. o >>= array_type d size.valu
 -- ---- constants
 
 pub record Constants : Type 0 where
-  pub constant : Meaning
+  pub constant : ConstantMeaning
   pub field : FieldMeaning
 
-abbrev pub silent : {X : Type 0} → Checked → Outcome X
+abbrev pub silent : {X : Type 0} → Checked → CheckResult X
 silent d = Fails (wrong 0 0)
 
 abbrev pub nothing : Constants
 nothing = record { constant = silent; field = silent }
 
-abbrev pub token_constant : Terminal → ℕ → Meaning
+abbrev pub token_constant : Terminal → ℕ → ConstantMeaning
 token_constant (Terminal.literal b) place d = Gives (record { part = part (Some (bits b.width)) place; value = value.Number b })
 token_constant t place d = Fails (wrong 0 0)
 
 abbrev pub leaf : Terminal → ℕ → Constants
 leaf t place = record { constant = token_constant t place; field = silent }
 
-abbrev pub member_by : List (Sensed Constants) → Meaning
+abbrev pub member_by : List (Sensed Constants) → ConstantMeaning
 member_by (of ∷ m ∷ []) d = member d (name_at of.raw) (name_at m.raw) >>= λ found. Gives (known_member (name_at of.raw).place found)
 member_by parts d = Fails (wrong 0 0)
 
-abbrev pub struct_by : List (Sensed Constants) → Meaning
+abbrev pub struct_by : List (Sensed Constants) → ConstantMeaning
 struct_by (of ∷ fields ∷ close ∷ []) d =
     found (struct_named d (name_at of.raw).text) (wrong UNKNOWN_NAME (name_at of.raw).place) >>= λ number.
     in_turn (λ (field : FieldMeaning). field d) (map (λ x. x.field) fields.list) >>= struct_known d number (name_at of.raw).place (place_at close.raw)
 struct_by parts d = Fails (wrong 0 0)
 
-abbrev pub array_by : List (Sensed Constants) → Meaning
-array_by (bracket ∷ elements) d = in_turn (λ (element : Meaning). element d) (map (λ s. s.here.constant) elements) >>= array_known d (place_at bracket.raw)
+abbrev pub array_by : List (Sensed Constants) → ConstantMeaning
+array_by (bracket ∷ elements) d = in_turn (λ (element : ConstantMeaning). element d) (map (λ s. s.here.constant) elements) >>= array_known d (place_at bracket.raw)
 array_by parts d = Fails (wrong 0 0)
 
-abbrev pub constant_by : List ℕ → List (Sensed Constants) → Meaning
+abbrev pub constant_by : List ℕ → List (Sensed Constants) → ConstantMeaning
 constant_by production parts =
     if bytes_eq production (codes "member") then member_by parts
     else if bytes_eq production (codes "struct") then struct_by parts
@@ -120,20 +120,20 @@ each_agrees (constant.Member of m) = tt
 each_agrees (constant.Struct of fields close) = firsts FieldAgrees fields.items
 each_agrees (constant.Array place elements) = firsts Agrees elements.items
 
-constant_layer : (d : Layer) → EachAgrees d → constant_step (map-Constant Constant ConstantField Meaning FieldMeaning constant_of constant_field_of d) ≡ (constant_sense (constant_outline_step here (map-Constant Constant ConstantField Outline Outline (constant_outline here) (constant_field_outline here) d))).constant
+constant_layer : (d : Layer) → EachAgrees d → constant_step (map-Constant Constant ConstantField ConstantMeaning FieldMeaning constant_of constant_field_of d) ≡ (constant_sense (constant_outline_step here (map-Constant Constant ConstantField Outline Outline (constant_outline here) (constant_field_outline here) d))).constant
 constant_layer (constant.Literal l) each = refl
 constant_layer (constant.Member of m) each = refl
 constant_layer (constant.Struct of fields close) each =
-    ap {B = Meaning} (λ (fs : List FieldMeaning) d. found (struct_named d of.text) (wrong UNKNOWN_NAME of.place) >>= λ number. in_turn (λ (field : FieldMeaning). field d) fs >>= struct_known d number of.place close)
+    ap {B = ConstantMeaning} (λ (fs : List FieldMeaning) d. found (struct_named d of.text) (wrong UNKNOWN_NAME of.place) >>= λ number. in_turn (λ (field : FieldMeaning). field d) fs >>= struct_known d number of.place close)
     (kept-list leaf nothing step constant_field_of (constant_field_outline here) (λ x. x.field) fields.items each)
 constant_layer (constant.Array place elements) each =
-    ap {B = Meaning} (λ (es : List Meaning) d. in_turn (λ (element : Meaning). element d) es >>= array_known d place) (kept leaf nothing step constant_of (constant_outline here) (λ x. x.constant) elements.items each)
+    ap {B = ConstantMeaning} (λ (es : List ConstantMeaning) d. in_turn (λ (element : ConstantMeaning). element d) es >>= array_known d place) (kept leaf nothing step constant_of (constant_outline here) (λ x. x.constant) elements.items each)
     ∙ sym (ap (λ x. x.constant) (sense-node leaf nothing step (codes "array") (Outline.token (symbol symbols.LeftBracket) place ∷ map (constant_outline here) elements.items)))
 
 constant_of_layer : (d : Layer) (y : Constant-F (Such Agrees) (Such FieldAgrees)) → map-Constant (Such Agrees) (Such FieldAgrees) Constant ConstantField (λ e. e.0) (λ e. e.0) y ≡ d → Agrees (roll-Constant d)
 unfolding constant_of constant_field_of constant_outline constant_field_outline
 constant_of_layer d y same =
-    fold-roll-Constant Meaning FieldMeaning constant_step constant_field_step d
+    fold-roll-Constant ConstantMeaning FieldMeaning constant_step constant_field_step d
     ∙ constant_layer d (subst EachAgrees same (each_agrees y))
     ∙ ap (λ o. (constant_sense o).constant) (sym (fold-roll-Constant Outline Outline (constant_outline_step here) (constant_field_outline_step here) d))
 
@@ -141,8 +141,8 @@ field_of_layer : (d : ConstantField-F Constant ConstantField) (y : ConstantField
 unfolding constant_of constant_field_of constant_outline constant_field_outline
 field_of_layer d y same =
     let agrees : Agrees d.value = subst (λ (f : ConstantField-F Constant ConstantField). Agrees f.value) same y.value.1 in
-    fold-roll-ConstantField Meaning FieldMeaning constant_step constant_field_step d
-    ∙ ap {B = FieldMeaning} (λ (m : Meaning) c. m c >>= λ known. Gives (record { name = d.name; known = known })) agrees
+    fold-roll-ConstantField ConstantMeaning FieldMeaning constant_step constant_field_step d
+    ∙ ap {B = FieldMeaning} (λ (m : ConstantMeaning) c. m c >>= λ known. Gives (record { name = d.name; known = known })) agrees
     ∙ ap (λ o. (constant_sense o).field) (sym (fold-roll-ConstantField Outline Outline (constant_outline_step here) (constant_field_outline_step here) d))
 
 -- a constant is checked by its outline

@@ -13,7 +13,7 @@ use Rattle.koika_syntax.proofs.Lexing.{tokens_or_first_fault}
 use Rattle.koika_parse.specs.Laws.{IsParsed}
 use Rattle.koika_parse.proofs.EachText.{each_text}
 use Rattle.koika_check.specs.Checks.{checked}
-use Rattle.koika_check.specs.Outcomes.{Outcome, Fails, Gives}
+use Rattle.koika_check.specs.Outcomes.{CheckResult, Fails, Gives}
 use Rattle.koika_check.specs.declared.checked.Checked.{Checked}
 use Rattle.koika_check.specs.declared.stop.Wrong.{Wrong}
 use Rattle.one_rule.specs.Stimulus.{InputVectors}
@@ -27,7 +27,7 @@ stimulus_told (Ok stimulus) = inl (stimulus, refl)
 stimulus_told (Err fault) = inr (fault, refl)
 
 -- a design, or the fault of it
-pub design_told : (o : Outcome Checked) → ((d : Checked) × (o ≡ Gives d)) ⊎ ((w : Wrong) × (o ≡ Fails w))
+pub design_told : (o : CheckResult Checked) → ((d : Checked) × (o ≡ Gives d)) ⊎ ((w : Wrong) × (o ≡ Fails w))
 design_told (Gives d) = inl (d, refl)
 design_told (Fails w) = inr (w, refl)
 

@@ -18,7 +18,7 @@ use Rattle.circuit_eval.specs.declared.circuit.Wires.{Wires}
 use Rattle.net_sched.specs.Designs as built
 use Rattle.net_simplify.specs.Kept as simpler
 use Rattle.koika_check.specs.declared.checked.Checked.{Checked}
-use Rattle.koika_lower.specs.Lowering.{IsLowered, input_of, register_of}
+use Rattle.koika_lower.specs.Lowering.{IsLowered, core_input, register_of}
 use Rattle.front_end.specs.Sources as sources
 use Rattle.front_end.proofs.LoweredRuns.{inputs-wide, registers-wide, run-same, twice}
 use Rattle.front_end.specs.Circuits.{IsWiredAs}
@@ -40,7 +40,7 @@ pub wired : (d : Checked) (design : Parts) (c simple : Wires) → IsLowered d de
 wired d design c simple lowered valid parts runs kept same =
     let outputs = kept.outputs ∙ parts.outputs ∙ lowered.names in
     record {
-      inputs = ap (map (λ (wire : InputWire). wire.name)) kept.inputs ∙ parts.inputs ∙ ap (map (λ (decl : InputDecl). decl.name)) lowered.inputs ∙ twice input_of (λ (decl : InputDecl). decl.name) d.inputs;
+      inputs = ap (map (λ (wire : InputWire). wire.name)) kept.inputs ∙ parts.inputs ∙ ap (map (λ (decl : InputDecl). decl.name)) lowered.inputs ∙ twice core_input (λ (decl : InputDecl). decl.name) d.inputs;
       input_widths = ap circuit.input_widths kept.inputs ∙ parts.input_widths ∙ inputs-wide d design lowered;
       states = kept.states ∙ parts.states ∙ ap (map (λ (decl : RegDecl). decl.name)) lowered.registers ∙ twice register_of (λ (decl : RegDecl). decl.name) d.registers;
       state_widths = kept.state_widths ∙ parts.state_widths ∙ registers-wide d design lowered;

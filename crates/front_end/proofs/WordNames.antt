@@ -16,35 +16,35 @@ use Rattle.koika_check.specs.Checks.{checked, scheduled}
 use Rattle.koika_check.specs.Constants.{constant_of}
 use Rattle.koika_check.specs.Declarations.{assert_with, declare, enum_with, function_with, host_with, input_of, input_typed, input_with, new_name, nothing, register_known, register_of, register_typed, register_with, rule_of, rule_typed, rule_with, struct_with, table_with}
 use Rattle.koika_check.specs.Expressions.{block_in}
-use Rattle.koika_check.specs.Outcomes.{Condition, Fails, Gives, Outcome, ◌>>=◌, one_by_one, unless}
+use Rattle.koika_check.specs.Outcomes.{Condition, Fails, Gives, CheckResult, ◌>>=◌, one_by_one, unless}
 use Rattle.koika_check.specs.Schedule.{scheduler_nodes}
 use Rattle.koika_check.specs.Types.{type_of}
 use Rattle.koika_check.specs.declared.checked.Checked.{Checked}
 use Rattle.koika_check.specs.declared.checked.Input.{Input}
 use Rattle.koika_check.specs.declared.checked.Register.{Register}
-use Rattle.koika_check.specs.declared.checked.Rule.{Rule}
+use Rattle.koika_check.specs.declared.checked.CheckedRule.{CheckedRule}
 use Rattle.kw_bits.specs.declared.host.HostSpec.{HostSpec}
 use Rattle.front_end.specs.Names.{HasWordNames}
 
 -- ---- what outcomes give
 
 -- what is given, if anything is, is such
-abbrev pub GivesSuch : {X : Type 0} → (X → Type 0) → Outcome X → Type 0
+abbrev pub GivesSuch : {X : Type 0} → (X → Type 0) → CheckResult X → Type 0
 GivesSuch P (Gives x) = P x
 GivesSuch P (Fails fault) = ⊤
 
-pub given : {X : Type 0} (P : X → Type 0) (o : Outcome X) (x : X) → GivesSuch P o → o ≡ Gives x → P x
+pub given : {X : Type 0} (P : X → Type 0) (o : CheckResult X) (x : X) → GivesSuch P o → o ≡ Gives x → P x
 given P o x such is = subst (GivesSuch P) is such
 
 pub unless-such : {X : Type 0} (P : X → Type 0) (c : Condition) (x : X) → P x → GivesSuch P (unless c x)
 unless-such P None x h = h
 unless-such P (Some fault) x h = tt
 
-pub behind : {X Y : Type 0} (Q : X → Type 0) (P : Y → Type 0) (o : Outcome X) (next : X → Outcome Y) → GivesSuch Q o → ((x : X) → Q x → GivesSuch P (next x)) → GivesSuch P (o >>= next)
+pub behind : {X Y : Type 0} (Q : X → Type 0) (P : Y → Type 0) (o : CheckResult X) (next : X → CheckResult Y) → GivesSuch Q o → ((x : X) → Q x → GivesSuch P (next x)) → GivesSuch P (o >>= next)
 behind Q P (Gives x) next such h = h x such
 behind Q P (Fails fault) next such h = tt
 
-pub behind-any : {X Y : Type 0} (P : Y → Type 0) (o : Outcome X) (next : X → Outcome Y) → ((x : X) → GivesSuch P (next x)) → GivesSuch P (o >>= next)
+pub behind-any : {X Y : Type 0} (P : Y → Type 0) (o : CheckResult X) (next : X → CheckResult Y) → ((x : X) → GivesSuch P (next x)) → GivesSuch P (o >>= next)
 behind-any P (Gives x) next h = h x
 behind-any P (Fails fault) next h = tt
 
@@ -66,11 +66,11 @@ named-input d n written =
     behind (λ name. name ≡ n.text) (λ (one : Input). one.name ≡ n.text) (new_name d n) (input_of d written) (new-name d n) (λ name e.
     behind-any (λ (one : Input). one.name ≡ n.text) (type_of d written) (input_typed d name) (λ of. e))
 
-named-rule : (d : Checked) (n : Name) (body : Block) → GivesSuch (λ (one : Rule). one.name ≡ n.text) (rule_with d n body)
+named-rule : (d : Checked) (n : Name) (body : Block) → GivesSuch (λ (one : CheckedRule). one.name ≡ n.text) (rule_with d n body)
 named-rule d n body =
-    behind (λ name. name ≡ n.text) (λ (one : Rule). one.name ≡ n.text) (new_name d n) (rule_of d body) (new-name d n) (λ name e.
-    behind-any (λ (one : Rule). one.name ≡ n.text) (block_in body (record { design = d; locals = [] })) (rule_typed name) (λ typing.
-    unless-such (λ (one : Rule). one.name ≡ n.text) _ _ e))
+    behind (λ name. name ≡ n.text) (λ (one : CheckedRule). one.name ≡ n.text) (new_name d n) (rule_of d body) (new-name d n) (λ name e.
+    behind-any (λ (one : CheckedRule). one.name ≡ n.text) (block_in body (record { design = d; locals = [] })) (rule_typed name) (λ typing.
+    unless-such (λ (one : CheckedRule). one.name ≡ n.text) _ _ e))
 
 -- the names of the grammar's trees are words
 name-word : (n : Name) (name : List ℕ) → IsName n → name ≡ n.text → IsWord name
@@ -100,10 +100,10 @@ declared hosts (declarations.Host n input output) d is h =
 declared hosts (declarations.Function n parameters written body) d is h =
     behind-any HasWordNames (function_with d n parameters written body) _ (λ one. record { inputs = h.inputs; registers = h.registers; rules = h.rules })
 declared hosts (declarations.Rule n body) d is h =
-    behind (λ (one : Rule). one.name ≡ n.text) HasWordNames (rule_with d n body) _ (named-rule d n body) (λ one e. record {
+    behind (λ (one : CheckedRule). one.name ≡ n.text) HasWordNames (rule_with d n body) _ (named-rule d n body) (λ one e. record {
       inputs = h.inputs;
       registers = h.registers;
-      rules = All-push (λ (r : Rule). IsWord r.name) d.rules one h.rules (name-word n one.name is.0 e);
+      rules = All-push (λ (r : CheckedRule). IsWord r.name) d.rules one h.rules (name-word n one.name is.0 e);
     })
 declared hosts (declarations.Assert n) d is h =
     behind-any HasWordNames (assert_with d n) _ (λ one. record { inputs = h.inputs; registers = h.registers; rules = h.rules })
@@ -118,7 +118,7 @@ none : HasWordNames nothing
 none = record {
   inputs = All-from_recursion (λ (i : Input). IsWord i.name) [] tt;
   registers = All-from_recursion (λ (r : Register). IsWord r.name) [] tt;
-  rules = All-from_recursion (λ (r : Rule). IsWord r.name) [] tt;
+  rules = All-from_recursion (λ (r : CheckedRule). IsWord r.name) [] tt;
 }
 
 -- the names of a tree's design are words

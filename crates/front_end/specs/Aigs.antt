@@ -10,7 +10,7 @@ use Rattle.aig_blast.specs.declared.aig.OutputBit.{OutputBit}
 use Rattle.koika_check.specs.declared.checked.Checked.{Checked}
 use Rattle.koika_check.specs.declared.checked.Input.{Input}
 use Rattle.koika_check.specs.declared.checked.Register.{Register}
-use Rattle.koika_lower.specs.Lowering.{input_widths, register_widths}
+use Rattle.koika_lower.specs.Lowering.{typed_input_widths, register_widths}
 use Rattle.one_rule.specs.Stimulus.{InputVectors, inputs_of}
 use Rattle.front_end.specs.Sources.{name_of}
 use Rattle.front_end.specs.Systems as typed
@@ -29,7 +29,7 @@ AigRunsAs d aig = (stimulus : InputVectors) (n : ℕ) → IsStimulusFor d stimul
 -- each rule, in order and of the same names and widths, and its run.
 pub record IsAigOf (d : Checked) (aig : AigParts) : Type 0 where
   pub inputs : map (λ (word : InputWord). word.name) aig.inputs ≡ map (λ (i : Input). i.name) d.inputs
-  pub input_widths : aigs.input_widths aig.inputs ≡ input_widths d
+  pub input_widths : aigs.input_word_widths aig.inputs ≡ typed_input_widths d
   pub latches : map (λ (word : LatchWord). word.name) aig.latches ≡ map (λ (r : Register). r.name) d.registers
   pub latch_widths : latch_widths aig.latches ≡ register_widths d
   pub outputs : map (λ (output : OutputBit). output.name) aig.outputs ≡ map name_of d.rules

@@ -4,11 +4,11 @@ use denote.Struct.Props as logic
 use Rattle.koika_syntax.specs.Lexemes.{IsWord}
 use Rattle.koika_types.specs.declared.declarations.EnumDecl.{EnumDecl}
 use Rattle.koika_check.specs.declared.checked.Checked.{Checked}
-use Rattle.koika_check.specs.declared.checked.Function.{Function}
+use Rattle.koika_check.specs.declared.checked.CheckedFunction.{CheckedFunction}
 use Rattle.koika_check.specs.declared.checked.Host.{Host}
 use Rattle.koika_check.specs.declared.checked.Input.{Input}
 use Rattle.koika_check.specs.declared.checked.Register.{Register}
-use Rattle.koika_check.specs.declared.checked.Rule.{Rule}
+use Rattle.koika_check.specs.declared.checked.CheckedRule.{CheckedRule}
 use Rattle.koika_check.specs.declared.checked.Struct.{Struct}
 use Rattle.koika_check.specs.declared.checked.Table.{Table}
 use Rattle.front_end.specs.Sources.{name_of}
@@ -17,7 +17,7 @@ use Rattle.front_end.specs.Sources.{name_of}
 pub record HasWordNames (d : Checked) : Type 0 where
   pub inputs : All (λ (i : Input). IsWord i.name) d.inputs
   pub registers : All (λ (r : Register). IsWord r.name) d.registers
-  pub rules : All (λ (r : Rule). IsWord r.name) d.rules
+  pub rules : All (λ (r : CheckedRule). IsWord r.name) d.rules
 
 -- that a text is a word is one fact
 pub IsWord-prop : (bytes : List ℕ) → IsProp (IsWord bytes)
@@ -36,7 +36,7 @@ global_names d =
     ++ (map (λ (r : Register). r.name) d.registers
     ++ (map (λ (i : Input). i.name) d.inputs
     ++ (map (λ (t : Table). t.name) d.tables
-    ++ (map (λ (h : Host). h.name) d.hosts ++ (map (λ (f : Function). f.name) d.functions ++ map name_of d.rules))))))
+    ++ (map (λ (h : Host). h.name) d.hosts ++ (map (λ (f : CheckedFunction). f.name) d.functions ++ map name_of d.rules))))))
 
 -- no two of some names are equal
 abbrev pub AreDistinct : List (List ℕ) → Type 0

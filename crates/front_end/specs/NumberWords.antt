@@ -12,5 +12,5 @@ abbrev pub are_few_digits : List ℕ → Bool
 are_few_digits word = nat_le 1 (length word) && nat_le (length word) 10 && list_all is_ascii_digit word
 
 -- the number that one to ten digits write, if 32 bits hold it
-abbrev pub number_of : List ℕ → Option ℕ
-number_of word = if are_few_digits word && nat_le (value_of word) 4294967295 then Some (value_of word) else None
+abbrev pub number_of_word : List ℕ → Option ℕ
+number_of_word word = if are_few_digits word && nat_le (value_of word) 4294967295 then Some (value_of word) else None

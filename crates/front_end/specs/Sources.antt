@@ -5,7 +5,7 @@ use Rattle.kw_base.specs.Fault.{fault_at}
 use Rattle.kw_base.specs.Place.{place_at}
 use Rattle.kw_base.specs.declared.fault.Fault.{Fault}
 use Rattle.koika_syntax.specs.Grammar.{Derives, tree_leaves}
-use Rattle.koika_syntax.specs.TokenFaults.{IsFirstFault}
+use Rattle.koika_syntax.specs.TokenFaults.{IsFirstTokenFault}
 use Rattle.koika_syntax.specs.Tokens.{AreTokensOf}
 use Rattle.koika_syntax.specs.declared.token.Token.{Token}
 use Rattle.koika_syntax.specs.declared.tree.Tree.{Tree}
@@ -16,7 +16,7 @@ use Rattle.koika_check.specs.Outcomes.{Fails, Gives}
 use Rattle.koika_check.specs.declared.checked.Checked.{Checked}
 use Rattle.koika_check.specs.declared.checked.Input.{Input}
 use Rattle.koika_check.specs.declared.checked.Register.{Register}
-use Rattle.koika_check.specs.declared.checked.Rule.{Rule}
+use Rattle.koika_check.specs.declared.checked.CheckedRule.{CheckedRule}
 use Rattle.koika_check.specs.declared.stop.Wrong.{Wrong}
 use Rattle.one_rule.specs.Stimulus.{InputVectors}
 use Rattle.stim_report.specs.Cuts as cuts
@@ -60,7 +60,7 @@ abbrev pub of_register : Register → NameWidth
 of_register r = record { name = r.name; width = r.width }
 
 -- a rule's name
-abbrev pub name_of : Rule → List ℕ
+abbrev pub name_of : CheckedRule → List ℕ
 name_of r = r.name
 
 -- the names and widths of a design, as reports show them
@@ -84,7 +84,7 @@ IsTooLong source fault = (fault ≡ fault_of_source 40) × (longest_source < len
 
 -- else the fault of its tokens: 10, 13, 14
 abbrev pub HasNoTokens : List ℕ → Fault → Type 0
-HasNoTokens source fault = (length source ≤ longest_source) × IsFirstFault (design_part source) fault
+HasNoTokens source fault = (length source ≤ longest_source) × IsFirstTokenFault (design_part source) fault
 
 -- else that of the grammar: 11, 12
 abbrev pub HasNoTree : List ℕ → Fault → Type 0

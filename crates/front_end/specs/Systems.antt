@@ -11,10 +11,10 @@ use Rattle.one_rule.specs.declared.rows.Row.{Row}
 use Rattle.koika_check.specs.TypedAlone.{typed_alone}
 use Rattle.koika_check.specs.declared.checked.Checked.{Checked}
 use Rattle.koika_check.specs.declared.checked.Register.{Register}
-use Rattle.koika_check.specs.declared.checked.Rule.{Rule}
+use Rattle.koika_check.specs.declared.checked.CheckedRule.{CheckedRule}
 
 -- what a rule of a typed design does alone, if there is one of the number
-abbrev pub typed_alone_if : Checked → List BitVector → List BitVector → Option Rule → Alone
+abbrev pub typed_alone_if : Checked → List BitVector → List BitVector → Option CheckedRule → Alone
 typed_alone_if d inputs regs (Some rule) = typed_alone d inputs regs rule.body
 typed_alone_if d inputs regs None = record { events = []; outcome = ends.Done }
 

@@ -4,7 +4,7 @@ ghost use Rattle.std.specs.Prelude.{◌≡◌, All, Contains, IfOk};
 ghost use Rattle.std.specs.Arc.{arc_value};
 ghost use Rattle.koika_check.specs.Typing.{IsTypedDesign};
 ghost use Rattle.koika_check.specs.declared.checked.Host.{Host};
-ghost use Rattle.koika_lower.specs.Lowering.{IsLowered, input_widths};
+ghost use Rattle.koika_lower.specs.Lowering.{IsLowered, typed_input_widths};
 ghost use Rattle.one_rule.specs.Externs.{kept};
 ghost use Rattle.one_rule.specs.Hosts.{host_specs};
 ghost use Rattle.typed_core.specs.Valid.{externs_of};
@@ -36,7 +36,7 @@ pub struct Lowered {
     ghost shape_fits: { shape ≡ shape_of checked },
     ghost lowered: { IsLowered checked (arc_value design) },
     ghost externs_fit: { kept (arc_value externs) ≡ externs_of (arc_value design) },
-    ghost stimulus_fits: { (arc_value stimulus).widths ≡ input_widths checked },
+    ghost stimulus_fits: { (arc_value stimulus).widths ≡ typed_input_widths checked },
 }
 
 impl Lowered {

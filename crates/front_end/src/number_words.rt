@@ -3,11 +3,11 @@
 ghost use Rattle.std.specs.Prelude.{◌≡◌, ◌≤◌, length, All, IsTrue};
 ghost use Rattle.std.specs.List.{list_all};
 ghost use Rattle.std.specs.Char.{IsAsciiDigit, is_ascii_digit};
-ghost use Rattle.front_end.specs.NumberWords.{are_few_digits, number_of, value_of};
+ghost use Rattle.front_end.specs.NumberWords.{are_few_digits, number_of_word, value_of};
 
 /// The number that a word of one to ten digits writes, if 32 bits hold it.
 pub fn number_of(word: &[u8]) -> Option<u32>
-    ensures { result ≡ number_of word.now }
+    ensures { result ≡ number_of_word word.now }
 {
     if !are_few_digits(word) {
         return None;

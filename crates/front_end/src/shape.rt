@@ -5,7 +5,7 @@ ghost use Rattle.koika_check.specs.Typing.{IsTypedDesign};
 ghost use Rattle.front_end.specs.Marks.{marked_name, marks_of};
 ghost use Rattle.front_end.specs.Sources as sources;
 
-use koika_check::{Checked, Input, Register, Rule};
+use koika_check::{Checked, CheckedRule, Input, Register};
 use kw_bits::{NoMemory, Sequence, Text};
 use std::alloc::Global;
 use stim_report::{NameWidth, Shape};
@@ -49,7 +49,7 @@ fn registers(alloc: Global, registers: &[Register]) -> Result<Sequence<NameWidth
     Ok(named)
 }
 
-fn rules(alloc: Global, rules: &[Rule]) -> Result<Sequence<Text>, NoMemory>
+fn rules(alloc: Global, rules: &[CheckedRule]) -> Result<Sequence<Text>, NoMemory>
     ensures { IfOk result (λ names. names ≡ map sources.name_of rules.now) }
 {
     let mut names = Sequence::new(alloc);

@@ -4,7 +4,7 @@ ghost use Rattle.std.specs.Prelude.{◌≡◌, ◌≤◌, All, Contains, IfOk, l
 ghost use Rattle.kw_base.specs.Fault.{IfFault};
 ghost use Rattle.koika_check.specs.Typing.{IsTypedDesign};
 ghost use Rattle.koika_check.specs.declared.checked.Host.{Host};
-ghost use Rattle.koika_lower.specs.Lowering.{input_widths};
+ghost use Rattle.koika_lower.specs.Lowering.{typed_input_widths};
 ghost use Rattle.one_rule.specs.Hosts.{host_specs};
 ghost use Rattle.front_end.specs.Names.{AreDistinct, HasWordNames, IsWord-prop, names_of};
 ghost use Rattle.front_end.specs.Sources.{IsIllTyped, IsUnread, IsUnspelled, Spells, SpellsDesign, SpellsTree, longest_source};
@@ -40,7 +40,7 @@ pub struct Spelled {
     ghost names: { HasWordNames design } by { Prim.hlevel IsWord-prop },
     ghost distinct: { AreDistinct (names_of design) },
     ghost shape_fits: { shape ≡ sources.shape_of design },
-    ghost stimulus_fits: { stimulus.widths ≡ input_widths design },
+    ghost stimulus_fits: { stimulus.widths ≡ typed_input_widths design },
 }
 
 /// The tree that a source spells with its design part, or the fault of its tokens or of the grammar.

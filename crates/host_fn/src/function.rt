@@ -6,7 +6,7 @@ ghost use Rattle.host_fn.specs.HostFn.{AnswersOne, AnswersTwo};
 ghost use Rattle.host_fn.specs.Stored.{spec_of};
 
 use crate::binary::Binary;
-use crate::stored::{Function, HostFn};
+use crate::stored::{HostFn, StoredFunction};
 use crate::unary::Unary;
 use kw_bits::{Bits, HostKind};
 
@@ -26,7 +26,7 @@ impl HostFn {
             return None;
         }
         Some(HostFn {
-            function: Function::Unary(Unary {
+            function: StoredFunction::Unary(Unary {
                 kind,
                 in_width,
                 call,
@@ -45,7 +45,7 @@ impl HostFn {
             return None;
         }
         Some(HostFn {
-            function: Function::Binary(Binary {
+            function: StoredFunction::Binary(Binary {
                 kind,
                 in_width,
                 call,
@@ -58,8 +58,8 @@ impl HostFn {
         ensures { result ≡ (spec_of self.now).kind }
     {
         match &self.function {
-            Function::Unary(function) => function.kind,
-            Function::Binary(function) => function.kind,
+            StoredFunction::Unary(function) => function.kind,
+            StoredFunction::Binary(function) => function.kind,
         }
     }
 
@@ -69,8 +69,8 @@ impl HostFn {
         ensures takes { host.TakesWidth (spec_of self.now).kind (spec_of self.now).in_width }
     {
         match &self.function {
-            Function::Unary(function) => function.in_width,
-            Function::Binary(function) => function.in_width,
+            StoredFunction::Unary(function) => function.in_width,
+            StoredFunction::Binary(function) => function.in_width,
         }
     }
 
@@ -87,8 +87,8 @@ impl HostFn {
         ensures { result ≡ host.value (spec_of self.now).kind x }
     {
         match &self.function {
-            Function::Unary(function) => function.ask(x),
-            Function::Binary(function) => function.ask(x),
+            StoredFunction::Unary(function) => function.ask(x),
+            StoredFunction::Binary(function) => function.ask(x),
         }
     }
 }

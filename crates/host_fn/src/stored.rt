@@ -6,11 +6,11 @@ use crate::unary::Unary;
 /// A stored host function, of one or two arguments.
 #[derive(Clone, Copy)]
 pub struct HostFn {
-    pub(crate) function: Function,
+    pub(crate) function: StoredFunction,
 }
 
 #[derive(Clone, Copy)]
-pub(crate) enum Function {
+pub(crate) enum StoredFunction {
     Unary(Unary),
     Binary(Binary),
 }

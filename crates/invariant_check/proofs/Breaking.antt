@@ -12,7 +12,7 @@ use Rattle.circuit_eval.specs.Circuits.{AreBits}
 use Rattle.clause_check.specs.Clauses.{Assignment, Clause, IsLiteral, Satisfies, clause_value, literal_value}
 use Rattle.clause_check.specs.declared.literal.Literal.{Literal}
 use Rattle.aig_blast.specs.AigRun.{bits_of, next_words, outputs_in, values_in}
-use Rattle.aig_blast.specs.Aigs.{AigParts, IsAig, IsLatchWord, IsOutputBit, input_widths, latch_widths, sources, variables}
+use Rattle.aig_blast.specs.Aigs.{AigParts, IsAig, IsLatchWord, IsOutputBit, input_word_widths, latch_widths, sources, variables}
 use Rattle.aig_blast.specs.Graphs.{Below, lit_value}
 use Rattle.aig_blast.specs.declared.aig.LatchWord.{LatchWord}
 use Rattle.aig_blast.specs.declared.aig.OutputBit.{OutputBit}
@@ -136,7 +136,7 @@ module _ (a : AigParts) (invariant : List Clause) (claimed : List ℕ) (valid : 
 -- ---- the parts of an obligation
 
 abbrev pub before_part : AigParts → List Clause → List (List ℕ)
-before_part a invariant = map (λ (clause : Clause). map (before_step (sum (input_widths a.inputs))) clause) invariant
+before_part a invariant = map (λ (clause : Clause). map (before_step (sum (input_word_widths a.inputs))) clause) invariant
 
 abbrev pub graph_part : AigParts → List Clause → List ℕ → List (List ℕ)
 graph_part a invariant claimed = graph_clauses (needed_in a invariant claimed) (1 + sources a) a.gates
@@ -178,7 +178,7 @@ all_of w x y z p q r s = and_from ((w && x) && y) z (and_from (w && x) y (and_fr
 
 module _ (a : AigParts) (invariant : List Clause) (claimed : List ℕ) (valid : IsAig a)
     (claim : IsClaim a invariant claimed)
-    (inputs registers : List BitVector) (given : AreBits inputs (input_widths a.inputs))
+    (inputs registers : List BitVector) (given : AreBits inputs (input_word_widths a.inputs))
     (held : AreBits registers (latch_widths a.latches)) where
   abbrev bits : List Bool
   bits = bits_of inputs ++ bits_of registers
@@ -189,7 +189,7 @@ module _ (a : AigParts) (invariant : List Clause) (claimed : List ℕ) (valid : 
   abbrev regs_after : List BitVector
   regs_after = next_words a.latches (values_in a inputs registers)
 
-  count_inputs : length (bits_of inputs) ≡ sum (input_widths a.inputs)
+  count_inputs : length (bits_of inputs) ≡ sum (input_word_widths a.inputs)
   count_inputs = length-bits_of inputs ∙ ap sum given.widths
 
   count_registers : length (bits_of registers) ≡ sum (latch_widths a.latches)
@@ -210,10 +210,10 @@ module _ (a : AigParts) (invariant : List Clause) (claimed : List ℕ) (valid : 
   -- under an assignment with the values of the graph, the clauses of the invariant say what they say of the registers
   module _ (g : ℕ → Bool) (agrees : Agrees g (needed_in a invariant claimed) (values_in a inputs registers)) where
     literal-before : (literal : Literal) → IsLiteral (sum (latch_widths a.latches)) literal
-        → lit_true g (before_step (sum (input_widths a.inputs)) literal) ≡ literal_value (bit_values registers) literal
+        → lit_true g (before_step (sum (input_word_widths a.inputs)) literal) ≡ literal_value (bit_values registers) literal
     literal-before literal is =
         let v : ℕ = literal.variable in
-        let place : ℕ = sum (input_widths a.inputs) + v in
+        let place : ℕ = sum (input_word_widths a.inputs) + v in
         let within : place ≤ sources a = omega (arith, is.within) in
         let next : place ≡ suc (length (bits_of inputs) + (v - 1)) = omega (arith, is.some, count_inputs) in
         let own : v ≡ suc (v - 1) = omega (arith, is.some) in
@@ -228,22 +228,22 @@ module _ (a : AigParts) (invariant : List Clause) (claimed : List ℕ) (valid : 
         signed-true g literal.is_negated (plain place) ∙ ap (λ x. cond literal.is_negated (not x) x) same
 
     invariant-before : all_hold g
-        (map (λ (clause : Clause). map (before_step (sum (input_widths a.inputs))) clause) invariant)
+        (map (λ (clause : Clause). map (before_step (sum (input_word_widths a.inputs))) clause) invariant)
         ≡ is_true_of invariant registers
     invariant-before =
-        list_all-map (some_true g) (λ (clause : Clause). map (before_step (sum (input_widths a.inputs))) clause)
+        list_all-map (some_true g) (λ (clause : Clause). map (before_step (sum (input_word_widths a.inputs))) clause)
         invariant
-        ∙ all_same (λ (clause : Clause). some_true g (map (before_step (sum (input_widths a.inputs))) clause))
+        ∙ all_same (λ (clause : Clause). some_true g (map (before_step (sum (input_word_widths a.inputs))) clause))
         (clause_value (bit_values registers)) invariant
         (All-weaker (All (IsLiteral (sum (latch_widths a.latches))))
-        (λ (clause : Clause). some_true g (map (before_step (sum (input_widths a.inputs))) clause)
+        (λ (clause : Clause). some_true g (map (before_step (sum (input_word_widths a.inputs))) clause)
         ≡ clause_value (bit_values registers) clause)
         (λ clause are.
-        list_any-map (lit_true g) (before_step (sum (input_widths a.inputs))) clause
-        ∙ any_same (λ (literal : Literal). lit_true g (before_step (sum (input_widths a.inputs)) literal))
+        list_any-map (lit_true g) (before_step (sum (input_word_widths a.inputs))) clause
+        ∙ any_same (λ (literal : Literal). lit_true g (before_step (sum (input_word_widths a.inputs)) literal))
         (literal_value (bit_values registers)) clause
         (All-weaker (IsLiteral (sum (latch_widths a.latches)))
-        (λ (literal : Literal). lit_true g (before_step (sum (input_widths a.inputs)) literal)
+        (λ (literal : Literal). lit_true g (before_step (sum (input_word_widths a.inputs)) literal)
         ≡ literal_value (bit_values registers) literal) literal-before clause are))
         invariant claim.literals)
 

@@ -7,7 +7,7 @@ use Rattle.std.proofs.lemmas.List.Folds.{list_any-append}
 use Rattle.clause_check.specs.Clauses.{Clause, IsLiteral}
 use Rattle.clause_check.specs.Refutations.{is_empty}
 use Rattle.clause_check.specs.declared.literal.Literal.{Literal}
-use Rattle.aig_blast.specs.Aigs.{AigParts, input_widths, latch_widths, sources}
+use Rattle.aig_blast.specs.Aigs.{AigParts, input_word_widths, latch_widths, sources}
 use Rattle.aig_blast.specs.Graphs.{negation}
 use Rattle.aig_blast.specs.declared.gate.Gate.{Gate}
 use Rattle.invariant_check.specs.Cones.{is_needed}
@@ -137,7 +137,7 @@ only_idle a invariant claimed claim some is = idle
     each =
         all_rows (before_part a invariant ++ graph_part a invariant claimed) (broken_part a invariant claimed)
         (all_rows (before_part a invariant) (graph_part a invariant claimed)
-        (all_before (sum (input_widths a.inputs)) (sum (latch_widths a.latches)) invariant some claim.literals)
+        (all_before (sum (input_word_widths a.inputs)) (sum (latch_widths a.latches)) invariant some claim.literals)
         (all_gates (needed_in a invariant claimed) (1 + sources a) a.gates (omega arith)))
         (every_broken (next_lits a.latches) (1 + top_of a invariant claimed) invariant)
 

@@ -3,7 +3,7 @@ use Rattle.std.proofs.Common.{◌≡◌, ℕ, ◌+◌, ◌-◌, Bool, List, [], 
 use Rattle.std.specs.List.{All}
 use Rattle.clause_check.specs.Clauses.{Clause, Cnf}
 use Rattle.clause_check.specs.declared.literal.Literal.{Literal}
-use Rattle.aig_blast.specs.Aigs.{AigParts, IsAig, input_widths, sources, variables}
+use Rattle.aig_blast.specs.Aigs.{AigParts, IsAig, input_word_widths, sources, variables}
 use Rattle.aig_blast.specs.Graphs.{AllStand, Below}
 use Rattle.aig_blast.specs.declared.gate.Gate.{Gate}
 use Rattle.invariant_check.specs.Cones.{cone_of, greatest}
@@ -15,7 +15,7 @@ use Rattle.invariant_check.proofs.Drafting.{flat_map-append}
 
 module _ (a : AigParts) (invariant : List Clause) (claimed : List ℕ) (valid : IsAig a)
     (claim : IsClaim a invariant claimed) where
-  pub same_sources : (inputs len : ℕ) (nexts : List ℕ) → inputs ≡ sum (input_widths a.inputs) → nexts
+  pub same_sources : (inputs len : ℕ) (nexts : List ℕ) → inputs ≡ sum (input_word_widths a.inputs) → nexts
       ≡ next_lits a.latches → len ≡ length nexts → inputs + len ≡ sources a
   same_sources inputs len nexts e f g = omega (arith, e, g, ap length f, nexts_long a invariant claimed valid claim)
 

@@ -12,7 +12,7 @@ use Rattle.one_rule.specs.Stimulus.{inputs_of}
 use Rattle.one_rule.specs.declared.rows.Row.{Row}
 use Rattle.clause_check.specs.Clauses.{Clause, Cnf, IsUnsatisfiable}
 use Rattle.aig_blast.specs.AigRun.{first_row, first_words, row_after, rows_after, values_in}
-use Rattle.aig_blast.specs.Aigs.{AigParts, IsAig, input_widths, latch_widths, variables}
+use Rattle.aig_blast.specs.Aigs.{AigParts, IsAig, input_word_widths, latch_widths, variables}
 use Rattle.aig_blast.specs.declared.aig.OutputBit.{OutputBit}
 use Rattle.aig_blast.proofs.SimValues.{first_words-AreBits, next_words-AreBits}
 use Rattle.invariant_check.specs.Kept.{IsKept, IsKeptInEveryRun, SaysWhatBreaks, breaks, fires, is_true_of}
@@ -32,7 +32,7 @@ module _ (a : AigParts) (invariant : List Clause) (claimed : List ℕ) (formula 
     (says : SaysWhatBreaks a invariant claimed formula)
     (never : IsUnsatisfiable formula.clauses) where
   -- a step from registers of which the invariant is true breaks nothing
-  unbroken : (inputs registers : List BitVector) → AreBits inputs (input_widths a.inputs)
+  unbroken : (inputs registers : List BitVector) → AreBits inputs (input_word_widths a.inputs)
       → AreBits registers (latch_widths a.latches) → is_true_of invariant registers ≡ true
       → IsKept invariant claimed (row_after a inputs registers)
   unbroken inputs registers given held holds =
@@ -44,7 +44,7 @@ module _ (a : AigParts) (invariant : List Clause) (claimed : List ℕ) (formula 
       let parts = or_parts (fires claimed row.fired) (not (is_true_of invariant row.regs)) none in
       record { holds = not-false (is_true_of invariant row.regs) parts.1; silent = parts.0 }
 
-  rows_kept : (inputs : InputsByCycle) → ((cycle : ℕ) → AreBits (inputs cycle) (input_widths a.inputs))
+  rows_kept : (inputs : InputsByCycle) → ((cycle : ℕ) → AreBits (inputs cycle) (input_word_widths a.inputs))
       → (count last : ℕ) (registers : List BitVector)
       → AreBits registers (latch_widths a.latches) → is_true_of invariant registers ≡ true
       → All (IsKept invariant claimed) (rows_after a inputs count last registers)

@@ -7,7 +7,7 @@ use Rattle.circuit_eval.specs.Circuits.{AreBits}
 use Rattle.one_rule.specs.Stimulus.{AlwaysFits, InputVectors, inputs_of}
 use Rattle.one_rule.specs.declared.rows.Row.{Row}
 use Rattle.clause_check.specs.Clauses.{Assignment, Clause, Cnf, Satisfies, clause_value}
-use Rattle.aig_blast.specs.Aigs.{AigParts, input_widths, latch_widths}
+use Rattle.aig_blast.specs.Aigs.{AigParts, input_word_widths, latch_widths}
 use Rattle.aig_blast.specs.AigRun.{bits_of, row_after, run_of}
 use Rattle.invariant_check.specs.Bits.{bit_values}
 use Rattle.invariant_check.specs.Obligations.{after_step, claimed_lits, next_lits}
@@ -37,7 +37,7 @@ Gives assignment inputs registers =
 -- breaks it or makes a claimed output 1
 abbrev pub SaysWhatBreaks : AigParts → List Clause → List ℕ → Cnf → Type 0
 SaysWhatBreaks a invariant claimed formula =
-    (inputs registers : List BitVector) → AreBits inputs (input_widths a.inputs)
+    (inputs registers : List BitVector) → AreBits inputs (input_word_widths a.inputs)
     → AreBits registers (latch_widths a.latches)
     → ((assignment : Assignment) × Gives assignment inputs registers × Satisfies assignment formula.clauses)
     ↔ (IsTrue (is_true_of invariant registers) × IsTrue (breaks a invariant claimed inputs registers))
@@ -49,7 +49,7 @@ pub record IsKept (invariant : List Clause) (claimed : List ℕ) (row : Row) : T
 
 -- on every stimulus, in each row of the run of every number of cycles
 abbrev pub IsKeptInEveryRun : AigParts → List Clause → List ℕ → Type 0
-IsKeptInEveryRun a invariant claimed = (stimulus : InputVectors) (n : ℕ) → stimulus.widths ≡ input_widths a.inputs
+IsKeptInEveryRun a invariant claimed = (stimulus : InputVectors) (n : ℕ) → stimulus.widths ≡ input_word_widths a.inputs
     → AlwaysFits stimulus
     → All (IsKept invariant claimed) (run_of a (inputs_of stimulus) n)
 

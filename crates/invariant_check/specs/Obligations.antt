@@ -6,7 +6,7 @@ use Rattle.std.specs.Prelude.{ℕ, zero, suc, ◌+◌, ◌-◌, ◌*◌, ◌/◌
 use Rattle.std.specs.List.{list_any}
 use Rattle.clause_check.specs.Clauses.{Clause, Cnf}
 use Rattle.clause_check.specs.declared.literal.Literal.{Literal}
-use Rattle.aig_blast.specs.Aigs.{AigParts, input_widths, sources, variables}
+use Rattle.aig_blast.specs.Aigs.{AigParts, input_word_widths, sources, variables}
 use Rattle.aig_blast.specs.Graphs.{negation}
 use Rattle.aig_blast.specs.declared.aig.LatchWord.{LatchWord}
 use Rattle.aig_blast.specs.declared.aig.OutputBit.{OutputBit}
@@ -100,7 +100,7 @@ top_of a invariant claimed = greatest (needed_in a invariant claimed) (variables
 -- one is or a claimed output is 1
 abbrev pub graph_obligation : AigParts → List Clause → List ℕ → List (List ℕ)
 graph_obligation a invariant claimed =
-    map (λ (clause : Clause). map (before_step (sum (input_widths a.inputs))) clause) invariant
+    map (λ (clause : Clause). map (before_step (sum (input_word_widths a.inputs))) clause) invariant
     ++ graph_clauses (needed_in a invariant claimed) (1 + sources a) a.gates
     ++ all_broken_clauses (next_lits a.latches) (1 + top_of a invariant claimed) invariant
     ++ (claimed_lits a.outputs claimed ++ broken_lits (1 + top_of a invariant claimed) (length invariant)) ∷ []

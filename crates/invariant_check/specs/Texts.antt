@@ -3,7 +3,7 @@
 use Rattle.std.specs.Prelude.{ℕ, ◌+◌, List, [], ◌∷◌, ◌++◌, codes, decimal, sum}
 use Rattle.clause_check.specs.Clauses.{Cnf}
 use Rattle.clause_check.specs.Dimacs.{dimacs_of}
-use Rattle.aig_blast.specs.Aigs.{AigParts, input_widths}
+use Rattle.aig_blast.specs.Aigs.{AigParts, input_word_widths}
 use Rattle.invariant_check.specs.Bits.{input_bits, register_bits}
 
 abbrev pub bit_line : List ℕ → ℕ → List ℕ
@@ -17,5 +17,5 @@ bit_lines variable (name ∷ names) = bit_line name variable ++ bit_lines (varia
 -- in a circuit the inputs have the first variables, and the registers come after them
 unfoldable pub text_of : AigParts → Cnf → List ℕ
 text_of a formula =
-    bit_lines (sum (input_widths a.inputs) + 1) (register_bits a.latches) ++ bit_lines 1 (input_bits a.inputs)
+    bit_lines (sum (input_word_widths a.inputs) + 1) (register_bits a.latches) ++ bit_lines 1 (input_bits a.inputs)
     ++ dimacs_of formula

@@ -2,7 +2,7 @@
 
 ghost use Rattle.std.specs.Prelude.{◌≡◌, ◌+◌, ◌<◌, ◌≤◌, ◌^◌, ◌++◌, ◌∷◌, [], List, ℕ, false, length, sum, IfOk, OnOk};
 ghost use Rattle.kw_base.specs.Names.{AreNumbered};
-ghost use Rattle.aig_blast.specs.Aigs.{input_widths, latch_widths};
+ghost use Rattle.aig_blast.specs.Aigs.{input_word_widths, latch_widths};
 ghost use Rattle.aig_blast.specs.AigRun.{bits_of, first_words};
 ghost use Rattle.aig_blast.specs.Steps.{digits};
 ghost use Rattle.invariant_check.specs.Bits as bits;
@@ -172,8 +172,8 @@ pub(crate) fn push_bit_name(text: &mut Text, name: &[u8], bit: u32) -> Result<()
 
 /// How many bits words of inputs have.
 pub(crate) fn count_inputs(words: &[InputWord]) -> usize
-    requires { sum (input_widths words.now) ≤ 2 ^ 60 }
-    ensures { result ≡ sum (input_widths words.now) }
+    requires { sum (input_word_widths words.now) ≤ 2 ^ 60 }
+    ensures { result ≡ sum (input_word_widths words.now) }
 {
     let mut count: usize = 0;
     for word in words {

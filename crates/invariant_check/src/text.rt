@@ -2,7 +2,7 @@
 
 ghost use Rattle.std.specs.Prelude.{◌≡◌, ◌+◌, ◌≤◌, ◌^◌, ◌++◌, All, OnOk, sum};
 ghost use Rattle.clause_check.specs.Clauses.{IsLiteral};
-ghost use Rattle.aig_blast.specs.Aigs.{input_widths, latch_widths};
+ghost use Rattle.aig_blast.specs.Aigs.{input_word_widths, latch_widths};
 ghost use Rattle.invariant_check.specs.Bits.{bit_name, bit_names, input_bits, register_bits};
 ghost use Rattle.invariant_check.specs.Texts.{bit_line, bit_lines, text_of};
 
@@ -47,7 +47,7 @@ fn push_register_lines(
 
 // Adds the lines of the bits of inputs, by variables from this one on.
 fn push_input_lines(text: &mut Text, variable: u64, inputs: &[InputWord]) -> Result<(), NoMemory>
-    requires { variable + sum (input_widths inputs.now) ≤ 2 ^ 62 }
+    requires { variable + sum (input_word_widths inputs.now) ≤ 2 ^ 62 }
     ensures { OnOk result (text.new ≡ text.old ++ bit_lines variable (input_bits inputs.now)) }
 {
     let mut next = variable;

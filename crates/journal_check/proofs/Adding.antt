@@ -15,13 +15,13 @@ use Rattle.stim_report.specs.Cuts.{lines_of}
 use Rattle.journal_check.specs.Fitting.{IsSmall, LineFits}
 use Rattle.journal_check.specs.Journals.{lines_in, lines_of_batch, numbers_of_batch}
 use Rattle.journal_check.specs.Printing.{ended, line_text, text_of}
-use Rattle.journal_check.specs.Reading.{AreLinesOf, IsFirstMalformed, IsNumbered, MayFollow, NoneFollows, malformed_at, number_after, numbers_from}
+use Rattle.journal_check.specs.Reading.{AreJournalLines, IsFirstMalformed, IsNumbered, MayFollow, NoneFollows, malformed_at, number_after, numbers_from}
 use Rattle.journal_check.specs.inner.Steps.{Adds, HasRead, IsMalformed, refusal_of}
 use Rattle.journal_check.specs.declared.flaw.Flaw.TheVariants as flaws
 use Rattle.journal_check.specs.declared.journal.Batch.{Batch}
 use Rattle.journal_check.specs.declared.journal.Journal.{Journal}
-use Rattle.journal_check.specs.declared.line.Line.{Line}
-use Rattle.journal_check.specs.declared.line.Line.TheVariants as line
+use Rattle.journal_check.specs.declared.line.JournalLine.{JournalLine}
+use Rattle.journal_check.specs.declared.line.JournalLine.TheVariants as line
 
 -- one more at the end
 all_push : {X : Type 0} (P : X → Type 0) (xs : List X) (x : X) → AllByRecursion P xs → P x → AllByRecursion P (xs ++ x ∷ [])
@@ -38,22 +38,22 @@ numbers_push (x ∷ texts) n text few =
     ap (λ (ns : List ℕ). n ∷ ns) (numbers_push texts (capped (n + 1)) text (omega arith) ∙ ap (λ (m : ℕ). numbers_from (capped (n + 1)) texts ++ m ∷ []) same)
 
 -- a line that may follow fits
-pub follows_fits : (design : Parts) (stimulus : InputVectors) (journal : Journal) (l : Line) → MayFollow design stimulus (Some journal) l → LineFits design stimulus journal.workers l
+pub follows_fits : (design : Parts) (stimulus : InputVectors) (journal : Journal) (l : JournalLine) → MayFollow design stimulus (Some journal) l → LineFits design stimulus journal.workers l
 follows_fits design stimulus journal (line.Begins count) h = absurd h
 follows_fits design stimulus journal (line.Batch from to) h = h
 follows_fits design stimulus journal (line.Entry e) h = h.1
 
 -- a journal with one more line
-grows : (design : Parts) (stimulus : InputVectors) (first_line : ℕ) (texts : List (List ℕ)) (text : List ℕ) (old new : Journal) (l : Line) → first_line ≤ 4294967295
-    → AreLinesOf design stimulus first_line texts old → MayFollow design stimulus (Some old) l → text ≡ line_text design l → Adds old new (number_after first_line (length texts)) l
-    → AreLinesOf design stimulus first_line (texts ++ text ∷ []) new
+grows : (design : Parts) (stimulus : InputVectors) (first_line : ℕ) (texts : List (List ℕ)) (text : List ℕ) (old new : Journal) (l : JournalLine) → first_line ≤ 4294967295
+    → AreJournalLines design stimulus first_line texts old → MayFollow design stimulus (Some old) l → text ≡ line_text design l → Adds old new (number_after first_line (length texts)) l
+    → AreJournalLines design stimulus first_line (texts ++ text ∷ []) new
 grows design stimulus first_line texts text old new l few are may is adds = record {
   lines =
       ap₂ (λ (ts : List (List ℕ)) (t : List ℕ). ts ++ t ∷ []) are.lines is
       ∙ sym (map-append (line_text design) (lines_in old) (l ∷ []))
       ∙ ap (map (line_text design)) (sym adds.lines);
   fit =
-      subst (λ (ls : List Line). AllByRecursion (LineFits design stimulus new.workers) ls) (sym adds.lines)
+      subst (λ (ls : List JournalLine). AllByRecursion (LineFits design stimulus new.workers) ls) (sym adds.lines)
       (subst (λ (w : ℕ). AllByRecursion (LineFits design stimulus w) (lines_in old ++ l ∷ [])) (sym adds.workers)
       (all_push (LineFits design stimulus old.workers) (lines_in old) l are.fit (follows_fits design stimulus old l may)));
   numbers = adds.numbers ∙ ap (λ (ns : List ℕ). ns ++ number_after first_line (length texts) ∷ []) are.numbers ∙ sym (numbers_push texts first_line text few);
@@ -72,7 +72,7 @@ begins design stimulus first_line workers text rest head few cut fits is = recor
 
 -- a later line goes on with it
 pub goes_on : (design : Parts) (stimulus : InputVectors) (first_line number : ℕ) (text rest head more : List ℕ) (old new : Journal) → first_line ≤ 4294967295 → HasRead design stimulus first_line text rest number old → lines_of rest ≡ head ∷ lines_of more
-    → ((l : Line) × MayFollow design stimulus (Some old) l × (head ≡ line_text design l) × Adds old new number l)
+    → ((l : JournalLine) × MayFollow design stimulus (Some old) l × (head ≡ line_text design l) × Adds old new number l)
     → HasRead design stimulus first_line text more (capped (number + 1)) new
 goes_on design stimulus first_line number text rest head more old new few read cut added =
     let k = length read.before in
@@ -86,9 +86,9 @@ goes_on design stimulus first_line number text rest head more old new few read c
     }
 
 -- where all lines are read
-pub ends : (design : Parts) (stimulus : InputVectors) (first_line number : ℕ) (text rest : List ℕ) (journal : Journal) → HasRead design stimulus first_line text rest number journal → lines_of rest ≡ [] → AreLinesOf design stimulus first_line (lines_of text) journal
+pub ends : (design : Parts) (stimulus : InputVectors) (first_line number : ℕ) (text rest : List ℕ) (journal : Journal) → HasRead design stimulus first_line text rest number journal → lines_of rest ≡ [] → AreJournalLines design stimulus first_line (lines_of text) journal
 ends design stimulus first_line number text rest journal read none =
-    subst (λ (ls : List (List ℕ)). AreLinesOf design stimulus first_line ls journal) (sym (read.lines ∙ ap (λ (ls : List (List ℕ)). read.before ++ ls) none ∙ append-nil read.before)) read.are
+    subst (λ (ls : List (List ℕ)). AreJournalLines design stimulus first_line ls journal) (sym (read.lines ∙ ap (λ (ls : List (List ℕ)). read.before ++ ls) none ∙ append-nil read.before)) read.are
 
 -- ---- how reading begins, goes on and is refused
 
@@ -102,7 +102,7 @@ begun design stimulus first_line workers number text rest batches few fits cut n
 
 -- after a later line
 pub going_on : (design : Parts) (stimulus : InputVectors) (first_line number next : ℕ) (text rest head more : List ℕ) (old new : Journal) → first_line ≤ 4294967295 → HasRead design stimulus first_line text rest number old → lines_of rest ≡ head ∷ lines_of more
-    → ((l : Line) × MayFollow design stimulus (Some old) l × (head ≡ line_text design l) × Adds old new number l) → next ≡ capped (number + 1) → HasRead design stimulus first_line text more next new
+    → ((l : JournalLine) × MayFollow design stimulus (Some old) l × (head ≡ line_text design l) × Adds old new number l) → next ≡ capped (number + 1) → HasRead design stimulus first_line text more next new
 going_on design stimulus first_line number next text rest head more old new few read cut added is =
     subst (λ (n : ℕ). HasRead design stimulus first_line text more n new) (sym is) (goes_on design stimulus first_line number text rest head more old new few read cut added)
 
@@ -166,7 +166,7 @@ adds_batch old batches from to number is =
     let b : Batch = record { from = from; to = to; line = number; entries = []; lines = [] } in
     record {
       workers = refl;
-      lines = ap (λ (bs : List Batch). line.Begins old.workers ∷ flat_map lines_of_batch bs) is ∙ ap (λ (ls : List Line). line.Begins old.workers ∷ ls) (flat_map-append lines_of_batch old.batches (b ∷ []));
+      lines = ap (λ (bs : List Batch). line.Begins old.workers ∷ flat_map lines_of_batch bs) is ∙ ap (λ (ls : List JournalLine). line.Begins old.workers ∷ ls) (flat_map-append lines_of_batch old.batches (b ∷ []));
       numbers = ap (λ (bs : List Batch). old.line ∷ flat_map numbers_of_batch bs) is ∙ ap (λ (ns : List ℕ). old.line ∷ ns) (flat_map-append numbers_of_batch old.batches (b ∷ []));
       counts = λ all. subst (AllByRecursion IsNumbered) (sym is) (all_push IsNumbered old.batches b all refl);
     }
@@ -189,12 +189,12 @@ pub adds_entry : (old : Journal) (batches front : List Batch) (batch : Batch) (e
     → Adds old (record { workers = old.workers; line = old.line; batches = batches }) number (line.Entry e)
 adds_entry old batches front batch e number was is =
     let more : Batch = record batch { entries = batch.entries ++ e ∷ []; lines = batch.lines ++ number ∷ [] } in
-    let lines_grow : lines_of_batch more ≡ lines_of_batch batch ++ line.Entry e ∷ [] = ap (λ (ls : List Line). line.Batch batch.from batch.to ∷ ls) (map-append line.Entry batch.entries (e ∷ [])) in
+    let lines_grow : lines_of_batch more ≡ lines_of_batch batch ++ line.Entry e ∷ [] = ap (λ (ls : List JournalLine). line.Batch batch.from batch.to ∷ ls) (map-append line.Entry batch.entries (e ∷ [])) in
     record {
       workers = refl;
       lines =
           ap (λ (bs : List Batch). line.Begins old.workers ∷ flat_map lines_of_batch bs) is
-          ∙ ap (λ (ls : List Line). line.Begins old.workers ∷ ls) (last_grows lines_of_batch front batch more (line.Entry e) lines_grow)
+          ∙ ap (λ (ls : List JournalLine). line.Begins old.workers ∷ ls) (last_grows lines_of_batch front batch more (line.Entry e) lines_grow)
           ∙ ap (λ (bs : List Batch). line.Begins old.workers ∷ flat_map lines_of_batch bs ++ line.Entry e ∷ []) (sym was);
       numbers =
           ap (λ (bs : List Batch). old.line ∷ flat_map numbers_of_batch bs) is
@@ -211,6 +211,6 @@ pub some_batch : (journal : Journal) (front : List Batch) (batch : Batch) → jo
 some_batch journal front batch is = omega (arith, ap length is, length-append front (batch ∷ []))
 
 -- what is printed of lines
-pub printed_lines : (design : Parts) (ls : List Line) → text_of design ls ≡ flat_map ended (map (line_text design) ls)
+pub printed_lines : (design : Parts) (ls : List JournalLine) → text_of design ls ≡ flat_map ended (map (line_text design) ls)
 printed_lines design [] = refl
 printed_lines design (l ∷ ls) = ap (λ (rest : List ℕ). ended (line_text design l) ++ rest) (printed_lines design ls)

@@ -15,8 +15,8 @@ use Rattle.journal_check.specs.Reading.{HasFittingEntries, IsJournal, IsNumbered
 use Rattle.journal_check.specs.Tokens.{rule_names}
 use Rattle.journal_check.specs.declared.journal.Batch.{Batch}
 use Rattle.journal_check.specs.declared.journal.Journal.{Journal}
-use Rattle.journal_check.specs.declared.line.Line.{Line}
-use Rattle.journal_check.specs.declared.line.Line.TheVariants as line
+use Rattle.journal_check.specs.declared.line.JournalLine.{JournalLine}
+use Rattle.journal_check.specs.declared.line.JournalLine.TheVariants as line
 
 -- a rule that a line names is one of the design
 pub rule_within : (design : Parts) (rule : ℕ) → IsRule design rule → rule < length design.rules
@@ -25,7 +25,7 @@ rule_within design rule named =
     omega (arith, count, (position-Some (bytes_eq (rule_name design rule)) (rule_names design) rule [] named).0)
 
 -- the entries at the front of lines that fit
-entries_left : (P : Line → Type 0) (entries : List Entry) (rest : List Line) → AllByRecursion P (map line.Entry entries ++ rest) → AllByRecursion (λ (e : Entry). P (line.Entry e)) entries × AllByRecursion P rest
+entries_left : (P : JournalLine → Type 0) (entries : List Entry) (rest : List JournalLine) → AllByRecursion P (map line.Entry entries ++ rest) → AllByRecursion (λ (e : Entry). P (line.Entry e)) entries × AllByRecursion P rest
 entries_left P [] rest all = (tt, all)
 entries_left P (e ∷ entries) rest all =
     let more = entries_left P entries rest all.1 in

@@ -9,7 +9,7 @@ use Rattle.kw_bits.specs.BitVector.{BitVector}
 use Rattle.kw_bits.specs.Laws.{HasWidth}
 use Rattle.typed_core.specs.Alone.{is_refused, outcome_of}
 use Rattle.typed_core.specs.Clash.{clashes, ports_clash}
-use Rattle.typed_core.specs.Evaluation.{bind, evaluate, Ending, Environment, Part, Progress, Stop, Value, unit}
+use Rattle.typed_core.specs.Evaluation.{bind, evaluate, Ending, Environment, Evaluation, Progress, Stop, Value, unit}
 use Rattle.typed_core.specs.Fits.{EventFits, EventsFit}
 use Rattle.typed_core.specs.Laws.{read_at, write_at}
 use Rattle.typed_core.specs.Valid.{AreNodes, IsPort}
@@ -38,7 +38,7 @@ use Rattle.one_rule.specs.declared.rows.Row.{Row}
 use Rattle.attempt_log.specs.Attempt.{Attempted}
 use Rattle.attempt_log.specs.Setting.{at_design}
 use Rattle.attempt_log.specs.Trace.{IsTrace, retrace, trace_ports}
-use Rattle.attempt_log.specs.Verdict.{answer_now, at_end, clash, clash_or, decision, first_clash, first_of, is_same, kind_before, staleness, verdict, verdict_from}
+use Rattle.attempt_log.specs.Verdict.{answer_now, at_end, clash, clash_or, decision, first_clash, named_first, is_same, kind_before, staleness, verdict, verdict_from}
 use Rattle.attempt_log.specs.declared.cause.Cause.{Cause}
 use Rattle.attempt_log.specs.declared.cause.StaleRead.{StaleRead}
 use Rattle.attempt_log.specs.declared.cause.Verdict.{Verdict}
@@ -49,7 +49,7 @@ use Rattle.attempt_log.specs.declared.entry.Settled.{Settled}
 use Rattle.attempt_log.specs.declared.entry.Settled.TheVariants as settled
 use Rattle.attempt_log.specs.declared.entry.Submitted.TheVariants as submitted
 use Rattle.attempt_log.proofs.Commits.{stale_reads_differ}
-use Rattle.board_core.specs.Board.{Board, Opening, Step, closed, dropped, head, is_ahead, is_late, judged, node_at, opened, row_of, run_events, settle, settle_at, settle_with, settled_by, stands, stays, step, stored, submit}
+use Rattle.board_core.specs.Board.{Board, Opening, BoardStep, closed, dropped, head, is_ahead, is_late, judged, node_at, opened, row_of, run_events, settle, settle_at, settle_with, settled_by, stands, stays, step, stored, submit}
 use Rattle.board_core.specs.History as history
 use Rattle.board_core.specs.History.{IsLegal, SubmitsFor, event_of, events_of, told_by, told_of}
 use Rattle.board_core.specs.declared.event.BoardAnswer.{BoardAnswer}
@@ -58,7 +58,7 @@ use Rattle.board_core.specs.declared.kept.TheConstants.{MAX_CYCLES}
 use Rattle.board_core.proofs.Positions.{at_node}
 use Rattle.journal_check.specs.Checking.{left_by}
 use Rattle.journal_check.specs.Fitting as fitting
-use Rattle.journal_check.specs.Fitting.{AccessFits, CauseFits, EntryFits, IsRegister, IsRule, IsSmall, OutcomeFits, SettledFits, ValueFits}
+use Rattle.journal_check.specs.Fitting.{AccessFits, CauseFits, EntryFits, IsRegister, IsRule, IsSmall, OutcomeFits, SettledFits, RegisterValueFits}
 
 -- ---- what stops a rule
 
@@ -68,7 +68,7 @@ IsRefusal events (Value value) = Unit {0}
 IsRefusal events (Stop stopped.Abort) = Unit {0}
 IsRefusal events (Stop (stopped.Refused access)) = is_refused events access ≡ true
 
-bind_refusal : (events : List Event) (ending : Ending BitVector Stopped) (next : BitVector → Part BitVector Stopped) → IsRefusal events ending → ((value : BitVector) (es : List Event) → IsRefusal (next value es).events (next value es).ending)
+bind_refusal : (events : List Event) (ending : Ending BitVector Stopped) (next : BitVector → Evaluation BitVector Stopped) → IsRefusal events ending → ((value : BitVector) (es : List Event) → IsRefusal (next value es).events (next value es).ending)
     → IsRefusal (bind events ending next).events (bind events ending next).ending
 bind_refusal events (Value value) next h k = k value events
 bind_refusal events (Stop cause) next h k = h
@@ -136,8 +136,8 @@ record FiredFits (design : Parts) (f : Fired) : Type 0 where
 -- a stale read fits, but that its values differ
 record ReadFits (design : Parts) (read : StaleRead) : Type 0 where
   port : IsPort read.port
-  held : ValueFits design read.register read.held
-  now_value : ValueFits design read.register read.now
+  held : RegisterValueFits design read.register read.held
+  now_value : RegisterValueFits design read.register read.now
 
 abbrev VerdictFits : Parts → Verdict → Type 0
 VerdictFits design Commit = Unit {0}
@@ -155,10 +155,10 @@ module _ (design : Parts) (names : HasOwnNames design) where
   access_fits : (a : Access) (width : ℕ) → IsPort a.port → slice_get widths a.register ≡ Some width → AccessFits design a
   access_fits a width port is = record { port = port; register = register_own a.register width is }
 
-  event_fits : (e : Event) → EventFits widths e → fitting.EventFits design e
+  event_fits : (e : Event) → EventFits widths e → fitting.RegisterEventFits design e
   event_fits e fits = record { access = access_fits e.access fits.value.0 fits.port fits.value.1; value = fits.value }
 
-  events_fit : (events : List Event) → EventsFit widths events → AllByRecursion (fitting.EventFits design) events
+  events_fit : (events : List Event) → EventsFit widths events → AllByRecursion (fitting.RegisterEventFits design) events
   events_fit [] all = tt
   events_fit (e ∷ events) all = (event_fits e all.0, events_fit events all.1)
 
@@ -182,7 +182,7 @@ module _ (design : Parts) (names : HasOwnNames design) where
 
   -- ---- verdicts
 
-  first_fits : (a : Access) (found : Option Access) → AccessFits design a → IfSome found (AccessFits design) → AccessFits design (first_of a found)
+  first_fits : (a : Access) (found : Option Access) → AccessFits design a → IfSome found (AccessFits design) → AccessFits design (named_first a found)
   first_fits a None one rest = one
   first_fits a (Some b) one rest = of (kind_before b.write b.port a.write a.port)
     where
@@ -194,7 +194,7 @@ module _ (design : Parts) (names : HasOwnNames design) where
   first_clash_fits access [] all = tt
   first_clash_fits access (e ∷ events) all = of (clashes access e.access) (first_clash_fits access events all.1)
     where
-      of : (c : Bool) → IfSome (first_clash access events) (AccessFits design) → IfSome (if c then Some (first_of e.access (first_clash access events)) else first_clash access events) (AccessFits design)
+      of : (c : Bool) → IfSome (first_clash access events) (AccessFits design) → IfSome (if c then Some (named_first e.access (first_clash access events)) else first_clash access events) (AccessFits design)
       of true rest = first_fits e.access (first_clash access events) (event_fits e all.0).access rest
       of false rest = rest
 
@@ -265,7 +265,7 @@ AnswerFits design (answer.Submit s) = Unit {0}
 AnswerFits design (answer.Settle told) = SettledFits design told
 
 -- the answer fits, and the board after it
-record StepFits (o : Opening) (s : Step) : Type 0 where
+record StepFits (o : Opening) (s : BoardStep) : Type 0 where
   told : AnswerFits o.design s.answer
   board : BoardFits o s.board
 

@@ -26,13 +26,13 @@ use Rattle.attempt_log.specs.declared.entry.Taken.{Taken}
 use Rattle.attempt_log.specs.declared.entry.Taken.TheVariants as taken
 use Rattle.stim_report.specs.Report.{hex_digit, hex_digits}
 use Rattle.one_rule.specs.Stimulus.{InputVectors}
-use Rattle.journal_check.specs.Fitting.{CauseFits, EventFits, IsSmall, LineFits, OutcomeFits, SettledFits, StaleFits}
-use Rattle.journal_check.specs.Printing.{access_text, cause_tokens, event_text, joined, line_text, line_tokens, name_of_register, name_of_rule, outcome_tokens, register_name, settled_tokens, spaced, stale_tokens, taken_text, value_text}
+use Rattle.journal_check.specs.Fitting.{CauseFits, RegisterEventFits, IsSmall, LineFits, OutcomeFits, SettledFits, StaleFits}
+use Rattle.journal_check.specs.Printing.{access_text, cause_tokens, event_text, joined_tokens, line_text, line_tokens, name_of_register, name_of_rule, outcome_tokens, register_name, settled_tokens, spaced, stale_tokens, taken_text, value_text}
 use Rattle.journal_check.specs.Reading.{HasPlainNames}
 use Rattle.journal_check.specs.Tokens.{is_space, register_names, rule_names}
 use Rattle.journal_check.specs.inner.Tokens.{tokens_of}
-use Rattle.journal_check.specs.declared.line.Line.{Line}
-use Rattle.journal_check.specs.declared.line.Line.TheVariants as line
+use Rattle.journal_check.specs.declared.line.JournalLine.{JournalLine}
+use Rattle.journal_check.specs.declared.line.JournalLine.TheVariants as line
 
 -- ---- classes of bytes
 
@@ -118,12 +118,12 @@ access_in p all design names a port =
     (append_in p (decimal a.port) (58 ∷ register_name design a.register) (decimal_in p all a.port (omega (arith, port)))
     (ap₂ (λ (b c : Bool). b && c) (all 58 (omega arith)) (register_in p design.regs a.register names.registers)))
 
-event_in : (p : ℕ → Bool) → HasVisible p → (design : Parts) → HasNamesIn p design → (e : Event) → EventFits design e → list_all p (event_text design e) ≡ true
+event_in : (p : ℕ → Bool) → HasVisible p → (design : Parts) → HasNamesIn p design → (e : Event) → RegisterEventFits design e → list_all p (event_text design e) ≡ true
 event_in p all design names e h =
     append_in p (access_text design e.access) (61 ∷ value_text e.value) (access_in p all design names e.access h.access.port)
     (ap₂ (λ (b c : Bool). b && c) (all 61 (omega arith)) (value_in p all e.value))
 
-events_in : (p : ℕ → Bool) → HasVisible p → (design : Parts) → HasNamesIn p design → (events : List Event) → AllByRecursion (EventFits design) events → AreIn p (map (event_text design) events)
+events_in : (p : ℕ → Bool) → HasVisible p → (design : Parts) → HasNamesIn p design → (events : List Event) → AllByRecursion (RegisterEventFits design) events → AreIn p (map (event_text design) events)
 events_in p all design names [] fit = tt
 events_in p all design names (e ∷ events) fit = (event_in p all design names e fit.0, events_in p all design names events fit.1)
 
@@ -165,7 +165,7 @@ settled_in p all design names (settled.Waiting cycle r) h = (word_in p all (code
 settled_in p all design names settled.Finished h = (word_in p all (codes "finished") refl, tt)
 
 -- the tokens of a line that fits
-pub tokens_in : (p : ℕ → Bool) → HasVisible p → (design : Parts) → HasNamesIn p design → (stimulus : InputVectors) (workers : ℕ) (l : Line) → IsSmall workers → LineFits design stimulus workers l → AreIn p (line_tokens design l)
+pub tokens_in : (p : ℕ → Bool) → HasVisible p → (design : Parts) → HasNamesIn p design → (stimulus : InputVectors) (workers : ℕ) (l : JournalLine) → IsSmall workers → LineFits design stimulus workers l → AreIn p (line_tokens design l)
 tokens_in p all design names stimulus workers (line.Begins count) small h = (
   word_in p all (codes "journal") refl,
   (append_in p (codes "workers=") (decimal count) (word_in p all (codes "workers=") refl) (decimal_in p all count (omega (arith, h.1))), tt),
@@ -203,29 +203,29 @@ passes (b ∷ bytes) h zero d within = not-true (is_space b) (and_left (not (is_
 passes (b ∷ bytes) h (suc k) d within = passes bytes (and_right (not (is_space b)) (list_all (λ x. not (is_space x)) bytes) h) k d (omega (arith, within))
 
 -- tokens are cut where they were joined
-cut_joined : (token : List ℕ) (tokens : List (List ℕ)) → list_all (λ b. not (is_space b)) token ≡ true → AreIn (λ b. not (is_space b)) tokens → tokens_of (joined (token ∷ tokens)) ≡ token ∷ tokens
+cut_joined : (token : List ℕ) (tokens : List (List ℕ)) → list_all (λ b. not (is_space b)) token ≡ true → AreIn (λ b. not (is_space b)) tokens → tokens_of (joined_tokens (token ∷ tokens)) ≡ token ∷ tokens
 cut_joined token [] plain all = ap tokens_of (append-nil token) ∙ slice_split_none is_space token (passes token plain)
 cut_joined token (next ∷ tokens) plain all =
-    slice_split_at is_space token 32 (joined (next ∷ tokens)) (passes token plain) refl ∙ ap (λ (ts : List (List ℕ)). token ∷ ts) (cut_joined next tokens all.0 all.1)
+    slice_split_at is_space token 32 (joined_tokens (next ∷ tokens)) (passes token plain) refl ∙ ap (λ (ts : List (List ℕ)). token ∷ ts) (cut_joined next tokens all.0 all.1)
 
-cut_tokens : (tokens : List (List ℕ)) → 0 < length tokens → AreIn (λ b. not (is_space b)) tokens → tokens_of (joined tokens) ≡ tokens
+cut_tokens : (tokens : List (List ℕ)) → 0 < length tokens → AreIn (λ b. not (is_space b)) tokens → tokens_of (joined_tokens tokens) ≡ tokens
 cut_tokens [] some all = absurd (omega (arith, some))
 cut_tokens (token ∷ tokens) some all = cut_joined token tokens all.0 all.1
 
-some_tokens : (design : Parts) (l : Line) → 0 < length (line_tokens design l)
+some_tokens : (design : Parts) (l : JournalLine) → 0 < length (line_tokens design l)
 some_tokens design (line.Begins count) = omega arith
 some_tokens design (line.Batch from to) = omega arith
 some_tokens design (line.Entry (entry.Submit worker cycle r inputs events ending answer)) = omega arith
 some_tokens design (line.Entry (entry.Settle worker answer)) = omega arith
 
 -- the text of a line that fits is cut into its tokens
-pub cut_line : (design : Parts) (stimulus : InputVectors) (workers : ℕ) (l : Line) → HasPlainNames design → IsSmall workers → LineFits design stimulus workers l → tokens_of (line_text design l) ≡ line_tokens design l
+pub cut_line : (design : Parts) (stimulus : InputVectors) (workers : ℕ) (l : JournalLine) → HasPlainNames design → IsSmall workers → LineFits design stimulus workers l → tokens_of (line_text design l) ≡ line_tokens design l
 cut_line design stimulus workers l names small h =
     cut_tokens (line_tokens design l) (some_tokens design l)
     (tokens_in (λ b. not (is_space b)) not_space design (record { registers = names.registers; rules = names.rules }) stimulus workers l small h)
 
 -- the bytes of a text of tokens
-pub joined_in : (p : ℕ → Bool) → p 32 ≡ true → (tokens : List (List ℕ)) → AreIn p tokens → list_all p (joined tokens) ≡ true
+pub joined_in : (p : ℕ → Bool) → p 32 ≡ true → (tokens : List (List ℕ)) → AreIn p tokens → list_all p (joined_tokens tokens) ≡ true
 joined_in p space [] all = refl
 joined_in p space (token ∷ tokens) all = append_in p token (flat_map spaced tokens) all.0 (spaced_in tokens all.1)
   where

@@ -15,8 +15,8 @@ use Rattle.journal_check.specs.inner.Steps.{IsMalformed, NoneIs, refusal_of}
 use Rattle.journal_check.specs.inner.Tokens.{Reads, line_at, tokens_of}
 use Rattle.journal_check.specs.declared.flaw.Flaw.{Flaw}
 use Rattle.journal_check.specs.declared.flaw.Flaw.TheVariants as flaws
-use Rattle.journal_check.specs.declared.line.Line.{Line}
-use Rattle.journal_check.specs.declared.line.Line.TheVariants as line
+use Rattle.journal_check.specs.declared.line.JournalLine.{JournalLine}
+use Rattle.journal_check.specs.declared.line.JournalLine.TheVariants as line
 use Rattle.journal_check.proofs.OneReading.{text_back}
 
 -- the two values of an answer that fits differ
@@ -29,7 +29,7 @@ fits_differs design (settled.Waiting cycle r) h = tt
 fits_differs design settled.Finished h = tt
 
 -- the numbers of a line that fits are in their ranges
-fits_allowed : (design : Parts) (stimulus : InputVectors) (workers : ℕ) (l : Line) → LineFits design stimulus workers l → IsAllowed workers l
+fits_allowed : (design : Parts) (stimulus : InputVectors) (workers : ℕ) (l : JournalLine) → LineFits design stimulus workers l → IsAllowed workers l
 fits_allowed design stimulus workers (line.Begins count) h = h
 fits_allowed design stimulus workers (line.Batch from to) h = tt
 fits_allowed design stimulus workers (line.Entry (entry.Submit worker cycle r inputs events ending answer)) h = (h.0, h.1, h.2)
@@ -48,31 +48,31 @@ unread design stimulus workers text small none names l fits is =
     none_some l (sym none ∙ ap (λ (t : List ℕ). line_at design stimulus (tokens_of t)) is ∙ text_back design stimulus workers l names small fits)
 
 -- what is read is the only line that may be printed so
-pub only : (design : Parts) (stimulus : InputVectors) (workers : ℕ) (text : List ℕ) (m : Line) → IsSmall workers → line_at design stimulus (tokens_of text) ≡ Some m → HasPlainNames design
-    → (l : Line) → LineFits design stimulus workers l → text ≡ line_text design l → m ≡ l
+pub only : (design : Parts) (stimulus : InputVectors) (workers : ℕ) (text : List ℕ) (m : JournalLine) → IsSmall workers → line_at design stimulus (tokens_of text) ≡ Some m → HasPlainNames design
+    → (l : JournalLine) → LineFits design stimulus workers l → text ≡ line_text design l → m ≡ l
 only design stimulus workers text m small read names l fits is =
     ap (value_or m) (sym read ∙ ap (λ (t : List ℕ). line_at design stimulus (tokens_of t)) is ∙ text_back design stimulus workers l names small fits)
 
 -- its numbers aren't in their ranges
-pub not_allowed : (design : Parts) (stimulus : InputVectors) (workers : ℕ) (text : List ℕ) (m : Line) → IsSmall workers → line_at design stimulus (tokens_of text) ≡ Some m → ¬ (IsAllowed workers m) → HasPlainNames design
+pub not_allowed : (design : Parts) (stimulus : InputVectors) (workers : ℕ) (text : List ℕ) (m : JournalLine) → IsSmall workers → line_at design stimulus (tokens_of text) ≡ Some m → ¬ (IsAllowed workers m) → HasPlainNames design
     → NoneIs design (LineFits design stimulus workers) text
 not_allowed design stimulus workers text m small read not names l fits is =
     not (subst (IsAllowed workers) (sym (only design stimulus workers text m small read names l fits is)) (fits_allowed design stimulus workers l fits))
 
 -- it isn't printed so
-pub not_printed : (design : Parts) (stimulus : InputVectors) (workers : ℕ) (text : List ℕ) (m : Line) → IsSmall workers → line_at design stimulus (tokens_of text) ≡ Some m → ¬ (line_text design m ≡ text) → HasPlainNames design
+pub not_printed : (design : Parts) (stimulus : InputVectors) (workers : ℕ) (text : List ℕ) (m : JournalLine) → IsSmall workers → line_at design stimulus (tokens_of text) ≡ Some m → ¬ (line_text design m ≡ text) → HasPlainNames design
     → NoneIs design (LineFits design stimulus workers) text
 not_printed design stimulus workers text m small read not names l fits is =
     not (ap (line_text design) (only design stimulus workers text m small read names l fits is) ∙ sym is)
 
 -- a line is refused for its form
-pub refused : (design : Parts) (P : Line → Type 0) (text : List ℕ) (number : ℕ) (refusal : Refusal) → refusal ≡ refusal_of flaws.Malformed number → (HasPlainNames design → NoneIs design P text)
+pub refused : (design : Parts) (P : JournalLine → Type 0) (text : List ℕ) (number : ℕ) (refusal : Refusal) → refusal ≡ refusal_of flaws.Malformed number → (HasPlainNames design → NoneIs design P text)
     → IfFault {X = ℕ} (Err refusal) (IsMalformed design P text number)
 refused design P text number refusal is none = subst (λ (r : Refusal). IfFault {X = ℕ} (Err r) (IsMalformed design P text number)) (sym is) (refl, none)
 
 -- by what the reader of tokens returned
 pub unread_refused : (design : Parts) (stimulus : InputVectors) (workers : ℕ) (text : List ℕ) (number : ℕ) (flaw : Flaw) (refusal : Refusal) → IsSmall workers → refusal ≡ refusal_of flaw number
-    → Reads {X = Line} (λ l. l) (Err flaw) (line_at design stimulus (tokens_of text)) → IfFault {X = ℕ} (Err refusal) (IsMalformed design (LineFits design stimulus workers) text number)
+    → Reads {X = JournalLine} (λ l. l) (Err flaw) (line_at design stimulus (tokens_of text)) → IfFault {X = ℕ} (Err refusal) (IsMalformed design (LineFits design stimulus workers) text number)
 unread_refused design stimulus workers text number flaws.Malformed refusal small is none =
     refused design (LineFits design stimulus workers) text number refusal is (unread design stimulus workers text small none)
 unread_refused design stimulus workers text number flaws.NoMemory refusal small is none =

@@ -12,7 +12,7 @@ use Rattle.board_core.specs.Board.{Board, Opening, opened, run_events, step}
 use Rattle.board_core.specs.History.{IsLegal, SubmitsFor, Told, event_of, events_of, told_by, told_of}
 use Rattle.board_core.specs.Laws.{IsTraced}
 use Rattle.journal_check.specs.CheckingLaws.{OneFirstFault, NeverGoodAndFaulty}
-use Rattle.journal_check.specs.Checking.{AreGood, IsFaultFrom, IsFaultOf, IsFaultOfEntries, IsFirstWrong, IsGoodBatch, IsWrong, at_line, left_by, opening_of}
+use Rattle.journal_check.specs.Checking.{AreGood, IsFaultFrom, IsFaultOf, IsFaultOfEntries, IsFirstWrong, IsGoodBatch, IsWrongEntry, at_line, left_by, opening_of}
 use Rattle.journal_check.specs.declared.journal.Batch.{Batch}
 
 -- ---- an entry of a legal history isn't wrong
@@ -39,7 +39,7 @@ traced_by : (o : Opening) (e : Entry) → SubmitsFor o (event_of o.design e) →
 traced_by o (entry.Submit worker cycle rule inputs events outcome answer) is = (is.attempt.rule, is.is_for.inputs, is.attempt.trace)
 traced_by o (entry.Settle worker answer) is = tt
 
-not_wrong : (o : Opening) (before : List Entry) (e : Entry) (rest : List Entry) (number : ℕ) → IsLegal o (before ++ e ∷ rest) → IsWrong o before e number → ⊥
+not_wrong : (o : Opening) (before : List Entry) (e : Entry) (rest : List Entry) (number : ℕ) → IsLegal o (before ++ e ∷ rest) → IsWrongEntry o before e number → ⊥
 not_wrong o before e rest number legal wrong =
     let right = right_at o (opened o) before e rest legal.attempts legal.answers in
     elim wrong [ inl w ↦ w.1 (traced_by o e right.attempt) | inr w ↦ w.2 right.answer ]
@@ -87,7 +87,7 @@ places (x ∷ xs) e r (y ∷ ys) f s is =
     let tail : xs ++ e ∷ r ≡ ys ++ f ∷ s = cc in
     further x y xs e ys f head (places xs e r ys f s tail)
 
-one_number : (o : Opening) (log : List Entry) (e : Entry) (a b : ℕ) → IsWrong o log e a → IsWrong o log e b → a ≡ b
+one_number : (o : Opening) (log : List Entry) (e : Entry) (a b : ℕ) → IsWrongEntry o log e a → IsWrongEntry o log e b → a ≡ b
 one_number o log e a b (inl p) (inl q) = p.0 ∙ sym q.0
 one_number o log e a b (inl p) (inr q) = absurd (p.1 q.1)
 one_number o log e a b (inr p) (inl q) = absurd (q.1 p.1)
@@ -98,7 +98,7 @@ one_first o batch a b p q = by (places p.before p.entry p.rest q.before q.entry 
   where
     by : Places p.before p.entry q.before q.entry → a ≡ b
     by (Same is one) =
-        let number : p.number ≡ q.number = one_number o q.before q.entry p.number q.number (subst (λ (log : List Entry). IsWrong o log q.entry p.number) is (subst (λ (e : Entry). IsWrong o p.before e p.number) one p.wrong)) q.wrong in
+        let number : p.number ≡ q.number = one_number o q.before q.entry p.number q.number (subst (λ (log : List Entry). IsWrongEntry o log q.entry p.number) is (subst (λ (e : Entry). IsWrongEntry o p.before e p.number) one p.wrong)) q.wrong in
         p.fault_is ∙ ap₂ (λ (m : ℕ) (log : List Entry). at_line m (slice_index_or batch.lines (length log) 0)) number is ∙ sym q.fault_is
     by (Before t is) = absurd (not_wrong o p.before p.entry t p.number (subst (IsLegal o) is q.legal) p.wrong)
     by (After t is) = absurd (not_wrong o q.before q.entry t q.number (subst (IsLegal o) is p.legal) q.wrong)

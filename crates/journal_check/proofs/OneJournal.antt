@@ -7,13 +7,13 @@ use Rattle.attempt_log.specs.declared.entry.Entry.{Entry}
 use Rattle.kw_base.specs.declared.fault.Fault.{Fault}
 use Rattle.stim_report.specs.Cuts.{lines_of}
 use Rattle.journal_check.specs.Fitting.{IsSmall, LineFits}
-use Rattle.journal_check.specs.Journals.{lines_in, lines_of_batch, numbers_in, numbers_of_batch}
+use Rattle.journal_check.specs.Journals.{lines_in, lines_of_batch, journal_lines, numbers_of_batch}
 use Rattle.journal_check.specs.Printing.{ended, journal_text, line_text}
-use Rattle.journal_check.specs.Reading.{AreFront, AreLinesOf, HasPlainNames, IsFirstMalformed, IsJournal, IsNumbered, MayFollow, NoneFollows, malformed_at, number_after}
+use Rattle.journal_check.specs.Reading.{AreFront, AreJournalLines, HasPlainNames, IsFirstMalformed, IsJournal, IsNumbered, MayFollow, NoneFollows, malformed_at, number_after}
 use Rattle.journal_check.specs.declared.journal.Batch.{Batch}
 use Rattle.journal_check.specs.declared.journal.Journal.{Journal}
-use Rattle.journal_check.specs.declared.line.Line.{Line}
-use Rattle.journal_check.specs.declared.line.Line.TheVariants as line
+use Rattle.journal_check.specs.declared.line.JournalLine.{JournalLine}
+use Rattle.journal_check.specs.declared.line.JournalLine.TheVariants as line
 use Rattle.journal_check.proofs.Adding.{printed_lines}
 use Rattle.journal_check.proofs.OneReading.{one_line}
 
@@ -63,50 +63,50 @@ cut_map {X} {Y} f (y ∷ before) rest (x ∷ xs) is =
 -- ---- lines
 
 -- lines that fit and have the same texts are the same
-same_lines : (design : Parts) (stimulus : InputVectors) (workers others : ℕ) (these those : List Line) → HasPlainNames design → IsSmall workers → IsSmall others
+same_lines : (design : Parts) (stimulus : InputVectors) (workers others : ℕ) (these those : List JournalLine) → HasPlainNames design → IsSmall workers → IsSmall others
     → AllByRecursion (LineFits design stimulus workers) these → AllByRecursion (LineFits design stimulus others) those → map (line_text design) these ≡ map (line_text design) those → these ≡ those
 same_lines design stimulus workers others [] [] names small few left right same = refl
 same_lines design stimulus workers others [] (b ∷ those) names small few left right same = absurd (cc)
 same_lines design stimulus workers others (a ∷ these) [] names small few left right same = absurd (cc)
 same_lines design stimulus workers others (a ∷ these) (b ∷ those) names small few left right same =
-    ap₂ (λ (l : Line) (ls : List Line). l ∷ ls) (one_line design stimulus workers others a b names small few left.0 right.0 (ap (first_or []) same))
+    ap₂ (λ (l : JournalLine) (ls : List JournalLine). l ∷ ls) (one_line design stimulus workers others a b names small few left.0 right.0 (ap (first_or []) same))
     (same_lines design stimulus workers others these those names small few left.1 right.1 (ap rest_of same))
 
 few_workers : (design : Parts) (stimulus : InputVectors) (journal : Journal) → AllByRecursion (LineFits design stimulus journal.workers) (lines_in journal) → IsSmall journal.workers
 few_workers design stimulus journal fit = omega (arith, fit.0.1)
 
-abbrev count_of : Line → ℕ
+abbrev count_of : JournalLine → ℕ
 count_of (line.Begins count) = count
 count_of (line.Batch from to) = 0
 count_of (line.Entry e) = 0
 
-abbrev from_of : Line → ℕ
+abbrev from_of : JournalLine → ℕ
 from_of (line.Begins count) = 0
 from_of (line.Batch from to) = from
 from_of (line.Entry e) = 0
 
-abbrev to_of : Line → ℕ
+abbrev to_of : JournalLine → ℕ
 to_of (line.Begins count) = 0
 to_of (line.Batch from to) = to
 to_of (line.Entry e) = 0
 
-abbrev entry_of : Entry → Line → Entry
+abbrev entry_of : Entry → JournalLine → Entry
 entry_of e (line.Begins count) = e
 entry_of e (line.Batch from to) = e
 entry_of e (line.Entry f) = f
 
-abbrev IsEntry : Line → Type 0
+abbrev IsEntry : JournalLine → Type 0
 IsEntry (line.Begins count) = ⊥
 IsEntry (line.Batch from to) = ⊥
 IsEntry (line.Entry e) = Unit {0}
 
-abbrev IsLater : Line → Type 0
+abbrev IsLater : JournalLine → Type 0
 IsLater (line.Begins count) = ⊥
 IsLater (line.Batch from to) = Unit {0}
 IsLater (line.Entry e) = Unit {0}
 
 -- an entry is no batch's first line
-no_entry : (batches : List Batch) (e : Entry) (ls : List Line) → flat_map lines_of_batch batches ≡ line.Entry e ∷ ls → ⊥
+no_entry : (batches : List Batch) (e : Entry) (ls : List JournalLine) → flat_map lines_of_batch batches ≡ line.Entry e ∷ ls → ⊥
 no_entry [] e ls same = absurd (cc)
 no_entry (batch ∷ batches) e ls same = subst IsEntry (sym (ap (first_or (line.Entry e)) same)) tt
 
@@ -127,7 +127,7 @@ same_entries [] (b ∷ those) before after same = absurd (no_entry before b (map
 same_entries (a ∷ these) [] before after same = absurd (no_entry after a (map line.Entry these ++ flat_map lines_of_batch before) (sym same))
 same_entries (a ∷ these) (b ∷ those) before after same =
     let rests = same_entries these those before after (ap rest_of same) in
-    (ap₂ (λ (e : Entry) (es : List Entry). e ∷ es) (ap (λ (ls : List Line). entry_of a (first_or (line.Entry a) ls)) same) rests.0, rests.1)
+    (ap₂ (λ (e : Entry) (es : List Entry). e ∷ es) (ap (λ (ls : List JournalLine). entry_of a (first_or (line.Entry a) ls)) same) rests.0, rests.1)
 
 same_batch : (a b : Batch) → a.from ≡ b.from → a.to ≡ b.to → a.line ≡ b.line → a.entries ≡ b.entries → a.lines ≡ b.lines → a ≡ b
 same_batch a b from to number entries lines =
@@ -144,22 +144,22 @@ same_batches (a ∷ these) (b ∷ those) left right lines numbers =
     let long : length a.lines ≡ length b.lines = left.0 ∙ ap length entries.0 ∙ sym right.0 in
     let places = same_fronts a.lines b.lines (flat_map numbers_of_batch these) (flat_map numbers_of_batch those) long (ap rest_of numbers) in
     ap₂ (λ (x : Batch) (xs : List Batch). x ∷ xs)
-    (same_batch a b (ap (λ (ls : List Line). from_of (first_or (line.Begins 0) ls)) lines) (ap (λ (ls : List Line). to_of (first_or (line.Begins 0) ls)) lines) (ap (first_or 0) numbers) entries.0 places.0)
+    (same_batch a b (ap (λ (ls : List JournalLine). from_of (first_or (line.Begins 0) ls)) lines) (ap (λ (ls : List JournalLine). to_of (first_or (line.Begins 0) ls)) lines) (ap (first_or 0) numbers) entries.0 places.0)
     (same_batches these those left.1 right.1 entries.1 places.1)
 
 -- ---- journals
 
 -- a text is one journal
-pub one_journal : (design : Parts) (stimulus : InputVectors) (first_line : ℕ) (texts : List (List ℕ)) (a b : Journal) → HasPlainNames design → AreLinesOf design stimulus first_line texts a → AreLinesOf design stimulus first_line texts b → a ≡ b
+pub one_journal : (design : Parts) (stimulus : InputVectors) (first_line : ℕ) (texts : List (List ℕ)) (a b : Journal) → HasPlainNames design → AreJournalLines design stimulus first_line texts a → AreJournalLines design stimulus first_line texts b → a ≡ b
 one_journal design stimulus first_line texts a b names is also =
     let lines = same_lines design stimulus a.workers b.workers (lines_in a) (lines_in b) names (few_workers design stimulus a is.fit) (few_workers design stimulus b also.fit) is.fit also.fit (sym is.lines ∙ also.lines) in
-    let numbers : numbers_in a ≡ numbers_in b = is.numbers ∙ sym also.numbers in
+    let numbers : journal_lines a ≡ journal_lines b = is.numbers ∙ sym also.numbers in
     let batches = same_batches a.batches b.batches is.counts also.counts (ap rest_of lines) (ap rest_of numbers) in
-    ap₂ (λ (w n : ℕ). record { workers = w; line = n; batches = a.batches }) (ap (λ (ls : List Line). count_of (first_or (line.Batch 0 0) ls)) lines) (ap (first_or 0) numbers)
+    ap₂ (λ (w n : ℕ). record { workers = w; line = n; batches = a.batches }) (ap (λ (ls : List JournalLine). count_of (first_or (line.Batch 0 0) ls)) lines) (ap (first_or 0) numbers)
     ∙ ap (λ (those : List Batch). record { workers = b.workers; line = b.line; batches = those }) batches
 
 -- a line of a journal may follow the lines before it
-follows : (design : Parts) (stimulus : InputVectors) (journal front : Journal) (l : Line) (ls : List Line) → lines_in journal ≡ lines_in front ++ l ∷ ls → LineFits design stimulus front.workers l → MayFollow design stimulus (Some front) l
+follows : (design : Parts) (stimulus : InputVectors) (journal front : Journal) (l : JournalLine) (ls : List JournalLine) → lines_in journal ≡ lines_in front ++ l ∷ ls → LineFits design stimulus front.workers l → MayFollow design stimulus (Some front) l
 follows design stimulus journal front (line.Begins count) ls is fits =
     (all_right IsLater (flat_map lines_of_batch front.batches) (line.Begins count ∷ ls) (subst (AllByRecursion IsLater) (ap rest_of is) (batches_later journal.batches))).0
 follows design stimulus journal front (line.Batch from to) ls is fits = fits
@@ -169,9 +169,9 @@ follows design stimulus journal front (line.Entry e) ls is fits = (some front.ba
     some [] same = absurd (no_entry journal.batches e ls same)
     some (batch ∷ batches) same = omega arith
 
-next_fits : (design : Parts) (stimulus : InputVectors) (journal front : Journal) (l : Line) (ls : List Line) → lines_in journal ≡ lines_in front ++ l ∷ ls → AllByRecursion (LineFits design stimulus journal.workers) (lines_in journal) → LineFits design stimulus front.workers l
+next_fits : (design : Parts) (stimulus : InputVectors) (journal front : Journal) (l : JournalLine) (ls : List JournalLine) → lines_in journal ≡ lines_in front ++ l ∷ ls → AllByRecursion (LineFits design stimulus journal.workers) (lines_in journal) → LineFits design stimulus front.workers l
 next_fits design stimulus journal front l ls is fit =
-    let workers : journal.workers ≡ front.workers = ap (λ (all : List Line). count_of (first_or (line.Batch 0 0) all)) is in
+    let workers : journal.workers ≡ front.workers = ap (λ (all : List JournalLine). count_of (first_or (line.Batch 0 0) all)) is in
     subst (λ (w : ℕ). LineFits design stimulus w l) workers
     (all_right (LineFits design stimulus journal.workers) (lines_in front) (l ∷ ls) (subst (AllByRecursion (LineFits design stimulus journal.workers)) is fit)).0
 
@@ -190,9 +190,9 @@ next_follows design stimulus first_line before (text ∷ rest) journal (Some fro
     let parts = cut_map (line_text design) before (text ∷ rest) (lines_in journal) cut in
     let left = all_left (LineFits design stimulus journal.workers) parts.0 parts.1 (subst (AllByRecursion (LineFits design stimulus journal.workers)) parts.2 fit) in
     let same = same_lines design stimulus journal.workers front.workers parts.0 (lines_in front) names (few_workers design stimulus journal fit) (few_workers design stimulus front are.fit) left are.fit (parts.3 ∙ are.lines) in
-    last parts.1 parts.4 (parts.2 ∙ ap (λ (ls : List Line). ls ++ parts.1) same)
+    last parts.1 parts.4 (parts.2 ∙ ap (λ (ls : List JournalLine). ls ++ parts.1) same)
   where
-    last : (back : List Line) → map (line_text design) back ≡ text ∷ rest → lines_in journal ≡ lines_in front ++ back → ⊥
+    last : (back : List JournalLine) → map (line_text design) back ≡ text ∷ rest → lines_in journal ≡ lines_in front ++ back → ⊥
     last [] texts is = absurd (cc)
     last (l ∷ ls) texts is = none names l (follows design stimulus journal front l ls is (next_fits design stimulus journal front l ls is fit)) (sym (ap (first_or []) texts))
 

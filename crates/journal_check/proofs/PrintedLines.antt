@@ -13,7 +13,7 @@ use Rattle.journal_check.specs.Journals.{lines_in}
 use Rattle.journal_check.specs.Printing.{ended, journal_text, line_text, line_tokens, text_of}
 use Rattle.journal_check.specs.Reading.{HasShownNames, is_shown}
 use Rattle.journal_check.specs.declared.journal.Journal.{Journal}
-use Rattle.journal_check.specs.declared.line.Line.{Line}
+use Rattle.journal_check.specs.declared.line.JournalLine.{JournalLine}
 use Rattle.journal_check.proofs.Cutting.{HasVisible, joined_in, tokens_in}
 use Rattle.journal_check.proofs.Pieces.{piece_first}
 
@@ -59,12 +59,12 @@ cut_first text rest h =
     (piece_first 10 (ended text ++ rest) text 10 rest (append_assoc text (10 ∷ []) rest) (AllPass-from_list_all (λ x. not (x == 10)) text (within is_shown (λ x. not (x == 10)) no_feed text h)) refl)
     ∙ ap (λ (t : List ℕ). t ∷ lines_of rest) (stays text h)
 
-cut_lines : (design : Parts) (ls : List Line) → AllByRecursion (λ (l : Line). list_all is_shown (line_text design l) ≡ true) ls → lines_of (text_of design ls) ≡ map (line_text design) ls
+cut_lines : (design : Parts) (ls : List JournalLine) → AllByRecursion (λ (l : JournalLine). list_all is_shown (line_text design l) ≡ true) ls → lines_of (text_of design ls) ≡ map (line_text design) ls
 cut_lines design [] all = lines_of-nil
 cut_lines design (l ∷ ls) all = cut_first (line_text design l) (text_of design ls) all.0 ∙ ap (λ (ts : List (List ℕ)). line_text design l ∷ ts) (cut_lines design ls all.1)
 
-lines_shown : (design : Parts) (stimulus : InputVectors) (workers : ℕ) → HasShownNames design → IsSmall workers → (ls : List Line) → AllByRecursion (LineFits design stimulus workers) ls
-    → AllByRecursion (λ (l : Line). list_all is_shown (line_text design l) ≡ true) ls
+lines_shown : (design : Parts) (stimulus : InputVectors) (workers : ℕ) → HasShownNames design → IsSmall workers → (ls : List JournalLine) → AllByRecursion (LineFits design stimulus workers) ls
+    → AllByRecursion (λ (l : JournalLine). list_all is_shown (line_text design l) ≡ true) ls
 lines_shown design stimulus workers names small [] all = tt
 lines_shown design stimulus workers names small (l ∷ ls) all = (
   joined_in is_shown refl (line_tokens design l) (tokens_in is_shown visible_shown design (record { registers = names.registers; rules = names.rules }) stimulus workers l small all.0),

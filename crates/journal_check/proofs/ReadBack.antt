@@ -22,11 +22,11 @@ use Rattle.attempt_log.specs.declared.entry.Settled.TheVariants as settled
 use Rattle.attempt_log.specs.declared.entry.Taken.{Taken}
 use Rattle.attempt_log.specs.declared.entry.Taken.TheVariants as taken
 use Rattle.stim_report.specs.Report.{hex_digit, hex_digits}
-use Rattle.journal_check.specs.Fitting.{AccessFits, CauseFits, EventFits, IsRule, IsSmall, LineFits, OutcomeFits, SettledFits, StaleFits, ValueFits}
+use Rattle.journal_check.specs.Fitting.{AccessFits, CauseFits, RegisterEventFits, IsRule, IsSmall, LineFits, OutcomeFits, SettledFits, StaleFits, RegisterValueFits}
 use Rattle.journal_check.specs.Printing.{access_text, cause_tokens, event_text, line_tokens, outcome_tokens, register_name, rule_name, settled_tokens, stale_tokens, taken_text, value_text}
 use Rattle.journal_check.specs.inner.Tokens.{◌>>=◌, access_at, access_read, batch_at, begin_at, bits_of, cause_at, clash_cause, closed_at, committed_at, event_read, events_at, head_at, line_at, number_at, outcome_at, outdated_at, own_cause, rule_at, settle_at, settled_at, skipped_at, stale_at, submit_at, taken_read, value_of, waiting_at}
-use Rattle.journal_check.specs.declared.line.Line.{Line}
-use Rattle.journal_check.specs.declared.line.Line.TheVariants as line
+use Rattle.journal_check.specs.declared.line.JournalLine.{JournalLine}
+use Rattle.journal_check.specs.declared.line.JournalLine.TheVariants as line
 use Rattle.journal_check.proofs.Digits.{digit_not, number_read-decimal, value_read-hex}
 use Rattle.journal_check.proofs.EventsCut.{cut_event, has_no_equals}
 
@@ -70,7 +70,7 @@ bits_back width value is small =
     ap (λ (b : Bool). if b then Some (record { width = width; number = value.number }) else None) (lt-ltb value.number (2 ^ width) small)
     ∙ ap (λ (w : ℕ). Some (record { width = w; number = value.number })) (sym is)
 
-value_back : (design : Parts) (register : ℕ) (value : BitVector) → ValueFits design register value → value_of design register (value_text value) ≡ Some value
+value_back : (design : Parts) (register : ℕ) (value : BitVector) → RegisterValueFits design register value → value_of design register (value_text value) ≡ Some value
 value_back design register value h =
     let width = h.0 in
     let bits = h.2.0 in
@@ -87,7 +87,7 @@ digits_no_equals : (count n : ℕ) → has_no_equals (hex_digits count n) ≡ tr
 digits_no_equals zero n = refl
 digits_no_equals (suc count) n = ap₂ (λ (a b : Bool). a && b) (digit_no_equals _) (digits_no_equals count n)
 
-event_back : (design : Parts) (e : Event) → EventFits design e → event_read design (event_text design e) ≡ Some e
+event_back : (design : Parts) (e : Event) → RegisterEventFits design e → event_read design (event_text design e) ≡ Some e
 unfolding event_read
 event_back design e h =
     rw (cut_event (access_text design e.access) (value_text e.value) (omega arith) (digits_no_equals ((e.value.width + 3) / 4) e.value.number), access_back design e.access h.access, value_back design e.access.register e.value h.value) refl
@@ -96,7 +96,7 @@ not_colon : (write : Bool) (rest : List ℕ) → bytes_eq ((if write then 119 el
 not_colon true rest = refl
 not_colon false rest = refl
 
-events_back : (design : Parts) (events : List Event) (rest : List (List ℕ)) → AllByRecursion (EventFits design) events → events_at design (map (event_text design) events ++ codes ":" ∷ rest) ≡ Some (events, rest)
+events_back : (design : Parts) (events : List Event) (rest : List (List ℕ)) → AllByRecursion (RegisterEventFits design) events → events_at design (map (event_text design) events ++ codes ":" ∷ rest) ≡ Some (events, rest)
 events_back design [] rest all = refl
 events_back design (e ∷ events) rest all =
     rw (not_colon e.access.write (decimal e.access.port ++ 58 ∷ register_name design e.access.register ++ 61 ∷ value_text e.value), event_back design e all.0, events_back design events rest all.1) refl
@@ -139,7 +139,7 @@ settled_back design settled.Finished h = refl
 -- ---- lines
 
 submit_back : (design : Parts) (stimulus : InputVectors) (worker cycle r : ℕ) (events : List Event) (ending : Outcome) (answer : Taken)
-    → IsSmall worker → IsSmall cycle → IsRule design r → AllByRecursion (EventFits design) events → OutcomeFits design ending
+    → IsSmall worker → IsSmall cycle → IsRule design r → AllByRecursion (RegisterEventFits design) events → OutcomeFits design ending
     → submit_at design stimulus (decimal worker ∷ decimal cycle ∷ rule_name design r ∷ (outcome_tokens design ending ++ (map (event_text design) events ++ (codes ":" ∷ taken_text answer ∷ []))))
     ≡ Some (line.Entry (entry.Submit worker cycle r (inputs_of stimulus cycle) events ending answer))
 unfolding submit_at
@@ -169,7 +169,7 @@ unfolding begin_at
 begin_back workers small = ap (λ (k : ℕ). Some (line.Begins k)) (number_read-decimal workers small)
 
 -- a line that fits is read back
-pub line_back : (design : Parts) (stimulus : InputVectors) (workers : ℕ) (l : Line) → IsSmall workers → LineFits design stimulus workers l → line_at design stimulus (line_tokens design l) ≡ Some l
+pub line_back : (design : Parts) (stimulus : InputVectors) (workers : ℕ) (l : JournalLine) → IsSmall workers → LineFits design stimulus workers l → line_at design stimulus (line_tokens design l) ≡ Some l
 unfolding line_at
 line_back design stimulus workers (line.Begins count) small h = begin_back count (omega (arith, h.1))
 line_back design stimulus workers (line.Batch from to) small h = batch_back from to h.0 h.1

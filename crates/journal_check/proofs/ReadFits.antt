@@ -17,8 +17,8 @@ use Rattle.journal_check.specs.Printing.{rule_name}
 use Rattle.journal_check.specs.Reading.{IsNumbered}
 use Rattle.journal_check.specs.Tokens.{rule_names}
 use Rattle.journal_check.specs.declared.journal.Batch.{Batch}
-use Rattle.journal_check.specs.declared.line.Line.{Line}
-use Rattle.journal_check.specs.declared.line.Line.TheVariants as line
+use Rattle.journal_check.specs.declared.line.JournalLine.{JournalLine}
+use Rattle.journal_check.specs.declared.line.JournalLine.TheVariants as line
 
 -- the design has a rule of a name that was found
 rule_below : (design : Parts) (rule : ℕ) → IsRule design rule → rule < length design.rules
@@ -35,11 +35,11 @@ module _ (design : Parts) (stimulus : InputVectors) (workers : ℕ) where
   entries_fit [] all = tt
   entries_fit (e ∷ entries) all = (entry_fits e all.0, entries_fit entries all.1)
 
-  front : (xs ys : List Line) → AllByRecursion (LineFits design stimulus workers) (xs ++ ys) → AllByRecursion (LineFits design stimulus workers) xs
+  front : (xs ys : List JournalLine) → AllByRecursion (LineFits design stimulus workers) (xs ++ ys) → AllByRecursion (LineFits design stimulus workers) xs
   front [] ys all = tt
   front (x ∷ xs) ys all = (all.0, front xs ys all.1)
 
-  back : (xs ys : List Line) → AllByRecursion (LineFits design stimulus workers) (xs ++ ys) → AllByRecursion (LineFits design stimulus workers) ys
+  back : (xs ys : List JournalLine) → AllByRecursion (LineFits design stimulus workers) (xs ++ ys) → AllByRecursion (LineFits design stimulus workers) ys
   back [] ys all = all
   back (x ∷ xs) ys all = back xs ys all.1
 

@@ -34,7 +34,7 @@ use Rattle.board_core.specs.declared.event.BoardEvent.{BoardEvent}
 use Rattle.board_core.specs.declared.event.BoardEvent.TheVariants as event
 use Rattle.board_core.proofs.Histories.{legal_goes_on}
 use Rattle.board_core.proofs.Legal.{traces_submit}
-use Rattle.journal_check.specs.Checking.{Closes, IsFirstWrong, IsWrong, SubmitsRule, at_line}
+use Rattle.journal_check.specs.Checking.{Closes, IsFirstWrong, IsWrongEntry, SubmitsRule, at_line}
 use Rattle.journal_check.specs.declared.journal.Batch.{Batch}
 use Rattle.journal_check.specs.inner.Replaying.{Answers, AnswersOtherwise, IsFaultAt, IsWrongAt, Leaves, Makes, run_in}
 
@@ -133,7 +133,7 @@ makes_more o log k new e leaves legal makes =
     (next.0, record { opening = makes.answers.opening ∙ leaves.opening; stands = subst (StandsFor new) (sym next.1) there.1 })
 
 -- what is wrong where the core is, is wrong after the history that left it
-pub wrong_after : (o : Opening) (log : List Entry) (k : Kept) (e : Entry) (number : ℕ) → Leaves o log k → IsWrongAt k e number → IsWrong o log e number
+pub wrong_after : (o : Opening) (log : List Entry) (k : Kept) (e : Entry) (number : ℕ) → Leaves o log k → IsWrongAt k e number → IsWrongEntry o log e number
 wrong_after o log k e number leaves wrong = elim wrong [ inl w ↦ inl (w.0, untraced w.1) | inr other ↦ inr (other.0, traced other.1, otherwise other.2) ]
   where
     traced : IsTraced k.opening e → IsTraced o e

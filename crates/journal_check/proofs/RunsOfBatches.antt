@@ -19,7 +19,7 @@ use Rattle.one_rule.proofs.Runs.{rows_are_cycles, runs_fit, runs_in_parts}
 use Rattle.board_core.specs.Board.{Opening}
 use Rattle.board_core.specs.History.{board_after}
 use Rattle.board_core.specs.Kept.{AtPlain, Kept}
-use Rattle.journal_check.specs.Checking.{AreGood, BatchFits, Closes, IsDue, IsFaultFrom, IsFaultOf, IsFirstFault, IsGood, IsGoodBatch, at_line, left_by, opening_of}
+use Rattle.journal_check.specs.Checking.{AreGood, BatchFits, Closes, IsDue, IsFaultFrom, IsFaultOf, IsFirstJournalFault, IsGood, IsGoodBatch, at_line, left_by, opening_of}
 use Rattle.journal_check.specs.inner.Replaying.{Leaves, run_in}
 use Rattle.journal_check.specs.declared.journal.Batch.{Batch}
 use Rattle.journal_check.proofs.Replays.{closed_run}
@@ -111,7 +111,7 @@ pub record HasRechecked (design : Parts) (stimulus : InputVectors) (n : ℕ) (jo
   pub run : rows ≡ run_of design (inputs_of stimulus) from
   pub fits : AllByRecursion (BatchFits design stimulus) (drop i journal.batches)
   pub good : AreGood design stimulus n from (last_registers [] rows) (drop i journal.batches) → IsGood design stimulus n journal
-  pub faulty : (fault : Fault) → IsFaultFrom design stimulus n journal.line from (last_registers [] rows) (drop i journal.batches) fault → IsFirstFault design stimulus n journal fault
+  pub faulty : (fault : Fault) → IsFaultFrom design stimulus n journal.line from (last_registers [] rows) (drop i journal.batches) fault → IsFirstJournalFault design stimulus n journal fault
 
 module _ (design : Parts) (stimulus : InputVectors) (n : ℕ) (journal : Journal) where
   pub none_rechecked : (rows : List Row) → rows ≡ run_of design (inputs_of stimulus) 0 → AllByRecursion (BatchFits design stimulus) journal.batches → HasRechecked design stimulus n journal 0 0 rows
@@ -132,7 +132,7 @@ module _ (design : Parts) (stimulus : InputVectors) (n : ℕ) (journal : Journal
     all_good past ends =
         so_far.good (subst (AreGood design stimulus n from (last_registers [] rows)) (sym (drop_all i journal.batches past)) ends)
 
-    pub ends_early : length journal.batches ≤ i → from ≢ n → IsFirstFault design stimulus n journal (at_line 83 journal.line)
+    pub ends_early : length journal.batches ≤ i → from ≢ n → IsFirstJournalFault design stimulus n journal (at_line 83 journal.line)
     ends_early past early =
         so_far.faulty (at_line 83 journal.line)
         (subst (λ (bs : List Batch). IsFaultFrom design stimulus n journal.line from (last_registers [] rows) bs (at_line 83 journal.line)) (sym (drop_all i journal.batches past)) (early, refl))
@@ -147,7 +147,7 @@ module _ (design : Parts) (stimulus : InputVectors) (n : ℕ) (journal : Journal
       pub next_batch_fits : BatchFits design stimulus batch
       next_batch_fits = (subst (AllByRecursion (BatchFits design stimulus)) batches_from so_far.fits).0
 
-      faulty_from : (fault : Fault) → IsFaultFrom design stimulus n journal.line from regs (batch ∷ drop (i + 1) journal.batches) fault → IsFirstFault design stimulus n journal fault
+      faulty_from : (fault : Fault) → IsFaultFrom design stimulus n journal.line from regs (batch ∷ drop (i + 1) journal.batches) fault → IsFirstJournalFault design stimulus n journal fault
       faulty_from fault wrong =
           so_far.faulty fault (subst (λ (bs : List Batch). IsFaultFrom design stimulus n journal.line from (last_registers [] rows) bs fault) (sym batches_from) (
           subst (λ (r : List BitVector). IsFaultFrom design stimulus n journal.line from r (batch ∷ drop (i + 1) journal.batches) fault) last wrong))
@@ -170,7 +170,7 @@ module _ (design : Parts) (stimulus : InputVectors) (n : ℕ) (journal : Journal
       }
 
       -- the batch has a fault
-      pub next_faulty : (fault : Fault) → IsFaultOf n from o batch fault → IsFirstFault design stimulus n journal fault
+      pub next_faulty : (fault : Fault) → IsFaultOf n from o batch fault → IsFirstJournalFault design stimulus n journal fault
       next_faulty fault wrong = faulty_from fault (inl wrong)
 
 -- what is a fault of a call is one of its caller

@@ -28,13 +28,13 @@ use Rattle.attempt_log.specs.declared.entry.Settled.{Settled}
 use Rattle.attempt_log.specs.declared.entry.Settled.TheVariants as settled
 use Rattle.stim_report.specs.Assignments.{name_and_value}
 use Rattle.journal_check.specs.inner.Allowed.{Differs, IsAllowed}
-use Rattle.journal_check.specs.Fitting.{AccessFits, CauseFits, EventFits, IsRegister, IsRule, IsSmall, LineFits, OutcomeFits, SettledFits, ValueFits}
+use Rattle.journal_check.specs.Fitting.{AccessFits, CauseFits, RegisterEventFits, IsRegister, IsRule, IsSmall, LineFits, OutcomeFits, SettledFits, RegisterValueFits}
 use Rattle.journal_check.specs.Numbers.{number_read, value_read, with_decimal}
 use Rattle.journal_check.specs.Printing.{name_of_register, name_of_rule, register_name}
 use Rattle.journal_check.specs.Tokens.{number_named, register_names, rule_names}
 use Rattle.journal_check.specs.inner.Tokens.{◌>>=◌, access_at, access_read, batch_at, begin_at, bits_of, cause_at, clash_cause, closed_at, committed_at, event_read, events_at, head_at, line_at, number_at, outcome_at, outdated_at, own_at, own_cause, rule_at, settle_at, settled_at, skipped_at, stale_at, submit_at, token_at, value_of, waiting_at}
 use Rattle.journal_check.specs.declared.head.Head.{Head}
-use Rattle.journal_check.specs.declared.line.Line.{Line}
+use Rattle.journal_check.specs.declared.line.JournalLine.{JournalLine}
 
 -- ---- options and tests
 
@@ -130,7 +130,7 @@ made : (w n : ℕ) (v : BitVector) → IsWidth w → (b : Bool) → nat_lt n (2 
 made w n v wide true t h = subst (λ (x : BitVector). HasWidth x w) (same_value _ _ h) (record { some_bit = wide.0; no_wider = wide.1; in_range = ltb-true n (2 ^ w) t }, refl)
 made w n v wide false t h = absurd (cc)
 
-value_fits : (design : Parts) → IsValid design → (register : ℕ) (digits : List ℕ) (v : BitVector) → IsRegister design register → value_of design register digits ≡ Some v → ValueFits design register v
+value_fits : (design : Parts) → IsValid design → (register : ℕ) (digits : List ℕ) (v : BitVector) → IsRegister design register → value_of design register digits ≡ Some v → RegisterValueFits design register v
 value_fits design sound register digits v named h =
     let count : length (register_names design) ≡ length design.regs = length-map design.regs (λ (decl : RegDecl). decl.name) in
     let within : register < length design.regs = omega (arith, count, (position-Some (bytes_eq (register_name design register)) (register_names design) register [] named).0) in
@@ -138,25 +138,25 @@ value_fits design sound register digits v named h =
     let h' : bits_of w.0 (value_read digits) ≡ Some v = ap (λ (o : Option ℕ). o >>= λ (width : ℕ). bits_of width (value_read digits)) (sym w.1) ∙ h in
     (w.0, w.1, made w.0 (value_read digits) v w.2 (nat_lt (value_read digits) (2 ^ w.0)) refl h')
 
-event_fits : (design : Parts) → IsValid design → (token : List ℕ) (e : Event) → event_read design token ≡ Some e → EventFits design e
+event_fits : (design : Parts) → IsValid design → (token : List ℕ) (e : Event) → event_read design token ≡ Some e → RegisterEventFits design e
 unfolding event_read
 event_fits design sound token e h =
     let parts = first_of (name_and_value token) _ e h in
     let access = first_of (access_read design parts.0.0) _ e parts.2 in
     let value = first_of (value_of design access.0.register parts.0.1) _ e access.2 in
     let fits = access_fits design parts.0.0 access.0 access.1 in
-    subst (EventFits design) (same_value _ _ value.2) (record { access = fits; value = value_fits design sound access.0.register parts.0.1 value.0 fits.register value.1 })
+    subst (RegisterEventFits design) (same_value _ _ value.2) (record { access = fits; value = value_fits design sound access.0.register parts.0.1 value.0 fits.register value.1 })
 
 events_by : (design : Parts) (token : List ℕ) (tokens : List (List ℕ)) (read : List Event × List (List ℕ)) (b : Bool) → IsValid design
-    → ((more : List Event × List (List ℕ)) → events_at design tokens ≡ Some more → AllByRecursion (EventFits design) more.0)
-    → (if b then Some ([], tokens) else (event_read design token >>= λ (event : Event). events_at design tokens >>= λ (events : List Event × List (List ℕ)). Some (event ∷ events.0, events.1))) ≡ Some read → AllByRecursion (EventFits design) read.0
-events_by design token tokens read true sound again k = subst (λ (r : List Event × List (List ℕ)). AllByRecursion (EventFits design) r.0) (same_value _ _ k) tt
+    → ((more : List Event × List (List ℕ)) → events_at design tokens ≡ Some more → AllByRecursion (RegisterEventFits design) more.0)
+    → (if b then Some ([], tokens) else (event_read design token >>= λ (event : Event). events_at design tokens >>= λ (events : List Event × List (List ℕ)). Some (event ∷ events.0, events.1))) ≡ Some read → AllByRecursion (RegisterEventFits design) read.0
+events_by design token tokens read true sound again k = subst (λ (r : List Event × List (List ℕ)). AllByRecursion (RegisterEventFits design) r.0) (same_value _ _ k) tt
 events_by design token tokens read false sound again k =
     let event = first_of (event_read design token) _ read k in
     let events = first_of (events_at design tokens) _ read event.2 in
-    subst (λ (r : List Event × List (List ℕ)). AllByRecursion (EventFits design) r.0) (same_value _ _ events.2) (event_fits design sound token event.0 event.1, again events.0 events.1)
+    subst (λ (r : List Event × List (List ℕ)). AllByRecursion (RegisterEventFits design) r.0) (same_value _ _ events.2) (event_fits design sound token event.0 event.1, again events.0 events.1)
 
-events_fit : (design : Parts) → IsValid design → (tokens : List (List ℕ)) (read : List Event × List (List ℕ)) → events_at design tokens ≡ Some read → AllByRecursion (EventFits design) read.0
+events_fit : (design : Parts) → IsValid design → (tokens : List (List ℕ)) (read : List Event × List (List ℕ)) → events_at design tokens ≡ Some read → AllByRecursion (RegisterEventFits design) read.0
 events_fit design sound [] read h = absurd (cc)
 events_fit design sound (token ∷ tokens) read h = events_by design token tokens read (bytes_eq token (codes ":")) sound (λ more k. events_fit design sound tokens more k) h
 
@@ -204,8 +204,8 @@ cause_fits design tokens why h =
 -- a stale read but for the test of its values
 pub record AlmostFits (design : Parts) (read : StaleRead) : Type 0 where
   pub access : AccessFits design (read_at read.port read.register)
-  pub held : ValueFits design read.register read.held
-  pub now_value : ValueFits design read.register read.now
+  pub held : RegisterValueFits design read.register read.held
+  pub now_value : RegisterValueFits design read.register read.now
 
 stale_almost : (design : Parts) → IsValid design → (tokens : List (List ℕ)) (read : StaleRead) → stale_at design tokens ≡ Some read → AlmostFits design read
 unfolding stale_at
@@ -275,7 +275,7 @@ settled_fits design sound tokens s h =
 
 -- ---- lines
 
-submit_fits : (design : Parts) (stimulus : InputVectors) (workers : ℕ) → IsValid design → (tokens : List (List ℕ)) (l : Line) → submit_at design stimulus tokens ≡ Some l → IsAllowed workers l → LineFits design stimulus workers l
+submit_fits : (design : Parts) (stimulus : InputVectors) (workers : ℕ) → IsValid design → (tokens : List (List ℕ)) (l : JournalLine) → submit_at design stimulus tokens ≡ Some l → IsAllowed workers l → LineFits design stimulus workers l
 unfolding submit_at
 submit_fits design stimulus workers sound tokens l h =
     let worker = first_of (number_at tokens) _ l h in
@@ -283,40 +283,40 @@ submit_fits design stimulus workers sound tokens l h =
     let ending = first_of (outcome_at design head.0.1) _ l head.2 in
     let events = first_of (events_at design ending.0.1) _ l ending.2 in
     let word = first_of (token_at events.0.1) _ l events.2 in
-    subst (λ (m : Line). IsAllowed workers m → LineFits design stimulus workers m) (same_value _ _ word.2)
+    subst (λ (m : JournalLine). IsAllowed workers m → LineFits design stimulus workers m) (same_value _ _ word.2)
     (λ allowed. (allowed.0, allowed.1, allowed.2, (head_front design worker.0.1 head.0 head.1).1, refl, events_fit design sound ending.0.1 events.0 events.1, outcome_front design head.0.1 ending.0 ending.1))
 
-settle_fits : (design : Parts) (stimulus : InputVectors) (workers : ℕ) → IsValid design → (tokens : List (List ℕ)) (l : Line) → settle_at design tokens ≡ Some l → IsAllowed workers l → LineFits design stimulus workers l
+settle_fits : (design : Parts) (stimulus : InputVectors) (workers : ℕ) → IsValid design → (tokens : List (List ℕ)) (l : JournalLine) → settle_at design tokens ≡ Some l → IsAllowed workers l → LineFits design stimulus workers l
 unfolding settle_at
 settle_fits design stimulus workers sound tokens l h =
     let worker = first_of (number_at tokens) _ l h in
     let colon = first_of (token_at worker.0.1) _ l worker.2 in
     let answer = first_of (settled_at design colon.0.1) _ l colon.2 in
-    subst (λ (m : Line). IsAllowed workers m → LineFits design stimulus workers m) (same_value _ _ answer.2)
+    subst (λ (m : JournalLine). IsAllowed workers m → LineFits design stimulus workers m) (same_value _ _ answer.2)
     (λ allowed. (allowed.0, settled_fits design sound colon.0.1 answer.0 answer.1 allowed.1))
 
-batch_fits : (design : Parts) (stimulus : InputVectors) (workers : ℕ) (tokens : List (List ℕ)) (l : Line) → batch_at tokens ≡ Some l → IsAllowed workers l → LineFits design stimulus workers l
+batch_fits : (design : Parts) (stimulus : InputVectors) (workers : ℕ) (tokens : List (List ℕ)) (l : JournalLine) → batch_at tokens ≡ Some l → IsAllowed workers l → LineFits design stimulus workers l
 unfolding batch_at
 batch_fits design stimulus workers tokens l h =
     let from = first_of (number_at tokens) _ l h in
     let to = first_of (number_at from.0.1) _ l from.2 in
-    subst (λ (m : Line). IsAllowed workers m → LineFits design stimulus workers m) (same_value _ _ to.2)
+    subst (λ (m : JournalLine). IsAllowed workers m → LineFits design stimulus workers m) (same_value _ _ to.2)
     (λ allowed. (number_front tokens from.0 from.1, number_front from.0.1 to.0 to.1))
 
-begin_fits : (design : Parts) (stimulus : InputVectors) (workers : ℕ) (tokens : List (List ℕ)) (l : Line) → begin_at tokens ≡ Some l → IsAllowed workers l → LineFits design stimulus workers l
+begin_fits : (design : Parts) (stimulus : InputVectors) (workers : ℕ) (tokens : List (List ℕ)) (l : JournalLine) → begin_at tokens ≡ Some l → IsAllowed workers l → LineFits design stimulus workers l
 unfolding begin_at
 begin_fits design stimulus workers tokens l h =
     let word = first_of (token_at tokens) _ l h in
-    subst (λ (m : Line). IsAllowed workers m → LineFits design stimulus workers m) (same_value _ _ word.2) (λ allowed. allowed)
+    subst (λ (m : JournalLine). IsAllowed workers m → LineFits design stimulus workers m) (same_value _ _ word.2) (λ allowed. allowed)
 
-line_made : (design : Parts) (stimulus : InputVectors) (workers : ℕ) → IsValid design → (tokens : List (List ℕ)) (l : Line) (a b c : Bool)
+line_made : (design : Parts) (stimulus : InputVectors) (workers : ℕ) → IsValid design → (tokens : List (List ℕ)) (l : JournalLine) (a b c : Bool)
     → (if a then submit_at design stimulus tokens else if b then settle_at design tokens else if c then batch_at tokens else begin_at tokens) ≡ Some l → IsAllowed workers l → LineFits design stimulus workers l
 line_made design stimulus workers sound tokens l true b c h = submit_fits design stimulus workers sound tokens l h
 line_made design stimulus workers sound tokens l false true c h = settle_fits design stimulus workers sound tokens l h
 line_made design stimulus workers sound tokens l false false true h = batch_fits design stimulus workers tokens l h
 line_made design stimulus workers sound tokens l false false false h = begin_fits design stimulus workers tokens l h
 
-pub line_fits : (design : Parts) (stimulus : InputVectors) (workers : ℕ) → IsValid design → (tokens : List (List ℕ)) (l : Line) → line_at design stimulus tokens ≡ Some l → IsAllowed workers l → LineFits design stimulus workers l
+pub line_fits : (design : Parts) (stimulus : InputVectors) (workers : ℕ) → IsValid design → (tokens : List (List ℕ)) (l : JournalLine) → line_at design stimulus tokens ≡ Some l → IsAllowed workers l → LineFits design stimulus workers l
 unfolding line_at
 line_fits design stimulus workers sound tokens l h =
     let word = first_of (token_at tokens) _ l h in

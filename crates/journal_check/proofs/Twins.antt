@@ -31,21 +31,21 @@ use Rattle.attempt_log.specs.declared.entry.Entry.TheVariants as entry
 use Rattle.attempt_log.specs.declared.entry.Settled.{Settled}
 use Rattle.attempt_log.specs.declared.entry.Settled.TheVariants as settled
 use Rattle.attempt_log.specs.declared.entry.Submitted.TheVariants as submitted
-use Rattle.board_core.specs.Board.{Board, Opening, Slots, Step, closed, head, is_ahead, is_late, judged, opened, replaced, run_events, settle, settle_at, settle_with, settled_by, stands, stays, step, stored, submit, without}
+use Rattle.board_core.specs.Board.{Board, Opening, Slots, BoardStep, closed, head, is_ahead, is_late, judged, opened, with_slot, run_events, settle, settle_at, settle_with, settled_by, stands, stays, step, stored, submit, without}
 use Rattle.board_core.specs.History.{IsLegal, SubmitsFor, Told, answers_after, board_after, event_of, events_of, told_of}
 use Rattle.board_core.specs.Laws.{IsTraced}
 use Rattle.board_core.specs.declared.event.BoardAnswer.TheVariants as answer
-use Rattle.journal_check.specs.Checking.{AreGood, Closes, IsFaultFrom, IsFaultOf, IsFaultOfEntries, IsFirstWrong, IsGoodBatch, IsWrong, left_by, opening_of}
-use Rattle.journal_check.specs.Fitting.{AccessFits, CauseFits, EventFits, IsRule, LineFits, OutcomeFits, SettledFits}
+use Rattle.journal_check.specs.Checking.{AreGood, Closes, IsFaultFrom, IsFaultOf, IsFaultOfEntries, IsFirstWrong, IsGoodBatch, IsWrongEntry, left_by, opening_of}
+use Rattle.journal_check.specs.Fitting.{AccessFits, CauseFits, RegisterEventFits, IsRule, LineFits, OutcomeFits, SettledFits}
 use Rattle.journal_check.specs.Journals.{lines_in}
-use Rattle.journal_check.specs.Printing.{access_text, cause_tokens, event_text, joined, line_text, line_tokens, name_of_rule, outcome_tokens, rule_name, settled_tokens, stale_tokens, taken_text}
-use Rattle.journal_check.specs.Reading.{AreFront, AreLinesOf, HasPlainNames, IsPlain, MayFollow, NoneFollows}
+use Rattle.journal_check.specs.Printing.{access_text, cause_tokens, event_text, joined_tokens, line_text, line_tokens, name_of_rule, outcome_tokens, rule_name, settled_tokens, stale_tokens, taken_text}
+use Rattle.journal_check.specs.Reading.{AreFront, AreJournalLines, HasPlainNames, IsPlain, MayFollow, NoneFollows}
 use Rattle.journal_check.specs.Tokens.{number_named, rule_names}
 use Rattle.journal_check.specs.Twins.{AreTwins, TwinsFailAlike, TwinsPassAlike, TwinsReadAlike, TwinsStopAlike}
 use Rattle.journal_check.specs.declared.journal.Batch.{Batch}
 use Rattle.journal_check.specs.declared.journal.Journal.{Journal}
-use Rattle.journal_check.specs.declared.line.Line.{Line}
-use Rattle.journal_check.specs.declared.line.Line.TheVariants as line
+use Rattle.journal_check.specs.declared.line.JournalLine.{JournalLine}
+use Rattle.journal_check.specs.declared.line.JournalLine.TheVariants as line
 use Rattle.stim_report.specs.Cuts.{lines_of}
 
 -- ---- rules of the same names
@@ -98,7 +98,7 @@ module _ (d : Parts) (rules : List Rule) (names : rule_names d ≡ names_of rule
   outcome-same outcome.Abort = refl
   outcome-same (outcome.OwnClash a) = refl
 
-  tokens-same : (l : Line) → line_tokens d l ≡ line_tokens other l
+  tokens-same : (l : JournalLine) → line_tokens d l ≡ line_tokens other l
   tokens-same (line.Begins count) = refl
   tokens-same (line.Batch from to) = refl
   tokens-same (line.Entry (entry.Submit worker cycle rule inputs events ending answer)) =
@@ -106,8 +106,8 @@ module _ (d : Parts) (rules : List Rule) (names : rule_names d ≡ names_of rule
       (rule_name-same rule) (outcome-same ending)
   tokens-same (line.Entry (entry.Settle worker told)) = ap (λ (rest : List (List ℕ)). codes "t" ∷ decimal worker ∷ codes ":" ∷ rest) (settled-same told)
 
-  line-same : (l : Line) → line_text d l ≡ line_text other l
-  line-same l = ap joined (tokens-same l)
+  line-same : (l : JournalLine) → line_text d l ≡ line_text other l
+  line-same l = ap joined_tokens (tokens-same l)
 
   rule_is : (number : ℕ) → IsRule d number → IsRule other number
   rule_is number h = ap₂ (λ (all : List (List ℕ)) (name : List ℕ). number_named all name) (sym names) (sym (rule_name-same number)) ∙ h
@@ -115,7 +115,7 @@ module _ (d : Parts) (rules : List Rule) (names : rule_names d ≡ names_of rule
   access_fits : (a : Access) → AccessFits d a → AccessFits other a
   access_fits a h = record { port = h.port; register = h.register }
 
-  event_fits : (e : Event) → EventFits d e → EventFits other e
+  event_fits : (e : Event) → RegisterEventFits d e → RegisterEventFits other e
   event_fits e h = record { access = access_fits e.access h.access; value = h.value }
 
   outcome_fits : (ending : Outcome) → OutcomeFits d ending → OutcomeFits other ending
@@ -138,17 +138,17 @@ module _ (d : Parts) (rules : List Rule) (names : rule_names d ≡ names_of rule
   settled_fits settled.Finished h = tt
 
   module _ (stimulus : InputVectors) where
-    line_fits : (workers : ℕ) (l : Line) → LineFits d stimulus workers l → LineFits other stimulus workers l
+    line_fits : (workers : ℕ) (l : JournalLine) → LineFits d stimulus workers l → LineFits other stimulus workers l
     line_fits workers (line.Begins count) h = h
     line_fits workers (line.Batch from to) h = h
     line_fits workers (line.Entry (entry.Submit worker cycle rule inputs events ending answer)) h =
-        (h.0, h.1, h.2, rule_is rule h.3, h.4, all_to (EventFits d) (EventFits other) events event_fits h.5, outcome_fits ending h.6)
+        (h.0, h.1, h.2, rule_is rule h.3, h.4, all_to (RegisterEventFits d) (RegisterEventFits other) events event_fits h.5, outcome_fits ending h.6)
     line_fits workers (line.Entry (entry.Settle worker told)) h = (h.0, settled_fits told h.1)
 
-    are_lines : (first_line : ℕ) (texts : List (List ℕ)) (journal : Journal) → AreLinesOf d stimulus first_line texts journal → AreLinesOf other stimulus first_line texts journal
+    are_lines : (first_line : ℕ) (texts : List (List ℕ)) (journal : Journal) → AreJournalLines d stimulus first_line texts journal → AreJournalLines other stimulus first_line texts journal
     are_lines first_line texts journal h =
         record {
-          lines = h.lines ∙ ap (λ (text : Line → List ℕ). map text (lines_in journal)) (λ i l. line-same l i);
+          lines = h.lines ∙ ap (λ (text : JournalLine → List ℕ). map text (lines_in journal)) (λ i l. line-same l i);
           fit = all_to (LineFits d stimulus journal.workers) (LineFits other stimulus journal.workers) (lines_in journal) (line_fits journal.workers) h.fit;
           numbers = h.numbers;
           counts = h.counts;
@@ -158,7 +158,7 @@ module _ (d : Parts) (rules : List Rule) (names : rule_names d ≡ names_of rule
     front_of first_line texts None h = h
     front_of first_line texts (Some journal) h = are_lines first_line texts journal h
 
-    may_follow : (front : Option Journal) (l : Line) → MayFollow d stimulus front l → MayFollow other stimulus front l
+    may_follow : (front : Option Journal) (l : JournalLine) → MayFollow d stimulus front l → MayFollow other stimulus front l
     may_follow None (line.Begins count) h = h
     may_follow None (line.Batch from to) h = h
     may_follow None (line.Entry e) h = h
@@ -189,7 +189,7 @@ module _ (o : Opening) (rules : List Rule) (names : rule_names o.design ≡ name
   abbrev across : Board → Board
   across board = record board { slots = λ cycle rule. moved (board.slots cycle rule) }
 
-  record IsAlike (a b : Step) : Type 0 where
+  record IsAlike (a b : BoardStep) : Type 0 where
     told : told_of b.answer ≡ told_of a.answer
     board : b.board ≡ across a.board
 
@@ -201,9 +201,9 @@ module _ (o : Opening) (rules : List Rule) (names : rule_names o.design ≡ name
   is_some-moved None = refl
   is_some-moved (Some a) = refl
 
-  replaced-moved : (slots : Slots) (cycle rule : ℕ) (held : Option Attempted) →
-      (let those : Slots = replaced (λ c r. moved (slots c r)) cycle rule (moved held) in those) ≡ (λ c r. moved (replaced slots cycle rule held c r))
-  replaced-moved slots cycle rule held = λ i c r. either-moved ((c == cycle) && (r == rule)) held (slots c r) i
+  with_slot-moved : (slots : Slots) (cycle rule : ℕ) (held : Option Attempted) →
+      (let those : Slots = with_slot (λ c r. moved (slots c r)) cycle rule (moved held) in those) ≡ (λ c r. moved (with_slot slots cycle rule held c r))
+  with_slot-moved slots cycle rule held = λ i c r. either-moved ((c == cycle) && (r == rule)) held (slots c r) i
 
   without-moved : (slots : Slots) (cycle : ℕ) → (let those : Slots = without (λ c r. moved (slots c r)) cycle in those) ≡ (λ c r. moved (without slots cycle c r))
   without-moved slots cycle = λ i c r. either-moved (c == cycle) None (slots c r) i
@@ -228,7 +228,7 @@ module _ (o : Opening) (rules : List Rule) (names : rule_names o.design ≡ name
       by false false false true same = absurd (cc)
       by false false false false same = record {
         told = refl;
-        board = ap (λ (slots : Slots). let b : Board = record board { slots = slots } in b) (replaced-moved board.slots a.cycle a.rule (Some (at_design o.design a)));
+        board = ap (λ (slots : Slots). let b : Board = record board { slots = slots } in b) (with_slot-moved board.slots a.cycle a.rule (Some (at_design o.design a)));
       }
 
   -- and judged alike
@@ -236,16 +236,16 @@ module _ (o : Opening) (rules : List Rule) (names : rule_names o.design ≡ name
   judged-same board node a Commit = record {
     told = refl;
     board = ap (λ (slots : Slots). let b : Board = record (settled_by board node.rule (record { state = join board.walk.state node.rule a.run.events; at = node.yes })) { slots = slots } in b)
-        (replaced-moved board.slots board.cycle node.rule None);
+        (with_slot-moved board.slots board.cycle node.rule None);
   }
   judged-same board node a (Skip why) = record {
     told = refl;
     board = ap (λ (slots : Slots). let b : Board = record (settled_by board node.rule (record { state = board.walk.state; at = node.no })) { slots = slots } in b)
-        (replaced-moved board.slots board.cycle node.rule None);
+        (with_slot-moved board.slots board.cycle node.rule None);
   }
   judged-same board node a (Stale read) = record {
     told = refl;
-    board = ap (λ (slots : Slots). let b : Board = record board { slots = slots } in b) (replaced-moved board.slots board.cycle node.rule None);
+    board = ap (λ (slots : Slots). let b : Board = record board { slots = slots } in b) (with_slot-moved board.slots board.cycle node.rule None);
   }
 
   settle_with-same : (board : Board) (node : Node) (held : Option Attempted) → IsAlike (settle_with board node held) (settle_with (across board) node (moved held))
@@ -376,7 +376,7 @@ module _ (o : Opening) (rules : List Rule) (names : rule_names o.design ≡ name
   traced-back : (e : Entry) → IsTraced peer e → IsTraced o e
   traced-back = traced-same peer o.design.rules (sym names) (λ rule cycle run. ((traces rule cycle run).1, (traces rule cycle run).0))
 
-  wrong-same : (before : List Entry) (e : Entry) (number : ℕ) → IsWrong o before e number → IsWrong peer before e number
+  wrong-same : (before : List Entry) (e : Entry) (number : ℕ) → IsWrongEntry o before e number → IsWrongEntry peer before e number
   wrong-same before e number (inl w) = inl (w.0, λ traced. w.1 (traced-back e traced))
   wrong-same before e number (inr w) = inr (w.0, traced-same o rules names traces e w.1, λ told. w.2 (told ∙ answer-same o rules names before e))
 
@@ -437,7 +437,7 @@ module _ (stimulus : InputVectors) (a b : Parts) (t : AreTwins stimulus a b) whe
 
 pub twins_read_alike : TwinsReadAlike
 twins_read_alike stimulus a b first_line text journal t h =
-    subst (λ (d : Parts). AreLinesOf d stimulus first_line (lines_of text) journal) (other_rules stimulus a b t) (are_lines a b.rules t.names stimulus first_line (lines_of text) journal h)
+    subst (λ (d : Parts). AreJournalLines d stimulus first_line (lines_of text) journal) (other_rules stimulus a b t) (are_lines a b.rules t.names stimulus first_line (lines_of text) journal h)
 
 pub twins_stop_alike : TwinsStopAlike
 twins_stop_alike stimulus a b first_line text fault t h =

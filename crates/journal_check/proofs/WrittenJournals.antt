@@ -20,8 +20,8 @@ use Rattle.journal_check.specs.Printing.{journal_text, line_text}
 use Rattle.journal_check.specs.Reading.{HasShownNames, IsJournal, IsNumbered, numbers_from}
 use Rattle.journal_check.specs.declared.journal.Batch.{Batch}
 use Rattle.journal_check.specs.declared.journal.Journal.{Journal}
-use Rattle.journal_check.specs.declared.line.Line.{Line}
-use Rattle.journal_check.specs.declared.line.Line.TheVariants as line
+use Rattle.journal_check.specs.declared.line.JournalLine.{JournalLine}
+use Rattle.journal_check.specs.declared.line.JournalLine.TheVariants as line
 use Rattle.journal_check.proofs.PrintedLines.{printed_is_cut}
 use Rattle.journal_check.proofs.BoardAnswers.{HasOwnNames, IsWithin, legal_fits}
 
@@ -84,7 +84,7 @@ numbers-count number [] = refl
 numbers-count number (x ∷ xs) = let rest = numbers-count (capped (number + 1)) xs in omega (arith, rest)
 
 module _ (core : Parts) where
-  abbrev texts_of : List Line → List (List ℕ)
+  abbrev texts_of : List JournalLine → List (List ℕ)
   texts_of lines = map (line_text core) lines
 
   -- a batch whose own line has this number
@@ -101,7 +101,7 @@ module _ (core : Parts) where
 
   same-lines : (number : ℕ) (batches : List Batch) → flat_map lines_of_batch (all_numbered number batches) ≡ flat_map lines_of_batch batches
   same-lines number [] = refl
-  same-lines number (b ∷ batches) = ap (λ (rest : List Line). lines_of_batch b ++ rest) (same-lines (number_past number (texts_of (lines_of_batch b))) batches)
+  same-lines number (b ∷ batches) = ap (λ (rest : List JournalLine). lines_of_batch b ++ rest) (same-lines (number_past number (texts_of (lines_of_batch b))) batches)
 
   same-numbers : (number : ℕ) (batches : List Batch) → flat_map numbers_of_batch (all_numbered number batches) ≡ numbers_from number (texts_of (flat_map lines_of_batch batches))
   same-numbers number [] = refl
@@ -133,7 +133,7 @@ module _ (core : Parts) where
       → IsJournal core stimulus number text (renumbered number journal)
   read-back stimulus number journal text names fit told =
       let cut : lines_of text ≡ texts_of (lines_in journal) = ap lines_of told ∙ printed_is_cut core stimulus journal names fit in
-      let same : lines_in (renumbered number journal) ≡ lines_in journal = ap (λ (rest : List Line). line.Begins journal.workers ∷ rest) (same-lines (capped (number + 1)) journal.batches) in
+      let same : lines_in (renumbered number journal) ≡ lines_in journal = ap (λ (rest : List JournalLine). line.Begins journal.workers ∷ rest) (same-lines (capped (number + 1)) journal.batches) in
       record {
         lines = cut ∙ ap (map (line_text core)) (sym same);
         fit = subst (AllByRecursion (LineFits core stimulus journal.workers)) (sym same) fit;

@@ -77,8 +77,8 @@ at_line number line = fault_at number (record { line = line; column = 1 })
 
 -- What is wrong with an entry after a history, by the number of the fault: its attempt isn't a trace of its rule, or
 -- it is one and the board answers otherwise.
-abbrev pub IsWrong : Opening → List Entry → Entry → ℕ → Type 0
-IsWrong o log e number =
+abbrev pub IsWrongEntry : Opening → List Entry → Entry → ℕ → Type 0
+IsWrongEntry o log e number =
     ((number ≡ 81) × (IsTraced o e → ⊥))
     ⊎ ((number ≡ 82) × IsTraced o e × (told_by e ≢ told_of (step o (board_after o log) (event_of o.design e)).answer))
 
@@ -90,7 +90,7 @@ pub record IsFirstWrong (o : Opening) (batch : Batch) (fault : Fault) : Type 0 w
   pub entries : batch.entries ≡ before ++ entry ∷ rest
   pub legal : IsLegal o before
   pub number : ℕ
-  pub wrong : IsWrong o before entry number
+  pub wrong : IsWrongEntry o before entry number
   pub fault_is : fault ≡ at_line number (slice_index_or batch.lines (length before) 0)
 
 -- The fault of the entries of a batch: that of the first wrong one, or else that they leave a cycle open, which is a
@@ -115,6 +115,6 @@ IsFaultFrom design stimulus n line from regs (batch ∷ batches) fault =
     ⊎ (IsGoodBatch n from o batch × IsFaultFrom design stimulus n line batch.to (left_by o batch.entries) batches fault)
 
 -- the first fault of a journal that isn't good for n cycles
-abbrev pub IsFirstFault : Parts → InputVectors → ℕ → Journal → Fault → Type 0
-IsFirstFault design stimulus n journal fault =
+abbrev pub IsFirstJournalFault : Parts → InputVectors → ℕ → Journal → Fault → Type 0
+IsFirstJournalFault design stimulus n journal fault =
     IsFaultFrom design stimulus n journal.line 0 (first_values design) journal.batches fault

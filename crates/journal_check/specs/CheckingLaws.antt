@@ -4,17 +4,17 @@ use Rattle.std.specs.List.{AllByRecursion}
 use Rattle.kw_base.specs.declared.fault.Fault.{Fault}
 use Rattle.typed_core.specs.declared.design.Parts.{Parts}
 use Rattle.one_rule.specs.Stimulus.{InputVectors}
-use Rattle.journal_check.specs.Checking.{BatchFits, IsFirstFault, IsGood}
+use Rattle.journal_check.specs.Checking.{BatchFits, IsFirstJournalFault, IsGood}
 use Rattle.journal_check.specs.Reading.{IsJournal}
 use Rattle.journal_check.specs.declared.journal.Journal.{Journal}
 
 -- a good journal has no fault
 abbrev pub NeverGoodAndFaulty : Type 0
-NeverGoodAndFaulty = (design : Parts) (stimulus : InputVectors) (n : ℕ) (journal : Journal) (fault : Fault) → IsGood design stimulus n journal → IsFirstFault design stimulus n journal fault → ⊥
+NeverGoodAndFaulty = (design : Parts) (stimulus : InputVectors) (n : ℕ) (journal : Journal) (fault : Fault) → IsGood design stimulus n journal → IsFirstJournalFault design stimulus n journal fault → ⊥
 
 -- no journal has two first faults
 abbrev pub OneFirstFault : Type 0
-OneFirstFault = (design : Parts) (stimulus : InputVectors) (n : ℕ) (journal : Journal) (a b : Fault) → IsFirstFault design stimulus n journal a → IsFirstFault design stimulus n journal b → a ≡ b
+OneFirstFault = (design : Parts) (stimulus : InputVectors) (n : ℕ) (journal : Journal) (a b : Fault) → IsFirstJournalFault design stimulus n journal a → IsFirstJournalFault design stimulus n journal b → a ≡ b
 
 -- a journal that was read from a text fits as a recheck asks for
 abbrev pub ReadJournalsFit : Type 0

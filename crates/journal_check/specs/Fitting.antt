@@ -24,8 +24,8 @@ use Rattle.attempt_log.specs.declared.entry.Settled.TheVariants as settled
 use Rattle.board_core.specs.declared.kept.TheConstants.{MAX_CYCLES}
 use Rattle.journal_check.specs.Printing.{register_name, rule_name}
 use Rattle.journal_check.specs.Tokens.{number_named, register_names, rule_names}
-use Rattle.journal_check.specs.declared.line.Line.{Line}
-use Rattle.journal_check.specs.declared.line.Line.TheVariants as line
+use Rattle.journal_check.specs.declared.line.JournalLine.{JournalLine}
+use Rattle.journal_check.specs.declared.line.JournalLine.TheVariants as line
 
 -- a register and a rule of the design, each the first of its name
 abbrev pub IsRegister : Parts → ℕ → Type 0
@@ -45,13 +45,13 @@ pub record AccessFits (design : Parts) (a : Access) : Type 0 where
   pub register : IsRegister design a.register
 
 -- a value has its register's width
-abbrev pub ValueFits : Parts → ℕ → BitVector → Type 0
-ValueFits design register value = (width : ℕ) × (slice_get (register_widths design) register ≡ Some width) × HasWidth value width
+abbrev pub RegisterValueFits : Parts → ℕ → BitVector → Type 0
+RegisterValueFits design register value = (width : ℕ) × (slice_get (register_widths design) register ≡ Some width) × HasWidth value width
 
 -- an event's access is there, and its value fits
-pub record EventFits (design : Parts) (e : Event) : Type 0 where
+pub record RegisterEventFits (design : Parts) (e : Event) : Type 0 where
   pub access : AccessFits design e.access
-  pub value : ValueFits design e.access.register e.value
+  pub value : RegisterValueFits design e.access.register e.value
 
 -- an outcome's access is there
 abbrev pub OutcomeFits : Parts → Outcome → Type 0
@@ -68,8 +68,8 @@ CauseFits design (cause.Clash a rule earlier) = AccessFits design a × IsRule de
 -- a read whose two values differ
 pub record StaleFits (design : Parts) (read : StaleRead) : Type 0 where
   pub access : AccessFits design (read_at read.port read.register)
-  pub held : ValueFits design read.register read.held
-  pub now_value : ValueFits design read.register read.now
+  pub held : RegisterValueFits design read.register read.held
+  pub now_value : RegisterValueFits design read.register read.now
   pub differ : read.held ≢ read.now
 
 -- what a settle answers names cycles, rules and causes that are there
@@ -84,11 +84,11 @@ SettledFits design settled.Finished = Unit {0}
 -- an entry of a run with this many workers; whoever finishes a batch has the number after the last worker's
 abbrev pub EntryFits : Parts → InputVectors → ℕ → Entry → Type 0
 EntryFits design stimulus workers (entry.Submit worker cycle rule inputs events ending answer) =
-    (worker ≤ workers) × (1 ≤ cycle) × (cycle ≤ MAX_CYCLES) × IsRule design rule × (inputs ≡ inputs_of stimulus cycle) × AllByRecursion (EventFits design) events × OutcomeFits design ending
+    (worker ≤ workers) × (1 ≤ cycle) × (cycle ≤ MAX_CYCLES) × IsRule design rule × (inputs ≡ inputs_of stimulus cycle) × AllByRecursion (RegisterEventFits design) events × OutcomeFits design ending
 EntryFits design stimulus workers (entry.Settle worker answer) = (worker ≤ workers) × SettledFits design answer
 
 -- what a line says fits the design, the stimulus and the number of workers
-abbrev pub LineFits : Parts → InputVectors → ℕ → Line → Type 0
+abbrev pub LineFits : Parts → InputVectors → ℕ → JournalLine → Type 0
 LineFits design stimulus workers (line.Begins count) = (1 ≤ count) × (count ≤ 8)
 LineFits design stimulus workers (line.Batch from to) = IsSmall from × IsSmall to
 LineFits design stimulus workers (line.Entry e) = EntryFits design stimulus workers e

@@ -24,8 +24,8 @@ use Rattle.attempt_log.specs.declared.entry.Taken.TheVariants as taken
 use Rattle.stim_report.specs.Report.{hex}
 use Rattle.journal_check.specs.Journals.{lines_in}
 use Rattle.journal_check.specs.declared.journal.Journal.{Journal}
-use Rattle.journal_check.specs.declared.line.Line.{Line}
-use Rattle.journal_check.specs.declared.line.Line.TheVariants as line
+use Rattle.journal_check.specs.declared.line.JournalLine.{JournalLine}
+use Rattle.journal_check.specs.declared.line.JournalLine.TheVariants as line
 
 -- the name of a declaration, if there is one
 abbrev pub name_of_register : Option RegDecl → List ℕ
@@ -105,7 +105,7 @@ abbrev pub batch_tokens : ℕ → ℕ → List (List ℕ)
 batch_tokens from to = codes "batch" ∷ decimal from ∷ decimal to ∷ []
 
 -- the tokens of a line
-abbrev pub line_tokens : Parts → Line → List (List ℕ)
+abbrev pub line_tokens : Parts → JournalLine → List (List ℕ)
 line_tokens design (line.Begins workers) = begin_tokens workers
 line_tokens design (line.Batch from to) = batch_tokens from to
 line_tokens design (line.Entry e) = entry_tokens design e
@@ -115,21 +115,21 @@ abbrev pub spaced : List ℕ → List ℕ
 spaced token = 32 ∷ token
 
 -- tokens with one space between them
-abbrev pub joined : List (List ℕ) → List ℕ
-joined [] = []
-joined (token ∷ tokens) = token ++ flat_map spaced tokens
+abbrev pub joined_tokens : List (List ℕ) → List ℕ
+joined_tokens [] = []
+joined_tokens (token ∷ tokens) = token ++ flat_map spaced tokens
 
 -- a line, without its line feed
-abbrev pub line_text : Parts → Line → List ℕ
-line_text design l = joined (line_tokens design l)
+abbrev pub line_text : Parts → JournalLine → List ℕ
+line_text design l = joined_tokens (line_tokens design l)
 
 -- lines, each with a line feed at its end
 abbrev pub ended : List ℕ → List ℕ
 ended text = text ++ 10 ∷ []
 
 -- the text of lines
-abbrev pub text_of : Parts → List Line → List ℕ
-text_of design lines = flat_map (λ (l : Line). ended (line_text design l)) lines
+abbrev pub text_of : Parts → List JournalLine → List ℕ
+text_of design lines = flat_map (λ (l : JournalLine). ended (line_text design l)) lines
 
 -- the text of a journal
 abbrev pub journal_text : Parts → Journal → List ℕ

@@ -9,13 +9,13 @@ use Rattle.kw_base.specs.declared.fault.Fault.{Fault}
 use Rattle.typed_core.specs.declared.design.Parts.{Parts}
 use Rattle.one_rule.specs.Stimulus.{InputVectors}
 use Rattle.journal_check.specs.Fitting.{EntryFits, LineFits}
-use Rattle.journal_check.specs.Journals.{lines_in, numbers_in}
+use Rattle.journal_check.specs.Journals.{lines_in, journal_lines}
 use Rattle.journal_check.specs.Printing.{line_text}
 use Rattle.journal_check.specs.Tokens.{is_space, register_names, rule_names}
 use Rattle.journal_check.specs.declared.journal.Batch.{Batch}
 use Rattle.journal_check.specs.declared.journal.Journal.{Journal}
-use Rattle.journal_check.specs.declared.line.Line.{Line}
-use Rattle.journal_check.specs.declared.line.Line.TheVariants as line
+use Rattle.journal_check.specs.declared.line.JournalLine.{JournalLine}
+use Rattle.journal_check.specs.declared.line.JournalLine.TheVariants as line
 use Rattle.stim_report.specs.Cuts.{lines_of}
 
 -- the number of the line that comes this many lines after the first one
@@ -37,23 +37,23 @@ pub record HasFittingEntries (design : Parts) (stimulus : InputVectors) (workers
   pub lines : IsNumbered batch
 
 -- the lines, numbered from this one on, are those of the journal
-pub record AreLinesOf (design : Parts) (stimulus : InputVectors) (first_line : ℕ) (texts : List (List ℕ)) (journal : Journal) : Type 0 where
+pub record AreJournalLines (design : Parts) (stimulus : InputVectors) (first_line : ℕ) (texts : List (List ℕ)) (journal : Journal) : Type 0 where
   pub lines : texts ≡ map (line_text design) (lines_in journal)
   pub fit : AllByRecursion (LineFits design stimulus journal.workers) (lines_in journal)
-  pub numbers : numbers_in journal ≡ numbers_from first_line texts
+  pub numbers : journal_lines journal ≡ numbers_from first_line texts
   pub counts : AllByRecursion IsNumbered journal.batches
 
 -- the text is a journal
 abbrev pub IsJournal : Parts → InputVectors → ℕ → List ℕ → Journal → Type 0
-IsJournal design stimulus first_line text journal = AreLinesOf design stimulus first_line (lines_of text) journal
+IsJournal design stimulus first_line text journal = AreJournalLines design stimulus first_line (lines_of text) journal
 
 -- the lines before a fault: none, or those of a journal
 abbrev pub AreFront : Parts → InputVectors → ℕ → List (List ℕ) → Option Journal → Type 0
 AreFront design stimulus first_line texts None = texts ≡ []
-AreFront design stimulus first_line texts (Some journal) = AreLinesOf design stimulus first_line texts journal
+AreFront design stimulus first_line texts (Some journal) = AreJournalLines design stimulus first_line texts journal
 
 -- which line may come next: first the one for the workers, and entries only after a batch has begun
-abbrev pub MayFollow : Parts → InputVectors → Option Journal → Line → Type 0
+abbrev pub MayFollow : Parts → InputVectors → Option Journal → JournalLine → Type 0
 MayFollow design stimulus None (line.Begins count) = LineFits design stimulus count (line.Begins count)
 MayFollow design stimulus None (line.Batch from to) = ⊥
 MayFollow design stimulus None (line.Entry e) = ⊥
@@ -73,7 +73,7 @@ pub record HasPlainNames (design : Parts) : Type 0 where
 -- no line goes on that is printed so, where no name has a space; nor does a text without lines begin
 abbrev pub NoneFollows : Parts → InputVectors → Option Journal → List (List ℕ) → Type 0
 NoneFollows design stimulus front [] = front ≡ None
-NoneFollows design stimulus front (text ∷ texts) = HasPlainNames design → (l : Line) → MayFollow design stimulus front l → text ≡ line_text design l → ⊥
+NoneFollows design stimulus front (text ∷ texts) = HasPlainNames design → (l : JournalLine) → MayFollow design stimulus front l → text ≡ line_text design l → ⊥
 
 -- the fault of the line of a number
 abbrev pub malformed_at : ℕ → Fault

@@ -6,7 +6,7 @@ use Rattle.typed_core.specs.declared.design.Parts.{Parts}
 use Rattle.typed_core.specs.declared.outcome.Alone.{Alone}
 use Rattle.one_rule.specs.Stimulus.{InputVectors, inputs_of}
 use Rattle.attempt_log.specs.Trace.{IsTrace}
-use Rattle.journal_check.specs.Checking.{IsFirstFault, IsGood}
+use Rattle.journal_check.specs.Checking.{IsFirstJournalFault, IsGood}
 use Rattle.journal_check.specs.Reading.{IsFirstMalformed, IsJournal}
 use Rattle.journal_check.specs.Tokens.{rule_names}
 use Rattle.journal_check.specs.declared.journal.Journal.{Journal}
@@ -36,4 +36,4 @@ TwinsPassAlike = (stimulus : InputVectors) (a b : Parts) (n : ℕ) (journal : Jo
 
 -- or has the same first fault
 abbrev pub TwinsFailAlike : Type 0
-TwinsFailAlike = (stimulus : InputVectors) (a b : Parts) (n : ℕ) (journal : Journal) (fault : Fault) → AreTwins stimulus a b → IsFirstFault a stimulus n journal fault → IsFirstFault b stimulus n journal fault
+TwinsFailAlike = (stimulus : InputVectors) (a b : Parts) (n : ℕ) (journal : Journal) (fault : Fault) → AreTwins stimulus a b → IsFirstJournalFault a stimulus n journal fault → IsFirstJournalFault b stimulus n journal fault

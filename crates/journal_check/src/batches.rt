@@ -11,7 +11,7 @@ ghost use Rattle.one_rule.specs.Rows.{RowsFit};
 ghost use Rattle.one_rule.specs.Run.{InputsByCycle, last_registers, run_of};
 ghost use Rattle.one_rule.specs.Stimulus.{AlwaysFits, StimulusFits, inputs_of};
 ghost use Rattle.board_core.specs.declared.kept.TheConstants.{MAX_CYCLES};
-ghost use Rattle.journal_check.specs.Checking.{BatchFits, IsDue, IsFaultOf, IsFirstFault, IsGood, IsGoodBatch, left_by, opening_of};
+ghost use Rattle.journal_check.specs.Checking.{BatchFits, IsDue, IsFaultOf, IsFirstJournalFault, IsGood, IsGoodBatch, left_by, opening_of};
 
 use crate::journal::{Batch, Journal};
 use crate::replay::{refusal, replay};
@@ -43,7 +43,7 @@ pub fn recheck(
     ensures good { IfOk result (λ rows. IsGood (arc_value design) (arc_value stimulus) n journal) }
     ensures run { IfOk result (λ rows. rows ≡ run_of (arc_value design) (inputs_of (arc_value stimulus)) n) }
     ensures fit { IfOk result (λ rows. RowsFit (arc_value design) rows) }
-    ensures fault { IfFault result (λ fault. IsFirstFault (arc_value design) (arc_value stimulus) n journal fault) }
+    ensures fault { IfFault result (λ fault. IsFirstJournalFault (arc_value design) (arc_value stimulus) n journal fault) }
 {
     runs_fit(alloc, &design, &stimulus);
     let mut rows = first_rows(alloc, &design)?;

@@ -9,7 +9,7 @@ use crate::answer::{after, outcome, settled, taken_read};
 use crate::cut::{next_token, split_token};
 use crate::flaw::Flaw;
 use crate::head::{number, read_head};
-use crate::line::Line;
+use crate::line::JournalLine;
 use crate::names::Vocabulary;
 use crate::number::number_read;
 use attempt_log::Entry;
@@ -23,7 +23,7 @@ pub(crate) fn line(
     names: &Vocabulary<'_>,
     stimulus: &Stimulus,
     bytes: &[u8],
-) -> Result<Line, Flaw>
+) -> Result<JournalLine, Flaw>
     requires { Knows names.now.design.now names.now.registers names.now.rules }
     ensures { Reads (λ line. line) result (line_at names.now.design.now stimulus.now (tokens_of bytes.now)) }
 {
@@ -46,7 +46,7 @@ fn submit(
     names: &Vocabulary<'_>,
     stimulus: &Stimulus,
     rest: Option<&[u8]>,
-) -> Result<Line, Flaw>
+) -> Result<JournalLine, Flaw>
     requires { Knows names.now.design.now names.now.registers names.now.rules }
     ensures { Reads (λ line. line) result (submit_at names.now.design.now stimulus.now (tokens_left rest.entry)) }
 {
@@ -55,7 +55,7 @@ fn submit(
     let (outcome, rest) = outcome(names, rest)?;
     let (events, rest) = events(alloc, names, rest)?;
     let (word, _) = next_token(rest)?;
-    Ok(Line::Entry(Entry::Submit {
+    Ok(JournalLine::Entry(Entry::Submit {
         worker,
         cycle: head.cycle,
         rule: head.rule,
@@ -67,32 +67,32 @@ fn submit(
 }
 
 #[tactic(auto, unfolding(crate::specs::inner::Tokens::settle_at))]
-fn settle(names: &Vocabulary<'_>, rest: Option<&[u8]>) -> Result<Line, Flaw>
+fn settle(names: &Vocabulary<'_>, rest: Option<&[u8]>) -> Result<JournalLine, Flaw>
     requires { Knows names.now.design.now names.now.registers names.now.rules }
     ensures { Reads (λ line. line) result (settle_at names.now.design.now (tokens_left rest.entry)) }
 {
     let (worker, rest) = number(rest)?;
     let (_, rest) = next_token(rest)?;
     let answer = settled(names, rest)?;
-    Ok(Line::Entry(Entry::Settle { worker, answer }))
+    Ok(JournalLine::Entry(Entry::Settle { worker, answer }))
 }
 
 #[tactic(auto, unfolding(crate::specs::inner::Tokens::batch_at))]
-fn batch(rest: Option<&[u8]>) -> Result<Line, Flaw>
+fn batch(rest: Option<&[u8]>) -> Result<JournalLine, Flaw>
     ensures { Reads (λ line. line) result (batch_at (tokens_left rest.entry)) }
 {
     let (from, rest) = number(rest)?;
     let (to, _) = number(rest)?;
-    Ok(Line::Batch { from, to })
+    Ok(JournalLine::Batch { from, to })
 }
 
 // The number after `workers=`.
 #[tactic(auto, unfolding(crate::specs::inner::Tokens::begin_at))]
-fn begin(rest: Option<&[u8]>) -> Result<Line, Flaw>
+fn begin(rest: Option<&[u8]>) -> Result<JournalLine, Flaw>
     ensures { Reads (λ line. line) result (begin_at (tokens_left rest.entry)) }
 {
     let (token, _) = next_token(rest)?;
-    Ok(Line::Begins {
+    Ok(JournalLine::Begins {
         workers: number_read(after(token, 8)),
     })
 }

@@ -11,7 +11,7 @@ ghost use Rattle.journal_check.specs.Journals.{lines_in};
 ghost use Rattle.journal_check.specs.Printing.{ended, journal_text, line_text};
 ghost use Rattle.journal_check.specs.Reading.{HasFittingEntries, HasPlainNames, HasShownNames, IsFirstMalformed, IsJournal};
 ghost use Rattle.journal_check.specs.declared.journal.Journal.{Journal as JournalOf};
-ghost use Rattle.journal_check.specs.declared.line.Line.{Line};
+ghost use Rattle.journal_check.specs.declared.line.JournalLine.{JournalLine};
 ghost use Rattle.one_rule.specs.Stimulus.{InputVectors};
 ghost use Rattle.typed_core.specs.declared.design.Parts.{Parts};
 
@@ -23,7 +23,7 @@ pub fn digits_are_read_back()
 
 /// Lines that fit are told apart by their texts, where no name has a space.
 pub fn a_line_is_read_in_one_way()
-    ensures { (design : Parts) (stimulus : InputVectors) (workers others : ℕ) (a b : Line) → HasPlainNames design → IsSmall workers → IsSmall others
+    ensures { (design : Parts) (stimulus : InputVectors) (workers others : ℕ) (a b : JournalLine) → HasPlainNames design → IsSmall workers → IsSmall others
         → LineFits design stimulus workers a → LineFits design stimulus others b → line_text design a ≡ line_text design b → a ≡ b }
 {}
 

@@ -4,7 +4,7 @@ use attempt_log::Entry;
 
 /// What a line of a journal says.
 #[derive(Debug, Drop)]
-pub(crate) enum Line {
+pub(crate) enum JournalLine {
     /// How many workers there were.
     Begins { workers: u32 },
     /// The cycles of a batch.

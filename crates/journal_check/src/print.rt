@@ -3,12 +3,12 @@
 ghost use Rattle.std.specs.Prelude.{◌≡◌, ◌<◌, ◌≤◌, ◌++◌, ◌∷◌, [], ◌/◌, ◌%◌, ◌^◌, map, IfOk, OnOk, codes, decimal, if◌then◌else◌};
 ghost use Rattle.std.specs.List.{flat_map};
 ghost use Rattle.journal_check.specs.Journals.{lines_of_batch};
-ghost use Rattle.journal_check.specs.Printing.{access_text, batch_tokens, begin_tokens, cause_tokens, entry_tokens, event_text, joined, journal_text, line_text, outcome_tokens, register_name, rule_name, settled_tokens, spaced, stale_tokens, text_of, value_text};
+ghost use Rattle.journal_check.specs.Printing.{access_text, batch_tokens, begin_tokens, cause_tokens, entry_tokens, event_text, joined_tokens, journal_text, line_text, outcome_tokens, register_name, rule_name, settled_tokens, spaced, stale_tokens, text_of, value_text};
 ghost use Rattle.journal_check.specs.Printing as texts;
 ghost use Rattle.stim_report.specs.Report.{hex_digit, hex_digits};
 
 use crate::journal::{Batch, Journal};
-use crate::line::Line;
+use crate::line::JournalLine;
 use attempt_log::{Cause, Entry, Settled, StaleRead, Taken};
 use itoa::Buffer;
 use kw_bits::{Bits, NoMemory, Text};
@@ -22,7 +22,7 @@ pub fn print_journal(alloc: Global, design: &Design, journal: &Journal) -> Resul
     ensures { IfOk result (λ text. text ≡ journal_text design.now journal.now) }
 {
     let mut text = Text::new(alloc);
-    let begins = Line::Begins {
+    let begins = JournalLine::Begins {
         workers: journal.workers,
     };
     push_line(&mut text, design, &begins)?;
@@ -35,7 +35,7 @@ pub fn print_journal(alloc: Global, design: &Design, journal: &Journal) -> Resul
 
 /// The line with which a journal of this many workers begins, with a line feed at its end.
 pub fn print_begin(alloc: Global, workers: u32) -> Result<Text, NoMemory>
-    ensures { IfOk result (λ text. text ≡ texts.ended (joined (begin_tokens workers))) }
+    ensures { IfOk result (λ text. text ≡ texts.ended (joined_tokens (begin_tokens workers))) }
 {
     let mut text = Text::new(alloc);
     push_begin(&mut text, workers)?;
@@ -56,7 +56,7 @@ pub fn print_batch(alloc: Global, design: &Design, batch: &Batch) -> Result<Text
 fn push_lines(text: &mut Text, design: &Design, batch: &Batch) -> Result<(), NoMemory>
     ensures { OnOk result (text.new ≡ text.old ++ text_of design.now (lines_of_batch batch.now)) }
 {
-    let cycles = Line::Batch {
+    let cycles = JournalLine::Batch {
         from: batch.from,
         to: batch.to,
     };
@@ -70,25 +70,29 @@ fn push_lines(text: &mut Text, design: &Design, batch: &Batch) -> Result<(), NoM
 
 // Adds an entry and a line feed.
 fn push_ended(text: &mut Text, design: &Design, entry: &Entry) -> Result<(), NoMemory>
-    ensures { OnOk result (text.new ≡ text.old ++ texts.ended (joined (entry_tokens design.now entry.now))) }
+    ensures { OnOk result (text.new ≡ text.old ++ texts.ended (joined_tokens (entry_tokens design.now entry.now))) }
 {
     push_entry(text, design, entry)?;
     text.push(b'\n')
 }
 
 /// Adds a line, without its line feed.
-pub(crate) fn push_line(text: &mut Text, design: &Design, line: &Line) -> Result<(), NoMemory>
+pub(crate) fn push_line(
+    text: &mut Text,
+    design: &Design,
+    line: &JournalLine,
+) -> Result<(), NoMemory>
     ensures { OnOk result (text.new ≡ text.old ++ line_text design.now line.now) }
 {
     match line {
-        Line::Begins { workers } => push_begin(text, *workers),
-        Line::Batch { from, to } => push_batch(text, *from, *to),
-        Line::Entry(entry) => push_entry(text, design, entry),
+        JournalLine::Begins { workers } => push_begin(text, *workers),
+        JournalLine::Batch { from, to } => push_batch(text, *from, *to),
+        JournalLine::Entry(entry) => push_entry(text, design, entry),
     }
 }
 
 fn push_begin(text: &mut Text, workers: u32) -> Result<(), NoMemory>
-    ensures { OnOk result (text.new ≡ text.old ++ joined (begin_tokens workers)) }
+    ensures { OnOk result (text.new ≡ text.old ++ joined_tokens (begin_tokens workers)) }
 {
     text.extend_from_slice(b"journal")?;
     push_token(text, b"workers=")?;
@@ -96,7 +100,7 @@ fn push_begin(text: &mut Text, workers: u32) -> Result<(), NoMemory>
 }
 
 fn push_batch(text: &mut Text, from: u32, to: u32) -> Result<(), NoMemory>
-    ensures { OnOk result (text.new ≡ text.old ++ joined (batch_tokens from to)) }
+    ensures { OnOk result (text.new ≡ text.old ++ joined_tokens (batch_tokens from to)) }
 {
     text.extend_from_slice(b"batch")?;
     push_number(text, from)?;
@@ -104,7 +108,7 @@ fn push_batch(text: &mut Text, from: u32, to: u32) -> Result<(), NoMemory>
 }
 
 fn push_entry(text: &mut Text, design: &Design, entry: &Entry) -> Result<(), NoMemory>
-    ensures { OnOk result (text.new ≡ text.old ++ joined (entry_tokens design.now entry.now)) }
+    ensures { OnOk result (text.new ≡ text.old ++ joined_tokens (entry_tokens design.now entry.now)) }
 {
     match entry {
         Entry::Submit {

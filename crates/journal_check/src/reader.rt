@@ -11,14 +11,14 @@ ghost use Rattle.journal_check.specs.Printing.{line_text};
 ghost use Rattle.journal_check.specs.Reading.{IsFirstMalformed, IsJournal, MayFollow, NoneFollows, malformed_at};
 ghost use Rattle.journal_check.specs.inner.Steps.{Adds, IsMalformed, refusal_of};
 ghost use Rattle.journal_check.specs.declared.journal.Batch.{Batch as BatchOf};
-ghost use Rattle.journal_check.specs.declared.line.Line.{Line as LineOf};
-ghost use Rattle.journal_check.specs.declared.line.Line.TheVariants as lines;
+ghost use Rattle.journal_check.specs.declared.line.JournalLine.{JournalLine as LineOf};
+ghost use Rattle.journal_check.specs.declared.line.JournalLine.TheVariants as lines;
 
 use crate::cut::next_line;
 use crate::entry::line;
 use crate::flaw::Flaw;
 use crate::journal::{Batch, Journal};
-use crate::line::Line;
+use crate::line::JournalLine;
 use crate::names::Vocabulary;
 use crate::print::push_line;
 use attempt_log::{Entry, Settled};
@@ -131,9 +131,9 @@ fn read_workers(
 {
     let line = read_line(alloc, names, stimulus, page, 0, bytes, number)?;
     match line {
-        Line::Begins { workers } => Ok(workers),
-        Line::Batch { .. } => Err(refusal(Flaw::Malformed, number)),
-        Line::Entry(_entry) => Err(refusal(Flaw::Malformed, number)),
+        JournalLine::Begins { workers } => Ok(workers),
+        JournalLine::Batch { .. } => Err(refusal(Flaw::Malformed, number)),
+        JournalLine::Entry(_entry) => Err(refusal(Flaw::Malformed, number)),
     }
 }
 
@@ -154,9 +154,9 @@ fn add_line(
 {
     let line = read_line(alloc, names, stimulus, page, journal.workers, bytes, number)?;
     match line {
-        Line::Begins { .. } => Err(refusal(Flaw::Malformed, number)),
-        Line::Batch { from, to } => add_batch(alloc, &mut journal.batches, from, to, number),
-        Line::Entry(entry) => add_entry(&mut journal.batches, entry, number),
+        JournalLine::Begins { .. } => Err(refusal(Flaw::Malformed, number)),
+        JournalLine::Batch { from, to } => add_batch(alloc, &mut journal.batches, from, to, number),
+        JournalLine::Entry(entry) => add_entry(&mut journal.batches, entry, number),
     }
 }
 
@@ -205,7 +205,7 @@ fn read_line(
     workers: u32,
     bytes: &[u8],
     number: u32,
-) -> Result<Line, Refusal>
+) -> Result<JournalLine, Refusal>
     requires { Knows names.now.design.now names.now.registers names.now.rules }
     ensures line { IfOk result (λ l. LineFits names.now.design.now stimulus.now workers l × (bytes.now ≡ line_text names.now.design.now l)) }
     ensures fault { IfFault result (IsMalformed names.now.design.now (LineFits names.now.design.now stimulus.now workers) bytes.now number) }
@@ -248,7 +248,7 @@ fn is_valid(design: &Design)
 fn is_printed_so(
     page: &mut Text,
     design: &Design,
-    line: &Line,
+    line: &JournalLine,
     bytes: &[u8],
 ) -> Result<bool, NoMemory>
     ensures { IfOk result (λ is. IsTrue is ↔ (line_text design.now line.now ≡ bytes.now)) }
@@ -259,16 +259,17 @@ fn is_printed_so(
 }
 
 // Whether the numbers of a line are in their ranges, and the two values of a stale read differ.
-fn is_allowed(line: &Line, workers: u32) -> bool
+fn is_allowed(line: &JournalLine, workers: u32) -> bool
     ensures { IsTrue result ↔ IsAllowed workers line.now }
 {
     match line {
-        Line::Begins { workers } => 1 <= *workers && *workers <= MAX_JOURNAL_WORKERS,
-        Line::Batch { .. } => true,
-        Line::Entry(Entry::Submit { worker, cycle, .. }) => {
+        JournalLine::Begins { workers } => 1 <= *workers && *workers <= MAX_JOURNAL_WORKERS,
+        JournalLine::Batch { .. } => true,
+        JournalLine::Entry(Entry::Submit { worker, cycle, .. }) => {
             *worker <= workers && 1 <= *cycle && *cycle <= MAX_CYCLES
         }
-        Line::Entry(Entry::Settle { worker, answer }) => *worker <= workers && differs(answer),
+        JournalLine::Entry(Entry::Settle { worker, answer }) => *worker <= workers
+            && differs(answer),
     }
 }
 

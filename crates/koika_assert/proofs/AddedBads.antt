@@ -10,18 +10,18 @@ use Rattle.kw_base.specs.declared.fault.Fault.{Fault}
 use Rattle.kw_bits.specs.BitVector.{BitVector}
 use Rattle.btor2_text.specs.Printable.{AreTokens}
 use Rattle.btor2_text.specs.declared.keyword.Keyword.TheVariants as keywords
-use Rattle.btor2_text.specs.declared.kind.Kind.TheVariants as kinds
+use Rattle.btor2_text.specs.declared.kind.ArgumentKind.TheVariants as kinds
 use Rattle.btor2_text.specs.declared.line.Argument.{Argument}
 use Rattle.btor2_text.specs.declared.line.Argument.TheVariants as arguments
 use Rattle.btor2_text.specs.declared.line.Line.{Line}
 use Rattle.btor2_model.specs.Acceptance.{IsAccepted, fault_in, lacks_next, lines_fault, states_fault}
 use Rattle.btor2_model.specs.Rules.{is_bad, is_init, is_next, is_state, rule_of}
-use Rattle.btor2_model.specs.Run.{Step, Values, lines_of, no_bits, value_by, values_at, values_behind}
-use Rattle.btor2_model.specs.Scope.{Scope, behind, behind_all, meaning_of, no_lines, width_wanted}
+use Rattle.btor2_model.specs.Run.{StepValues, Values, lines_by_rule, no_bits, value_by, values_at, values_behind}
+use Rattle.btor2_model.specs.Scope.{DeclaredIds, behind, behind_all, meaning_of, no_lines, width_wanted}
 use Rattle.btor2_model.specs.inner.SlowRun.{sets}
-use Rattle.btor2_model.specs.declared.meaning.Meaning.{Meaning}
-use Rattle.btor2_model.specs.declared.rule.Rule.{Rule}
-use Rattle.btor2_model.specs.declared.rule.Rule.TheVariants as forms
+use Rattle.btor2_model.specs.declared.meaning.IdMeaning.{IdMeaning}
+use Rattle.btor2_model.specs.declared.rule.FormRule.{FormRule}
+use Rattle.btor2_model.specs.declared.rule.FormRule.TheVariants as forms
 use Rattle.btor2_model.proofs.Ends.{SameWidth, init-found}
 use Rattle.btor2_model.proofs.Evaluation.{option_or-none}
 use Rattle.btor2_model.proofs.Selections.{set-by}
@@ -35,7 +35,7 @@ use Rattle.koika_assert.specs.Bads.{bad_line, bad_lines}
 use Rattle.koika_assert.proofs.TurnedValues.{SameGiven, given-head, given-tail}
 
 -- what is known at the end and wasn't before stands on a line
-declared-here : (lines : List Line) (scope : Scope) (id : ℕ) (m : Meaning) → scope.meanings id ≡ None → (behind_all scope lines).meanings id ≡ Some m → (place : ℕ) × (line : Line) × (slice_get lines place ≡ Some line) × (line.id ≡ id)
+declared-here : (lines : List Line) (scope : DeclaredIds) (id : ℕ) (m : IdMeaning) → scope.meanings id ≡ None → (behind_all scope lines).meanings id ≡ Some m → (place : ℕ) × (line : Line) × (slice_get lines place ≡ Some line) × (line.id ≡ id)
 declared-here [] scope id m none is = absurd (cc)
 declared-here (line ∷ lines) scope id m none is = by (nat_eq line.id id) refl (λ before. declared-here lines (behind scope line) id m before is)
   where
@@ -47,14 +47,14 @@ declared-here (line ∷ lines) scope id m none is = by (nat_eq line.id id) refl 
         (suc more.0, more.1, more.2, more.3)
 
 -- a value rests on the inputs, and on the states that there are
-given-values : (lines : List Line) (scope : Scope) (step other : Step) (v : Values) → SameGiven step other lines → values_behind other scope v lines ≡ values_behind step scope v lines
+given-values : (lines : List Line) (scope : DeclaredIds) (step other : StepValues) (v : Values) → SameGiven step other lines → values_behind other scope v lines ≡ values_behind step scope v lines
 given-values [] scope step other v same = refl
 given-values (line ∷ lines) scope step other v same =
     let one : value_by (rule_of line.keyword) other scope v line ≡ value_by (rule_of line.keyword) step scope v line = by (rule_of line.keyword) refl in
     ap (λ (x : BitVector). values_behind other (behind scope line) (λ id. cond (nat_eq line.id id) x (v id)) lines) one
     ∙ given-values lines (behind scope line) step other (λ id. cond (nat_eq line.id id) (value_by (rule_of line.keyword) step scope v line) (v id)) (given-tail step other line lines same)
   where
-    by : (rule : Rule) → rule_of line.keyword ≡ rule → value_by rule other scope v line ≡ value_by rule step scope v line
+    by : (rule : FormRule) → rule_of line.keyword ≡ rule → value_by rule other scope v line ≡ value_by rule step scope v line
     by forms.Input is = ap (λ (f : Values). f line.id) same.inputs
     by forms.State is = given-head step other line lines same (ap is_state is)
     by rule is = refl
@@ -64,23 +64,23 @@ abbrev pub page : List Line → Page
 page lines = record { lines = lines; sorts = λ _. None }
 
 module _ (lines : List Line) (accepted : IsAccepted lines) (counted : AreCounted lines) where
-  abbrev end : Scope
+  abbrev end : DeclaredIds
   end = behind_all no_lines lines
 
   fine : lines_fault no_lines lines ≡ None
   fine = fine-lines lines accepted
 
-  known-low : (id : ℕ) (m : Meaning) → end.meanings id ≡ Some m → (1 ≤ id) × (id ≤ length lines)
+  known-low : (id : ℕ) (m : IdMeaning) → end.meanings id ≡ Some m → (1 ≤ id) × (id ≤ length lines)
   known-low id m is =
       let here = declared-here lines no_lines id m refl is in
       let within = slice_get_within lines here.0 here.1 here.2 in
       let number = counted here.0 here.1 here.2 in
       (omega (arith, number, here.3), omega (arith, number, here.3, within))
 
-  not-known : (id : ℕ) → ((m : Meaning) → end.meanings id ≡ Some m → ⊥) → end.meanings id ≡ None
+  not-known : (id : ℕ) → ((m : IdMeaning) → end.meanings id ≡ Some m → ⊥) → end.meanings id ≡ None
   not-known id never = by (end.meanings id) refl
     where
-      by : (o : Option Meaning) → end.meanings id ≡ o → end.meanings id ≡ None
+      by : (o : Option IdMeaning) → end.meanings id ≡ o → end.meanings id ≡ None
       by None is = is
       by (Some m) is = absurd (never m is)
 
@@ -92,7 +92,7 @@ module _ (lines : List Line) (accepted : IsAccepted lines) (counted : AreCounted
     bound = λ id above. not-known id (λ m is. let low = (known-low id m is).1 in omega (arith, low, above));
   }
 
-  late : (id : ℕ) → length lines < id → find (set_of id) (lines_of is_init lines) ≡ None
+  late : (id : ℕ) → length lines < id → find (set_of id) (lines_by_rule is_init lines) ≡ None
   unfolding SameWidth
   late id above = by (find (sets is_init id) lines) refl
     where
@@ -100,8 +100,8 @@ module _ (lines : List Line) (accepted : IsAccepted lines) (counted : AreCounted
       no-line None is = refl
       no-line (Some line) is = absurd (cc)
 
-      by : (o : Option Line) → find (sets is_init id) lines ≡ o → find (set_of id) (lines_of is_init lines) ≡ None
-      by None is = no-line (find (set_of id) (lines_of is_init lines)) (set-by is_init lines (λ _. no_bits) id None is)
+      by : (o : Option Line) → find (sets is_init id) lines ≡ o → find (set_of id) (lines_by_rule is_init lines) ≡ None
+      by None is = no-line (find (set_of id) (lines_by_rule is_init lines)) (set-by is_init lines (λ _. no_bits) id None is)
       by (Some line) is =
           let w = (init-found lines no_lines id line fine accepted.forms is).0 in
           let m = known-by kinds.Value (end.meanings id) w.0 w.1 in
@@ -122,9 +122,9 @@ pub record HasBads (p q : Page) (bads : List Line) : Type 0 where
   pub good : Good q
   pub keeps : Keeps p q
   pub lines : q.lines ≡ p.lines ++ bads
-  pub same : (test : Rule → Bool) → test forms.Bad ≡ false → lines_of test q.lines ≡ lines_of test p.lines
-  pub bad : lines_of is_bad q.lines ≡ lines_of is_bad p.lines ++ bads
-  pub lack : (scope : Scope) → find (lacks_next scope) bads ≡ None
+  pub same : (test : FormRule → Bool) → test forms.Bad ≡ false → lines_by_rule test q.lines ≡ lines_by_rule test p.lines
+  pub bad : lines_by_rule is_bad q.lines ≡ lines_by_rule is_bad p.lines ++ bads
+  pub lack : (scope : DeclaredIds) → find (lacks_next scope) bads ≡ None
 
 one-bad : (p : Page) (output : Line) → Good p → IsFlagOn p output → HasBads p (put p keywords.Bad output.arguments output.symbol) (bad_line (length p.lines + 1) output ∷ [])
 one-bad p output g flag =
@@ -152,7 +152,7 @@ no-bads p g = record {
   keeps = keeps-all p;
   lines = sym (append-nil p.lines);
   same = λ test no. refl;
-  bad = sym (append-nil (lines_of is_bad p.lines));
+  bad = sym (append-nil (lines_by_rule is_bad p.lines));
   lack = λ scope. refl;
 }
 
@@ -172,8 +172,8 @@ has-bads p (output ∷ outputs) g flags =
         keeps = keeps-both p middle q one.keeps rest.keeps;
         lines = rest.lines ∙ append_assoc p.lines (bad ∷ []) (bad_lines (length middle.lines + 1) outputs) ∙ ap (λ (ls : List Line). p.lines ++ bad ∷ ls) later;
         same = λ test no. rest.same test no ∙ one.same test no;
-        bad = rest.bad ∙ ap (λ (ls : List Line). ls ++ bad_lines (length middle.lines + 1) outputs) one.bad ∙ append_assoc (lines_of is_bad p.lines) (bad ∷ []) (bad_lines (length middle.lines + 1) outputs)
-            ∙ ap (λ (ls : List Line). lines_of is_bad p.lines ++ bad ∷ ls) later;
+        bad = rest.bad ∙ ap (λ (ls : List Line). ls ++ bad_lines (length middle.lines + 1) outputs) one.bad ∙ append_assoc (lines_by_rule is_bad p.lines) (bad ∷ []) (bad_lines (length middle.lines + 1) outputs)
+            ∙ ap (λ (ls : List Line). lines_by_rule is_bad p.lines ++ bad ∷ ls) later;
         lack = λ scope. ap (find (lacks_next scope)) (sym later) ∙ rest.lack scope;
       },
     )
@@ -200,6 +200,6 @@ module _ (lines : List Line) (accepted : IsAccepted lines) (q : Page) (bads : Li
   }
 
   -- the values of values
-  pub values-same : (step other : Step) (id w : ℕ) → SameGiven step other lines → width_wanted kinds.Value ((behind_all no_lines lines).meanings id) ≡ Some w → values_at q.lines other id ≡ values_at lines step id
+  pub values-same : (step other : StepValues) (id w : ℕ) → SameGiven step other lines → width_wanted kinds.Value ((behind_all no_lines lines).meanings id) ≡ Some w → values_at q.lines other id ≡ values_at lines step id
   values-same step other id w same is =
       value-keep kinds.Value (page lines) q other id w h.keeps is ∙ ap (λ (f : Values). f id) (given-values lines no_lines step other (λ _. no_bits) same)

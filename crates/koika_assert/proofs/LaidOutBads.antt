@@ -7,10 +7,10 @@ use Rattle.std.proofs.lemmas.Result.{IfOk-weaker}
 use Rattle.btor2_text.specs.declared.line.Line.{Line}
 use Rattle.btor2_model.specs.Acceptance.{IsAccepted}
 use Rattle.btor2_model.specs.Rules.{is_init, is_next, is_output, is_sort, is_state, rule_of}
-use Rattle.btor2_model.specs.Run.{lines_of, width_in}
+use Rattle.btor2_model.specs.Run.{lines_by_rule, width_in}
 use Rattle.btor2_model.specs.Scope.{id_at}
-use Rattle.btor2_model.specs.declared.rule.Rule.{Rule}
-use Rattle.btor2_model.specs.declared.rule.Rule.TheVariants as forms
+use Rattle.btor2_model.specs.declared.rule.FormRule.{FormRule}
+use Rattle.btor2_model.specs.declared.rule.FormRule.TheVariants as forms
 use Rattle.btor2_net.specs.Layout.{AreLaidOut, DifferInWidth, HasSymbol, StartsBefore, is_named, state_set, value_set}
 use Rattle.btor2_net.specs.TidyLines.{is_any_constant}
 use Rattle.btor2_net.specs.Translations.{AreCounted}
@@ -20,28 +20,28 @@ use Rattle.koika_assert.proofs.MarkedRuns.{marked-ids, picked-out}
 use Rattle.koika_assert.proofs.TidyBads.{same}
 
 -- outputs are lines with names
-outputs-among : (lines : List Line) → AllByRecursion HasSymbol (lines_of is_named lines) → AllByRecursion HasSymbol (lines_of is_output lines)
+outputs-among : (lines : List Line) → AllByRecursion HasSymbol (lines_by_rule is_named lines) → AllByRecursion HasSymbol (lines_by_rule is_output lines)
 outputs-among [] all = tt
 outputs-among (line ∷ lines) all = by (rule_of line.keyword) (outputs-among lines) all
   where
-    by : (rule : Rule) → (AllByRecursion HasSymbol (lines_of is_named lines) → AllByRecursion HasSymbol (lines_of is_output lines))
-        → AllByRecursion HasSymbol (cond (is_named rule) (line ∷ lines_of is_named lines) (lines_of is_named lines))
-        → AllByRecursion HasSymbol (cond (is_output rule) (line ∷ lines_of is_output lines) (lines_of is_output lines))
+    by : (rule : FormRule) → (AllByRecursion HasSymbol (lines_by_rule is_named lines) → AllByRecursion HasSymbol (lines_by_rule is_output lines))
+        → AllByRecursion HasSymbol (cond (is_named rule) (line ∷ lines_by_rule is_named lines) (lines_by_rule is_named lines))
+        → AllByRecursion HasSymbol (cond (is_output rule) (line ∷ lines_by_rule is_output lines) (lines_by_rule is_output lines))
     by forms.Output rest all = (all.0, rest all.1)
     by forms.Input rest all = rest all.1
     by forms.State rest all = rest all.1
     by forms.Bad rest all = rest all.1
     by other rest all = rest all
 
-bads-named : (id : ℕ) (outputs : List Line) → ((k : ℕ) (line : Line) → slice_get outputs k ≡ Some line → HasSymbol line) → AllByRecursion HasSymbol (lines_of is_named (bad_lines id outputs))
+bads-named : (id : ℕ) (outputs : List Line) → ((k : ℕ) (line : Line) → slice_get outputs k ≡ Some line → HasSymbol line) → AllByRecursion HasSymbol (lines_by_rule is_named (bad_lines id outputs))
 bads-named id [] each = tt
 bads-named id (output ∷ outputs) each = (each 0 output refl, bads-named (id + 1) outputs (λ k line at. each (suc k) line at))
 
 -- outputs of one bit that are marked have symbols
-marked-named : (lines : List Line) (marks : List ℕ) → All HasSymbol (lines_of is_named lines) → (k : ℕ) (line : Line) → slice_get (marked lines marks) k ≡ Some line → HasSymbol line
+marked-named : (lines : List Line) (marks : List ℕ) → All HasSymbol (lines_by_rule is_named lines) → (k : ℕ) (line : Line) → slice_get (marked lines marks) k ≡ Some line → HasSymbol line
 marked-named lines marks all =
-    let outputs : All HasSymbol (lines_of is_output lines) = All-from_recursion HasSymbol (lines_of is_output lines) (outputs-among lines (recursion_from_All HasSymbol (lines_of is_named lines) all)) in
-    let flags : All HasSymbol (flag_lines lines) = All-filter (λ (line : Line). width_in lines (id_at line.arguments 0) == 1) HasSymbol (lines_of is_output lines) outputs in
+    let outputs : All HasSymbol (lines_by_rule is_output lines) = All-from_recursion HasSymbol (lines_by_rule is_output lines) (outputs-among lines (recursion_from_All HasSymbol (lines_by_rule is_named lines) all)) in
+    let flags : All HasSymbol (flag_lines lines) = All-filter (λ (line : Line). width_in lines (id_at line.arguments 0) == 1) HasSymbol (lines_by_rule is_output lines) outputs in
     picked-out HasSymbol (flag_lines lines) marks (λ k line at. one-of-all HasSymbol (flag_lines lines) k line flags at)
 
 module _ (lines : List Line) (first : ℕ) (outputs : List Line) where
@@ -59,11 +59,11 @@ module _ (lines : List Line) (first : ℕ) (outputs : List Line) where
     ids = counted;
     sorts = subst (AllPairs DifferInWidth) (sym (same lines first outputs is_sort refl)) laid.sorts;
     inits = ap (map state_set) (same lines first outputs is_init refl) ∙ laid.inits ∙ sym (ap (map (λ (l : Line). l.id)) (same lines first outputs is_state refl));
-    constants = subst (All (StartsBefore all)) (sym (same lines first outputs is_init refl)) (λ k d within. starts-still (get_or (lines_of is_init lines) k d) (laid.constants k d within));
+    constants = subst (All (StartsBefore all)) (sym (same lines first outputs is_init refl)) (λ k d within. starts-still (get_or (lines_by_rule is_init lines) k d) (laid.constants k d within));
     nexts = ap (map state_set) (same lines first outputs is_next refl) ∙ laid.nexts ∙ sym (ap (map (λ (l : Line). l.id)) (same lines first outputs is_state refl));
     symbols = subst (All HasSymbol) (sym (filter-append (λ (l : Line). is_named (rule_of l.keyword)) lines (bad_lines first outputs)))
-        (All-append HasSymbol (lines_of is_named lines) (lines_of is_named (bad_lines first outputs)) laid.symbols
-        (All-from_recursion HasSymbol (lines_of is_named (bad_lines first outputs)) (bads-named first outputs named)));
+        (All-append HasSymbol (lines_by_rule is_named lines) (lines_by_rule is_named (bad_lines first outputs)) laid.symbols
+        (All-from_recursion HasSymbol (lines_by_rule is_named (bad_lines first outputs)) (bads-named first outputs named)));
   }
 
 -- the same of what a call gives, where it gives the lines

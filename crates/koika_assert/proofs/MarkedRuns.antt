@@ -14,23 +14,23 @@ use Rattle.one_rule.specs.declared.rows.Row.{Row}
 use Rattle.btor2_text.specs.Forms.{kinds_of}
 use Rattle.btor2_text.specs.Printable.{ArePrintable, AreTokens, FitKinds}
 use Rattle.btor2_text.specs.declared.keyword.Keyword.TheVariants as keywords
-use Rattle.btor2_text.specs.declared.kind.Kind.{Kind}
-use Rattle.btor2_text.specs.declared.kind.Kind.TheVariants as kinds
+use Rattle.btor2_text.specs.declared.kind.ArgumentKind.{ArgumentKind}
+use Rattle.btor2_text.specs.declared.kind.ArgumentKind.TheVariants as kinds
 use Rattle.btor2_text.specs.declared.line.Argument.{Argument}
 use Rattle.btor2_text.specs.declared.line.Argument.TheVariants as arguments
 use Rattle.btor2_text.specs.declared.line.Line.{Line}
 use Rattle.btor2_model.specs.Acceptance.{IsAccepted}
 use Rattle.btor2_model.specs.Rules.{is_bad, is_input, is_output, is_state, rule_of}
-use Rattle.btor2_model.specs.Run.{first_row, first_values, flag_ids, ids_of, lines_of, row_behind, rows_behind, states_at, values_in, width_in}
-use Rattle.btor2_model.specs.Scope.{Scope, behind_all, id_at, no_lines}
-use Rattle.btor2_model.specs.declared.meaning.Meaning.{Meaning}
-use Rattle.btor2_model.specs.declared.rule.Rule.{Rule}
-use Rattle.btor2_model.specs.declared.rule.Rule.TheVariants as forms
+use Rattle.btor2_model.specs.Run.{first_row, first_state_values, flag_ids, ids_of, lines_by_rule, row_behind, rows_behind, states_at, values_in, width_in}
+use Rattle.btor2_model.specs.Scope.{DeclaredIds, behind_all, id_at, no_lines}
+use Rattle.btor2_model.specs.declared.meaning.IdMeaning.{IdMeaning}
+use Rattle.btor2_model.specs.declared.rule.FormRule.{FormRule}
+use Rattle.btor2_model.specs.declared.rule.FormRule.TheVariants as forms
 use Rattle.btor2_model.proofs.Ends.{wanted-some}
 use Rattle.btor2_model.proofs.Filled.{value-alone}
 use Rattle.btor2_model.proofs.KindsByRule.{kinds-by, kinds_by}
 use Rattle.btor2_net.specs.Pages.{Page}
-use Rattle.btor2_net.specs.Translations.{AreCounted, name_of, output_widths, widths_in}
+use Rattle.btor2_net.specs.Translations.{AreCounted, line_name, output_widths, widths_in}
 use Rattle.btor2_model.proofs.Declared.{IsValue, all-passing, fine-lines, input-values, output-value, own-value, state-values}
 use Rattle.koika_assert.specs.Bads.{HasSameParts, RunsAlike, ShowsMarks, bad_lines, flag_lines, is_violated, marked, with_bads}
 use Rattle.koika_assert.proofs.AddedBads.{HasBads, IsFlagOn, good, has-bads, no-bads, page, still-accepted, values-same}
@@ -109,16 +109,16 @@ mapped-picks f items (number ∷ numbers) all = by (slice_get items number) refl
         ∙ ap₂ (λ (x : Bool) (xs : List Bool). x ∷ xs) (sym (get_or_from_slice_get (map f items) number (f line) false (slice_get-map f items number ∙ ap (option_map f) is))) rest
 
 module _ (lines : List Line) (accepted : IsAccepted lines) (q : Page) (bads : List Line) (h : HasBads (page lines) q bads) where
-  abbrev end : Scope
+  abbrev end : DeclaredIds
   end = behind_all no_lines lines
 
-  lines-same : (test : Rule → Bool) → test forms.Output ≡ false → test forms.Bad ≡ false → lines_of test q.lines ≡ lines_of test lines
+  lines-same : (test : FormRule → Bool) → test forms.Output ≡ false → test forms.Bad ≡ false → lines_by_rule test q.lines ≡ lines_by_rule test lines
   lines-same test o b = h.same test b
 
   width-same : (id w : ℕ) → IsValue end id w → width_in q.lines id ≡ width_in lines id
   width-same id w is =
       let m = wanted-some (end.meanings id) w is in
-      ap (λ (o : Option Meaning). unwrap_or (option_map (λ (x : Meaning). x.width) o) 0) (h.keeps.means id m.0 m.1 ∙ sym m.1)
+      ap (λ (o : Option IdMeaning). unwrap_or (option_map (λ (x : IdMeaning). x.width) o) 0) (h.keeps.means id m.0 m.1 ∙ sym m.1)
 
   in-marked : (inputs : InputsByCycle) (step id w : ℕ) → IsValue end id w → values_in q.lines inputs step id ≡ values_in lines inputs step id
   in-marked = in-same lines accepted q.lines lines-same width-same (values-same lines accepted q bads h)
@@ -127,31 +127,31 @@ module _ (lines : List Line) (accepted : IsAccepted lines) (q : Page) (bads : Li
   states-marked = states-same lines accepted q.lines lines-same width-same (values-same lines accepted q bads h)
 
   -- the ids of a rule's lines, and the names and widths of those lines
-  ids-same : (test : Rule → Bool) → test forms.Bad ≡ false → ids_of test q.lines ≡ ids_of test lines
+  ids-same : (test : FormRule → Bool) → test forms.Bad ≡ false → ids_of test q.lines ≡ ids_of test lines
   ids-same test b = ap (map (λ (line : Line). line.id)) (h.same test b)
 
-  widths-same : (test : Rule → Bool) → test forms.Bad ≡ false → All (λ (line : Line). test (rule_of line.keyword) ≡ true → IsValue end line.id (width_in lines line.id)) lines → widths_in test q.lines ≡ widths_in test lines
+  widths-same : (test : FormRule → Bool) → test forms.Bad ≡ false → All (λ (line : Line). test (rule_of line.keyword) ≡ true → IsValue end line.id (width_in lines line.id)) lines → widths_in test q.lines ≡ widths_in test lines
   widths-same test b own =
-      ap (map (width_in q.lines)) (ids-same test b) ∙ map-map (width_in q.lines) (λ (line : Line). line.id) (lines_of test lines)
-      ∙ alike (λ (line : Line). width_in q.lines line.id) (λ (line : Line). width_in lines line.id) (lines_of test lines)
+      ap (map (width_in q.lines)) (ids-same test b) ∙ map-map (width_in q.lines) (λ (line : Line). line.id) (lines_by_rule test lines)
+      ∙ alike (λ (line : Line). width_in q.lines line.id) (λ (line : Line). width_in lines line.id) (lines_by_rule test lines)
       (all-passing test (λ (line : Line). width_in q.lines line.id ≡ width_in lines line.id) lines (λ k d within passes. let id = (get_or lines k d).id in width-same id (width_in lines id) (own k d within passes)))
-      ∙ sym (map-map (width_in lines) (λ (line : Line). line.id) (lines_of test lines))
+      ∙ sym (map-map (width_in lines) (λ (line : Line). line.id) (lines_by_rule test lines))
 
-  outputs-own : All (λ (line : Line). IsValue end (id_at line.arguments 0) (width_in lines (id_at line.arguments 0))) (lines_of is_output lines)
+  outputs-own : All (λ (line : Line). IsValue end (id_at line.arguments 0) (width_in lines (id_at line.arguments 0))) (lines_by_rule is_output lines)
   outputs-own = all-passing is_output (λ (line : Line). IsValue end (id_at line.arguments 0) (width_in lines (id_at line.arguments 0))) lines (output-value lines (fine-lines lines accepted) accepted.forms)
 
-  output-widths : map (λ (line : Line). width_in q.lines (id_at line.arguments 0)) (lines_of is_output lines) ≡ output_widths lines
+  output-widths : map (λ (line : Line). width_in q.lines (id_at line.arguments 0)) (lines_by_rule is_output lines) ≡ output_widths lines
   output-widths =
-      alike (λ (line : Line). width_in q.lines (id_at line.arguments 0)) (λ (line : Line). width_in lines (id_at line.arguments 0)) (lines_of is_output lines)
-      (λ k d within. let id = id_at (get_or (lines_of is_output lines) k d).arguments 0 in width-same id (width_in lines id) (outputs-own k d within))
+      alike (λ (line : Line). width_in q.lines (id_at line.arguments 0)) (λ (line : Line). width_in lines (id_at line.arguments 0)) (lines_by_rule is_output lines)
+      (λ k d within. let id = id_at (get_or (lines_by_rule is_output lines) k d).arguments 0 in width-same id (width_in lines id) (outputs-own k d within))
 
   pub same-parts : HasSameParts lines q.lines
   same-parts = record {
-    inputs = ap (map name_of) (h.same is_input refl);
+    inputs = ap (map line_name) (h.same is_input refl);
     input_widths = widths-same is_input refl (own-value is_input input-values lines (fine-lines lines accepted) accepted.forms);
-    states = ap (map name_of) (h.same is_state refl);
+    states = ap (map line_name) (h.same is_state refl);
     state_widths = widths-same is_state refl (own-value is_state state-values lines (fine-lines lines accepted) accepted.forms);
-    outputs = ap (map name_of) (h.same is_output refl);
+    outputs = ap (map line_name) (h.same is_output refl);
     output_widths = ap (map (λ (line : Line). width_in q.lines (id_at line.arguments 0))) (h.same is_output refl) ∙ output-widths;
   }
 
@@ -164,22 +164,22 @@ module _ (lines : List Line) (accepted : IsAccepted lines) (q : Page) (bads : Li
       ap₂ (λ (w : ℕ) (ls : List Line). cond (nat_eq w 1) (line ∷ ls) ls) (all 0 line (omega arith)) rest
 
   flags-are : flag_ids lines ≡ map (λ (line : Line). id_at line.arguments 0) (flag_lines lines)
-  flags-are = filtered (λ (id : ℕ). nat_eq (width_in lines id) 1) (λ (line : Line). id_at line.arguments 0) (lines_of is_output lines)
+  flags-are = filtered (λ (id : ℕ). nat_eq (width_in lines id) 1) (λ (line : Line). id_at line.arguments 0) (lines_by_rule is_output lines)
 
   flags-same : flag_ids q.lines ≡ flag_ids lines
   flags-same =
       ap (λ (ls : List Line). filter (λ (id : ℕ). nat_eq (width_in q.lines id) 1) (map (λ (line : Line). id_at line.arguments 0) ls)) (h.same is_output refl)
-      ∙ filtered (λ (id : ℕ). nat_eq (width_in q.lines id) 1) (λ (line : Line). id_at line.arguments 0) (lines_of is_output lines)
-      ∙ ap (map (λ (line : Line). id_at line.arguments 0)) (flag-test (lines_of is_output lines) (λ k d within. let id = id_at (get_or (lines_of is_output lines) k d).arguments 0 in width-same id (width_in lines id) (outputs-own k d within)))
+      ∙ filtered (λ (id : ℕ). nat_eq (width_in q.lines id) 1) (λ (line : Line). id_at line.arguments 0) (lines_by_rule is_output lines)
+      ∙ ap (map (λ (line : Line). id_at line.arguments 0)) (flag-test (lines_by_rule is_output lines) (λ k d within. let id = id_at (get_or (lines_by_rule is_output lines) k d).arguments 0 in width-same id (width_in lines id) (outputs-own k d within)))
       ∙ sym flags-are
 
   -- each names a value of one bit
   flag-value : (k : ℕ) (line : Line) → slice_get (flag_lines lines) k ≡ Some line → IsValue end (id_at line.arguments 0) 1
   flag-value =
-      passing (λ (line : Line). IsValue end (id_at line.arguments 0) 1) (λ (line : Line). nat_eq (width_in lines (id_at line.arguments 0)) 1) (lines_of is_output lines)
+      passing (λ (line : Line). IsValue end (id_at line.arguments 0) 1) (λ (line : Line). nat_eq (width_in lines (id_at line.arguments 0)) 1) (lines_by_rule is_output lines)
       (λ k line at narrow.
-      let own = subst (λ (l : Line). IsValue end (id_at l.arguments 0) (width_in lines (id_at l.arguments 0))) (get_or_from_slice_get (lines_of is_output lines) k line line at)
-      (outputs-own k line (slice_get_within (lines_of is_output lines) k line at)) in
+      let own = subst (λ (l : Line). IsValue end (id_at l.arguments 0) (width_in lines (id_at l.arguments 0))) (get_or_from_slice_get (lines_by_rule is_output lines) k line line at)
+      (outputs-own k line (slice_get_within (lines_by_rule is_output lines) k line at)) in
       own ∙ ap Some (eqb-true (width_in lines (id_at line.arguments 0)) 1 narrow))
 
   -- rows
@@ -203,9 +203,9 @@ module _ (lines : List Line) (accepted : IsAccepted lines) (q : Page) (bads : Li
 
   first-marked : first_row q.lines ≡ first_row lines
   first-marked =
-      rows-same (map (first_values q.lines) (ids_of is_state q.lines)) (map (first_values lines) (ids_of is_state lines)) (map (λ (id : ℕ). false) (flag_ids q.lines)) (map (λ (id : ℕ). false) (flag_ids lines))
-      (ap (map (first_values q.lines)) (ids-same is_state refl)
-      ∙ alike-ids (first_values q.lines) (first_values lines) (ids_of is_state lines) (λ k id at. states-marked (λ cycle. []) 0 k id at))
+      rows-same (map (first_state_values q.lines) (ids_of is_state q.lines)) (map (first_state_values lines) (ids_of is_state lines)) (map (λ (id : ℕ). false) (flag_ids q.lines)) (map (λ (id : ℕ). false) (flag_ids lines))
+      (ap (map (first_state_values q.lines)) (ids-same is_state refl)
+      ∙ alike-ids (first_state_values q.lines) (first_state_values lines) (ids_of is_state lines) (λ k id at. states-marked (λ cycle. []) 0 k id at))
       (ap (map (λ (id : ℕ). false)) flags-same)
 
   all-rows : (inputs : InputsByCycle) (n : ℕ) → rows_behind q.lines inputs n ≡ rows_behind lines inputs n
@@ -223,7 +223,7 @@ violated-by lines all inputs step id [] same = refl
 violated-by lines all inputs step id (output ∷ outputs) same =
     ap₂ (λ (x : Bool) (xs : List Bool). x ∷ xs) (ap (λ (v : BitVector). nat_eq v.number 1) (same 0 output refl)) (violated-by lines all inputs step (id + 1) outputs (λ k line at. same (suc k) line at))
 
-output-rule : (rule : Rule) → is_output rule ≡ true → rule ≡ forms.Output
+output-rule : (rule : FormRule) → is_output rule ≡ true → rule ≡ forms.Output
 output-rule forms.Output is = refl
 output-rule other is = absurd (cc)
 
@@ -240,13 +240,13 @@ module _ (lines : List Line) (accepted : IsAccepted lines) (counted : AreCounted
     is : line.arguments ≡ arguments.Id value ∷ []
     token : AreTokens (option_to_list line.symbol)
 
-  outputs-written : (k : ℕ) (line : Line) → slice_get (lines_of is_output lines) k ≡ Some line → IsWritten line
+  outputs-written : (k : ℕ) (line : Line) → slice_get (lines_by_rule is_output lines) k ≡ Some line → IsWritten line
   outputs-written =
       passing IsWritten (λ (line : Line). is_output (rule_of line.keyword)) lines
       (λ k line at output.
       let form = printable-at lines k line accepted.forms at in
       let kinds_are : kinds_of line.keyword ≡ kinds.Value ∷ [] = kinds-by line.keyword ∙ ap kinds_by (output-rule (rule_of line.keyword) output) in
-      let a = value-alone line.arguments (subst (λ (ks : List Kind). FitKinds ks line.arguments) kinds_are form.0) in
+      let a = value-alone line.arguments (subst (λ (ks : List ArgumentKind). FitKinds ks line.arguments) kinds_are form.0) in
       record { value = a.0; is = a.1; token = form.1 })
 
   -- no bad line yet
@@ -255,7 +255,7 @@ module _ (lines : List Line) (accepted : IsAccepted lines) (counted : AreCounted
 
   flags-on : (k : ℕ) (line : Line) → slice_get (flag_lines lines) k ≡ Some line → IsFlagOn (page lines) line
   flags-on k line at =
-      let w = passing IsWritten (λ (l : Line). nat_eq (width_in lines (id_at l.arguments 0)) 1) (lines_of is_output lines) (λ j l found narrow. outputs-written j l found) k line at in
+      let w = passing IsWritten (λ (l : Line). nat_eq (width_in lines (id_at l.arguments 0)) 1) (lines_by_rule is_output lines) (λ j l found narrow. outputs-written j l found) k line at in
       let named : id_at line.arguments 0 ≡ w.value = ap (λ (given : List Argument). id_at given 0) w.is in
       record { value = w.value; is = w.is; named = subst (λ (id : ℕ). IsValue (behind_all no_lines lines) id 1) named (flag-value lines accepted (page lines) [] empty k line at); token = w.token }
 
@@ -281,17 +281,17 @@ module _ (lines : List Line) (accepted : IsAccepted lines) (counted : AreCounted
   pub marked-ids : AreCounted (with_bads lines marks)
   marked-ids = subst AreCounted added-is added.1.good.counted
 
-  bads-own : All (λ (line : Line). IsValue (behind_all no_lines lines) (id_at line.arguments 0) 1) (lines_of is_bad lines)
+  bads-own : All (λ (line : Line). IsValue (behind_all no_lines lines) (id_at line.arguments 0) 1) (lines_by_rule is_bad lines)
   bads-own = all-passing is_bad (λ (line : Line). IsValue (behind_all no_lines lines) (id_at line.arguments 0) 1) lines (bad-value lines (fine-lines lines accepted) accepted.forms)
 
   shows-added : ShowsMarks lines marks added.0.lines
   shows-added inputs step =
       let q = added.0 in
       let all = in-marked lines accepted q (bad_lines (length lines + 1) outputs) added.1 in
-      ap (map (is_violated q.lines inputs step)) added.1.bad ∙ map-append (is_violated q.lines inputs step) (lines_of is_bad lines) (bad_lines (length lines + 1) outputs)
+      ap (map (is_violated q.lines inputs step)) added.1.bad ∙ map-append (is_violated q.lines inputs step) (lines_by_rule is_bad lines) (bad_lines (length lines + 1) outputs)
       ∙ ap₂ (λ (a b : List Bool). a ++ b)
-      (alike (is_violated q.lines inputs step) (is_violated lines inputs step) (lines_of is_bad lines)
-      (λ k d inside. let id = id_at (get_or (lines_of is_bad lines) k d).arguments 0 in ap (λ (v : BitVector). nat_eq v.number 1) (all inputs step id 1 (bads-own k d inside))))
+      (alike (is_violated q.lines inputs step) (is_violated lines inputs step) (lines_by_rule is_bad lines)
+      (λ k d inside. let id = id_at (get_or (lines_by_rule is_bad lines) k d).arguments 0 in ap (λ (v : BitVector). nat_eq v.number 1) (all inputs step id 1 (bads-own k d inside))))
       (violated-by lines q.lines inputs step (length lines + 1) outputs
       (λ k line at. all inputs step (id_at line.arguments 0) 1 (picked-out (λ (l : Line). IsValue (behind_all no_lines lines) (id_at l.arguments 0) 1) (flag_lines lines) marks (flag-value lines accepted (page lines) [] empty) k line at))
       ∙ mapped-picks (is_violated lines inputs step) (flag_lines lines) marks within

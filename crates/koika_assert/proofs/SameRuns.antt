@@ -10,11 +10,11 @@ use Rattle.one_rule.specs.Run.{InputsByCycle}
 use Rattle.btor2_text.specs.declared.line.Line.{Line}
 use Rattle.btor2_model.specs.Acceptance.{IsAccepted, lines_fault}
 use Rattle.btor2_model.specs.Rules.{is_init, is_input, is_next, is_state}
-use Rattle.btor2_model.specs.Run.{Step, Values, first_values, ids_of, input_values, lines_of, next_values, no_bits, states_at, value_set, values_at, values_in, width_in}
-use Rattle.btor2_model.specs.Scope.{Scope, behind_all, id_at, no_lines}
+use Rattle.btor2_model.specs.Run.{StepValues, Values, first_state_values, ids_of, input_values, lines_by_rule, next_values, no_bits, states_at, value_set, values_at, values_in, width_in}
+use Rattle.btor2_model.specs.Scope.{DeclaredIds, behind_all, id_at, no_lines}
 use Rattle.btor2_model.specs.inner.SlowRun.{sets}
-use Rattle.btor2_model.specs.declared.rule.Rule.{Rule}
-use Rattle.btor2_model.specs.declared.rule.Rule.TheVariants as forms
+use Rattle.btor2_model.specs.declared.rule.FormRule.{FormRule}
+use Rattle.btor2_model.specs.declared.rule.FormRule.TheVariants as forms
 use Rattle.btor2_model.proofs.Ends.{SameWidth, init-found}
 use Rattle.btor2_model.proofs.Selections.{set-by}
 use Rattle.btor2_model.proofs.Declared.{IsValue, all-passing, fine-lines, next-of, own-value, state-values}
@@ -31,30 +31,30 @@ at-place P lines place id all at = by (slice_get lines place) refl
         let same_id : line.id ≡ id = cc in
         subst P same_id (subst (λ (l : Line). P l.id) (get_or_from_slice_get lines place line line found) (all place line (slice_get_within lines place line found)))
 
-module _ (lines : List Line) (accepted : IsAccepted lines) (shown : List Line) (lines_same : (test : Rule → Bool) → test forms.Output ≡ false → test forms.Bad ≡ false → lines_of test shown ≡ lines_of test lines)
+module _ (lines : List Line) (accepted : IsAccepted lines) (shown : List Line) (lines_same : (test : FormRule → Bool) → test forms.Output ≡ false → test forms.Bad ≡ false → lines_by_rule test shown ≡ lines_by_rule test lines)
     (width_same : (id w : ℕ) → IsValue (behind_all no_lines lines) id w → width_in shown id ≡ width_in lines id)
-    (values_same : (step other : Step) (id w : ℕ) → SameGiven step other lines → IsValue (behind_all no_lines lines) id w → values_at shown other id ≡ values_at lines step id) where
-  abbrev end : Scope
+    (values_same : (step other : StepValues) (id w : ℕ) → SameGiven step other lines → IsValue (behind_all no_lines lines) id w → values_at shown other id ≡ values_at lines step id) where
+  abbrev end : DeclaredIds
   end = behind_all no_lines lines
 
   abbrev fine : lines_fault no_lines lines ≡ None
   fine = fine-lines lines accepted
 
-  pub states-own : All (λ (line : Line). IsValue end line.id (width_in lines line.id)) (lines_of is_state lines)
+  pub states-own : All (λ (line : Line). IsValue end line.id (width_in lines line.id)) (lines_by_rule is_state lines)
   states-own = all-passing is_state (λ (line : Line). IsValue end line.id (width_in lines line.id)) lines (own-value is_state state-values lines fine accepted.forms)
 
-  abbrev nothing : Step
+  abbrev nothing : StepValues
   nothing = record { inputs = λ _. no_bits; states = λ _. no_bits }
 
-  set-same : (test : Rule → Bool) (all : Values) (s : ℕ) → test forms.Output ≡ false → test forms.Bad ≡ false → value_set test shown all s ≡ value_set test lines all s
+  set-same : (test : FormRule → Bool) (all : Values) (s : ℕ) → test forms.Output ≡ false → test forms.Bad ≡ false → value_set test shown all s ≡ value_set test lines all s
   set-same test all s o b = ap (λ (ls : List Line). option_map (λ (line : Line). all (id_at line.arguments 2)) (find (λ (line : Line). nat_eq s (id_at line.arguments 1)) ls)) (lines_same test o b)
 
   -- the first values of states
-  pub first-same : (s : ℕ) → IsValue end s (width_in lines s) → first_values shown s ≡ first_values lines s
+  pub first-same : (s : ℕ) → IsValue end s (width_in lines s) → first_state_values shown s ≡ first_state_values lines s
   unfolding SameWidth
   first-same s own = by (find (sets is_init s) lines) refl
     where
-      by : (o : Option Line) → find (sets is_init s) lines ≡ o → first_values shown s ≡ first_values lines s
+      by : (o : Option Line) → find (sets is_init s) lines ≡ o → first_state_values shown s ≡ first_state_values lines s
       by None at =
           ap₂ (λ (o : Option BitVector) (w : ℕ). unwrap_or o (zero_at w)) (set-same is_init (values_at shown nothing) s refl refl ∙ set-by is_init lines (values_at shown nothing) s None at ∙ sym (set-by is_init lines (values_at lines nothing) s None at))
           (width_same s (width_in lines s) own)
@@ -75,7 +75,7 @@ module _ (lines : List Line) (accepted : IsAccepted lines) (shown : List Line) (
   inputs-same given =
       ap (λ (ls : List Line). λ (id : ℕ). unwrap_or (lookup (nat_eq id) (zip (map (λ (line : Line). line.id) ls) given)) no_bits) (lines_same is_input refl refl)
 
-  nexts-own : All (λ (line : Line). (next : Line) × (find (sets is_next line.id) lines ≡ Some next) × SameWidth end line.id (id_at next.arguments 2)) (lines_of is_state lines)
+  nexts-own : All (λ (line : Line). (next : Line) × (find (sets is_next line.id) lines ≡ Some next) × SameWidth end line.id (id_at next.arguments 2)) (lines_by_rule is_state lines)
   nexts-own = all-passing is_state (λ (line : Line). (next : Line) × (find (sets is_next line.id) lines ≡ Some next) × SameWidth end line.id (id_at next.arguments 2)) lines (next-of lines accepted)
 
   module _ (inputs : InputsByCycle) where
@@ -84,10 +84,10 @@ module _ (lines : List Line) (accepted : IsAccepted lines) (shown : List Line) (
     given-at step states = record { inputs = inputs-same (inputs (step + 1)); states = states }
 
     pub states-same : (step place id : ℕ) → slice_get (ids_of is_state lines) place ≡ Some id → states_at shown inputs step id ≡ states_at lines inputs step id
-    states-same zero place id at = at-place (λ (s : ℕ). first_values shown s ≡ first_values lines s) (lines_of is_state lines) place id (λ k d within. first-same (get_or (lines_of is_state lines) k d).id (states-own k d within)) at
+    states-same zero place id at = at-place (λ (s : ℕ). first_state_values shown s ≡ first_state_values lines s) (lines_by_rule is_state lines) place id (λ k d within. first-same (get_or (lines_by_rule is_state lines) k d).id (states-own k d within)) at
     states-same (suc step) place id at =
-        at-place (λ (s : ℕ). next_values shown (values_in shown inputs step) s ≡ next_values lines (values_in lines inputs step) s) (lines_of is_state lines) place id
-        (λ k d within. next-same (values_in lines inputs step) (values_in shown inputs step) (get_or (lines_of is_state lines) k d).id
+        at-place (λ (s : ℕ). next_values shown (values_in shown inputs step) s ≡ next_values lines (values_in lines inputs step) s) (lines_by_rule is_state lines) place id
+        (λ k d within. next-same (values_in lines inputs step) (values_in shown inputs step) (get_or (lines_by_rule is_state lines) k d).id
         (λ i width is. values_same (record { inputs = input_values lines (inputs (step + 1)); states = states_at lines inputs step }) (record { inputs = input_values shown (inputs (step + 1)); states = states_at shown inputs step }) i width (given-at step (states-same step)) is)
         (nexts-own k d within)) at
 

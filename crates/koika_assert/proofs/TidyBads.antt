@@ -8,16 +8,16 @@ use Rattle.btor2_text.specs.declared.keyword.Keyword.TheVariants as keywords
 use Rattle.btor2_text.specs.declared.line.Argument.{Argument}
 use Rattle.btor2_text.specs.declared.line.Line.{Line}
 use Rattle.btor2_model.specs.Rules.{is_next, is_output, rule_of}
-use Rattle.btor2_model.specs.Run.{lines_of}
+use Rattle.btor2_model.specs.Run.{lines_by_rule}
 use Rattle.btor2_model.specs.Scope.{id_at}
-use Rattle.btor2_model.specs.declared.rule.Rule.{Rule}
-use Rattle.btor2_model.specs.declared.rule.Rule.TheVariants as forms
+use Rattle.btor2_model.specs.declared.rule.FormRule.{FormRule}
+use Rattle.btor2_model.specs.declared.rule.FormRule.TheVariants as forms
 use Rattle.btor2_net.specs.TidyLines.{AreTidy, Differ, IdServes, IsNeededBy, IsNeededLine, IsOpenLine, is_any_constant, is_operator, next, operand, operand_ids, output}
 use Rattle.koika_assert.specs.Bads.{bad_line, bad_lines, marked, with_bads}
 
-no-others : (test : Rule → Bool) (id : ℕ) (outputs : List Line) → test forms.Bad ≡ false → lines_of test (bad_lines id outputs) ≡ []
+no-others : (test : FormRule → Bool) (id : ℕ) (outputs : List Line) → test forms.Bad ≡ false → lines_by_rule test (bad_lines id outputs) ≡ []
 no-others test id [] never = refl
-no-others test id (one ∷ outputs) never = ap (λ (b : Bool). cond b (bad_line id one ∷ lines_of test (bad_lines (id + 1) outputs)) (lines_of test (bad_lines (id + 1) outputs))) never ∙ no-others test (id + 1) outputs never
+no-others test id (one ∷ outputs) never = ap (λ (b : Bool). cond b (bad_line id one ∷ lines_by_rule test (bad_lines (id + 1) outputs)) (lines_by_rule test (bad_lines (id + 1) outputs))) never ∙ no-others test (id + 1) outputs never
 
 all-bad : (id : ℕ) (outputs : List Line) (line : Line) → Contains (bad_lines id outputs) line → line.keyword ≡ keywords.Bad
 all-bad id [] line there = absurd (omega (arith, there.1))
@@ -32,12 +32,12 @@ module _ (lines : List Line) (first : ℕ) (outputs : List Line) where
   all = lines ++ bad_lines first outputs
 
   -- lines of other rules are the same
-  pub same : (test : Rule → Bool) → test forms.Bad ≡ false → lines_of test all ≡ lines_of test lines
+  pub same : (test : FormRule → Bool) → test forms.Bad ≡ false → lines_by_rule test all ≡ lines_by_rule test lines
   same test never =
-      filter-append (λ (l : Line). test (rule_of l.keyword)) lines (bad_lines first outputs) ∙ ap (λ (ls : List Line). lines_of test lines ++ ls) (no-others test first outputs never)
-      ∙ append-nil (lines_of test lines)
+      filter-append (λ (l : Line). test (rule_of l.keyword)) lines (bad_lines first outputs) ∙ ap (λ (ls : List Line). lines_by_rule test lines ++ ls) (no-others test first outputs never)
+      ∙ append-nil (lines_by_rule test lines)
 
-  still-there : (test : Rule → Bool) (line : Line) → test forms.Bad ≡ false → Contains (lines_of test lines) line → Contains (lines_of test all) line
+  still-there : (test : FormRule → Bool) (line : Line) → test forms.Bad ≡ false → Contains (lines_by_rule test lines) line → Contains (lines_by_rule test all) line
   still-there test line never there = subst (λ (ls : List Line). Contains ls line) (sym (same test never)) there
 
   still-serves : (id : ℕ) → IdServes lines id → IdServes all id
@@ -63,11 +63,11 @@ module _ (lines : List Line) (first : ℕ) (outputs : List Line) where
   pub still-tidy : AreTidy lines → AreTidy all
   still-tidy tidy = record {
     distinct = subst (AllPairs Differ) (sym (same is_operator refl)) tidy.distinct;
-    serve = subst (All (λ (line : Line). IdServes all line.id)) (sym (same is_operator refl)) (λ k d within. still-serves (get_or (lines_of is_operator lines) k d).id (tidy.serve k d within));
+    serve = subst (All (λ (line : Line). IdServes all line.id)) (sym (same is_operator refl)) (λ k d within. still-serves (get_or (lines_by_rule is_operator lines) k d).id (tidy.serve k d within));
     are_open = subst (All (IsOpenLine all)) (sym (same is_operator refl))
         (λ k d within constants.
         tidy.are_open k d within
-        (subst (λ (ls : List Line). All (Contains (map (λ (l : Line). l.id) ls)) (operand_ids (get_or (lines_of is_operator lines) k d).arguments)) (same is_any_constant refl) constants));
+        (subst (λ (ls : List Line). All (Contains (map (λ (l : Line). l.id) ls)) (operand_ids (get_or (lines_by_rule is_operator lines) k d).arguments)) (same is_any_constant refl) constants));
     needed = λ k d within. each-needed (get_or all k d) tidy.needed (Contains-append_cases lines (bad_lines first outputs) (get_or all k d) (Contains-get_or all k d within));
   }
 

@@ -7,11 +7,11 @@ use Rattle.btor2_text.specs.Forms.{kinds_of}
 use Rattle.btor2_text.specs.Printable.{ArePrintable, FitKinds, IsPrintable}
 use Rattle.btor2_text.specs.declared.keyword.Keyword.{Keyword}
 use Rattle.btor2_text.specs.declared.keyword.Keyword.TheVariants as keywords
-use Rattle.btor2_text.specs.declared.kind.Kind.{Kind}
+use Rattle.btor2_text.specs.declared.kind.ArgumentKind.{ArgumentKind}
 use Rattle.btor2_text.specs.declared.line.Line.{Line}
 use Rattle.btor2_model.specs.Acceptance.{IsAccepted, fault_in, first_fault, lacks_next, line_fault, lines_fault, states_fault}
 use Rattle.btor2_model.specs.Rules.{is_output, is_state, rule_of}
-use Rattle.btor2_model.specs.Scope.{Scope, behind, behind_all, no_lines}
+use Rattle.btor2_model.specs.Scope.{DeclaredIds, behind, behind_all, no_lines}
 use Rattle.btor2_model.proofs.Conditions.{meets, no-fault}
 use Rattle.btor2_model.proofs.Evaluation.{option_map-none, option_or-none}
 use Rattle.koika_assert.specs.Bads.{as_output, bads_as_outputs, turned}
@@ -27,7 +27,7 @@ is-kept line lines is =
     ap (λ (b : Bool). map turned (cond (not b) (line ∷ filter (λ (l : Line). not (is_output (rule_of l.keyword))) lines) (filter (λ (l : Line). not (is_output (rule_of l.keyword))) lines))) is
 
 -- the lines that are kept have no fault, and declare the same sorts and values
-pub record TurnsOut (scope kept : Scope) (lines : List Line) : Type 0 where
+pub record TurnsOut (scope kept : DeclaredIds) (lines : List Line) : Type 0 where
   pub fine : lines_fault kept (bads_as_outputs lines) ≡ None
   pub shown : Shown (behind_all scope lines) (behind_all kept (bads_as_outputs lines))
 
@@ -35,12 +35,12 @@ both-none : (f : ℕ → Fault) (o : Option ℕ) (r : Option Fault) → o ≡ No
 both-none f None r first rest = rest
 both-none f (Some x) r first rest = absurd (cc)
 
-pub each-fine : (scope : Scope) (line : Line) (rest : List Line) → lines_fault scope (line ∷ rest) ≡ None → (line_fault scope line ≡ None) × (lines_fault (behind scope line) rest ≡ None)
+pub each-fine : (scope : DeclaredIds) (line : Line) (rest : List Line) → lines_fault scope (line ∷ rest) ≡ None → (line_fault scope line ≡ None) × (lines_fault (behind scope line) rest ≡ None)
 each-fine scope line rest fine =
     let e = option_or-none (option_map (fault_in line) (line_fault scope line)) (lines_fault (behind scope line) rest) fine in (option_map-none (fault_in line) (line_fault scope line) e.0, e.1)
 
-turn-line : (scope kept : Scope) (line : Line) (lines : List Line) (b : Bool) → is_output (rule_of line.keyword) ≡ b → Shown scope kept → line_fault scope line ≡ None → IsPrintable line
-    → ((next : Scope) → Shown (behind scope line) next → TurnsOut (behind scope line) next lines) → TurnsOut scope kept (line ∷ lines)
+turn-line : (scope kept : DeclaredIds) (line : Line) (lines : List Line) (b : Bool) → is_output (rule_of line.keyword) ≡ b → Shown scope kept → line_fault scope line ≡ None → IsPrintable line
+    → ((next : DeclaredIds) → Shown (behind scope line) next → TurnsOut (behind scope line) next lines) → TurnsOut scope kept (line ∷ lines)
 turn-line scope kept line lines true is shown fine form more =
     let met = meets scope line fine in
     let rest = more kept (shown-without scope kept line shown met form.arguments form.id.0 is) in
@@ -57,7 +57,7 @@ turn-line scope kept line lines false is shown fine form more =
       shown = subst (λ (ls : List Line). Shown (behind_all scope (line ∷ lines)) (behind_all kept ls)) (sym (is-kept line lines is)) rest.shown;
     }
 
-pub turns-out : (lines : List Line) (scope kept : Scope) → Shown scope kept → lines_fault scope lines ≡ None → ArePrintable lines → TurnsOut scope kept lines
+pub turns-out : (lines : List Line) (scope kept : DeclaredIds) → Shown scope kept → lines_fault scope lines ≡ None → ArePrintable lines → TurnsOut scope kept lines
 turns-out [] scope kept shown fine forms = record { fine = refl; shown = shown }
 turns-out (line ∷ lines) scope kept shown fine forms =
     let each = each-fine scope line lines fine in
@@ -78,7 +78,7 @@ forms-turned : (line : Line) (lines : List Line) (b : Bool) → is_output (rule_
 forms-turned line lines true is form rest = subst ArePrintable (sym (goes line lines is)) rest
 forms-turned line lines false is form rest =
     subst ArePrintable (sym (is-kept line lines is))
-    (record { id = form.id; arguments = subst (λ (ks : List Kind). FitKinds ks line.arguments) (sym (turned-kinds line.keyword)) form.arguments; symbol = form.symbol }, rest)
+    (record { id = form.id; arguments = subst (λ (ks : List ArgumentKind). FitKinds ks line.arguments) (sym (turned-kinds line.keyword)) form.arguments; symbol = form.symbol }, rest)
 
 pub printable-turned : (lines : List Line) → ArePrintable lines → ArePrintable (bads_as_outputs lines)
 printable-turned [] forms = tt
@@ -92,7 +92,7 @@ turned-state line = by (turned-cases line.keyword)
     by (inl is) = ap (λ (k : Keyword). is_state (rule_of (as_output k))) is ∙ sym (ap (λ (k : Keyword). is_state (rule_of k)) is)
     by (inr is) = ap (λ (k : Keyword). is_state (rule_of k)) is
 
-none-lacks : (end kept : Scope) (line : Line) (lines : List Line) (b c : Bool) → is_output (rule_of line.keyword) ≡ b → lacks_next end line ≡ c → kept.continued ≡ end.continued
+none-lacks : (end kept : DeclaredIds) (line : Line) (lines : List Line) (b c : Bool) → is_output (rule_of line.keyword) ≡ b → lacks_next end line ≡ c → kept.continued ≡ end.continued
     → (find (lacks_next end) lines ≡ None → find (lacks_next kept) (bads_as_outputs lines) ≡ None) → find (lacks_next end) (line ∷ lines) ≡ None → find (lacks_next kept) (bads_as_outputs (line ∷ lines)) ≡ None
 none-lacks end kept line lines b true output lacks same more none =
     let some : find (lacks_next end) (line ∷ lines) ≡ Some line = ap (λ (x : Bool). cond x (Some line) (find (lacks_next end) lines)) lacks in absurd (cc)
@@ -104,7 +104,7 @@ none-lacks end kept line lines false false output lacks same more none =
     ∙ ap (λ (x : Bool). cond x (Some (turned line)) (find (lacks_next kept) (bads_as_outputs lines))) own
     ∙ more (sym (ap (λ (x : Bool). cond x (Some line) (find (lacks_next end) lines)) lacks) ∙ none)
 
-all-have : (end kept : Scope) (lines : List Line) → kept.continued ≡ end.continued → find (lacks_next end) lines ≡ None → find (lacks_next kept) (bads_as_outputs lines) ≡ None
+all-have : (end kept : DeclaredIds) (lines : List Line) → kept.continued ≡ end.continued → find (lacks_next end) lines ≡ None → find (lacks_next kept) (bads_as_outputs lines) ≡ None
 all-have end kept [] same none = refl
 all-have end kept (line ∷ lines) same none =
     none-lacks end kept line lines (is_output (rule_of line.keyword)) (lacks_next end line) refl refl same (λ rest. all-have end kept lines same rest) none

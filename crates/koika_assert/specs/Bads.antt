@@ -8,7 +8,7 @@ use Rattle.btor2_text.specs.declared.keyword.Keyword.{Keyword}
 use Rattle.btor2_text.specs.declared.keyword.Keyword.TheVariants as keywords
 use Rattle.btor2_text.specs.declared.line.Line.{Line}
 use Rattle.btor2_model.specs.Rules.{is_bad, is_input, is_output, is_state, rule_of}
-use Rattle.btor2_model.specs.Run.{first_row, ids_of, lines_of, row_behind, run_of, values_in, width_in}
+use Rattle.btor2_model.specs.Run.{first_row, ids_of, lines_by_rule, row_behind, run_of, values_in, width_in}
 use Rattle.btor2_model.specs.Scope.{id_at}
 use Rattle.btor2_net.specs.Translations.{names_of, output_widths, widths_in}
 
@@ -32,13 +32,13 @@ is_violated lines inputs step line = (values_in lines inputs step (id_at line.ar
 -- inputs of the same widths
 pub record ShowsViolations (lines shown : List Line) : Type 0 where
   pub inputs : map (width_in shown) (ids_of is_input shown) ≡ map (width_in lines) (ids_of is_input lines)
-  pub names : lines_of is_output shown ≡ map turned (lines_of is_bad lines)
-  pub first : (first_row shown).fired ≡ map (λ _. false) (lines_of is_bad lines)
-  pub flags : (inputs : InputsByCycle) (step : ℕ) → (row_behind shown inputs step).fired ≡ map (is_violated lines inputs step) (lines_of is_bad lines)
+  pub names : lines_by_rule is_output shown ≡ map turned (lines_by_rule is_bad lines)
+  pub first : (first_row shown).fired ≡ map (λ _. false) (lines_by_rule is_bad lines)
+  pub flags : (inputs : InputsByCycle) (step : ℕ) → (row_behind shown inputs step).fired ≡ map (is_violated lines inputs step) (lines_by_rule is_bad lines)
 
 -- the outputs of one bit, in order
 abbrev pub flag_lines : List Line → List Line
-flag_lines lines = filter (λ line. width_in lines (id_at line.arguments 0) == 1) (lines_of is_output lines)
+flag_lines lines = filter (λ line. width_in lines (id_at line.arguments 0) == 1) (lines_by_rule is_output lines)
 
 -- a bad line that marks an output's value, and has its symbol
 abbrev pub bad_line : ℕ → Line → Line
@@ -75,5 +75,5 @@ RunsAlike lines other = (inputs : InputsByCycle) (n : ℕ) → run_of other inpu
 abbrev pub ShowsMarks : List Line → List ℕ → List Line → Type 0
 ShowsMarks lines marks other =
     (inputs : InputsByCycle) (step : ℕ)
-    → map (is_violated other inputs step) (lines_of is_bad other)
-    ≡ map (is_violated lines inputs step) (lines_of is_bad lines) ++ map (λ mark. slice_index_or (row_behind lines inputs step).fired mark false) marks
+    → map (is_violated other inputs step) (lines_by_rule is_bad other)
+    ≡ map (is_violated lines inputs step) (lines_by_rule is_bad lines) ++ map (λ mark. slice_index_or (row_behind lines inputs step).fired mark false) marks

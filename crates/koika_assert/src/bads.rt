@@ -7,7 +7,7 @@ ghost use Rattle.btor2_model.specs.Acceptance.{first_fault};
 ghost use Rattle.koika_assert.specs.Bads as bads;
 
 use crate::copies::{copied_arguments, copied_symbol};
-use btor2_model::{Btor, Rule, accept};
+use btor2_model::{Btor, FormRule, accept};
 use btor2_text::{Keyword, Line, Lines};
 use kw_base::Refusal;
 use kw_bits::NoMemory;
@@ -41,7 +41,7 @@ fn turned_lines(alloc: Global, lines: &[Line]) -> Result<Lines, NoMemory>
 {
     let mut shown = Lines::new(alloc);
     for line in lines {
-        if !Rule::of(line.keyword).is_output() {
+        if !FormRule::of(line.keyword).is_output() {
             shown.push(turned(alloc, line)?)?;
         }
     }

@@ -10,7 +10,7 @@ ghost use Rattle.koika_assert.specs.Bads as bads;
 ghost use Rattle.koika_assert.specs.inner.Widths as widths;
 
 use crate::copies::{copied_arguments, copied_line, copied_lines, copied_symbol};
-use btor2_model::{Rule, id_at, number_at};
+use btor2_model::{FormRule, id_at, number_at};
 use btor2_text::{Argument, Keyword, Line, Lines};
 use kw_bits::NoMemory;
 use std::alloc::Global;
@@ -96,7 +96,7 @@ fn narrow_lines(alloc: Global, lines: &[Line]) -> Result<Lines, NoMemory>
 fn is_narrow(lines: &[Line], line: &Line) -> bool
     ensures { result ≡ widths.is_narrow lines.now line.now }
 {
-    Rule::of(line.keyword).is_output()
+    FormRule::of(line.keyword).is_output()
         && written_width(lines, id_at(line.arguments.as_slice(), 0)) == 1
 }
 

@@ -14,12 +14,12 @@ use Rattle.koika_check.specs.inner.Settled.{IsSettled}
 use Rattle.koika_check.specs.inner.Shapes.{AreShapes, type_of_shape}
 use Rattle.koika_check.specs.inner.Things.{AreParts, AreThings, position_of, thing_named}
 use Rattle.koika_check.specs.Types.{bits, width_of}
-use Rattle.koika_check.specs.declared.checked.Field.{Field}
-use Rattle.koika_check.specs.declared.checked.Function.{Function}
+use Rattle.koika_check.specs.declared.checked.CheckedField.{CheckedField}
+use Rattle.koika_check.specs.declared.checked.CheckedFunction.{CheckedFunction}
 use Rattle.koika_check.specs.declared.checked.Host.{Host}
 use Rattle.koika_check.specs.declared.checked.Input.{Input}
 use Rattle.koika_check.specs.declared.checked.Register.{Register}
-use Rattle.koika_check.specs.declared.checked.Rule.{Rule}
+use Rattle.koika_check.specs.declared.checked.CheckedRule.{CheckedRule}
 use Rattle.koika_check.specs.declared.checked.Table.{Table}
 use Rattle.koika_check.specs.declared.checker.Checker.{Checker}
 use Rattle.koika_check.specs.declared.checker.Signature.{Signature}
@@ -46,9 +46,9 @@ pub record Knows (a b : Checker) : Type 0 where
   pub registers : AreTypes a b.registers (map (λ (r : Register). r.of) b.design.registers)
   pub inputs : AreTypes a b.inputs (map (λ (i : Input). i.of) b.design.inputs)
   pub each_fields : length b.fields ≡ length b.design.structs
-  pub fields : (number : ℕ) (d : List Shape) → number < length b.fields → AreTypes a (get_or b.fields number d) (map (λ (f : Field). f.of) (fields_of b.design number))
+  pub fields : (number : ℕ) (d : List Shape) → number < length b.fields → AreTypes a (get_or b.fields number d) (map (λ (f : CheckedField). f.of) (fields_of b.design number))
   pub each_function : length b.functions ≡ length b.design.functions
-  pub functions : (number : ℕ) (s : Signature) (f : Function) → number < length b.functions → IsSignature a (get_or b.functions number s) (get_or b.design.functions number f)
+  pub functions : (number : ℕ) (s : Signature) (f : CheckedFunction) → number < length b.functions → IsSignature a (get_or b.functions number s) (get_or b.design.functions number f)
   pub locals : AreLocals b.locals
   pub bound : All (IsType a) (shapes_of b.locals)
   pub hosts : All (λ (h : HostSpec). TakesWidth h.kind h.in_width) b.hosts
@@ -75,7 +75,7 @@ kept a b e h k = record {
   registers = types-extend a b e b.registers (map (λ (r : Register). r.of) b.design.registers) k.registers;
   inputs = types-extend a b e b.inputs (map (λ (i : Input). i.of) b.design.inputs) k.inputs;
   each_fields = k.each_fields;
-  fields = λ number d lt. types-extend a b e (get_or b.fields number d) (map (λ (f : Field). f.of) (fields_of b.design number)) (k.fields number d lt);
+  fields = λ number d lt. types-extend a b e (get_or b.fields number d) (map (λ (f : CheckedField). f.of) (fields_of b.design number)) (k.fields number d lt);
   each_function = k.each_function;
   functions = λ number s f lt. signature-extends a b e (get_or b.functions number s) (get_or b.design.functions number f) (k.functions number s f lt);
   locals = k.locals;
@@ -230,7 +230,7 @@ added-host a h x name t is new extra declares = record {
   no_fields = h.no_fields;
 }
 
-pub added-function : (a : Checker) → IsSettled a → (x : Function) (s : Signature) (name : List ℕ) (t : Things) → x.name ≡ name → thing_named a.things name ≡ None → IsSignature a s x → Declares a.things name (thing.Function (length a.design.functions)) t →
+pub added-function : (a : Checker) → IsSettled a → (x : CheckedFunction) (s : Signature) (name : List ℕ) (t : Things) → x.name ≡ name → thing_named a.things name ≡ None → IsSignature a s x → Declares a.things name (thing.Function (length a.design.functions)) t →
     IsSettled (record a { design = record a.design { functions = a.design.functions ++ x ∷ [] }; things = t; functions = a.functions ++ s ∷ [] })
 added-function a h x s name t is new extra declares = record {
   checker = kept a _ (record { design = record { enums = ([], sym (append-nil a.design.enums)); structs = ([], sym (append-nil a.design.structs)) }; shapes = refl }) h.checker (record {
@@ -253,9 +253,9 @@ added-function a h x s name t is new extra declares = record {
     functions = λ number s' f' lt.
         elim (le_split number (length a.functions) (omega (arith, lt, length-append a.functions (s ∷ [])))) [
           | inl below ↦ subst (λ (u : Signature). IsSignature a u (get_or (a.design.functions ++ x ∷ []) number f')) (sym (get-push a.functions s s' number below))
-              (subst (λ (g : Function). IsSignature a (get_or a.functions number s') g) (sym (get-push a.design.functions x f' number (omega (arith, below, h.checker.each_function)))) (h.checker.functions number s' f' below))
+              (subst (λ (g : CheckedFunction). IsSignature a (get_or a.functions number s') g) (sym (get-push a.design.functions x f' number (omega (arith, below, h.checker.each_function)))) (h.checker.functions number s' f' below))
           | inr last ↦ subst (λ (u : Signature). IsSignature a u (get_or (a.design.functions ++ x ∷ []) number f')) (sym (get-last a.functions s s' number last))
-              (subst (λ (g : Function). IsSignature a s g) (sym (get-last a.design.functions x f' number (omega (arith, last, h.checker.each_function)))) extra)
+              (subst (λ (g : CheckedFunction). IsSignature a s g) (sym (get-last a.design.functions x f' number (omega (arith, last, h.checker.each_function)))) extra)
         ];
     locals = h.checker.locals;
     bound = h.checker.bound;
@@ -268,7 +268,7 @@ added-function a h x s name t is new extra declares = record {
   no_fields = h.no_fields;
 }
 
-pub added-rule : (a : Checker) → IsSettled a → (x : Rule) (name : List ℕ) (t : Things) → x.name ≡ name → thing_named a.things name ≡ None → Declares a.things name (thing.Rule (length a.design.rules)) t →
+pub added-rule : (a : Checker) → IsSettled a → (x : CheckedRule) (name : List ℕ) (t : Things) → x.name ≡ name → thing_named a.things name ≡ None → Declares a.things name (thing.Rule (length a.design.rules)) t →
     IsSettled (record a { design = record a.design { rules = a.design.rules ++ x ∷ [] }; things = t; asserted = a.asserted ++ false ∷ [] })
 added-rule a h x name t is new declares = record {
   checker = kept a _ (record { design = record { enums = ([], sym (append-nil a.design.enums)); structs = ([], sym (append-nil a.design.structs)) }; shapes = refl }) h.checker (record {

@@ -15,7 +15,7 @@ use Rattle.koika_check.specs.inner.Shapes.{type_of_shape}
 use Rattle.koika_check.specs.inner.Things.{AreParts, position_of, thing_named}
 use Rattle.koika_check.specs.Types.{width_of}
 use Rattle.koika_check.specs.declared.checked.Checked.{Checked}
-use Rattle.koika_check.specs.declared.checked.Field.{Field}
+use Rattle.koika_check.specs.declared.checked.CheckedField.{CheckedField}
 use Rattle.koika_check.specs.declared.checked.Struct.{Struct}
 use Rattle.koika_check.specs.declared.checker.Checker.{Checker}
 use Rattle.koika_check.specs.declared.parts.Parts.{Parts}
@@ -38,17 +38,17 @@ index-last : {X : Type 0} (f : X → ℕ) (xs : List X) (x : X) (n : ℕ) → n 
 index-last f xs x n e = ap (λ (l : List ℕ). get_or l n 0) (map-append f xs (x ∷ [])) ∙ get-last (map f xs) (f x) 0 n (omega (arith, e, length-map xs f))
 
 -- fields of known types together have the same width where more is declared
-sum-more : (a : Checker) (e : Checked) → More a.design e → (shapes : List Shape) (fs : List Field) → map (λ (f : Field). f.of) fs ≡ map (type_of_shape (arrays_of a)) shapes → All (IsType a) shapes →
-    sum_by (λ (f : Field). width_of e f.of) fs ≡ sum_by (λ (f : Field). width_of a.design f.of) fs
+sum-more : (a : Checker) (e : Checked) → More a.design e → (shapes : List Shape) (fs : List CheckedField) → map (λ (f : CheckedField). f.of) fs ≡ map (type_of_shape (arrays_of a)) shapes → All (IsType a) shapes →
+    sum_by (λ (f : CheckedField). width_of e f.of) fs ≡ sum_by (λ (f : CheckedField). width_of a.design f.of) fs
 sum-more a e m [] [] q h = refl
 sum-more a e m [] (f ∷ fs) q h = absurd cc
 sum-more a e m (s ∷ shapes) [] q h = absurd cc
 sum-more a e m (s ∷ shapes) (f ∷ fs) q h =
-    let here : f.of ≡ type_of_shape (arrays_of a) s = heads f.of (type_of_shape (arrays_of a) s) (map (λ (g : Field). g.of) fs) (map (type_of_shape (arrays_of a)) shapes) q in
-    let rest = sum-more a e m shapes fs (tails f.of (type_of_shape (arrays_of a) s) (map (λ (g : Field). g.of) fs) (map (type_of_shape (arrays_of a)) shapes) q) (λ k d lt. h (suc k) d (omega (arith, lt))) in
-    sum_by-cons (λ (g : Field). width_of e g.of) f fs
+    let here : f.of ≡ type_of_shape (arrays_of a) s = heads f.of (type_of_shape (arrays_of a) s) (map (λ (g : CheckedField). g.of) fs) (map (type_of_shape (arrays_of a)) shapes) q in
+    let rest = sum-more a e m shapes fs (tails f.of (type_of_shape (arrays_of a) s) (map (λ (g : CheckedField). g.of) fs) (map (type_of_shape (arrays_of a)) shapes) q) (λ k d lt. h (suc k) d (omega (arith, lt))) in
+    sum_by-cons (λ (g : CheckedField). width_of e g.of) f fs
     ∙ ap₂ (λ (x y : ℕ). x + y) (width-more a.design e m f.of (subst (λ (t : ValueType). 1 ≤ width_of a.design t) (sym here) (h 0 s (omega arith)).width.some)) rest
-    ∙ sym (sum_by-cons (λ (g : Field). width_of a.design g.of) f fs)
+    ∙ sym (sum_by-cons (λ (g : CheckedField). width_of a.design g.of) f fs)
   where
     heads : (t u : ValueType) (ts us : List ValueType) → t ∷ ts ≡ u ∷ us → t ≡ u
     heads t u ts us e = cc
@@ -58,7 +58,7 @@ sum-more a e m (s ∷ shapes) (f ∷ fs) q h =
 
 -- the fields of a struct that was declared before
 same-sum : (a : Checker) (h : IsSettled a) (e : Checked) → More a.design e → (n : ℕ) → n < length a.design.structs →
-    sum_by (λ (f : Field). width_of e f.of) (fields_of a.design n) ≡ sum_by (λ (f : Field). width_of a.design f.of) (fields_of a.design n)
+    sum_by (λ (f : CheckedField). width_of e f.of) (fields_of a.design n) ≡ sum_by (λ (f : CheckedField). width_of a.design f.of) (fields_of a.design n)
 same-sum a h e m n lt =
     let fields = h.checker.fields n [] (omega (arith, lt, h.checker.each_fields)) in
     sum-more a e m (get_or a.fields n []) (fields_of a.design n) fields.are fields.each
@@ -123,7 +123,7 @@ added-enum a h x name t p is new declares few are keeps lists width = record {
 
 pub added-struct : (a : Checker) → IsSettled a → (x : Struct) (shapes : List Shape) (name : List ℕ) (t : Things) (p : Parts) → x.name ≡ name → thing_named a.things name ≡ None → Declares a.things name (thing.Struct (length a.design.structs)) t →
     length a.design.structs < 2 ^ 32 → AreParts p → Keeps a.parts p (thing.Struct (length a.design.structs)) → Lists p (thing.Struct (length a.design.structs)) (names_of_fields x.fields) →
-    AreTypes a shapes (map (λ (f : Field). f.of) x.fields) → x.width ≡ min (sum_by (λ (f : Field). width_of a.design f.of) x.fields) 129 →
+    AreTypes a shapes (map (λ (f : CheckedField). f.of) x.fields) → x.width ≡ min (sum_by (λ (f : CheckedField). width_of a.design f.of) x.fields) 129 →
     IsSettled (record a { design = record a.design { structs = a.design.structs ++ x ∷ [] }; things = t; parts = p; fields = a.fields ++ shapes ∷ [] })
 added-struct a h x shapes name t p is new declares few are keeps lists types width = record {
   checker = kept a _ (record { design = more_struct a.design x; shapes = refl }) h.checker (record {
@@ -143,10 +143,10 @@ added-struct a h x shapes name t p is new declares few are keeps lists types wid
       structs = λ number lt.
           elim (le_split number (length a.design.structs) (omega (arith, lt, length-append a.design.structs (x ∷ [])))) [
             | inl below ↦ index-before (λ (s : Struct). s.width) a.design.structs x number below ∙ h.checker.widths.structs number below ∙ ap (λ s. min s 129) (sym (same-sum a h (with_struct a.design x) (more_struct a.design x) number below))
-                ∙ ap (λ o. min (sum_by (λ (f : Field). width_of (with_struct a.design x) f.of) (fields_by o)) 129) (sym (slice_get-push a.design.structs x number below))
+                ∙ ap (λ o. min (sum_by (λ (f : CheckedField). width_of (with_struct a.design x) f.of) (fields_by o)) 129) (sym (slice_get-push a.design.structs x number below))
             | inr last ↦ index-last (λ (s : Struct). s.width) a.design.structs x number last ∙ width
                 ∙ ap (λ s. min s 129) (sym (sum-more a (with_struct a.design x) (more_struct a.design x) shapes x.fields types.are types.each))
-                ∙ ap (λ o. min (sum_by (λ (f : Field). width_of (with_struct a.design x) f.of) (fields_by o)) 129) (sym (slice_get-last a.design.structs x number last))
+                ∙ ap (λ o. min (sum_by (λ (f : CheckedField). width_of (with_struct a.design x) f.of) (fields_by o)) 129) (sym (slice_get-last a.design.structs x number last))
           ];
       tables = h.checker.widths.tables;
       hosts = h.checker.widths.hosts;
@@ -156,10 +156,10 @@ added-struct a h x shapes name t p is new declares few are keeps lists types wid
     each_fields = omega (arith, length-append a.fields (shapes ∷ []), length-append a.design.structs (x ∷ []), h.checker.each_fields);
     fields = λ number d lt.
         elim (le_split number (length a.fields) (omega (arith, lt, length-append a.fields (shapes ∷ [])))) [
-          | inl below ↦ subst (λ (ss : List Shape). AreTypes a ss (map (λ (f : Field). f.of) (fields_of (with_struct a.design x) number))) (sym (get-push a.fields shapes d number below))
-              (subst (λ o. AreTypes a (get_or a.fields number d) (map (λ (f : Field). f.of) (fields_by o))) (sym (slice_get-push a.design.structs x number (omega (arith, below, h.checker.each_fields)))) (h.checker.fields number d below))
-          | inr last ↦ subst (λ (ss : List Shape). AreTypes a ss (map (λ (f : Field). f.of) (fields_of (with_struct a.design x) number))) (sym (get-last a.fields shapes d number last))
-              (subst (λ o. AreTypes a shapes (map (λ (f : Field). f.of) (fields_by o))) (sym (slice_get-last a.design.structs x number (omega (arith, last, h.checker.each_fields)))) types)
+          | inl below ↦ subst (λ (ss : List Shape). AreTypes a ss (map (λ (f : CheckedField). f.of) (fields_of (with_struct a.design x) number))) (sym (get-push a.fields shapes d number below))
+              (subst (λ o. AreTypes a (get_or a.fields number d) (map (λ (f : CheckedField). f.of) (fields_by o))) (sym (slice_get-push a.design.structs x number (omega (arith, below, h.checker.each_fields)))) (h.checker.fields number d below))
+          | inr last ↦ subst (λ (ss : List Shape). AreTypes a ss (map (λ (f : CheckedField). f.of) (fields_of (with_struct a.design x) number))) (sym (get-last a.fields shapes d number last))
+              (subst (λ o. AreTypes a shapes (map (λ (f : CheckedField). f.of) (fields_by o))) (sym (slice_get-last a.design.structs x number (omega (arith, last, h.checker.each_fields)))) types)
         ];
     each_function = h.checker.each_function;
     functions = h.checker.functions;

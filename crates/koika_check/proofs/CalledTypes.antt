@@ -14,8 +14,8 @@ use Rattle.koika_check.specs.Outcomes.{Fails, found, wrong}
 use Rattle.koika_check.specs.Scopes.{Called, at, called, called_function, called_host, called_table, function_named, host_named, or_else, table_named}
 use Rattle.koika_check.specs.declared.checked.Checked.{Checked}
 use Rattle.koika_check.specs.inner.Shapes.{type_of_shape}
-use Rattle.koika_check.specs.Types.{Part, bits}
-use Rattle.koika_check.specs.declared.checked.Function.{Function}
+use Rattle.koika_check.specs.Types.{TypedPart, bits}
+use Rattle.koika_check.specs.declared.checked.CheckedFunction.{CheckedFunction}
 use Rattle.koika_check.specs.declared.checker.Checker.{Checker}
 use Rattle.koika_check.specs.declared.checker.Signature.{Signature}
 use Rattle.koika_check.specs.declared.shapes.Shape.TheVariants as shape
@@ -29,7 +29,7 @@ at-index (x ∷ xs) zero lt = (x, refl, refl)
 at-index (x ∷ xs) (suc i) lt = at-index xs i (omega (arith, lt))
 
 -- what callers see of a function is what it has
-pub signature-at : (c : Checker) → IsChecker c → (n : ℕ) (s : Signature) (f : Function) → n < length c.design.functions → s ≡ get_or c.functions n s → get_or c.design.functions n f ≡ f → IsSignature c s f
+pub signature-at : (c : Checker) → IsChecker c → (n : ℕ) (s : Signature) (f : CheckedFunction) → n < length c.design.functions → s ≡ get_or c.functions n s → get_or c.design.functions n f ≡ f → IsSignature c s f
 signature-at c h n s f lt is fe =
     subst (IsSignature c s) fe (subst (λ t. IsSignature c t (get_or c.design.functions n f)) (sym is) (h.functions n s f (omega (arith, lt, h.each_function))))
 
@@ -73,7 +73,7 @@ answer-width kinds.SatAdd w h = halved w h.some_bit h.no_wider h.equal_parts
 
 -- ---- arguments
 
-past-agree : (ts : List ValueType) (ps : List Part) (i : ℕ) → min (length ts) (length ps) ≤ i → arguments_agree (drop i ts) (drop i ps) ≡ None
+past-agree : (ts : List ValueType) (ps : List TypedPart) (i : ℕ) → min (length ts) (length ps) ≤ i → arguments_agree (drop i ts) (drop i ps) ≡ None
 past-agree [] ps zero h = refl
 past-agree [] ps (suc i) h = refl
 past-agree (t ∷ ts) [] zero h = refl
@@ -92,7 +92,7 @@ past-agree (t ∷ ts) (p ∷ ps) (suc i) h = past-agree ts ps i (less (length ts
     less a b i h = grind (arith, h)
 
 -- behind the last parameter or argument no argument is wrong
-pub agree-past : {X Y : Type 0} (f : X → ValueType) (g : Y → Part) (xs : List X) (ys : List Y) (i : ℕ) → min (length xs) (length ys) ≤ i → arguments_agree (map f (drop i xs)) (map g (drop i ys)) ≡ None
+pub agree-past : {X Y : Type 0} (f : X → ValueType) (g : Y → TypedPart) (xs : List X) (ys : List Y) (i : ℕ) → min (length xs) (length ys) ≤ i → arguments_agree (map f (drop i xs)) (map g (drop i ys)) ≡ None
 agree-past f g xs ys i h =
     ap₂ arguments_agree (sym (drop-map f i xs)) (sym (drop-map g i ys))
     ∙ past-agree (map f xs) (map g ys) i (subst (λ n. n ≤ i) (ap₂ min (sym (length-map xs f)) (sym (length-map ys g))) h)

@@ -9,12 +9,12 @@ use Rattle.koika_check.specs.Constructs as constructs
 use Rattle.koika_check.specs.Expressions.{chain_in, join_in}
 use Rattle.koika_check.specs.inner.Expressions.{expression_in, operand_in}
 use Rattle.koika_check.specs.Operators.{operated}
-use Rattle.koika_check.specs.Outcomes.{Gives, Outcome, ◌>>=◌, one_by_one}
+use Rattle.koika_check.specs.Outcomes.{Gives, CheckResult, ◌>>=◌, one_by_one}
 use Rattle.koika_check.specs.inner.Outcomes.{Ends, Tells}
 use Rattle.koika_check.specs.Scopes.{Scope}
 use Rattle.koika_check.specs.inner.Shapes.{Denotes, part_of, type_if}
 use Rattle.koika_check.specs.inner.TypedParts.{Chained, In, IsChained}
-use Rattle.koika_check.specs.Types.{Part as TypedPart, part}
+use Rattle.koika_check.specs.Types.{TypedPart as TypedPart, part}
 use Rattle.koika_check.specs.declared.checker.Checker.{Checker}
 use Rattle.koika_check.specs.declared.checker.Typing.{Typing}
 use Rattle.koika_check.specs.declared.shapes.Shape.{Shape}
@@ -29,7 +29,7 @@ use Rattle.koika_check.proofs.OperatorTypes.{operated-type}
 use Rattle.koika_check.proofs.Turns.{ends-behind, ends-bind, ends-same, ends-tells, one-ends, one-push}
 
 -- one operand more in a scope
-abbrev pub joining : Scope → Operand → Joined → Outcome Joined
+abbrev pub joining : Scope → Operand → Joined → CheckResult Joined
 joining s o = join_in s (record { operator = (out-Operand o).operator; operand = expression_in (out-Operand o).operand })
 
 -- the first operand alone

@@ -4,15 +4,15 @@ use Rattle.std.specs.List.{All}
 use Rattle.std.specs.Option.{unwrap_or}
 use Rattle.koika_check.specs.inner.Checking.{AreTyped, Checks, Grows, IsChecker, IsPart, IsTypeOrUnit, IsTyping, TypedAs, Yields, arrays_of, of_first, scope_of, typing_of}
 use Rattle.koika_check.specs.Composites.{type_of_first}
-use Rattle.koika_check.specs.Constructs.{ArmTyping, conditional, parts_of, place_of_arms, type_of_bodies, typed_of, typing}
+use Rattle.koika_check.specs.Constructs.{ArmTyping, conditional, types_of_parts, place_of_arms, type_of_bodies, typed_of, typing}
 use Rattle.koika_check.specs.Constructs as constructs
 use Rattle.koika_check.specs.Expressions.{otherwise_in}
-use Rattle.koika_check.specs.Outcomes.{Condition, Gives, Outcome, ◌>>=◌, smallest, unless, where_all}
+use Rattle.koika_check.specs.Outcomes.{Condition, Gives, CheckResult, ◌>>=◌, smallest, unless, where_all}
 use Rattle.koika_check.specs.inner.Outcomes.{Tells}
 use Rattle.koika_check.specs.Scopes.{Scope}
 use Rattle.koika_check.specs.inner.Shapes.{part_of, type_if}
 use Rattle.koika_check.specs.inner.TypedParts.{AreArms, In, IsLast, place_of_first, typings_of}
-use Rattle.koika_check.specs.Types.{Part as TypedPart, agrees, bits, each}
+use Rattle.koika_check.specs.Types.{TypedPart as TypedPart, agrees, bits, each}
 use Rattle.koika_check.specs.declared.agreement.Part.{Part}
 use Rattle.koika_check.specs.declared.checker.Checker.{Checker}
 use Rattle.koika_check.specs.declared.checker.Typing.{Typing}
@@ -33,7 +33,7 @@ use Rattle.koika_check.proofs.PartsInOrder.{typed-grow}
 pub last-none : (c : Checker) → IsChecker c → Yields (In IsLast (scope_of c)) c (otherwise_in (scope_of c) None) c None
 last-none c h = record { kept = h; grows = grows-refl c; value = []; gives = refl; means = record { scope_is = refl; means = record { last = refl; type = tt } } }
 
-pub last-gives : (old new : Checker) (look : Scope → Outcome constructs.Typing) (y : Typing) → Yields (IsTyping (scope_of old)) old (look (scope_of old)) new y →
+pub last-gives : (old new : Checker) (look : Scope → CheckResult constructs.Typing) (y : Typing) → Yields (IsTyping (scope_of old)) old (look (scope_of old)) new y →
     Yields (In IsLast (scope_of old)) old (otherwise_in (scope_of old) (Some look)) new (Some y)
 last-gives old new look y h = record {
   kept = h.kept;
@@ -56,7 +56,7 @@ arms-grow a b g y xs h = record {
 }
 
 -- the body behind `else`, behind arms
-pub last-checks : (old new : Checker) (last : Option (Scope → Outcome constructs.Typing)) (arms : Arms) (xs : List ArmTyping) (y : Option Typing) (r : Result Typing Stop) → AreArms old arms xs →
+pub last-checks : (old new : Checker) (last : Option (Scope → CheckResult constructs.Typing)) (arms : Arms) (xs : List ArmTyping) (y : Option Typing) (r : Result Typing Stop) → AreArms old arms xs →
     Yields (In IsLast (scope_of old)) old (otherwise_in (scope_of old) last) new y → ((xs : List ArmTyping) (ys : List constructs.Typing) → AreArms new arms xs → IsLast new y ys → Tells (TypedAs new) (conditional xs ys) r) →
     Checks (IsTyping (scope_of old)) old (otherwise_in (scope_of old) last >>= conditional xs) new r
 last-checks old new last arms xs y r h k t =
@@ -64,7 +64,7 @@ last-checks old new last arms xs y r h k t =
     (tells-checks new (scope_of old) (conditional xs k.value) r k.kept k.means.scope_is (t xs k.value (arms-grow old new k.grows arms xs h) k.means.means))
 
 -- the whole
-pub choice-checks : (old mid new : Checker) (o : Outcome (List ArmTyping)) (last : Option (Scope → Outcome constructs.Typing)) (arms : Arms) (r : Result Typing Stop) → Yields (In AreArms (scope_of old)) old o mid arms →
+pub choice-checks : (old mid new : Checker) (o : CheckResult (List ArmTyping)) (last : Option (Scope → CheckResult constructs.Typing)) (arms : Arms) (r : Result Typing Stop) → Yields (In AreArms (scope_of old)) old o mid arms →
     ((xs : List ArmTyping) → AreArms mid arms xs → Checks (IsTyping (scope_of mid)) mid (otherwise_in (scope_of mid) last >>= conditional xs) new r) →
     Checks (IsTyping (scope_of old)) old (o >>= λ xs. otherwise_in (scope_of old) last >>= conditional xs) new r
 choice-checks old mid new o last arms r h k =
@@ -80,7 +80,7 @@ tells-unless is None c' z x (Err (stops.Wrong w)) e h t = absurd t
 tells-unless is (Some f) c' z x (Ok y) e h t = absurd t
 tells-unless is (Some f) c' z x (Err (stops.Wrong w)) e h t = subst (λ d. Tells is (unless d x) (Err (stops.Wrong w))) e t
 
-first-of-bodies : (bodies : List constructs.Typing) (y : constructs.Typing) → type_of_bodies bodies (y ∷ []) ≡ type_of_first (parts_of (bodies ++ y ∷ []))
+first-of-bodies : (bodies : List constructs.Typing) (y : constructs.Typing) → type_of_bodies bodies (y ∷ []) ≡ type_of_first (types_of_parts (bodies ++ y ∷ []))
 first-of-bodies [] y = refl
 first-of-bodies (b ∷ bodies) y = refl
 
@@ -105,7 +105,7 @@ decided-tells : (c : Checker) (arms : Arms) (bodies : Typings) (of : Option Shap
 decided-tells c arms bodies of place xs ys r h many type known at t =
     tells-unless (TypedAs c)
     (smallest (each (agrees (Some (bits 1))) (map (part_of (arrays_of c)) arms.conditions.parts) ∷ each (agrees (type_if (arrays_of c) of)) (map (part_of (arrays_of c)) bodies.parts) ∷ []))
-    (smallest (each (agrees (Some (bits 1))) (parts_of (map (λ (x : ArmTyping). x.condition) xs)) ∷ each (agrees (type_of_bodies (map (λ (x : ArmTyping). x.body) xs) ys)) (parts_of (map (λ (x : ArmTyping). x.body) xs ++ ys)) ∷ []))
+    (smallest (each (agrees (Some (bits 1))) (types_of_parts (map (λ (x : ArmTyping). x.condition) xs)) ∷ each (agrees (type_of_bodies (map (λ (x : ArmTyping). x.body) xs) ys)) (types_of_parts (map (λ (x : ArmTyping). x.body) xs ++ ys)) ∷ []))
     (record { part = record { of = of; place = place }; typed = made.If arms.conditions.typed bodies.typed })
     (typing (type_of_bodies (map (λ (x : ArmTyping). x.body) xs) ys) (place_of_arms xs ys) (made.If (typed_of (map (λ (x : ArmTyping). x.condition) xs)) (typed_of (map (λ (x : ArmTyping). x.body) xs ++ ys))))
     r

@@ -9,12 +9,12 @@ use Rattle.kw_base.specs.declared.fault_number.TheConstants.{WRONG_FIELD, WRONG_
 use Rattle.koika_check.specs.inner.Checking.{AreGiven, Grows, IsChecker, IsGiven, IsPartIn, IsWidth, Yields, arrays_of, scope_of}
 use Rattle.koika_check.specs.Composites.{agrees_if, fields_by, fields_of, fits_field, names_are}
 use Rattle.koika_check.specs.Composites as composites
-use Rattle.koika_check.specs.Outcomes.{Condition, Gives, Outcome, earlier, holds, wrong}
+use Rattle.koika_check.specs.Outcomes.{Condition, Gives, CheckResult, earlier, holds, wrong}
 use Rattle.koika_check.specs.inner.Shapes.{AreShapes, Denotes, IsShapeIf, array_types, part_of, type_if, type_of_shape}
 use Rattle.koika_check.specs.inner.Shapes as shapes
-use Rattle.koika_check.specs.Types.{Part as TypedPart, array, each, is_width, part, width_of}
+use Rattle.koika_check.specs.Types.{TypedPart as TypedPart, array, each, is_width, part, width_of}
 use Rattle.koika_check.specs.declared.checked.Checked.{Checked}
-use Rattle.koika_check.specs.declared.checked.Field.{Field}
+use Rattle.koika_check.specs.declared.checked.CheckedField.{CheckedField}
 use Rattle.koika_check.specs.declared.checked.Struct.{Struct}
 use Rattle.koika_check.specs.declared.checker.Checker.{Checker}
 use Rattle.koika_check.specs.declared.composites.Given.{Given}
@@ -35,7 +35,7 @@ le_more : (m n : ℕ) → nat_le (suc m) (suc n) ≡ nat_le m n
 le_more m n = grind arith
 
 -- the names of given fields are the declared ones
-pub names-are : (c : Checker) (fields next : List Field) (given : List Given) (xs : List composites.Given) (close : ℕ) → AreGiven c fields next given xs →
+pub names-are : (c : Checker) (fields next : List CheckedField) (given : List Given) (xs : List composites.Given) (close : ℕ) → AreGiven c fields next given xs →
     names_are next xs close ≡ earlier (each (λ (g : Given). holds g.is_in_order (wrong WRONG_FIELD g.place)) given) (holds (nat_le (length next) (length given)) (wrong WRONG_FIELD close))
 names-are c fields [] [] [] close h = refl
 names-are c fields [] [] (x ∷ xs) close h = absurd h
@@ -62,7 +62,7 @@ names-are c fields (f ∷ next) (g ∷ given) (x ∷ xs) close h =
         ∙ sym (ap (λ (o : Condition). earlier (earlier o (each (λ (g : Given). holds g.is_in_order (wrong WRONG_FIELD g.place)) given)) (holds (nat_le (length (f ∷ next)) (length (g ∷ given))) (wrong WRONG_FIELD close))) here)
 
 -- their values are of the types of the fields of their names
-pub values-fit : (c : Checker) (fields next : List Field) (given : List Given) (xs : List composites.Given) → AreGiven c fields next given xs →
+pub values-fit : (c : Checker) (fields next : List CheckedField) (given : List Given) (xs : List composites.Given) → AreGiven c fields next given xs →
     each (λ (g : Given). agrees_if (type_if (arrays_of c) g.wanted) (part_of (arrays_of c) g.part)) given ≡ each (fits_field fields) xs
 values-fit c fields next [] [] h = refl
 values-fit c fields next [] (x ∷ xs) h = absurd h
@@ -70,7 +70,7 @@ values-fit c fields next (g ∷ given) [] h = absurd h
 values-fit c fields next (g ∷ given) (x ∷ xs) h =
     ap₂ earlier (ap₂ agrees_if h.0.wanted (sym h.0.part)) (values-fit c fields (drop 1 next) given xs h.1)
 
-pub given-shapes : (c : Checker) (fields next : List Field) (given : List Given) (xs : List composites.Given) → AreGiven c fields next given xs →
+pub given-shapes : (c : Checker) (fields next : List CheckedField) (given : List Given) (xs : List composites.Given) → AreGiven c fields next given xs →
     All (λ (g : Given). IsShapeIf (arrays_of c) g.wanted × IsShapeIf (arrays_of c) g.part.of) given
 given-shapes c fields next [] [] h = All-nil (λ (g : Given). IsShapeIf (arrays_of c) g.wanted × IsShapeIf (arrays_of c) g.part.of)
 given-shapes c fields next [] (x ∷ xs) h = absurd h
@@ -100,7 +100,7 @@ items-condition d t place ps n w l fits o long we le some fe oe =
 
 -- an array type that was met or added
 pub array-made : (c : Checker) → IsChecker c → (s : Shapes) → AreShapes s → (a : ArrayShape) → shapes.Grows c.shapes.arrays a s.arrays → a.width ≡ width_of c.design (array a.length (type_of_shape (arrays_of c) a.element)) → IsWidth a.width →
-    (of : Shape) → Denotes (array_types [] s.arrays) of (Some (array a.length (type_of_shape (arrays_of c) a.element))) → (place : ℕ) (o : Outcome TypedPart) → o ≡ Gives (part (Some (array a.length (type_of_shape (arrays_of c) a.element))) place) →
+    (of : Shape) → Denotes (array_types [] s.arrays) of (Some (array a.length (type_of_shape (arrays_of c) a.element))) → (place : ℕ) (o : CheckResult TypedPart) → o ≡ Gives (part (Some (array a.length (type_of_shape (arrays_of c) a.element))) place) →
     Yields (IsPartIn (scope_of c)) c o (record c { shapes = s }) (record { of = Some of; place = place })
 array-made c h s kept a grows width fits of denotes place o gives =
     let new : Checker = record c { shapes = s } in
@@ -137,7 +137,7 @@ names-condition c n s given xs close lt is h declared o de oe =
 
 -- ---- fields that are given, as more are
 
-given_grows : (a b : Checker) → Grows a b → (fields next : List Field) (g : Given) (x : composites.Given) → IsGiven a fields next g x → IsGiven b fields next g x
+given_grows : (a b : Checker) → Grows a b → (fields next : List CheckedField) (g : Given) (x : composites.Given) → IsGiven a fields next g x → IsGiven b fields next g x
 given_grows a b grows fields next g x h = record {
   place = h.place;
   in_order = h.in_order;
@@ -147,19 +147,19 @@ given_grows a b grows fields next g x h = record {
   type = part-grows a b grows g.part h.type;
 }
 
-pub given-grow : (a b : Checker) → Grows a b → (fields next : List Field) (given : List Given) (xs : List composites.Given) → AreGiven a fields next given xs → AreGiven b fields next given xs
+pub given-grow : (a b : Checker) → Grows a b → (fields next : List CheckedField) (given : List Given) (xs : List composites.Given) → AreGiven a fields next given xs → AreGiven b fields next given xs
 given-grow a b grows fields next [] [] h = tt
 given-grow a b grows fields next [] (x ∷ xs) h = absurd h
 given-grow a b grows fields next (g ∷ given) [] h = absurd h
 given-grow a b grows fields next (g ∷ given) (x ∷ xs) h = (given_grows a b grows fields next g x h.0, given-grow a b grows fields (drop 1 next) given xs h.1)
 
-pub given-push : (c : Checker) (fields next : List Field) (given : List Given) (xs : List composites.Given) (g : Given) (x : composites.Given) → AreGiven c fields next given xs → IsGiven c fields (drop (length given) next) g x →
+pub given-push : (c : Checker) (fields next : List CheckedField) (given : List Given) (xs : List composites.Given) (g : Given) (x : composites.Given) → AreGiven c fields next given xs → IsGiven c fields (drop (length given) next) g x →
     AreGiven c fields next (given ++ g ∷ []) (xs ++ x ∷ [])
 given-push c fields next [] [] g x h one = (one, tt)
 given-push c fields next [] (y ∷ xs) g x h one = absurd h
 given-push c fields next (f ∷ given) [] g x h one = absurd h
 given-push c fields next (f ∷ given) (y ∷ xs) g x h one =
-    (h.0, given-push c fields (drop 1 next) given xs g x h.1 (subst (λ (n : List Field). IsGiven c fields n g x) (behind given next) one))
+    (h.0, given-push c fields (drop 1 next) given xs g x h.1 (subst (λ (n : List CheckedField). IsGiven c fields n g x) (behind given next) one))
   where
-    behind : (given : List Given) (next : List Field) → drop (length (f ∷ given)) next ≡ drop (length given) (drop 1 next)
+    behind : (given : List Given) (next : List CheckedField) → drop (length (f ∷ given)) next ≡ drop (length given) (drop 1 next)
     behind given next = let e : 1 + length given ≡ suc (length given) = omega arith in sym (drop-drop (length given) 1 next ∙ ap (λ n. drop n next) e)

@@ -11,8 +11,8 @@ use Rattle.koika_check.specs.declared.checked.Register.{Register}
 use Rattle.koika_check.specs.declared.checked.Input.{Input}
 use Rattle.koika_check.specs.declared.checked.Table.{Table}
 use Rattle.koika_check.specs.declared.checked.Host.{Host}
-use Rattle.koika_check.specs.declared.checked.Function.{Function}
-use Rattle.koika_check.specs.declared.checked.Rule.{Rule}
+use Rattle.koika_check.specs.declared.checked.CheckedFunction.{CheckedFunction}
+use Rattle.koika_check.specs.declared.checked.CheckedRule.{CheckedRule}
 use Rattle.koika_check.specs.declared.things.Thing.{Thing}
 use Rattle.koika_check.specs.declared.things.Thing.TheVariants as thing
 use Rattle.koika_check.proofs.Positions.{index, index-push, or_last, position-index, same-is}
@@ -254,15 +254,15 @@ declared-host d x name before after is new h declares other = subst (IsDeclared 
       rules = (h other).rules;
     }
 
-pub declared-function : (d : Checked) (x : Function) (name : List ℕ) (before after : List ℕ → Option Thing) → x.name ≡ name → before name ≡ None → ((other : List ℕ) → IsDeclared d other (before other)) →
+pub declared-function : (d : Checked) (x : CheckedFunction) (name : List ℕ) (before after : List ℕ → Option Thing) → x.name ≡ name → before name ≡ None → ((other : List ℕ) → IsDeclared d other (before other)) →
     ((other : List ℕ) → after other ≡ with_thing name (thing.Function (length d.functions)) before other) → (other : List ℕ) → IsDeclared (record d { functions = d.functions ++ x ∷ [] }) other (after other)
 declared-function d x name before after is new h declares other = subst (IsDeclared (record d { functions = d.functions ++ x ∷ [] }) other) (sym (declares other)) (by_test (bytes_eq other name) refl)
   where
-    here : number_of (map (λ (y : Function). y.name) d.functions) name ≡ None
+    here : number_of (map (λ (y : CheckedFunction). y.name) d.functions) name ≡ None
     here = sym (h name).functions ∙ ap function_by new
 
-    pushed : number_of (map (λ (y : Function). y.name) (d.functions ++ x ∷ [])) other ≡ cond (bytes_eq other name) (Some (length d.functions)) (number_of (map (λ (y : Function). y.name) d.functions) other)
-    pushed = named-push (λ (y : Function). y.name) d.functions x name other is here
+    pushed : number_of (map (λ (y : CheckedFunction). y.name) (d.functions ++ x ∷ [])) other ≡ cond (bytes_eq other name) (Some (length d.functions)) (number_of (map (λ (y : CheckedFunction). y.name) d.functions) other)
+    pushed = named-push (λ (y : CheckedFunction). y.name) d.functions x name other is here
 
     none_at : bytes_eq other name ≡ true → before other ≡ None
     none_at e = ap before (same-is other name e) ∙ new
@@ -275,7 +275,7 @@ declared-function d x name before after is new h declares other = subst (IsDecla
       inputs = sym (ap input_by (none_at e)) ∙ (h other).inputs;
       tables = sym (ap table_by (none_at e)) ∙ (h other).tables;
       hosts = sym (ap host_by (none_at e)) ∙ (h other).hosts;
-      functions = sym (pushed ∙ ap (λ b. cond b (Some (length d.functions)) (number_of (map (λ (y : Function). y.name) d.functions) other)) e);
+      functions = sym (pushed ∙ ap (λ b. cond b (Some (length d.functions)) (number_of (map (λ (y : CheckedFunction). y.name) d.functions) other)) e);
       rules = sym (ap rule_by (none_at e)) ∙ (h other).rules;
     }
     by_test false e = record {
@@ -285,19 +285,19 @@ declared-function d x name before after is new h declares other = subst (IsDecla
       inputs = (h other).inputs;
       tables = (h other).tables;
       hosts = (h other).hosts;
-      functions = (h other).functions ∙ sym (pushed ∙ ap (λ b. cond b (Some (length d.functions)) (number_of (map (λ (y : Function). y.name) d.functions) other)) e);
+      functions = (h other).functions ∙ sym (pushed ∙ ap (λ b. cond b (Some (length d.functions)) (number_of (map (λ (y : CheckedFunction). y.name) d.functions) other)) e);
       rules = (h other).rules;
     }
 
-pub declared-rule : (d : Checked) (x : Rule) (name : List ℕ) (before after : List ℕ → Option Thing) → x.name ≡ name → before name ≡ None → ((other : List ℕ) → IsDeclared d other (before other)) →
+pub declared-rule : (d : Checked) (x : CheckedRule) (name : List ℕ) (before after : List ℕ → Option Thing) → x.name ≡ name → before name ≡ None → ((other : List ℕ) → IsDeclared d other (before other)) →
     ((other : List ℕ) → after other ≡ with_thing name (thing.Rule (length d.rules)) before other) → (other : List ℕ) → IsDeclared (record d { rules = d.rules ++ x ∷ [] }) other (after other)
 declared-rule d x name before after is new h declares other = subst (IsDeclared (record d { rules = d.rules ++ x ∷ [] }) other) (sym (declares other)) (by_test (bytes_eq other name) refl)
   where
-    here : number_of (map (λ (y : Rule). y.name) d.rules) name ≡ None
+    here : number_of (map (λ (y : CheckedRule). y.name) d.rules) name ≡ None
     here = sym (h name).rules ∙ ap rule_by new
 
-    pushed : number_of (map (λ (y : Rule). y.name) (d.rules ++ x ∷ [])) other ≡ cond (bytes_eq other name) (Some (length d.rules)) (number_of (map (λ (y : Rule). y.name) d.rules) other)
-    pushed = named-push (λ (y : Rule). y.name) d.rules x name other is here
+    pushed : number_of (map (λ (y : CheckedRule). y.name) (d.rules ++ x ∷ [])) other ≡ cond (bytes_eq other name) (Some (length d.rules)) (number_of (map (λ (y : CheckedRule). y.name) d.rules) other)
+    pushed = named-push (λ (y : CheckedRule). y.name) d.rules x name other is here
 
     none_at : bytes_eq other name ≡ true → before other ≡ None
     none_at e = ap before (same-is other name e) ∙ new
@@ -311,7 +311,7 @@ declared-rule d x name before after is new h declares other = subst (IsDeclared 
       tables = sym (ap table_by (none_at e)) ∙ (h other).tables;
       hosts = sym (ap host_by (none_at e)) ∙ (h other).hosts;
       functions = sym (ap function_by (none_at e)) ∙ (h other).functions;
-      rules = sym (pushed ∙ ap (λ b. cond b (Some (length d.rules)) (number_of (map (λ (y : Rule). y.name) d.rules) other)) e);
+      rules = sym (pushed ∙ ap (λ b. cond b (Some (length d.rules)) (number_of (map (λ (y : CheckedRule). y.name) d.rules) other)) e);
     }
     by_test false e = record {
       enums = (h other).enums;
@@ -321,5 +321,5 @@ declared-rule d x name before after is new h declares other = subst (IsDeclared 
       tables = (h other).tables;
       hosts = (h other).hosts;
       functions = (h other).functions;
-      rules = (h other).rules ∙ sym (pushed ∙ ap (λ b. cond b (Some (length d.rules)) (number_of (map (λ (y : Rule). y.name) d.rules) other)) e);
+      rules = (h other).rules ∙ sym (pushed ∙ ap (λ b. cond b (Some (length d.rules)) (number_of (map (λ (y : CheckedRule). y.name) d.rules) other)) e);
     }

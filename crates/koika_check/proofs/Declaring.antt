@@ -17,7 +17,7 @@ use Rattle.koika_check.specs.inner.Checking.{Grows, IsChecker, IsDeclared, IsWid
 use Rattle.koika_check.specs.Constants.{Known, constant_of}
 use Rattle.koika_check.specs.Declarations.{has_width, is_declared, new_name, register_known, register_of, register_typed, register_with, table_conditions}
 use Rattle.koika_check.specs.inner.Locals.{inside_of, local_of, locals_of}
-use Rattle.koika_check.specs.Outcomes.{Condition, Gives, Outcome, ◌>>=◌, holds, smaller, smallest, where_all, wrong}
+use Rattle.koika_check.specs.Outcomes.{Condition, Gives, CheckResult, ◌>>=◌, holds, smaller, smallest, where_all, wrong}
 use Rattle.koika_check.specs.inner.Outcomes.{Tells}
 use Rattle.koika_check.specs.inner.Settled.{IsSettled}
 use Rattle.koika_check.specs.inner.Things.{position_of}
@@ -89,12 +89,12 @@ settled-scope a b h kept g e = record {
 -- ---- types that are named
 
 -- the type that was named before further types
-pub known-stands : (b k : Checker) → Grows b k → (n : NamedType) (o : Outcome ValueType) → Tells (λ (m : NamedType) (of : ValueType). (m.of ≡ of) × Stands b m.shape of) o (Ok n) → Stands k n.shape n.of
+pub known-stands : (b k : Checker) → Grows b k → (n : NamedType) (o : CheckResult ValueType) → Tells (λ (m : NamedType) (of : ValueType). (m.of ≡ of) × Stands b m.shape of) o (Ok n) → Stands k n.shape n.of
 known-stands b k g n o h =
     let named = tells-ok (λ (m : NamedType) (of : ValueType). (m.of ≡ of) × Stands b m.shape of) o n h in
     stands-grows b k g n.shape n.of (named.2.0 ∙ named.2.1.0, named.2.1.1)
 
-pub named-as : (b : Checker) (n : NamedType) (o : Outcome ValueType) → Tells (λ (m : NamedType) (of : ValueType). (m.of ≡ of) × Stands b m.shape of) o (Ok n) → (of : ValueType) × (o ≡ Gives of) × (n.of ≡ of)
+pub named-as : (b : Checker) (n : NamedType) (o : CheckResult ValueType) → Tells (λ (m : NamedType) (of : ValueType). (m.of ≡ of) × Stands b m.shape of) o (Ok n) → (of : ValueType) × (o ≡ Gives of) × (n.of ≡ of)
 named-as b n o h =
     let named = tells-ok (λ (m : NamedType) (of : ValueType). (m.of ≡ of) × Stands b m.shape of) o n h in
     (named.0, named.1, named.2.0)
@@ -151,7 +151,7 @@ not-power count w lt le = sym (not_true (nat_eq count (2 ^ w)) (λ e. let more :
 
 -- ---- declarations by their parts
 
-pub named-gives : (d : Checked) (n : Name) {X : Type 0} (f : List ℕ → Outcome X) (name : List ℕ) → new_name d n ≡ Gives name → name ≡ n.text → (new_name d n >>= f) ≡ f n.text
+pub named-gives : (d : Checked) (n : Name) {X : Type 0} (f : List ℕ → CheckResult X) (name : List ℕ) → new_name d n ≡ Gives name → name ≡ n.text → (new_name d n >>= f) ≡ f n.text
 named-gives d n f name e q = ap (λ o. o >>= f) e ∙ ap f q
 
 pub register-chain : (d : Checked) (n : Name) (w : TypeExpression) (first : Constant) (name : List ℕ) (t : ValueType) (x : Known) → new_name d n ≡ Gives name → name ≡ n.text → type_of d w ≡ Gives t → constant_of first d ≡ Gives x →

@@ -8,7 +8,7 @@ use Rattle.koika_check.specs.inner.Checking.{AreTypes, IsNamed, IsSignature, IsT
 use Rattle.koika_check.specs.inner.Shapes.{IsShape, array_types, type_if, type_of_shape}
 use Rattle.koika_check.specs.Types.{all_lengths, base_width, width_of}
 use Rattle.koika_check.specs.declared.checked.Checked.{Checked}
-use Rattle.koika_check.specs.declared.checked.Function.{Function}
+use Rattle.koika_check.specs.declared.checked.CheckedFunction.{CheckedFunction}
 use Rattle.koika_check.specs.declared.checked.Struct.{Struct}
 use Rattle.koika_check.specs.declared.checker.Checker.{Checker}
 use Rattle.koika_check.specs.declared.checker.Signature.{Signature}
@@ -78,7 +78,7 @@ unit-extends : (a b : Checker) → Extends a b → (s : Option Shape) → IsType
 unit-extends a b e None h = tt
 unit-extends a b e (Some s) h = type-extends a b e s h
 
-pub signature-extends : (a b : Checker) → Extends a b → (s : Signature) (f : Function) → IsSignature a s f → IsSignature b s f
+pub signature-extends : (a b : Checker) → Extends a b → (s : Signature) (f : CheckedFunction) → IsSignature a s f → IsSignature b s f
 signature-extends a b e s f h = record {
   parameters = types-extend a b e s.parameters f.parameters h.parameters;
   result = record {

@@ -18,9 +18,9 @@ use Rattle.koika_check.specs.Sizes.{Size, bodies_behind, design_size, node_weigh
 use Rattle.koika_check.specs.Types.{width_of}
 use Rattle.koika_check.specs.Typing.{HasType, IsRegister, IsType, IsTypedDesign}
 use Rattle.koika_check.specs.declared.checked.Checked.{Checked}
-use Rattle.koika_check.specs.declared.checked.Function.{Function}
+use Rattle.koika_check.specs.declared.checked.CheckedFunction.{CheckedFunction}
 use Rattle.koika_check.specs.declared.checked.Register.{Register}
-use Rattle.koika_check.specs.declared.checked.Rule.{Rule}
+use Rattle.koika_check.specs.declared.checked.CheckedRule.{CheckedRule}
 use Rattle.koika_check.proofs.Accumulations.{accumulated, accumulated-at}
 use Rattle.koika_check.proofs.Gauging.{gauges-are}
 use Rattle.koika_check.proofs.TypedGauges.{IsFine, typed-fine}
@@ -29,10 +29,10 @@ use Rattle.koika_check.proofs.TypedSoFar.{all-at}
 -- ---- functions
 
 -- how much the body of a function weighs, by those before it
-abbrev function_size : Checked → List Size → Function → Size
+abbrev function_size : Checked → List Size → CheckedFunction → Size
 function_size d before f = size_of (record { design = d; bodies = before }) f.body
 
-sizes-are : (d : Checked) (before : List Size) (fs : List Function) → bodies_behind d before fs ≡ accumulated (function_size d) before fs
+sizes-are : (d : Checked) (before : List Size) (fs : List CheckedFunction) → bodies_behind d before fs ≡ accumulated (function_size d) before fs
 sizes-are d before [] = refl
 sizes-are d before (f ∷ fs) = sizes-are d (before ++ function_size d before f ∷ []) fs
 
@@ -58,26 +58,26 @@ module _ (d : Checked) (h : IsTypedDesign d) where
   abbrev weighed : ℕ → List Size
   weighed n = accumulated (function_size d) [] (take n d.functions)
 
-  abbrev BodyFine : ℕ → Function → Type 0
+  abbrev BodyFine : ℕ → CheckedFunction → Type 0
   BodyFine number f = IsFine d f.result (function_body d (gauges number) f) (function_size d (weighed number) f).weight
 
   abbrev CallsFine : ℕ → Type 0
-  CallsFine n = (number : ℕ) (f : Function) → number < n → slice_get d.functions number ≡ Some f → IsFine d f.result (weights.body_of (slice_get (gauges n) number)) (sizes.body_of (slice_get (weighed n) number)).weight
+  CallsFine n = (number : ℕ) (f : CheckedFunction) → number < n → slice_get d.functions number ≡ Some f → IsFine d f.result (weights.body_of (slice_get (gauges n) number)) (sizes.body_of (slice_get (weighed n) number)).weight
 
   -- calls of functions whose bodies are fine
-  called : (n number : ℕ) (f : Function) → number < n → slice_get d.functions number ≡ Some f → BodyFine number f →
+  called : (n number : ℕ) (f : CheckedFunction) → number < n → slice_get d.functions number ≡ Some f → BodyFine number f →
       IsFine d f.result (weights.body_of (slice_get (gauges n) number)) (sizes.body_of (slice_get (weighed n) number)).weight
   called n number f lt at fine =
       subst (λ (o : Option Gauge). IsFine d f.result (weights.body_of o) (sizes.body_of (slice_get (weighed n) number)).weight) (sym (accumulated-at (function_body d) d.functions n number f lt at))
       (subst (λ (o : Option Size). IsFine d f.result (function_body d (gauges number) f) (sizes.body_of o).weight) (sym (accumulated-at (function_size d) d.functions n number f lt at)) fine)
 
-  body-fine : (number : ℕ) (f : Function) → slice_get d.functions number ≡ Some f → CallsFine number → BodyFine number f
+  body-fine : (number : ℕ) (f : CheckedFunction) → slice_get d.functions number ≡ Some f → CallsFine number → BodyFine number f
   body-fine number f at calls =
       let is = h.functions number f at in
       subst (λ (ws : List ℕ). IsFine d f.result (gauge_of (record { design = d; bodies = gauges number }) f.body ws) (function_size d (weighed number) f).weight) (map-reverse (width_of d) f.parameters)
       (typed-fine d h number (gauges number) (weighed number) calls f.body (reverse f.parameters) f.result (All-reverse (IsType d) f.parameters is.parameters) is.body)
 
-  bodies-fine : (bound number : ℕ) (f : Function) → number < bound → slice_get d.functions number ≡ Some f → BodyFine number f
+  bodies-fine : (bound number : ℕ) (f : CheckedFunction) → number < bound → slice_get d.functions number ≡ Some f → BodyFine number f
   bodies-fine zero number f lt at = absurd (omega arith)
   bodies-fine (suc bound) number f lt at =
       body-fine number f at (λ k g below here. called number k g below here (bodies-fine bound k g (omega (arith, below, lt)) here))
@@ -87,13 +87,13 @@ module _ (d : Checked) (h : IsTypedDesign d) where
 
   -- ---- rules
 
-  abbrev rule_weight : Rule → ℕ
+  abbrev rule_weight : CheckedRule → ℕ
   rule_weight r = (size_of (rests d) r.body).weight
 
   all_functions : take (length d.functions) d.functions ≡ d.functions
   all_functions = take_all (length d.functions) d.functions (omega arith)
 
-  few-of-rule : (r : Rule) → HasType d (length d.functions) r.body [] None → rule_squares d r ≤ 16384 * rule_weight r
+  few-of-rule : (r : CheckedRule) → HasType d (length d.functions) r.body [] None → rule_squares d r ≤ 16384 * rule_weight r
   few-of-rule r has =
       let n = length d.functions in
       let fine = typed-fine d h n (gauges n) (weighed n) (calls-fine n) r.body [] None (λ k b lt. absurd (omega (arith, lt))) has in
@@ -113,23 +113,23 @@ module _ (d : Checked) (h : IsTypedDesign d) where
   few-of-rules : sum_by (rule_squares d) d.rules ≤ 16384 * sizes.weights (rule_sizes d)
   few-of-rules =
       let each = few-by-item (rule_squares d) rule_weight d.rules (λ k r lt. few-of-rule (get_or d.rules k r) (h.rules k r lt)) in
-      let total : sizes.weights (rule_sizes d) ≡ sum_by rule_weight d.rules = sum_by-map (λ (s : Size). s.weight) (λ (r : Rule). size_of (rests d) r.body) d.rules in
+      let total : sizes.weights (rule_sizes d) ≡ sum_by rule_weight d.rules = sum_by-map (λ (s : Size). s.weight) (λ (r : CheckedRule). size_of (rests d) r.body) d.rules in
       omega (arith, each, total)
 
   few-of-node : (n : Node) → node_squares d n ≤ 16384 * (sizes.body_of (slice_get (rule_sizes d) n.rule)).weight
   few-of-node n = by_rule (slice_get d.rules n.rule) refl
     where
-      sized : (o : Option Rule) → slice_get d.rules n.rule ≡ o → slice_get (rule_sizes d) n.rule ≡ option_map (λ (r : Rule). size_of (rests d) r.body) o
-      sized o e = slice_get-map (λ (r : Rule). size_of (rests d) r.body) d.rules n.rule ∙ ap (option_map (λ (r : Rule). size_of (rests d) r.body)) e
+      sized : (o : Option CheckedRule) → slice_get d.rules n.rule ≡ o → slice_get (rule_sizes d) n.rule ≡ option_map (λ (r : CheckedRule). size_of (rests d) r.body) o
+      sized o e = slice_get-map (λ (r : CheckedRule). size_of (rests d) r.body) d.rules n.rule ∙ ap (option_map (λ (r : CheckedRule). size_of (rests d) r.body)) e
 
-      by_rule : (o : Option Rule) → slice_get d.rules n.rule ≡ o → node_squares d n ≤ 16384 * (sizes.body_of (slice_get (rule_sizes d) n.rule)).weight
+      by_rule : (o : Option CheckedRule) → slice_get d.rules n.rule ≡ o → node_squares d n ≤ 16384 * (sizes.body_of (slice_get (rule_sizes d) n.rule)).weight
       by_rule None e =
           let none : node_squares d n ≡ 0 = ap (squares_if d) e in
           omega (arith, none)
       by_rule (Some r) e =
           let some : node_squares d n ≡ rule_squares d r = ap (squares_if d) e in
           let weight : (sizes.body_of (slice_get (rule_sizes d) n.rule)).weight ≡ rule_weight r = ap (λ (o : Option Size). (sizes.body_of o).weight) (sized (Some r) e) in
-          let few = few-of-rule r (all-at (λ (s : Rule). HasType d (length d.functions) s.body [] None) d.rules n.rule r h.rules e) in
+          let few = few-of-rule r (all-at (λ (s : CheckedRule). HasType d (length d.functions) s.body [] None) d.rules n.rule r h.rules e) in
           omega (arith, some, weight, few)
 
   few-of-nodes : sum_by (node_squares d) d.nodes ≤ 16384 * node_weights (rule_sizes d) d.nodes

@@ -9,7 +9,7 @@ use Rattle.koika_check.specs.inner.Settled.{IsSettled}
 use Rattle.koika_check.specs.inner.Things.{AreParts, thing_named}
 use Rattle.koika_check.specs.Types.{width_of}
 use Rattle.koika_check.specs.declared.checked.Checked.{Checked}
-use Rattle.koika_check.specs.declared.checked.Field.{Field}
+use Rattle.koika_check.specs.declared.checked.CheckedField.{CheckedField}
 use Rattle.koika_check.specs.declared.checker.Checker.{Checker}
 use Rattle.koika_check.specs.declared.parts.Parts.{Parts}
 use Rattle.koika_check.specs.declared.shapes.Shape.{Shape}
@@ -81,22 +81,22 @@ types-in-parts a s g shapes of h =
     let there = types-grow a (record s { parts = a.parts }) g shapes of h in
     record { are = there.are; each = λ k d lt. let t = there.each k d lt in record { known = t.known; named = t.named; width = t.width } }
 
-sum-push : (w : Field → ℕ) (xs : List Field) (x : Field) → sum_by w (xs ++ x ∷ []) ≡ sum_by w xs + w x
+sum-push : (w : CheckedField → ℕ) (xs : List CheckedField) (x : CheckedField) → sum_by w (xs ++ x ∷ []) ≡ sum_by w xs + w x
 sum-push w [] x = sum_by-cons w x [] ∙ omega arith
 sum-push w (y ∷ xs) x = sum_by-cons w y (xs ++ x ∷ []) ∙ ap (λ n. w y + n) (sum-push w xs x) ∙ omega (arith, sum_by-cons w y xs)
 
 -- one more field
-pub fields-push : (a s : Checker) → GrowsInParts a s → (old new : Fields) → AreFields a old → (f : Field) (shape : Shape) (width : ℕ) → Stands s shape f.of → width ≡ width_of s.design f.of →
+pub fields-push : (a s : Checker) → GrowsInParts a s → (old new : Fields) → AreFields a old → (f : CheckedField) (shape : Shape) (width : ℕ) → Stands s shape f.of → width ≡ width_of s.design f.of →
     new.fields ≡ old.fields ++ f ∷ [] → new.shapes ≡ old.shapes ++ shape ∷ [] → new.width ≡ min (old.width + width) 129 → AreFields s new
 fields-push a s g old new h f shape width stands w e1 e2 e3 = record {
-  types = subst (λ (ss : List Shape). AreTypes s ss (map (λ (x : Field). x.of) new.fields)) (sym e2)
-      (subst (λ (ts : List ValueType). AreTypes s (old.shapes ++ shape ∷ []) ts) (sym (ap (map (λ (x : Field). x.of)) e1 ∙ map-append (λ (x : Field). x.of) old.fields (f ∷ [])))
-      (types-push s old.shapes (map (λ (x : Field). x.of) old.fields) shape f.of (types-in-parts a s g old.shapes (map (λ (x : Field). x.of) old.fields) h.types) stands));
+  types = subst (λ (ss : List Shape). AreTypes s ss (map (λ (x : CheckedField). x.of) new.fields)) (sym e2)
+      (subst (λ (ts : List ValueType). AreTypes s (old.shapes ++ shape ∷ []) ts) (sym (ap (map (λ (x : CheckedField). x.of)) e1 ∙ map-append (λ (x : CheckedField). x.of) old.fields (f ∷ [])))
+      (types-push s old.shapes (map (λ (x : CheckedField). x.of) old.fields) shape f.of (types-in-parts a s g old.shapes (map (λ (x : CheckedField). x.of) old.fields) h.types) stands));
   width =
-      let before : old.width ≡ min (sum_by (λ (x : Field). width_of s.design x.of) old.fields) 129 = h.width ∙ ap (λ (d : Checked). min (sum_by (λ (x : Field). width_of d x.of) old.fields) 129) (sym g.design) in
-      let sum : sum_by (λ (x : Field). width_of s.design x.of) new.fields ≡ sum_by (λ (x : Field). width_of s.design x.of) old.fields + width_of s.design f.of =
-      ap (sum_by (λ (x : Field). width_of s.design x.of)) e1 ∙ sum-push (λ (x : Field). width_of s.design x.of) old.fields f in
-      e3 ∙ capped_sum old.width width (sum_by (λ (x : Field). width_of s.design x.of) old.fields) before ∙ ap (λ n. min n 129) (omega (arith, sum, w));
+      let before : old.width ≡ min (sum_by (λ (x : CheckedField). width_of s.design x.of) old.fields) 129 = h.width ∙ ap (λ (d : Checked). min (sum_by (λ (x : CheckedField). width_of d x.of) old.fields) 129) (sym g.design) in
+      let sum : sum_by (λ (x : CheckedField). width_of s.design x.of) new.fields ≡ sum_by (λ (x : CheckedField). width_of s.design x.of) old.fields + width_of s.design f.of =
+      ap (sum_by (λ (x : CheckedField). width_of s.design x.of)) e1 ∙ sum-push (λ (x : CheckedField). width_of s.design x.of) old.fields f in
+      e3 ∙ capped_sum old.width width (sum_by (λ (x : CheckedField). width_of s.design x.of) old.fields) before ∙ ap (λ n. min n 129) (omega (arith, sum, w));
 }
   where
     capped_sum : (o w s : ℕ) → o ≡ min s 129 → min (o + w) 129 ≡ min (s + w) 129
@@ -108,11 +108,11 @@ types-back s p shapes of h = record { are = h.are; each = λ k d lt. let t = h.e
 -- one more struct, behind its fields
 pub struct-settled : (a s : Checker) → IsSettled a → IsChecker s → GrowsInParts a s → s.locals ≡ a.locals → (x : Struct) (shapes : List Shape) (name : List ℕ) (t : Things) (k : ℕ) → k ≡ length s.design.structs → k < 2 ^ 32 →
     Keeps a.parts s.parts (thing.Struct k) → Lists s.parts (thing.Struct k) (names_of_fields x.fields) → x.name ≡ name → thing_named s.things name ≡ None → Declares s.things name (thing.Struct k) t →
-    AreTypes s shapes (map (λ (f : Field). f.of) x.fields) → x.width ≡ min (sum_by (λ (f : Field). width_of s.design f.of) x.fields) 129 →
+    AreTypes s shapes (map (λ (f : CheckedField). f.of) x.fields) → x.width ≡ min (sum_by (λ (f : CheckedField). width_of s.design f.of) x.fields) 129 →
     IsSettled (record s { design = record s.design { structs = s.design.structs ++ x ∷ [] }; things = t; fields = s.fields ++ shapes ∷ [] })
 struct-settled a s h hs g locals x shapes name t k ke small keeps lists is new declares types width =
     let b : Checker = record s { parts = a.parts } in
     let kb : IsChecker b = parts-kept s hs a.parts k h.checker.parts (λ other n ne. sym (keeps other n ne)) (omega (arith, ke)) small in
     let hb : IsSettled b = settled-grows a b h kb g locals in
     added-struct b hb x shapes name t s.parts is new (subst (λ n. Declares s.things name (thing.Struct n) t) ke declares) (subst (λ n. n < 2 ^ 32) ke small) hs.parts
-    (subst (λ n. Keeps a.parts s.parts (thing.Struct n)) ke keeps) (subst (λ n. Lists s.parts (thing.Struct n) (names_of_fields x.fields)) ke lists) (types-back s a.parts shapes (map (λ (f : Field). f.of) x.fields) types) width
+    (subst (λ n. Keeps a.parts s.parts (thing.Struct n)) ke keeps) (subst (λ n. Lists s.parts (thing.Struct n) (names_of_fields x.fields)) ke lists) (types-back s a.parts shapes (map (λ (f : CheckedField). f.of) x.fields) types) width

@@ -12,7 +12,7 @@ use Rattle.koika_check.specs.Types.{all_lengths, width_of}
 use Rattle.koika_check.specs.declared.bit_weight.Gauge.{Gauge as Counted}
 use Rattle.koika_check.specs.declared.bit_weight.Side.{Side}
 use Rattle.koika_check.specs.declared.checked.Checked.{Checked}
-use Rattle.koika_check.specs.declared.checked.Function.{Function}
+use Rattle.koika_check.specs.declared.checked.CheckedFunction.{CheckedFunction}
 use Rattle.koika_check.specs.declared.typed.Operation.{Operation}
 use Rattle.koika_check.specs.declared.typed.Operation.TheVariants as operation
 use Rattle.koika_check.specs.declared.typed.Selection.{Selection}
@@ -173,7 +173,7 @@ parameters-more d ts i t width names lt is wide before =
     ∙ reverse-append (map (width_of d) (take i ts)) (width_of d (get_or ts i t) ∷ []) ∙ ap (λ (u : ValueType). width_of d u ∷ reverse (map (width_of d) (take i ts))) (sym is)))
 
 -- the bodies of functions, by their numbers
-pub gauges-are : (d : Checked) (before : List Gauge) (fs : List Function) → bodies_after d before fs ≡ accumulated (function_body d) before fs
+pub gauges-are : (d : Checked) (before : List Gauge) (fs : List CheckedFunction) → bodies_after d before fs ≡ accumulated (function_body d) before fs
 gauges-are d before [] = refl
 gauges-are d before (f ∷ fs) = gauges-are d (before ++ function_body d before f ∷ []) fs
 
@@ -184,7 +184,7 @@ no-body d n number past =
     slice_get_past (bodies_before d n).bodies number (omega (arith, same, count, length-take n d.functions))
 
 -- the body of an earlier function
-pub body-at : (d : Checked) (n number : ℕ) (f : Function) → number < n → slice_get d.functions number ≡ Some f →
+pub body-at : (d : Checked) (n number : ℕ) (f : CheckedFunction) → number < n → slice_get d.functions number ≡ Some f →
     slice_get (bodies_before d n).bodies number ≡ Some (function_body d (bodies_before d number).bodies f)
 body-at d n number f lt at =
     ap (λ gs. slice_get gs number) (gauges-are d [] (take n d.functions)) ∙ accumulated-at (function_body d) d.functions n number f lt at

@@ -10,7 +10,7 @@ use Rattle.koika_check.specs.Types.{array, bits, width_of}
 use Rattle.koika_check.specs.Types as types
 use Rattle.koika_check.specs.declared.agreement.Part.{Part}
 use Rattle.koika_check.specs.declared.checked.Checked.{Checked}
-use Rattle.koika_check.specs.declared.checked.Function.{Function}
+use Rattle.koika_check.specs.declared.checked.CheckedFunction.{CheckedFunction}
 use Rattle.koika_check.specs.declared.checker.Checker.{Checker}
 use Rattle.koika_check.specs.declared.checker.Signature.{Signature}
 use Rattle.koika_check.specs.declared.locals.Bound.{Bound}
@@ -107,9 +107,9 @@ same-part a b g p h = ap (λ (of : Option ValueType). types.part of p.place) (sa
 pub parts-grow : (a b : Checker) → Grows a b → (ps : List Part) → All (IsPart a) ps → map (part_of (arrays_of b)) ps ≡ map (part_of (arrays_of a)) ps
 parts-grow a b g [] h = refl
 parts-grow a b g (p ∷ ps) h =
-    ap₂ (λ (q : types.Part) (qs : List types.Part). q ∷ qs) (same-part a b g p (h 0 p (omega arith))) (parts-grow a b g ps (All-tail (IsPart a) p ps h))
+    ap₂ (λ (q : types.TypedPart) (qs : List types.TypedPart). q ∷ qs) (same-part a b g p (h 0 p (omega arith))) (parts-grow a b g ps (All-tail (IsPart a) p ps h))
 
-signature-grows : (a b : Checker) → Grows a b → (s : Signature) (f : Function) → IsSignature a s f → IsSignature b s f
+signature-grows : (a b : Checker) → Grows a b → (s : Signature) (f : CheckedFunction) → IsSignature a s f → IsSignature b s f
 signature-grows a b g s f h = record {
   parameters = types-grow a b g s.parameters f.parameters h.parameters;
   result = record {

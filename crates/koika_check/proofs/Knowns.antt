@@ -13,10 +13,10 @@ use Rattle.koika_check.specs.Composites as composites
 use Rattle.koika_check.specs.Constants.{array_known, constant_of, known_member, struct_known}
 use Rattle.koika_check.specs.inner.Constants.{constant_field_of}
 use Rattle.koika_check.specs.Constants as constants
-use Rattle.koika_check.specs.Outcomes.{Gives, Outcome, ◌>>=◌, in_turn}
+use Rattle.koika_check.specs.Outcomes.{Gives, CheckResult, ◌>>=◌, in_turn}
 use Rattle.koika_check.specs.inner.Outcomes.{Ends, Tells}
 use Rattle.koika_check.specs.inner.Shapes.{part_of}
-use Rattle.koika_check.specs.Types.{Part as TypedPart}
+use Rattle.koika_check.specs.Types.{TypedPart as TypedPart}
 use Rattle.koika_check.specs.declared.agreement.Part.{Part}
 use Rattle.koika_check.specs.declared.checked.Checked.{Checked}
 use Rattle.koika_check.specs.declared.checker.Checker.{Checker}
@@ -105,7 +105,7 @@ fields-ends old mid n xs i x y e lt is h k =
 
 -- ---- whole structs and arrays
 
-pub struct-ends : (old mid : Checker) (n place close : ℕ) (o : Outcome (List constants.KnownField)) (y : KnownFields) (e : Stop) → (h : Yields (AreKnownFields (scope_of old) n) old o mid y) →
+pub struct-ends : (old mid : Checker) (n place close : ℕ) (o : CheckResult (List constants.KnownField)) (y : KnownFields) (e : Stop) → (h : Yields (AreKnownFields (scope_of old) n) old o mid y) →
     Tells (StandsFor mid) (struct_of mid.design n place (map constants.given h.value) close) (Err e) → Ends (o >>= struct_known old.design n place close) e
 struct-ends old mid n place close o y e h t =
     ends-behind o (struct_known old.design n place close) h.value e h.gives
@@ -113,7 +113,7 @@ struct-ends old mid n place close o y e h t =
     (ends-same (struct_of old.design n place (map constants.given h.value) close) (struct_of mid.design n place (map constants.given h.value) close) e (ap (λ d. struct_of d n place (map constants.given h.value) close) (sym h.grows.design))
     (ends-tells (StandsFor mid) (struct_of mid.design n place (map constants.given h.value) close) e t)))
 
-pub struct-gives : (old mid : Checker) (n place close : ℕ) (o : Outcome (List constants.KnownField)) (y : KnownFields) (p : Part) → (h : Yields (AreKnownFields (scope_of old) n) old o mid y) →
+pub struct-gives : (old mid : Checker) (n place close : ℕ) (o : CheckResult (List constants.KnownField)) (y : KnownFields) (p : Part) → (h : Yields (AreKnownFields (scope_of old) n) old o mid y) →
     Tells (StandsFor mid) (struct_of mid.design n place (map constants.given h.value) close) (Ok p) → Yields (IsKnown (scope_of old)) old (o >>= struct_known old.design n place close) mid (record { part = p; value = value.Fields n y.values })
 struct-gives old mid n place close o y p h t =
     let a = tells-ok (StandsFor mid) (struct_of mid.design n place (map constants.given h.value) close) p t in
@@ -131,14 +131,14 @@ struct-gives old mid n place close o y p h t =
     known : TypedPart → Value → constants.Known
     known p v = record { part = p; value = v }
 
-pub array-ends : (old mid : Checker) (place : ℕ) (o : Outcome (List constants.Known)) (y : Knowns) (e : Stop) → Yields (AreKnown (scope_of old)) old o mid y →
+pub array-ends : (old mid : Checker) (place : ℕ) (o : CheckResult (List constants.Known)) (y : Knowns) (e : Stop) → Yields (AreKnown (scope_of old)) old o mid y →
     Ends (array_of mid.design place (map (part_of (arrays_of mid)) y.parts)) e → Ends (o >>= array_known old.design place) e
 array-ends old mid place o y e h t =
     ends-behind o (array_known old.design place) h.value e h.gives
     (ends-bind (array_of old.design place (map (λ (k : constants.Known). k.part) h.value)) _ e
     (ends-same (array_of old.design place (map (λ (k : constants.Known). k.part) h.value)) (array_of mid.design place (map (part_of (arrays_of mid)) y.parts)) e (ap₂ (λ d ps. array_of d place ps) (sym h.grows.design) h.means.parts) t))
 
-pub array-gives : (old mid new : Checker) (place : ℕ) (o : Outcome (List constants.Known)) (y : Knowns) (p : Part) → Yields (AreKnown (scope_of old)) old o mid y →
+pub array-gives : (old mid new : Checker) (place : ℕ) (o : CheckResult (List constants.Known)) (y : Knowns) (p : Part) → Yields (AreKnown (scope_of old)) old o mid y →
     Yields (IsPartIn (scope_of mid)) mid (array_of mid.design place (map (part_of (arrays_of mid)) y.parts)) new p → Yields (IsKnown (scope_of old)) old (o >>= array_known old.design place) new (record { part = p; value = value.Items y.values })
 array-gives old mid new place o y p h k = record {
   kept = k.kept;
@@ -155,10 +155,10 @@ array-gives old mid new place o y p h k = record {
     known p v = record { part = p; value = v }
 
 -- a literal, and a member
-pub literal-gives : (c : Checker) → IsChecker c → (o : Outcome constants.Known) (p : Part) (v : Value) (x : constants.Known) → o ≡ Gives x → StandsFor c p x.part → x.value ≡ v → Yields (IsKnown (scope_of c)) c o c (record { part = p; value = v })
+pub literal-gives : (c : Checker) → IsChecker c → (o : CheckResult constants.Known) (p : Part) (v : Value) (x : constants.Known) → o ≡ Gives x → StandsFor c p x.part → x.value ≡ v → Yields (IsKnown (scope_of c)) c o c (record { part = p; value = v })
 literal-gives c h o p v x e stands is = record { kept = h; grows = grows-refl c; value = x; gives = e; means = record { scope_is = refl; part = stands.0; type = stands.1; value = is } }
 
-pub member-known : (c : Checker) → IsChecker c → (place : ℕ) (o : Outcome composites.MemberOf) (r : Result Known Stop) → Tells (IsMember c place) o r → Checks (IsKnown (scope_of c)) c (o >>= λ found. Gives (known_member place found)) c r
+pub member-known : (c : Checker) → IsChecker c → (place : ℕ) (o : CheckResult composites.MemberOf) (r : Result Known Stop) → Tells (IsMember c place) o r → Checks (IsKnown (scope_of c)) c (o >>= λ found. Gives (known_member place found)) c r
 member-known c h place o (Ok y) t =
     let a = tells-ok (IsMember c place) o y t in
     record { kept = h; grows = grows-refl c; value = known_member place a.0; gives = ap (λ r. r >>= λ found. Gives (known_member place found)) a.1; means = record { scope_is = refl; part = a.2.part; type = a.2.type; value = a.2.value } }

@@ -7,11 +7,11 @@ use Rattle.kw_base.specs.declared.fault_number.TheConstants.{UNKNOWN_NAME}
 use Rattle.koika_check.specs.inner.Checking.{IsType, IsTypeOrUnit, IsWidth, TypedAs, arrays_of}
 use Rattle.koika_check.specs.Constructs.{typing}
 use Rattle.koika_check.specs.Constructs as constructs
-use Rattle.koika_check.specs.Outcomes.{Fails, Gives, Outcome, found, holds, where_all, wrong}
+use Rattle.koika_check.specs.Outcomes.{Fails, Gives, CheckResult, found, holds, where_all, wrong}
 use Rattle.koika_check.specs.inner.Outcomes.{Ends, Tells}
 use Rattle.koika_check.specs.Scopes.{Scope, input_named, local_named}
 use Rattle.koika_check.specs.inner.Shapes.{Denotes, type_if}
-use Rattle.koika_check.specs.Types.{Part as TypedPart, as_bits, bits, is_bits, width_of, wrong_type}
+use Rattle.koika_check.specs.Types.{TypedPart as TypedPart, as_bits, bits, is_bits, width_of, wrong_type}
 use Rattle.koika_check.specs.declared.checked.Checked.{Checked}
 use Rattle.koika_check.specs.declared.checked.Input.{Input}
 use Rattle.koika_check.specs.declared.checker.Checker.{Checker}
@@ -31,13 +31,13 @@ tells-made is t x (Err stops.NoMemory) h e = tt
 tells-made is t x (Err (stops.Wrong w)) h e = absurd e
 
 -- where the conditions hold
-pub leaf-gives : (c : Checker) (o : Outcome constructs.Typing) (of : Option Shape) (of' : Option ValueType) (place : ℕ) (t : Typed) (r : Result Typing Stop) → o ≡ Gives (typing of' place t) → of' ≡ type_if (arrays_of c) of → IsTypeOrUnit c of →
+pub leaf-gives : (c : Checker) (o : CheckResult constructs.Typing) (of : Option Shape) (of' : Option ValueType) (place : ℕ) (t : Typed) (r : Result Typing Stop) → o ≡ Gives (typing of' place t) → of' ≡ type_if (arrays_of c) of → IsTypeOrUnit c of →
     Tells (λ y x. y ≡ x) (Gives (record { part = record { of = of; place = place }; typed = t })) r → Tells (TypedAs c) o r
 leaf-gives c o of of' place t r gives e h made =
     subst (λ p. Tells (TypedAs c) p r) (sym gives)
     (tells-made (TypedAs c) (record { part = record { of = of; place = place }; typed = t }) (typing of' place t) r (ap (λ u. typing u place t) e, h) made)
 
-pub leaf-ok : (c : Checker) (o : Outcome constructs.Typing) (of : Option Shape) (of' : Option ValueType) (place : ℕ) (t : Typed) (y : Typing) → o ≡ Gives (typing of' place t) → of' ≡ type_if (arrays_of c) of → IsTypeOrUnit c of →
+pub leaf-ok : (c : Checker) (o : CheckResult constructs.Typing) (of : Option Shape) (of' : Option ValueType) (place : ℕ) (t : Typed) (y : Typing) → o ≡ Gives (typing of' place t) → of' ≡ type_if (arrays_of c) of → IsTypeOrUnit c of →
     y ≡ record { part = record { of = of; place = place }; typed = t } → Tells (TypedAs c) o (Ok y)
 leaf-ok c o of of' place t y gives e h is =
     subst (λ p. Tells (TypedAs c) p (Ok y)) (sym gives) (subst (λ z. TypedAs c z (typing of' place t)) (sym is) (ap (λ u. typing u place t) e, h))
@@ -82,6 +82,6 @@ pub named-unknown : (s : Scope) (n : Name) → local_named s.locals n.text ≡ N
 named-unknown s n l i = rw (l, i) refl
 
 -- why checking ends, as a call tells it
-pub tells-ends : {X Y : Type 0} (is : Y → X → Type 0) (o : Outcome X) (e : Stop) → Ends o e → Tells is o (Err e)
+pub tells-ends : {X Y : Type 0} (is : Y → X → Type 0) (o : CheckResult X) (e : Stop) → Ends o e → Tells is o (Err e)
 tells-ends is o stops.NoMemory h = tt
 tells-ends is o (stops.Wrong w) h = subst (λ p. Tells is p (Err (stops.Wrong w))) (sym h) refl

@@ -8,7 +8,7 @@ use Rattle.koika_check.specs.Operators.{bits_in, calculated, concatenated, opera
 use Rattle.koika_check.specs.Outcomes.{Condition, Gives, earlier, unless}
 use Rattle.koika_check.specs.inner.Outcomes.{Tells}
 use Rattle.koika_check.specs.inner.Shapes.{Denotes, part_of, type_if}
-use Rattle.koika_check.specs.Types.{Part as TypedPart, all_lengths, as_bits, base_width, bits, bits_by, is_bits, width_of, wrong_type}
+use Rattle.koika_check.specs.Types.{TypedPart as TypedPart, all_lengths, as_bits, base_width, bits, bits_by, is_bits, width_of, wrong_type}
 use Rattle.koika_check.specs.declared.agreement.Part.{Part}
 use Rattle.koika_check.specs.declared.checked.Checked.{Checked}
 use Rattle.koika_check.specs.declared.checker.Checker.{Checker}

@@ -22,7 +22,7 @@ use Rattle.koika_check.specs.Scopes.{Local, Scope}
 use Rattle.koika_check.specs.inner.Settled.{IsSettled}
 use Rattle.koika_check.specs.inner.Shapes.{AreArrays, AreShapes, IsShapeIf, part_of, type_if, type_of_shape}
 use Rattle.koika_check.specs.inner.Things.{AreParts, AreThings, position_of, thing_named}
-use Rattle.koika_check.specs.Types.{Part as TypedPart, agrees, type_of}
+use Rattle.koika_check.specs.Types.{TypedPart as TypedPart, agrees, type_of}
 use Rattle.koika_check.specs.declared.agreement.Part.{Part}
 use Rattle.koika_check.specs.declared.checked.Checked.{Checked}
 use Rattle.koika_check.specs.declared.checker.Checker.{Checker}

@@ -14,7 +14,7 @@ use Rattle.koika_check.specs.inner.Shapes.{IsShape, IsShapeIf, type_if, type_of_
 use Rattle.koika_check.specs.Types.{array, base_width, width_of}
 use Rattle.koika_check.specs.declared.agreement.Part.{Part}
 use Rattle.koika_check.specs.declared.checked.Checked.{Checked}
-use Rattle.koika_check.specs.declared.checked.Field.{Field}
+use Rattle.koika_check.specs.declared.checked.CheckedField.{CheckedField}
 use Rattle.koika_check.specs.declared.checked.Register.{Register}
 use Rattle.koika_check.specs.declared.checked.Struct.{Struct}
 use Rattle.koika_check.specs.declared.checker.Checker.{Checker}
@@ -101,45 +101,45 @@ map_sum g w [] = refl
 map_sum g w (x ∷ xs) = sum_by-cons (λ y. w (g y)) x xs ∙ ap (λ n. w (g x) + n) (map_sum g w xs) ∙ sym (sum_by-cons w (g x) (map g xs))
 
 -- the widths of shapes are those of the fields that they stand for
-pub field-widths : (c : Checker) (shapes : List Shape) (fields : List Field) (k : ℕ) → AreTypes c shapes (map (λ (f : Field). f.of) fields) →
-    sum_by (λ (s : Shape). width_of c.design (type_of_shape (arrays_of c) s)) (drop k shapes) ≡ sum_by (λ (f : Field). width_of c.design f.of) (drop k fields)
+pub field-widths : (c : Checker) (shapes : List Shape) (fields : List CheckedField) (k : ℕ) → AreTypes c shapes (map (λ (f : CheckedField). f.of) fields) →
+    sum_by (λ (s : Shape). width_of c.design (type_of_shape (arrays_of c) s)) (drop k shapes) ≡ sum_by (λ (f : CheckedField). width_of c.design f.of) (drop k fields)
 field-widths c shapes fields k h =
     map_sum (type_of_shape (arrays_of c)) (width_of c.design) (drop k shapes)
-    ∙ ap (sum_by (width_of c.design)) (sym (drop-map (type_of_shape (arrays_of c)) k shapes) ∙ sym (ap (drop k) h.are) ∙ drop-map (λ (f : Field). f.of) k fields)
-    ∙ sym (map_sum (λ (f : Field). f.of) (width_of c.design) (drop k fields))
+    ∙ ap (sum_by (width_of c.design)) (sym (drop-map (type_of_shape (arrays_of c)) k shapes) ∙ sym (ap (drop k) h.are) ∙ drop-map (λ (f : CheckedField). f.of) k fields)
+    ∙ sym (map_sum (λ (f : CheckedField). f.of) (width_of c.design) (drop k fields))
 
 -- they have few bits together, where the struct is a type of values
-pub fields-few : (c : Checker) → IsChecker c → (n k : ℕ) (shapes : List Shape) → IsType c (shape.Struct n) → AreTypes c shapes (map (λ (f : Field). f.of) (fields_of c.design n)) →
+pub fields-few : (c : Checker) → IsChecker c → (n k : ℕ) (shapes : List Shape) → IsType c (shape.Struct n) → AreTypes c shapes (map (λ (f : CheckedField). f.of) (fields_of c.design n)) →
     sum_by (λ (s : Shape). width_of c.design (type_of_shape (arrays_of c) s)) (drop k shapes) ≤ 128
 fields-few c h n k shapes t are =
-    let all = sum_by (λ (f : Field). width_of c.design f.of) (fields_of c.design n) in
+    let all = sum_by (λ (f : CheckedField). width_of c.design f.of) (fields_of c.design n) in
     let least : all ≤ 128 = few all (base_width c.design (base.Struct n)) (h.widths.structs n t.named) (omega (arith, t.width.most)) in
-    omega (arith, least, field-widths c shapes (fields_of c.design n) k are, sum_by-take-drop (λ (f : Field). width_of c.design f.of) (fields_of c.design n) k)
+    omega (arith, least, field-widths c shapes (fields_of c.design n) k are, sum_by-take-drop (λ (f : CheckedField). width_of c.design f.of) (fields_of c.design n) k)
   where
     few : (all w : ℕ) → w ≡ min all 129 → w ≤ 128 → all ≤ 128
     few all w e most = grind arith
 
 -- the types of a struct's fields
-pub fields-at : (c : Checker) → IsChecker c → (n : ℕ) (shapes : List Shape) → n < length c.design.structs → shapes ≡ get_or c.fields n shapes → AreTypes c shapes (map (λ (f : Field). f.of) (fields_of c.design n))
+pub fields-at : (c : Checker) → IsChecker c → (n : ℕ) (shapes : List Shape) → n < length c.design.structs → shapes ≡ get_or c.fields n shapes → AreTypes c shapes (map (λ (f : CheckedField). f.of) (fields_of c.design n))
 fields-at c h n shapes lt is =
-    subst (λ (s : List Shape). AreTypes c s (map (λ (f : Field). f.of) (fields_of c.design n))) (sym is) (h.fields n shapes (omega (arith, lt, h.each_fields)))
+    subst (λ (s : List Shape). AreTypes c s (map (λ (f : CheckedField). f.of) (fields_of c.design n))) (sym is) (h.fields n shapes (omega (arith, lt, h.each_fields)))
 
-pub fields-long : (c : Checker) (shapes : List Shape) (fields : List Field) → AreTypes c shapes (map (λ (f : Field). f.of) fields) → length shapes ≡ length fields
+pub fields-long : (c : Checker) (shapes : List Shape) (fields : List CheckedField) → AreTypes c shapes (map (λ (f : CheckedField). f.of) fields) → length shapes ≡ length fields
 fields-long c shapes fields h =
-    sym (length-map shapes (type_of_shape (arrays_of c))) ∙ ap length (sym h.are) ∙ length-map fields (λ (f : Field). f.of)
+    sym (length-map shapes (type_of_shape (arrays_of c))) ∙ ap length (sym h.are) ∙ length-map fields (λ (f : CheckedField). f.of)
 
 -- the field of this number, and its type
-pub field-is : (c : Checker) (shapes : List Shape) (fields : List Field) (n : ℕ) (s : Shape) → AreTypes c shapes (map (λ (f : Field). f.of) fields) → n < length fields → s ≡ get_or shapes n s →
+pub field-is : (c : Checker) (shapes : List Shape) (fields : List CheckedField) (n : ℕ) (s : Shape) → AreTypes c shapes (map (λ (f : CheckedField). f.of) fields) → n < length fields → s ≡ get_or shapes n s →
     type_at fields (Some n) ≡ Some (type_of_shape (arrays_of c) s)
 field-is c shapes fields n s h lt is =
-    at-field fields n ∙ sym (slice_get-map (λ (f : Field). f.of) fields n) ∙ ap (λ (ts : List ValueType). slice_get ts n) h.are
+    at-field fields n ∙ sym (slice_get-map (λ (f : CheckedField). f.of) fields n) ∙ ap (λ (ts : List ValueType). slice_get ts n) h.are
     ∙ slice_get-map (type_of_shape (arrays_of c)) shapes n ∙ ap (option_map (type_of_shape (arrays_of c))) (slice_get_read shapes (length shapes) n s refl (omega (arith, lt, fields-long c shapes fields h)) is)
   where
-    by-field : (o : Option Field) (fields : List Field) (n : ℕ) → slice_get fields n ≡ o → type_at fields (Some n) ≡ option_map (λ (f : Field). f.of) o
+    by-field : (o : Option CheckedField) (fields : List CheckedField) (n : ℕ) → slice_get fields n ≡ o → type_at fields (Some n) ≡ option_map (λ (f : CheckedField). f.of) o
     by-field None fields n e = rw e refl
     by-field (Some f) fields n e = rw e refl
 
-    at-field : (fields : List Field) (n : ℕ) → type_at fields (Some n) ≡ option_map (λ (f : Field). f.of) (slice_get fields n)
+    at-field : (fields : List CheckedField) (n : ℕ) → type_at fields (Some n) ≡ option_map (λ (f : CheckedField). f.of) (slice_get fields n)
     at-field fields n = by-field (slice_get fields n) fields n refl
 
 -- ---- the first of parts

@@ -9,16 +9,16 @@ use Rattle.koika_syntax.specs.declared.tree.FieldValue.{FieldValue, out-FieldVal
 use Rattle.koika_syntax.specs.declared.tree.Name.{Name}
 use Rattle.koika_check.specs.inner.Checking.{AreGiven, AreTyped, Grows, IsChecker, IsGiven, IsPart, IsPartIn, IsTyping, StandsFor, Yields, arrays_of, scope_of}
 use Rattle.koika_check.specs.Composites.{array_of, fields_of, struct_of}
-use Rattle.koika_check.specs.Constructs.{applied, array_in, given_of, parts_of, struct_in, typed_of, typing}
+use Rattle.koika_check.specs.Constructs.{applied, array_in, given_of, types_of_parts, struct_in, typed_of, typing}
 use Rattle.koika_check.specs.Constructs as constructs
 use Rattle.koika_check.specs.Expressions.{block_in}
 use Rattle.koika_check.specs.inner.Expressions.{arm_in, expression_in, field_value_in}
-use Rattle.koika_check.specs.Outcomes.{Gives, Outcome, ◌>>=◌, in_turn}
+use Rattle.koika_check.specs.Outcomes.{Gives, CheckResult, ◌>>=◌, in_turn}
 use Rattle.koika_check.specs.inner.Outcomes.{Ends, Tells}
 use Rattle.koika_check.specs.Scopes.{Scope}
 use Rattle.koika_check.specs.inner.Shapes.{part_of}
 use Rattle.koika_check.specs.inner.TypedParts.{AreArms, AreTypedFields, In, place_of_first}
-use Rattle.koika_check.specs.Types.{Part as TypedPart}
+use Rattle.koika_check.specs.Types.{TypedPart as TypedPart}
 use Rattle.koika_check.specs.declared.agreement.Part.{Part}
 use Rattle.koika_check.specs.declared.checker.Checker.{Checker}
 use Rattle.koika_check.specs.declared.checker.Typing.{Typing}
@@ -81,12 +81,12 @@ values-ends old mid xs i x y e lt is h k =
     turn-ends (λ e. expression_in e (scope_of old)) xs i x h.value e lt is h.gives (ends-same (expression_in x (scope_of old)) (expression_in x (scope_of mid)) e (ap (expression_in x) (sym h.means.scope_is)) k)
 
 -- an array of values
-pub array-ends : (old mid : Checker) (place : ℕ) (o : Outcome (List constructs.Typing)) (y : Typings) (e : Stop) → Yields (In AreTyped (scope_of old)) old o mid y →
+pub array-ends : (old mid : Checker) (place : ℕ) (o : CheckResult (List constructs.Typing)) (y : Typings) (e : Stop) → Yields (In AreTyped (scope_of old)) old o mid y →
     Ends (array_of mid.design place (map (part_of (arrays_of mid)) y.parts)) e → Ends (o >>= array_in old.design place) e
 array-ends old mid place o y e h t =
     ends-behind o (array_in old.design place) h.value e h.gives
-    (ends-bind (array_of old.design place (parts_of h.value)) _ e
-    (ends-same (array_of old.design place (parts_of h.value)) (array_of mid.design place (map (part_of (arrays_of mid)) y.parts)) e (ap₂ (λ d ps. array_of d place ps) (sym h.grows.design) h.means.means.parts) t))
+    (ends-bind (array_of old.design place (types_of_parts h.value)) _ e
+    (ends-same (array_of old.design place (types_of_parts h.value)) (array_of mid.design place (map (part_of (arrays_of mid)) y.parts)) e (ap₂ (λ d ps. array_of d place ps) (sym h.grows.design) h.means.means.parts) t))
 
 -- a part with what was made of it
 made-of : (scope : Scope) (c : Checker) (p : Part) (whole : TypedPart) (t u : Typed) → scope_of c ≡ scope → whole ≡ part_of (arrays_of c) p → IsPart c p → t ≡ u → (y : Typing) → y ≡ record { part = record { of = p.of; place = p.place }; typed = u } →
@@ -94,7 +94,7 @@ made-of : (scope : Scope) (c : Checker) (p : Part) (whole : TypedPart) (t u : Ty
 made-of scope c p whole t u s e h f y is =
     subst (λ z. IsTyping scope c z (typing whole.of whole.place t)) (sym is) (record { scope_is = s; part = e; type = h; typed = f })
 
-pub array-gives : (old mid new : Checker) (place : ℕ) (o : Outcome (List constructs.Typing)) (y : Typings) (p : Part) (z : Typing) → Yields (In AreTyped (scope_of old)) old o mid y →
+pub array-gives : (old mid new : Checker) (place : ℕ) (o : CheckResult (List constructs.Typing)) (y : Typings) (p : Part) (z : Typing) → Yields (In AreTyped (scope_of old)) old o mid y →
     Yields (IsPartIn (scope_of mid)) mid (array_of mid.design place (map (part_of (arrays_of mid)) y.parts)) new p → z ≡ record { part = record { of = p.of; place = p.place }; typed = typed.Apply operation.Array y.typed } →
     Yields (IsTyping (scope_of old)) old (o >>= array_in old.design place) new z
 array-gives old mid new place o y p z h k is = record {
@@ -158,7 +158,7 @@ fields-ends old mid n xs i x y e lt is h k =
     (ends-same (expression_in (out-FieldValue x).value (scope_of old)) (expression_in (out-FieldValue x).value (scope_of mid)) e (ap (expression_in (out-FieldValue x).value) (sym h.means.scope_is)) k)))
 
 -- a struct of fields
-pub struct-ends : (old mid : Checker) (n place close : ℕ) (o : Outcome (List constructs.FieldTyping)) (y : TypedFields) (e : Stop) → (h : Yields (In (AreTypedFields n) (scope_of old)) old o mid y) →
+pub struct-ends : (old mid : Checker) (n place close : ℕ) (o : CheckResult (List constructs.FieldTyping)) (y : TypedFields) (e : Stop) → (h : Yields (In (AreTypedFields n) (scope_of old)) old o mid y) →
     Tells (StandsFor mid) (struct_of mid.design n place (map given_of h.value) close) (Err e) → Ends (o >>= struct_in old.design n place close) e
 struct-ends old mid n place close o y e h t =
     ends-behind o (struct_in old.design n place close) h.value e h.gives
@@ -166,7 +166,7 @@ struct-ends old mid n place close o y e h t =
     (ends-same (struct_of old.design n place (map given_of h.value) close) (struct_of mid.design n place (map given_of h.value) close) e (ap (λ d. struct_of d n place (map given_of h.value) close) (sym h.grows.design))
     (ends-tells (StandsFor mid) (struct_of mid.design n place (map given_of h.value) close) e t)))
 
-pub struct-gives : (old mid : Checker) (n place close : ℕ) (o : Outcome (List constructs.FieldTyping)) (y : TypedFields) (p : Part) (z : Typing) → (h : Yields (In (AreTypedFields n) (scope_of old)) old o mid y) →
+pub struct-gives : (old mid : Checker) (n place close : ℕ) (o : CheckResult (List constructs.FieldTyping)) (y : TypedFields) (p : Part) (z : Typing) → (h : Yields (In (AreTypedFields n) (scope_of old)) old o mid y) →
     Tells (StandsFor mid) (struct_of mid.design n place (map given_of h.value) close) (Ok p) → z ≡ record { part = record { of = p.of; place = p.place }; typed = typed.Apply (operation.Struct n) y.typed } →
     Yields (IsTyping (scope_of old)) old (o >>= struct_in old.design n place close) mid z
 struct-gives old mid n place close o y p z h t is =

@@ -11,9 +11,9 @@ use Rattle.koika_syntax.specs.declared.tree.Scheduler.{Scheduler, out-Scheduler,
 use Rattle.kw_base.specs.declared.fault_number.TheConstants.{RULE_TWICE_ON_A_PATH, UNKNOWN_NAME}
 use Rattle.typed_core.specs.declared.design.Next.{Next}
 use Rattle.typed_core.specs.declared.design.Node.{Node}
-use Rattle.koika_check.specs.Outcomes.{Gives, Outcome, ◌>>=◌, found, holds, where_all, wrong}
+use Rattle.koika_check.specs.Outcomes.{Gives, CheckResult, ◌>>=◌, found, holds, where_all, wrong}
 use Rattle.koika_check.specs.inner.Paths.{is_end, next_at}
-use Rattle.koika_check.specs.Schedule.{Nodes, at_the_end, choice_step, first_of, in_a_row, is_on, longer, path_behind, scheduler_nodes, scheduler_step, tried}
+use Rattle.koika_check.specs.Schedule.{Nodes, at_the_end, nodes_of_choice, first_of, in_a_row, is_on, longer, path_behind, scheduler_nodes, nodes_of_scheduler, tried}
 use Rattle.koika_check.specs.inner.Schedule.{choice_nodes}
 use Rattle.koika_check.specs.Scopes.{rule_named}
 use Rattle.koika_check.specs.declared.checked.Checked.{Checked}
@@ -25,14 +25,14 @@ abbrev pub end_of : Option (Box Choice Global) → Option Nodes
 end_of last = option_map (λ (choice : Box Choice Global). choice_nodes choice.value) last
 
 -- what comes behind the path behind a scheduler's names
-abbrev pub behind_names : Checked → (path : List ℕ) → (number : ℕ) → List Name → Option (Box Choice Global) → List ℕ → Outcome (List Node)
+abbrev pub behind_names : Checked → (path : List ℕ) → (number : ℕ) → List Name → Option (Box Choice Global) → List ℕ → CheckResult (List Node)
 behind_names d path number rules last behind = at_the_end (end_of last) d behind (number + length rules) >>= λ nodes. Gives (in_a_row number (drop (length path) behind) nodes)
 
 scheduler_at : (rules : List Name) (last : Option (Box Choice Global)) (d : Checked) (path : List ℕ) (number : ℕ) →
     scheduler_nodes (roll-Scheduler (record { rules = rules; last = last })) d path number ≡ (path_behind d rules path >>= behind_names d path number rules last)
 unfolding scheduler_nodes choice_nodes
-scheduler_at rules None d path number = ap (λ (m : Nodes). m d path number) (fold-roll-Scheduler Nodes Nodes choice_step scheduler_step (record { rules = rules; last = None }))
-scheduler_at rules (Some choice) d path number = ap (λ (m : Nodes). m d path number) (fold-roll-Scheduler Nodes Nodes choice_step scheduler_step (record { rules = rules; last = Some choice }))
+scheduler_at rules None d path number = ap (λ (m : Nodes). m d path number) (fold-roll-Scheduler Nodes Nodes nodes_of_choice nodes_of_scheduler (record { rules = rules; last = None }))
+scheduler_at rules (Some choice) d path number = ap (λ (m : Nodes). m d path number) (fold-roll-Scheduler Nodes Nodes nodes_of_choice nodes_of_scheduler (record { rules = rules; last = Some choice }))
 
 pub nodes-scheduler : (s : Scheduler) (d : Checked) (path : List ℕ) (number : ℕ) →
     scheduler_nodes s d path number ≡ (path_behind d (out-Scheduler s).rules path >>= behind_names d path number (out-Scheduler s).rules (out-Scheduler s).last)
@@ -42,16 +42,16 @@ nodes-scheduler s d path number = ap (λ t. scheduler_nodes t d path number) (sy
 abbrev pub node_of : (number rule : ℕ) → (taken other : List Node) → Node
 node_of number rule taken other = record { rule = rule; yes = first_of taken (number + 1); no = first_of other (number + 1 + length taken) }
 
-abbrev pub behind_taken : Checked → (path : List ℕ) → (number : ℕ) → Scheduler → (rule : ℕ) → List Node → Outcome (List Node)
+abbrev pub behind_taken : Checked → (path : List ℕ) → (number : ℕ) → Scheduler → (rule : ℕ) → List Node → CheckResult (List Node)
 behind_taken d path number otherwise rule taken =
     scheduler_nodes otherwise d (path ++ rule ∷ []) (number + 1 + length taken) >>= λ other. Gives (node_of number rule taken other ∷ taken ++ other)
 
-abbrev pub behind_rule : Checked → (path : List ℕ) → (number : ℕ) → Choice → (rule : ℕ) → Outcome (List Node)
+abbrev pub behind_rule : Checked → (path : List ℕ) → (number : ℕ) → Choice → (rule : ℕ) → CheckResult (List Node)
 behind_rule d path number c rule = scheduler_nodes (out-Choice c).then d (path ++ rule ∷ []) (number + 1) >>= behind_taken d path number (out-Choice c).otherwise rule
 
 pub nodes-choice : (c : Choice) (d : Checked) (path : List ℕ) (number : ℕ) → choice_nodes c d path number ≡ (tried d path (out-Choice c).rule >>= behind_rule d path number c)
 unfolding scheduler_nodes choice_nodes
-nodes-choice c d path number = ap (λ (m : Nodes). m d path number) (fold_out-Choice Nodes Nodes choice_step scheduler_step c)
+nodes-choice c d path number = ap (λ (m : Nodes). m d path number) (fold_out-Choice Nodes Nodes nodes_of_choice nodes_of_scheduler c)
 
 -- a scheduler, as far as its names are on the path, and as far as the nodes at its end are made
 pub scheduler-names : (s : Scheduler) (d : Checked) (path : List ℕ) (number : ℕ) (names : List Name) → names ≡ (out-Scheduler s).rules →
@@ -88,17 +88,17 @@ choice-some c d path number nodes e =
     let other = bind-gives (scheduler_nodes (out-Choice c).otherwise d (path ++ rule.0 ∷ []) (number + 1 + length taken.0)) (λ ns. Gives (node_of number rule.0 taken.0 ns ∷ taken.0 ++ ns)) nodes taken.2 in
     not_end (node_of number rule.0 taken.0 other.0) (taken.0 ++ other.0) nodes other.2
   where
-    not_end : (node : Node) (rest nodes : List Node) → ◌≡◌ {A = Outcome (List Node)} (Gives (node ∷ rest)) (Gives nodes) → is_end nodes ≡ false
+    not_end : (node : Node) (rest nodes : List Node) → ◌≡◌ {A = CheckResult (List Node)} (Gives (node ∷ rest)) (Gives nodes) → is_end nodes ≡ false
     not_end node rest nodes e = sym (ap is_end (same (node ∷ rest) nodes e))
       where
-        same : (a b : List Node) → ◌≡◌ {A = Outcome (List Node)} (Gives a) (Gives b) → a ≡ b
+        same : (a b : List Node) → ◌≡◌ {A = CheckResult (List Node)} (Gives a) (Gives b) → a ≡ b
         same a b e = cc
 
 -- nodes stand at the end of a scheduler where a choice does
 end-is : (last : Option (Box Choice Global)) (d : Checked) (path : List ℕ) (number : ℕ) (nodes : List Node) → at_the_end (end_of last) d path number ≡ Gives nodes → is_end nodes ≡ is_none last
 end-is None d path number nodes e = ap is_end (sym (same [] nodes e))
   where
-    same : (a b : List Node) → ◌≡◌ {A = Outcome (List Node)} (Gives a) (Gives b) → a ≡ b
+    same : (a b : List Node) → ◌≡◌ {A = CheckResult (List Node)} (Gives a) (Gives b) → a ≡ b
     same a b e = cc
 end-is (Some choice) d path number nodes e = choice-some choice.value d path number nodes e
 
@@ -160,7 +160,7 @@ row-more made start rules i rule n behind lt item next_is before =
 pub path-more : (d : Checked) (names : List Name) (path behind : List ℕ) → path_behind d names path ≡ Gives behind → (more : List ℕ) × (behind ≡ path ++ more) × (length more ≡ length names)
 path-more d [] path behind e = ([], sym (same path behind e) ∙ sym (append-nil path), refl)
   where
-    same : (a b : List ℕ) → ◌≡◌ {A = Outcome (List ℕ)} (Gives a) (Gives b) → a ≡ b
+    same : (a b : List ℕ) → ◌≡◌ {A = CheckResult (List ℕ)} (Gives a) (Gives b) → a ≡ b
     same a b e = cc
 path-more d (n ∷ names) path behind e =
     let first = bind-gives (longer d n path) (path_behind d names) behind e in
@@ -168,7 +168,7 @@ path-more d (n ∷ names) path behind e =
     let rest = path-more d names first.0 behind first.2 in
     (rule.0 ∷ rest.0, rest.1 ∙ ap (λ p. p ++ rest.0) (sym (same (path ++ rule.0 ∷ []) first.0 rule.2)) ∙ append_assoc path (rule.0 ∷ []) rest.0, ap suc rest.2)
   where
-    same : (a b : List ℕ) → ◌≡◌ {A = Outcome (List ℕ)} (Gives a) (Gives b) → a ≡ b
+    same : (a b : List ℕ) → ◌≡◌ {A = CheckResult (List ℕ)} (Gives a) (Gives b) → a ≡ b
     same a b e = cc
 
 -- a name of a rule, by whether the rule is on the path

@@ -2,11 +2,11 @@
 use Rattle.std.proofs.Common.{◌≡◌, Result, Ok, Err, refl, ap, ap₂, sym, ◌∙◌}
 use Rattle.koika_check.specs.inner.Checking.{Checks, Grows, IsChecker, IsPart, IsTyping, TypedAs, Yields, arrays_of, scope_of, typing_of}
 use Rattle.koika_check.specs.Constructs as constructs
-use Rattle.koika_check.specs.Outcomes.{Outcome, ◌>>=◌}
+use Rattle.koika_check.specs.Outcomes.{CheckResult, ◌>>=◌}
 use Rattle.koika_check.specs.inner.Outcomes.{Ends, Tells}
 use Rattle.koika_check.specs.Scopes.{Scope}
 use Rattle.koika_check.specs.inner.Shapes.{part_of}
-use Rattle.koika_check.specs.Types.{Part as TypedPart}
+use Rattle.koika_check.specs.Types.{TypedPart as TypedPart}
 use Rattle.koika_check.specs.declared.checked.Checked.{Checked}
 use Rattle.koika_check.specs.declared.checker.Checker.{Checker}
 use Rattle.koika_check.specs.declared.checker.Typing.{Typing}
@@ -27,14 +27,14 @@ pub typing-grows : (a b : Checker) → Grows a b → (y : Typing) → IsPart a y
 typing-grows a b g y h = ap (λ p. typed_as p y.typed) (same-part a b g y.part h)
 
 -- conditions alone
-pub leaf : (c : Checker) → IsChecker c → (o : Outcome constructs.Typing) (r : Result Typing Stop) → Tells (TypedAs c) o r → Checks (IsTyping (scope_of c)) c o c r
+pub leaf : (c : Checker) → IsChecker c → (o : CheckResult constructs.Typing) (r : Result Typing Stop) → Tells (TypedAs c) o r → Checks (IsTyping (scope_of c)) c o c r
 leaf c h o (Ok z) t =
     let a = tells-ok (TypedAs c) o z t in
     record { kept = h; grows = grows-refl c; value = a.0; gives = a.1; means = record { scope_is = refl; part = ap (λ (x : constructs.Typing). x.part) a.2.0; type = a.2.1; typed = ap (λ (x : constructs.Typing). x.typed) a.2.0 } }
 leaf c h o (Err e) t = ends-tells (TypedAs c) o e t
 
 -- a step, and conditions behind it
-pub then-one : (scope : Scope) (old new : Checker) (o : Outcome constructs.Typing) (y : Typing) (F : Checked → constructs.Typing → Outcome constructs.Typing) (r : Result Typing Stop) →
+pub then-one : (scope : Scope) (old new : Checker) (o : CheckResult constructs.Typing) (y : Typing) (F : Checked → constructs.Typing → CheckResult constructs.Typing) (r : Result Typing Stop) →
     Yields (IsTyping scope) old o new y → Tells (TypedAs new) (F new.design (typing_of new y)) r → Checks (IsTyping scope) old (o >>= F old.design) new r
 then-one scope old new o y F r h t = by_answer r t
   where
@@ -54,7 +54,7 @@ then-one scope old new o y F r h t = by_answer r t
     by_answer (Err e) t = ends-same (o >>= F old.design) (F new.design (typing_of new y)) e whole (ends-tells (TypedAs new) (F new.design (typing_of new y)) e t)
 
 -- two steps, and conditions behind them
-pub then-two : (old mid new : Checker) (o : Outcome constructs.Typing) (y z : Typing) (g : Scope → Outcome constructs.Typing) (F : Checked → constructs.Typing → constructs.Typing → Outcome constructs.Typing) (r : Result Typing Stop) →
+pub then-two : (old mid new : Checker) (o : CheckResult constructs.Typing) (y z : Typing) (g : Scope → CheckResult constructs.Typing) (F : Checked → constructs.Typing → constructs.Typing → CheckResult constructs.Typing) (r : Result Typing Stop) →
     Yields (IsTyping (scope_of old)) old o mid y → Yields (IsTyping (scope_of mid)) mid (g (scope_of mid)) new z → Tells (TypedAs new) (F new.design (typing_of new y) (typing_of new z)) r →
     Checks (IsTyping (scope_of old)) old (o >>= λ a. g (scope_of old) >>= F old.design a) new r
 then-two old mid new o y z g F r h k t = by_answer r t
@@ -80,7 +80,7 @@ then-two old mid new o y z g F r h k t = by_answer r t
         ends-same (o >>= λ a. g (scope_of old) >>= F old.design a) (F new.design (typing_of new y) (typing_of new z)) e whole (ends-tells (TypedAs new) (F new.design (typing_of new y) (typing_of new z)) e t)
 
 -- the second step ends
-pub second-ends : {X : Type 0} (old mid : Checker) (o : Outcome constructs.Typing) (y : Typing) (g : Scope → Outcome X) (F : constructs.Typing → X → Outcome constructs.Typing) (e : Stop) →
+pub second-ends : {X : Type 0} (old mid : Checker) (o : CheckResult constructs.Typing) (y : Typing) (g : Scope → CheckResult X) (F : constructs.Typing → X → CheckResult constructs.Typing) (e : Stop) →
     Yields (IsTyping (scope_of old)) old o mid y → Ends (g (scope_of mid)) e → Ends (o >>= λ a. g (scope_of old) >>= F a) e
 second-ends old mid o y g F e h k =
     ends-behind o (λ a. g (scope_of old) >>= F a) h.value e h.gives

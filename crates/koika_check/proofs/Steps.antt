@@ -8,7 +8,7 @@ use Rattle.koika_check.specs.Capped as counts
 use Rattle.koika_check.specs.inner.Capped as inner_counts
 use Rattle.koika_check.specs.Sizes.{Size, StepSize, both, deeper, arms_size, chain_size, body_of, bodies_behind, node_weights, one_deeper, side_by_side, size, size_of}
 use Rattle.koika_check.specs.declared.checked.Checked.{Checked}
-use Rattle.koika_check.specs.declared.checked.Function.{Function}
+use Rattle.koika_check.specs.declared.checked.CheckedFunction.{CheckedFunction}
 use Rattle.koika_check.specs.declared.measure.Measure.{Measure}
 use Rattle.koika_check.proofs.Caps.{capped-both, capped-deeper, capped-heavier}
 use Rattle.koika_check.proofs.Runs.{arms-push, behind, behind-push, chain_size-push, one_deeper-push, run_size, run_size-push, side_by_side-push, taken, taken-length}
@@ -112,22 +112,22 @@ node_weights-taken parts nodes i n lt is =
     ap (λ k. node_weights parts (take k nodes)) (plus_one i) ∙ ap (node_weights parts) (take-suc nodes i n lt) ∙ node_weights-push parts (take i nodes) (get_or nodes i n)
     ∙ ap (λ (m : Node). node_weights parts (take i nodes) + (body_of (slice_get parts m.rule)).weight) (sym is)
 
-bodies-push : (d : Checked) (before : List Size) (fs : List Function) (f : Function) →
+bodies-push : (d : Checked) (before : List Size) (fs : List CheckedFunction) (f : CheckedFunction) →
     bodies_behind d before (fs ++ f ∷ []) ≡ bodies_behind d before fs ++ size_of (record { design = d; bodies = bodies_behind d before fs }) f.body ∷ []
 bodies-push d before [] f = refl
 bodies-push d before (g ∷ fs) f = bodies-push d (before ++ size_of (record { design = d; bodies = before }) g.body ∷ []) fs f
 
-pub bodies-taken : (d : Checked) (fs : List Function) (i : ℕ) (f : Function) → i < length fs → f ≡ get_or fs i f →
+pub bodies-taken : (d : Checked) (fs : List CheckedFunction) (i : ℕ) (f : CheckedFunction) → i < length fs → f ≡ get_or fs i f →
     bodies_behind d [] (take (i + 1) fs) ≡ bodies_behind d [] (take i fs) ++ size_of (record { design = d; bodies = bodies_behind d [] (take i fs) }) f.body ∷ []
 bodies-taken d fs i f lt is =
     ap (λ k. bodies_behind d [] (take k fs)) (plus_one i) ∙ ap (bodies_behind d []) (take-suc fs i f lt) ∙ bodies-push d [] (take i fs) (get_or fs i f)
-    ∙ ap (λ (g : Function). bodies_behind d [] (take i fs) ++ size_of (record { design = d; bodies = bodies_behind d [] (take i fs) }) g.body ∷ []) (sym is)
+    ∙ ap (λ (g : CheckedFunction). bodies_behind d [] (take i fs) ++ size_of (record { design = d; bodies = bodies_behind d [] (take i fs) }) g.body ∷ []) (sym is)
 
 pub map-push : {X Y : Type 0} (g : X → Y) (xs : List X) (x : X) → map g (xs ++ x ∷ []) ≡ map g xs ++ g x ∷ []
 map-push g xs x = map-append g xs (x ∷ [])
 
 -- one more function's body, counted
-pub measured : (d : Checked) (fs : List Function) (i : ℕ) (f : Function) (before new : List Measure) (m : Measure) → i < length fs → f ≡ get_or fs i f →
+pub measured : (d : Checked) (fs : List CheckedFunction) (i : ℕ) (f : CheckedFunction) (before new : List Measure) (m : Measure) → i < length fs → f ≡ get_or fs i f →
     before ≡ map counts.capped (bodies_behind d [] (take i fs)) →
     m ≡ counts.capped (size_of (record { design = d; bodies = bodies_behind d [] (take i fs) }) f.body) →
     new ≡ before ++ m ∷ [] → new ≡ map counts.capped (bodies_behind d [] (take (i + 1) fs))

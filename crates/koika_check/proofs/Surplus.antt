@@ -4,7 +4,7 @@ use Rattle.std.specs.Option.{option_map}
 use Rattle.koika_syntax.specs.declared.tree.Choice.{Choice, out-Choice, fold_out-Choice}
 use Rattle.koika_syntax.specs.declared.tree.Name.{Name}
 use Rattle.koika_syntax.specs.declared.tree.Scheduler.{Scheduler, out-Scheduler, roll-Scheduler, roll-out-Scheduler, fold-roll-Scheduler}
-use Rattle.koika_check.specs.Checks.{choice_step, places_if, places_of, scheduler_places, scheduler_step}
+use Rattle.koika_check.specs.Checks.{places_in_choice, places_if, places_of, scheduler_places, places_in_scheduler}
 use Rattle.koika_check.specs.inner.Checks.{choice_places}
 use Rattle.koika_check.specs.inner.Places.{or_further}
 
@@ -13,15 +13,15 @@ last_places last = option_map (λ (choice : Box Choice Global). choice_places ch
 
 scheduler_at : (rules : List Name) (last : Option (Box Choice Global)) → scheduler_places (roll-Scheduler (record { rules = rules; last = last })) ≡ places_of rules ++ places_if (last_places last)
 unfolding scheduler_places choice_places
-scheduler_at rules None = fold-roll-Scheduler (List ℕ) (List ℕ) choice_step scheduler_step (record { rules = rules; last = None })
-scheduler_at rules (Some choice) = fold-roll-Scheduler (List ℕ) (List ℕ) choice_step scheduler_step (record { rules = rules; last = Some choice })
+scheduler_at rules None = fold-roll-Scheduler (List ℕ) (List ℕ) places_in_choice places_in_scheduler (record { rules = rules; last = None })
+scheduler_at rules (Some choice) = fold-roll-Scheduler (List ℕ) (List ℕ) places_in_choice places_in_scheduler (record { rules = rules; last = Some choice })
 
 pub places-scheduler : (s : Scheduler) → scheduler_places s ≡ places_of (out-Scheduler s).rules ++ places_if (last_places (out-Scheduler s).last)
 places-scheduler s = ap scheduler_places (sym (roll-out-Scheduler s)) ∙ scheduler_at (out-Scheduler s).rules (out-Scheduler s).last
 
 pub places-choice : (c : Choice) → choice_places c ≡ (out-Choice c).rule.place ∷ scheduler_places (out-Choice c).then ++ scheduler_places (out-Choice c).otherwise
 unfolding scheduler_places choice_places
-places-choice c = fold_out-Choice (List ℕ) (List ℕ) choice_step scheduler_step c
+places-choice c = fold_out-Choice (List ℕ) (List ℕ) places_in_choice places_in_scheduler c
 
 -- the first place of a choice, and those behind it
 pub choice-first : (c : Choice) (behind : List ℕ) (k : ℕ) → k ≡ 0 → slice_get (choice_places c ++ behind) k ≡ Some (out-Choice c).rule.place

@@ -1,18 +1,18 @@
 -- What a call answers where the calls that it makes tell what outcomes say.
 use Rattle.std.proofs.Common.{◌≡◌, refl, sym, ◌∙◌, ap, subst, Ok, Err, ℕ, Option, None, Some, Bool, true, false, cond, nat_lt, [], ◌∷◌}
-use Rattle.koika_check.specs.Outcomes.{Condition, Gives, Fails, Outcome, ◌>>=◌, found, holds, smaller, unless, where_all}
+use Rattle.koika_check.specs.Outcomes.{Condition, Gives, Fails, CheckResult, ◌>>=◌, found, holds, smaller, unless, where_all}
 use Rattle.koika_check.specs.inner.Outcomes.{Passes, Tells}
 use Rattle.koika_check.specs.declared.stop.Stop.{Stop}
 use Rattle.koika_check.specs.declared.stop.Stop.TheVariants as stops
 use Rattle.koika_check.specs.declared.stop.Wrong.{Wrong}
 
 -- a result is told as a result
-pub tells-ok : {X Y : Type 0} (is : Y → X → Type 0) (o : Outcome X) (y : Y) → Tells is o (Ok y) → (x : X) × (o ≡ Gives x) × is y x
+pub tells-ok : {X Y : Type 0} (is : Y → X → Type 0) (o : CheckResult X) (y : Y) → Tells is o (Ok y) → (x : X) × (o ≡ Gives x) × is y x
 tells-ok is (Gives x) y h = (x, refl, h)
 tells-ok is (Fails f) y h = absurd h
 
 -- why a part ends is why the whole ends
-pub tells-err : {X Y X' Y' : Type 0} (is : Y → X → Type 0) (is' : Y' → X' → Type 0) (o : Outcome X) (f : X → Outcome X') (e : Stop) → Tells is o (Err e) → Tells is' (o >>= f) (Err e)
+pub tells-err : {X Y X' Y' : Type 0} (is : Y → X → Type 0) (is' : Y' → X' → Type 0) (o : CheckResult X) (f : X → CheckResult X') (e : Stop) → Tells is o (Err e) → Tells is' (o >>= f) (Err e)
 tells-err is is' (Gives x) f (stops.Wrong w) h = absurd h
 tells-err is is' (Fails w') f (stops.Wrong w) h = h
 tells-err is is' o f stops.NoMemory h = h
@@ -57,7 +57,7 @@ unless-err is is' None x y (stops.Wrong w) h = absurd h
 unless-err is is' (Some v) x y (stops.Wrong w) h = h
 
 -- what stands for what there is
-pub tells-with : {X Y Y' : Type 0} (is : Y → X → Type 0) (is' : Y' → X → Type 0) (o : Outcome X) (y : Y) (y' : Y') → ((x : X) → is y x → is' y' x) → Tells is o (Ok y) → Tells is' o (Ok y')
+pub tells-with : {X Y Y' : Type 0} (is : Y → X → Type 0) (is' : Y' → X → Type 0) (o : CheckResult X) (y : Y) (y' : Y') → ((x : X) → is y x → is' y' x) → Tells is o (Ok y) → Tells is' o (Ok y')
 tells-with is is' (Gives x) y y' f h = f x h
 tells-with is is' (Fails w) y y' f h = absurd h
 
@@ -67,7 +67,7 @@ unless-with is is' None x y y' f h = f h
 unless-with is is' (Some w) x y y' f h = absurd h
 
 -- the fault that a call answers
-pub tells-fault : {X Y : Type 0} (is : Y → X → Type 0) (o : Outcome X) (w : Wrong) (e : Stop) → e ≡ stops.Wrong w → o ≡ Fails w → Tells is o (Err e)
+pub tells-fault : {X Y : Type 0} (is : Y → X → Type 0) (o : CheckResult X) (w : Wrong) (e : Stop) → e ≡ stops.Wrong w → o ≡ Fails w → Tells is o (Err e)
 tells-fault {X} {Y} is o w e se oe = subst (λ s. Tells is o (Err s)) (sym se) (subst (λ p. Tells is p (Err (stops.Wrong w))) (sym oe) refl)
 
 -- conditions as they were joined

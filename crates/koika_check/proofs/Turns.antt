@@ -1,35 +1,35 @@
 -- Parts that are looked at one after another, as far as they were looked at.
 use Rattle.std.proofs.Common.{◌≡◌, ℕ, ◌+◌, ◌<◌, List, [], ◌∷◌, ◌++◌, length, map, take, drop, get_or, zero, suc, None, Some, Err, refl, ap, sym, ◌∙◌, subst, arith}
 use Rattle.std.proofs.lemmas.List.{drop_more, take-append-drop, take_more}
-use Rattle.koika_check.specs.Outcomes.{Condition, Fails, Gives, Outcome, ◌>>=◌, in_turn, one_by_one, unless}
+use Rattle.koika_check.specs.Outcomes.{Condition, Fails, Gives, CheckResult, ◌>>=◌, in_turn, one_by_one, unless}
 use Rattle.koika_check.specs.inner.Outcomes.{Ends, Passes, Tells}
 use Rattle.koika_check.specs.declared.stop.Stop.{Stop}
 use Rattle.koika_check.specs.declared.stop.Stop.TheVariants as stops
 
 -- ---- outcomes one after another
 
-pub bind-gives : {X : Type 0} (o : Outcome X) → (o >>= λ x. Gives x) ≡ o
+pub bind-gives : {X : Type 0} (o : CheckResult X) → (o >>= λ x. Gives x) ≡ o
 bind-gives (Gives x) = refl
 bind-gives (Fails w) = refl
 
-pub bind-bind : {X Y Z : Type 0} (o : Outcome X) (f : X → Outcome Y) (g : Y → Outcome Z) → ((o >>= f) >>= g) ≡ (o >>= λ x. f x >>= g)
+pub bind-bind : {X Y Z : Type 0} (o : CheckResult X) (f : X → CheckResult Y) (g : Y → CheckResult Z) → ((o >>= f) >>= g) ≡ (o >>= λ x. f x >>= g)
 bind-bind (Gives x) f g = refl
 bind-bind (Fails w) f g = refl
 
 -- ---- why checking ends
 
-pub ends-bind : {X Y : Type 0} (o : Outcome X) (f : X → Outcome Y) (e : Stop) → Ends o e → Ends (o >>= f) e
+pub ends-bind : {X Y : Type 0} (o : CheckResult X) (f : X → CheckResult Y) (e : Stop) → Ends o e → Ends (o >>= f) e
 ends-bind o f stops.NoMemory h = tt
 ends-bind o f (stops.Wrong w) h = ap (λ p. p >>= f) h
 
-pub ends-same : {X : Type 0} (o o' : Outcome X) (e : Stop) → o ≡ o' → Ends o' e → Ends o e
+pub ends-same : {X : Type 0} (o o' : CheckResult X) (e : Stop) → o ≡ o' → Ends o' e → Ends o e
 ends-same o o' e same h = subst (λ p. Ends p e) (sym same) h
 
 -- what comes behind a part that gives this ends as the whole does
-pub ends-behind : {X Y : Type 0} (o : Outcome X) (f : X → Outcome Y) (x : X) (e : Stop) → o ≡ Gives x → Ends (f x) e → Ends (o >>= f) e
+pub ends-behind : {X Y : Type 0} (o : CheckResult X) (f : X → CheckResult Y) (x : X) (e : Stop) → o ≡ Gives x → Ends (f x) e → Ends (o >>= f) e
 ends-behind o f x e gives h = ends-same (o >>= f) (f x) e (ap (λ p. p >>= f) gives) h
 
-pub ends-tells : {X Y : Type 0} (is : Y → X → Type 0) (o : Outcome X) (e : Stop) → Tells is o (Err e) → Ends o e
+pub ends-tells : {X Y : Type 0} (is : Y → X → Type 0) (o : CheckResult X) (e : Stop) → Tells is o (Err e) → Ends o e
 ends-tells is o stops.NoMemory h = tt
 ends-tells is (Gives x) (stops.Wrong w) h = absurd h
 ends-tells is (Fails v) (stops.Wrong w) h = ap Fails (sym h)
@@ -41,12 +41,12 @@ ends-passes Y (Some v) x stops.NoMemory h = absurd h
 
 -- ---- all in turn
 
-pub turn-push : {X Y : Type 0} (look : X → Outcome Y) (xs : List X) (i : ℕ) (x : X) (ys : List Y) (y : Y) → i < length xs → x ≡ get_or xs i x →
+pub turn-push : {X Y : Type 0} (look : X → CheckResult Y) (xs : List X) (i : ℕ) (x : X) (ys : List Y) (y : Y) → i < length xs → x ≡ get_or xs i x →
     in_turn look (take i xs) ≡ Gives ys → look x ≡ Gives y → in_turn look (take (i + 1) xs) ≡ Gives (ys ++ y ∷ [])
 turn-push {X = X} {Y = Y} look xs i x ys y lt is before now =
     ap (in_turn look) (take_more xs i x lt ∙ ap (λ z. take i xs ++ z ∷ []) (sym is)) ∙ behind (take i xs) x ys y before now
   where
-    consed : (o : Outcome Y) (p : Outcome (List Y)) (ys : List Y) → (o >>= λ z. p >>= λ zs. Gives (z ∷ zs)) ≡ Gives ys → (z : Y) × (zs : List Y) × (o ≡ Gives z) × (p ≡ Gives zs) × (ys ≡ z ∷ zs)
+    consed : (o : CheckResult Y) (p : CheckResult (List Y)) (ys : List Y) → (o >>= λ z. p >>= λ zs. Gives (z ∷ zs)) ≡ Gives ys → (z : Y) × (zs : List Y) × (o ≡ Gives z) × (p ≡ Gives zs) × (ys ≡ z ∷ zs)
     consed (Gives z) (Gives zs) ys e = (z, zs, refl, refl, sym (given e))
       where
         given : {a b : List Y} → Gives a ≡ Gives b → a ≡ b
@@ -54,7 +54,7 @@ turn-push {X = X} {Y = Y} look xs i x ys y lt is before now =
     consed (Gives z) (Fails w) ys e = absurd cc
     consed (Fails w) p ys e = absurd cc
 
-    none : (ys : List Y) → ◌≡◌ {A = Outcome (List Y)} (Gives []) (Gives ys) → [] ≡ ys
+    none : (ys : List Y) → ◌≡◌ {A = CheckResult (List Y)} (Gives []) (Gives ys) → [] ≡ ys
     none ys e = cc
 
     behind : (xs : List X) (x : X) (ys : List Y) (y : Y) → in_turn look xs ≡ Gives ys → look x ≡ Gives y → in_turn look (xs ++ x ∷ []) ≡ Gives (ys ++ y ∷ [])
@@ -65,12 +65,12 @@ turn-push {X = X} {Y = Y} look xs i x ys y lt is before now =
         ∙ ap (λ p. p >>= λ zs. Gives (r.0 ∷ zs)) (behind xs x r.1 y r.3 now)
         ∙ ap (λ zs. Gives (zs ++ y ∷ [])) (sym r.4)
 
-pub turn-ends : {X Y : Type 0} (look : X → Outcome Y) (xs : List X) (i : ℕ) (x : X) (ys : List Y) (e : Stop) → i < length xs → x ≡ get_or xs i x →
+pub turn-ends : {X Y : Type 0} (look : X → CheckResult Y) (xs : List X) (i : ℕ) (x : X) (ys : List Y) (e : Stop) → i < length xs → x ≡ get_or xs i x →
     in_turn look (take i xs) ≡ Gives ys → Ends (look x) e → Ends (in_turn look xs) e
 turn-ends {X = X} {Y = Y} look xs i x ys stops.NoMemory lt is before h = tt
 turn-ends {X = X} {Y = Y} look xs i x ys (stops.Wrong w) lt is before h = by_front xs i x ys lt is before h
   where
-    consed : (o : Outcome Y) (p : Outcome (List Y)) (ys : List Y) → (o >>= λ z. p >>= λ zs. Gives (z ∷ zs)) ≡ Gives ys → (z : Y) × (zs : List Y) × (o ≡ Gives z) × (p ≡ Gives zs)
+    consed : (o : CheckResult Y) (p : CheckResult (List Y)) (ys : List Y) → (o >>= λ z. p >>= λ zs. Gives (z ∷ zs)) ≡ Gives ys → (z : Y) × (zs : List Y) × (o ≡ Gives z) × (p ≡ Gives zs)
     consed (Gives z) (Gives zs) ys e = (z, zs, refl, refl)
     consed (Gives z) (Fails w) ys e = absurd cc
     consed (Fails w) p ys e = absurd cc
@@ -82,27 +82,27 @@ turn-ends {X = X} {Y = Y} look xs i x ys (stops.Wrong w) lt is before h = by_fro
         let r = consed (look a) (in_turn look (take i xs)) ys before in
         ap (λ o. o >>= λ y. in_turn look xs >>= λ ys. Gives (y ∷ ys)) r.2 ∙ ap (λ p. p >>= λ ys. Gives (r.0 ∷ ys)) (by_front xs i x r.1 (omega (arith, lt)) is r.3 h)
 
-pub turn-map : {X Y Z : Type 0} (look : Y → Outcome Z) (f : X → Y) (xs : List X) → in_turn look (map f xs) ≡ in_turn (λ x. look (f x)) xs
+pub turn-map : {X Y Z : Type 0} (look : Y → CheckResult Z) (f : X → Y) (xs : List X) → in_turn look (map f xs) ≡ in_turn (λ x. look (f x)) xs
 turn-map look f [] = refl
 turn-map look f (x ∷ xs) = ap (λ o. look (f x) >>= λ y. o >>= λ ys. Gives (y ∷ ys)) (turn-map look f xs)
 
 -- ---- one by one
 
-one-append : {X S : Type 0} (look : X → S → Outcome S) (xs ys : List X) (s : S) → one_by_one look (xs ++ ys) s ≡ (one_by_one look xs s >>= one_by_one look ys)
+one-append : {X S : Type 0} (look : X → S → CheckResult S) (xs ys : List X) (s : S) → one_by_one look (xs ++ ys) s ≡ (one_by_one look xs s >>= one_by_one look ys)
 one-append look [] ys s = refl
 one-append {X = X} {S = S} look (x ∷ xs) ys s = behind (look x s) (one-append look xs ys)
   where
-    behind : (o : Outcome S) → ((t : S) → one_by_one look (xs ++ ys) t ≡ (one_by_one look xs t >>= one_by_one look ys)) → (o >>= one_by_one look (xs ++ ys)) ≡ ((o >>= one_by_one look xs) >>= one_by_one look ys)
+    behind : (o : CheckResult S) → ((t : S) → one_by_one look (xs ++ ys) t ≡ (one_by_one look xs t >>= one_by_one look ys)) → (o >>= one_by_one look (xs ++ ys)) ≡ ((o >>= one_by_one look xs) >>= one_by_one look ys)
     behind (Gives t) rest = rest t
     behind (Fails w) rest = refl
 
-pub one-push : {X S : Type 0} (look : X → S → Outcome S) (xs : List X) (i : ℕ) (x : X) (s t : S) → i < length xs → x ≡ get_or xs i x →
+pub one-push : {X S : Type 0} (look : X → S → CheckResult S) (xs : List X) (i : ℕ) (x : X) (s t : S) → i < length xs → x ≡ get_or xs i x →
     one_by_one look (take i xs) s ≡ Gives t → one_by_one look (take (i + 1) xs) s ≡ look x t
 one-push look xs i x s t lt is before =
     ap (λ zs. one_by_one look zs s) (take_more xs i x lt ∙ ap (λ z. take i xs ++ z ∷ []) (sym is)) ∙ one-append look (take i xs) (x ∷ []) s
     ∙ ap (λ o. o >>= one_by_one look (x ∷ [])) before ∙ bind-gives (look x t)
 
-pub one-ends : {X S : Type 0} (look : X → S → Outcome S) (xs : List X) (i : ℕ) (x : X) (s t : S) (e : Stop) → i < length xs → x ≡ get_or xs i x →
+pub one-ends : {X S : Type 0} (look : X → S → CheckResult S) (xs : List X) (i : ℕ) (x : X) (s t : S) (e : Stop) → i < length xs → x ≡ get_or xs i x →
     one_by_one look (take i xs) s ≡ Gives t → Ends (look x t) e → Ends (one_by_one look xs s) e
 one-ends look xs i x s t e lt is before h =
     ends-same (one_by_one look xs s) (look x t >>= one_by_one look (drop (i + 1) xs)) e
@@ -110,14 +110,14 @@ one-ends look xs i x s t e lt is before h =
     ∙ one-append look (take i xs) (x ∷ drop (i + 1) xs) s ∙ ap (λ o. o >>= one_by_one look (x ∷ drop (i + 1) xs)) before)
     (ends-bind (look x t) (one_by_one look (drop (i + 1) xs)) e h)
 
-pub one-map : {X Y S : Type 0} (look : Y → S → Outcome S) (f : X → Y) (xs : List X) (s : S) → one_by_one look (map f xs) s ≡ one_by_one (λ x. look (f x)) xs s
+pub one-map : {X Y S : Type 0} (look : Y → S → CheckResult S) (f : X → Y) (xs : List X) (s : S) → one_by_one look (map f xs) s ≡ one_by_one (λ x. look (f x)) xs s
 one-map look f [] s = refl
 one-map {X = X} {S = S} look f (x ∷ xs) s = behind (look (f x) s) (one-map look f xs)
   where
-    behind : (o : Outcome S) → ((t : S) → one_by_one look (map f xs) t ≡ one_by_one (λ x. look (f x)) xs t) → (o >>= one_by_one look (map f xs)) ≡ (o >>= one_by_one (λ x. look (f x)) xs)
+    behind : (o : CheckResult S) → ((t : S) → one_by_one look (map f xs) t ≡ one_by_one (λ x. look (f x)) xs t) → (o >>= one_by_one look (map f xs)) ≡ (o >>= one_by_one (λ x. look (f x)) xs)
     behind (Gives t) rest = rest t
     behind (Fails w) rest = refl
 
 -- what comes behind a part that gives this
-pub gives-behind : {X Y : Type 0} (o : Outcome X) (f : X → Outcome Y) (x : X) → o ≡ Gives x → (o >>= f) ≡ f x
+pub gives-behind : {X Y : Type 0} (o : CheckResult X) (f : X → CheckResult Y) (x : X) → o ≡ Gives x → (o >>= f) ≡ f x
 gives-behind o f x e = ap (λ p. p >>= f) e

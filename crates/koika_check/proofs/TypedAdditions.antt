@@ -6,10 +6,10 @@ use Rattle.std.proofs.lemmas.List.Elements.{All-nil}
 use Rattle.std.proofs.lemmas.Option.{same_Some}
 use Rattle.koika_check.specs.Typing.{HasType, IsFunction, IsInput, IsRegister, IsStruct, IsType}
 use Rattle.koika_check.specs.declared.checked.Checked.{Checked}
-use Rattle.koika_check.specs.declared.checked.Function.{Function}
+use Rattle.koika_check.specs.declared.checked.CheckedFunction.{CheckedFunction}
 use Rattle.koika_check.specs.declared.checked.Input.{Input}
 use Rattle.koika_check.specs.declared.checked.Register.{Register}
-use Rattle.koika_check.specs.declared.checked.Rule.{Rule}
+use Rattle.koika_check.specs.declared.checked.CheckedRule.{CheckedRule}
 use Rattle.koika_check.specs.declared.checked.Struct.{Struct}
 use Rattle.koika_check.specs.declared.typed.ValueType.{ValueType}
 use Rattle.koika_check.proofs.TypedGrowth.{Extends, sum-stays, type-stays, typed-stays, types-stay, value-stays, width-stays}
@@ -60,12 +60,12 @@ module _ (d e : Checked) (g : Extends d e) (h : IsTypedSoFar d) where
   result_stays None is = tt
   result_stays (Some t) is = type-stays d e g t is
 
-  pub function-stays : (number : ℕ) (f : Function) → IsFunction d number f → IsFunction e number f
+  pub function-stays : (number : ℕ) (f : CheckedFunction) → IsFunction d number f → IsFunction e number f
   function-stays number f is = record {
     parameters = types-stay d e g f.parameters is.parameters;
     result = result_stays f.result is.result;
     body = (typed-stays d e g h number number (omega arith) f.body (reverse f.parameters) f.result (all-reverse (IsType d) f.parameters is.parameters) is.body).1;
   }
 
-  pub rule-stays : (n m : ℕ) → n ≤ m → (r : Rule) → HasType d n r.body [] None → HasType e m r.body [] None
+  pub rule-stays : (n m : ℕ) → n ≤ m → (r : CheckedRule) → HasType d n r.body [] None → HasType e m r.body [] None
   rule-stays n m le r is = (typed-stays d e g h n m le r.body [] None (All-nil (IsType d)) is).1

@@ -2,16 +2,16 @@
 use Rattle.std.proofs.Common.{◌≡◌, ℕ, zero, suc, ◌<◌, ◌≤◌, ◌⊎◌, inl, inr, List, [], ◌∷◌, ◌++◌, length, map, Option, Some, None, IfSome, arith, refl, ap, sym, subst, ◌∙◌, append_assoc, append-nil}
 use Rattle.std.specs.List.{All, AllByRecursion}
 use Rattle.koika_check.specs.Constructs.{Joined, Typing, chained, join, typing}
-use Rattle.koika_check.specs.Expressions.{Joining, Meaning, Run, Stepped, Stepping, block_from, chain_in, close, join_in, run}
+use Rattle.koika_check.specs.Expressions.{Joining, ExpressionTyping, BlockSoFar, StatementTyping, Stepping, block_from, chain_in, close, join_in, run}
 use Rattle.koika_check.specs.Outcomes.{Gives, one_by_one}
 use Rattle.koika_check.specs.Scopes.{Local, Scope}
 use Rattle.koika_check.specs.Typing.{Binds, HasType, IsType, Runs, StepsHaveType}
 use Rattle.koika_check.specs.inner.Typing.{StepHasType}
 use Rattle.koika_check.specs.Typing as has
 use Rattle.koika_check.specs.declared.checked.Checked.{Checked}
-use Rattle.koika_check.specs.declared.typed.Step.{Step}
-use Rattle.koika_check.specs.declared.typed.Step.TheOpen as opened
-use Rattle.koika_check.specs.declared.typed.Step.TheVariants as step
+use Rattle.koika_check.specs.declared.typed.TypedStep.{TypedStep}
+use Rattle.koika_check.specs.declared.typed.TypedStep.TheOpen as opened
+use Rattle.koika_check.specs.declared.typed.TypedStep.TheVariants as step
 use Rattle.koika_check.specs.declared.typed.Typed.TheVariants as typed
 use Rattle.koika_check.specs.declared.typed.ValueType.{ValueType}
 use Rattle.koika_check.proofs.Answering.{bind-gives}
@@ -21,7 +21,7 @@ use Rattle.koika_check.proofs.TypedSoFar.{IsGood}
 use Rattle.koika_check.proofs.TypingLayers.{close-HasType, close-step}
 
 -- what an expression comes to is well typed
-abbrev pub Sound : Meaning → Type 0
+abbrev pub Sound : ExpressionTyping → Type 0
 Sound m = (scope : Scope) → IsGood scope → (x : Typing) → m scope ≡ Gives x → IsTyped scope x
 
 -- ---- chains
@@ -64,15 +64,15 @@ IsStepped d locals one =
     (StepHasType d (length d.functions) one.step (types_of locals) Runs × (one.behind ≡ scope_at d locals))
 
 -- what a statement comes to is so in each good scope
-abbrev pub SoundStep : Stepped → Type 0
+abbrev pub SoundStep : StatementTyping → Type 0
 SoundStep m = (d : Checked) (locals : List Local) → IsGood (scope_at d locals) → (one : Stepping) → m (scope_at d locals) ≡ Gives one → IsStepped d locals one
 
 -- statements as far as they were looked at: what stands behind them has the block's type
-pub record IsRun (d : Checked) (start : List Local) (r : Run) : Type 0 where
+pub record IsRun (d : Checked) (start : List Local) (r : BlockSoFar) : Type 0 where
   pub locals : List Local
   pub behind : r.behind ≡ scope_at d locals
   pub good : IsGood (scope_at d locals)
-  pub rest : (tail : List Step) (of : Option ValueType) → StepsHaveType (StepHasType d (length d.functions)) tail (types_of locals) of →
+  pub rest : (tail : List TypedStep) (of : Option ValueType) → StepsHaveType (StepHasType d (length d.functions)) tail (types_of locals) of →
       StepsHaveType (StepHasType d (length d.functions)) (r.steps ++ tail) (types_of start) of
 
 bound_too : (d : Checked) (locals : List Local) (l : Local) → IsGood (scope_at d locals) → IsType d l.of → IsGood (scope_at d (l ∷ locals))
@@ -83,7 +83,7 @@ bound_too d locals l good valid = record { design = good.design; locals = all_of
     all_of (suc k) b lt = good.locals k b (omega (arith, lt))
 
 module _ (d : Checked) (start : List Local) where
-  run_next : (m : Stepped) (before after : Run) → SoundStep m → IsRun d start before → run m before ≡ Gives after → IsRun d start after
+  run_next : (m : StatementTyping) (before after : BlockSoFar) → SoundStep m → IsRun d start before → run m before ≡ Gives after → IsRun d start after
   run_next m before after sound h e =
       let one = bind-gives (m before.behind) _ after e in
       let there : m (scope_at d h.locals) ≡ Gives one.0 = ap m (sym h.behind) ∙ one.1 in
@@ -106,16 +106,16 @@ module _ (d : Checked) (start : List Local) where
             (h.rest (one.step ∷ tail) of (inr (inl (it.0, t))));
       }
 
-  run_all : (statements : List Stepped) (before after : Run) → AllByRecursion SoundStep statements → IsRun d start before → one_by_one run statements before ≡ Gives after → IsRun d start after
+  run_all : (statements : List StatementTyping) (before after : BlockSoFar) → AllByRecursion SoundStep statements → IsRun d start before → one_by_one run statements before ≡ Gives after → IsRun d start after
   run_all [] before after sound h e = subst (IsRun d start) (gives-same before after e) h
   run_all (m ∷ statements) before after sound h e =
       let next = bind-gives (run m before) (one_by_one run statements) after e in
       run_all statements next.0 after sound.1 (run_next m before next.0 sound.0 h next.1) next.2
 
-  block_has : (place : ℕ) (of : Option ValueType) (steps : List Step) → StepsHaveType (StepHasType d (length d.functions)) steps (types_of start) of → IsTyped (scope_at d start) (typing of place (typed.Block steps))
+  block_has : (place : ℕ) (of : Option ValueType) (steps : List TypedStep) → StepsHaveType (StepHasType d (length d.functions)) steps (types_of start) of → IsTyped (scope_at d start) (typing of place (typed.Block steps))
   block_has place of steps h = close-HasType d (length d.functions) (typed.Block steps) (opened.Block steps) (typed.rolls-Block steps) (types_of start) of h
 
-  close_typed : (place : ℕ) (last : Option Meaning) (all : Run) (x : Typing) → IfSome last Sound → IsRun d start all → close place last all ≡ Gives x → IsTyped (scope_at d start) x
+  close_typed : (place : ℕ) (last : Option ExpressionTyping) (all : BlockSoFar) (x : Typing) → IfSome last Sound → IsRun d start all → close place last all ≡ Gives x → IsTyped (scope_at d start) x
   close_typed place None all x sound h e =
       subst (IsTyped (scope_at d start)) (gives-same (typing None place (typed.Block all.steps)) x e)
       (block_has place None all.steps (subst (λ steps. StepsHaveType (StepHasType d (length d.functions)) steps (types_of start) None) (append-nil all.steps) (h.rest [] None refl)))
@@ -129,13 +129,13 @@ module _ (d : Checked) (start : List Local) where
       (block_has place of (all.steps ++ step.Give t ∷ [])
       (h.rest (step.Give t ∷ []) of (inr (inr (close-step d (length d.functions) (step.Give t) (opened.Give t) (step.rolls-Give t) (types_of h.locals) (has.Gives of) it, tt)))))
 
-  block_typed : (place : ℕ) (statements : List Stepped) (last : Option Meaning) (x : Typing) → IsGood (scope_at d start) → AllByRecursion SoundStep statements → IfSome last Sound →
+  block_typed : (place : ℕ) (statements : List StatementTyping) (last : Option ExpressionTyping) (x : Typing) → IsGood (scope_at d start) → AllByRecursion SoundStep statements → IfSome last Sound →
       block_from place statements last (scope_at d start) ≡ Gives x → IsTyped (scope_at d start) x
   block_typed place statements last x good sound last_sound e =
-      let begin : Run = record { steps = []; behind = scope_at d start } in
+      let begin : BlockSoFar = record { steps = []; behind = scope_at d start } in
       let all = bind-gives (one_by_one run statements begin) (close place last) x e in
       close_typed place last all.0 x last_sound (run_all statements begin all.0 sound (record { locals = start; behind = refl; good = good; rest = λ tail of t. t }) all.1) all.2
 
 -- a block of such statements, and a last expression
-pub block-typed : (place : ℕ) (statements : List Stepped) (last : Option Meaning) → AllByRecursion SoundStep statements → IfSome last Sound → Sound (block_from place statements last)
+pub block-typed : (place : ℕ) (statements : List StatementTyping) (last : Option ExpressionTyping) → AllByRecursion SoundStep statements → IfSome last Sound → Sound (block_from place statements last)
 block-typed place statements last sound last_sound scope good x e = block_typed scope.design scope.locals place statements last x good sound last_sound e

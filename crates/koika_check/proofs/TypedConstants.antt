@@ -12,13 +12,13 @@ use Rattle.koika_syntax.specs.declared.tree.Constant.TheOpen as constant
 use Rattle.koika_types.specs.declared.value.Value.TheOpen.{Value-F}
 use Rattle.koika_types.specs.declared.value.Value.TheVariants as value
 use Rattle.koika_check.specs.Composites.{Given, array_of, fields_of, member, struct_of}
-use Rattle.koika_check.specs.Constants.{FieldMeaning, Known, KnownField, Meaning, array_known, constant_field_step, constant_of, constant_step, given, known_member, struct_known}
+use Rattle.koika_check.specs.Constants.{FieldMeaning, Known, KnownField, ConstantMeaning, array_known, constant_field_step, constant_of, constant_step, given, known_member, struct_known}
 use Rattle.koika_check.specs.inner.Constants.{constant_field_of}
 use Rattle.koika_check.specs.Outcomes.{Gives, ◌>>=◌, found, in_turn, wrong}
 use Rattle.koika_check.specs.Types.{array, bits, of_base, part, struct_named}
 use Rattle.koika_check.specs.Typing.{IsOf, IsType, Pairwise}
 use Rattle.koika_check.specs.declared.checked.Checked.{Checked}
-use Rattle.koika_check.specs.declared.checked.Field.{Field}
+use Rattle.koika_check.specs.declared.checked.CheckedField.{CheckedField}
 use Rattle.koika_check.specs.declared.typed.BaseType.TheVariants as base
 use Rattle.koika_check.specs.declared.typed.ValueType.{ValueType}
 use Rattle.koika_check.proofs.Answering.{bind-gives}
@@ -32,7 +32,7 @@ use Rattle.koika_check.proofs.TypingLayers.{close-IsOf}
 abbrev pub IsKnown : Checked → Known → Type 0
 IsKnown d k = (t : ValueType) × (k.part.of ≡ Some t) × IsOf d k.value t × IsType d t
 
-abbrev Sound : Meaning → Type 0
+abbrev Sound : ConstantMeaning → Type 0
 Sound m = (d : Checked) → IsTypedSoFar d → (k : Known) → m d ≡ Gives k → IsKnown d k
 
 abbrev SoundField : FieldMeaning → Type 0
@@ -82,7 +82,7 @@ struct_sound d good number place close known k h e =
     let t = of_base (base.Struct number) in
     let made : Known = record { part = whole.0; value = value.Fields number vs } in
     subst (IsKnown d) (gives-same made k whole.2)
-    (t, it.2, close-IsOf d (value.Fields number vs) (Value-F.Fields number vs) (value.rolls-Fields number vs) t (refl, fields_known d known (map (λ (f : Field). f.of) (fields_of d number)) h it.0), it.1)
+    (t, it.2, close-IsOf d (value.Fields number vs) (Value-F.Fields number vs) (value.rolls-Fields number vs) t (refl, fields_known d known (map (λ (f : CheckedField). f.of) (fields_of d number)) h it.0), it.1)
 
 -- ---- the cycle
 
@@ -109,10 +109,10 @@ module _ (Q : Constant → Type 0) (QField : ConstantField → Type 0) where
   each_of_constant (constant.Array place elements) = firsts Q elements.items
 
 -- what all elements, and all fields, give
-elements_give : (xs : List Constant) (d : Checked) (ks : List Known) → IsTypedSoFar d → AllByRecursion IsConstant xs → AllByRecursion Fine xs → in_turn (λ (m : Meaning). m d) (map constant_of xs) ≡ Gives ks → AllByRecursion (IsKnown d) ks
-elements_give xs d ks good is fine e = turn-all (IsKnown d) (λ (m : Meaning). m d) (map constant_of xs) ks (all_sound xs is fine) e
+elements_give : (xs : List Constant) (d : Checked) (ks : List Known) → IsTypedSoFar d → AllByRecursion IsConstant xs → AllByRecursion Fine xs → in_turn (λ (m : ConstantMeaning). m d) (map constant_of xs) ≡ Gives ks → AllByRecursion (IsKnown d) ks
+elements_give xs d ks good is fine e = turn-all (IsKnown d) (λ (m : ConstantMeaning). m d) (map constant_of xs) ks (all_sound xs is fine) e
   where
-    all_sound : (xs : List Constant) → AllByRecursion IsConstant xs → AllByRecursion Fine xs → AllByRecursion (λ (m : Meaning). (k : Known) → m d ≡ Gives k → IsKnown d k) (map constant_of xs)
+    all_sound : (xs : List Constant) → AllByRecursion IsConstant xs → AllByRecursion Fine xs → AllByRecursion (λ (m : ConstantMeaning). (k : Known) → m d ≡ Gives k → IsKnown d k) (map constant_of xs)
     all_sound [] is fine = tt
     all_sound (x ∷ xs) is fine = (fine.0 is.0 d good, all_sound xs is.1 fine.1)
 
@@ -125,7 +125,7 @@ fields_give xs d ks good is fine e = turn-all (λ (f : KnownField). IsKnown d f.
     all_sound (x ∷ xs) is fine = (fine.0 is.0 d good, all_sound xs is.1 fine.1)
 
 constant_sound : (x : Constant-F Constant ConstantField) → IsConstantLayer x → EachOfConstant IsConstant IsConstantField x → EachOfConstant Fine FineField x →
-    Sound (constant_step (map-Constant Constant ConstantField Meaning FieldMeaning constant_of constant_field_of x))
+    Sound (constant_step (map-Constant Constant ConstantField ConstantMeaning FieldMeaning constant_of constant_field_of x))
 constant_sound (constant.Literal l) here is fine d good k e =
     let t = bits l.bits.width in
     let made : Known = record { part = part (Some t) l.place; value = value.Number l.bits } in
@@ -143,7 +143,7 @@ constant_sound (constant.Struct of fields close) here is fine d good k e =
     let all = bind-gives (in_turn (λ (m : FieldMeaning). m d) (map constant_field_of fields.items)) (struct_known d number.0 of.place close) k number.2 in
     struct_sound d good number.0 of.place close all.0 k (fields_give fields.items d all.0 good is fine all.1) all.2
 constant_sound (constant.Array place elements) here is fine d good k e =
-    let all = bind-gives (in_turn (λ (m : Meaning). m d) (map constant_of elements.items)) (array_known d place) k e in
+    let all = bind-gives (in_turn (λ (m : ConstantMeaning). m d) (map constant_of elements.items)) (array_known d place) k e in
     array_sound d place all.0 k (elements_give elements.items d all.0 good is fine all.1) all.2
 
 constant_of_layer : (x : Constant-F Constant ConstantField) (y : Constant-F (Such Fine) (Such FineField)) → map-Constant (Such Fine) (Such FineField) Constant ConstantField (λ e. e.0) (λ e. e.0) y ≡ x → Fine (roll-Constant x)
@@ -153,9 +153,9 @@ constant_of_layer x y same is =
     let here = subst IsConstantLayer (out-roll-Constant x) (every_here-Constant IsConstantLayer IsConstantFieldLayer (roll-Constant x) is) in
     let parts_are = subst (EachOfConstant IsConstant IsConstantField) (held.1 ∙ out-roll-Constant x) (each_of_constant IsConstant IsConstantField held.0) in
     let parts_fine = subst (EachOfConstant Fine FineField) same (each_of_constant Fine FineField y) in
-    subst Sound (sym (fold-roll-Constant Meaning FieldMeaning constant_step constant_field_step x)) (constant_sound x here parts_are parts_fine)
+    subst Sound (sym (fold-roll-Constant ConstantMeaning FieldMeaning constant_step constant_field_step x)) (constant_sound x here parts_are parts_fine)
 
-constant_field_sound : (x : ConstantField-F Constant ConstantField) → IsConstant x.value → Fine x.value → SoundField (constant_field_step (map-ConstantField Constant ConstantField Meaning FieldMeaning constant_of constant_field_of x))
+constant_field_sound : (x : ConstantField-F Constant ConstantField) → IsConstant x.value → Fine x.value → SoundField (constant_field_step (map-ConstantField Constant ConstantField ConstantMeaning FieldMeaning constant_of constant_field_of x))
 constant_field_sound x is fine d good f e =
     let known = bind-gives (constant_of x.value d) _ f e in
     let made : KnownField = record { name = x.name; known = known.0 } in
@@ -167,7 +167,7 @@ constant_field_of_layer x y same is =
     let held = every_held-ConstantField IsConstantLayer IsConstantFieldLayer (roll-ConstantField x) is in
     let value_is = subst (λ (x : ConstantField-F Constant ConstantField). IsConstant x.value) (held.1 ∙ out-roll-ConstantField x) held.0.value.1 in
     let value_fine = subst (λ (x : ConstantField-F Constant ConstantField). Fine x.value) same y.value.1 in
-    subst SoundField (sym (fold-roll-ConstantField Meaning FieldMeaning constant_step constant_field_step x)) (constant_field_sound x value_is value_fine)
+    subst SoundField (sym (fold-roll-ConstantField ConstantMeaning FieldMeaning constant_step constant_field_step x)) (constant_field_sound x value_is value_fine)
 
 -- a constant of the grammar
 pub constant-typed : (t : Constant) → IsConstant t → (d : Checked) → IsTypedSoFar d → (k : Known) → constant_of t d ≡ Gives k → IsKnown d k

@@ -6,7 +6,7 @@ use Rattle.std.proofs.lemmas.List.{length-append, length-map}
 use Rattle.std.proofs.lemmas.Option.{slice_get-map, same_Some}
 use Rattle.std.proofs.lemmas.Bool.{leb-true}
 use Rattle.kw_base.specs.declared.fault_number.TheConstants.{UNKNOWN_NAME, WRONG_WIDTH}
-use Rattle.koika_syntax.specs.Grammar.{IsLiteral}
+use Rattle.koika_syntax.specs.Grammar.{LiteralFits}
 use Rattle.koika_syntax.specs.declared.operator.BinaryOperator.{BinaryOperator}
 use Rattle.koika_syntax.specs.declared.operator.BinaryOperator.TheVariants as binary
 use Rattle.koika_syntax.specs.declared.operator.Extension.{Extension}
@@ -14,19 +14,19 @@ use Rattle.koika_syntax.specs.declared.operator.SignedComparison.{SignedComparis
 use Rattle.koika_syntax.specs.declared.tree.Literal.{Literal}
 use Rattle.koika_syntax.specs.declared.tree.Name.{Name}
 use Rattle.koika_syntax.specs.declared.tree.Number.{Number}
-use Rattle.koika_syntax.specs.declared.tree.Part.{Part as WrittenPart}
-use Rattle.koika_syntax.specs.declared.tree.Part.TheVariants as parts
+use Rattle.koika_syntax.specs.declared.tree.UpdatedPart.{UpdatedPart as WrittenPart}
+use Rattle.koika_syntax.specs.declared.tree.UpdatedPart.TheVariants as parts
 use Rattle.koika_syntax.specs.declared.tree.Prefix.{Prefix}
 use Rattle.koika_syntax.specs.declared.tree.Suffix.{Suffix}
 use Rattle.koika_types.specs.declared.value.Value.TheOpen.{Value-F}
 use Rattle.koika_types.specs.declared.value.Value.TheVariants as value
 use Rattle.koika_check.specs.Composites.{member}
-use Rattle.koika_check.specs.Constructs.{Joined, Taken, Typing, abort_at, applied, chained, comparison, extended, join, literal, member_in, named, packed, parts_of, place_of_prefixes, postfix, read_in, replaced, take_part, typed_of, typing, unary, unpacked, updated, written}
+use Rattle.koika_check.specs.Constructs.{Joined, SelectedPart, Typing, abort_at, applied, chained, comparison, extended, join, literal, member_in, named, packed, types_of_parts, place_of_prefixes, postfix, read_in, replaced, take_part, typed_of, typing, unary, unpacked, updated, written}
 use Rattle.koika_check.specs.Operators.{bits_in, calculated, compared, concatenated, equated, operated, width_or_none}
 use Rattle.koika_check.specs.Outcomes.{Gives, first, found, holds, one_by_one, wrong}
 use Rattle.koika_check.specs.Scopes.{Local, Named, Scope, at, bare, input_by, input_named, local_by, local_named, or_else, register, register_named, register_type, type_of_register}
 use Rattle.koika_check.specs.Selections.{Selected, select}
-use Rattle.koika_check.specs.Types.{Part, agrees, as_bits, bits, each, is_bits, is_value, of_base, part, width_of, wrong_type}
+use Rattle.koika_check.specs.Types.{TypedPart, agrees, as_bits, bits, each, is_bits, is_value, of_base, part, width_of, wrong_type}
 use Rattle.koika_check.specs.Typing.{Applies, Calculates, Chains, Compares, Equates, HasType, IsType, Joins, Operates, Pairwise, Takes, TakesAll}
 use Rattle.koika_check.specs.declared.checked.Checked.{Checked}
 use Rattle.koika_check.specs.declared.checked.Input.{Input}
@@ -35,7 +35,7 @@ use Rattle.koika_check.specs.declared.typed.BaseType.TheVariants as base
 use Rattle.koika_check.specs.declared.typed.Operation.{Operation}
 use Rattle.koika_check.specs.declared.typed.Operation.TheVariants as operation
 use Rattle.koika_check.specs.declared.typed.Selection.{Selection}
-use Rattle.koika_check.specs.declared.typed.Step.TheOpen as opened
+use Rattle.koika_check.specs.declared.typed.TypedStep.TheOpen as opened
 use Rattle.koika_check.specs.declared.typed.Typed.TheVariants as typed
 use Rattle.koika_check.specs.declared.typed.ValueType.{ValueType}
 use Rattle.koika_check.proofs.Answering.{bind-gives, found-some}
@@ -53,7 +53,7 @@ IsTyped scope t = HasType scope.design (length scope.design.functions) t.typed (
 -- ---- operations on parts
 
 -- the operands are of these types, one by one
-pub operands-typed : (scope : Scope) (operands : List Typing) (types : List ValueType) → AllByRecursion (IsTyped scope) operands → PartsAre (parts_of operands) types →
+pub operands-typed : (scope : Scope) (operands : List Typing) (types : List ValueType) → AllByRecursion (IsTyped scope) operands → PartsAre (types_of_parts operands) types →
     Pairwise (λ x t. HasType scope.design (length scope.design.functions) x (types_in scope) (Some t)) (typed_of operands) types
 operands-typed scope [] [] h are = tt
 operands-typed scope [] (t ∷ types) h are = absurd are
@@ -62,7 +62,7 @@ operands-typed scope (x ∷ operands) (t ∷ types) h are =
     (subst (HasType scope.design (length scope.design.functions) x.typed (types_in scope)) are.0 h.0, operands-typed scope operands types h.1 are.1)
 
 -- an operation on them
-pub applied-typed : (scope : Scope) (of : Option ValueType) (place : ℕ) (o : Operation) (operands : List Typing) (types : List ValueType) → AllByRecursion (IsTyped scope) operands → PartsAre (parts_of operands) types →
+pub applied-typed : (scope : Scope) (of : Option ValueType) (place : ℕ) (o : Operation) (operands : List Typing) (types : List ValueType) → AllByRecursion (IsTyped scope) operands → PartsAre (types_of_parts operands) types →
     Applies scope.design (length scope.design.functions) o types of → IsTyped scope (applied of place o operands)
 applied-typed scope of place o operands types h are applies =
     close-HasType scope.design (length scope.design.functions) (typed.Apply o (typed_of operands)) (opened.Apply o (typed_of operands)) (typed.rolls-Apply o (typed_of operands)) (types_in scope) of
@@ -70,7 +70,7 @@ applied-typed scope of place o operands types h are applies =
 
 -- ---- literals and names
 
-pub literal-typed : (scope : Scope) (l : Literal) → IsLiteral l → IsTyped scope (literal l)
+pub literal-typed : (scope : Scope) (l : Literal) → LiteralFits l → IsTyped scope (literal l)
 literal-typed scope l h =
     let t = bits l.bits.width in
     close-HasType scope.design (length scope.design.functions) (typed.Constant (value.Number l.bits)) (opened.Constant (value.Number l.bits)) (typed.rolls-Constant (value.Number l.bits)) (types_in scope) (Some t)
@@ -155,7 +155,7 @@ unary-typed scope prefixes inner x h e =
     subst (IsTyped scope) all.0 (applied-typed scope inner.part.of place o (inner ∷ []) (bits w.0 ∷ []) (h, tt) (w.1, tt) (w.0, refl, w.1))
 
 -- an operator between two parts
-pub calculated-typed : (left right : Part) (of : Option ValueType) → calculated left right ≡ Gives of →
+pub calculated-typed : (left right : TypedPart) (of : Option ValueType) → calculated left right ≡ Gives of →
     (l : ValueType) × (r : ValueType) × (next : ValueType) × (left.of ≡ Some l) × (right.of ≡ Some r) × (of ≡ Some next) × Calculates l r next
 calculated-typed left right of e =
     let all = where-all (each is_bits (left ∷ right ∷ []) ∷ agrees left.of right ∷ []) left.of of e in
@@ -163,7 +163,7 @@ calculated-typed left right of e =
     let t = bits w.0 in
     (t, t, t, w.1, agrees-is left.of right all.1.1.0 ∙ w.1, sym all.0 ∙ w.1, (w.0, (refl, refl), refl))
 
-pub compared-typed : (left right : Part) (of : Option ValueType) → compared left right ≡ Gives of →
+pub compared-typed : (left right : TypedPart) (of : Option ValueType) → compared left right ≡ Gives of →
     (l : ValueType) × (r : ValueType) × (next : ValueType) × (left.of ≡ Some l) × (right.of ≡ Some r) × (of ≡ Some next) × Compares l r next
 compared-typed left right of e =
     let all = where-all (each is_bits (left ∷ right ∷ []) ∷ agrees left.of right ∷ []) (Some (bits 1)) of e in
@@ -171,17 +171,17 @@ compared-typed left right of e =
     let t = bits w.0 in
     (t, t, bits 1, w.1, agrees-is left.of right all.1.1.0 ∙ w.1, sym all.0, (w.0, (refl, refl), refl))
 
-equated-typed : (left right : Part) (of : Option ValueType) → equated left right ≡ Gives of →
+equated-typed : (left right : TypedPart) (of : Option ValueType) → equated left right ≡ Gives of →
     (l : ValueType) × (r : ValueType) × (next : ValueType) × (left.of ≡ Some l) × (right.of ≡ Some r) × (of ≡ Some next) × Equates l r next
 equated-typed left right of e =
     let all = where-all (each is_value (left ∷ right ∷ []) ∷ agrees left.of right ∷ []) (Some (bits 1)) of e in
     let t = is-value left (each-none is_value (left ∷ right ∷ []) all.1.0).0 in
     (t.0, t.0, bits 1, t.1, agrees-is left.of right all.1.1.0 ∙ t.1, sym all.0, (refl, refl))
 
-bits_of : (p : Part) (w : ℕ) → p.of ≡ Some (bits w) → bits_in p ≡ w
+bits_of : (p : TypedPart) (w : ℕ) → p.of ≡ Some (bits w) → bits_in p ≡ w
 bits_of p w e = ap (λ o. width_or_none (as_bits o)) e
 
-concatenated-typed : (left right : Part) (of : Option ValueType) → concatenated left right ≡ Gives of →
+concatenated-typed : (left right : TypedPart) (of : Option ValueType) → concatenated left right ≡ Gives of →
     (l : ValueType) × (r : ValueType) × (next : ValueType) × (left.of ≡ Some l) × (right.of ≡ Some r) × (of ≡ Some next) × Joins l r next
 concatenated-typed left right of e =
     let sum = bits_in left + bits_in right in
@@ -194,7 +194,7 @@ concatenated-typed left right of e =
     (bits a.0, bits b.0, bits (a.0 + b.0), a.1, b.1, sym all.0 ∙ ap (λ w. Some (bits w)) same, (a.0, b.0, refl, refl, omega (arith, same, few), refl))
 
 -- each operator
-pub operated-typed : (o : BinaryOperator) (left right : Part) (of : Option ValueType) → operated o left right ≡ Gives of →
+pub operated-typed : (o : BinaryOperator) (left right : TypedPart) (of : Option ValueType) → operated o left right ≡ Gives of →
     (l : ValueType) × (r : ValueType) × (next : ValueType) × (left.of ≡ Some l) × (right.of ≡ Some r) × (of ≡ Some next) × Operates o l r next
 operated-typed binary.Or left right of e = calculated-typed left right of e
 operated-typed binary.Xor left right of e = calculated-typed left right of e
@@ -222,7 +222,7 @@ chains_push [] t (u ∷ ts) whole o r next c h = absurd c
 chains_push (p ∷ operators) t [] whole o r next c h = absurd c
 chains_push (p ∷ operators) t (u ∷ ts) whole o r next c h = (c.0, c.1, chains_push operators c.0 ts whole o r next c.2 h)
 
-parts_push : (operands : List Typing) (types : List ValueType) (x : Typing) (t : ValueType) → PartsAre (parts_of operands) types → x.part.of ≡ Some t → PartsAre (parts_of (operands ++ x ∷ [])) (types ++ t ∷ [])
+parts_push : (operands : List Typing) (types : List ValueType) (x : Typing) (t : ValueType) → PartsAre (types_of_parts operands) types → x.part.of ≡ Some t → PartsAre (types_of_parts (operands ++ x ∷ [])) (types ++ t ∷ [])
 parts_push [] [] x t are is = (is, tt)
 parts_push [] (u ∷ types) x t are is = absurd are
 parts_push (y ∷ operands) [] x t are is = absurd are
@@ -239,7 +239,7 @@ pub record IsJoined (scope : Scope) (j : Joined) : Type 0 where
   pub ts : List ValueType
   pub whole : ValueType
   pub typed : AllByRecursion (IsTyped scope) j.operands
-  pub are : PartsAre (parts_of j.operands) (t ∷ ts)
+  pub are : PartsAre (types_of_parts j.operands) (t ∷ ts)
   pub chains : Chains j.operators t ts whole
   pub left : j.left.of ≡ Some whole
 
@@ -294,19 +294,19 @@ takes_push d [] t whole s of takes h = (of, subst (λ w. Takes d s w of) takes h
 takes_push d (p ∷ selections) t whole s of takes h = (takes.0, takes.1, takes_push d selections takes.0 whole s of takes.2 h)
 
 -- what was taken of a part of a type
-abbrev IsTaken : Checked → ValueType → Taken → Type 0
+abbrev IsTaken : Checked → ValueType → SelectedPart → Type 0
 IsTaken d t taken = (of : ValueType) × (taken.whole.of ≡ Some of) × TakesAll d taken.selections t of
 
-take_next : (d : Checked) (t : ValueType) (s : Suffix) (before after : Taken) → IsTaken d t before → take_part d s before ≡ Gives after → IsTaken d t after
+take_next : (d : Checked) (t : ValueType) (s : Suffix) (before after : SelectedPart) → IsTaken d t before → take_part d s before ≡ Gives after → IsTaken d t after
 take_next d t s before after h e =
     let one = bind-gives (select d before.whole s) _ after e in
     let it = selected d before.whole s one.0 one.1 in
     let same : it.0 ≡ h.0 = same_Some it.0 h.0 (sym it.1 ∙ h.1) in
-    let made : Taken = record { whole = part (Some one.0.of) before.whole.place; selections = before.selections ++ one.0.selection ∷ [] } in
+    let made : SelectedPart = record { whole = part (Some one.0.of) before.whole.place; selections = before.selections ++ one.0.selection ∷ [] } in
     subst (IsTaken d t) (gives-same made after one.2)
     (one.0.of, refl, takes_push d before.selections t h.0 one.0.selection one.0.of h.2 (subst (λ w. Takes d one.0.selection w one.0.of) same it.2))
 
-take_all : (d : Checked) (t : ValueType) (suffixes : List Suffix) (before after : Taken) → IsTaken d t before → one_by_one (take_part d) suffixes before ≡ Gives after → IsTaken d t after
+take_all : (d : Checked) (t : ValueType) (suffixes : List Suffix) (before after : SelectedPart) → IsTaken d t before → one_by_one (take_part d) suffixes before ≡ Gives after → IsTaken d t after
 take_all d t [] before after h e = subst (IsTaken d t) (gives-same before after e) h
 take_all d t (s ∷ suffixes) before after h e =
     let next = bind-gives (take_part d s before) (one_by_one (take_part d) suffixes) after e in
@@ -314,7 +314,7 @@ take_all d t (s ∷ suffixes) before after h e =
 
 postfix_from : (scope : Scope) (suffixes : List Suffix) (primary x : Typing) (t : ValueType) → IsTyped scope primary → primary.part.of ≡ Some t → postfix scope.design suffixes primary ≡ Gives x → IsTyped scope x
 postfix_from scope suffixes primary x t h is e =
-    let start : Taken = record { whole = primary.part; selections = [] } in
+    let start : SelectedPart = record { whole = primary.part; selections = [] } in
     let all = bind-gives (one_by_one (take_part scope.design) suffixes start) _ x e in
     let it = take_all scope.design t suffixes start all.0 (t, is, refl) all.1 in
     subst (IsTyped scope) (gives-same (applied all.0.whole.of all.0.whole.place (operation.Select all.0.selections) (primary ∷ [])) x all.2)
@@ -324,7 +324,7 @@ postfix_from scope suffixes primary x t h is e =
 pub postfix-typed : (scope : Scope) (suffixes : List Suffix) (primary x : Typing) → 0 < length suffixes → IsTyped scope primary → postfix scope.design suffixes primary ≡ Gives x → IsTyped scope x
 postfix-typed scope [] primary x some h e = absurd (omega (arith, some))
 postfix-typed scope (s ∷ suffixes) primary x some h e =
-    let start : Taken = record { whole = primary.part; selections = [] } in
+    let start : SelectedPart = record { whole = primary.part; selections = [] } in
     let all = bind-gives (one_by_one (take_part scope.design) (s ∷ suffixes) start) _ x e in
     let next = bind-gives (take_part scope.design s start) (one_by_one (take_part scope.design) suffixes) all.0 all.1 in
     let one = bind-gives (select scope.design primary.part s) _ next.0 next.1 in
@@ -366,7 +366,7 @@ comparison-typed scope place o left right x h k e =
     subst (IsTyped scope) (gives-same (applied of.0 place (operation.Compare o) (left ∷ right ∷ [])) x of.2)
     (applied-typed scope of.0 place (operation.Compare o) (left ∷ right ∷ []) (it.0 ∷ it.1 ∷ []) (h, (k, tt)) (it.3, (it.4, tt)) (it.2, it.6, it.5))
 
-replaced_of : (d : Checked) (p : WrittenPart) (old new : Part) (one : Selected) → replaced d p old new ≡ Gives one → ReplacesOf d old one × (new.of ≡ Some one.of)
+replaced_of : (d : Checked) (p : WrittenPart) (old new : TypedPart) (one : Selected) → replaced d p old new ≡ Gives one → ReplacesOf d old one × (new.of ≡ Some one.of)
 replaced_of d (parts.Field n) old new one e = field-replaced d old n new one e
 replaced_of d (parts.Index i) old new one e = item-replaced d old i new one e
 

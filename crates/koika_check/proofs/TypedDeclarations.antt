@@ -12,12 +12,12 @@ use Rattle.kw_base.specs.declared.fault_number.TheConstants.{REPEATED_NAME, UNKN
 use Rattle.kw_bits.specs.BitVector.{BitVector}
 use Rattle.kw_bits.specs.Host.{TakesWidth}
 use Rattle.kw_bits.specs.Laws.{HasWidth}
-use Rattle.koika_syntax.specs.Grammar.{IsBlock, IsConstant, IsLiteral, IsMember}
+use Rattle.koika_syntax.specs.Grammar.{IsBlock, IsConstant, LiteralFits, IsMember}
 use Rattle.koika_syntax.specs.declared.tree.Block.{Block}
 use Rattle.koika_syntax.specs.declared.tree.Constant.{Constant}
 use Rattle.koika_syntax.specs.declared.tree.Field.{Field as WrittenField}
 use Rattle.koika_syntax.specs.declared.tree.Literal.{Literal}
-use Rattle.koika_syntax.specs.declared.tree.Member.{Member as WrittenMember}
+use Rattle.koika_syntax.specs.declared.tree.EnumMember.{EnumMember as WrittenMember}
 use Rattle.koika_syntax.specs.declared.tree.Name.{Name}
 use Rattle.koika_syntax.specs.declared.tree.TypeExpression.{TypeExpression}
 use Rattle.koika_syntax.specs.declared.tree.Width.{Width}
@@ -35,12 +35,12 @@ use Rattle.koika_check.specs.Scopes.{Local, Scope}
 use Rattle.koika_check.specs.Types.{agrees, base_width, each, is_width, type_of, width_of}
 use Rattle.koika_check.specs.Typing.{HasType, IsAmong, IsInput, IsOf, IsRegister, IsType}
 use Rattle.koika_check.specs.declared.checked.Checked.{Checked}
-use Rattle.koika_check.specs.declared.checked.Field.{Field}
-use Rattle.koika_check.specs.declared.checked.Function.{Function}
+use Rattle.koika_check.specs.declared.checked.CheckedField.{CheckedField}
+use Rattle.koika_check.specs.declared.checked.CheckedFunction.{CheckedFunction}
 use Rattle.koika_check.specs.declared.checked.Host.{Host}
 use Rattle.koika_check.specs.declared.checked.Input.{Input}
 use Rattle.koika_check.specs.declared.checked.Register.{Register}
-use Rattle.koika_check.specs.declared.checked.Rule.{Rule}
+use Rattle.koika_check.specs.declared.checked.CheckedRule.{CheckedRule}
 use Rattle.koika_check.specs.declared.checked.Struct.{Struct}
 use Rattle.koika_check.specs.declared.checked.Table.{Table}
 use Rattle.koika_check.specs.declared.typed.BaseType.{BaseType}
@@ -76,7 +76,7 @@ has-width : (w : ℕ) (l : Literal) → has_width w l ≡ None → l.bits.width 
 has-width w l e = eqb-true l.bits.width w (holds-true (nat_eq l.bits.width w) (wrong WRONG_WIDTH l.place) e)
 
 abbrev FitsWidth : ℕ → WrittenMember → Type 0
-FitsWidth w m = IsLiteral m.value × (m.value.bits.width ≡ w)
+FitsWidth w m = LiteralFits m.value × (m.value.bits.width ≡ w)
 
 members_fit : (w : ℕ) (members : List WrittenMember) (start declared : List Member) → AllByRecursion (FitsWidth w) members → AllByRecursion (λ (m : Member). HasWidth m.bits w) start →
     one_by_one add_member members start ≡ Gives declared → AllByRecursion (λ (m : Member). HasWidth m.bits w) declared
@@ -106,11 +106,11 @@ enum-fits d n width members x is e =
 
 -- ---- structs
 
-distinct_push : (fields : List Field) (one : Field) → number_of (names_of_fields fields) one.name ≡ None → AreDistinct fields → AreDistinct (fields ++ one ∷ [])
+distinct_push : (fields : List CheckedField) (one : CheckedField) → number_of (names_of_fields fields) one.name ≡ None → AreDistinct fields → AreDistinct (fields ++ one ∷ [])
 distinct_push fields one new h i f e = by_place (found-in-push fields one i f e)
   where
     pushed : (other : List ℕ) → field_named (fields ++ one ∷ []) other ≡ cond (bytes_eq other one.name) (Some (length fields)) (field_named fields other)
-    pushed other = named-push (λ (f : Field). f.name) fields one one.name other refl new
+    pushed other = named-push (λ (f : CheckedField). f.name) fields one one.name other refl new
 
     none_some : (k : ℕ) → None ≡ Some k → ⊥
     none_some k e = cc
@@ -122,24 +122,24 @@ distinct_push fields one new h i f e = by_place (found-in-push fields one i f e)
     by_place : (slice_get fields i ≡ Some f) ⊎ ((i ≡ length fields) × (one ≡ f)) → field_named (fields ++ one ∷ []) f.name ≡ Some i
     by_place (inl old) = pushed f.name ∙ by_name (bytes_eq f.name one.name) refl old
     by_place (inr it) =
-        let named : one.name ≡ f.name = ap (λ (f : Field). f.name) it.1 in
+        let named : one.name ≡ f.name = ap (λ (f : CheckedField). f.name) it.1 in
         pushed f.name ∙ ap (λ b. cond b (Some (length fields)) (field_named fields f.name)) (ap (λ n. bytes_eq n one.name) (sym named) ∙ same one.name) ∙ ap Some (sym it.0)
 
 -- fields of types of values, each with its own name
-abbrev AreGoodFields : Checked → List Field → Type 0
-AreGoodFields d fields = AllByRecursion (λ (f : Field). IsType d f.of) fields × AreDistinct fields
+abbrev AreGoodFields : Checked → List CheckedField → Type 0
+AreGoodFields d fields = AllByRecursion (λ (f : CheckedField). IsType d f.of) fields × AreDistinct fields
 
-fields_good : (d : Checked) (written : List WrittenField) (start declared : List Field) → AreGoodFields d start → one_by_one (add_field d) written start ≡ Gives declared → AreGoodFields d declared
+fields_good : (d : Checked) (written : List WrittenField) (start declared : List CheckedField) → AreGoodFields d start → one_by_one (add_field d) written start ≡ Gives declared → AreGoodFields d declared
 fields_good d [] start declared h e = subst (AreGoodFields d) (gives-same start declared e) h
 fields_good d (f ∷ written) start declared h e =
     let next = bind-gives (add_field d f start) (one_by_one (add_field d) written) declared e in
     let name = bind-gives (other_name (names_of_fields start) f.name) _ next.0 next.1 in
     let of = bind-gives (type_of d f.of) (field_typed start name.0) next.0 name.2 in
     let new = other-new (names_of_fields start) f.name name.0 name.1 in
-    let one : Field = record { name = name.0; of = of.0 } in
+    let one : CheckedField = record { name = name.0; of = of.0 } in
     fields_good d written next.0 declared
     (subst (AreGoodFields d) (gives-same (start ++ one ∷ []) next.0 of.2) (
-      each-push (λ (f : Field). IsType d f.of) start one h.0 (type-valid d f.of of.0 of.1),
+      each-push (λ (f : CheckedField). IsType d f.of) start one h.0 (type-valid d f.of of.0 of.1),
       distinct_push start one (ap (number_of (names_of_fields start)) (sym new.0) ∙ new.1) h.1,
     ))
     next.2
@@ -155,14 +155,14 @@ is-among d t h = by_base t.base (some-base d t h)
 
 -- a struct
 pub struct-good : (d : Checked) (n : Name) (written : List WrittenField) (x : Struct) → struct_with d n written ≡ Gives x →
-    All (λ (f : Field). IsType d f.of) x.fields × AreDistinct x.fields × (x.width ≡ min (sum_by (λ (f : Field). width_of d f.of) x.fields) 129)
+    All (λ (f : CheckedField). IsType d f.of) x.fields × AreDistinct x.fields × (x.width ≡ min (sum_by (λ (f : CheckedField). width_of d f.of) x.fields) 129)
 struct-good d n written x e =
     let name = bind-gives (new_name d n) (struct_of d written) x e in
     let declared = bind-gives (one_by_one (add_field d) written []) (struct_typed d name.0) x name.2 in
-    let made : Struct = record { name = name.0; fields = declared.0; width = min (sum_by (λ (f : Field). width_of d f.of) declared.0) 129 } in
+    let made : Struct = record { name = name.0; fields = declared.0; width = min (sum_by (λ (f : CheckedField). width_of d f.of) declared.0) 129 } in
     let good = fields_good d written [] declared.0 (tt, λ i f e. absurd cc) declared.1 in
-    subst (λ (x : Struct). All (λ (f : Field). IsType d f.of) x.fields × AreDistinct x.fields × (x.width ≡ min (sum_by (λ (f : Field). width_of d f.of) x.fields) 129)) (gives-same made x declared.2)
-    (All-from_recursion (λ (f : Field). IsType d f.of) declared.0 good.0, good.1, refl)
+    subst (λ (x : Struct). All (λ (f : CheckedField). IsType d f.of) x.fields × AreDistinct x.fields × (x.width ≡ min (sum_by (λ (f : CheckedField). width_of d f.of) x.fields) 129)) (gives-same made x declared.2)
+    (All-from_recursion (λ (f : CheckedField). IsType d f.of) declared.0 good.0, good.1, refl)
 
 -- ---- registers and inputs
 
@@ -188,7 +188,7 @@ input-good d n written x e =
 
 -- ---- tables and host functions
 
-entries_fit : (w : ℕ) (entries : List Literal) → AllByRecursion IsLiteral entries → AllByRecursion (λ l. has_width w l ≡ None) entries → AllByRecursion (λ (b : BitVector). HasWidth b w) (map (λ (l : Literal). l.bits) entries)
+entries_fit : (w : ℕ) (entries : List Literal) → AllByRecursion LiteralFits entries → AllByRecursion (λ l. has_width w l ≡ None) entries → AllByRecursion (λ (b : BitVector). HasWidth b w) (map (λ (l : Literal). l.bits) entries)
 entries_fit w [] is fit = tt
 entries_fit w (l ∷ entries) is fit = ((is.0, has-width w l fit.0), entries_fit w entries is.1 fit.1)
 
@@ -196,7 +196,7 @@ abbrev IsGoodTable : Table → Type 0
 IsGoodTable t = IsTable t.spec × IsWidth t.spec.out_width
 
 -- a table
-pub table-good : (d : Checked) (n : Name) (input output : Width) (entries : List Literal) (x : Table) → All IsLiteral entries → table_with d n input output entries ≡ Gives x → IsGoodTable x
+pub table-good : (d : Checked) (n : Name) (input output : Width) (entries : List Literal) (x : Table) → All LiteralFits entries → table_with d n input output entries ≡ Gives x → IsGoodTable x
 table-good d n input output entries x is e =
     let name = bind-gives (new_name d n) (table_of n input output entries) x e in
     let in_width = input.number.value in
@@ -208,7 +208,7 @@ table-good d n input output entries x is e =
     ∷ holds (nat_eq (length entries) (2 ^ in_width)) (wrong WRONG_ENTRY_COUNT n.place) ∷ []) made x name.2 in
     let both = both-true (nat_le 1 in_width) (nat_le in_width MAX_TABLE_IN_WIDTH) (holds-true few (wrong WRONG_WIDTH input.place) all.1.0) in
     let count = eqb-true (length entries) (2 ^ in_width) (holds-true (nat_eq (length entries) (2 ^ in_width)) (wrong WRONG_ENTRY_COUNT n.place) all.1.1.1.1.0) in
-    let fit = entries_fit out_width entries (recursion_from_All IsLiteral entries is) (each-none (has_width out_width) entries all.1.1.1.0) in
+    let fit = entries_fit out_width entries (recursion_from_All LiteralFits entries is) (each-none (has_width out_width) entries all.1.1.1.0) in
     subst IsGoodTable all.0 (
       record {
         some_input = leb-true 1 in_width both.0;
@@ -272,13 +272,13 @@ result_good d (Some written) of e =
     subst (λ o. IfSome o (IsType d)) (gives-same (Some t.0) of t.2) (type-valid d written t.0 t.1)
 
 -- a function's body where it is declared
-pub record IsGoodFunction (d : Checked) (f : Function) : Type 0 where
+pub record IsGoodFunction (d : Checked) (f : CheckedFunction) : Type 0 where
   pub parameters : All (IsType d) f.parameters
   pub result : IfSome f.result (IsType d)
   pub body : HasType d (length d.functions) f.body (reverse f.parameters) f.result
 
 -- a function
-pub function-good : (d : Checked) → IsTypedSoFar d → (n : Name) (parameters : List WrittenField) (written : Option TypeExpression) (body : Block) (x : Function) → IsBlock body →
+pub function-good : (d : Checked) → IsTypedSoFar d → (n : Name) (parameters : List WrittenField) (written : Option TypeExpression) (body : Block) (x : CheckedFunction) → IsBlock body →
     function_with d n parameters written body ≡ Gives x → IsGoodFunction d x
 function-good d good n parameters written body x is e =
     let name = bind-gives (new_name d n) (function_of d parameters written body) x e in
@@ -286,7 +286,7 @@ function-good d good n parameters written body x is e =
     let of = bind-gives (result_of d written) (function_body d body name.0 locals.0) x locals.2 in
     let scope : Scope = record { design = d; locals = locals.0 } in
     let typed = bind-gives (block_in body scope) (function_typed name.0 locals.0 of.0) x of.2 in
-    let made : Function = record { name = name.0; parameters = types_in_order locals.0; result = of.0; body = typed.0.typed } in
+    let made : CheckedFunction = record { name = name.0; parameters = types_in_order locals.0; result = of.0; body = typed.0.typed } in
     let all = where-all (agrees of.0 typed.0.part ∷ []) made x typed.2 in
     let types = parameters_good d parameters [] locals.0 tt locals.1 in
     let has = block-in-typed body is scope (record { design = good; locals = All-from_recursion (IsType d) (types_of locals.0) types }) typed.0 typed.1 in
@@ -299,12 +299,12 @@ function-good d good n parameters written body x is e =
     })
 
 -- a rule
-pub rule-good : (d : Checked) → IsTypedSoFar d → (n : Name) (body : Block) (x : Rule) → IsBlock body → rule_with d n body ≡ Gives x → HasType d (length d.functions) x.body [] None
+pub rule-good : (d : Checked) → IsTypedSoFar d → (n : Name) (body : Block) (x : CheckedRule) → IsBlock body → rule_with d n body ≡ Gives x → HasType d (length d.functions) x.body [] None
 rule-good d good n body x is e =
     let name = bind-gives (new_name d n) (rule_of d body) x e in
     let scope : Scope = record { design = d; locals = [] } in
     let typed = bind-gives (block_in body scope) (rule_typed name.0) x name.2 in
-    let made : Rule = record { name = name.0; body = typed.0.typed } in
+    let made : CheckedRule = record { name = name.0; body = typed.0.typed } in
     let all = where-all (agrees None typed.0.part ∷ []) made x typed.2 in
     let has = block-in-typed body is scope (record { design = good; locals = All-nil (IsType d) }) typed.0 typed.1 in
-    subst (λ (x : Rule). HasType d (length d.functions) x.body [] None) all.0 (subst (HasType d (length d.functions) typed.0.typed []) (agrees-is None typed.0.part all.1.0) has)
+    subst (λ (x : CheckedRule). HasType d (length d.functions) x.body [] None) all.0 (subst (HasType d (length d.functions) typed.0.typed []) (agrees-is None typed.0.part all.1.0) has)

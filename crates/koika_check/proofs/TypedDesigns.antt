@@ -20,12 +20,12 @@ use Rattle.koika_check.specs.Scopes.{rule_named}
 use Rattle.koika_check.specs.Types.{width_of}
 use Rattle.koika_check.specs.Typing.{HasType, IsFunction, IsInput, IsRegister, IsStruct, IsType}
 use Rattle.koika_check.specs.declared.checked.Checked.{Checked}
-use Rattle.koika_check.specs.declared.checked.Field.{Field}
-use Rattle.koika_check.specs.declared.checked.Function.{Function}
+use Rattle.koika_check.specs.declared.checked.CheckedField.{CheckedField}
+use Rattle.koika_check.specs.declared.checked.CheckedFunction.{CheckedFunction}
 use Rattle.koika_check.specs.declared.checked.Host.{Host}
 use Rattle.koika_check.specs.declared.checked.Input.{Input}
 use Rattle.koika_check.specs.declared.checked.Register.{Register}
-use Rattle.koika_check.specs.declared.checked.Rule.{Rule}
+use Rattle.koika_check.specs.declared.checked.CheckedRule.{CheckedRule}
 use Rattle.koika_check.specs.declared.checked.Struct.{Struct}
 use Rattle.koika_check.specs.declared.checked.Table.{Table}
 use Rattle.koika_check.proofs.Answering.{bind-gives, found-some}
@@ -56,10 +56,10 @@ with_table d x = record d { tables = d.tables ++ x ∷ [] }
 abbrev pub with_host : Checked → Host → Checked
 with_host d x = record d { hosts = d.hosts ++ x ∷ [] }
 
-abbrev pub with_function : Checked → Function → Checked
+abbrev pub with_function : Checked → CheckedFunction → Checked
 with_function d x = record d { functions = d.functions ++ x ∷ [] }
 
-abbrev pub with_rule : Checked → Rule → Checked
+abbrev pub with_rule : Checked → CheckedRule → Checked
 with_rule d x = record d { rules = d.rules ++ x ∷ [] }
 
 abbrev pub with_assert : Checked → ℕ → Checked
@@ -131,7 +131,7 @@ extends-host d x = record {
   functions = stays-same d.functions;
 }
 
-extends-function : (d : Checked) (x : Function) → Extends d (with_function d x)
+extends-function : (d : Checked) (x : CheckedFunction) → Extends d (with_function d x)
 extends-function d x = record {
   enums = stays-same d.enums;
   structs = stays-same d.structs;
@@ -143,7 +143,7 @@ extends-function d x = record {
 }
 
 -- nothing that types rest on was declared
-extends-others : (d : Checked) (rules : List Rule) (asserts : List ℕ) → Extends d (record d { rules = rules; asserts = asserts })
+extends-others : (d : Checked) (rules : List CheckedRule) (asserts : List ℕ) → Extends d (record d { rules = rules; asserts = asserts })
 extends-others d rules asserts = record {
   enums = stays-same d.enums;
   structs = stays-same d.structs;
@@ -159,8 +159,8 @@ record IsCarried (d e : Checked) : Type 0 where
   structs : (number : ℕ) (s : Struct) → slice_get d.structs number ≡ Some s → IsStruct e number s × AreDistinct s.fields
   registers : All (IsRegister e) d.registers
   inputs : All (IsInput e) d.inputs
-  functions : (number : ℕ) (f : Function) → slice_get d.functions number ≡ Some f → IsFunction e number f
-  rules : All (λ (r : Rule). HasType e (length e.functions) r.body [] None) d.rules
+  functions : (number : ℕ) (f : CheckedFunction) → slice_get d.functions number ≡ Some f → IsFunction e number f
+  rules : All (λ (r : CheckedRule). HasType e (length e.functions) r.body [] None) d.rules
 
 carried : (d e : Checked) → Extends d e → IsTypedSoFar d → length d.functions ≤ length e.functions → IsCarried d e
 carried d e g h le = record {
@@ -168,15 +168,15 @@ carried d e g h le = record {
   registers = All-weaker (IsRegister d) (IsRegister e) (register-stays d e g h) d.registers h.registers;
   inputs = All-weaker (IsInput d) (IsInput e) (input-stays d e g h) d.inputs h.inputs;
   functions = λ number f at. function-stays d e g h number f (h.functions number f at);
-  rules = All-weaker (λ (r : Rule). HasType d (length d.functions) r.body [] None) (λ (r : Rule). HasType e (length e.functions) r.body [] None)
+  rules = All-weaker (λ (r : CheckedRule). HasType d (length d.functions) r.body [] None) (λ (r : CheckedRule). HasType e (length e.functions) r.body [] None)
       (rule-stays d e g h (length d.functions) (length e.functions) le) d.rules h.rules;
 }
 
 -- a design with these lists, of which each is carried or has one more
 with_one : (d e : Checked) → IsTypedSoFar d → IsCarried d e → All IsEnumSoFar e.enums →
     ((number : ℕ) (s : Struct) → slice_get e.structs number ≡ Some s → IsStruct e number s × AreDistinct s.fields) → All (IsRegister e) e.registers → All (IsInput e) e.inputs →
-    All (λ (t : Table). IsTable t.spec × IsWidth t.spec.out_width) e.tables → All (λ (h : Host). IsHost h.spec) e.hosts → ((number : ℕ) (f : Function) → slice_get e.functions number ≡ Some f → IsFunction e number f) →
-    All (λ (r : Rule). HasType e (length e.functions) r.body [] None) e.rules → All (λ rule. rule < length e.rules) e.asserts → IsTypedSoFar e
+    All (λ (t : Table). IsTable t.spec × IsWidth t.spec.out_width) e.tables → All (λ (h : Host). IsHost h.spec) e.hosts → ((number : ℕ) (f : CheckedFunction) → slice_get e.functions number ≡ Some f → IsFunction e number f) →
+    All (λ (r : CheckedRule). HasType e (length e.functions) r.body [] None) e.rules → All (λ rule. rule < length e.rules) e.asserts → IsTypedSoFar e
 with_one d e h c enums structs registers inputs tables hosts functions rules asserts = record {
   enums = enums;
   structs = structs;
@@ -226,20 +226,20 @@ module _ (d : Checked) (h : IsTypedSoFar d) where
       let c = carried d e (extends-host d x) h (omega arith) in
       with_one d e h c h.enums c.structs c.registers c.inputs h.tables (All-push (λ (k : Host). IsHost k.spec) d.hosts x h.hosts is) c.functions c.rules h.asserts
 
-  pub function-more : (x : Function) → IsFunction d (length d.functions) x → IsTypedSoFar (with_function d x)
+  pub function-more : (x : CheckedFunction) → IsFunction d (length d.functions) x → IsTypedSoFar (with_function d x)
   function-more x is =
       let e = with_function d x in
       let g = extends-function d x in
       let c = carried d e g h (omega (arith, length-append d.functions (x ∷ []))) in
       with_one d e h c h.enums c.structs c.registers c.inputs h.tables h.hosts (each-at-push (IsFunction e) d.functions x c.functions (function-stays d e g h (length d.functions) x is)) c.rules h.asserts
 
-  pub rule-more : (x : Rule) → HasType d (length d.functions) x.body [] None → IsTypedSoFar (with_rule d x)
+  pub rule-more : (x : CheckedRule) → HasType d (length d.functions) x.body [] None → IsTypedSoFar (with_rule d x)
   rule-more x is =
       let e = with_rule d x in
       let g = extends-others d (d.rules ++ x ∷ []) d.asserts in
       let c = carried d e g h (omega arith) in
       with_one d e h c h.enums c.structs c.registers c.inputs h.tables h.hosts c.functions
-      (All-push (λ (r : Rule). HasType e (length e.functions) r.body [] None) d.rules x c.rules (rule-stays d e g h (length d.functions) (length e.functions) (omega arith) x is))
+      (All-push (λ (r : CheckedRule). HasType e (length e.functions) r.body [] None) d.rules x c.rules (rule-stays d e g h (length d.functions) (length e.functions) (omega arith) x is))
       (All-weaker (λ rule. rule < length d.rules) (λ rule. rule < length e.rules) (λ rule lt. omega (arith, lt, length-append d.rules (x ∷ []))) d.asserts h.asserts)
 
   pub assert-more : (x : ℕ) → x < length d.rules → IsTypedSoFar (with_assert d x)
@@ -267,7 +267,7 @@ noted d nodes weight h =
 -- ---- declarations
 
 -- a struct of good fields, in a design that has it
-struct_is : (d : Checked) → IsTypedSoFar d → (x : Struct) → All (λ (f : Field). IsType d f.of) x.fields × AreDistinct x.fields × (x.width ≡ min (sum_by (λ (f : Field). width_of d f.of) x.fields) 129) →
+struct_is : (d : Checked) → IsTypedSoFar d → (x : Struct) → All (λ (f : CheckedField). IsType d f.of) x.fields × AreDistinct x.fields × (x.width ≡ min (sum_by (λ (f : CheckedField). width_of d f.of) x.fields) 129) →
     IsStruct (with_struct d x) (length d.structs) x × AreDistinct x.fields
 struct_is d h x good =
     let g = extends-struct d x in (
@@ -283,9 +283,9 @@ asserted : (d : Checked) (n : Name) (rule : ℕ) → assert_with d n ≡ Gives r
 asserted d n rule e =
     let number = bind-gives (found (rule_named d n.text) (wrong UNKNOWN_NAME n.place)) (assert_of d n) rule e in
     let all = where-all (holds (not (list_any (nat_eq number.0) d.asserts)) (wrong REPEATED_NAME n.place) ∷ []) number.0 rule number.2 in
-    let names = map (λ (r : Rule). r.name) d.rules in
+    let names = map (λ (r : CheckedRule). r.name) d.rules in
     let within = (number_of-within names n.text number.0 (found-some (rule_named d n.text) (wrong UNKNOWN_NAME n.place) number.0 number.1)).0 in
-    subst (λ k. k < length d.rules) all.0 (omega (arith, within, length-map d.rules (λ (r : Rule). r.name)))
+    subst (λ k. k < length d.rules) all.0 (omega (arith, within, length-map d.rules (λ (r : CheckedRule). r.name)))
 
 -- a design, and its host functions among those that are handed in
 abbrev pub IsSoFar : List HostSpec → Checked → Type 0
@@ -340,7 +340,7 @@ module _ (hosts : List HostSpec) (takes : All (λ (h : HostSpec). TakesWidth h.k
       tables = All-nil (λ (t : Table). IsTable t.spec × IsWidth t.spec.out_width);
       hosts = All-nil (λ (h : Host). IsHost h.spec);
       functions = λ number f e. absurd cc;
-      rules = All-nil (λ (r : Rule). HasType nothing 0 r.body [] None);
+      rules = All-nil (λ (r : CheckedRule). HasType nothing 0 r.body [] None);
       asserts = All-nil (λ rule. rule < 0);
     },
     All-nil (λ (h : Host). Contains hosts h.spec),

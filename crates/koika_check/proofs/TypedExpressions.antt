@@ -13,14 +13,14 @@ use Rattle.koika_syntax.specs.declared.tree.Operand.{Operand, Operand-F, map-Ope
 use Rattle.koika_syntax.specs.declared.tree.Expression.TheOpen as expression
 use Rattle.kw_base.specs.declared.fault_number.TheConstants.{UNKNOWN_NAME}
 use Rattle.koika_check.specs.Constructs.{ArmTyping, FieldTyping, Typing, call, comparison, conditional, extended, array_in, packed, postfix, struct_in, typing, unary, unpacked, updated, written}
-use Rattle.koika_check.specs.Expressions.{Armed, Fielded, Joining, Meaning, Stepped, Stepping, all_in, arm_step, block_in, block_step, chain_in, expression_step, field_value_step, operand_step, otherwise_in, statement_step}
+use Rattle.koika_check.specs.Expressions.{Armed, Fielded, Joining, ExpressionTyping, StatementTyping, Stepping, all_in, arm_step, block_in, block_step, chain_in, expression_step, field_value_step, operand_step, otherwise_in, statement_step}
 use Rattle.koika_check.specs.inner.Expressions.{arm_in, expression_in, field_value_in, operand_in, statement_in}
-use Rattle.koika_check.specs.Outcomes.{Gives, Outcome, ◌>>=◌, found, wrong}
+use Rattle.koika_check.specs.Outcomes.{Gives, CheckResult, ◌>>=◌, found, wrong}
 use Rattle.koika_check.specs.Scopes.{Local, Scope, called, register}
 use Rattle.koika_check.specs.Types.{struct_named, type_of, wrong_type}
 use Rattle.koika_check.specs.Typing.{Binds, HasType, Runs}
-use Rattle.koika_check.specs.declared.typed.Step.TheOpen as opened
-use Rattle.koika_check.specs.declared.typed.Step.TheVariants as step
+use Rattle.koika_check.specs.declared.typed.TypedStep.TheOpen as opened
+use Rattle.koika_check.specs.declared.typed.TypedStep.TheVariants as step
 use Rattle.koika_check.proofs.Answering.{bind-gives, found-some}
 use Rattle.koika_check.proofs.TreeParts.{EachOfArm, EachOfBlock, EachOfExpression, EachOfFieldValue, EachOfOperand, EachOfStatement, Such, each_of_arm, each_of_block, each_of_expression, each_of_field_value, each_of_operand, each_of_statement}
 use Rattle.koika_check.proofs.TypedBlocks.{Sound, SoundStep, IsStepped, block-typed, chain-typed, scope_at}
@@ -85,23 +85,23 @@ sounds Is P meaning [] is fine = tt
 sounds Is P meaning (x ∷ xs) is fine = (fine.0 is.0, sounds Is P meaning xs is.1 fine.1)
 
 -- what all parts give in a scope
-gives_all : {Y : Type 0} (P : Scope → Y → Type 0) (ms : List (Scope → Outcome Y)) (scope : Scope) (ys : List Y) → IsGood scope →
-    AllByRecursion (λ (m : Scope → Outcome Y). (s : Scope) → IsGood s → (y : Y) → m s ≡ Gives y → P s y) ms → all_in scope ms ≡ Gives ys → AllByRecursion (P scope) ys
+gives_all : {Y : Type 0} (P : Scope → Y → Type 0) (ms : List (Scope → CheckResult Y)) (scope : Scope) (ys : List Y) → IsGood scope →
+    AllByRecursion (λ (m : Scope → CheckResult Y). (s : Scope) → IsGood s → (y : Y) → m s ≡ Gives y → P s y) ms → all_in scope ms ≡ Gives ys → AllByRecursion (P scope) ys
 gives_all {Y} P ms scope ys good sound e = turn-all (P scope) (λ look. look scope) ms ys (at_scope ms sound) e
   where
-    at_scope : (ms : List (Scope → Outcome Y)) → AllByRecursion (λ (m : Scope → Outcome Y). (s : Scope) → IsGood s → (y : Y) → m s ≡ Gives y → P s y) ms →
-        AllByRecursion (λ (m : Scope → Outcome Y). (y : Y) → m scope ≡ Gives y → P scope y) ms
+    at_scope : (ms : List (Scope → CheckResult Y)) → AllByRecursion (λ (m : Scope → CheckResult Y). (s : Scope) → IsGood s → (y : Y) → m s ≡ Gives y → P s y) ms →
+        AllByRecursion (λ (m : Scope → CheckResult Y). (y : Y) → m scope ≡ Gives y → P scope y) ms
     at_scope [] h = tt
     at_scope (m ∷ ms) h = (h.0 scope good, at_scope ms h.1)
 
 -- the body behind the last `else`
-otherwise_typed : (scope : Scope) → IsGood scope → (last : Option Meaning) (xs : List Typing) → IfSome last Sound → otherwise_in scope last ≡ Gives xs → AllByRecursion (IsTyped scope) xs × (length xs ≤ 1)
+otherwise_typed : (scope : Scope) → IsGood scope → (last : Option ExpressionTyping) (xs : List Typing) → IfSome last Sound → otherwise_in scope last ≡ Gives xs → AllByRecursion (IsTyped scope) xs × (length xs ≤ 1)
 otherwise_typed scope good None xs sound e = subst (λ xs. AllByRecursion (IsTyped scope) xs × (length xs ≤ 1)) (gives-same [] xs e) (tt, omega arith)
 otherwise_typed scope good (Some last) xs sound e =
     let body = bind-gives (last scope) _ xs e in
     subst (λ xs. AllByRecursion (IsTyped scope) xs × (length xs ≤ 1)) (gives-same (body.0 ∷ []) xs body.2) ((sound scope good body.0 body.1, tt), omega arith)
 
-if_typed : (arms : List Armed) (last : Option Meaning) (scope : Scope) (x : Typing) → IsGood scope → AllByRecursion SoundArm arms → IfSome last Sound →
+if_typed : (arms : List Armed) (last : Option ExpressionTyping) (scope : Scope) (x : Typing) → IsGood scope → AllByRecursion SoundArm arms → IfSome last Sound →
     (all_in scope arms >>= λ typed_arms. otherwise_in scope last >>= conditional typed_arms) ≡ Gives x → IsTyped scope x
 if_typed arms last scope x good sound last_sound e =
     let all = bind-gives (all_in scope arms) (λ typed_arms. otherwise_in scope last >>= conditional typed_arms) x e in
@@ -111,8 +111,8 @@ if_typed arms last scope x good sound last_sound e =
 
 -- ---- the layers of expressions
 
-abbrev expression_layer : Expression-F Expression Statement Arm Block FieldValue Operand → Meaning
-expression_layer d = expression_step (map-Expression Expression Statement Arm Block FieldValue Operand Meaning Stepped Armed Meaning Fielded Joining expression_in statement_in arm_in block_in field_value_in operand_in d)
+abbrev expression_layer : Expression-F Expression Statement Arm Block FieldValue Operand → ExpressionTyping
+expression_layer d = expression_step (map-Expression Expression Statement Arm Block FieldValue Operand ExpressionTyping StatementTyping Armed ExpressionTyping Fielded Joining expression_in statement_in arm_in block_in field_value_in operand_in d)
 
 expression_sound : (d : Expression-F Expression Statement Arm Block FieldValue Operand) → IsExpressionLayer d → ExpressionIs d → ExpressionFine d → Sound (expression_layer d)
 expression_sound (expression.If arms None) here is fine scope good x e =
@@ -172,8 +172,8 @@ expression_sound (expression.Update place whole part value) here is fine scope g
     let new = bind-gives (expression_in value.value scope) (updated scope.design place part old.0) x old.2 in
     updated-typed scope place part old.0 new.0 x (fine.0 is.0 scope good old.0 old.1) (fine.1 is.1 scope good new.0 new.1) new.2
 
-abbrev statement_layer : Statement-F Expression Statement Arm Block FieldValue Operand → Stepped
-statement_layer d = statement_step (map-Statement Expression Statement Arm Block FieldValue Operand Meaning Stepped Armed Meaning Fielded Joining expression_in statement_in arm_in block_in field_value_in operand_in d)
+abbrev statement_layer : Statement-F Expression Statement Arm Block FieldValue Operand → StatementTyping
+statement_layer d = statement_step (map-Statement Expression Statement Arm Block FieldValue Operand ExpressionTyping StatementTyping Armed ExpressionTyping Fielded Joining expression_in statement_in arm_in block_in field_value_in operand_in d)
 
 statement_sound : (d : Statement-F Expression Statement Arm Block FieldValue Operand) → EachOfStatement IsExpression IsStatement IsArm IsBlock IsFieldValue IsOperand d →
     EachOfStatement FineExpression FineStatement FineArm FineBlock FineFieldValue FineOperand d → SoundStep (statement_layer d)
@@ -200,7 +200,7 @@ statement_sound (expression.Do value) is fine d locals good one e =
     (inr (close-step d (length d.functions) (step.Do inner.0.typed) (opened.Do inner.0.typed) (step.rolls-Do inner.0.typed) (types_in scope) Runs (inner.0.part.of, fine is scope good inner.0 inner.1), refl))
 
 abbrev arm_layer : Arm-F Expression Statement Arm Block FieldValue Operand → Armed
-arm_layer d = arm_step (map-Arm Expression Statement Arm Block FieldValue Operand Meaning Stepped Armed Meaning Fielded Joining expression_in statement_in arm_in block_in field_value_in operand_in d)
+arm_layer d = arm_step (map-Arm Expression Statement Arm Block FieldValue Operand ExpressionTyping StatementTyping Armed ExpressionTyping Fielded Joining expression_in statement_in arm_in block_in field_value_in operand_in d)
 
 arm_sound : (d : Arm-F Expression Statement Arm Block FieldValue Operand) → EachOfArm IsExpression IsStatement IsArm IsBlock IsFieldValue IsOperand d →
     EachOfArm FineExpression FineStatement FineArm FineBlock FineFieldValue FineOperand d → SoundArm (arm_layer d)
@@ -210,8 +210,8 @@ arm_sound d is fine scope good x e =
     let made : ArmTyping = record { place = d.place; condition = condition.0; body = body.0 } in
     subst (IsArmed scope) (gives-same made x body.2) (fine.0 is.0 scope good condition.0 condition.1, fine.1 is.1 scope good body.0 body.1)
 
-abbrev block_layer : Block-F Expression Statement Arm Block FieldValue Operand → Meaning
-block_layer d = block_step (map-Block Expression Statement Arm Block FieldValue Operand Meaning Stepped Armed Meaning Fielded Joining expression_in statement_in arm_in block_in field_value_in operand_in d)
+abbrev block_layer : Block-F Expression Statement Arm Block FieldValue Operand → ExpressionTyping
+block_layer d = block_step (map-Block Expression Statement Arm Block FieldValue Operand ExpressionTyping StatementTyping Armed ExpressionTyping Fielded Joining expression_in statement_in arm_in block_in field_value_in operand_in d)
 
 block_sound : (d : Block-F Expression Statement Arm Block FieldValue Operand) → EachOfBlock IsExpression IsStatement IsArm IsBlock IsFieldValue IsOperand d →
     EachOfBlock FineExpression FineStatement FineArm FineBlock FineFieldValue FineOperand d → Sound (block_layer d)
@@ -226,7 +226,7 @@ block_sound d is fine = of_parts d.place d.statements d.value is fine
         block-typed place (map statement_in statements.items) (Some (expression_in b.value)) (sounds IsStatement SoundStep statement_in statements.items is.0 fine.0) (fine.1 is.1)
 
 abbrev field_value_layer : FieldValue-F Expression Statement Arm Block FieldValue Operand → Fielded
-field_value_layer d = field_value_step (map-FieldValue Expression Statement Arm Block FieldValue Operand Meaning Stepped Armed Meaning Fielded Joining expression_in statement_in arm_in block_in field_value_in operand_in d)
+field_value_layer d = field_value_step (map-FieldValue Expression Statement Arm Block FieldValue Operand ExpressionTyping StatementTyping Armed ExpressionTyping Fielded Joining expression_in statement_in arm_in block_in field_value_in operand_in d)
 
 field_value_sound : (d : FieldValue-F Expression Statement Arm Block FieldValue Operand) → EachOfFieldValue IsExpression IsStatement IsArm IsBlock IsFieldValue IsOperand d →
     EachOfFieldValue FineExpression FineStatement FineArm FineBlock FineFieldValue FineOperand d → SoundField (field_value_layer d)
@@ -245,7 +245,7 @@ expression_of_layer d y same is =
     let here = subst IsExpressionLayer (out-roll-Expression d) (every_here-Expression IsExpressionLayer IsStatementLayer IsArmLayer IsBlockLayer IsFieldValueLayer IsOperandLayer (roll-Expression d) is) in
     let parts_are = subst (EachOfExpression IsExpression IsStatement IsArm IsBlock IsFieldValue IsOperand) (held.1 ∙ out-roll-Expression d) (each_of_expression IsExpression IsStatement IsArm IsBlock IsFieldValue IsOperand held.0) in
     let parts_fine = subst (EachOfExpression FineExpression FineStatement FineArm FineBlock FineFieldValue FineOperand) same (each_of_expression FineExpression FineStatement FineArm FineBlock FineFieldValue FineOperand y) in
-    subst Sound (sym (fold-roll-Expression Meaning Stepped Armed Meaning Fielded Joining expression_step statement_step arm_step block_step field_value_step operand_step d)) (expression_sound d here parts_are parts_fine)
+    subst Sound (sym (fold-roll-Expression ExpressionTyping StatementTyping Armed ExpressionTyping Fielded Joining expression_step statement_step arm_step block_step field_value_step operand_step d)) (expression_sound d here parts_are parts_fine)
 
 statement_of_layer : (d : Statement-F Expression Statement Arm Block FieldValue Operand) (y : Statement-F (Such FineExpression) (Such FineStatement) (Such FineArm) (Such FineBlock) (Such FineFieldValue) (Such FineOperand)) →
     map-Statement (Such FineExpression) (Such FineStatement) (Such FineArm) (Such FineBlock) (Such FineFieldValue) (Such FineOperand) Expression Statement Arm Block FieldValue Operand (λ e. e.0) (λ e. e.0) (λ e. e.0) (λ e. e.0) (λ e. e.0) (λ e. e.0) y ≡ d → FineStatement (roll-Statement d)
@@ -254,7 +254,7 @@ statement_of_layer d y same is =
     let held = every_held-Statement IsExpressionLayer IsStatementLayer IsArmLayer IsBlockLayer IsFieldValueLayer IsOperandLayer (roll-Statement d) is in
     let parts_are = subst (EachOfStatement IsExpression IsStatement IsArm IsBlock IsFieldValue IsOperand) (held.1 ∙ out-roll-Statement d) (each_of_statement IsExpression IsStatement IsArm IsBlock IsFieldValue IsOperand held.0) in
     let parts_fine = subst (EachOfStatement FineExpression FineStatement FineArm FineBlock FineFieldValue FineOperand) same (each_of_statement FineExpression FineStatement FineArm FineBlock FineFieldValue FineOperand y) in
-    subst SoundStep (sym (fold-roll-Statement Meaning Stepped Armed Meaning Fielded Joining expression_step statement_step arm_step block_step field_value_step operand_step d)) (statement_sound d parts_are parts_fine)
+    subst SoundStep (sym (fold-roll-Statement ExpressionTyping StatementTyping Armed ExpressionTyping Fielded Joining expression_step statement_step arm_step block_step field_value_step operand_step d)) (statement_sound d parts_are parts_fine)
 
 arm_of_layer : (d : Arm-F Expression Statement Arm Block FieldValue Operand) (y : Arm-F (Such FineExpression) (Such FineStatement) (Such FineArm) (Such FineBlock) (Such FineFieldValue) (Such FineOperand)) →
     map-Arm (Such FineExpression) (Such FineStatement) (Such FineArm) (Such FineBlock) (Such FineFieldValue) (Such FineOperand) Expression Statement Arm Block FieldValue Operand (λ e. e.0) (λ e. e.0) (λ e. e.0) (λ e. e.0) (λ e. e.0) (λ e. e.0) y ≡ d → FineArm (roll-Arm d)
@@ -263,7 +263,7 @@ arm_of_layer d y same is =
     let held = every_held-Arm IsExpressionLayer IsStatementLayer IsArmLayer IsBlockLayer IsFieldValueLayer IsOperandLayer (roll-Arm d) is in
     let parts_are = subst (EachOfArm IsExpression IsStatement IsArm IsBlock IsFieldValue IsOperand) (held.1 ∙ out-roll-Arm d) (each_of_arm IsExpression IsStatement IsArm IsBlock IsFieldValue IsOperand held.0) in
     let parts_fine = subst (EachOfArm FineExpression FineStatement FineArm FineBlock FineFieldValue FineOperand) same (each_of_arm FineExpression FineStatement FineArm FineBlock FineFieldValue FineOperand y) in
-    subst SoundArm (sym (fold-roll-Arm Meaning Stepped Armed Meaning Fielded Joining expression_step statement_step arm_step block_step field_value_step operand_step d)) (arm_sound d parts_are parts_fine)
+    subst SoundArm (sym (fold-roll-Arm ExpressionTyping StatementTyping Armed ExpressionTyping Fielded Joining expression_step statement_step arm_step block_step field_value_step operand_step d)) (arm_sound d parts_are parts_fine)
 
 block_of_layer : (d : Block-F Expression Statement Arm Block FieldValue Operand) (y : Block-F (Such FineExpression) (Such FineStatement) (Such FineArm) (Such FineBlock) (Such FineFieldValue) (Such FineOperand)) →
     map-Block (Such FineExpression) (Such FineStatement) (Such FineArm) (Such FineBlock) (Such FineFieldValue) (Such FineOperand) Expression Statement Arm Block FieldValue Operand (λ e. e.0) (λ e. e.0) (λ e. e.0) (λ e. e.0) (λ e. e.0) (λ e. e.0) y ≡ d → FineBlock (roll-Block d)
@@ -272,7 +272,7 @@ block_of_layer d y same is =
     let held = every_held-Block IsExpressionLayer IsStatementLayer IsArmLayer IsBlockLayer IsFieldValueLayer IsOperandLayer (roll-Block d) is in
     let parts_are = subst (EachOfBlock IsExpression IsStatement IsArm IsBlock IsFieldValue IsOperand) (held.1 ∙ out-roll-Block d) (each_of_block IsExpression IsStatement IsArm IsBlock IsFieldValue IsOperand held.0) in
     let parts_fine = subst (EachOfBlock FineExpression FineStatement FineArm FineBlock FineFieldValue FineOperand) same (each_of_block FineExpression FineStatement FineArm FineBlock FineFieldValue FineOperand y) in
-    subst Sound (sym (fold-roll-Block Meaning Stepped Armed Meaning Fielded Joining expression_step statement_step arm_step block_step field_value_step operand_step d)) (block_sound d parts_are parts_fine)
+    subst Sound (sym (fold-roll-Block ExpressionTyping StatementTyping Armed ExpressionTyping Fielded Joining expression_step statement_step arm_step block_step field_value_step operand_step d)) (block_sound d parts_are parts_fine)
 
 field_value_of_layer : (d : FieldValue-F Expression Statement Arm Block FieldValue Operand) (y : FieldValue-F (Such FineExpression) (Such FineStatement) (Such FineArm) (Such FineBlock) (Such FineFieldValue) (Such FineOperand)) →
     map-FieldValue (Such FineExpression) (Such FineStatement) (Such FineArm) (Such FineBlock) (Such FineFieldValue) (Such FineOperand) Expression Statement Arm Block FieldValue Operand (λ e. e.0) (λ e. e.0) (λ e. e.0) (λ e. e.0) (λ e. e.0) (λ e. e.0) y ≡ d → FineFieldValue (roll-FieldValue d)
@@ -281,7 +281,7 @@ field_value_of_layer d y same is =
     let held = every_held-FieldValue IsExpressionLayer IsStatementLayer IsArmLayer IsBlockLayer IsFieldValueLayer IsOperandLayer (roll-FieldValue d) is in
     let parts_are = subst (EachOfFieldValue IsExpression IsStatement IsArm IsBlock IsFieldValue IsOperand) (held.1 ∙ out-roll-FieldValue d) (each_of_field_value IsExpression IsStatement IsArm IsBlock IsFieldValue IsOperand held.0) in
     let parts_fine = subst (EachOfFieldValue FineExpression FineStatement FineArm FineBlock FineFieldValue FineOperand) same (each_of_field_value FineExpression FineStatement FineArm FineBlock FineFieldValue FineOperand y) in
-    subst SoundField (sym (fold-roll-FieldValue Meaning Stepped Armed Meaning Fielded Joining expression_step statement_step arm_step block_step field_value_step operand_step d)) (field_value_sound d parts_are parts_fine)
+    subst SoundField (sym (fold-roll-FieldValue ExpressionTyping StatementTyping Armed ExpressionTyping Fielded Joining expression_step statement_step arm_step block_step field_value_step operand_step d)) (field_value_sound d parts_are parts_fine)
 
 operand_of_layer : (d : Operand-F Expression Statement Arm Block FieldValue Operand) (y : Operand-F (Such FineExpression) (Such FineStatement) (Such FineArm) (Such FineBlock) (Such FineFieldValue) (Such FineOperand)) →
     map-Operand (Such FineExpression) (Such FineStatement) (Such FineArm) (Such FineBlock) (Such FineFieldValue) (Such FineOperand) Expression Statement Arm Block FieldValue Operand (λ e. e.0) (λ e. e.0) (λ e. e.0) (λ e. e.0) (λ e. e.0) (λ e. e.0) y ≡ d → FineOperand (roll-Operand d)
@@ -290,7 +290,7 @@ operand_of_layer d y same is =
     let held = every_held-Operand IsExpressionLayer IsStatementLayer IsArmLayer IsBlockLayer IsFieldValueLayer IsOperandLayer (roll-Operand d) is in
     let parts_are = subst (EachOfOperand IsExpression IsStatement IsArm IsBlock IsFieldValue IsOperand) (held.1 ∙ out-roll-Operand d) (each_of_operand IsExpression IsStatement IsArm IsBlock IsFieldValue IsOperand held.0) in
     let parts_fine = subst (EachOfOperand FineExpression FineStatement FineArm FineBlock FineFieldValue FineOperand) same (each_of_operand FineExpression FineStatement FineArm FineBlock FineFieldValue FineOperand y) in
-    subst SoundOperand (sym (fold-roll-Operand Meaning Stepped Armed Meaning Fielded Joining expression_step statement_step arm_step block_step field_value_step operand_step d)) (parts_fine parts_are)
+    subst SoundOperand (sym (fold-roll-Operand ExpressionTyping StatementTyping Armed ExpressionTyping Fielded Joining expression_step statement_step arm_step block_step field_value_step operand_step d)) (parts_fine parts_are)
 
 -- an expression, and a block, of the grammar
 pub expression-typed : (t : Expression) → IsExpression t → Sound (expression_in t)

@@ -21,7 +21,7 @@ use Rattle.koika_check.specs.Types.{all_lengths, array, base_width, bits, of_bas
 use Rattle.koika_check.specs.Typing.{Applies, AreArms, Binds, Chains, Doing, Gives, HasType, IsInput, IsOf, IsRegister, IsType, Operates, Pairwise, PartHasType, PartIsOf, Replaces, Runs, StepDoes, StepsHaveType, Takes, TakesAll, lowest_of}
 use Rattle.koika_check.specs.inner.Typing.{StepHasType}
 use Rattle.koika_check.specs.declared.checked.Checked.{Checked}
-use Rattle.koika_check.specs.declared.checked.Field.{Field}
+use Rattle.koika_check.specs.declared.checked.CheckedField.{CheckedField}
 use Rattle.koika_check.specs.declared.checked.Host.{Host}
 use Rattle.koika_check.specs.declared.checked.Struct.{Struct}
 use Rattle.koika_check.specs.declared.checked.Table.{Table}
@@ -31,8 +31,8 @@ use Rattle.koika_check.specs.declared.typed.Operation.{Operation}
 use Rattle.koika_check.specs.declared.typed.Operation.TheVariants as operation
 use Rattle.koika_check.specs.declared.typed.Selection.{Selection}
 use Rattle.koika_check.specs.declared.typed.Selection.TheVariants as selection
-use Rattle.koika_check.specs.declared.typed.Step.{Step, Step-F, map-Step, roll-Step}
-use Rattle.koika_check.specs.declared.typed.Step.TheOpen as opened
+use Rattle.koika_check.specs.declared.typed.TypedStep.{TypedStep, TypedStep-F, map-TypedStep, roll-TypedStep}
+use Rattle.koika_check.specs.declared.typed.TypedStep.TheOpen as opened
 use Rattle.koika_check.specs.declared.typed.Typed.{Typed, Typed-F, ind-Typed, map-Typed, roll-Typed}
 use Rattle.koika_check.specs.declared.typed.ValueType.{ValueType}
 use Rattle.koika_check.proofs.CalledTypes.{answer-width}
@@ -101,13 +101,13 @@ module _ (d e : Checked) (g : Extends d e) where
   pub fields-stay : (number : ℕ) (s : Struct) → slice_get d.structs number ≡ Some s → fields_of e number ≡ fields_of d number
   fields-stay number s h = ap fields_by (g.structs number s h ∙ sym h)
 
-  pub sum-stays : (fields : List Field) → All (λ (f : Field). IsType d f.of) fields → sum_by (λ (f : Field). width_of e f.of) fields ≡ sum_by (λ (f : Field). width_of d f.of) fields
+  pub sum-stays : (fields : List CheckedField) → All (λ (f : CheckedField). IsType d f.of) fields → sum_by (λ (f : CheckedField). width_of e f.of) fields ≡ sum_by (λ (f : CheckedField). width_of d f.of) fields
   sum-stays [] h = refl
   sum-stays (f ∷ fields) h =
-      let P : Field → Type 0 = λ f. IsType d f.of in
-      sum_by-cons (λ (f : Field). width_of e f.of) f fields
+      let P : CheckedField → Type 0 = λ f. IsType d f.of in
+      sum_by-cons (λ (f : CheckedField). width_of e f.of) f fields
       ∙ ap₂ (λ a b. a + b) (width-stays f.of (All-head P f fields h)) (sum-stays fields (All-tail P f fields h))
-      ∙ sym (sum_by-cons (λ (f : Field). width_of d f.of) f fields)
+      ∙ sym (sum_by-cons (λ (f : CheckedField). width_of d f.of) f fields)
 
 -- ---- values
 
@@ -116,9 +116,9 @@ each-replicate P zero x p = tt
 each-replicate P (suc n) x p = (p, each-replicate P n x p)
 
 -- the types of fields
-pub each-field : (d : Checked) (fields : List Field) → All (λ (f : Field). IsType d f.of) fields → AllByRecursion (IsType d) (map (λ (f : Field). f.of) fields)
+pub each-field : (d : Checked) (fields : List CheckedField) → All (λ (f : CheckedField). IsType d f.of) fields → AllByRecursion (IsType d) (map (λ (f : CheckedField). f.of) fields)
 each-field d [] h = tt
-each-field d (f ∷ fields) h = let P : Field → Type 0 = λ f. IsType d f.of in (All-head P f fields h, each-field d fields (All-tail P f fields h))
+each-field d (f ∷ fields) h = let P : CheckedField → Type 0 = λ f. IsType d f.of in (All-head P f fields h, each-field d fields (All-tail P f fields h))
 
 module _ (d e : Checked) (g : Extends d e) (h : IsTypedSoFar d) where
   abbrev ValueStays : Value → Type 0
@@ -149,9 +149,9 @@ module _ (d e : Checked) (g : Extends d e) (h : IsTypedSoFar d) where
   part_stays (Value-F.Fields n vs) each t valid is =
       let s = struct-there d n (subst (IsType d) is.0 valid) in
       let there : fields_of d n ≡ s.0.fields = ap fields_by s.1 in
-      let types : AllByRecursion (IsType d) (map (λ (f : Field). f.of) (fields_of d n)) =
-      subst (λ fields. AllByRecursion (IsType d) (map (λ (f : Field). f.of) fields)) (sym there) (each-field d s.0.fields (field-types d h n s.0 s.1)) in
-      (is.0, subst (λ fields. Pairwise (IsOf e) vs (map (λ (f : Field). f.of) fields)) (sym (fields-stay d e g n s.0 s.1)) (values_stay vs (map (λ (f : Field). f.of) (fields_of d n)) each types is.1))
+      let types : AllByRecursion (IsType d) (map (λ (f : CheckedField). f.of) (fields_of d n)) =
+      subst (λ fields. AllByRecursion (IsType d) (map (λ (f : CheckedField). f.of) fields)) (sym there) (each-field d s.0.fields (field-types d h n s.0 s.1)) in
+      (is.0, subst (λ fields. Pairwise (IsOf e) vs (map (λ (f : CheckedField). f.of) fields)) (sym (fields-stay d e g n s.0 s.1)) (values_stay vs (map (λ (f : CheckedField). f.of) (fields_of d n)) each types is.1))
   part_stays (Value-F.Items vs) each t valid is =
       (is.0, is.1, values_stay vs (replicate (length vs) is.0) each (each-replicate (IsType d) (length vs) is.0 (item-type d (length vs) is.0 (subst (IsType d) is.1 valid))) is.2)
 
@@ -208,10 +208,10 @@ module _ (d e : Checked) (g : Extends d e) (h : IsTypedSoFar d) where
       let s = field-there d t.0 number t.1 t.3 in
       let type : IsType d t.1.of = field-type d h t.0 number t.1 t.3 in
       let same = fields-stay d e g t.0 s.0 s.1 in
-      let behind : All (λ (f : Field). IsType d f.of) (drop (number + 1) (fields_of d t.0)) =
-      subst (λ fields. All (λ (f : Field). IsType d f.of) (drop (number + 1) fields)) (sym (ap fields_by s.1)) (All-drop (λ (f : Field). IsType d f.of) (number + 1) s.0.fields (field-types d h t.0 s.0 s.1)) in
+      let behind : All (λ (f : CheckedField). IsType d f.of) (drop (number + 1) (fields_of d t.0)) =
+      subst (λ fields. All (λ (f : CheckedField). IsType d f.of) (drop (number + 1) fields)) (sym (ap fields_by s.1)) (All-drop (λ (f : CheckedField). IsType d f.of) (number + 1) s.0.fields (field-types d h t.0 s.0 s.1)) in
       let low : lowest_of e t.0 number ≡ lowest_of d t.0 number =
-      ap (λ fields. sum_by (λ (f : Field). width_of e f.of) (drop (number + 1) fields)) same ∙ sum-stays d e g (drop (number + 1) (fields_of d t.0)) behind in
+      ap (λ fields. sum_by (λ (f : CheckedField). width_of e f.of) (drop (number + 1) fields)) same ∙ sum-stays d e g (drop (number + 1) (fields_of d t.0)) behind in
       (subst (IsType d) (sym t.4) type, (t.0, t.1, t.2, ap (λ fields. slice_get fields number) same ∙ t.3, t.4, t.5 ∙ sym low, t.6 ∙ sym (width-stays d e g t.1.of type)))
   take-stays (selection.Item index width) whole of valid t =
       let type = item-type d t.0 of (subst (IsType d) t.1 valid) in
@@ -258,7 +258,7 @@ module _ (d e : Checked) (g : Extends d e) (h : IsTypedSoFar d) where
   applies-stays n m le (operation.Update one) (t ∷ new ∷ u ∷ ts) of valid a = absurd a
   applies-stays n m le (operation.Struct number) types of valid a =
       let s = struct-there d number a.1 in
-      (given of (of_base (base.Struct number)) a.2 a.1, (a.0 ∙ ap (map (λ (f : Field). f.of)) (sym (fields-stay d e g number s.0 s.1)), type-stays d e g (of_base (base.Struct number)) a.1, a.2))
+      (given of (of_base (base.Struct number)) a.2 a.1, (a.0 ∙ ap (map (λ (f : CheckedField). f.of)) (sym (fields-stay d e g number s.0 s.1)), type-stays d e g (of_base (base.Struct number)) a.1, a.2))
   applies-stays n m le operation.Array types of valid a = (given of (array (length types) a.0) a.3 a.2, (a.0, a.1, type-stays d e g (array (length types) a.0) a.2, a.3))
   applies-stays n m le operation.Pack [] of valid a = absurd a
   applies-stays n m le operation.Pack (t ∷ []) of valid a = (given of (bits (width_of d t)) a (bits-type d (width_of d t) valid.0), a ∙ ap (λ w. Some (bits w)) (sym (width-stays d e g t valid.0)))
@@ -307,7 +307,7 @@ module _ (d e : Checked) (g : Extends d e) (h : IsTypedSoFar d) (n m : ℕ) (le 
   ValidDoing Runs = Unit {0}
   ValidDoing (Gives of) = Valid of
 
-  abbrev StepStays : Step → Type 0
+  abbrev StepStays : TypedStep → Type 0
   StepStays x = (locals : List ValueType) (doing : Doing) → All (IsType d) locals → StepHasType d n x locals doing → ValidDoing doing × StepHasType e m x locals doing
 
   operands_stay : (xs : List Typed) (ts : List ValueType) (locals : List ValueType) → AllByRecursion TypedStays xs → All (IsType d) locals → Pairwise (λ x t. HasType d n x locals (Some t)) xs ts →
@@ -327,7 +327,7 @@ module _ (d e : Checked) (g : Extends d e) (h : IsTypedSoFar d) (n m : ℕ) (le 
       let one = stay.0 locals of types are.0 in
       (λ some. one.0, (one.1, (all_stay xs locals of stay.1 types are.1).1))
 
-  steps_stay : (xs : List Step) (locals : List ValueType) (of : Option ValueType) → AllByRecursion StepStays xs → All (IsType d) locals → StepsHaveType (StepHasType d n) xs locals of →
+  steps_stay : (xs : List TypedStep) (locals : List ValueType) (of : Option ValueType) → AllByRecursion StepStays xs → All (IsType d) locals → StepsHaveType (StepHasType d n) xs locals of →
       Valid of × StepsHaveType (StepHasType e m) xs locals of
   steps_stay [] locals of stay types are = (subst Valid (sym are) tt, are)
   steps_stay (x ∷ xs) locals of stay types (inl are) =
@@ -350,7 +350,7 @@ module _ (d e : Checked) (g : Extends d e) (h : IsTypedSoFar d) (n m : ℕ) (le 
   arms_valid conditions bodies of (inl one_more) some = some (omega (arith, one_more))
   arms_valid conditions bodies of (inr unit) some = subst Valid (sym unit.1) tt
 
-  abbrev EachTyped : Typed-F Step Typed → Type 0
+  abbrev EachTyped : Typed-F TypedStep Typed → Type 0
   EachTyped (opened.Constant v) = Unit {0}
   EachTyped (opened.Local index) = Unit {0}
   EachTyped (opened.Input number) = Unit {0}
@@ -358,7 +358,7 @@ module _ (d e : Checked) (g : Extends d e) (h : IsTypedSoFar d) (n m : ℕ) (le 
   EachTyped (opened.If conditions bodies) = AllByRecursion TypedStays conditions × AllByRecursion TypedStays bodies
   EachTyped (opened.Block steps) = AllByRecursion StepStays steps
 
-  each_typed : (y : Typed-F (Such StepStays) (Such TypedStays)) → EachTyped (map-Typed (Such StepStays) (Such TypedStays) Step Typed (λ e. e.0) (λ e. e.0) y)
+  each_typed : (y : Typed-F (Such StepStays) (Such TypedStays)) → EachTyped (map-Typed (Such StepStays) (Such TypedStays) TypedStep Typed (λ e. e.0) (λ e. e.0) y)
   each_typed (opened.Constant v) = tt
   each_typed (opened.Local index) = tt
   each_typed (opened.Input number) = tt
@@ -366,7 +366,7 @@ module _ (d e : Checked) (g : Extends d e) (h : IsTypedSoFar d) (n m : ℕ) (le 
   each_typed (opened.If conditions bodies) = (firsts TypedStays conditions, firsts TypedStays bodies)
   each_typed (opened.Block steps) = firsts StepStays steps
 
-  part_has : (x : Typed-F Step Typed) → EachTyped x → (locals : List ValueType) (of : Option ValueType) → All (IsType d) locals → PartHasType d n (StepHasType d n) (HasType d n) x locals of →
+  part_has : (x : Typed-F TypedStep Typed) → EachTyped x → (locals : List ValueType) (of : Option ValueType) → All (IsType d) locals → PartHasType d n (StepHasType d n) (HasType d n) x locals of →
       Valid of × PartHasType e m (StepHasType e m) (HasType e m) x locals of
   part_has (opened.Constant v) each locals of types has = (subst Valid (sym has.3) has.2, (has.0, value-stays d e g h v has.0 has.2 has.1, type-stays d e g has.0 has.2, has.3))
   part_has (opened.Local index) each locals of types has = (subst Valid (sym has.2) (all-at (IsType d) locals index has.0 types has.1), has)
@@ -382,23 +382,23 @@ module _ (d e : Checked) (g : Extends d e) (h : IsTypedSoFar d) (n m : ℕ) (le 
       (arms_valid (length conditions) (length bodies) of has.2 second.0, (first.1, second.1, has.2))
   part_has (opened.Block steps) each locals of types has = steps_stay steps locals of each types has
 
-  typed_layer : (x : Typed-F Step Typed) (y : Typed-F (Such StepStays) (Such TypedStays)) → map-Typed (Such StepStays) (Such TypedStays) Step Typed (λ e. e.0) (λ e. e.0) y ≡ x → TypedStays (roll-Typed x)
+  typed_layer : (x : Typed-F TypedStep Typed) (y : Typed-F (Such StepStays) (Such TypedStays)) → map-Typed (Such StepStays) (Such TypedStays) TypedStep Typed (λ e. e.0) (λ e. e.0) y ≡ x → TypedStays (roll-Typed x)
   typed_layer x y same locals of types has =
       let opens = open-HasType d n (roll-Typed x) x refl locals of has in
       let it = part_has x (subst EachTyped same (each_typed y)) locals of types opens in
       (it.0, close-HasType e m (roll-Typed x) x refl locals of it.1)
 
-  abbrev EachStep : Step-F Step Typed → Type 0
+  abbrev EachStep : TypedStep-F TypedStep Typed → Type 0
   EachStep (opened.Let v) = TypedStays v
   EachStep (opened.Do v) = TypedStays v
   EachStep (opened.Give v) = TypedStays v
 
-  each_step : (y : Step-F (Such StepStays) (Such TypedStays)) → EachStep (map-Step (Such StepStays) (Such TypedStays) Step Typed (λ e. e.0) (λ e. e.0) y)
+  each_step : (y : TypedStep-F (Such StepStays) (Such TypedStays)) → EachStep (map-TypedStep (Such StepStays) (Such TypedStays) TypedStep Typed (λ e. e.0) (λ e. e.0) y)
   each_step (opened.Let v) = v.1
   each_step (opened.Do v) = v.1
   each_step (opened.Give v) = v.1
 
-  step_does : (x : Step-F Step Typed) → EachStep x → (locals : List ValueType) (doing : Doing) → All (IsType d) locals → StepDoes (HasType d n) x locals doing → ValidDoing doing × StepDoes (HasType e m) x locals doing
+  step_does : (x : TypedStep-F TypedStep Typed) → EachStep x → (locals : List ValueType) (doing : Doing) → All (IsType d) locals → StepDoes (HasType d n) x locals doing → ValidDoing doing × StepDoes (HasType e m) x locals doing
   step_does (opened.Let v) each locals (Binds of) types has = each locals (Some of) types has
   step_does (opened.Let v) each locals Runs types has = absurd has
   step_does (opened.Let v) each locals (Gives of) types has = absurd has
@@ -409,11 +409,11 @@ module _ (d e : Checked) (g : Extends d e) (h : IsTypedSoFar d) (n m : ℕ) (le 
   step_does (opened.Give v) each locals Runs types has = absurd has
   step_does (opened.Give v) each locals (Gives of) types has = each locals of types has
 
-  step_layer : (x : Step-F Step Typed) (y : Step-F (Such StepStays) (Such TypedStays)) → map-Step (Such StepStays) (Such TypedStays) Step Typed (λ e. e.0) (λ e. e.0) y ≡ x → StepStays (roll-Step x)
+  step_layer : (x : TypedStep-F TypedStep Typed) (y : TypedStep-F (Such StepStays) (Such TypedStays)) → map-TypedStep (Such StepStays) (Such TypedStays) TypedStep Typed (λ e. e.0) (λ e. e.0) y ≡ x → StepStays (roll-TypedStep x)
   step_layer x y same locals doing types has =
-      let opens = open-step d n (roll-Step x) x refl locals doing has in
+      let opens = open-step d n (roll-TypedStep x) x refl locals doing has in
       let it = step_does x (subst EachStep same (each_step y)) locals doing types opens in
-      (it.0, close-step e m (roll-Step x) x refl locals doing it.1)
+      (it.0, close-step e m (roll-TypedStep x) x refl locals doing it.1)
 
   -- an expression has the type that it had, and the type is valid
   pub typed-stays : (x : Typed) (locals : List ValueType) (of : Option ValueType) → All (IsType d) locals → HasType d n x locals of → IfSome of (IsType d) × HasType e m x locals of

@@ -18,12 +18,12 @@ use Rattle.koika_types.specs.declared.declarations.EnumDecl.{EnumDecl}
 use Rattle.koika_types.specs.declared.declarations.Member.{Member}
 use Rattle.typed_core.specs.Valid.{IsWidth}
 use Rattle.koika_check.specs.Composites.{Given, MemberOf, agrees_if, array_by, array_of, bits_by_place, field_named, fields_by, fields_of, fits_field, member, member_named, members_by, members_of, names_are, struct_of, type_at, type_of_first}
-use Rattle.koika_check.specs.Outcomes.{Condition, Gives, Outcome, earlier, found, holds, smallest, unless, where_all, wrong}
+use Rattle.koika_check.specs.Outcomes.{Condition, Gives, CheckResult, earlier, found, holds, smallest, unless, where_all, wrong}
 use Rattle.koika_check.specs.Selections.{Items, Selected, as_array, bits_at, field_at, field_if, in_range, index_of, item_at, items_by, replace_field, replace_item, select, select_field, select_slice}
-use Rattle.koika_check.specs.Types.{Part, agrees, array, array_type, as_bits, as_struct, base_width, bits, bits_by, differs_by, each, enum_named, is_bits, is_value, is_width, named_type, of_base, part, same, same_base, same_type, struct_by, type_named, type_of, width_of, wrong_type}
+use Rattle.koika_check.specs.Types.{TypedPart, agrees, array, array_type, as_bits, as_struct, base_width, bits, bits_by, differs_by, each, enum_named, is_bits, is_value, is_width, named_type, of_base, part, same, same_base, same_type, struct_by, type_named, type_of, width_of, wrong_type}
 use Rattle.koika_check.specs.Typing.{IsType, Pairwise, Replaces, Takes, TakesField}
 use Rattle.koika_check.specs.declared.checked.Checked.{Checked}
-use Rattle.koika_check.specs.declared.checked.Field.{Field}
+use Rattle.koika_check.specs.declared.checked.CheckedField.{CheckedField}
 use Rattle.koika_check.specs.declared.checked.Struct.{Struct}
 use Rattle.koika_check.specs.declared.typed.BaseType.{BaseType}
 use Rattle.koika_check.specs.declared.typed.BaseType.TheVariants as base
@@ -35,7 +35,7 @@ use Rattle.koika_check.proofs.TypedSoFar.{IsEnumSoFar, IsTypedSoFar, all-at, bas
 
 -- ---- outcomes and conditions
 
-pub gives-same : {X : Type 0} (a b : X) → ◌≡◌ {A = Outcome X} (Gives a) (Gives b) → a ≡ b
+pub gives-same : {X : Type 0} (a b : X) → ◌≡◌ {A = CheckResult X} (Gives a) (Gives b) → a ≡ b
 gives-same a b e = cc
 
 pub unless-gives : {X : Type 0} (c : Condition) (value v : X) → unless c value ≡ Gives v → (c ≡ None) × (value ≡ v)
@@ -96,7 +96,7 @@ same-of (Some a) None e = absurd cc
 same-of (Some a) (Some b) e = ap Some (same-type a b e)
 
 -- a part that agrees with a type is of it
-pub agrees-is : (wanted : Option ValueType) (p : Part) → agrees wanted p ≡ None → p.of ≡ wanted
+pub agrees-is : (wanted : Option ValueType) (p : TypedPart) → agrees wanted p ≡ None → p.of ≡ wanted
 agrees-is wanted p e = sym (same-of wanted p.of (holds-true (same wanted p.of) (wrong (differs_by (as_bits wanted) (as_bits p.of)) p.place) e))
 
 bits-by : (b : BaseType) (lengths : List ℕ) (w : ℕ) → bits_by b lengths ≡ Some w → type_with b lengths ≡ bits w
@@ -139,14 +139,14 @@ as-array None items e = absurd cc
 as-array (Some t) items e = ap Some (items-by t t.lengths items refl e)
 
 -- a part that is bits has a width
-pub is-bits : (p : Part) → is_bits p ≡ None → (w : ℕ) × (p.of ≡ Some (bits w))
+pub is-bits : (p : TypedPart) → is_bits p ≡ None → (w : ℕ) × (p.of ≡ Some (bits w))
 is-bits p e = by_width (as_bits p.of) refl (holds-true (is_some (as_bits p.of)) (wrong_type p) e)
   where
     by_width : (o : Option ℕ) → as_bits p.of ≡ o → is_some o ≡ true → (w : ℕ) × (p.of ≡ Some (bits w))
     by_width None o e = absurd cc
     by_width (Some w) o e = (w, as-bits p.of w o)
 
-pub is-value : (p : Part) → is_value p ≡ None → (t : ValueType) × (p.of ≡ Some t)
+pub is-value : (p : TypedPart) → is_value p ≡ None → (t : ValueType) × (p.of ≡ Some t)
 is-value p e = by_type p.of refl (holds-true (is_some p.of) (wrong_type p) e)
   where
     by_type : (o : Option ValueType) → p.of ≡ o → is_some o ≡ true → (t : ValueType) × (p.of ≡ Some t)
@@ -205,25 +205,25 @@ member-known d h of m x e =
 
 -- ---- parts of values
 
-field-placed : (fields : List Field) (k : ℕ) (t : ValueType) → type_at fields (Some k) ≡ Some t → (f : Field) × (slice_get fields k ≡ Some f) × (f.of ≡ t)
+field-placed : (fields : List CheckedField) (k : ℕ) (t : ValueType) → type_at fields (Some k) ≡ Some t → (f : CheckedField) × (slice_get fields k ≡ Some f) × (f.of ≡ t)
 field-placed fields k t e = by_field (slice_get fields k) refl
   where
-    by_field : (o : Option Field) → slice_get fields k ≡ o → (f : Field) × (slice_get fields k ≡ Some f) × (f.of ≡ t)
+    by_field : (o : Option CheckedField) → slice_get fields k ≡ o → (f : CheckedField) × (slice_get fields k ≡ Some f) × (f.of ≡ t)
     by_field None o = let none : type_at fields (Some k) ≡ None = rw o refl in absurd cc
     by_field (Some f) o = let some : type_at fields (Some k) ≡ Some f.of = rw o refl in (f, o, same_Some f.of t (sym some ∙ e))
 
-pub type-at : (fields : List Field) (k : ℕ) (f : Field) → slice_get fields k ≡ Some f → type_at fields (Some k) ≡ Some f.of
+pub type-at : (fields : List CheckedField) (k : ℕ) (f : CheckedField) → slice_get fields k ≡ Some f → type_at fields (Some k) ≡ Some f.of
 type-at fields k f e = rw e refl
 
 -- what is taken of a part that has a type, and whether it can be replaced
-abbrev pub TakesOf : Checked → Part → Selected → Type 0
+abbrev pub TakesOf : Checked → TypedPart → Selected → Type 0
 TakesOf d whole one = (t : ValueType) × (whole.of ≡ Some t) × Takes d one.selection t one.of
 
-abbrev pub ReplacesOf : Checked → Part → Selected → Type 0
+abbrev pub ReplacesOf : Checked → TypedPart → Selected → Type 0
 ReplacesOf d whole one = (t : ValueType) × (whole.of ≡ Some t) × Replaces d one.selection t one.of
 
 -- a field, both ways
-field_both : (d : Checked) (whole : Part) (s : ℕ) (o : Option ℕ) (t : Option ValueType) (one : Selected) → whole.of ≡ Some (of_base (base.Struct s)) → type_at (fields_of d s) o ≡ t → field_if d (fields_of d s) o t ≡ Some one →
+field_both : (d : Checked) (whole : TypedPart) (s : ℕ) (o : Option ℕ) (t : Option ValueType) (one : Selected) → whole.of ≡ Some (of_base (base.Struct s)) → type_at (fields_of d s) o ≡ t → field_if d (fields_of d s) o t ≡ Some one →
     TakesOf d whole one × ReplacesOf d whole one
 field_both d whole s None t one is at e = absurd cc
 field_both d whole s (Some k) None one is at e = absurd cc
@@ -234,7 +234,7 @@ field_both d whole s (Some k) (Some t) one is at e =
     subst (λ (x : Selected). TakesOf d whole x × ReplacesOf d whole x) (same_Some it one e) ((of_base (base.Struct s), is, takes), (of_base (base.Struct s), is, takes))
 
 -- a field that is selected can be taken and replaced
-pub field-selected : (d : Checked) (whole : Part) (n : Name) (one : Selected) → select_field d whole n ≡ Gives one → TakesOf d whole one × ReplacesOf d whole one
+pub field-selected : (d : Checked) (whole : TypedPart) (n : Name) (one : Selected) → select_field d whole n ≡ Gives one → TakesOf d whole one × ReplacesOf d whole one
 field-selected d whole n one e =
     let s = bind-gives (found (as_struct whole.of) (wrong_type whole)) _ one e in
     let o = field_named (fields_of d s.0) n.text in
@@ -242,17 +242,17 @@ field-selected d whole n one e =
     (found-some (field_if d (fields_of d s.0) o (type_at (fields_of d s.0) o)) (wrong WRONG_FIELD n.place) one s.2)
 
 -- an item
-item_both : (d : Checked) (whole : Part) (i : Number) (items : Items) → whole.of ≡ Some (array items.length items.of) → in_range i items.length ≡ None →
+item_both : (d : Checked) (whole : TypedPart) (i : Number) (items : Items) → whole.of ≡ Some (array items.length items.of) → in_range i items.length ≡ None →
     TakesOf d whole (item_at d i.value items.of) × ReplacesOf d whole (item_at d i.value items.of)
 item_both d whole i items is e =
     let t = array items.length items.of in
     let lt = ltb-true i.value items.length (holds-true (nat_lt i.value items.length) (wrong WRONG_WIDTH i.place) e) in
     ((t, is, (items.length, refl, lt, refl)), (t, is, (items.length, refl, lt, refl)))
 
-bits_taken : (d : Checked) (whole : Part) (w high low : ℕ) → whole.of ≡ Some (bits w) → low ≤ high → high < w → TakesOf d whole (bits_at high low)
+bits_taken : (d : Checked) (whole : TypedPart) (w high low : ℕ) → whole.of ≡ Some (bits w) → low ≤ high → high < w → TakesOf d whole (bits_at high low)
 bits_taken d whole w high low is le lt = (bits w, is, (w, refl, le, lt, refl))
 
-index_taken : (d : Checked) (whole : Part) (i : Number) (items : Option Items) (w : Option ℕ) (one : Selected) → as_array whole.of ≡ items → as_bits whole.of ≡ w → index_of d whole i items w ≡ Gives one → TakesOf d whole one
+index_taken : (d : Checked) (whole : TypedPart) (i : Number) (items : Option Items) (w : Option ℕ) (one : Selected) → as_array whole.of ≡ items → as_bits whole.of ≡ w → index_of d whole i items w ≡ Gives one → TakesOf d whole one
 index_taken d whole i (Some items) w one ai bi e =
     let all = where-all (in_range i items.length ∷ []) (item_at d i.value items.of) one e in
     subst (TakesOf d whole) all.0 (item_both d whole i items (as-array whole.of items ai) all.1.0).0
@@ -261,7 +261,7 @@ index_taken d whole i None (Some w) one ai bi e =
     subst (TakesOf d whole) all.0 (bits_taken d whole w i.value i.value (as-bits whole.of w bi) (omega arith) (ltb-true i.value w (holds-true (nat_lt i.value w) (wrong WRONG_WIDTH i.place) all.1.0)))
 index_taken d whole i None None one ai bi e = absurd cc
 
-slice_taken : (d : Checked) (whole : Part) (high low : Number) (one : Selected) → select_slice whole high low ≡ Gives one → TakesOf d whole one
+slice_taken : (d : Checked) (whole : TypedPart) (high low : Number) (one : Selected) → select_slice whole high low ≡ Gives one → TakesOf d whole one
 slice_taken d whole high low one e =
     let w = bind-gives (found (as_bits whole.of) (wrong_type whole)) _ one e in
     let all = where-all (holds (nat_le low.value high.value && nat_lt high.value w.0) (wrong WRONG_WIDTH high.place) ∷ []) (bits_at high.value low.value) one w.2 in
@@ -270,19 +270,19 @@ slice_taken d whole high low one e =
     (bits_taken d whole w.0 high.value low.value (as-bits whole.of w.0 (found-some (as_bits whole.of) (wrong_type whole) w.0 w.1)) (leb-true low.value high.value both.0) (ltb-true high.value w.0 both.1))
 
 -- what a suffix selects can be taken
-pub selected : (d : Checked) (whole : Part) (s : Suffix) (one : Selected) → select d whole s ≡ Gives one → TakesOf d whole one
+pub selected : (d : Checked) (whole : TypedPart) (s : Suffix) (one : Selected) → select d whole s ≡ Gives one → TakesOf d whole one
 selected d whole (suffixes.Field n) one e = (field-selected d whole n one e).0
 selected d whole (suffixes.Index i) one e = index_taken d whole i (as_array whole.of) (as_bits whole.of) one refl refl e
 selected d whole (suffixes.Slice high low) one e = slice_taken d whole high low one e
 
 -- a part that is replaced, by one of its type
-pub field-replaced : (d : Checked) (whole : Part) (n : Name) (new : Part) (one : Selected) → replace_field d whole n new ≡ Gives one → ReplacesOf d whole one × (new.of ≡ Some one.of)
+pub field-replaced : (d : Checked) (whole : TypedPart) (n : Name) (new : TypedPart) (one : Selected) → replace_field d whole n new ≡ Gives one → ReplacesOf d whole one × (new.of ≡ Some one.of)
 field-replaced d whole n new one e =
     let f = bind-gives (select_field d whole n) _ one e in
     let all = where-all (agrees (Some f.0.of) new ∷ []) f.0 one f.2 in
     subst (λ (x : Selected). ReplacesOf d whole x × (new.of ≡ Some x.of)) all.0 ((field-selected d whole n f.0 f.1).1, agrees-is (Some f.0.of) new all.1.0)
 
-pub item-replaced : (d : Checked) (whole : Part) (i : Number) (new : Part) (one : Selected) → replace_item d whole i new ≡ Gives one → ReplacesOf d whole one × (new.of ≡ Some one.of)
+pub item-replaced : (d : Checked) (whole : TypedPart) (i : Number) (new : TypedPart) (one : Selected) → replace_item d whole i new ≡ Gives one → ReplacesOf d whole one × (new.of ≡ Some one.of)
 item-replaced d whole i new one e =
     let items = bind-gives (found (as_array whole.of) (wrong_type whole)) _ one e in
     let it : Selected = item_at d i.value items.0.of in
@@ -293,14 +293,14 @@ item-replaced d whole i new one e =
 -- ---- parts of known types
 
 -- the parts are of these types, one by one
-abbrev pub PartsAre : List Part → List ValueType → Type 0
-PartsAre = Pairwise (λ (p : Part) (t : ValueType). p.of ≡ Some t)
+abbrev pub PartsAre : List TypedPart → List ValueType → Type 0
+PartsAre = Pairwise (λ (p : TypedPart) (t : ValueType). p.of ≡ Some t)
 
-agree_all : (of : ValueType) (parts : List Part) → AllByRecursion (λ p. agrees (Some of) p ≡ None) parts → PartsAre parts (replicate (length parts) of)
+agree_all : (of : ValueType) (parts : List TypedPart) → AllByRecursion (λ p. agrees (Some of) p ≡ None) parts → PartsAre parts (replicate (length parts) of)
 agree_all of [] h = tt
 agree_all of (p ∷ parts) h = (agrees-is (Some of) p h.0, agree_all of parts h.1)
 
-array_parts : (d : Checked) (place : ℕ) (item : Option ValueType) (parts : List Part) (whole : Part) → array_by d place item parts ≡ Gives whole →
+array_parts : (d : Checked) (place : ℕ) (item : Option ValueType) (parts : List TypedPart) (whole : TypedPart) → array_by d place item parts ≡ Gives whole →
     (t : ValueType) × PartsAre parts (replicate (length parts) t) × IsType d (array (length parts) t) × (whole.of ≡ Some (array (length parts) t))
 array_parts d place None parts whole e =
     let all = where-all (each is_value parts ∷ Some (wrong WRONG_TYPE place) ∷ []) (part None place) whole e in
@@ -309,48 +309,48 @@ array_parts d place None parts whole e =
 array_parts d place (Some item) parts whole e =
     let t = array (length parts) item in
     let all = where-all (each is_value parts ∷ each (agrees (Some item)) parts ∷ holds (is_width (width_of d t)) (wrong WRONG_WIDTH place) ∷ []) (part (Some t) place) whole e in
-    (item, agree_all item parts (each-none (agrees (Some item)) parts all.1.1.0), is-width (width_of d t) (holds-true (is_width (width_of d t)) (wrong WRONG_WIDTH place) all.1.1.1.0), sym (ap (λ (p : Part). p.of) all.0))
+    (item, agree_all item parts (each-none (agrees (Some item)) parts all.1.1.0), is-width (width_of d t) (holds-true (is_width (width_of d t)) (wrong WRONG_WIDTH place) all.1.1.1.0), sym (ap (λ (p : TypedPart). p.of) all.0))
 
 -- items of one type make an array
-pub array-known : (d : Checked) (place : ℕ) (parts : List Part) (whole : Part) → array_of d place parts ≡ Gives whole →
+pub array-known : (d : Checked) (place : ℕ) (parts : List TypedPart) (whole : TypedPart) → array_of d place parts ≡ Gives whole →
     (t : ValueType) × PartsAre parts (replicate (length parts) t) × IsType d (array (length parts) t) × (whole.of ≡ Some (array (length parts) t))
 array-known d place parts whole e = array_parts d place (type_of_first parts) parts whole e
 
 -- the fields of a struct are found by their names
-found_by_name : (fields : List Field) → ((i : ℕ) (f : Field) → slice_get fields i ≡ Some f → field_named fields f.name ≡ Some i) → (i : ℕ) (f : Field) → slice_get fields i ≡ Some f → type_at fields (field_named fields f.name) ≡ Some f.of
+found_by_name : (fields : List CheckedField) → ((i : ℕ) (f : CheckedField) → slice_get fields i ≡ Some f → field_named fields f.name ≡ Some i) → (i : ℕ) (f : CheckedField) → slice_get fields i ≡ Some f → type_at fields (field_named fields f.name) ≡ Some f.of
 found_by_name fields distinct i f e = ap (type_at fields) (distinct i f e) ∙ type-at fields i f e
 
-all_found : (P : Field → Type 0) (fields : List Field) → ((i : ℕ) (f : Field) → slice_get fields i ≡ Some f → P f) → AllByRecursion P fields
+all_found : (P : CheckedField → Type 0) (fields : List CheckedField) → ((i : ℕ) (f : CheckedField) → slice_get fields i ≡ Some f → P f) → AllByRecursion P fields
 all_found P [] h = tt
 all_found P (f ∷ fields) h = (h 0 f refl, all_found P fields (λ i g e. h (suc i) g e))
 
-fields_fit : (fields next : List Field) (given : List Given) (close : ℕ) → AllByRecursion (λ (f : Field). type_at fields (field_named fields f.name) ≡ Some f.of) next → names_are next given close ≡ None →
-    AllByRecursion (λ g. fits_field fields g ≡ None) given → PartsAre (map (λ (g : Given). g.part) given) (map (λ (f : Field). f.of) next)
+fields_fit : (fields next : List CheckedField) (given : List Given) (close : ℕ) → AllByRecursion (λ (f : CheckedField). type_at fields (field_named fields f.name) ≡ Some f.of) next → names_are next given close ≡ None →
+    AllByRecursion (λ g. fits_field fields g ≡ None) given → PartsAre (map (λ (g : Given). g.part) given) (map (λ (f : CheckedField). f.of) next)
 fields_fit fields [] [] close known names fit = tt
 fields_fit fields [] (g ∷ given) close known names fit = absurd cc
 fields_fit fields (f ∷ next) [] close known names fit = absurd cc
 fields_fit fields (f ∷ next) (g ∷ given) close known names fit = by_name (bytes_eq f.name g.name.text) refl names (fields_fit fields next given close known.1)
   where
     by_name : (b : Bool) → bytes_eq f.name g.name.text ≡ b → cond b (names_are next given close) (Some (wrong WRONG_FIELD g.name.place)) ≡ None →
-        (names_are next given close ≡ None → AllByRecursion (λ g. fits_field fields g ≡ None) given → PartsAre (map (λ (g : Given). g.part) given) (map (λ (f : Field). f.of) next)) →
-        PartsAre (map (λ (g : Given). g.part) (g ∷ given)) (map (λ (f : Field). f.of) (f ∷ next))
+        (names_are next given close ≡ None → AllByRecursion (λ g. fits_field fields g ≡ None) given → PartsAre (map (λ (g : Given). g.part) given) (map (λ (f : CheckedField). f.of) next)) →
+        PartsAre (map (λ (g : Given). g.part) (g ∷ given)) (map (λ (f : CheckedField). f.of) (f ∷ next))
     by_name false b e rest = absurd cc
     by_name true b e rest =
         let at : type_at fields (field_named fields g.name.text) ≡ Some f.of = ap (λ name. type_at fields (field_named fields name)) (sym (same-is f.name g.name.text b)) ∙ known.0 in
         (agrees-is (Some f.of) g.part (ap (λ o. agrees_if o g.part) (sym at) ∙ fit.0), rest e fit.1)
 
 -- fields of their types make a struct
-pub struct-known : (d : Checked) → IsTypedSoFar d → (number place : ℕ) (given : List Given) (close : ℕ) (whole : Part) → struct_of d number place given close ≡ Gives whole →
-    PartsAre (map (λ (g : Given). g.part) given) (map (λ (f : Field). f.of) (fields_of d number)) × IsType d (of_base (base.Struct number)) × (whole.of ≡ Some (of_base (base.Struct number)))
+pub struct-known : (d : Checked) → IsTypedSoFar d → (number place : ℕ) (given : List Given) (close : ℕ) (whole : TypedPart) → struct_of d number place given close ≡ Gives whole →
+    PartsAre (map (λ (g : Given). g.part) given) (map (λ (f : CheckedField). f.of) (fields_of d number)) × IsType d (of_base (base.Struct number)) × (whole.of ≡ Some (of_base (base.Struct number)))
 struct-known d h number place given close whole e =
     let fields = fields_of d number in
     let all = where-all (names_are fields given close ∷ each (fits_field fields) given ∷ holds (is_width (base_width d (base.Struct number))) (wrong WRONG_WIDTH place) ∷ []) (part (Some (of_base (base.Struct number))) place) whole e in
-    let known = all_found (λ (f : Field). type_at fields (field_named fields f.name) ≡ Some f.of) fields (found_by_name fields (distinct (slice_get d.structs number) refl)) in (
+    let known = all_found (λ (f : CheckedField). type_at fields (field_named fields f.name) ≡ Some f.of) fields (found_by_name fields (distinct (slice_get d.structs number) refl)) in (
       fields_fit fields fields given close known all.1.0 (each-none (fits_field fields) given all.1.1.0),
       base-type d (base.Struct number) (is-width (base_width d (base.Struct number)) (holds-true (is_width (base_width d (base.Struct number))) (wrong WRONG_WIDTH place) all.1.1.1.0)),
-      sym (ap (λ (p : Part). p.of) all.0),
+      sym (ap (λ (p : TypedPart). p.of) all.0),
     )
   where
-    distinct : (o : Option Struct) → slice_get d.structs number ≡ o → (i : ℕ) (f : Field) → slice_get (fields_of d number) i ≡ Some f → field_named (fields_of d number) f.name ≡ Some i
-    distinct None o = subst (λ (fields : List Field). (i : ℕ) (f : Field) → slice_get fields i ≡ Some f → field_named fields f.name ≡ Some i) (sym (ap fields_by o)) (λ i f e. absurd cc)
-    distinct (Some s) o = subst (λ (fields : List Field). (i : ℕ) (f : Field) → slice_get fields i ≡ Some f → field_named fields f.name ≡ Some i) (sym (ap fields_by o)) (h.structs number s o).1
+    distinct : (o : Option Struct) → slice_get d.structs number ≡ o → (i : ℕ) (f : CheckedField) → slice_get (fields_of d number) i ≡ Some f → field_named (fields_of d number) f.name ≡ Some i
+    distinct None o = subst (λ (fields : List CheckedField). (i : ℕ) (f : CheckedField) → slice_get fields i ≡ Some f → field_named fields f.name ≡ Some i) (sym (ap fields_by o)) (λ i f e. absurd cc)
+    distinct (Some s) o = subst (λ (fields : List CheckedField). (i : ℕ) (f : CheckedField) → slice_get fields i ≡ Some f → field_named fields f.name ≡ Some i) (sym (ap fields_by o)) (h.structs number s o).1

@@ -12,10 +12,10 @@ use Rattle.koika_check.specs.Scopes.{Local, Scope}
 use Rattle.koika_check.specs.Types.{all_lengths, array, base_width, bits, of_base, width_of}
 use Rattle.koika_check.specs.Typing.{HasType, IsAmong, IsFunction, IsInput, IsRegister, IsStruct, IsType}
 use Rattle.koika_check.specs.declared.checked.Checked.{Checked}
-use Rattle.koika_check.specs.declared.checked.Field.{Field}
-use Rattle.koika_check.specs.declared.checked.Function.{Function}
+use Rattle.koika_check.specs.declared.checked.CheckedField.{CheckedField}
+use Rattle.koika_check.specs.declared.checked.CheckedFunction.{CheckedFunction}
 use Rattle.koika_check.specs.declared.checked.Host.{Host}
-use Rattle.koika_check.specs.declared.checked.Rule.{Rule}
+use Rattle.koika_check.specs.declared.checked.CheckedRule.{CheckedRule}
 use Rattle.koika_check.specs.declared.checked.Struct.{Struct}
 use Rattle.koika_check.specs.declared.checked.Table.{Table}
 use Rattle.koika_check.specs.declared.typed.BaseType.{BaseType}
@@ -29,8 +29,8 @@ abbrev pub IsEnumSoFar : EnumDecl → Type 0
 IsEnumSoFar e = IsWidth e.width × All (λ (m : Member). HasWidth m.bits e.width) e.members
 
 -- each field is found by its name
-abbrev pub AreDistinct : List Field → Type 0
-AreDistinct fields = (i : ℕ) (f : Field) → slice_get fields i ≡ Some f → field_named fields f.name ≡ Some i
+abbrev pub AreDistinct : List CheckedField → Type 0
+AreDistinct fields = (i : ℕ) (f : CheckedField) → slice_get fields i ≡ Some f → field_named fields f.name ≡ Some i
 
 -- all of a well typed design but its schedule and its limits, and what tells names apart
 pub record IsTypedSoFar (d : Checked) : Type 0 where
@@ -40,8 +40,8 @@ pub record IsTypedSoFar (d : Checked) : Type 0 where
   pub inputs : All (IsInput d) d.inputs
   pub tables : All (λ (t : Table). IsTable t.spec × IsWidth t.spec.out_width) d.tables
   pub hosts : All (λ (h : Host). IsHost h.spec) d.hosts
-  pub functions : (number : ℕ) (f : Function) → slice_get d.functions number ≡ Some f → IsFunction d number f
-  pub rules : All (λ (r : Rule). HasType d (length d.functions) r.body [] None) d.rules
+  pub functions : (number : ℕ) (f : CheckedFunction) → slice_get d.functions number ≡ Some f → IsFunction d number f
+  pub rules : All (λ (r : CheckedRule). HasType d (length d.functions) r.body [] None) d.rules
   pub asserts : All (λ rule. rule < length d.rules) d.asserts
 
 -- the types of the names that are bound, and a scope in which they are types of values
@@ -106,7 +106,7 @@ item-type d n t h =
 pub struct-there : (d : Checked) (number : ℕ) → IsType d (of_base (base.Struct number)) → (s : Struct) × (slice_get d.structs number ≡ Some s)
 struct-there d number h = looked-up (λ (s : Struct). s.width) d.structs number (some-base d (of_base (base.Struct number)) h)
 
-pub field-there : (d : Checked) (number i : ℕ) (f : Field) → slice_get (fields_of d number) i ≡ Some f → (s : Struct) × (slice_get d.structs number ≡ Some s) × (slice_get s.fields i ≡ Some f)
+pub field-there : (d : Checked) (number i : ℕ) (f : CheckedField) → slice_get (fields_of d number) i ≡ Some f → (s : Struct) × (slice_get d.structs number ≡ Some s) × (slice_get s.fields i ≡ Some f)
 field-there d number i f e = by_struct (slice_get d.structs number) refl e
   where
     by_struct : (o : Option Struct) → slice_get d.structs number ≡ o → slice_get (fields_by o) i ≡ Some f → (s : Struct) × (slice_get d.structs number ≡ Some s) × (slice_get s.fields i ≡ Some f)
@@ -114,10 +114,10 @@ field-there d number i f e = by_struct (slice_get d.structs number) refl e
     by_struct (Some s) o e = (s, o, e)
 
 -- the fields of structs are values
-pub field-type : (d : Checked) → IsTypedSoFar d → (number i : ℕ) (f : Field) → slice_get (fields_of d number) i ≡ Some f → IsType d f.of
+pub field-type : (d : Checked) → IsTypedSoFar d → (number i : ℕ) (f : CheckedField) → slice_get (fields_of d number) i ≡ Some f → IsType d f.of
 field-type d h number i f e =
     let s = field-there d number i f e in
-    (all-at (λ (g : Field). IsType d g.of × IsAmong number g.of.base) s.0.fields i f (h.structs number s.0 s.1).0.fields s.2).0
+    (all-at (λ (g : CheckedField). IsType d g.of × IsAmong number g.of.base) s.0.fields i f (h.structs number s.0 s.1).0.fields s.2).0
 
-pub field-types : (d : Checked) → IsTypedSoFar d → (number : ℕ) (s : Struct) → slice_get d.structs number ≡ Some s → All (λ (f : Field). IsType d f.of) s.fields
+pub field-types : (d : Checked) → IsTypedSoFar d → (number : ℕ) (s : Struct) → slice_get d.structs number ≡ Some s → All (λ (f : CheckedField). IsType d f.of) s.fields
 field-types d h number s e k f lt = ((h.structs number s e).0.fields k f lt).0

@@ -15,7 +15,7 @@ use Rattle.koika_check.specs.Composites.{fields_by, fields_of}
 use Rattle.koika_check.specs.Types.{array, base_width, bits, of_base, width_of}
 use Rattle.koika_check.specs.Typing.{IsOf, IsType, IsTypedDesign, Pairwise, PartIsOf}
 use Rattle.koika_check.specs.declared.checked.Checked.{Checked}
-use Rattle.koika_check.specs.declared.checked.Field.{Field}
+use Rattle.koika_check.specs.declared.checked.CheckedField.{CheckedField}
 use Rattle.koika_check.specs.declared.checked.Struct.{Struct}
 use Rattle.koika_check.specs.declared.typed.BaseType.{BaseType}
 use Rattle.koika_check.specs.declared.typed.BaseType.TheVariants as base
@@ -35,15 +35,15 @@ base-wide d b = omega arith
 
 module _ (d : Checked) (h : IsTypedDesign d) where
   -- the fields of a struct of values
-  pub struct-fields : (number : ℕ) (s : Struct) → slice_get d.structs number ≡ Some s → All (λ (f : Field). IsType d f.of) s.fields
+  pub struct-fields : (number : ℕ) (s : Struct) → slice_get d.structs number ≡ Some s → All (λ (f : CheckedField). IsType d f.of) s.fields
   struct-fields number s e k f lt = ((h.structs number s e).fields k f lt).0
 
   pub struct-width : (number : ℕ) (s : Struct) → slice_get d.structs number ≡ Some s → IsType d (of_base (base.Struct number)) →
-      sum_by (width_of d) (map (λ (f : Field). f.of) s.fields) ≡ width_of d (of_base (base.Struct number))
+      sum_by (width_of d) (map (λ (f : CheckedField). f.of) s.fields) ≡ width_of d (of_base (base.Struct number))
   struct-width number s e valid =
       let kept : slice_index (map (λ (x : Struct). x.width) d.structs) number ≡ s.width = lookup (λ (x : Struct). x.width) d.structs number s e in
-      let least : s.width ≡ min (sum_by (λ (f : Field). width_of d f.of) s.fields) 129 = (h.structs number s e).width in
-      sum_by-map (width_of d) (λ (f : Field). f.of) s.fields ∙ uncut (sum_by (λ (f : Field). width_of d f.of) s.fields) s.width (slice_index (map (λ (x : Struct). x.width) d.structs) number) kept least valid.1
+      let least : s.width ≡ min (sum_by (λ (f : CheckedField). width_of d f.of) s.fields) 129 = (h.structs number s e).width in
+      sum_by-map (width_of d) (λ (f : CheckedField). f.of) s.fields ∙ uncut (sum_by (λ (f : CheckedField). width_of d f.of) s.fields) s.width (slice_index (map (λ (x : Struct). x.width) d.structs) number) kept least valid.1
     where
       uncut : (sum width found : ℕ) → found ≡ width → width ≡ min sum 129 → found * 1 ≤ 128 → sum ≡ found * 1
       uncut sum width found e f le = grind arith
@@ -84,9 +84,9 @@ module _ (d : Checked) (h : IsTypedDesign d) where
       let ok = subst (IsType d) is.0 valid in
       let s = struct-there d n ok in
       let there : fields_of d n ≡ s.0.fields = ap fields_by s.1 in
-      let are = subst (λ fields. Pairwise (IsOf d) vs (map (λ (f : Field). f.of) fields)) there is.1 in
+      let are = subst (λ fields. Pairwise (IsOf d) vs (map (λ (f : CheckedField). f.of) fields)) there is.1 in
       ap packed_width (value.rolls-Fields n vs) ∙ width-Fields n vs
-      ∙ together vs (map (λ (f : Field). f.of) s.0.fields) each (each-field d s.0.fields (struct-fields n s.0 s.1)) are
+      ∙ together vs (map (λ (f : CheckedField). f.of) s.0.fields) each (each-field d s.0.fields (struct-fields n s.0 s.1)) are
       ∙ struct-width n s.0 s.1 ok ∙ sym (ap (width_of d) is.0)
   part_fits (Value-F.Items vs) each t valid is =
       let item = item-type d (length vs) is.0 (subst (IsType d) is.1 valid) in

@@ -10,7 +10,7 @@ use Rattle.kw_bits.specs.declared.host.HostSpec.{HostSpec}
 use Rattle.typed_core.specs.declared.design.Node.{Node}
 use Rattle.koika_check.specs.Checks.{checked, counts_within, limits, scheduled, size_within, within_limits}
 use Rattle.koika_check.specs.Declarations.{declare, nothing}
-use Rattle.koika_check.specs.Outcomes.{Condition, Fails, Gives, Outcome, ◌>>=◌, earlier, holds, one_by_one, unless, wrong}
+use Rattle.koika_check.specs.Outcomes.{Condition, Fails, Gives, CheckResult, ◌>>=◌, earlier, holds, one_by_one, unless, wrong}
 use Rattle.koika_check.specs.inner.Outcomes.{Answers, Ends, Passes}
 use Rattle.koika_check.specs.Schedule.{scheduler_nodes}
 use Rattle.koika_check.specs.Sizes.{Size}
@@ -21,7 +21,7 @@ use Rattle.koika_check.specs.declared.stop.Stop.TheVariants as stops
 use Rattle.koika_check.proofs.Answering.{ends}
 
 -- a call answers what a part says, and its value is made of that of the part
-pub answers-bind : {X Y Z : Type 0} (f : X → Z) (z : Z) (o : Outcome X) (r : Result Y Stop) → Answers (λ (y : Y) (x : X). z ≡ f x) o r → Answers (λ (y : Y) (w : Z). z ≡ w) (o >>= λ x. Gives (f x)) r
+pub answers-bind : {X Y Z : Type 0} (f : X → Z) (z : Z) (o : CheckResult X) (r : Result Y Stop) → Answers (λ (y : Y) (x : X). z ≡ f x) o r → Answers (λ (y : Y) (w : Z). z ≡ w) (o >>= λ x. Gives (f x)) r
 answers-bind f z o (Ok y) h = (f h.0, ap (λ p. p >>= λ x. Gives (f x)) h.1, h.2)
 answers-bind f z o (Err e) h = ends (o >>= λ x. Gives (f x)) o (λ x. Gives (f x)) e refl h
 

@@ -9,19 +9,19 @@ use Rattle.typed_core.specs.declared.design.Node.{Node}
 use Rattle.koika_check.specs.Sizes.{design_size}
 use Rattle.koika_check.specs.Types.{base_width, width_of}
 use Rattle.koika_check.specs.declared.checked.Checked.{Checked}
-use Rattle.koika_check.specs.declared.checked.Function.{Function}
+use Rattle.koika_check.specs.declared.checked.CheckedFunction.{CheckedFunction}
 use Rattle.koika_check.specs.declared.checked.Host.{Host}
 use Rattle.koika_check.specs.declared.checked.Input.{Input}
 use Rattle.koika_check.specs.declared.checked.Register.{Register}
-use Rattle.koika_check.specs.declared.checked.Rule.{Rule}
+use Rattle.koika_check.specs.declared.checked.CheckedRule.{CheckedRule}
 use Rattle.koika_check.specs.declared.checked.Table.{Table}
 use Rattle.koika_check.specs.declared.typed.BaseType.TheVariants as base
 use Rattle.koika_check.specs.declared.typed.Operation.{Operation}
 use Rattle.koika_check.specs.declared.typed.Operation.TheVariants as operation
 use Rattle.koika_check.specs.declared.typed.Selection.{Selection}
 use Rattle.koika_check.specs.declared.typed.Selection.TheVariants as selection
-use Rattle.koika_check.specs.declared.typed.Step.{Step, Step-F}
-use Rattle.koika_check.specs.declared.typed.Step.TheOpen as typed
+use Rattle.koika_check.specs.declared.typed.TypedStep.{TypedStep, TypedStep-F}
+use Rattle.koika_check.specs.declared.typed.TypedStep.TheOpen as typed
 use Rattle.koika_check.specs.declared.typed.Typed.{Typed, Typed-F, fold-Typed}
 
 -- the width of an expression's value, 0 where it is unit, and the sum of w * w over its operators `*` on w bits
@@ -160,16 +160,16 @@ abbrev pub more : (squares : ℕ) → Gauge → Gauge
 more squares g = gauge g.width (squares + g.squares)
 
 -- a step of a block, and what comes after it
-abbrev pub Stepped : Type 0
-Stepped = Gauging → Gauging
+abbrev pub StepGauge : Type 0
+StepGauge = Gauging → Gauging
 
 -- the statements of a block, one after another
-abbrev pub steps_in_turn : List Stepped → Gauging
+abbrev pub steps_in_turn : List StepGauge → Gauging
 steps_in_turn [] names = gauge 0 0
 steps_in_turn (step ∷ rest) names = step (steps_in_turn rest) names
 
 -- a statement, and then what follows it
-abbrev pub step_step : Step-F Stepped Gauging → Stepped
+abbrev pub step_step : TypedStep-F StepGauge Gauging → StepGauge
 step_step (typed.Let value) after names = let bound : Gauge = value names in more bound.squares (after (bound.width ∷ names))
 step_step (typed.Do value) after names = more (value names).squares (after names)
 step_step (typed.Give value) after names = value names
@@ -179,7 +179,7 @@ abbrev pub chosen : (conditions bodies : List Gauge) → Gauge
 chosen conditions bodies = gauge (first_width bodies) (squares_in conditions + squares_in bodies)
 
 -- what an expression has, by what its parts have
-abbrev pub typed_step : Bodies → Typed-F Stepped Gauging → Gauging
+abbrev pub typed_step : Bodies → Typed-F StepGauge Gauging → Gauging
 typed_step b (typed.Constant value) names = gauge (packed value).width 0
 typed_step b (typed.Local index) names = gauge (bound_width (slice_get names index)) 0
 typed_step b (typed.Input number) names = gauge (input_width (slice_get b.design.inputs number)) 0
@@ -189,25 +189,25 @@ typed_step b (typed.Block steps) names = steps_in_turn steps names
 
 -- what an expression has
 unfoldable pub gauge_of : Bodies → Typed → Gauging
-gauge_of b = fold-Typed Stepped Gauging step_step (typed_step b)
+gauge_of b = fold-Typed StepGauge Gauging step_step (typed_step b)
 
 -- ---- designs
 
 -- the bodies of functions, each of which rests on those before it
-abbrev pub function_body : Checked → (before : List Gauge) → Function → Gauge
+abbrev pub function_body : Checked → (before : List Gauge) → CheckedFunction → Gauge
 function_body d before f = gauge_of (record { design = d; bodies = before }) f.body (reverse (map (width_of d) f.parameters))
 
 -- what the bodies of functions have, each of which calls those before it
-abbrev pub bodies_after : Checked → List Gauge → List Function → List Gauge
+abbrev pub bodies_after : Checked → List Gauge → List CheckedFunction → List Gauge
 bodies_after d before [] = before
 bodies_after d before (f ∷ functions) = bodies_after d (before ++ function_body d before f ∷ []) functions
 
 -- the squares of a rule's body, and of a node's
-abbrev pub rule_squares : Checked → Rule → ℕ
+abbrev pub rule_squares : Checked → CheckedRule → ℕ
 rule_squares d r = (gauge_of (record { design = d; bodies = bodies_after d [] d.functions }) r.body []).squares
 
 -- the squares of a rule, if it is there
-abbrev pub squares_if : Checked → Option Rule → ℕ
+abbrev pub squares_if : Checked → Option CheckedRule → ℕ
 squares_if d None = 0
 squares_if d (Some r) = rule_squares d r
 

@@ -13,7 +13,7 @@ use Rattle.koika_syntax.specs.declared.tree.Tree.{Tree}
 use Rattle.typed_core.specs.declared.limits.TheConstants.{MAX_REGISTERS, MAX_RULES, MAX_INPUTS, MAX_NODES}
 use Rattle.kw_bits.specs.declared.host.HostSpec.{HostSpec}
 use Rattle.koika_check.specs.Declarations.{declare, nothing}
-use Rattle.koika_check.specs.Outcomes.{Condition, Outcome, ◌>>=◌, earlier, first, holds, one_by_one, unless, wrong}
+use Rattle.koika_check.specs.Outcomes.{Condition, CheckResult, ◌>>=◌, earlier, first, holds, one_by_one, unless, wrong}
 use Rattle.koika_check.specs.Schedule.{scheduler_nodes}
 use Rattle.koika_check.specs.Sizes.{Size, design_size}
 use Rattle.koika_check.specs.declared.checked.Checked.{Checked}
@@ -46,16 +46,16 @@ places_if None = []
 places_if (Some places) = places
 
 -- the places of the rules in a `try`
-abbrev pub choice_step : Choice-F (List ℕ) (List ℕ) → List ℕ
-choice_step choice = choice.rule.place ∷ choice.then ++ choice.otherwise
+abbrev pub places_in_choice : Choice-F (List ℕ) (List ℕ) → List ℕ
+places_in_choice choice = choice.rule.place ∷ choice.then ++ choice.otherwise
 
 -- the places of the rules in a scheduler
-abbrev pub scheduler_step : Scheduler-F (List ℕ) (List ℕ) → List ℕ
-scheduler_step scheduler = places_of scheduler.rules ++ places_if (option_map (λ last. last.value) scheduler.last)
+abbrev pub places_in_scheduler : Scheduler-F (List ℕ) (List ℕ) → List ℕ
+places_in_scheduler scheduler = places_of scheduler.rules ++ places_if (option_map (λ last. last.value) scheduler.last)
 
 -- the places of all rules that a scheduler names, in order of the text
 unfoldable pub scheduler_places : Scheduler → List ℕ
-scheduler_places = fold-Scheduler (List ℕ) (List ℕ) choice_step scheduler_step
+scheduler_places = fold-Scheduler (List ℕ) (List ℕ) places_in_choice places_in_scheduler
 
 -- there are at most that many places, or the fault is at the first one too many
 abbrev pub surplus : (number : ℕ) → Option ℕ → Condition
@@ -89,13 +89,13 @@ limits tree size = earlier (counts_within tree) (size_within tree.schedule size)
 -- ---- whole trees
 
 -- a design with these nodes, within the limits
-abbrev pub within_limits : Tree → Checked → Outcome Checked
+abbrev pub within_limits : Tree → Checked → CheckResult Checked
 within_limits tree d = unless (limits tree (design_size d)) (record d { weight = (design_size d).weight })
 
 -- a design with its scheduler's nodes, within the limits
-abbrev pub scheduled : Tree → Checked → Outcome Checked
+abbrev pub scheduled : Tree → Checked → CheckResult Checked
 scheduled tree d = scheduler_nodes tree.scheduler d [] 0 >>= λ nodes. within_limits tree (record d { nodes = nodes })
 
 -- what checking a tree returns, given the host functions that are handed in
-abbrev pub checked : List HostSpec → Tree → Outcome Checked
+abbrev pub checked : List HostSpec → Tree → CheckResult Checked
 checked hosts tree = one_by_one (declare hosts) tree.declarations nothing >>= scheduled tree

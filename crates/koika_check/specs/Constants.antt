@@ -7,15 +7,15 @@ use Rattle.koika_syntax.specs.declared.tree.Constant.TheOpen as constant
 use Rattle.koika_syntax.specs.declared.tree.ConstantField.{ConstantField, ConstantField-F}
 use Rattle.koika_types.specs.declared.value.Value.{Value}
 use Rattle.koika_types.specs.declared.value.Value.TheVariants as value
-use Rattle.koika_check.specs.Outcomes.{Outcome, ◌>>=◌, Gives, in_turn, found, wrong}
-use Rattle.koika_check.specs.Types.{Part, bits, of_base, part, struct_named}
+use Rattle.koika_check.specs.Outcomes.{CheckResult, ◌>>=◌, Gives, in_turn, found, wrong}
+use Rattle.koika_check.specs.Types.{TypedPart, bits, of_base, part, struct_named}
 use Rattle.koika_check.specs.Composites.{Given, MemberOf, array_of, member, struct_of}
 use Rattle.koika_check.specs.declared.checked.Checked.{Checked}
 use Rattle.koika_check.specs.declared.typed.BaseType.TheVariants as base
 
 -- a constant that is well typed
 pub record Known : Type 0 where
-  pub part : Part
+  pub part : TypedPart
   pub value : Value
 
 -- one that a field is given
@@ -24,12 +24,12 @@ pub record KnownField : Type 0 where
   pub known : Known
 
 -- what a constant evaluates to in a design
-abbrev pub Meaning : Type 0
-Meaning = Checked → Outcome Known
+abbrev pub ConstantMeaning : Type 0
+ConstantMeaning = Checked → CheckResult Known
 
 -- what a field of a constant evaluates to in a design
 abbrev pub FieldMeaning : Type 0
-FieldMeaning = Checked → Outcome KnownField
+FieldMeaning = Checked → CheckResult KnownField
 
 -- a member as a constant
 abbrev pub known_member : (place : ℕ) → MemberOf → Known
@@ -40,27 +40,27 @@ abbrev pub given : KnownField → Given
 given field = record { name = field.name; part = field.known.part }
 
 -- a struct of fields, and an array of elements
-abbrev pub struct_known : Checked → (number place close : ℕ) → List KnownField → Outcome Known
+abbrev pub struct_known : Checked → (number place close : ℕ) → List KnownField → CheckResult Known
 struct_known d number place close known = struct_of d number place (map given known) close >>= λ whole.
     Gives (record { part = whole; value = value.Fields number (map (λ (f : KnownField). f.known.value) known) })
 
 -- the constant of an array's items
-abbrev pub array_known : Checked → (place : ℕ) → List Known → Outcome Known
+abbrev pub array_known : Checked → (place : ℕ) → List Known → CheckResult Known
 array_known d place known = array_of d place (map (λ (k : Known). k.part) known) >>= λ whole.
     Gives (record { part = whole; value = value.Items (map (λ (k : Known). k.value) known) })
 
 -- what a constant evaluates to, by what its parts do
-abbrev pub constant_step : Constant-F Meaning FieldMeaning → Meaning
+abbrev pub constant_step : Constant-F ConstantMeaning FieldMeaning → ConstantMeaning
 constant_step (constant.Literal l) d = Gives (record { part = part (Some (bits l.bits.width)) l.place; value = value.Number l.bits })
 constant_step (constant.Member of m) d = member d of m >>= λ found. Gives (known_member of.place found)
 constant_step (constant.Struct of fields close) d = found (struct_named d of.text) (wrong UNKNOWN_NAME of.place) >>= λ number.
     in_turn (λ (field : FieldMeaning). field d) fields.items >>= struct_known d number of.place close
-constant_step (constant.Array place elements) d = in_turn (λ (element : Meaning). element d) elements.items >>= array_known d place
+constant_step (constant.Array place elements) d = in_turn (λ (element : ConstantMeaning). element d) elements.items >>= array_known d place
 
 -- what a field of a constant evaluates to, by its value
-abbrev pub constant_field_step : ConstantField-F Meaning FieldMeaning → FieldMeaning
+abbrev pub constant_field_step : ConstantField-F ConstantMeaning FieldMeaning → FieldMeaning
 constant_field_step field d = field.value d >>= λ known. Gives (record { name = field.name; known = known })
 
 -- what a constant evaluates to where this much is declared
-unfoldable pub constant_of : Constant → Checked → Outcome Known
-constant_of = fold-Constant Meaning FieldMeaning constant_step constant_field_step
+unfoldable pub constant_of : Constant → Checked → CheckResult Known
+constant_of = fold-Constant ConstantMeaning FieldMeaning constant_step constant_field_step

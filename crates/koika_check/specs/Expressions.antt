@@ -11,44 +11,44 @@ use Rattle.koika_syntax.specs.declared.tree.Expression.TheOpen as expression
 use Rattle.koika_syntax.specs.declared.tree.FieldValue.{FieldValue, FieldValue-F}
 use Rattle.koika_syntax.specs.declared.tree.Operand.{Operand, Operand-F}
 use Rattle.koika_syntax.specs.declared.tree.Statement.{Statement, Statement-F}
-use Rattle.koika_check.specs.Outcomes.{Outcome, ◌>>=◌, Gives, in_turn, one_by_one, found, wrong}
+use Rattle.koika_check.specs.Outcomes.{CheckResult, ◌>>=◌, Gives, in_turn, one_by_one, found, wrong}
 use Rattle.koika_check.specs.Types.{struct_named, type_of, wrong_type}
 use Rattle.koika_check.specs.Constructs.{ArmTyping, FieldTyping, Joined, Typing, abort_at, array_in, call, chained, comparison, conditional, extended, join, literal, member_in, named, packed, postfix, read_in, struct_in, typing, unary, unpacked, updated, written}
 use Rattle.koika_check.specs.Scopes.{Scope, bound, called, register}
-use Rattle.koika_check.specs.declared.typed.Step.{Step}
-use Rattle.koika_check.specs.declared.typed.Step.TheVariants as step
+use Rattle.koika_check.specs.declared.typed.TypedStep.{TypedStep}
+use Rattle.koika_check.specs.declared.typed.TypedStep.TheVariants as step
 use Rattle.koika_check.specs.declared.typed.Typed.TheVariants as typed
 
 -- ---- what the parts of an expression evaluate to
 
 -- a statement that is well typed, and what names stand for after it
 pub record Stepping : Type 0 where
-  pub step : Step
+  pub step : TypedStep
   pub behind : Scope
 
 -- what each of them evaluates to in a scope
-abbrev pub Meaning : Type 0
-Meaning = Scope → Outcome Typing
+abbrev pub ExpressionTyping : Type 0
+ExpressionTyping = Scope → CheckResult Typing
 
 -- what a statement evaluates to in a scope
-abbrev pub Stepped : Type 0
-Stepped = Scope → Outcome Stepping
+abbrev pub StatementTyping : Type 0
+StatementTyping = Scope → CheckResult Stepping
 
 -- what an arm of an `if` evaluates to in a scope
 abbrev pub Armed : Type 0
-Armed = Scope → Outcome ArmTyping
+Armed = Scope → CheckResult ArmTyping
 
 -- what a field's value evaluates to in a scope
 abbrev pub Fielded : Type 0
-Fielded = Scope → Outcome FieldTyping
+Fielded = Scope → CheckResult FieldTyping
 
 -- an operator, and what its right operand evaluates to
 pub record Joining : Type 0 where
   pub operator : BinaryOperator
-  pub operand : Meaning
+  pub operand : ExpressionTyping
 
 -- all parts in a scope, from left to right
-abbrev pub all_in : {X : Type 0} → Scope → List (Scope → Outcome X) → Outcome (List X)
+abbrev pub all_in : {X : Type 0} → Scope → List (Scope → CheckResult X) → CheckResult (List X)
 all_in scope = in_turn (λ look. look scope)
 
 -- what an optional part holds
@@ -57,43 +57,43 @@ held None inside = None
 held (Some part) inside = Some (inside part)
 
 -- a chain, operator by operator
-abbrev pub join_in : Scope → Joining → Joined → Outcome Joined
+abbrev pub join_in : Scope → Joining → Joined → CheckResult Joined
 join_in scope next before = next.operand scope >>= λ right. join next.operator right before
 
 -- what a chain of operands evaluates to in a scope
-abbrev pub chain_in : Scope → List Joining → Typing → Outcome Typing
+abbrev pub chain_in : Scope → List Joining → Typing → CheckResult Typing
 chain_in scope rest first = one_by_one (join_in scope) rest (record { left = first.part; operators = []; operands = first ∷ [] }) >>= λ all. Gives (chained all)
 
 -- ---- blocks and arms
 
 -- statements in order, each in the scope that those before it leave
-pub record Run : Type 0 where
-  pub steps : List Step
+pub record BlockSoFar : Type 0 where
+  pub steps : List TypedStep
   pub behind : Scope
 
 -- one statement more of a block
-abbrev pub run : Stepped → Run → Outcome Run
+abbrev pub run : StatementTyping → BlockSoFar → CheckResult BlockSoFar
 run statement before = statement before.behind >>= λ one. Gives (record { steps = before.steps ++ one.step ∷ []; behind = one.behind })
 
 -- and then the last expression, if there is one
-abbrev pub close : (place : ℕ) → Option Meaning → Run → Outcome Typing
+abbrev pub close : (place : ℕ) → Option ExpressionTyping → BlockSoFar → CheckResult Typing
 close place None all = Gives (typing None place (typed.Block all.steps))
 close place (Some last) all = last all.behind >>= λ value.
     Gives (typing value.part.of place (typed.Block (all.steps ++ step.Give value.typed ∷ [])))
 
 -- what a block evaluates to: its statements in turn, and then its value
-abbrev pub block_from : (place : ℕ) → List Stepped → Option Meaning → Meaning
+abbrev pub block_from : (place : ℕ) → List StatementTyping → Option ExpressionTyping → ExpressionTyping
 block_from place statements last scope = one_by_one run statements (record { steps = []; behind = scope }) >>= close place last
 
 -- what the block after the last `else` evaluates to, if there is one
-abbrev pub otherwise_in : Scope → Option Meaning → Outcome (List Typing)
+abbrev pub otherwise_in : Scope → Option ExpressionTyping → CheckResult (List Typing)
 otherwise_in scope None = Gives []
 otherwise_in scope (Some last) = last scope >>= λ body. Gives (body ∷ [])
 
 -- ---- the constructs
 
 -- what an expression evaluates to, by what its parts do
-abbrev pub expression_step : Expression-F Meaning Stepped Armed Meaning Fielded Joining → Meaning
+abbrev pub expression_step : Expression-F ExpressionTyping StatementTyping Armed ExpressionTyping Fielded Joining → ExpressionTyping
 expression_step (expression.Literal l) scope = Gives (literal l)
 expression_step (expression.Name n) scope = named scope n
 expression_step (expression.Member of m) scope = member_in scope.design of m
@@ -117,31 +117,31 @@ expression_step (expression.Compare place o left right) scope = left.value scope
 expression_step (expression.Update place whole part value) scope = whole.value scope >>= λ old. value.value scope >>= updated scope.design place part old
 
 -- `let`: the value isn't unit (22); it is bound in all statements after
-abbrev pub statement_step : Statement-F Meaning Stepped Armed Meaning Fielded Joining → Stepped
+abbrev pub statement_step : Statement-F ExpressionTyping StatementTyping Armed ExpressionTyping Fielded Joining → StatementTyping
 statement_step (expression.Let n value) scope = value scope >>= λ inner.
     found inner.part.of (wrong_type inner.part) >>= λ of.
     Gives (record { step = step.Let inner.typed; behind = bound n.text of scope })
 statement_step (expression.Do value) scope = value scope >>= λ inner. Gives (record { step = step.Do inner.typed; behind = scope })
 
 -- what an arm evaluates to: its condition and its block
-abbrev pub arm_step : Arm-F Meaning Stepped Armed Meaning Fielded Joining → Armed
+abbrev pub arm_step : Arm-F ExpressionTyping StatementTyping Armed ExpressionTyping Fielded Joining → Armed
 arm_step arm scope = arm.condition scope >>= λ condition. arm.body scope >>= λ body.
     Gives (record { place = arm.place; condition = condition; body = body })
 
 -- what a block evaluates to, by what its statements and its value do
-abbrev pub block_step : Block-F Meaning Stepped Armed Meaning Fielded Joining → Meaning
+abbrev pub block_step : Block-F ExpressionTyping StatementTyping Armed ExpressionTyping Fielded Joining → ExpressionTyping
 block_step block = block_from block.place block.statements.items (held block.value (λ last. last.value))
 
 -- what a field's value evaluates to
-abbrev pub field_value_step : FieldValue-F Meaning Stepped Armed Meaning Fielded Joining → Fielded
+abbrev pub field_value_step : FieldValue-F ExpressionTyping StatementTyping Armed ExpressionTyping Fielded Joining → Fielded
 field_value_step field scope = field.value scope >>= λ inner. Gives (record { name = field.name; typing = inner })
 
 -- an operator and the operand after it
-abbrev pub operand_step : Operand-F Meaning Stepped Armed Meaning Fielded Joining → Joining
+abbrev pub operand_step : Operand-F ExpressionTyping StatementTyping Armed ExpressionTyping Fielded Joining → Joining
 operand_step operand = record { operator = operand.operator; operand = operand.operand }
 
 -- ---- what whole expressions evaluate to
 
 -- what a block evaluates to in a scope
-unfoldable pub block_in : Block → Meaning
-block_in = fold-Block Meaning Stepped Armed Meaning Fielded Joining expression_step statement_step arm_step block_step field_value_step operand_step
+unfoldable pub block_in : Block → ExpressionTyping
+block_in = fold-Block ExpressionTyping StatementTyping Armed ExpressionTyping Fielded Joining expression_step statement_step arm_step block_step field_value_step operand_step

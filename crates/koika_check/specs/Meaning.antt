@@ -18,14 +18,14 @@ use Rattle.koika_types.specs.declared.value.Value.{Value}
 use Rattle.koika_types.specs.declared.value.Value.TheVariants as value
 use Rattle.koika_types.specs.declared.value.Value.TheOpen.{Value-F}
 use Rattle.koika_types.specs.declared.value.Value.TheViews.{out-Value}
-use Rattle.typed_core.specs.Evaluation.{Part, ◌>>=◌, comes_to, stops, Ports, answer_of, entry_of}
+use Rattle.typed_core.specs.Evaluation.{Evaluation, ◌>>=◌, comes_to, stops, Ports, answer_of, entry_of}
 use Rattle.kw_bits.specs.declared.host.HostSpec.{HostSpec}
 use Rattle.kw_bits.specs.declared.table.TableSpec.{TableSpec}
 use Rattle.koika_check.specs.Composites.{fields_of}
 use Rattle.koika_check.specs.Types.{width_of}
 use Rattle.koika_check.specs.declared.checked.Checked.{Checked}
-use Rattle.koika_check.specs.declared.checked.Field.{Field}
-use Rattle.koika_check.specs.declared.checked.Function.{Function}
+use Rattle.koika_check.specs.declared.checked.CheckedField.{CheckedField}
+use Rattle.koika_check.specs.declared.checked.CheckedFunction.{CheckedFunction}
 use Rattle.koika_check.specs.declared.checked.Host.{Host}
 use Rattle.koika_check.specs.declared.checked.Input.{Input}
 use Rattle.koika_check.specs.declared.checked.Register.{Register}
@@ -36,8 +36,8 @@ use Rattle.koika_check.specs.declared.typed.Operation.{Operation}
 use Rattle.koika_check.specs.declared.typed.Operation.TheVariants as operation
 use Rattle.koika_check.specs.declared.typed.Selection.{Selection}
 use Rattle.koika_check.specs.declared.typed.Selection.TheVariants as selection
-use Rattle.koika_check.specs.declared.typed.Step.{Step-F}
-use Rattle.koika_check.specs.declared.typed.Step.TheOpen as typed
+use Rattle.koika_check.specs.declared.typed.TypedStep.{TypedStep-F}
+use Rattle.koika_check.specs.declared.typed.TypedStep.TheOpen as typed
 use Rattle.koika_check.specs.declared.typed.Typed.{Typed, Typed-F, fold-Typed}
 use Rattle.koika_check.specs.declared.typed.ValueType.{ValueType}
 
@@ -49,7 +49,7 @@ below zero = []
 below (suc n) = below n ++ n ∷ []
 
 -- the values of fields, the first from the most significant bits
-abbrev pub from_the_top : Checked → (ValueType → BitVector → Value) → List Field → BitVector → List Value
+abbrev pub from_the_top : Checked → (ValueType → BitVector → Value) → List CheckedField → BitVector → List Value
 from_the_top d look [] bits = []
 from_the_top d look (f ∷ fields) bits =
     look f.of (op.slice bits (bits.width - 1) (bits.width - width_of d f.of)) ∷
@@ -145,27 +145,27 @@ all_selected v [] = v
 all_selected v (s ∷ rest) = all_selected (selected v s) rest
 
 -- a value with a new part
-abbrev pub replaced : Value → Selection → Value → Value
-replaced v (selection.Field number lowest width) new = with_parts (out-Value v) (slice_set (parts_by (out-Value v)) number new)
-replaced v (selection.Item index width) new = with_parts (out-Value v) (slice_set (parts_by (out-Value v)) index new)
-replaced v (selection.Bits high low) new = v
+abbrev pub updated : Value → Selection → Value → Value
+updated v (selection.Field number lowest width) new = with_parts (out-Value v) (slice_set (parts_by (out-Value v)) number new)
+updated v (selection.Item index width) new = with_parts (out-Value v) (slice_set (parts_by (out-Value v)) index new)
+updated v (selection.Bits high low) new = v
 
 -- ---- operations
 
 -- what an expression evaluates to, with values of the names that are bound round it, the innermost first: a value, or
 -- none where it is unit
 abbrev pub Meaning : Type 0 → Type 0
-Meaning S = List Value → Part (Option Value) S
+Meaning S = List Value → Evaluation (Option Value) S
 
 -- what a rule is evaluated in: the design, the inputs' bits, the ports, and what the functions' bodies evaluate to
-pub record Setting (S : Type 0) : Type 0 where
+pub record RuleSetting (S : Type 0) : Type 0 where
   pub design : Checked
   pub inputs : List BitVector
   pub ports : Ports S
   pub bodies : List (Meaning S)
 
 -- a part of a body that only gives a value
-abbrev pub gives : {S : Type 0} → Value → Part (Option Value) S
+abbrev pub gives : {S : Type 0} → Value → Evaluation (Option Value) S
 gives v = comes_to (Some v)
 
 -- the bits of the first value
@@ -174,14 +174,14 @@ bits_of_first [] = nothing
 bits_of_first (v ∷ rest) = packed v
 
 -- the arguments of a host function, the first above the second
-abbrev pub joined : BitVector → List Value → BitVector
-joined bits [] = bits
-joined bits (v ∷ rest) = joined (op.concat bits (packed v)) rest
+abbrev pub joined_arguments : BitVector → List Value → BitVector
+joined_arguments bits [] = bits
+joined_arguments bits (v ∷ rest) = joined_arguments (op.concat bits (packed v)) rest
 
 -- the bits of values, one after another
 abbrev pub all_joined : List Value → BitVector
 all_joined [] = nothing
-all_joined (v ∷ rest) = joined (packed v) rest
+all_joined (v ∷ rest) = joined_arguments (packed v) rest
 
 -- what a table answers
 abbrev pub table_by : Option Table → Option TableSpec
@@ -199,18 +199,18 @@ body_by None locals = comes_to None
 body_by (Some body) locals = body locals
 
 -- what is read, as a value of the register's type
-abbrev pub read_as : {S : Type 0} → Checked → Option Register → BitVector → Part (Option Value) S
+abbrev pub read_as : {S : Type 0} → Checked → Option Register → BitVector → Evaluation (Option Value) S
 read_as d None bits = comes_to None
 read_as d (Some register) bits = gives (unpacked d register.of bits)
 
 -- what an operation on values evaluates to
-abbrev pub apply : {S : Type 0} → Setting S → Operation → List Value → Part (Option Value) S
+abbrev pub apply : {S : Type 0} → RuleSetting S → Operation → List Value → Evaluation (Option Value) S
 apply s (operation.Unary operators) values = gives (value.Number (prefixed operators (bits_of_first values)))
 apply s (operation.Chain operators) [] = comes_to None
 apply s (operation.Chain operators) (first ∷ rest) = gives (value.Number (chained operators (packed first) rest))
 apply s (operation.Select selections) [] = comes_to None
 apply s (operation.Select selections) (v ∷ rest) = gives (all_selected v selections)
-apply s (operation.Update one) (v ∷ new ∷ rest) = gives (replaced v one new)
+apply s (operation.Update one) (v ∷ new ∷ rest) = gives (updated v one new)
 apply s (operation.Struct number) values = gives (value.Fields number values)
 apply s operation.Array values = gives (value.Items values)
 apply s operation.Pack values = gives (value.Number (bits_of_first values))
@@ -233,7 +233,7 @@ with_value None values = values
 with_value (Some v) values = v ∷ values
 
 -- all operands, from left to right
-abbrev pub in_turn : {S : Type 0} → List (Meaning S) → List Value → Part (List Value) S
+abbrev pub in_turn : {S : Type 0} → List (Meaning S) → List Value → Evaluation (List Value) S
 in_turn [] locals = comes_to []
 in_turn (operand ∷ rest) locals = operand locals >>= λ v. in_turn rest locals >>= λ values. comes_to (with_value v values)
 
@@ -250,27 +250,27 @@ choose [] (last ∷ rest) locals = last locals
 choose conditions bodies locals = comes_to None
 
 -- a step of a block, and what comes after it
-abbrev pub Stepped : Type 0 → Type 0
-Stepped S = Meaning S → Meaning S
+abbrev pub StepMeaning : Type 0 → Type 0
+StepMeaning S = Meaning S → Meaning S
 
 -- the statements of a block, one after another
-abbrev pub steps_in_turn : {S : Type 0} → List (Stepped S) → Meaning S
+abbrev pub steps_in_turn : {S : Type 0} → List (StepMeaning S) → Meaning S
 steps_in_turn [] locals = comes_to None
 steps_in_turn (step ∷ rest) locals = step (steps_in_turn rest) locals
 
 -- what a statement does, and then what follows it
-abbrev pub step_step : {S : Type 0} → Step-F (Stepped S) (Meaning S) → Stepped S
+abbrev pub step_step : {S : Type 0} → TypedStep-F (StepMeaning S) (Meaning S) → StepMeaning S
 step_step (typed.Let v) behind locals = v locals >>= λ bound. behind (with_value bound locals)
 step_step (typed.Do v) behind locals = v locals >>= λ _. behind locals
 step_step (typed.Give v) behind locals = v locals
 
 -- the value of an input, as its type has it
-abbrev pub input_as : {S : Type 0} → Checked → Option Input → Option BitVector → Part (Option Value) S
+abbrev pub input_as : {S : Type 0} → Checked → Option Input → Option BitVector → Evaluation (Option Value) S
 input_as d (Some input) (Some bits) = gives (unpacked d input.of bits)
 input_as d input bits = comes_to None
 
 -- what an expression does, by what its parts do
-abbrev pub typed_step : {S : Type 0} → Setting S → Typed-F (Stepped S) (Meaning S) → Meaning S
+abbrev pub typed_step : {S : Type 0} → RuleSetting S → Typed-F (StepMeaning S) (Meaning S) → Meaning S
 typed_step s (typed.Constant v) locals = gives v
 typed_step s (typed.Local index) locals = comes_to (slice_get locals index)
 typed_step s (typed.Input number) locals = input_as s.design (slice_get s.design.inputs number) (slice_get s.inputs number)
@@ -279,18 +279,18 @@ typed_step s (typed.If conditions bodies) locals = choose conditions bodies loca
 typed_step s (typed.Block steps) locals = steps_in_turn steps locals
 
 -- what an expression evaluates to
-unfoldable pub meaning : {S : Type 0} → Setting S → Typed → Meaning S
-meaning {S} s = fold-Typed (Stepped S) (Meaning S) step_step (typed_step s)
+unfoldable pub meaning : {S : Type 0} → RuleSetting S → Typed → Meaning S
+meaning {S} s = fold-Typed (StepMeaning S) (Meaning S) step_step (typed_step s)
 
 -- what the bodies of functions evaluate to, each of which calls those before it
-abbrev pub bodies_behind : {S : Type 0} → Setting S → List Function → Setting S
+abbrev pub bodies_behind : {S : Type 0} → RuleSetting S → List CheckedFunction → RuleSetting S
 bodies_behind s [] = s
 bodies_behind s (f ∷ functions) = bodies_behind (record s { bodies = s.bodies ++ meaning s f.body ∷ [] }) functions
 
 -- the setting of a design's rules
-abbrev pub setting : {S : Type 0} → Checked → List BitVector → Ports S → Setting S
+abbrev pub setting : {S : Type 0} → Checked → List BitVector → Ports S → RuleSetting S
 setting d inputs ports = bodies_behind (record { design = d; inputs = inputs; ports = ports; bodies = [] }) d.functions
 
 -- what the body of a rule evaluates to
-abbrev pub rule_body : {S : Type 0} → Checked → List BitVector → Ports S → Typed → Part (Option Value) S
+abbrev pub rule_body : {S : Type 0} → Checked → List BitVector → Ports S → Typed → Evaluation (Option Value) S
 rule_body d inputs ports body = meaning (setting d inputs ports) body []

@@ -8,13 +8,13 @@ abbrev pub wrong : (number place : ℕ) → Wrong
 wrong number place = record { number = number; place = place }
 
 -- a result, or a fault
-pub data Outcome (X : Type 0) : Type 0 where
-  Gives : (value : X) → Outcome X
-  Fails : (fault : Wrong) → Outcome X
+pub data CheckResult (X : Type 0) : Type 0 where
+  Gives : (value : X) → CheckResult X
+  Fails : (fault : Wrong) → CheckResult X
 
 -- one part, and what comes after it
 infixl 10 ◌>>=◌
-abbrev pub ◌>>=◌ : {X Y : Type 0} → Outcome X → (X → Outcome Y) → Outcome Y
+abbrev pub ◌>>=◌ : {X Y : Type 0} → CheckResult X → (X → CheckResult Y) → CheckResult Y
 Gives value >>= next = next value
 Fails fault >>= next = Fails fault
 
@@ -48,25 +48,25 @@ smallest [] = None
 smallest (condition ∷ rest) = smaller condition (smallest rest)
 
 -- the result where there is no fault
-abbrev pub unless : {X : Type 0} → Condition → X → Outcome X
+abbrev pub unless : {X : Type 0} → Condition → X → CheckResult X
 unless None value = Gives value
 unless (Some fault) value = Fails fault
 
 -- the result where the conditions of a construct hold
-abbrev pub where_all : {X : Type 0} → List Condition → X → Outcome X
+abbrev pub where_all : {X : Type 0} → List Condition → X → CheckResult X
 where_all conditions value = unless (smallest conditions) value
 
 -- what is looked for, or this is the fault
-abbrev pub found : {X : Type 0} → Option X → Wrong → Outcome X
+abbrev pub found : {X : Type 0} → Option X → Wrong → CheckResult X
 found None fault = Fails fault
 found (Some value) fault = Gives value
 
 -- all parts, from left to right
-abbrev pub in_turn : {X Y : Type 0} → (X → Outcome Y) → List X → Outcome (List Y)
+abbrev pub in_turn : {X Y : Type 0} → (X → CheckResult Y) → List X → CheckResult (List Y)
 in_turn look [] = Gives []
 in_turn look (x ∷ xs) = look x >>= λ y. in_turn look xs >>= λ ys. Gives (y ∷ ys)
 
 -- parts of which each is looked at after what those before it leave
-abbrev pub one_by_one : {X S : Type 0} → (X → S → Outcome S) → List X → S → Outcome S
+abbrev pub one_by_one : {X S : Type 0} → (X → S → CheckResult S) → List X → S → CheckResult S
 one_by_one look [] s = Gives s
 one_by_one look (x ∷ xs) s = look x s >>= λ next. one_by_one look xs next

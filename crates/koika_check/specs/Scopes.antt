@@ -5,14 +5,14 @@ use Rattle.kw_base.specs.Names.{number_of}
 use Rattle.kw_base.specs.declared.fault_number.TheConstants.{UNKNOWN_NAME}
 use Rattle.kw_bits.specs.Host as host
 use Rattle.koika_syntax.specs.declared.tree.Name.{Name}
-use Rattle.koika_check.specs.Outcomes.{Outcome, found, wrong}
+use Rattle.koika_check.specs.Outcomes.{CheckResult, found, wrong}
 use Rattle.koika_check.specs.Types.{bits}
 use Rattle.koika_check.specs.declared.checked.Checked.{Checked}
-use Rattle.koika_check.specs.declared.checked.Function.{Function}
+use Rattle.koika_check.specs.declared.checked.CheckedFunction.{CheckedFunction}
 use Rattle.koika_check.specs.declared.checked.Host.{Host}
 use Rattle.koika_check.specs.declared.checked.Input.{Input}
 use Rattle.koika_check.specs.declared.checked.Register.{Register}
-use Rattle.koika_check.specs.declared.checked.Rule.{Rule}
+use Rattle.koika_check.specs.declared.checked.CheckedRule.{CheckedRule}
 use Rattle.koika_check.specs.declared.checked.Table.{Table}
 use Rattle.koika_check.specs.declared.typed.Operation.{Operation}
 use Rattle.koika_check.specs.declared.typed.Operation.TheVariants as operation
@@ -58,11 +58,11 @@ host_named d = number_of (map (λ (h : Host). h.name) d.hosts)
 
 -- the number of the function of a name
 abbrev pub function_named : Checked → List ℕ → Option ℕ
-function_named d = number_of (map (λ (f : Function). f.name) d.functions)
+function_named d = number_of (map (λ (f : CheckedFunction). f.name) d.functions)
 
 -- the number of the rule of a name
 abbrev pub rule_named : Checked → List ℕ → Option ℕ
-rule_named d = number_of (map (λ (r : Rule). r.name) d.rules)
+rule_named d = number_of (map (λ (r : CheckedRule). r.name) d.rules)
 
 -- ---- registers
 
@@ -72,7 +72,7 @@ type_of_register None = None
 type_of_register (Some register) = Some register.of
 
 -- `read` and `write` want a register (20)
-abbrev pub register : Checked → Name → Outcome ℕ
+abbrev pub register : Checked → Name → CheckResult ℕ
 register d n = found (register_named d n.text) (wrong UNKNOWN_NAME n.place)
 
 -- the type of the register of this number
@@ -107,7 +107,7 @@ or_else (Some x) other = Some x
 or_else None other = other
 
 -- a bare name wants a local or an input (20)
-abbrev pub bare : Scope → Name → Outcome Named
+abbrev pub bare : Scope → Name → CheckResult Named
 bare scope n = found
     (or_else
     (local_by (local_named scope.locals n.text) (at scope.locals (local_named scope.locals n.text)))
@@ -123,7 +123,7 @@ pub record Called : Type 0 where
   pub gives : Option ValueType
 
 -- a call of a function, with its parameters and its result
-abbrev pub called_function : Option ℕ → Option Function → Option Called
+abbrev pub called_function : Option ℕ → Option CheckedFunction → Option Called
 called_function (Some number) (Some f) = Some (record { operation = operation.Call number; parameters = f.parameters; gives = f.result })
 called_function number f = None
 
@@ -144,7 +144,7 @@ called_host (Some number) (Some h) =
 called_host number h = None
 
 -- a call wants a function, a table or a host function (20)
-abbrev pub called : Checked → Name → Outcome Called
+abbrev pub called : Checked → Name → CheckResult Called
 called d n = found
     (or_else (called_function (function_named d n.text) (at d.functions (function_named d n.text)))
     (or_else (called_table (table_named d n.text) (at d.tables (table_named d n.text)))

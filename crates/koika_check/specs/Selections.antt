@@ -6,11 +6,11 @@ use Rattle.koika_syntax.specs.declared.tree.Name.{Name}
 use Rattle.koika_syntax.specs.declared.tree.Number.{Number}
 use Rattle.koika_syntax.specs.declared.tree.Suffix.{Suffix}
 use Rattle.koika_syntax.specs.declared.tree.Suffix.TheVariants as suffixes
-use Rattle.koika_check.specs.Outcomes.{Outcome, ◌>>=◌, Fails, Condition, holds, where_all, found, wrong}
-use Rattle.koika_check.specs.Types.{Part, agrees, as_bits, as_struct, bits, width_of, wrong_type}
+use Rattle.koika_check.specs.Outcomes.{CheckResult, ◌>>=◌, Fails, Condition, holds, where_all, found, wrong}
+use Rattle.koika_check.specs.Types.{TypedPart, agrees, as_bits, as_struct, bits, width_of, wrong_type}
 use Rattle.koika_check.specs.Composites.{field_named, fields_of, type_at}
 use Rattle.koika_check.specs.declared.checked.Checked.{Checked}
-use Rattle.koika_check.specs.declared.checked.Field.{Field}
+use Rattle.koika_check.specs.declared.checked.CheckedField.{CheckedField}
 use Rattle.koika_check.specs.declared.typed.Selection.{Selection}
 use Rattle.koika_check.specs.declared.typed.Selection.TheVariants as selection
 use Rattle.koika_check.specs.declared.typed.ValueType.{ValueType}
@@ -21,19 +21,19 @@ pub record Selected : Type 0 where
   pub of : ValueType
 
 -- the field of this number: the later ones are below it
-abbrev pub field_at : Checked → List Field → ℕ → ValueType → Selected
+abbrev pub field_at : Checked → List CheckedField → ℕ → ValueType → Selected
 field_at d fields number of = record {
-  selection = selection.Field number (sum_by (λ (f : Field). width_of d f.of) (drop (number + 1) fields)) (width_of d of);
+  selection = selection.Field number (sum_by (λ (f : CheckedField). width_of d f.of) (drop (number + 1) fields)) (width_of d of);
   of = of;
 }
 
 -- a field of a struct, if it is there
-abbrev pub field_if : Checked → List Field → Option ℕ → Option ValueType → Option Selected
+abbrev pub field_if : Checked → List CheckedField → Option ℕ → Option ValueType → Option Selected
 field_if d fields (Some number) (Some of) = Some (field_at d fields number of)
 field_if d fields number of = None
 
 -- `.f`: a struct (22) with that field (24)
-abbrev pub select_field : Checked → Part → Name → Outcome Selected
+abbrev pub select_field : Checked → TypedPart → Name → CheckResult Selected
 select_field d whole n = found (as_struct whole.of) (wrong_type whole) >>= λ s.
     found
     (field_if d (fields_of d s) (field_named (fields_of d s) n.text) (type_at (fields_of d s) (field_named (fields_of d s) n.text)))
@@ -67,27 +67,27 @@ abbrev pub bits_at : (high low : ℕ) → Selected
 bits_at high low = record { selection = selection.Bits high low; of = bits (high - low + 1) }
 
 -- `[i]`: an array or bits (22), i in range (23)
-abbrev pub index_of : Checked → Part → Number → Option Items → Option ℕ → Outcome Selected
+abbrev pub index_of : Checked → TypedPart → Number → Option Items → Option ℕ → CheckResult Selected
 index_of d whole i (Some items) width = where_all (in_range i items.length ∷ []) (item_at d i.value items.of)
 index_of d whole i None (Some width) = where_all (in_range i width ∷ []) (bits_at i.value i.value)
 index_of d whole i None None = Fails (wrong_type whole)
 
 -- `[h:l]`: bits (22), `l <= h < width` (23)
-abbrev pub select_slice : Part → (high low : Number) → Outcome Selected
+abbrev pub select_slice : TypedPart → (high low : Number) → CheckResult Selected
 select_slice whole high low = found (as_bits whole.of) (wrong_type whole) >>= λ width.
     where_all (holds (nat_le low.value high.value && nat_lt high.value width) (wrong WRONG_WIDTH high.place) ∷ []) (bits_at high.value low.value)
 
 -- what a suffix takes
-abbrev pub select : Checked → Part → Suffix → Outcome Selected
+abbrev pub select : Checked → TypedPart → Suffix → CheckResult Selected
 select d whole (suffixes.Field n) = select_field d whole n
 select d whole (suffixes.Index i) = index_of d whole i (as_array whole.of) (as_bits whole.of)
 select d whole (suffixes.Slice high low) = select_slice whole high low
 
 -- `update`: a struct and a field (22, 24), or an array and an index in range (22, 23); the new part agrees
-abbrev pub replace_field : Checked → Part → Name → (new : Part) → Outcome Selected
+abbrev pub replace_field : Checked → TypedPart → Name → (new : TypedPart) → CheckResult Selected
 replace_field d whole n new = select_field d whole n >>= λ field. where_all (agrees (Some field.of) new ∷ []) field
 
 -- an item of an array that a new value takes the place of
-abbrev pub replace_item : Checked → Part → Number → (new : Part) → Outcome Selected
+abbrev pub replace_item : Checked → TypedPart → Number → (new : TypedPart) → CheckResult Selected
 replace_item d whole i new = found (as_array whole.of) (wrong_type whole) >>= λ items.
     where_all (in_range i items.length ∷ agrees (Some items.of) new ∷ []) (item_at d i.value items.of)

@@ -4,15 +4,15 @@
 use Rattle.std.specs.Prelude.{ℕ, zero, suc, ◌+◌, ◌-◌, ◌^◌, max, map, sum_by, List, [], ◌∷◌, ◌++◌, length, Option, Some, None, slice_get}
 use Rattle.typed_core.specs.declared.design.Node.{Node}
 use Rattle.koika_check.specs.declared.checked.Checked.{Checked}
-use Rattle.koika_check.specs.declared.checked.Function.{Function}
+use Rattle.koika_check.specs.declared.checked.CheckedFunction.{CheckedFunction}
 use Rattle.koika_check.specs.declared.checked.Host.{Host}
-use Rattle.koika_check.specs.declared.checked.Rule.{Rule}
+use Rattle.koika_check.specs.declared.checked.CheckedRule.{CheckedRule}
 use Rattle.koika_check.specs.declared.checked.Table.{Table}
 use Rattle.koika_check.specs.declared.typed.Operation.{Operation}
 use Rattle.koika_check.specs.declared.typed.Operation.TheVariants as operation
-use Rattle.koika_check.specs.declared.typed.Step.{Step, Step-F}
+use Rattle.koika_check.specs.declared.typed.TypedStep.{TypedStep, TypedStep-F}
 use Rattle.koika_check.specs.declared.typed.Typed.{Typed, Typed-F, fold-Typed}
-use Rattle.koika_check.specs.declared.typed.Step.TheOpen as typed
+use Rattle.koika_check.specs.declared.typed.TypedStep.TheOpen as typed
 
 -- a weight and a depth
 pub record Size : Type 0 where
@@ -157,7 +157,7 @@ typed_step r (typed.If conditions bodies) = heavier (length conditions) (both (o
 typed_step r (typed.Block steps) = heavier 1 (steps_size steps)
 
 -- the size of a statement
-abbrev pub step_step : Step-F StepSize Size → StepSize
+abbrev pub step_step : TypedStep-F StepSize Size → StepSize
 step_step (typed.Let value) = record { statement = 1; value = value }
 step_step (typed.Do value) = record { statement = 1; value = value }
 step_step (typed.Give value) = record { statement = 0; value = value }
@@ -167,7 +167,7 @@ unfoldable pub size_of : Rests → Typed → Size
 size_of r = fold-Typed StepSize Size step_step (typed_step r)
 
 -- the sizes of functions' bodies, each of which rests on those before it
-abbrev pub bodies_behind : Checked → List Size → List Function → List Size
+abbrev pub bodies_behind : Checked → List Size → List CheckedFunction → List Size
 bodies_behind d before [] = before
 bodies_behind d before (f ∷ functions) = bodies_behind d (before ++ size_of (record { design = d; bodies = before }) f.body ∷ []) functions
 
@@ -177,7 +177,7 @@ rests d = record { design = d; bodies = bodies_behind d [] d.functions }
 
 -- the sizes of the rules' bodies
 abbrev pub rule_sizes : Checked → List Size
-rule_sizes d = map (λ (r : Rule). size_of (rests d) r.body) d.rules
+rule_sizes d = map (λ (r : CheckedRule). size_of (rests d) r.body) d.rules
 
 -- for each node of the scheduler what its rule's body weighs
 abbrev pub node_weights : List Size → List Node → ℕ

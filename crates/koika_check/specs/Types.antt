@@ -8,7 +8,7 @@ use Rattle.kw_base.specs.declared.fault_number.TheConstants.{UNKNOWN_NAME, WRONG
 use Rattle.koika_syntax.specs.declared.tree.Name.{Name}
 use Rattle.koika_syntax.specs.declared.tree.TypeExpression.{TypeExpression, Bits, Named, Array'}
 use Rattle.koika_types.specs.declared.declarations.EnumDecl.{EnumDecl}
-use Rattle.koika_check.specs.Outcomes.{Outcome, ◌>>=◌, Condition, holds, first, where_all, found, wrong}
+use Rattle.koika_check.specs.Outcomes.{CheckResult, ◌>>=◌, Condition, holds, first, where_all, found, wrong}
 use Rattle.koika_check.specs.declared.stop.Wrong.{Wrong}
 use Rattle.koika_check.specs.declared.checked.Checked.{Checked}
 use Rattle.koika_check.specs.declared.checked.Struct.{Struct}
@@ -81,17 +81,17 @@ abbrev pub type_named : Checked → List ℕ → Option BaseType
 type_named d name = type_by (enum_named d name) (struct_named d name)
 
 -- a named type is declared, else 20; its width is 1 to 128, else 23
-abbrev pub named_type : Checked → Name → Outcome ValueType
+abbrev pub named_type : Checked → Name → CheckResult ValueType
 named_type d n = found (type_named d n.text) (wrong UNKNOWN_NAME n.place) >>= λ b.
     where_all (holds (is_width (base_width d b)) (wrong WRONG_WIDTH n.place) ∷ []) (of_base b)
 
 -- an array's length and its total width are 1 to 128, else 23
-abbrev pub array_type : Checked → (length place : ℕ) → ValueType → Outcome ValueType
+abbrev pub array_type : Checked → (length place : ℕ) → ValueType → CheckResult ValueType
 array_type d length place item =
     where_all (holds (is_width length && is_width (width_of d (array length item))) (wrong WRONG_WIDTH place) ∷ []) (array length item)
 
 -- what a type expression evaluates to
-abbrev pub type_of : Checked → TypeExpression → Outcome ValueType
+abbrev pub type_of : Checked → TypeExpression → CheckResult ValueType
 type_of d (Bits width) =
     where_all (holds (is_width width.number.value) (wrong WRONG_WIDTH width.place) ∷ []) (bits width.number.value)
 type_of d (Named n) = named_type d n
@@ -100,12 +100,12 @@ type_of d (Array' place _ element length) = type_of d element >>= array_type d l
 -- ---- parts
 
 -- a part: its type, none where it is unit, and the place of its first token
-pub record Part : Type 0 where
+pub record TypedPart : Type 0 where
   pub of : Option ValueType
   pub place : ℕ
 
 -- a part of a type, or of none, at a place
-abbrev pub part : Option ValueType → ℕ → Part
+abbrev pub part : Option ValueType → ℕ → TypedPart
 part of place = record { of = of; place = place }
 
 -- the width of bits; none for all else
@@ -129,15 +129,15 @@ as_struct (Some t) = struct_by t.base t.lengths
 as_struct None = None
 
 -- 22 at a part, which isn't of the type that is wanted there
-abbrev pub wrong_type : Part → Wrong
+abbrev pub wrong_type : TypedPart → Wrong
 wrong_type part = wrong WRONG_TYPE part.place
 
 -- the part is bits; it isn't unit
-abbrev pub is_bits : Part → Condition
+abbrev pub is_bits : TypedPart → Condition
 is_bits part = holds (is_some (as_bits part.of)) (wrong_type part)
 
 -- a part has a value
-abbrev pub is_value : Part → Condition
+abbrev pub is_value : TypedPart → Condition
 is_value part = holds (is_some part.of) (wrong_type part)
 
 -- the part agrees with a type: 23 where both are bits of different widths, 22 where they differ otherwise
@@ -152,7 +152,7 @@ same (Some a) (Some b) = same_type a b
 same a b = false
 
 -- a part has the wanted type, else its fault
-abbrev pub agrees : Option ValueType → Part → Condition
+abbrev pub agrees : Option ValueType → TypedPart → Condition
 agrees wanted part = holds (same wanted part.of) (wrong (differs_by (as_bits wanted) (as_bits part.of)) part.place)
 
 -- each of the parts is so

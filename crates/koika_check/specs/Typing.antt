@@ -18,12 +18,12 @@ use Rattle.koika_check.specs.Composites.{fields_of}
 use Rattle.koika_check.specs.Sizes.{design_size}
 use Rattle.koika_check.specs.Types.{array, base_width, bits, of_base, width_of}
 use Rattle.koika_check.specs.declared.checked.Checked.{Checked}
-use Rattle.koika_check.specs.declared.checked.Field.{Field}
-use Rattle.koika_check.specs.declared.checked.Function.{Function}
+use Rattle.koika_check.specs.declared.checked.CheckedField.{CheckedField}
+use Rattle.koika_check.specs.declared.checked.CheckedFunction.{CheckedFunction}
 use Rattle.koika_check.specs.declared.checked.Host.{Host}
 use Rattle.koika_check.specs.declared.checked.Input.{Input}
 use Rattle.koika_check.specs.declared.checked.Register.{Register}
-use Rattle.koika_check.specs.declared.checked.Rule.{Rule}
+use Rattle.koika_check.specs.declared.checked.CheckedRule.{CheckedRule}
 use Rattle.koika_check.specs.declared.checked.Struct.{Struct}
 use Rattle.koika_check.specs.declared.checked.Table.{Table}
 use Rattle.koika_check.specs.declared.measure.TheConstants.{MAX_WEIGHT, MAX_DEPTH}
@@ -33,8 +33,8 @@ use Rattle.koika_check.specs.declared.typed.Operation.{Operation}
 use Rattle.koika_check.specs.declared.typed.Operation.TheVariants as operation
 use Rattle.koika_check.specs.declared.typed.Selection.{Selection}
 use Rattle.koika_check.specs.declared.typed.Selection.TheVariants as selection
-use Rattle.koika_check.specs.declared.typed.Step.{Step, Step-F}
-use Rattle.koika_check.specs.declared.typed.Step.TheOpen as typed
+use Rattle.koika_check.specs.declared.typed.TypedStep.{TypedStep, TypedStep-F}
+use Rattle.koika_check.specs.declared.typed.TypedStep.TheOpen as typed
 use Rattle.koika_check.specs.declared.typed.Typed.{Typed, Typed-F, rec-Typed}
 use Rattle.koika_check.specs.declared.typed.ValueType.{ValueType}
 
@@ -54,7 +54,7 @@ Pairwise is xs ys = ⊥
 abbrev pub PartIsOf : Checked → {X : Type 0} → (X → ValueType → Type 0) → Value-F X → ValueType → Type 0
 PartIsOf d is (Value-F.Number number) t = (t ≡ bits number.width) × IsBits number
 PartIsOf d is (Value-F.Member number member) t = (t ≡ of_base (base.Enum number)) × HasWidth member (base_width d (base.Enum number))
-PartIsOf d is (Value-F.Fields number values) t = (t ≡ of_base (base.Struct number)) × Pairwise is values (map (λ (f : Field). f.of) (fields_of d number))
+PartIsOf d is (Value-F.Fields number values) t = (t ≡ of_base (base.Struct number)) × Pairwise is values (map (λ (f : CheckedField). f.of) (fields_of d number))
 PartIsOf d is (Value-F.Items values) t = (item : ValueType) × (t ≡ array (length values) item) × Pairwise is values (replicate (length values) item)
 
 -- the value is of the type
@@ -106,12 +106,12 @@ Chains operators left rest of = ⊥
 
 -- the lowest bit of a field among those of its struct: the later fields are below it
 abbrev pub lowest_of : Checked → (struct number : ℕ) → ℕ
-lowest_of d struct number = sum_by (λ (f : Field). width_of d f.of) (drop (number + 1) (fields_of d struct))
+lowest_of d struct number = sum_by (λ (f : CheckedField). width_of d f.of) (drop (number + 1) (fields_of d struct))
 
 -- a field of a struct, an item of an array, some of the bits of a vector: what of is taken, and the type of the part
 abbrev pub TakesField : Checked → (number lowest width : ℕ) → (whole of : ValueType) → Type 0
 TakesField d number lowest width whole of =
-    (struct : ℕ) × (field : Field) × (whole ≡ of_base (base.Struct struct)) × (slice_get (fields_of d struct) number ≡ Some field) ×
+    (struct : ℕ) × (field : CheckedField) × (whole ≡ of_base (base.Struct struct)) × (slice_get (fields_of d struct) number ≡ Some field) ×
     (of ≡ field.of) × (lowest ≡ lowest_of d struct number) × (width ≡ width_of d field.of)
 
 abbrev pub TakesItem : Checked → (index width : ℕ) → (whole of : ValueType) → Type 0
@@ -144,7 +144,7 @@ Applies d functions (operation.Chain operators) (t ∷ rest) of = (1 ≤ length 
 Applies d functions (operation.Select selections) (t ∷ []) of = (part : ValueType) × TakesAll d selections t part × (of ≡ Some part)
 Applies d functions (operation.Update one) (t ∷ new ∷ []) of = Replaces d one t new × (of ≡ Some t)
 Applies d functions (operation.Struct number) types of =
-    (types ≡ map (λ (f : Field). f.of) (fields_of d number)) × IsType d (of_base (base.Struct number)) × (of ≡ Some (of_base (base.Struct number)))
+    (types ≡ map (λ (f : CheckedField). f.of) (fields_of d number)) × IsType d (of_base (base.Struct number)) × (of ≡ Some (of_base (base.Struct number)))
 Applies d functions operation.Array types of =
     (item : ValueType) × (types ≡ replicate (length types) item) × IsType d (array (length types) item) × (of ≡ Some (array (length types) item))
 Applies d functions operation.Pack (t ∷ []) of = of ≡ Some (bits (width_of d t))
@@ -158,7 +158,7 @@ Applies d functions (operation.Host number) types of =
     (types ≡ replicate (host.arity function.spec.kind) (bits (function.spec.in_width / host.arity function.spec.kind))) ×
     (of ≡ Some (bits (host.out_width function.spec.kind function.spec.in_width)))
 Applies d functions (operation.Call number) types of =
-    (function : Function) × (number < functions) × (slice_get d.functions number ≡ Some function) × (types ≡ function.parameters) × (of ≡ function.result)
+    (function : CheckedFunction) × (number < functions) × (slice_get d.functions number ≡ Some function) × (types ≡ function.parameters) × (of ≡ function.result)
 Applies d functions (operation.Read port register) [] of = (r : Register) × IsPort port × (slice_get d.registers register ≡ Some r) × (of ≡ Some r.of)
 Applies d functions (operation.Write port register) (t ∷ []) of = (r : Register) × IsPort port × (slice_get d.registers register ≡ Some r) × (t ≡ r.of) × (of ≡ None)
 Applies d functions operation.Abort [] of = of ≡ None
@@ -200,7 +200,7 @@ PartHasType d functions does is (typed.If conditions bodies) locals of =
     AllByRecursion (λ x. is x locals (Some (bits 1))) conditions × AllByRecursion (λ x. is x locals of) bodies × AreArms (length conditions) (length bodies) of
 PartHasType d functions does is (typed.Block steps) locals of = StepsHaveType does steps locals of
 
-abbrev pub StepDoes : {X Y : Type 0} → (Y → List ValueType → Option ValueType → Type 0) → Step-F X Y → List ValueType → Doing → Type 0
+abbrev pub StepDoes : {X Y : Type 0} → (Y → List ValueType → Option ValueType → Type 0) → TypedStep-F X Y → List ValueType → Doing → Type 0
 StepDoes is (typed.Let v) locals (Binds of) = is v locals (Some of)
 StepDoes is (typed.Do v) locals Runs = (of : Option ValueType) × is v locals of
 StepDoes is (typed.Give v) locals (Gives of) = is v locals of
@@ -227,8 +227,8 @@ IsAmong structs b = Unit {0}
 -- a struct has fields of types that name earlier structs, and its width is that of its fields together, where 129
 -- stands for more than 128
 pub record IsStruct (d : Checked) (number : ℕ) (s : Struct) : Type 0 where
-  pub fields : All (λ (f : Field). IsType d f.of × IsAmong number f.of.base) s.fields
-  pub width : s.width ≡ min (sum_by (λ (f : Field). width_of d f.of) s.fields) 129
+  pub fields : All (λ (f : CheckedField). IsType d f.of × IsAmong number f.of.base) s.fields
+  pub width : s.width ≡ min (sum_by (λ (f : CheckedField). width_of d f.of) s.fields) 129
 
 -- a register's type is valid, and its first value is of the type
 pub record IsRegister (d : Checked) (r : Register) : Type 0 where
@@ -241,7 +241,7 @@ pub record IsInput (d : Checked) (i : Input) : Type 0 where
   pub width : i.width ≡ width_of d i.of
 
 -- a function's body has its result's type, where its parameters are bound, and calls earlier functions
-pub record IsFunction (d : Checked) (number : ℕ) (f : Function) : Type 0 where
+pub record IsFunction (d : Checked) (number : ℕ) (f : CheckedFunction) : Type 0 where
   pub parameters : All (IsType d) f.parameters
   pub result : IfSome f.result (IsType d)
   pub body : HasType d number f.body (reverse f.parameters) f.result
@@ -257,9 +257,9 @@ pub record IsTypedDesign (d : Checked) : Type 0 where
   pub inputs : All (IsInput d) d.inputs
   pub tables : All (λ (t : Table). IsTable t.spec × IsWidth t.spec.out_width) d.tables
   pub hosts : All (λ (h : Host). IsHost h.spec) d.hosts
-  pub functions : (number : ℕ) (f : Function) → slice_get d.functions number ≡ Some f → IsFunction d number f
+  pub functions : (number : ℕ) (f : CheckedFunction) → slice_get d.functions number ≡ Some f → IsFunction d number f
   pub few_rules : length d.rules ≤ MAX_RULES
-  pub rules : All (λ (r : Rule). HasType d (length d.functions) r.body [] None) d.rules
+  pub rules : All (λ (r : CheckedRule). HasType d (length d.functions) r.body [] None) d.rules
   pub asserts : All (λ rule. rule < length d.rules) d.asserts
   pub few_nodes : length d.nodes ≤ MAX_NODES
   pub nodes : AreNodes (length d.rules) d.nodes

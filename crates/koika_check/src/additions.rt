@@ -6,7 +6,7 @@ ghost use Rattle.koika_check.specs.inner.Checking.{IsSignature, IsWidth, Stands}
 ghost use Rattle.koika_check.specs.inner.Settled.{IsSettled};
 ghost use Rattle.koika_check.specs.inner.Things.{thing_named};
 
-use crate::checked::{Function, Host, Input, Register, Rule, Table};
+use crate::checked::{CheckedFunction, CheckedRule, Host, Input, Register, Table};
 use crate::checker::{Checker, Signature};
 use crate::shapes::Shape;
 use crate::things::Thing;
@@ -98,7 +98,7 @@ impl Checker {
     pub(crate) fn add_function(
         &mut self,
         name: &Name,
-        function: Function,
+        function: CheckedFunction,
         signature: Signature,
     ) -> Result<(), NoMemory>
         requires settled { IsSettled self.old }
@@ -118,7 +118,7 @@ impl Checker {
     }
 
     /// Declares a rule.
-    pub(crate) fn add_rule(&mut self, name: &Name, rule: Rule) -> Result<(), NoMemory>
+    pub(crate) fn add_rule(&mut self, name: &Name, rule: CheckedRule) -> Result<(), NoMemory>
         requires settled { IsSettled self.old }
         requires new { thing_named self.old.things name.now.text ≡ None }
         requires name { rule.name ≡ name.now.text }

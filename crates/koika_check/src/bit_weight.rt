@@ -8,8 +8,8 @@ ghost use Rattle.koika_check.specs.Typing.{IsTypedDesign};
 ghost use Rattle.koika_types.specs.Values.{packed};
 ghost use Rattle.koika_types.specs.declared.value.Value.{Value as Packed};
 
-use crate::checked::{Checked, Function, Rule};
-use crate::typed::{BaseType, Operation, Selection, Step, Typed, ValueType};
+use crate::checked::{Checked, CheckedFunction, CheckedRule};
+use crate::typed::{BaseType, Operation, Selection, Typed, TypedStep, ValueType};
 use koika_syntax::BinaryOperator;
 use koika_types::Value;
 use typed_core::{Node, Scope};
@@ -96,7 +96,7 @@ fn node_squares(design: &Checked, node: &Node) -> u64
     }
 }
 
-fn rule_squares(design: &Checked, rule: &Rule) -> u64
+fn rule_squares(design: &Checked, rule: &CheckedRule) -> u64
     ensures { result ≡ cap (weights.rule_squares design.now rule.now) }
 {
     gauge_expression(design, design.functions.len(), &Scope::empty(), &rule.body).squares
@@ -220,7 +220,7 @@ fn gauge_called(design: &Checked, functions: usize, number: u32) -> Gauge
 fn gauge_body(
     design: &Checked,
     number: usize,
-    function: &Function,
+    function: &CheckedFunction,
     names: &Scope<u64>,
     index: usize,
 ) -> Gauge
@@ -241,23 +241,23 @@ fn gauge_body(
 
 // Steps of a block.
 #[cycle(gauge)]
-fn gauge_steps(design: &Checked, functions: usize, names: &Scope<u64>, steps: &[Step]) -> Gauge
+fn gauge_steps(design: &Checked, functions: usize, names: &Scope<u64>, steps: &[TypedStep]) -> Gauge
     ensures { IsCounted names.now (steps_of (bodies_before design.now functions) steps.now) result }
 {
     match steps.split_first() {
         Some((step, rest)) => match step {
-            Step::Let(value) => {
+            TypedStep::Let(value) => {
                 let bound = gauge_expression(&*design, functions, &*names, value);
                 let inside = Scope::bind(bound.width, &*names);
                 let after = gauge_steps(&*design, functions, &inside, rest);
                 more(bound.squares, after)
             }
-            Step::Do(value) => {
+            TypedStep::Do(value) => {
                 let first = gauge_expression(&*design, functions, &*names, value);
                 let after = gauge_steps(&*design, functions, &*names, rest);
                 more(first.squares, after)
             }
-            Step::Give(value) => gauge_expression(&*design, functions, &*names, value),
+            TypedStep::Give(value) => gauge_expression(&*design, functions, &*names, value),
         },
         None => sized(0),
     }

@@ -8,7 +8,7 @@ use typed_core::{HostSpec, Node, TableSpec};
 
 /// A field of a struct: its name and its type.
 #[derive(Debug, PartialEq, Eq, Drop)]
-pub struct Field {
+pub struct CheckedField {
     pub name: Text,
     pub of: ValueType,
 }
@@ -17,7 +17,7 @@ pub struct Field {
 #[derive(Debug, PartialEq, Eq, Drop)]
 pub struct Struct {
     pub name: Text,
-    pub fields: Sequence<Field>,
+    pub fields: Sequence<CheckedField>,
     pub width: u32,
 }
 
@@ -54,7 +54,7 @@ pub struct Host {
 
 /// A function: its name, the types of its parameters, that of its result if it has one, and its body.
 #[derive(Debug, PartialEq, Eq, Drop)]
-pub struct Function {
+pub struct CheckedFunction {
     pub name: Text,
     pub parameters: Sequence<ValueType>,
     pub result: Option<ValueType>,
@@ -63,7 +63,7 @@ pub struct Function {
 
 /// A rule: its name and its body.
 #[derive(Debug, PartialEq, Eq, Drop)]
-pub struct Rule {
+pub struct CheckedRule {
     pub name: Text,
     pub body: Typed,
 }
@@ -78,8 +78,8 @@ pub struct Checked {
     pub inputs: Sequence<Input>,
     pub tables: Sequence<Table>,
     pub hosts: Sequence<Host>,
-    pub functions: Sequence<Function>,
-    pub rules: Sequence<Rule>,
+    pub functions: Sequence<CheckedFunction>,
+    pub rules: Sequence<CheckedRule>,
     pub asserts: Sequence<u32>,
     pub nodes: Sequence<Node>,
     pub weight: u32,

@@ -20,7 +20,7 @@ use crate::suffixes::Selected;
 use crate::typed::{Operation, Typed};
 use crate::types::NamedType;
 use koika_syntax::{
-    Extension, Literal, Name, Number, Part as WrittenPart, Prefix, SignedComparison, Suffix,
+    Extension, Literal, Name, Number, Prefix, SignedComparison, Suffix, UpdatedPart as WrittenPart,
 };
 use koika_types::Value;
 use kw_base::fault_number;

@@ -1,7 +1,7 @@
 //! Checker: enums.
 
 ghost use Rattle.std.specs.Prelude.{◌≡◌, ◌++◌, ◌∷◌, [], ℕ, List, length, map, None, OnOk};
-ghost use Rattle.koika_syntax.specs.declared.tree.Member.{Member as Written};
+ghost use Rattle.koika_syntax.specs.declared.tree.EnumMember.{EnumMember as Written};
 ghost use Rattle.koika_check.specs.Declarations as declarations;
 ghost use Rattle.koika_check.specs.inner.Listed.{Keeps, Lists};
 ghost use Rattle.koika_check.specs.Outcomes.{one_by_one};
@@ -18,7 +18,7 @@ use crate::parts::Parts;
 use crate::stop::{Stop, Wrong, least, refuse, unless};
 use crate::things::Thing;
 use crate::types::is_width;
-use koika_syntax::{Member as WrittenMember, Name, Width};
+use koika_syntax::{EnumMember as WrittenMember, Name, Width};
 use koika_types::{EnumDecl, Member};
 use kw_base::fault_number;
 use kw_bits::{Sequence, Text};

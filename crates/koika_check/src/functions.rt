@@ -9,7 +9,7 @@ ghost use Rattle.koika_check.specs.inner.Parameters.{AreParameters};
 ghost use Rattle.koika_check.specs.inner.Settled.{IsSettled};
 
 use crate::agreement::agrees;
-use crate::checked::{Function, Rule};
+use crate::checked::{CheckedFunction, CheckedRule};
 use crate::checker::{Checker, Signature};
 use crate::declarations::repeated;
 use crate::shapes::Shape;
@@ -53,7 +53,7 @@ impl Checker {
         refuse(agrees(gives.shape, typing.part))?;
         self.locals.leave(0);
         let text = Text::from_slice(self.alloc, name.text.as_slice())?;
-        let declared = Function {
+        let declared = CheckedFunction {
             name: text,
             parameters: parameters.of,
             result: gives.of,
@@ -146,7 +146,7 @@ impl Checker {
         let typing = self.block(body)?;
         refuse(agrees(None, typing.part))?;
         let text = Text::from_slice(self.alloc, name.text.as_slice())?;
-        let declared = Rule {
+        let declared = CheckedRule {
             name: text,
             body: typing.typed,
         };

@@ -38,7 +38,9 @@ mod typed;
 mod types;
 
 pub use answer::check;
-pub use checked::{Checked, Field, Function, Host, Input, Register, Rule, Struct, Table};
+pub use checked::{
+    Checked, CheckedField, CheckedFunction, CheckedRule, Host, Input, Register, Struct, Table,
+};
 pub use counts::Counts;
 pub use measure::{MAX_DEPTH, MAX_WEIGHT, Measure, measure_of};
-pub use typed::{BaseType, Operation, Selection, Step, Typed, ValueType};
+pub use typed::{BaseType, Operation, Selection, Typed, TypedStep, ValueType};

@@ -11,7 +11,7 @@ ghost use Rattle.koika_check.specs.inner.Things.{position_of};
 ghost use Rattle.koika_check.specs.declared.things.Thing.TheVariants as thing;
 
 use crate::additions::next_number;
-use crate::checked::{Field, Struct};
+use crate::checked::{CheckedField, Struct};
 use crate::checker::Checker;
 use crate::enums::add_part;
 use crate::shapes::Shape;
@@ -24,7 +24,7 @@ use kw_bits::{Bits, Sequence, Text};
 /// is more than 128.
 #[derive(Drop)]
 pub(crate) struct Fields {
-    pub fields: Sequence<Field>,
+    pub fields: Sequence<CheckedField>,
     pub shapes: Sequence<Shape>,
     pub width: u32,
 }
@@ -109,7 +109,7 @@ impl Checker {
         let width = self.width(of.shape);
         kept.width = kept.width.saturating_add(width).min(Bits::MAX_WIDTH + 1);
         let text = Text::from_slice(self.alloc, field.name.text.as_slice())?;
-        kept.fields.push(Field {
+        kept.fields.push(CheckedField {
             name: text,
             of: of.of,
         })?;

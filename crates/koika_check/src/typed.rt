@@ -98,13 +98,13 @@ pub enum Typed {
         bodies: Sequence<Typed>,
     },
     /// Steps in order.
-    Block(Sequence<Step>),
+    Block(Sequence<TypedStep>),
 }
 
 /// A step of a block.
 #[derive(Debug, PartialEq, Eq, Drop)]
 #[cycle(typed)]
-pub enum Step {
+pub enum TypedStep {
     /// Binds the value in all later steps of its block.
     Let(Typed),
     /// Evaluates an expression for its effect.

@@ -5,7 +5,7 @@ use Rattle.std.proofs.lemmas.Option.{slice_get-map}
 use Rattle.kw_bits.specs.BitVector.{BitVector}
 use Rattle.kw_bits.specs.Laws.{HasWidth}
 use Rattle.koika_types.specs.Values.{packed}
-use Rattle.typed_core.specs.Evaluation.{Ending, Value as Reached, Stop, Part, Ports, ◌>>=◌, comes_to, entry_of, stops, unit}
+use Rattle.typed_core.specs.Evaluation.{Ending, Value as Reached, Stop, Evaluation, Ports, ◌>>=◌, comes_to, entry_of, stops, unit}
 use Rattle.typed_core.specs.Fits.{EventsFit, ProgressFits, ValueFits, EndingFits}
 use Rattle.typed_core.specs.Valid.{ActionHasWidth, IsTable, IsWidth}
 use Rattle.typed_core.specs.declared.access.Event.{Event}
@@ -68,7 +68,7 @@ module _ (d : Checked) (n depth : ℕ) (names : List Bound) (types : List ValueT
   port_ends regs w (Reached v) h = (refl, h)
   port_ends regs w (Stop c) h = refl
 
-  sim-port : (regs : List ℕ) (w : ℕ) (m : Part BitVector Stopped) → ((events : List Event) → EventsFit regs events → ProgressFits regs w (m events)) → Simulates regs (λ a b. (a ≡ b) × ValueFits w b) m m
+  sim-port : (regs : List ℕ) (w : ℕ) (m : Evaluation BitVector Stopped) → ((events : List Event) → EventsFit regs events → ProgressFits regs w (m events)) → Simulates regs (λ a b. (a ≡ b) × ValueFits w b) m m
   sim-port regs w m h events fit = let p = h events fit in (refl, p.0, port_ends regs w (m events).ending p.1)
 
   pub write-lowers : (port register : ℕ) (ts : List ValueType) (of : Option ValueType) (senses : List Sense) (operands init : List Lowered) (last l : Lowered) →

@@ -3,7 +3,7 @@ use Rattle.std.proofs.Common.{◌≡◌, ℕ, zero, suc, ◌<◌, List, [], ◌�
 use Rattle.std.specs.List.{AllByRecursion}
 use Rattle.kw_bits.specs.BitVector.{BitVector}
 use Rattle.koika_types.specs.declared.value.Value.{Value}
-use Rattle.typed_core.specs.Evaluation.{Ending, Value as Reached, Stop, Progress, Part, ◌>>=◌, bind, comes_to, stops}
+use Rattle.typed_core.specs.Evaluation.{Ending, Value as Reached, Stop, Progress, Evaluation, ◌>>=◌, bind, comes_to, stops}
 use Rattle.typed_core.specs.Fits.{EndingFits, EventsFit, ProgressFits, ValueFits}
 use Rattle.typed_core.specs.declared.access.Event.{Event}
 use Rattle.typed_core.specs.declared.outcome.Stopped.{Stopped}
@@ -18,13 +18,13 @@ Ends P (Reached v) = P v
 Ends P (Stop stopped) = Unit {0}
 
 -- after events that fit the guarded part is never stuck and comes to the same, the events fit, and so does the value
-abbrev pub Agrees : {V : Type 0} → List ℕ → (V → Type 0) → Part V Stopped → Part V Cause → Type 0
+abbrev pub Agrees : {V : Type 0} → List ℕ → (V → Type 0) → Evaluation V Stopped → Evaluation V Cause → Type 0
 Agrees regs P m g = (events : List Event) → EventsFit regs events →
     (g events ≡ unstuck (m events)) × EventsFit regs (m events).events × Ends P (m events).ending
 
 -- ---- parts in order
 
-module _ {V W : Type 0} (regs : List ℕ) (P : V → Type 0) (Q : W → Type 0) (f : V → Part W Stopped) (g : V → Part W Cause) (next : (v : V) → P v → Agrees regs Q (f v) (g v)) where
+module _ {V W : Type 0} (regs : List ℕ) (P : V → Type 0) (Q : W → Type 0) (f : V → Evaluation W Stopped) (g : V → Evaluation W Cause) (next : (v : V) → P v → Agrees regs Q (f v) (g v)) where
   abbrev After : List Event → Ending V Stopped → Progress V Cause → Type 0
   After es x q = (bind q.events q.ending g ≡ unstuck (bind es x f)) × EventsFit regs (bind es x f).events × Ends Q (bind es x f).ending
 
@@ -32,7 +32,7 @@ module _ {V W : Type 0} (regs : List ℕ) (P : V → Type 0) (Q : W → Type 0) 
   goes_on es (Reached v) q same fit is = subst (After es (Reached v)) (sym same) (next v is es fit)
   goes_on es (Stop stopped) q same fit is = subst (After es (Stop stopped)) (sym same) (refl, fit, tt)
 
-  pub agrees-bind : (m : Part V Stopped) (h : Part V Cause) → Agrees regs P m h → Agrees regs Q (m >>= f) (h >>= g)
+  pub agrees-bind : (m : Evaluation V Stopped) (h : Evaluation V Cause) → Agrees regs P m h → Agrees regs Q (m >>= f) (h >>= g)
   agrees-bind m h agrees events fit =
       let first = agrees events fit in
       goes_on (m events).events (m events).ending (h events) first.0 first.1 first.2
@@ -43,17 +43,17 @@ agrees-value regs P v is events fit = (refl, fit, is)
 pub agrees-stop : {V : Type 0} (regs : List ℕ) (P : V → Type 0) (stopped : Stopped) → Agrees regs P (stops stopped) (stops (By stopped))
 agrees-stop regs P stopped events fit = (refl, fit, tt)
 
-pub agrees-bit : {V : Type 0} (regs : List ℕ) (P : V → Type 0) (number : ℕ) (m n : Part V Stopped) (g h : Part V Cause) → number < 2 → Agrees regs P m g → Agrees regs P n h →
+pub agrees-bit : {V : Type 0} (regs : List ℕ) (P : V → Type 0) (number : ℕ) (m n : Evaluation V Stopped) (g h : Evaluation V Cause) → number < 2 → Agrees regs P m g → Agrees regs P n h →
     Agrees regs P (if nat_eq number 1 then m else n) (by_bit number g h)
 agrees-bit regs P zero m n g h few first second = second
 agrees-bit regs P (suc zero) m n g h few first second = first
 agrees-bit regs P (suc (suc number)) m n g h few first second = absurd (omega arith)
 
-pub agrees-test : {V : Type 0} (regs : List ℕ) (P : V → Type 0) (test : Bool) (m : Part V Stopped) (g h : Part V Cause) → test ≡ true → Agrees regs P m g → Agrees regs P m (if test then g else h)
+pub agrees-test : {V : Type 0} (regs : List ℕ) (P : V → Type 0) (test : Bool) (m : Evaluation V Stopped) (g h : Evaluation V Cause) → test ≡ true → Agrees regs P m g → Agrees regs P m (if test then g else h)
 agrees-test regs P test m g h passes agrees = subst (λ b. Agrees regs P m (if b then g else h)) (sym passes) agrees
 
 -- what has to be there is
-pub agrees-some : {V W : Type 0} (regs : List ℕ) (P : W → Type 0) (m : Part W Stopped) (next : V → Part W Cause) (o : Option V) (v : V) → o ≡ Some v → Agrees regs P m (next v) →
+pub agrees-some : {V W : Type 0} (regs : List ℕ) (P : W → Type 0) (m : Evaluation W Stopped) (next : V → Evaluation W Cause) (o : Option V) (v : V) → o ≡ Some v → Agrees regs P m (next v) →
     Agrees regs P m (with_some next o)
 agrees-some regs P m next o v there agrees = subst (λ (x : _). Agrees regs P m (with_some next x)) (sym there) agrees
 
@@ -62,7 +62,7 @@ port_ends : (width : ℕ) (x : Ending BitVector Stopped) → EndingFits width x 
 port_ends width (Reached v) h = h
 port_ends width (Stop stopped) h = tt
 
-pub agrees-port : (regs : List ℕ) (width : ℕ) (m : Part BitVector Stopped) → ((events : List Event) → EventsFit regs events → ProgressFits regs width (m events)) →
+pub agrees-port : (regs : List ℕ) (width : ℕ) (m : Evaluation BitVector Stopped) → ((events : List Event) → EventsFit regs events → ProgressFits regs width (m events)) →
     Agrees regs (ValueFits width) m (λ events. unstuck (m events))
 agrees-port regs width m fits events fit = let p = fits events fit in (refl, p.0, port_ends width (m events).ending p.1)
 
@@ -83,12 +83,12 @@ module _ (d : Checked) where
   HasIf of v = ⊥
 
   -- a value that isn't unit
-  module _ {W : Type 0} (regs : List ℕ) (Q : W → Type 0) (t : ValueType) (f : Option Value → Part W Stopped) (g : Value → Part W Cause) (next : (v : Value) → Has v t → Agrees regs Q (f (Some v)) (g v)) where
+  module _ {W : Type 0} (regs : List ℕ) (Q : W → Type 0) (t : ValueType) (f : Option Value → Evaluation W Stopped) (g : Value → Evaluation W Cause) (next : (v : Value) → Has v t → Agrees regs Q (f (Some v)) (g v)) where
     some_value : (v : Option Value) → HasIf (Some t) v → Agrees regs Q (f v) (with_some g v)
     some_value None is = absurd is
     some_value (Some v) is = next v is
 
-    pub agrees-known : (m : Part (Option Value) Stopped) (h : Part (Option Value) Cause) → Agrees regs (HasIf (Some t)) m h → Agrees regs Q (m >>= f) (h >>= with_some g)
+    pub agrees-known : (m : Evaluation (Option Value) Stopped) (h : Evaluation (Option Value) Cause) → Agrees regs (HasIf (Some t)) m h → Agrees regs Q (m >>= f) (h >>= with_some g)
     agrees-known m h agrees = agrees-bind regs (HasIf (Some t)) Q f (with_some g) some_value m h agrees
 
   -- values one by one

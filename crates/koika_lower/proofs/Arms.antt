@@ -5,7 +5,7 @@ use Rattle.std.proofs.lemmas.List.{length-append}
 use Rattle.kw_bits.specs.BitVector.{BitVector}
 use Rattle.koika_types.specs.Values.{packed}
 use Rattle.koika_types.specs.declared.value.Value.{Value}
-use Rattle.typed_core.specs.Evaluation.{Part, Ports, choose, comes_to, evaluate, unit}
+use Rattle.typed_core.specs.Evaluation.{Evaluation, Ports, choose, comes_to, evaluate, unit}
 use Rattle.typed_core.specs.Fits.{PortsFit}
 use Rattle.typed_core.specs.Valid.{ActionHasWidth}
 use Rattle.typed_core.specs.Widths.{HaveWidths}
@@ -16,7 +16,7 @@ use Rattle.koika_check.specs.Typing.{AreArms, IsType}
 use Rattle.koika_check.specs.declared.checked.Checked.{Checked}
 use Rattle.koika_check.specs.declared.typed.ValueType.{ValueType}
 use Rattle.koika_lower.specs.inner.Applied.{IsChoice, IsChosen, arms_part, idle, values_of}
-use Rattle.koika_lower.specs.Lowering.{input_widths, register_widths}
+use Rattle.koika_lower.specs.Lowering.{typed_input_widths, register_widths}
 use Rattle.koika_lower.specs.inner.Simulation.{Lowers, LowersAll, NamesFit, NamesStand, Sense, Simulates, Stands, declared_by, environment, width_if, world}
 use Rattle.koika_lower.specs.declared.lowered.Bound.{Bound}
 use Rattle.koika_lower.specs.declared.lowered.Lowered.{Lowered}
@@ -29,7 +29,7 @@ abbrev pub if_sense : List Sense → List Sense → Sense
 if_sense conditions bodies s values = choose_body (map (λ (m : Sense). m s) conditions) (map (λ (m : Sense). m s) bodies) values
 
 -- a bit that is 1, or else 0
-sim-if : {V W : Type 0} (regs : List ℕ) (R : V → W → Type 0) (k j : ℕ) (m n : Part V Stopped) (a b : Part W Stopped) → j ≡ k → k < 2 → Simulates regs R m a → Simulates regs R n b →
+sim-if : {V W : Type 0} (regs : List ℕ) (R : V → W → Type 0) (k j : ℕ) (m n : Evaluation V Stopped) (a b : Evaluation W Stopped) → j ≡ k → k < 2 → Simulates regs R m a → Simulates regs R n b →
     Simulates regs R (if nat_eq j 1 then m else n) (if nat_eq k 0 then b else a)
 sim-if regs R zero j m n a b e below h g = subst (λ i. Simulates regs R (if nat_eq i 1 then m else n) b) (sym e) g
 sim-if regs R (suc zero) j m n a b e below h g = subst (λ i. Simulates regs R (if nat_eq i 1 then m else n) a) (sym e) h
@@ -44,14 +44,14 @@ module _ (d : Checked) (n depth : ℕ) (names : List Bound) (types : List ValueT
   AreBranches senses ls = LowersAll d n depth false names types (replicate (length ls) of) senses ls
 
   module _ (inputs : List BitVector) (ports : Ports Stopped) (values : List Value) (locals : List BitVector)
-      (w : HaveWidths (input_widths d) inputs) (p : PortsFit (register_widths d) ports) (st : NamesStand d depth names types values locals) where
+      (w : HaveWidths (typed_input_widths d) inputs) (p : PortsFit (register_widths d) ports) (st : NamesStand d depth names types values locals) where
     abbrev senses_in : List Sense → List (Meaning Stopped)
     senses_in = map (λ (m : Sense). m (world d n inputs ports))
 
-    abbrev actions_in : List Lowered → List (List BitVector → Part BitVector Stopped)
+    abbrev actions_in : List Lowered → List (List BitVector → Evaluation BitVector Stopped)
     actions_in = values_of (environment d inputs) ports
 
-    chosen-by : (v : Option Value) (x : BitVector) (m r : Part (Option Value) Stopped) (a b : Part BitVector Stopped) → Stands d (Some (bits 1)) v x →
+    chosen-by : (v : Option Value) (x : BitVector) (m r : Evaluation (Option Value) Stopped) (a b : Evaluation BitVector Stopped) → Stands d (Some (bits 1)) v x →
         Simulates (register_widths d) (Stands d of) m a → Simulates (register_widths d) (Stands d of) r b →
         Simulates (register_widths d) (Stands d of) (if nat_eq (number_by v) 1 then m else r) (choose x a b)
     chosen-by None x m r a b is h g = absurd is
@@ -61,7 +61,7 @@ module _ (d : Checked) (n depth : ℕ) (names : List Bound) (types : List ValueT
         let few : x.number < 2 = omega (arith, subst (λ k. x.number < 2 ^ k) wide low) in
         sim-if (register_widths d) (Stands d of) x.number (packed v).number m r a b (ap (λ (y : BitVector). y.number) is.1) few h g
 
-    sim-arms : (cs bs tail : List Sense) (cls bls : List Lowered) (behind : List BitVector → Part BitVector Stopped) → AreConditions cs cls → AreBranches bs bls → length cls ≡ length bls →
+    sim-arms : (cs bs tail : List Sense) (cls bls : List Lowered) (behind : List BitVector → Evaluation BitVector Stopped) → AreConditions cs cls → AreBranches bs bls → length cls ≡ length bls →
         Simulates (register_widths d) (Stands d of) (choose_body [] (senses_in tail) values) (behind locals) →
         Simulates (register_widths d) (Stands d of) (choose_body (senses_in cs) (senses_in (bs ++ tail)) values) (arms_part (actions_in cls) (actions_in bls) behind locals)
     sim-arms [] [] tail [] [] behind conditions branches count h = h
@@ -110,7 +110,7 @@ module _ (d : Checked) (n depth : ℕ) (names : List Bound) (types : List ValueT
     width : behind.width ≡ width_if d of
     typed : (widths : List ℕ) → NamesFit depth names widths → ActionHasWidth (declared_by d) behind.action widths (width_if d of)
     means : (inputs : List BitVector) (ports : Ports Stopped) (values : List Value) (locals : List BitVector) →
-        HaveWidths (input_widths d) inputs → PortsFit (register_widths d) ports → NamesStand d depth names types values locals →
+        HaveWidths (typed_input_widths d) inputs → PortsFit (register_widths d) ports → NamesStand d depth names types values locals →
         Simulates (register_widths d) (Stands d of) (choose_body [] (map (λ (m : Sense). m (world d n inputs ports)) tail) values) (evaluate (environment d inputs) ports behind.action locals)
 
   chosen-lowers : (cs bs tail : List Sense) (cls bls : List Lowered) (behind l : Lowered) → IsChosen cls bls behind l → length cls ≡ length bls →

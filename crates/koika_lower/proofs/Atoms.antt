@@ -5,19 +5,19 @@ use Rattle.kw_bits.specs.BitVector.{BitVector}
 use Rattle.kw_bits.specs.Laws.{HasWidth}
 use Rattle.koika_types.specs.Values.{packed}
 use Rattle.koika_types.specs.declared.value.Value.{Value}
-use Rattle.typed_core.specs.Evaluation.{Value as Reached, Part, Ports, unit}
+use Rattle.typed_core.specs.Evaluation.{Value as Reached, Evaluation, Ports, unit}
 use Rattle.typed_core.specs.declared.action.Action.TheVariants as action
 use Rattle.typed_core.specs.declared.outcome.Stopped.{Stopped}
-use Rattle.koika_check.specs.Meaning.{Setting, bodies_behind, input_as, meaning, typed_step, unpacked}
+use Rattle.koika_check.specs.Meaning.{RuleSetting, bodies_behind, input_as, meaning, typed_step, unpacked}
 use Rattle.koika_check.specs.Typing.{HasType, IsInput, IsOf, IsType, IsTypedDesign}
 use Rattle.koika_check.specs.declared.checked.Checked.{Checked}
-use Rattle.koika_check.specs.declared.checked.Function.{Function}
+use Rattle.koika_check.specs.declared.checked.CheckedFunction.{CheckedFunction}
 use Rattle.koika_check.specs.declared.checked.Input.{Input}
-use Rattle.koika_check.specs.declared.typed.Step.TheOpen as opened
+use Rattle.koika_check.specs.declared.typed.TypedStep.TheOpen as opened
 use Rattle.koika_check.specs.declared.typed.Typed.{Typed}
 use Rattle.koika_check.specs.declared.typed.Typed.TheVariants as typed
 use Rattle.koika_check.specs.declared.typed.ValueType.{ValueType}
-use Rattle.koika_lower.specs.Lowering.{input_widths, register_widths}
+use Rattle.koika_lower.specs.Lowering.{typed_input_widths, register_widths}
 use Rattle.koika_lower.specs.inner.Simulation.{AreNames, Lowers, Sense, Simulates, Stands, place_of, world}
 use Rattle.koika_lower.specs.declared.lowered.Bound.{Bound}
 use Rattle.koika_lower.specs.declared.lowered.Lowered.{Lowered}
@@ -30,7 +30,7 @@ use Rattle.koika_lower.proofs.Values.{all-get, constant-stands, unpacked-stands}
 
 -- ---- the world
 
-behind-inputs : (s : Setting Stopped) (fs : List Function) → (bodies_behind s fs).inputs ≡ s.inputs
+behind-inputs : (s : RuleSetting Stopped) (fs : List CheckedFunction) → (bodies_behind s fs).inputs ≡ s.inputs
 behind-inputs s [] = refl
 behind-inputs s (f ∷ fs) = behind-inputs (record s { bodies = s.bodies ++ meaning s f.body ∷ [] }) fs
 
@@ -39,7 +39,7 @@ world-inputs d n inputs ports = behind-inputs (record { design = d; inputs = inp
 
 module _ (d : Checked) (n depth : ℕ) (names : List Bound) (types : List ValueType) where
   -- the same by another account of what it comes to
-  pub lowers-sense : (of : Option ValueType) (m m' : Sense) (l : Lowered) → ((s : Setting Stopped) → m s ≡ m' s) → Lowers d n depth names types of m l → Lowers d n depth names types of m' l
+  pub lowers-sense : (of : Option ValueType) (m m' : Sense) (l : Lowered) → ((s : RuleSetting Stopped) → m s ≡ m' s) → Lowers d n depth names types of m l → Lowers d n depth names types of m' l
   lowers-sense of m m' l e h = subst (λ (x : Sense). Lowers d n depth names types of x l) (λ i s. e s i) h
 
   -- an expression whose outermost part is known
@@ -73,7 +73,7 @@ module _ (d : Checked) (n depth : ℕ) (names : List Bound) (types : List ValueT
         let it = open-HasType d n (typed.Input number) (opened.Input number) (typed.rolls-Input number) types of h in
         let i : Input = it.0 in
         let ok = all-get (IsInput d) d.inputs number i design.inputs it.1 in
-        let held : slice_get (input_widths d) number ≡ Some i.width = slice_get-map (λ (x : Input). x.width) d.inputs number ∙ ap (option_map (λ (x : Input). x.width)) it.1 in
+        let held : slice_get (typed_input_widths d) number ≡ Some i.width = slice_get-map (λ (x : Input). x.width) d.inputs number ∙ ap (option_map (λ (x : Input). x.width)) it.1 in
         lowers-sense of (λ s. typed_step s (opened.Input number)) (λ s. meaning s (typed.Input number)) l (λ s. sym (meaning-Input s number))
         (subst (λ (o : Option ValueType). Lowers d n depth names types o (λ s. typed_step s (opened.Input number)) l) (sym it.2)
         (subst (λ (x : Lowered). Lowers d n depth names types (Some i.of) (λ s. typed_step s (opened.Input number)) x) (sym (made i it.1))
@@ -85,8 +85,8 @@ module _ (d : Checked) (n depth : ℕ) (names : List Bound) (types : List ValueT
               let x : BitVector = slice_index_or inputs number unit in
               let wide : HasWidth x i.width = w.each number i.width held in
               let found : slice_get inputs number ≡ Some x =
-              slice_get-get_or inputs number unit (subst (λ k. number < k) (sym w.count) (slice_get_within (input_widths d) number i.width held)) in
-              subst (λ (m : Part (Option Value) Stopped). Simulates (register_widths d) (Stands d (Some i.of)) m (λ events. record { events = events; ending = Reached x }))
+              slice_get-get_or inputs number unit (subst (λ k. number < k) (sym w.count) (slice_get_within (typed_input_widths d) number i.width held)) in
+              subst (λ (m : Evaluation (Option Value) Stopped). Simulates (register_widths d) (Stands d (Some i.of)) m (λ events. record { events = events; ending = Reached x }))
               (sym (ap (λ (c : Checked). input_as c (slice_get c.inputs number) (slice_get (world d n inputs ports).inputs number)) (world-design d n inputs ports)
               ∙ ap (λ (xs : List BitVector). input_as d (slice_get d.inputs number) (slice_get xs number)) (world-inputs d n inputs ports)
               ∙ ap (λ (o : Option Input). input_as d o (slice_get inputs number)) it.1

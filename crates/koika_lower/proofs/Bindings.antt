@@ -4,7 +4,7 @@ use Rattle.std.proofs.lemmas.List.{map-append}
 use Rattle.kw_bits.specs.BitVector.{BitVector}
 use Rattle.kw_bits.specs.Operators as op
 use Rattle.kw_bits.specs.declared.memory.NoMemory.{NoMemory}
-use Rattle.typed_core.specs.Evaluation.{Part, ◌>>=◌, comes_to, evaluate, unit}
+use Rattle.typed_core.specs.Evaluation.{Evaluation, ◌>>=◌, comes_to, evaluate, unit}
 use Rattle.typed_core.specs.Valid.{Declarations}
 use Rattle.typed_core.specs.declared.action.Action.{Action}
 use Rattle.typed_core.specs.declared.outcome.Stopped.{Stopped}
@@ -20,7 +20,7 @@ on_ok (Ok x) h p = h x p
 on_ok (Err e) h p = p
 
 -- one more at the end
-lets-push : (vs : List (List BitVector → Part BitVector Stopped)) (v body : List BitVector → Part BitVector Stopped) (locals : List BitVector) →
+lets-push : (vs : List (List BitVector → Evaluation BitVector Stopped)) (v body : List BitVector → Evaluation BitVector Stopped) (locals : List BitVector) →
     lets (vs ++ v ∷ []) body locals ≡ lets vs (λ ls. v ls >>= λ x. body (x ∷ ls)) locals
 lets-push [] v body locals = refl
 lets-push (u ∷ vs) v body locals = λ i. u locals >>= λ x. lets-push vs v body (x ∷ locals) i

@@ -6,7 +6,7 @@ use Rattle.koika_check.specs.Meaning.{meaning}
 use Rattle.koika_check.specs.Types.{width_of}
 use Rattle.koika_check.specs.Typing.{HasType, IsFunction}
 use Rattle.koika_check.specs.declared.checked.Checked.{Checked}
-use Rattle.koika_check.specs.declared.checked.Function.{Function}
+use Rattle.koika_check.specs.declared.checked.CheckedFunction.{CheckedFunction}
 use Rattle.koika_check.specs.declared.typed.ValueType.{ValueType}
 use Rattle.koika_lower.specs.inner.Simulation.{AreNames, IsBody, Lowers, parameter_names}
 use Rattle.koika_lower.specs.declared.lowered.Bound.{Bound}
@@ -29,7 +29,7 @@ all-bound d index ts names all past e = ap (λ (l : List ValueType). parameter_n
     none (suc k) (x ∷ l) h = none k l (omega arith)
 
 -- a body whose parameters are bound
-pub body-lowers : (d : Checked) (number index : ℕ) (f : Function) (names : List Bound) (l : Lowered) → IsFunction d number f → index ≤ length f.parameters → length f.parameters ≤ index →
+pub body-lowers : (d : Checked) (number index : ℕ) (f : CheckedFunction) (names : List Bound) (l : Lowered) → IsFunction d number f → index ≤ length f.parameters → length f.parameters ≤ index →
     parameter_names d index (drop index f.parameters) names ≡ parameter_names d 0 f.parameters [] →
     ((types : List ValueType) (t : Option ValueType) → AreNames d index names types → HasType d number f.body types t → Lowers d number index names types t (λ s. meaning s f.body) l) →
     IsBody d number f l

@@ -7,11 +7,11 @@ use Rattle.typed_core.specs.Evaluation.{Ports, evaluate}
 use Rattle.typed_core.specs.Valid.{ActionHasWidth}
 use Rattle.typed_core.specs.declared.action.Action.{Action}
 use Rattle.typed_core.specs.declared.outcome.Stopped.{Stopped}
-use Rattle.koika_check.specs.Meaning.{Meaning, Setting, apply, bodies_behind, body_by, meaning}
+use Rattle.koika_check.specs.Meaning.{Meaning, RuleSetting, apply, bodies_behind, body_by, meaning}
 use Rattle.koika_check.specs.Types.{width_of}
 use Rattle.koika_check.specs.Typing.{IsType}
 use Rattle.koika_check.specs.declared.checked.Checked.{Checked}
-use Rattle.koika_check.specs.declared.checked.Function.{Function}
+use Rattle.koika_check.specs.declared.checked.CheckedFunction.{CheckedFunction}
 use Rattle.koika_check.specs.declared.typed.Operation.TheVariants as operation
 use Rattle.koika_check.specs.declared.typed.ValueType.{ValueType}
 use Rattle.koika_lower.specs.inner.Applied.{IsBound, IsCalled, LetsTyped, lets}
@@ -38,16 +38,16 @@ length-end : {X : Type 0} (xs : List X) (x : X) → length (xs ++ x ∷ []) ≡ 
 length-end [] x = refl
 length-end (y ∷ xs) x = ap suc (length-end xs x)
 
-one_more : Setting Stopped → Function → Setting Stopped
+one_more : RuleSetting Stopped → CheckedFunction → RuleSetting Stopped
 one_more s f = record s { bodies = s.bodies ++ meaning s f.body ∷ [] }
 
-bodies-keep : (s : Setting Stopped) (fs : List Function) (i : ℕ) → i < length s.bodies → slice_get (bodies_behind s fs).bodies i ≡ slice_get s.bodies i
+bodies-keep : (s : RuleSetting Stopped) (fs : List CheckedFunction) (i : ℕ) → i < length s.bodies → slice_get (bodies_behind s fs).bodies i ≡ slice_get s.bodies i
 unfolding one_more
 bodies-keep s [] i h = refl
 bodies-keep s (f ∷ fs) i h =
     bodies-keep (one_more s f) fs i (omega (arith, length-end s.bodies (meaning s f.body))) ∙ get-front s.bodies (meaning s f.body ∷ []) i h
 
-bodies-get : (s : Setting Stopped) (fs : List Function) (n number : ℕ) (f : Function) → number < n → slice_get fs number ≡ Some f →
+bodies-get : (s : RuleSetting Stopped) (fs : List CheckedFunction) (n number : ℕ) (f : CheckedFunction) → number < n → slice_get fs number ≡ Some f →
     slice_get (bodies_behind s (take n fs)).bodies (length s.bodies + number) ≡ Some (meaning (bodies_behind s (take number fs)) f.body)
 unfolding one_more
 bodies-get s [] n number f h e = cc
@@ -57,12 +57,12 @@ bodies-get s (g ∷ fs) (suc n) zero f h e =
     ap (λ i. slice_get (bodies_behind (one_more s g) (take n fs)).bodies i) (omega arith) ∙
     bodies-keep (one_more s g) (take n fs) (length s.bodies) (omega (arith, length-end s.bodies (meaning s g.body))) ∙
     get-end s.bodies (meaning s g.body) ∙
-    ap (λ (x : Function). Some (meaning s x.body)) same
+    ap (λ (x : CheckedFunction). Some (meaning s x.body)) same
 bodies-get s (g ∷ fs) (suc n) (suc number) f h e =
     ap (λ i. slice_get (bodies_behind (one_more s g) (take n fs)).bodies i) (omega (arith, length-end s.bodies (meaning s g.body))) ∙
     bodies-get (one_more s g) fs n number f (omega arith) e
 
-pub world-bodies : (d : Checked) (n number : ℕ) (inputs : List BitVector) (ports : Ports Stopped) (f : Function) → number < n → slice_get d.functions number ≡ Some f →
+pub world-bodies : (d : Checked) (n number : ℕ) (inputs : List BitVector) (ports : Ports Stopped) (f : CheckedFunction) → number < n → slice_get d.functions number ≡ Some f →
     slice_get (world d n inputs ports).bodies number ≡ Some (meaning (world d number inputs ports) f.body)
 world-bodies d n number inputs ports f h e =
     ap (λ i. slice_get (world d n inputs ports).bodies i) (omega arith) ∙ bodies-get (record { design = d; inputs = inputs; ports = ports; bodies = [] }) d.functions n number f h e
@@ -121,7 +121,7 @@ module _ (d : Checked) (n depth : ℕ) (names : List Bound) (types : List ValueT
       Lowers d n depth names types of (apply_sense (operation.Call number) senses) (record { action = a; width = body.width })
   call-lowers number ts of senses operands body a callee bound given =
       let it = given.applies in
-      let f : Function = it.0 in
+      let f : CheckedFunction = it.0 in
       let is : IsBody d number f body = callee f it.1 it.2 in
       let valid = (given.design.functions number f it.2).parameters in
       let all : LowersAll d n depth true names types (map Some f.parameters) senses operands = subst (λ us. LowersAll d n depth true names types (map Some us) senses operands) it.3 given.all in

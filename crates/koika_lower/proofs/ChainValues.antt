@@ -9,7 +9,7 @@ use Rattle.koika_syntax.specs.declared.operator.BinaryOperator.{BinaryOperator}
 use Rattle.koika_syntax.specs.declared.operator.BinaryOperator.TheVariants as binary
 use Rattle.koika_types.specs.Values.{packed}
 use Rattle.koika_types.specs.declared.value.Value.{Value}
-use Rattle.typed_core.specs.Evaluation.{Part, Ports, ◌>>=◌, comes_to, evaluate}
+use Rattle.typed_core.specs.Evaluation.{Evaluation, Ports, ◌>>=◌, comes_to, evaluate}
 use Rattle.typed_core.specs.Fits.{PortsFit}
 use Rattle.typed_core.specs.Valid.{ActionHasWidth}
 use Rattle.typed_core.specs.Widths.{HaveWidths}
@@ -20,7 +20,7 @@ use Rattle.koika_check.specs.Typing.{Calculates, Chains, Joins, Operates}
 use Rattle.koika_check.specs.declared.checked.Checked.{Checked}
 use Rattle.koika_check.specs.declared.typed.ValueType.{ValueType}
 use Rattle.koika_lower.specs.inner.Applied.{AreOperands, behind, chain_part}
-use Rattle.koika_lower.specs.Lowering.{input_widths, register_widths}
+use Rattle.koika_lower.specs.Lowering.{typed_input_widths, register_widths}
 use Rattle.koika_lower.specs.inner.Simulation.{LowersAll, NamesFit, NamesStand, Sense, Simulates, Stands, declared_by, environment, world}
 use Rattle.koika_lower.specs.declared.lowered.Bound.{Bound}
 use Rattle.koika_lower.specs.declared.lowered.Lowered.{Lowered}
@@ -97,16 +97,16 @@ module _ (d : Checked) (n depth : ℕ) (names : List Bound) (types : List ValueT
   operands-count (t ∷ ts) (m ∷ ms) (l ∷ ls) all = ap suc (operands-count ts ms ls all.1)
 
 module _ (d : Checked) (n depth : ℕ) (names : List Bound) (types : List ValueType) (inputs : List BitVector) (ports : Ports Stopped) (values : List Value) (locals : List BitVector)
-    (widths : HaveWidths (input_widths d) inputs) (fit : PortsFit (register_widths d) ports) (st : NamesStand d depth names types values locals) where
+    (widths : HaveWidths (typed_input_widths d) inputs) (fit : PortsFit (register_widths d) ports) (st : NamesStand d depth names types values locals) where
   abbrev pub meant : List Sense → List (Meaning Stopped)
   meant = meanings d n names types inputs ports values widths fit
 
-  abbrev pub core : List Lowered → List (List BitVector → Part BitVector Stopped)
+  abbrev pub core : List Lowered → List (List BitVector → Evaluation BitVector Stopped)
   core = parts d n names types inputs ports values widths fit
 
   -- operands behind a value so far
   sim-behind : {V : Type 0} (Q : V → BitVector → Type 0) (os : List BinaryOperator) (left : ValueType) (ts : List ValueType) (of : ValueType) (senses : List Sense) (ls : List Lowered)
-      (k : List Value → Part V Stopped) (z : BitVector) → LowersAll d n depth false names types (map Some ts) senses ls → Chains os left ts of → HasWidth z (width_of d left) →
+      (k : List Value → Evaluation V Stopped) (z : BitVector) → LowersAll d n depth false names types (map Some ts) senses ls → Chains os left ts of → HasWidth z (width_of d left) →
       ((vs : List Value) (y : BitVector) → y ≡ chained os z vs → HasWidth y (width_of d of) → Simulates (register_widths d) Q (k vs) (comes_to y)) →
       Simulates (register_widths d) Q (in_turn (meant senses) values >>= k) (behind os (core ls) z locals)
   sim-behind Q [] left [] of [] [] k z all chains hz next = next [] z refl (subst (λ (t : ValueType). HasWidth z (width_of d t)) (sym chains) hz)
@@ -124,7 +124,7 @@ module _ (d : Checked) (n depth : ℕ) (names : List Bound) (types : List ValueT
 
   -- all operands of a chain
   pub sim-chain : {V : Type 0} (Q : V → BitVector → Type 0) (os : List BinaryOperator) (t : ValueType) (ts : List ValueType) (of : ValueType) (senses : List Sense) (ls : List Lowered)
-      (k : List Value → Part V Stopped) → LowersAll d n depth false names types (map Some (t ∷ ts)) senses ls → Chains os t ts of →
+      (k : List Value → Evaluation V Stopped) → LowersAll d n depth false names types (map Some (t ∷ ts)) senses ls → Chains os t ts of →
       ((v : Value) (vs : List Value) (x y : BitVector) → Stands d (Some t) (Some v) x → y ≡ chained os (packed v) vs → HasWidth y (width_of d of) → Simulates (register_widths d) Q (k (v ∷ vs)) (comes_to y)) →
       Simulates (register_widths d) Q (in_turn (meant senses) values >>= k) (chain_part os (core ls) locals)
   sim-chain Q os t ts of [] ls k all chains next = absurd all

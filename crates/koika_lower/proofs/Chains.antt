@@ -5,7 +5,7 @@ use Rattle.std.proofs.lemmas.List.{length-append, length-map, map-append}
 use Rattle.kw_bits.specs.BitVector.{BitVector}
 use Rattle.koika_syntax.specs.declared.operator.BinaryOperator.{BinaryOperator}
 use Rattle.koika_syntax.specs.declared.operator.BinaryOperator.TheVariants.{Concat}
-use Rattle.typed_core.specs.Evaluation.{Part, ◌>>=◌, comes_to, evaluate}
+use Rattle.typed_core.specs.Evaluation.{Evaluation, ◌>>=◌, comes_to, evaluate}
 use Rattle.typed_core.specs.Valid.{ActionHasWidth, Declarations, TwoHasWidth}
 use Rattle.typed_core.specs.declared.outcome.Stopped.{Stopped}
 use Rattle.koika_check.specs.Meaning.{binary_value}
@@ -29,8 +29,8 @@ Pairwise-push is (u ∷ []) x [] y h = absurd h.1
 Pairwise-push is (u ∷ v ∷ xs) x [] y h = absurd h.1
 Pairwise-push is (u ∷ xs) x (z ∷ ys) y h = let rest = Pairwise-push is xs x ys y h.1 in ((h.0, rest.0), rest.1)
 
-module _ (o : BinaryOperator) (v : List BitVector → Part BitVector Stopped) (locals : List BitVector) where
-  behind-push : (os : List BinaryOperator) (vs : List (List BitVector → Part BitVector Stopped)) (x : BitVector) → length os ≡ length vs →
+module _ (o : BinaryOperator) (v : List BitVector → Evaluation BitVector Stopped) (locals : List BitVector) where
+  behind-push : (os : List BinaryOperator) (vs : List (List BitVector → Evaluation BitVector Stopped)) (x : BitVector) → length os ≡ length vs →
       behind (os ++ o ∷ []) (vs ++ v ∷ []) x locals ≡ (behind os vs x locals >>= λ w. v locals >>= λ y. comes_to (binary_value o w y))
   behind-push [] [] x e = refl
   behind-push [] (u ∷ vs) x e = absurd (omega arith)
@@ -39,7 +39,7 @@ module _ (o : BinaryOperator) (v : List BitVector → Part BitVector Stopped) (l
       (λ i. u locals >>= λ y. behind-push os vs (binary_value p x y) (omega arith) i) ∙
       (λ i events. sym (bind-assoc (u locals) (λ y. behind os vs (binary_value p x y) locals) (λ w. v locals >>= λ y. comes_to (binary_value o w y)) events) i)
 
-  chain-push : (os : List BinaryOperator) (vs : List (List BitVector → Part BitVector Stopped)) → length vs ≡ suc (length os) →
+  chain-push : (os : List BinaryOperator) (vs : List (List BitVector → Evaluation BitVector Stopped)) → length vs ≡ suc (length os) →
       chain_part (os ++ o ∷ []) (vs ++ v ∷ []) locals ≡ (chain_part os vs locals >>= λ w. v locals >>= λ y. comes_to (binary_value o w y))
   chain-push os [] e = absurd (omega arith)
   chain-push os (u ∷ vs) e =

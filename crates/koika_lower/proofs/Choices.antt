@@ -3,7 +3,7 @@ use Rattle.std.proofs.Common.{◌≡◌, List, [], ◌∷◌, ◌++◌, length, 
 use Rattle.std.specs.List.{AllByRecursion}
 use Rattle.std.proofs.lemmas.List.{length-append, length-map, map-append}
 use Rattle.kw_bits.specs.BitVector.{BitVector}
-use Rattle.typed_core.specs.Evaluation.{Part, ◌>>=◌, choose, evaluate}
+use Rattle.typed_core.specs.Evaluation.{Evaluation, ◌>>=◌, choose, evaluate}
 use Rattle.typed_core.specs.Valid.{ActionHasWidth}
 use Rattle.typed_core.specs.declared.action.Action.{Action}
 use Rattle.typed_core.specs.declared.outcome.Stopped.{Stopped}
@@ -17,7 +17,7 @@ each-end P [] x h = (tt, h.0)
 each-end P (y ∷ xs) x h = let rest = each-end P xs x h.1 in ((h.0, rest.0), rest.1)
 
 -- one more condition with its body
-arms-push : (cs bs : List (List BitVector → Part BitVector Stopped)) (c b behind : List BitVector → Part BitVector Stopped) (locals : List BitVector) → length cs ≡ length bs →
+arms-push : (cs bs : List (List BitVector → Evaluation BitVector Stopped)) (c b behind : List BitVector → Evaluation BitVector Stopped) (locals : List BitVector) → length cs ≡ length bs →
     arms_part (cs ++ c ∷ []) (bs ++ b ∷ []) behind locals ≡ arms_part cs bs (λ ls. c ls >>= λ x. choose x (b ls) (behind ls)) locals
 arms-push [] [] c b behind locals e = refl
 arms-push [] (u ∷ bs) c b behind locals e = absurd (omega arith)

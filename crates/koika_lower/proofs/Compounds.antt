@@ -12,7 +12,7 @@ use Rattle.koika_check.specs.Meaning.{apply}
 use Rattle.koika_check.specs.Types.{bits, of_base, width_of}
 use Rattle.koika_check.specs.Typing.{IsOf, IsType, IsTypedDesign, Pairwise}
 use Rattle.koika_check.specs.declared.checked.Checked.{Checked}
-use Rattle.koika_check.specs.declared.checked.Field.{Field}
+use Rattle.koika_check.specs.declared.checked.CheckedField.{CheckedField}
 use Rattle.koika_check.specs.declared.typed.BaseType.TheVariants as base
 use Rattle.koika_check.specs.declared.typed.Operation.TheVariants as operation
 use Rattle.koika_check.specs.declared.typed.ValueType.{ValueType}
@@ -32,7 +32,7 @@ use Rattle.koika_lower.proofs.Widths.{width-bits}
 -- ---- structs
 
 pub struct-stands : (d : Checked) → IsTypedDesign d → (number : ℕ) (t : ValueType) (ts : List ValueType) (v : Value) (vs : List Value) (x : BitVector) (xs : List BitVector) → IsType d (of_base (base.Struct number)) →
-    t ∷ ts ≡ map (λ (f : Field). f.of) (fields_of d number) → StandAll d (t ∷ ts) (v ∷ vs) (x ∷ xs) → Stands d (Some (of_base (base.Struct number))) (Some (value.Fields number (v ∷ vs))) (below x xs)
+    t ∷ ts ≡ map (λ (f : CheckedField). f.of) (fields_of d number) → StandAll d (t ∷ ts) (v ∷ vs) (x ∷ xs) → Stands d (Some (of_base (base.Struct number))) (Some (value.Fields number (v ∷ vs))) (below x xs)
 struct-stands d design number t ts v vs x xs valid e h =
     let both = stand-stacked d (t ∷ ts) (v ∷ vs) (x ∷ xs) h in
     let whole : total d (t ∷ ts) ≡ width_of d (of_base (base.Struct number)) = ap (total d) e ∙ struct-total d design number valid in

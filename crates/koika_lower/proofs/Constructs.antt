@@ -13,15 +13,15 @@ use Rattle.koika_syntax.specs.declared.operator.UnaryOperator.TheVariants as una
 use Rattle.koika_types.specs.Values.{packed}
 use Rattle.koika_types.specs.declared.value.Value.{Value}
 use Rattle.koika_types.specs.declared.value.Value.TheVariants as value
-use Rattle.typed_core.specs.Evaluation.{Environment, Part, Ports, ◌>>=◌, comes_to, evaluate}
+use Rattle.typed_core.specs.Evaluation.{Environment, Evaluation, Ports, ◌>>=◌, comes_to, evaluate}
 use Rattle.typed_core.specs.Fits.{PortsFit}
 use Rattle.typed_core.specs.Valid.{ActionHasWidth, IsWidth}
 use Rattle.typed_core.specs.declared.outcome.Stopped.{Stopped}
-use Rattle.koika_check.specs.Meaning.{Setting, apply, bodies_behind, extension_value, meaning, prefixed, unpacked}
+use Rattle.koika_check.specs.Meaning.{RuleSetting, apply, bodies_behind, extension_value, meaning, prefixed, unpacked}
 use Rattle.koika_check.specs.Types.{bits, width_of}
 use Rattle.koika_check.specs.Typing.{IsType}
 use Rattle.koika_check.specs.declared.checked.Checked.{Checked}
-use Rattle.koika_check.specs.declared.checked.Function.{Function}
+use Rattle.koika_check.specs.declared.checked.CheckedFunction.{CheckedFunction}
 use Rattle.koika_check.specs.declared.typed.Operation.{Operation}
 use Rattle.koika_check.specs.declared.typed.Operation.TheVariants as operation
 use Rattle.koika_check.specs.declared.typed.ValueType.{ValueType}
@@ -39,11 +39,11 @@ use Rattle.koika_lower.proofs.Widths.{width-bits}
 
 -- ---- the world
 
-behind-design : (s : Setting Stopped) (fs : List Function) → (bodies_behind s fs).design ≡ s.design
+behind-design : (s : RuleSetting Stopped) (fs : List CheckedFunction) → (bodies_behind s fs).design ≡ s.design
 behind-design s [] = refl
 behind-design s (f ∷ fs) = behind-design (record s { bodies = s.bodies ++ meaning s f.body ∷ [] }) fs
 
-behind-ports : (s : Setting Stopped) (fs : List Function) → (bodies_behind s fs).ports ≡ s.ports
+behind-ports : (s : RuleSetting Stopped) (fs : List CheckedFunction) → (bodies_behind s fs).ports ≡ s.ports
 behind-ports s [] = refl
 behind-ports s (f ∷ fs) = behind-ports (record s { bodies = s.bodies ++ meaning s f.body ∷ [] }) fs
 
@@ -56,8 +56,8 @@ module _ (d : Checked) (n : ℕ) (inputs : List BitVector) (ports : Ports Stoppe
 
 -- ---- the core's part
 
-pub sim-core : {V : Type 0} (regs : List ℕ) (R : V → BitVector → Type 0) (m : Part V Stopped) (a b : Part BitVector Stopped) → a ≡ b → Simulates regs R m b → Simulates regs R m a
-sim-core regs R m a b e h = subst (λ (p : Part BitVector Stopped). Simulates regs R m p) (sym e) h
+pub sim-core : {V : Type 0} (regs : List ℕ) (R : V → BitVector → Type 0) (m : Evaluation V Stopped) (a b : Evaluation BitVector Stopped) → a ≡ b → Simulates regs R m b → Simulates regs R m a
+sim-core regs R m a b e h = subst (λ (p : Evaluation BitVector Stopped). Simulates regs R m p) (sym e) h
 
 -- ---- one operand
 
@@ -92,7 +92,7 @@ module _ (d : Checked) (n depth : ℕ) (names : List Bound) (types : List ValueT
   last-typed : (widths : List ℕ) → NamesFit depth names widths → ActionHasWidth (declared_by d) last.action widths (width_of d t)
   last-typed widths f = subst (λ w. ActionHasWidth (declared_by d) last.action widths w) one.lowers.width (one.lowers.typed widths f)
 
-  pub one-lowers : (g : Environment → Ports Stopped → BitVector → Part BitVector Stopped) →
+  pub one-lowers : (g : Environment → Ports Stopped → BitVector → Evaluation BitVector Stopped) →
       ComesTo l.action (λ env ports locals. evaluate env ports last.action locals >>= g env ports) → l.width ≡ width_if d of →
       ((widths : List ℕ) → ActionHasWidth (declared_by d) last.action widths (width_of d t) → IsType d t → ActionHasWidth (declared_by d) l.action widths (width_if d of)) →
       ((inputs : List BitVector) (ports : Ports Stopped) (v : Value) (x : BitVector) → PortsFit (register_widths d) ports → Stands d (Some t) (Some v) x →

@@ -28,18 +28,18 @@ use Rattle.typed_core.specs.declared.outcome.Outcome.TheVariants as ends
 use Rattle.typed_core.specs.declared.outcome.Stopped.{Stopped}
 use Rattle.typed_core.specs.declared.outcome.Stopped.TheVariants as stopped
 use Rattle.typed_core.proofs.Typed.{PortsFit-alone}
-use Rattle.koika_check.specs.Meaning.{Setting, bodies_behind, meaning, rule_body, setting}
+use Rattle.koika_check.specs.Meaning.{RuleSetting, bodies_behind, meaning, rule_body, setting}
 use Rattle.koika_check.specs.TypedAlone.{outcome_of as typed_outcome, typed_alone}
 use Rattle.koika_check.specs.Typing.{HasType, IsRegister, IsTypedDesign}
 use Rattle.koika_check.specs.declared.checked.Checked.{Checked}
-use Rattle.koika_check.specs.declared.checked.Function.{Function}
+use Rattle.koika_check.specs.declared.checked.CheckedFunction.{CheckedFunction}
 use Rattle.koika_check.specs.declared.checked.Host.{Host}
 use Rattle.koika_check.specs.declared.checked.Input.{Input}
 use Rattle.koika_check.specs.declared.checked.Register.{Register}
-use Rattle.koika_check.specs.declared.checked.Rule.{Rule}
+use Rattle.koika_check.specs.declared.checked.CheckedRule.{CheckedRule}
 use Rattle.koika_check.specs.declared.checked.Table.{Table}
 use Rattle.koika_check.specs.declared.typed.ValueType.{ValueType}
-use Rattle.koika_lower.specs.Lowering.{IsLowered, ends_of, input_of, register_of, register_widths, typed_ends}
+use Rattle.koika_lower.specs.Lowering.{IsLowered, ends_of, core_input, register_of, register_widths, typed_ends}
 use Rattle.koika_lower.specs.inner.Rules.{AreRules, IsRule}
 use Rattle.koika_lower.specs.inner.Simulation.{Alike, AreNames, EndAlike, Lowers, Stands, declared_by, environment, world}
 use Rattle.koika_lower.specs.declared.lowered.Bound.{Bound}
@@ -64,21 +64,21 @@ same_alone d of p q h = ap₂ (λ es (o : Outcome). let a : Alone = record { eve
 -- all functions may be called in a rule
 world-setting : (d : Checked) (inputs : List BitVector) (ports : Ports Stopped) → world d (length d.functions) inputs ports ≡ setting d inputs ports
 world-setting d inputs ports =
-    ap (λ (fs : List Function). bodies_behind (let s : Setting Stopped = record { design = d; inputs = inputs; ports = ports; bodies = [] } in s) fs) (take-length d.functions)
+    ap (λ (fs : List CheckedFunction). bodies_behind (let s : RuleSetting Stopped = record { design = d; inputs = inputs; ports = ports; bodies = [] } in s) fs) (take-length d.functions)
 
-rule-at : (d : Checked) (r : Rule) (c : CoreRule) (inputs : List BitVector) (ports : Ports Stopped) → IsRule d r c → HaveWidths (map (λ (i : Input). i.width) d.inputs) inputs → PortsFit (register_widths d) ports →
+rule-at : (d : Checked) (r : CheckedRule) (c : CoreRule) (inputs : List BitVector) (ports : Ports Stopped) → IsRule d r c → HaveWidths (map (λ (i : Input). i.width) d.inputs) inputs → PortsFit (register_widths d) ports →
     ends_of (evaluate (environment d inputs) ports c.body [] []) ≡ typed_ends (rule_body d inputs ports r.body [])
 rule-at d r c inputs ports is w fit =
     same_alone d None (meaning (setting d inputs ports) r.body [] []) (evaluate (environment d inputs) ports c.body [] [])
-    (subst (λ (s : Setting Stopped). Alike (register_widths d) (Stands d None) (meaning s r.body [] []) (evaluate (environment d inputs) ports c.body [] [])) (world-setting d inputs ports)
+    (subst (λ (s : RuleSetting Stopped). Alike (register_widths d) (Stands d None) (meaning s r.body [] []) (evaluate (environment d inputs) ports c.body [] [])) (world-setting d inputs ports)
     (is.body.means inputs ports [] [] w fit tt [] tt))
 
-rule-alone : (d : Checked) (r : Rule) (c : CoreRule) (inputs regs : List BitVector) → IsRule d r c → HaveWidths (map (λ (i : Input). i.width) d.inputs) inputs → HaveWidths (register_widths d) regs →
+rule-alone : (d : Checked) (r : CheckedRule) (c : CoreRule) (inputs regs : List BitVector) → IsRule d r c → HaveWidths (map (λ (i : Input). i.width) d.inputs) inputs → HaveWidths (register_widths d) regs →
     alone (environment d inputs) regs c.body ≡ typed_alone d inputs regs r.body
 rule-alone d r c inputs regs is w held = rule-at d r c inputs (alone_ports regs) is w (PortsFit-alone (register_widths d) regs held)
 
 -- a rule whose body is lowered where no name is bound and all functions may be called
-pub rule-is : (d : Checked) (functions : ℕ) (names : List Bound) (r : Rule) (name : List ℕ) (l : Lowered) → IsTypedDesign d → functions ≡ length d.functions → names ≡ [] →
+pub rule-is : (d : Checked) (functions : ℕ) (names : List Bound) (r : CheckedRule) (name : List ℕ) (l : Lowered) → IsTypedDesign d → functions ≡ length d.functions → names ≡ [] →
     HasType d (length d.functions) r.body [] None → name ≡ r.name →
     ((types : List ValueType) (t : Option ValueType) → IsTypedDesign d → AreNames d 0 names types → HasType d functions r.body types t →
     Lowers d functions 0 names types t (λ s. meaning s r.body) l) →
@@ -95,12 +95,12 @@ rule-is d functions names r name l is all none typed same lowers =
 
 -- ---- the whole design
 
-module _ (d : Checked) (is : IsTypedDesign d) (p : Parts) (regs : p.regs ≡ map register_of d.registers) (inputs : p.inputs ≡ map input_of d.inputs) (tables : p.tables ≡ map (λ (t : Table). t.spec) d.tables)
+module _ (d : Checked) (is : IsTypedDesign d) (p : Parts) (regs : p.regs ≡ map register_of d.registers) (inputs : p.inputs ≡ map core_input d.inputs) (tables : p.tables ≡ map (λ (t : Table). t.spec) d.tables)
     (hosts : p.hosts ≡ map (λ (h : Host). h.spec) d.hosts) (rules : AreRules d d.rules p.rules) (nodes : p.nodes ≡ d.nodes) where
   same_declarations : declared_by d ≡ declarations p
   same_declarations =
       let widths : map (λ (r : Register). r.width) d.registers ≡ map (λ (r : RegDecl). r.width) p.regs = sym (ap (map (λ (r : RegDecl). r.width)) regs ∙ map-map (λ (r : RegDecl). r.width) register_of d.registers) in
-      let ins : map (λ (i : Input). i.width) d.inputs ≡ map (λ (i : InputDecl). i.width) p.inputs = sym (ap (map (λ (i : InputDecl). i.width)) inputs ∙ map-map (λ (i : InputDecl). i.width) input_of d.inputs) in
+      let ins : map (λ (i : Input). i.width) d.inputs ≡ map (λ (i : InputDecl). i.width) p.inputs = sym (ap (map (λ (i : InputDecl). i.width)) inputs ∙ map-map (λ (i : InputDecl). i.width) core_input d.inputs) in
       ap (λ rs. let a : Declarations = record { regs = rs; inputs = map (λ (i : Input). i.width) d.inputs; externs = record { tables = map (λ (t : Table). t.spec) d.tables; hosts = map (λ (h : Host). h.spec) d.hosts } } in a) widths ∙
       ap (λ is. let a : Declarations = record { regs = map (λ (r : RegDecl). r.width) p.regs; inputs = is; externs = record { tables = map (λ (t : Table). t.spec) d.tables; hosts = map (λ (h : Host). h.spec) d.hosts } } in a) ins ∙
       ap (λ ts. let a : Declarations = record { regs = map (λ (r : RegDecl). r.width) p.regs; inputs = map (λ (i : InputDecl). i.width) p.inputs; externs = record { tables = ts; hosts = map (λ (h : Host). h.spec) d.hosts } } in a) (sym tables) ∙
@@ -113,9 +113,9 @@ module _ (d : Checked) (is : IsTypedDesign d) (p : Parts) (regs : p.regs ≡ map
   parts-valid = record {
     few_registers = subst (λ k. k ≤ 256) (sym (ap length regs ∙ length-map d.registers register_of)) is.few_registers;
     registers = subst (λ (l : List RegDecl). All IsCoreRegister l) (sym regs) (All-map IsCoreRegister register_of d.registers (λ i r h. first_fits _ (is.registers i r h)));
-    few_inputs = subst (λ k. k ≤ 256) (sym (ap length inputs ∙ length-map d.inputs input_of)) is.few_inputs;
+    few_inputs = subst (λ k. k ≤ 256) (sym (ap length inputs ∙ length-map d.inputs core_input)) is.few_inputs;
     inputs = subst (λ (l : List InputDecl). All (λ (input : InputDecl). IsWidth input.width) l) (sym inputs)
-        (All-map (λ (input : InputDecl). IsWidth input.width) input_of d.inputs (λ i x h. let one = is.inputs i x h in subst IsWidth (sym one.width) one.of));
+        (All-map (λ (input : InputDecl). IsWidth input.width) core_input d.inputs (λ i x h. let one = is.inputs i x h in subst IsWidth (sym one.width) one.of));
     tables = subst (λ (l : List TableSpec). All IsTable l) (sym tables) (All-map IsTable (λ (t : Table). t.spec) d.tables (λ i t h. (is.tables i t h).0));
     hosts = subst (λ (l : List HostSpec). All IsHost l) (sym hosts) (All-map IsHost (λ (h : Host). h.spec) d.hosts is.hosts);
     few_rules = subst (λ k. k ≤ 256) (sym (pairs-length (IsRule d) d.rules p.rules rules)) is.few_rules;
@@ -135,7 +135,7 @@ module _ (d : Checked) (is : IsTypedDesign d) (p : Parts) (regs : p.regs ≡ map
     inputs = inputs;
     tables = tables;
     hosts = hosts;
-    names = pairs-map (IsRule d) (λ (r : Rule). r.name) (λ (c : CoreRule). c.name) (λ r c h. h.name) d.rules p.rules rules;
+    names = pairs-map (IsRule d) (λ (r : CheckedRule). r.name) (λ (c : CoreRule). c.name) (λ r c h. h.name) d.rules p.rules rules;
     nodes = nodes;
     alone = λ number r c at at' ins held w h.
         subst (λ env. alone env held c.body ≡ typed_alone d ins held r.body) (same_environment ins)

@@ -10,7 +10,7 @@ use Rattle.koika_types.specs.Values.{packed, stacked}
 use Rattle.koika_types.specs.declared.value.Value.{Value}
 use Rattle.koika_types.specs.declared.value.Value.TheVariants as value
 use Rattle.koika_types.proofs.Stacks.{concat-nothing, concat_assoc}
-use Rattle.typed_core.specs.Evaluation.{Part, Ports, ◌>>=◌, comes_to, evaluate}
+use Rattle.typed_core.specs.Evaluation.{Evaluation, Ports, ◌>>=◌, comes_to, evaluate}
 use Rattle.typed_core.specs.Fits.{PortsFit}
 use Rattle.typed_core.specs.Widths.{HaveWidths}
 use Rattle.typed_core.specs.declared.outcome.Stopped.{Stopped}
@@ -21,7 +21,7 @@ use Rattle.koika_check.specs.declared.checked.Checked.{Checked}
 use Rattle.koika_check.specs.declared.typed.Operation.TheVariants as operation
 use Rattle.koika_check.specs.declared.typed.ValueType.{ValueType}
 use Rattle.koika_lower.specs.inner.Applied.{AreOperands, IsChain, behind, chain_part}
-use Rattle.koika_lower.specs.Lowering.{input_widths, register_widths}
+use Rattle.koika_lower.specs.Lowering.{typed_input_widths, register_widths}
 use Rattle.koika_lower.specs.inner.Simulation.{IsApplied, Lowers, LowersAll, NamesStand, Sense, Simulates, StandAll, Stands, apply_sense, declared_by, environment, world}
 use Rattle.koika_lower.specs.declared.lowered.Bound.{Bound}
 use Rattle.koika_lower.specs.declared.lowered.Lowered.{Lowered}
@@ -134,8 +134,8 @@ chains-wide d w (t ∷ ts) few = (
 )
 
 module _ (d : Checked) (n depth : ℕ) (names : List Bound) (types : List ValueType) (inputs : List BitVector) (ports : Ports Stopped) (values : List Value) (locals : List BitVector)
-    (widths : HaveWidths (input_widths d) inputs) (fit : PortsFit (register_widths d) ports) (st : NamesStand d depth names types values locals) where
-  pub sim-below : {V : Type 0} (Q : V → BitVector → Type 0) (ts : List ValueType) (senses : List Sense) (ls : List Lowered) (k : List Value → Part V Stopped) (z : BitVector) →
+    (widths : HaveWidths (typed_input_widths d) inputs) (fit : PortsFit (register_widths d) ports) (st : NamesStand d depth names types values locals) where
+  pub sim-below : {V : Type 0} (Q : V → BitVector → Type 0) (ts : List ValueType) (senses : List Sense) (ls : List Lowered) (k : List Value → Evaluation V Stopped) (z : BitVector) →
       LowersAll d n depth false names types (map Some ts) senses ls →
       ((vs : List Value) (xs : List BitVector) → StandAll d ts vs xs → Simulates (register_widths d) Q (k vs) (comes_to (below z xs))) →
       Simulates (register_widths d) Q (in_turn (meant d n depth names types inputs ports values locals widths fit st senses) values >>= k)
@@ -152,7 +152,7 @@ module _ (d : Checked) (n depth : ℕ) (names : List Bound) (types : List ValueT
       (λ v x is. sim-below Q ts ms ls (λ vs. k (v ∷ vs)) (op.concat z x) all.1 (λ vs xs rest. next (v ∷ vs) (x ∷ xs) (is, rest)))
 
   -- all operands, one below the other
-  pub sim-joined : {V : Type 0} (Q : V → BitVector → Type 0) (t : ValueType) (ts : List ValueType) (senses : List Sense) (ls : List Lowered) (k : List Value → Part V Stopped) →
+  pub sim-joined : {V : Type 0} (Q : V → BitVector → Type 0) (t : ValueType) (ts : List ValueType) (senses : List Sense) (ls : List Lowered) (k : List Value → Evaluation V Stopped) →
       LowersAll d n depth false names types (map Some (t ∷ ts)) senses ls →
       ((v : Value) (vs : List Value) (x : BitVector) (xs : List BitVector) → StandAll d (t ∷ ts) (v ∷ vs) (x ∷ xs) → Simulates (register_widths d) Q (k (v ∷ vs)) (comes_to (below x xs))) →
       Simulates (register_widths d) Q (in_turn (meant d n depth names types inputs ports values locals widths fit st senses) values >>= k)

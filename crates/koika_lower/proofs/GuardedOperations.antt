@@ -12,18 +12,18 @@ use Rattle.koika_types.specs.Values.{packed}
 use Rattle.koika_types.specs.declared.value.Value.{Value}
 use Rattle.koika_types.specs.declared.value.Value.TheOpen.{Value-F}
 use Rattle.koika_types.specs.declared.value.Value.TheVariants as value
-use Rattle.typed_core.specs.Evaluation.{Part, Ports, ◌>>=◌, answer_of, comes_to, entry_of, unit}
+use Rattle.typed_core.specs.Evaluation.{Evaluation, Ports, ◌>>=◌, answer_of, comes_to, entry_of, unit}
 use Rattle.typed_core.specs.Fits.{PortsFit, ValueFits}
 use Rattle.typed_core.specs.Valid.{IsHost, IsPort, IsTable, IsWidth}
 use Rattle.typed_core.specs.declared.limits.TheConstants.{PORTS}
 use Rattle.typed_core.specs.declared.outcome.Stopped.{Stopped}
 use Rattle.koika_check.specs.Composites.{fields_by, fields_of}
-use Rattle.koika_check.specs.Meaning.{Meaning, Setting, all_selected, apply, body_by, chained, comparison_value, extension_value, gives, host_by, joined, prefixed, read_as, replaced, table_by, unpacked}
+use Rattle.koika_check.specs.Meaning.{Meaning, RuleSetting, all_selected, apply, body_by, chained, comparison_value, extension_value, gives, host_by, joined_arguments, prefixed, read_as, updated, table_by, unpacked}
 use Rattle.koika_check.specs.Types.{array, bits, of_base, width_of}
 use Rattle.koika_check.specs.Typing.{Applies, IsOf, IsRegister, IsType, IsTypedDesign, Pairwise}
 use Rattle.koika_check.specs.declared.checked.Checked.{Checked}
-use Rattle.koika_check.specs.declared.checked.Field.{Field}
-use Rattle.koika_check.specs.declared.checked.Function.{Function}
+use Rattle.koika_check.specs.declared.checked.CheckedField.{CheckedField}
+use Rattle.koika_check.specs.declared.checked.CheckedFunction.{CheckedFunction}
 use Rattle.koika_check.specs.declared.checked.Host.{Host}
 use Rattle.koika_check.specs.declared.checked.Register.{Register}
 use Rattle.koika_check.specs.declared.checked.Struct.{Struct}
@@ -38,13 +38,13 @@ use Rattle.koika_lower.proofs.Agreements.{Agrees, AllHave, Has, HasIf, agrees-bi
 use Rattle.koika_lower.proofs.Constructs.{bits-width, extended-width, prefixed-width}
 use Rattle.koika_lower.proofs.Groups.{below-width, chains-bits}
 use Rattle.koika_lower.proofs.GuardedParts.{all-there, bits-have, chain-there, number-has, pair-count, replaced-there, selected-has, stand-all, stands, unpacked-there}
-use Rattle.koika_lower.proofs.Hosts.{answer_wide, arguments-total, arity-cases, comparison-width, joined-below}
+use Rattle.koika_lower.proofs.Hosts.{answer_wide, arguments-total, arity-cases, comparison-width, joined_arguments-below}
 use Rattle.koika_lower.proofs.Operands.{onto, onto-reverse}
 use Rattle.koika_check.proofs.TypingLayers.{close-IsOf}
-use Rattle.koika_lower.proofs.Values.{all-get, declared-struct, replaced-stands, total, unpacked-stands}
+use Rattle.koika_lower.proofs.Values.{all-get, declared-struct, updated-stands, total, unpacked-stands}
 
 -- the body of a function, and the guarded one
-pub record Body (d : Checked) (f : Function) (o : Option (Meaning Stopped)) (q : Option (Meaning Cause)) : Type 0 where
+pub record Body (d : Checked) (f : CheckedFunction) (o : Option (Meaning Stopped)) (q : Option (Meaning Cause)) : Type 0 where
   pub body : Meaning Stopped
   pub guarded : Meaning Cause
   pub is : o ≡ Some body
@@ -63,14 +63,14 @@ reverse-have d vs ts have =
     subst (λ us. AllHave d (reverse vs) us) (onto-reverse ts) (subst (λ ws. AllHave d ws (onto ts [])) (onto-reverse vs) (onto-have d vs ts [] [] have tt))
 
 module _ (d : Checked) (is : IsTypedDesign d) (n : ℕ) (inputs : List BitVector) (ports : Ports Stopped) (fit : PortsFit (register_widths d) ports) (bodies : List (Meaning Stopped)) (guarded : List (Meaning Cause))
-    (callable : (number : ℕ) (f : Function) → number < n → slice_get d.functions number ≡ Some f → Body d f (slice_get bodies number) (slice_get guarded number)) where
+    (callable : (number : ℕ) (f : CheckedFunction) → number < n → slice_get d.functions number ≡ Some f → Body d f (slice_get bodies number) (slice_get guarded number)) where
   abbrev pub regs : List ℕ
   regs = register_widths d
 
-  abbrev pub plain_setting : Setting Stopped
+  abbrev pub plain_setting : RuleSetting Stopped
   plain_setting = record { design = d; inputs = inputs; ports = ports; bodies = bodies }
 
-  abbrev pub guarded_one : Setting Cause
+  abbrev pub guarded_one : RuleSetting Cause
   guarded_one = record { design = d; inputs = inputs; ports = unstuck_ports ports; bodies = guarded }
 
   -- the operation on these values
@@ -133,8 +133,8 @@ module _ (d : Checked) (is : IsTypedDesign d) (n : ℕ) (inputs : List BitVector
       let few : width_of d t + total d ts ≤ 128 = omega (arith, whole, ok.no_wider) in
       let all = stand-all d is vs ts have.1 in
       let b = below-width d (packed v) (width_of d t) ts vs (map packed vs) (bits-have d is v t have.0) all few in
-      let x : BitVector = joined (packed v) vs in
-      let wide : HasWidth x spec.in_width = subst (λ y. HasWidth y spec.in_width) (sym (joined-below d ts vs (map packed vs) (packed v) all)) (b.0, b.1 ∙ whole) in
+      let x : BitVector = joined_arguments (packed v) vs in
+      let wide : HasWidth x spec.in_width = subst (λ y. HasWidth y spec.in_width) (sym (joined_arguments-below d ts vs (map packed vs) (packed v) all)) (b.0, b.1 ∙ whole) in
       let count : length (v ∷ vs) ≡ host.arity spec.kind =
       pair-count (Has d) (v ∷ vs) (t ∷ ts) have ∙ ap length h.2 ∙ length-replicate (host.arity spec.kind) (bits (spec.in_width / host.arity spec.kind)) in
       subst (λ (o : Option Host). Agrees regs (HasIf d of) (gives (value.Number (answer_of (host_by o) x)))
@@ -156,7 +156,7 @@ module _ (d : Checked) (is : IsTypedDesign d) (n : ℕ) (inputs : List BitVector
       slice_get-map (λ (x : Register). x.width) d.registers register ∙ ap (option_map (λ (x : Register). x.width)) at ∙ ap Some ok.width
 
   -- a register that is declared, at a port that there is
-  held : (port register : ℕ) (r : Register) (of : Option ValueType) (m : Part (Option Value) Stopped) (next : Register → Part (Option Value) Cause) → IsPort port → slice_get d.registers register ≡ Some r →
+  held : (port register : ℕ) (r : Register) (of : Option ValueType) (m : Evaluation (Option Value) Stopped) (next : Register → Evaluation (Option Value) Cause) → IsPort port → slice_get d.registers register ≡ Some r →
       Agrees regs (HasIf d of) m (next r) → Agrees regs (HasIf d of) m (with_register guarded_one port register next)
   held port register r of m next there at agrees =
       agrees-test regs (HasIf d of) (nat_lt port PORTS) m (with_some next (slice_get d.registers register)) stuck (lt-ltb port PORTS there)
@@ -188,14 +188,14 @@ module _ (d : Checked) (is : IsTypedDesign d) (n : ℕ) (inputs : List BitVector
 
   call-fine : (number : ℕ) (ts : List ValueType) (of : Option ValueType) (vs : List Value) → AllHave d vs ts → Applies d n (operation.Call number) ts of → Fine (operation.Call number) of vs
   call-fine number ts of vs have h =
-      let f : Function = h.0 in
+      let f : CheckedFunction = h.0 in
       let b = callable number f h.1 h.2 in
       let arguments : AllHave d (reverse vs) (reverse f.parameters) = subst (λ us. AllHave d (reverse vs) (reverse us)) h.3 (reverse-have d vs ts have) in
       let count : length vs ≡ length f.parameters = pair-count (Has d) vs ts have ∙ ap length h.3 in
-      let called : Part (Option Value) Stopped = body_by (slice_get bodies number) (reverse vs) in
-      let guarded_call : Part (Option Value) Cause = with_some (λ (body : Meaning Cause). body (reverse vs)) (slice_get guarded number) in
+      let called : Evaluation (Option Value) Stopped = body_by (slice_get bodies number) (reverse vs) in
+      let guarded_call : Evaluation (Option Value) Cause = with_some (λ (body : Meaning Cause). body (reverse vs)) (slice_get guarded number) in
       subst (λ (o : Option ValueType). Fine (operation.Call number) o vs) (sym h.4)
-      (agrees-some regs (HasIf d f.result) called (λ (q : Function). if nat_eq (length vs) (length q.parameters) then guarded_call else stuck) (slice_get d.functions number) f h.2
+      (agrees-some regs (HasIf d f.result) called (λ (q : CheckedFunction). if nat_eq (length vs) (length q.parameters) then guarded_call else stuck) (slice_get d.functions number) f h.2
       (agrees-test regs (HasIf d f.result) (nat_eq (length vs) (length f.parameters)) called guarded_call stuck (eq-eqb (length vs) (length f.parameters) count)
       (agrees-some regs (HasIf d f.result) called (λ (body : Meaning Cause). body (reverse vs)) (slice_get guarded number) b.guarded b.guarded_is
       (subst (λ (o : Option (Meaning Stopped)). Agrees regs (HasIf d f.result) (body_by o (reverse vs)) (b.guarded (reverse vs))) (sym b.is) (b.agrees (reverse vs) arguments)))))
@@ -223,12 +223,12 @@ module _ (d : Checked) (is : IsTypedDesign d) (n : ℕ) (inputs : List BitVector
   applies-fine (operation.Update s) (t ∷ []) of vs have h = absurd h
   applies-fine (operation.Update s) (t ∷ u ∷ w ∷ ts) of vs have h = absurd h
   applies-fine (operation.Update s) (t ∷ u ∷ []) of vs have h = two (Fine (operation.Update s) of) t u vs have
-      (λ v new has has'. agrees-some regs (HasIf d of) (gives (replaced v s new)) (λ _. gives (replaced v s new)) (replaced_at v s) _ (replaced-there d is s t u v has h.0)
-      (comes of t (replaced v s new) h.1 ((replaced-stands d is s t u v new (packed v) (packed new) has.1 h.0 (stands d is v t has) (stands d is new u has')).0, has.1)))
+      (λ v new has has'. agrees-some regs (HasIf d of) (gives (updated v s new)) (λ _. gives (updated v s new)) (replaced_at v s) _ (replaced-there d is s t u v has h.0)
+      (comes of t (updated v s new) h.1 ((updated-stands d is s t u v new (packed v) (packed new) has.1 h.0 (stands d is v t has) (stands d is new u has')).0, has.1)))
   applies-fine (operation.Struct number) ts of vs have h =
       let it = declared-struct d number h.1 in
       let count : length vs ≡ length it.struct.fields =
-      pair-count (Has d) vs ts have ∙ ap length h.0 ∙ length-map (fields_of d number) (λ (f : Field). f.of) ∙ ap (λ (o : Option Struct). length (fields_by o)) it.is in
+      pair-count (Has d) vs ts have ∙ ap length h.0 ∙ length-map (fields_of d number) (λ (f : CheckedField). f.of) ∙ ap (λ (o : Option Struct). length (fields_by o)) it.is in
       agrees-some regs (HasIf d of) (gives (value.Fields number vs)) (λ (struct : Struct). if nat_eq (length vs) (length struct.fields) then gives (value.Fields number vs) else stuck) (slice_get d.structs number) it.struct it.is
       (agrees-test regs (HasIf d of) (nat_eq (length vs) (length it.struct.fields)) (gives (value.Fields number vs)) (gives (value.Fields number vs)) stuck (eq-eqb (length vs) (length it.struct.fields) count)
       (comes of (of_base (base.Struct number)) (value.Fields number vs) h.2

@@ -19,7 +19,7 @@ use Rattle.koika_check.specs.Meaning.{all_selected, below, binary_value, chained
 use Rattle.koika_check.specs.Types.{all_lengths, array, base_width, bits, of_base, width_of}
 use Rattle.koika_check.specs.Typing.{Chains, IsAmong, IsOf, IsType, IsTypedDesign, Pairwise, PartIsOf, Replaces, Takes, TakesAll}
 use Rattle.koika_check.specs.declared.checked.Checked.{Checked}
-use Rattle.koika_check.specs.declared.checked.Field.{Field}
+use Rattle.koika_check.specs.declared.checked.CheckedField.{CheckedField}
 use Rattle.koika_check.specs.declared.checked.Struct.{Struct}
 use Rattle.koika_check.specs.declared.typed.BaseType.{BaseType}
 use Rattle.koika_check.specs.declared.typed.BaseType.TheVariants as base
@@ -68,7 +68,7 @@ module _ (d : Checked) (is : IsTypedDesign d) where
 
   -- ---- parts
 
-  field-there : (y : Value-F Value) (w : Value) (struct number : ℕ) (f : Field) → PartIsOf d (IsOf d) y (of_base (base.Struct struct)) → slice_get (fields_of d struct) number ≡ Some f →
+  field-there : (y : Value-F Value) (w : Value) (struct number : ℕ) (f : CheckedField) → PartIsOf d (IsOf d) y (of_base (base.Struct struct)) → slice_get (fields_of d struct) number ≡ Some f →
       field_at y number ≡ Some (slice_index_or (parts_by y) number w)
   unfolding base_of lengths_of
   field-there (Value-F.Number b) w struct number f h at = let k = ap base_of h.0 in absurd (cc)
@@ -79,7 +79,7 @@ module _ (d : Checked) (is : IsTypedDesign d) where
       let same : struct ≡ m = cc in
       let within = slice_get_within (fields_of d struct) number f at in
       let count : length (fields_of d struct) ≡ length vs =
-      ap (λ j. length (fields_of d j)) same ∙ sym (length-map (fields_of d m) (λ (f : Field). f.of)) ∙ sym (pair-count (IsOf d) vs (map (λ (f : Field). f.of) (fields_of d m)) h.1) in
+      ap (λ j. length (fields_of d j)) same ∙ sym (length-map (fields_of d m) (λ (f : CheckedField). f.of)) ∙ sym (pair-count (IsOf d) vs (map (λ (f : CheckedField). f.of) (fields_of d m)) h.1) in
       slice_get-get_or vs number w (subst (λ j. number < j) count within)
 
   item-there : (y : Value-F Value) (w : Value) (n index : ℕ) (item : ValueType) → PartIsOf d (IsOf d) y (array n item) → index < n → item_at y index ≡ Some (slice_index_or (parts_by y) index w)
@@ -123,7 +123,7 @@ module _ (d : Checked) (is : IsTypedDesign d) where
   all-some-map f g (x ∷ xs) h = ap (λ (o : Option Value). all_some (o ∷ map f xs)) (h x) ∙ ap (option_map (λ vs. g x ∷ vs)) (all-some-map f g xs h)
 
   fields-in : (k : ℕ) (look : ValueType → BitVector → Option Value) (known : ValueType → BitVector → Value) → ((t : ValueType) (x : BitVector) → IsType d t → IsAmong k t.base → look t x ≡ Some (known t x)) →
-      (fields : List Field) (x : BitVector) → AllByRecursion (λ (f : Field). IsType d f.of × IsAmong k f.of.base) fields → all_some (fields_in d look fields x) ≡ Some (from_the_top d known fields x)
+      (fields : List CheckedField) (x : BitVector) → AllByRecursion (λ (f : CheckedField). IsType d f.of × IsAmong k f.of.base) fields → all_some (fields_in d look fields x) ≡ Some (from_the_top d known fields x)
   fields-in k look known h [] x each = refl
   fields-in k look known h (f ∷ fields) x each =
       ap (λ (o : Option Value). all_some (o ∷ fields_in d look fields (op.slice x (x.width - width_of d f.of - 1) 0))) (h f.of (op.slice x (x.width - 1) (x.width - width_of d f.of)) each.0.0 each.0.1) ∙
@@ -151,7 +151,7 @@ module _ (d : Checked) (is : IsTypedDesign d) where
       ap (option_and_then (λ (s : Struct). option_map (λ vs. value.Fields number vs) (all_some (fields_in d (λ t part. unpacked_in d structs t.base t.lengths part) s.fields x)))) it.1 ∙
       ap (option_map (λ vs. value.Fields number vs)) (fields-in number (λ t part. unpacked_in d structs t.base t.lengths part) (λ t part. unpacked_among d structs t.base t.lengths part)
       (λ t y valid earlier. in-there structs t.base t.lengths y (among-more number structs t.base (omega arith) earlier) (some_bit t valid)) it.0.fields x
-      (all-each d is (λ (f : Field). IsType d f.of × IsAmong number f.of.base) it.0.fields (is.structs number it.0 it.1).fields)) ∙
+      (all-each d is (λ (f : CheckedField). IsType d f.of × IsAmong number f.of.base) it.0.fields (is.structs number it.0 it.1).fields)) ∙
       ap (λ (o : Option Struct). Some (value.Fields number (from_the_top d (λ t part. unpacked_among d structs t.base t.lengths part) (fields_by o) x))) (sym it.1)
 
   pub unpacked-there : (t : ValueType) (x : BitVector) → IsType d t → unpacked_if d t x ≡ Some (unpacked d t x)

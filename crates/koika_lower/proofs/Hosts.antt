@@ -15,11 +15,11 @@ use Rattle.koika_syntax.specs.declared.operator.SignedComparison.{SignedComparis
 use Rattle.koika_syntax.specs.declared.operator.SignedComparison.TheVariants as comparisons
 use Rattle.koika_types.specs.Values.{packed}
 use Rattle.koika_types.specs.declared.value.Value.{Value}
-use Rattle.typed_core.specs.Evaluation.{Part, ◌>>=◌, answer_of, comes_to, evaluate}
+use Rattle.typed_core.specs.Evaluation.{Evaluation, ◌>>=◌, answer_of, comes_to, evaluate}
 use Rattle.typed_core.specs.Valid.{ActionHasWidth, IsHost, IsWidth, TwoHasWidth}
 use Rattle.kw_bits.specs.declared.host.HostSpec.{HostSpec}
 use Rattle.typed_core.specs.declared.outcome.Stopped.{Stopped}
-use Rattle.koika_check.specs.Meaning.{all_joined, apply, comparison_value, host_by, in_turn, joined}
+use Rattle.koika_check.specs.Meaning.{all_joined, apply, comparison_value, host_by, in_turn, joined_arguments}
 use Rattle.koika_check.specs.Types.{bits, width_of}
 use Rattle.koika_check.specs.Typing.{Applies, Compares}
 use Rattle.koika_check.specs.declared.checked.Checked.{Checked}
@@ -66,13 +66,13 @@ arguments-total d spec ok a (inr two) e =
     total-equal d a (spec.in_width / a) ∙ ap (λ k. k * (spec.in_width / k)) two ∙ omega (arith, even)
 
 -- the arguments joined
-pub joined-below : (d : Checked) (ts : List ValueType) (vs : List Value) (xs : List BitVector) (z : BitVector) → StandAll d ts vs xs → joined z vs ≡ below z xs
-joined-below d [] [] [] z h = refl
-joined-below d [] [] (x ∷ xs) z h = absurd h
-joined-below d [] (v ∷ vs) xs z h = absurd h
-joined-below d (t ∷ ts) [] xs z h = absurd h
-joined-below d (t ∷ ts) (v ∷ vs) [] z h = absurd h
-joined-below d (t ∷ ts) (v ∷ vs) (x ∷ xs) z h = ap (λ y. joined (op.concat z y) vs) h.0.1 ∙ joined-below d ts vs xs (op.concat z x) h.1
+pub joined_arguments-below : (d : Checked) (ts : List ValueType) (vs : List Value) (xs : List BitVector) (z : BitVector) → StandAll d ts vs xs → joined_arguments z vs ≡ below z xs
+joined_arguments-below d [] [] [] z h = refl
+joined_arguments-below d [] [] (x ∷ xs) z h = absurd h
+joined_arguments-below d [] (v ∷ vs) xs z h = absurd h
+joined_arguments-below d (t ∷ ts) [] xs z h = absurd h
+joined_arguments-below d (t ∷ ts) (v ∷ vs) [] z h = absurd h
+joined_arguments-below d (t ∷ ts) (v ∷ vs) (x ∷ xs) z h = ap (λ y. joined_arguments (op.concat z y) vs) h.0.1 ∙ joined_arguments-below d ts vs xs (op.concat z x) h.1
 
 pub comparison-width : (c : SignedComparison) (x y : BitVector) (w : ℕ) → HasWidth x w → HasWidth y w → HasWidth (comparison_value c x y) 1
 comparison-width comparisons.Less x y w hx hy = slt-HasWidth x y hx.0 hy.0 (hx.1 ∙ sym hy.1)
@@ -136,7 +136,7 @@ module _ (d : Checked) (n depth : ℕ) (names : List Bound) (types : List ValueT
                 sim-core (register_widths d) (Stands d (Some (bits out))) (apply_sense (operation.Host number) senses (world d n inputs ports) values) (evaluate (environment d inputs) ports l.action locals)
                 (chain_part (replicate (length ts) binary.Concat) (core d n depth names types inputs ports values locals w p st operands) locals >>= λ x. comes_to (answer_of (slice_get (externs_of d).hosts number) x))
                 (asked.means (environment d inputs) ports locals ∙
-                ap (λ (q : Part BitVector Stopped). q >>= λ x. comes_to (answer_of (slice_get (externs_of d).hosts number) x))
+                ap (λ (q : Evaluation BitVector Stopped). q >>= λ x. comes_to (answer_of (slice_get (externs_of d).hosts number) x))
                 (is.means (count ∙ ap suc (sym (length-same (length ts)))) (environment d inputs) ports locals))
                 (sim-same (register_widths d) (Stands d (Some (bits out))) (apply_sense (operation.Host number) senses (world d n inputs ports) values)
                 ((in_turn (meant d n depth names types inputs ports values locals w p st senses) values >>= comes_to) >>= apply (world d n inputs ports) (operation.Host number))
@@ -154,7 +154,7 @@ module _ (d : Checked) (n depth : ℕ) (names : List Bound) (types : List ValueT
                 (chain_part (replicate (length ts) binary.Concat) (core d n depth names types inputs ports values locals w p st operands) locals)
                 (sim-joined d n depth names types inputs ports values locals w p st (λ vs y. (all_joined vs ≡ y) × HasWidth y spec.in_width) t ts senses operands comes_to all
                 (λ v vs x xs each. sim-value (register_widths d) (λ vs y. (all_joined vs ≡ y) × HasWidth y spec.in_width) (v ∷ vs) (below x xs) (
-                  ap (λ y. joined y vs) each.0.1 ∙ joined-below d ts vs xs x each.1,
+                  ap (λ y. joined_arguments y vs) each.0.1 ∙ joined_arguments-below d ts vs xs x each.1,
                   (let b = below-width d x (width_of d t) ts vs xs each.0.2 each.1 few in (b.0, b.1 ∙ whole)),
                 )))));
           })

@@ -16,7 +16,7 @@ use Rattle.koika_check.specs.Composites.{fields_by, fields_of}
 use Rattle.koika_check.specs.Types.{of_base, width_of}
 use Rattle.koika_check.specs.Typing.{IsAmong, IsOf, IsType, IsTypedDesign, Pairwise}
 use Rattle.koika_check.specs.declared.checked.Checked.{Checked}
-use Rattle.koika_check.specs.declared.checked.Field.{Field}
+use Rattle.koika_check.specs.declared.checked.CheckedField.{CheckedField}
 use Rattle.koika_check.specs.declared.checked.Struct.{Struct}
 use Rattle.koika_check.specs.declared.typed.BaseType.TheVariants as base
 use Rattle.koika_check.specs.declared.typed.ValueType.{ValueType}
@@ -30,16 +30,16 @@ sum-total d (t ∷ types) = sum_by-cons (width_of d) t types ∙ ap (λ w. width
 
 -- ---- the parts of a value
 
-field-types : (d : Checked) → IsTypedDesign d → (number : ℕ) → IsType d (of_base (base.Struct number)) → AllByRecursion (IsType d) (map (λ (f : Field). f.of) (fields_of d number))
+field-types : (d : Checked) → IsTypedDesign d → (number : ℕ) → IsType d (of_base (base.Struct number)) → AllByRecursion (IsType d) (map (λ (f : CheckedField). f.of) (fields_of d number))
 field-types d design number ok =
     let it = declared-struct d number ok in
     let s = design.structs number it.struct it.is in
-    let each = subst (λ (o : Option Struct). AllByRecursion (λ (f : Field). IsType d f.of × IsAmong number f.of.base) (fields_by o)) (sym it.is)
-    (all-each d design (λ (f : Field). IsType d f.of × IsAmong number f.of.base) it.struct.fields s.fields) in
+    let each = subst (λ (o : Option Struct). AllByRecursion (λ (f : CheckedField). IsType d f.of × IsAmong number f.of.base) (fields_by o)) (sym it.is)
+    (all-each d design (λ (f : CheckedField). IsType d f.of × IsAmong number f.of.base) it.struct.fields s.fields) in
     types_of d design (fields_of d number) (first_of d design (fields_of d number) number each)
 
 pub parts_of_fields : (d : Checked) (number : ℕ) (vs : List Value) (t : ValueType) → IsTypedDesign d → IsType d t → IsOf d (value.Fields number vs) t →
-    AreParts d (map (λ (f : Field). f.of) (fields_of d number)) vs
+    AreParts d (map (λ (f : CheckedField). f.of) (fields_of d number)) vs
 parts_of_fields d number vs t design valid of =
     let h = open-IsOf d (value.Fields number vs) (Value-F.Fields number vs) (value.rolls-Fields number vs) t of in
     let ok : IsType d (of_base (base.Struct number)) = subst (IsType d) h.0 valid in
@@ -47,7 +47,7 @@ parts_of_fields d number vs t design valid of =
       design = design;
       valid = field-types d design number ok;
       of = h.1;
-      fits = subst IsWidth (sym (sum-total d (map (λ (f : Field). f.of) (fields_of d number)) ∙ struct-total d design number ok)) ok;
+      fits = subst IsWidth (sym (sum-total d (map (λ (f : CheckedField). f.of) (fields_of d number)) ∙ struct-total d design number ok)) ok;
     }
 
 pub parts_of_items : (d : Checked) (vs : List Value) (t : ValueType) → IsTypedDesign d → IsType d t → IsOf d (value.Items vs) t → (item : ValueType) × AreParts d (replicate (length vs) item) vs

@@ -13,7 +13,7 @@ use Rattle.typed_core.specs.Evaluation.{Ports, comes_to, evaluate, unit}
 use Rattle.typed_core.specs.Valid.{ActionHasWidth}
 use Rattle.typed_core.specs.declared.action.Action.{Action}
 use Rattle.typed_core.specs.declared.outcome.Stopped.{Stopped}
-use Rattle.koika_check.specs.Meaning.{all_selected, apply, replaced}
+use Rattle.koika_check.specs.Meaning.{all_selected, apply, updated}
 use Rattle.koika_check.specs.Types.{array, width_of}
 use Rattle.koika_check.specs.Typing.{IsType, IsTypedDesign, Replaces, TakesAll}
 use Rattle.koika_check.specs.declared.checked.Checked.{Checked}
@@ -31,7 +31,7 @@ use Rattle.koika_lower.proofs.Constructs.{one-lowers, same-lowers, sim-core, sin
 use Rattle.koika_lower.proofs.Operands.{onto, parts, sim-lets}
 use Rattle.koika_lower.proofs.Simulations.{sim-value}
 use Rattle.koika_lower.proofs.TypeWidths.{factor}
-use Rattle.koika_lower.proofs.Values.{array-width, items-stand, replaced-stands, replaces-fit, takes-fit, takes-stands}
+use Rattle.koika_lower.proofs.Values.{array-width, items-stand, updated-stands, replaces-fit, takes-fit, takes-stands}
 
 -- the slice of all bits
 whole_slice : (x : BitVector) (w low : ℕ) → HasWidth x w → low + w ≤ w → op.slice x (low + w - 1) low ≡ x
@@ -52,9 +52,9 @@ update-value d design n inputs ports s t u body locals width e valid r is (v ∷
 update-value d design n inputs ports s t u body locals width e valid r is (v ∷ w ∷ []) (x ∷ y ∷ []) h =
     sim-core (register_widths d) (Stands d (Some t)) (apply (world d n inputs ports) (operation.Update s) (v ∷ w ∷ [])) (evaluate (environment d inputs) ports body (y ∷ x ∷ locals))
     (comes_to (with_part (range_at (lowest_bit s) (part_width s)) width x y)) (is.means (environment d inputs) ports y x locals)
-    (sim-value (register_widths d) (Stands d (Some t)) (Some (replaced v s w)) (with_part (range_at (lowest_bit s) (part_width s)) width x y)
-    (subst (λ k. Stands d (Some t) (Some (replaced v s w)) (with_part (range_at (lowest_bit s) (part_width s)) k x y)) (sym e)
-    (replaced-stands d design s t u v w x y valid r h.0 h.1.0)))
+    (sim-value (register_widths d) (Stands d (Some t)) (Some (updated v s w)) (with_part (range_at (lowest_bit s) (part_width s)) width x y)
+    (subst (λ k. Stands d (Some t) (Some (updated v s w)) (with_part (range_at (lowest_bit s) (part_width s)) k x y)) (sym e)
+    (updated-stands d design s t u v w x y valid r h.0 h.1.0)))
 
 module _ (d : Checked) (n depth : ℕ) (names : List Bound) (types : List ValueType) where
   pub select-lowers : (selections : List Selection) (ts : List ValueType) (of : Option ValueType) (senses : List Sense) (operands init : List Lowered) (last l : Lowered) →

@@ -2,7 +2,7 @@
 use Rattle.std.proofs.Common.{◌≡◌, ℕ, List, ◌∷◌, ap, sym, ◌∙◌}
 use Rattle.kw_bits.specs.BitVector.{BitVector}
 use Rattle.koika_syntax.specs.declared.operator.UnaryOperator.{UnaryOperator}
-use Rattle.typed_core.specs.Evaluation.{Part, ◌>>=◌, apply_one, comes_to, evaluate}
+use Rattle.typed_core.specs.Evaluation.{Evaluation, ◌>>=◌, apply_one, comes_to, evaluate}
 use Rattle.typed_core.specs.Valid.{OneHasWidth}
 use Rattle.typed_core.specs.declared.action.Action.{Action}
 use Rattle.typed_core.specs.declared.action.OneOp.{OneOp}
@@ -20,7 +20,7 @@ prefixed-more operators inner o core operand l a e value keeps h is = record {
   width = h.width;
   means = λ env ports locals.
       is.means env ports locals ∙
-      ap (λ (p : Part BitVector Stopped). p >>= λ z. comes_to (apply_one core z)) (h.means env ports locals) ∙
+      ap (λ (p : Evaluation BitVector Stopped). p >>= λ z. comes_to (apply_one core z)) (h.means env ports locals) ∙
       (λ i events. bind-assoc (evaluate env ports operand.action locals) (λ x. comes_to (prefixed inner x)) (λ z. comes_to (apply_one core z)) events i) ∙
       (λ i. evaluate env ports operand.action locals >>= λ x. comes_to (value (prefixed inner x) i)) ∙
       (λ i. evaluate env ports operand.action locals >>= λ x. comes_to (prefixed (sym e i) x));

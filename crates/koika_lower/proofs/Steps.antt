@@ -2,17 +2,17 @@
 use Rattle.std.proofs.Common.{◌≡◌, ℕ, ◌+◌, ◌≤◌, inl, inr, List, [], ◌∷◌, Option, Some, None, IfSome, arith, refl, ap, sym, subst, ◌∙◌}
 use Rattle.kw_bits.specs.BitVector.{BitVector}
 use Rattle.koika_types.specs.declared.value.Value.{Value}
-use Rattle.typed_core.specs.Evaluation.{Ending, Value as Reached, Stop, Part, ◌>>=◌, comes_to, evaluate, unit}
+use Rattle.typed_core.specs.Evaluation.{Ending, Value as Reached, Stop, Evaluation, ◌>>=◌, comes_to, evaluate, unit}
 use Rattle.typed_core.specs.Valid.{ActionHasWidth}
 use Rattle.typed_core.specs.declared.action.Action.{Action}
 use Rattle.typed_core.specs.declared.outcome.Stopped.{Stopped}
-use Rattle.koika_check.specs.Meaning.{Stepped, meaning, with_value}
+use Rattle.koika_check.specs.Meaning.{StepMeaning, meaning, with_value}
 use Rattle.koika_check.specs.Typing.{Binds, Gives, HasType, IsType, Runs, StepsHaveType}
 use Rattle.koika_check.specs.inner.Typing.{StepHasType}
 use Rattle.koika_check.specs.declared.checked.Checked.{Checked}
-use Rattle.koika_check.specs.declared.typed.Step.{Step}
-use Rattle.koika_check.specs.declared.typed.Step.TheOpen as opened
-use Rattle.koika_check.specs.declared.typed.Step.TheVariants as step
+use Rattle.koika_check.specs.declared.typed.TypedStep.{TypedStep}
+use Rattle.koika_check.specs.declared.typed.TypedStep.TheOpen as opened
+use Rattle.koika_check.specs.declared.typed.TypedStep.TheVariants as step
 use Rattle.koika_check.specs.declared.typed.Typed.{Typed}
 use Rattle.koika_check.specs.declared.typed.ValueType.{ValueType}
 use Rattle.koika_lower.specs.inner.Actions.{IsLet}
@@ -32,7 +32,7 @@ use Rattle.koika_check.proofs.TypingLayers.{open-step}
 
 -- ---- what steps do, by their kinds
 
-module _ (d : Checked) (n : ℕ) (rest : List Step) (types : List ValueType) (of : Option ValueType) where
+module _ (d : Checked) (n : ℕ) (rest : List TypedStep) (types : List ValueType) (of : Option ValueType) where
   pub let-typed : (v : Typed) → StepsHaveType (StepHasType d n) (step.Let v ∷ rest) types of →
       (bound : ValueType) × HasType d n v types (Some bound) × StepsHaveType (StepHasType d n) rest (bound ∷ types) of
   let-typed v (inl h) = (h.0, open-step d n (step.Let v) (opened.Let v) (step.rolls-Let v) types (Binds h.0) h.1, h.2)
@@ -66,7 +66,7 @@ no-width : (d : Checked) (v : Option Value) (x : BitVector) → Stands d None v 
 no-width d None x h = h
 no-width d (Some v) x h = absurd h
 
-sim-unit : (d : Checked) (regs : List ℕ) (m : Part (Option Value) Stopped) (x : BitVector) → x.width ≡ 0 → Simulates regs (Stands d None) m (comes_to unit) → Simulates regs (Stands d None) m (comes_to x)
+sim-unit : (d : Checked) (regs : List ℕ) (m : Evaluation (Option Value) Stopped) (x : BitVector) → x.width ≡ 0 → Simulates regs (Stands d None) m (comes_to unit) → Simulates regs (Stands d None) m (comes_to x)
 sim-unit d regs m x e h events fit = let s = h events fit in (s.0, s.1, no-bits d x e (m events).ending s.2)
 
 module _ (d : Checked) (n depth : ℕ) (names : List Bound) (types : List ValueType) where
@@ -80,13 +80,13 @@ module _ (d : Checked) (n depth : ℕ) (names : List Bound) (types : List ValueT
 
   -- ---- a value that is bound
 
-  pub let-lowers : (v : Typed) (t : ValueType) (rest : List Step) (of : Option ValueType) (value behind : Lowered) (a : Action) → AreNames d depth names types → IsLet value.action behind.action a →
+  pub let-lowers : (v : Typed) (t : ValueType) (rest : List TypedStep) (of : Option ValueType) (value behind : Lowered) (a : Action) → AreNames d depth names types → IsLet value.action behind.action a →
       Lowers d n depth names types (Some t) (sense_of v) value →
       Lowers d n (depth + 1) (record { level = depth; width = value.width } ∷ names) (t ∷ types) of (block_sense rest) behind →
       Lowers d n depth names types of (block_sense (step.Let v ∷ rest)) (record { action = a; width = behind.width })
   let-lowers v t rest of value behind a are is bound body =
       lowers-sense d n depth names types of (λ s values. meaning s v values >>= λ x. block_sense rest s (with_value x values)) (block_sense (step.Let v ∷ rest)) (record { action = a; width = behind.width })
-      (λ s. sym (ap (λ (m : Stepped Stopped). m (block_sense rest s)) (meaning-Let s v)))
+      (λ s. sym (ap (λ (m : StepMeaning Stopped). m (block_sense rest s)) (meaning-Let s v)))
       (record {
         valid = body.valid;
         width = body.width;
@@ -107,10 +107,10 @@ module _ (d : Checked) (n depth : ℕ) (names : List Bound) (types : List ValueT
   -- ---- a value that is dropped
 
   -- one after another
-  abbrev both : Typed → List Step → Sense
+  abbrev both : Typed → List TypedStep → Sense
   both v rest s values = meaning s v values >>= λ _. block_sense rest s values
 
-  after : (v : Typed) (t : Option ValueType) (rest : List Step) (of : Option ValueType) (first behind l : Lowered) → IsAfter first behind l → Lowers d n depth names types t (sense_of v) first →
+  after : (v : Typed) (t : Option ValueType) (rest : List TypedStep) (of : Option ValueType) (first behind l : Lowered) → IsAfter first behind l → Lowers d n depth names types t (sense_of v) first →
       Lowers d n depth names types of (block_sense rest) behind → Lowers d n depth names types of (both v rest) l
   after v t rest of first behind l (inl (nothing, same)) run body =
       subst (λ (x : Lowered). Lowers d n depth names types of (both v rest) x) (sym same) (record {
@@ -155,15 +155,15 @@ module _ (d : Checked) (n depth : ℕ) (names : List Bound) (types : List ValueT
             (run.means inputs ports values locals w p st));
       }
 
-  pub do-lowers : (v : Typed) (t : Option ValueType) (rest : List Step) (of : Option ValueType) (first behind l : Lowered) → IsAfter first behind l → Lowers d n depth names types t (sense_of v) first →
+  pub do-lowers : (v : Typed) (t : Option ValueType) (rest : List TypedStep) (of : Option ValueType) (first behind l : Lowered) → IsAfter first behind l → Lowers d n depth names types t (sense_of v) first →
       Lowers d n depth names types of (block_sense rest) behind → Lowers d n depth names types of (block_sense (step.Do v ∷ rest)) l
   do-lowers v t rest of first behind l is run body =
-      lowers-sense d n depth names types of (both v rest) (block_sense (step.Do v ∷ rest)) l (λ s. sym (ap (λ (m : Stepped Stopped). m (block_sense rest s)) (meaning-Do s v)))
+      lowers-sense d n depth names types of (both v rest) (block_sense (step.Do v ∷ rest)) l (λ s. sym (ap (λ (m : StepMeaning Stopped). m (block_sense rest s)) (meaning-Do s v)))
       (after v t rest of first behind l is run body)
 
   -- ---- the value of the block
 
-  pub give-lowers : (v : Typed) (rest : List Step) (of : Option ValueType) (l : Lowered) → Lowers d n depth names types of (sense_of v) l →
+  pub give-lowers : (v : Typed) (rest : List TypedStep) (of : Option ValueType) (l : Lowered) → Lowers d n depth names types of (sense_of v) l →
       Lowers d n depth names types of (block_sense (step.Give v ∷ rest)) l
   give-lowers v rest of l h =
-      lowers-sense d n depth names types of (sense_of v) (block_sense (step.Give v ∷ rest)) l (λ s. sym (ap (λ (m : Stepped Stopped). m (block_sense rest s)) (meaning-Give s v))) h
+      lowers-sense d n depth names types of (sense_of v) (block_sense (step.Give v ∷ rest)) l (λ s. sym (ap (λ (m : StepMeaning Stopped). m (block_sense rest s)) (meaning-Give s v))) h

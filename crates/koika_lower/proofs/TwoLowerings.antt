@@ -4,17 +4,17 @@ use Rattle.std.specs.Prelude.{map, slice_get}
 use Rattle.typed_core.specs.declared.design.Parts.{Parts}
 use Rattle.typed_core.specs.declared.design.Rule.{Rule as CoreRule}
 use Rattle.koika_check.specs.declared.checked.Checked.{Checked}
-use Rattle.koika_check.specs.declared.checked.Rule.{Rule}
+use Rattle.koika_check.specs.declared.checked.CheckedRule.{CheckedRule}
 use Rattle.koika_lower.specs.Lowering.{IsLowered}
 use Rattle.koika_lower.specs.TwoLowerings.{EndAlike, LoweringsDoAlike}
 
 -- what one list has another of the same names has too
-named : (rules : List Rule) (cores : List CoreRule) (number : ℕ) (c : CoreRule) → map (λ (x : CoreRule). x.name) cores ≡ map (λ (r : Rule). r.name) rules → slice_get cores number ≡ Some c → (r : Rule) × (slice_get rules number ≡ Some r)
+named : (rules : List CheckedRule) (cores : List CoreRule) (number : ℕ) (c : CoreRule) → map (λ (x : CoreRule). x.name) cores ≡ map (λ (r : CheckedRule). r.name) rules → slice_get cores number ≡ Some c → (r : CheckedRule) × (slice_get rules number ≡ Some r)
 named rules [] number c same at = absurd (cc)
 named [] (x ∷ cores) number c same at = absurd (cc)
 named (r ∷ rules) (x ∷ cores) zero c same at = (r, refl)
 named (r ∷ rules) (x ∷ cores) (suc number) c same at =
-    let rests : map (λ (x : CoreRule). x.name) cores ≡ map (λ (r : Rule). r.name) rules = cc in
+    let rests : map (λ (x : CoreRule). x.name) cores ≡ map (λ (r : CheckedRule). r.name) rules = cc in
     named rules cores number c rests at
 
 module _ (d : Checked) (a b : Parts) (left : IsLowered d a) (right : IsLowered d b) where

@@ -16,7 +16,7 @@ use Rattle.koika_check.specs.Meaning.{unpacked}
 use Rattle.koika_check.specs.Types.{of_base, width_of}
 use Rattle.koika_check.specs.Typing.{IsAmong, IsOf, IsType, IsTypedDesign, Pairwise, PartIsOf}
 use Rattle.koika_check.specs.declared.checked.Checked.{Checked}
-use Rattle.koika_check.specs.declared.checked.Field.{Field}
+use Rattle.koika_check.specs.declared.checked.CheckedField.{CheckedField}
 use Rattle.koika_check.specs.declared.checked.Struct.{Struct}
 use Rattle.koika_check.specs.declared.typed.BaseType.{BaseType}
 use Rattle.koika_check.specs.declared.typed.BaseType.TheVariants as base
@@ -92,12 +92,12 @@ module _ (d : Checked) (is : IsTypedDesign d) where
       ap₂ (λ x xs. x ∷ xs) (p.1 w t valid.0 h.0 k.0 parts.1) (only-up es ws ts valid.1 h.1 k.1 parts.0)
 
   -- the types of the fields of a struct that is a valid type
-  fields-valid : (number : ℕ) → IsType d (of_base (base.Struct number)) → AllByRecursion (IsType d) (map (λ (f : Field). f.of) (fields_of d number))
+  fields-valid : (number : ℕ) → IsType d (of_base (base.Struct number)) → AllByRecursion (IsType d) (map (λ (f : CheckedField). f.of) (fields_of d number))
   fields-valid number valid =
       let it = declared-struct d number valid in
       let s = is.structs number it.struct it.is in
-      let each = subst (λ (o : Option Struct). AllByRecursion (λ (f : Field). IsType d f.of × IsAmong number f.of.base) (fields_by o)) (sym it.is)
-      (all-each d is (λ (f : Field). IsType d f.of × IsAmong number f.of.base) it.struct.fields s.fields) in
+      let each = subst (λ (o : Option Struct). AllByRecursion (λ (f : CheckedField). IsType d f.of × IsAmong number f.of.base) (fields_by o)) (sym it.is)
+      (all-each d is (λ (f : CheckedField). IsType d f.of × IsAmong number f.of.base) it.struct.fields s.fields) in
       types_of d is (fields_of d number) (first_of d is (fields_of d number) number each)
 
   abbrev opened : Value-F (Such IsOnly) → Value-F Value
@@ -123,9 +123,9 @@ module _ (d : Checked) (is : IsTypedDesign d) where
   only-layer (Value-F.Fields n es) (Value-F.Member m c) t valid h k e = let q = ap base_of (sym h.0 ∙ k.0) in absurd (cc)
   only-layer (Value-F.Fields n es) (Value-F.Fields m vs) t valid h k e =
       let same : n ≡ m = same-struct n m (sym h.0 ∙ k.0) in
-      let others : Pairwise (IsOf d) vs (map (λ (f : Field). f.of) (fields_of d n)) = subst (λ i. Pairwise (IsOf d) vs (map (λ (f : Field). f.of) (fields_of d i))) (sym same) k.1 in
+      let others : Pairwise (IsOf d) vs (map (λ (f : CheckedField). f.of) (fields_of d n)) = subst (λ i. Pairwise (IsOf d) vs (map (λ (f : CheckedField). f.of) (fields_of d i))) (sym same) k.1 in
       ap₂ (λ i ws. Value-F.Fields i ws) same
-      (only-down es vs (map (λ (f : Field). f.of) (fields_of d n)) (fields-valid n (subst (IsType d) h.0 valid)) h.1 others e)
+      (only-down es vs (map (λ (f : CheckedField). f.of) (fields_of d n)) (fields-valid n (subst (IsType d) h.0 valid)) h.1 others e)
   only-layer (Value-F.Fields n es) (Value-F.Items vs) t valid h k e = let q = ap lengths_of (sym h.0 ∙ k.1) in absurd (cc)
   only-layer (Value-F.Items es) (Value-F.Number c) t valid h k e = let q = ap lengths_of (sym h.1 ∙ k.0) in absurd (cc)
   only-layer (Value-F.Items es) (Value-F.Member m c) t valid h k e = let q = ap lengths_of (sym h.1 ∙ k.0) in absurd (cc)

@@ -18,11 +18,11 @@ use Rattle.koika_types.specs.declared.value.Value.TheViews.{roll-Value}
 use Rattle.koika_types.proofs.Layers.{packed-Fields, packed-Items, packed-Member, packed-roll}
 use Rattle.koika_types.proofs.Stacks.{concat-nothing, nothing-concat, stacked_up-push}
 use Rattle.koika_check.specs.Composites.{fields_by, fields_of}
-use Rattle.koika_check.specs.Meaning.{all_selected, below, parts_by, selected, with_parts, from_the_top, replaced, unpacked, unpacked_among}
+use Rattle.koika_check.specs.Meaning.{all_selected, below, parts_by, selected, with_parts, from_the_top, updated, unpacked, unpacked_among}
 use Rattle.koika_check.specs.Types.{all_lengths, array, base_width, bits, of_base, width_of}
 use Rattle.koika_check.specs.Typing.{IsAmong, IsOf, IsType, IsTypedDesign, Pairwise, PartIsOf, Replaces, lowest_of, Takes, TakesAll}
 use Rattle.koika_check.specs.declared.checked.Checked.{Checked}
-use Rattle.koika_check.specs.declared.checked.Field.{Field}
+use Rattle.koika_check.specs.declared.checked.CheckedField.{CheckedField}
 use Rattle.koika_check.specs.declared.checked.Struct.{Struct}
 use Rattle.koika_check.specs.declared.typed.BaseType.{BaseType}
 use Rattle.koika_check.specs.declared.typed.BaseType.TheVariants as base
@@ -45,9 +45,9 @@ total d (t ∷ ts) = width_of d t + total d ts
 -- ---- structs
 
 -- the fields' widths together
-total-fields : (d : Checked) (fields : List Field) → total d (map (λ (f : Field). f.of) fields) ≡ sum_by (λ (f : Field). width_of d f.of) fields
+total-fields : (d : Checked) (fields : List CheckedField) → total d (map (λ (f : CheckedField). f.of) fields) ≡ sum_by (λ (f : CheckedField). width_of d f.of) fields
 total-fields d [] = refl
-total-fields d (f ∷ fields) = ap (λ w. width_of d f.of + w) (total-fields d fields) ∙ sym (sum_by-cons (λ (f : Field). width_of d f.of) f fields)
+total-fields d (f ∷ fields) = ap (λ w. width_of d f.of + w) (total-fields d fields) ∙ sym (sum_by-cons (λ (f : CheckedField). width_of d f.of) f fields)
 
 -- a struct that is a valid type is declared, and as wide as its fields
 pub record Declared (d : Checked) (number : ℕ) : Type 0 where
@@ -67,12 +67,12 @@ declared-struct d number valid =
     record { struct = it.0; is = it.1; wide = omega (arith, it.2) }
 
 pub struct-total : (d : Checked) → IsTypedDesign d → (number : ℕ) → IsType d (of_base (base.Struct number)) →
-    total d (map (λ (f : Field). f.of) (fields_of d number)) ≡ width_of d (of_base (base.Struct number))
+    total d (map (λ (f : CheckedField). f.of) (fields_of d number)) ≡ width_of d (of_base (base.Struct number))
 struct-total d design number valid =
     let it = declared-struct d number valid in
     let s = design.structs number it.struct it.is in
-    let fields : total d (map (λ (f : Field). f.of) (fields_of d number)) ≡ sum_by (λ (f : Field). width_of d f.of) it.struct.fields =
-    total-fields d (fields_of d number) ∙ ap (λ (o : Option Struct). sum_by (λ (f : Field). width_of d f.of) (fields_by o)) it.is in
+    let fields : total d (map (λ (f : CheckedField). f.of) (fields_of d number)) ≡ sum_by (λ (f : CheckedField). width_of d f.of) it.struct.fields =
+    total-fields d (fields_of d number) ∙ ap (λ (o : Option Struct). sum_by (λ (f : CheckedField). width_of d f.of) (fields_by o)) it.is in
     omega (arith, fields, s.width, it.wide, valid.1)
 
 pub stand-stacked : (d : Checked) (ts : List ValueType) (vs : List Value) (xs : List BitVector) → StandAll d ts vs xs → (Pairwise (IsOf d) vs ts) × (stacked (map packed vs) ≡ stacked xs)
@@ -222,9 +222,9 @@ module _ (d : Checked) (is : IsTypedDesign d) where
 
   -- fields, each of which stands for its piece
   fields-stand : (look : ValueType → BitVector → Value) (k : ℕ) →
-      ((t : ValueType) (y : BitVector) → IsType d t → IsAmong k t.base → HasWidth y (width_of d t) → Stands d (Some t) (Some (look t y)) y) → (f : Field) (fields : List Field) (x : BitVector) →
-      AllByRecursion (λ (f : Field). IsType d f.of × IsAmong k f.of.base) (f ∷ fields) → HasWidth x (total d (map (λ (f : Field). f.of) (f ∷ fields))) →
-      (ps : List BitVector) × StandAll d (map (λ (f : Field). f.of) (f ∷ fields)) (from_the_top d look (f ∷ fields) x) ps × (stacked ps ≡ x)
+      ((t : ValueType) (y : BitVector) → IsType d t → IsAmong k t.base → HasWidth y (width_of d t) → Stands d (Some t) (Some (look t y)) y) → (f : CheckedField) (fields : List CheckedField) (x : BitVector) →
+      AllByRecursion (λ (f : CheckedField). IsType d f.of × IsAmong k f.of.base) (f ∷ fields) → HasWidth x (total d (map (λ (f : CheckedField). f.of) (f ∷ fields))) →
+      (ps : List BitVector) × StandAll d (map (λ (f : CheckedField). f.of) (f ∷ fields)) (from_the_top d look (f ∷ fields) x) ps × (stacked ps ≡ x)
   fields-stand look k h f [] x each wide =
       let own : x.width ≡ width_of d f.of = wide.1 ∙ omega arith in
       let y : BitVector = op.slice x (x.width - 1) (x.width - width_of d f.of) in
@@ -232,7 +232,7 @@ module _ (d : Checked) (is : IsTypedDesign d) where
       (y ∷ [], (h f.of y each.0.0 each.0.1 (subst (λ z. HasWidth z (width_of d f.of)) (sym same) (wide.0, own)), tt), concat-nothing y ∙ same)
   fields-stand look k h f (g ∷ fields) x each wide =
       let w : ℕ = width_of d f.of in
-      let r : ℕ = total d (map (λ (f : Field). f.of) (g ∷ fields)) in
+      let r : ℕ = total d (map (λ (f : CheckedField). f.of) (g ∷ fields)) in
       let own : x.width ≡ w + r = wide.1 in
       let some : 1 ≤ r = omega (arith, each.1.0.0.0) in
       let few : 1 ≤ w = each.0.0.0 in
@@ -247,17 +247,17 @@ module _ (d : Checked) (is : IsTypedDesign d) where
       )
 
   struct-at : (structs number : ℕ) (x : BitVector) → ((t : ValueType) (y : BitVector) → IsType d t → IsAmong structs t.base → HasWidth y (width_of d t) → Stands d (Some t) (Some (unpacked_among d structs t.base t.lengths y)) y) →
-      number < suc structs → (fields : List Field) → fields ≡ fields_of d number → AllByRecursion (λ (f : Field). IsType d f.of × IsAmong number f.of.base) fields → 1 ≤ total d (map (λ (f : Field). f.of) fields) →
-      HasWidth x (total d (map (λ (f : Field). f.of) fields)) → HasWidth x (width_of d (of_base (base.Struct number))) →
+      number < suc structs → (fields : List CheckedField) → fields ≡ fields_of d number → AllByRecursion (λ (f : CheckedField). IsType d f.of × IsAmong number f.of.base) fields → 1 ≤ total d (map (λ (f : CheckedField). f.of) fields) →
+      HasWidth x (total d (map (λ (f : CheckedField). f.of) fields)) → HasWidth x (width_of d (of_base (base.Struct number))) →
       Stands d (Some (of_base (base.Struct number))) (Some (value.Fields number (from_the_top d (λ t part. unpacked_among d structs t.base t.lengths part) (fields_of d number) x))) x
   struct-at structs number x inner among [] e each some wide h = absurd (omega (arith, some))
   struct-at structs number x inner among (f ∷ fields) e each some wide h =
       let look : ValueType → BitVector → Value = λ t part. unpacked_among d structs t.base t.lengths part in
       let got = fields-stand look number (λ t y ok among' hy. inner t y ok (among-more number structs t.base (omega arith) among') hy) f fields x each wide in
-      let both = stand-stacked d (map (λ (f : Field). f.of) (f ∷ fields)) (from_the_top d look (f ∷ fields) x) got.0 got.1 in
+      let both = stand-stacked d (map (λ (f : CheckedField). f.of) (f ∷ fields)) (from_the_top d look (f ∷ fields) x) got.0 got.1 in
       subst (λ fs. Stands d (Some (of_base (base.Struct number))) (Some (value.Fields number (from_the_top d look fs x))) x) e (
         close-IsOf d (value.Fields number (from_the_top d look (f ∷ fields) x)) (Value-F.Fields number (from_the_top d look (f ∷ fields) x)) (value.rolls-Fields number (from_the_top d look (f ∷ fields) x)) (of_base (base.Struct number))
-            (refl, subst (λ fs. Pairwise (IsOf d) (from_the_top d look (f ∷ fields) x) (map (λ (f : Field). f.of) fs)) e both.0),
+            (refl, subst (λ fs. Pairwise (IsOf d) (from_the_top d look (f ∷ fields) x) (map (λ (f : CheckedField). f.of) fs)) e both.0),
         packed-Fields number (from_the_top d look (f ∷ fields) x) ∙ both.1 ∙ got.2,
         h,
       )
@@ -283,9 +283,9 @@ module _ (d : Checked) (is : IsTypedDesign d) where
   among-stands (suc structs) (base.Struct number) [] x valid among h =
       let it = declared-struct d number valid in
       let s = is.structs number it.struct it.is in
-      let whole : total d (map (λ (f : Field). f.of) (fields_of d number)) ≡ width_of d (of_base (base.Struct number)) = struct-total d is number valid in
-      let each : AllByRecursion (λ (f : Field). IsType d f.of × IsAmong number f.of.base) (fields_of d number) =
-      subst (λ (o : Option Struct). AllByRecursion (λ (f : Field). IsType d f.of × IsAmong number f.of.base) (fields_by o)) (sym it.is) (all-each (λ (f : Field). IsType d f.of × IsAmong number f.of.base) it.struct.fields s.fields) in
+      let whole : total d (map (λ (f : CheckedField). f.of) (fields_of d number)) ≡ width_of d (of_base (base.Struct number)) = struct-total d is number valid in
+      let each : AllByRecursion (λ (f : CheckedField). IsType d f.of × IsAmong number f.of.base) (fields_of d number) =
+      subst (λ (o : Option Struct). AllByRecursion (λ (f : CheckedField). IsType d f.of × IsAmong number f.of.base) (fields_by o)) (sym it.is) (all-each (λ (f : CheckedField). IsType d f.of × IsAmong number f.of.base) it.struct.fields s.fields) in
       struct-at structs number x (λ t y ok among' hy. among-stands structs t.base t.lengths y ok among' hy) among (fields_of d number) refl each (subst (λ w. 1 ≤ w) (sym whole) valid.0) (h.0, h.1 ∙ sym whole) h
 
   index-within : (xs : List ℕ) (number : ℕ) → 1 ≤ slice_index xs number → number < length xs
@@ -331,11 +331,11 @@ module _ (d : Checked) (is : IsTypedDesign d) where
       let all = concat-HasWidth x (stacked (y ∷ xs)) h.0.2.0 under.0 (omega (arith, under.1, h.0.2.1)) in
       (all.0, all.1 ∙ omega (arith, under.1, h.0.2.1))
 
-  pub types_of : (fields : List Field) → AllByRecursion (λ (f : Field). IsType d f.of) fields → AllByRecursion (IsType d) (map (λ (f : Field). f.of) fields)
+  pub types_of : (fields : List CheckedField) → AllByRecursion (λ (f : CheckedField). IsType d f.of) fields → AllByRecursion (IsType d) (map (λ (f : CheckedField). f.of) fields)
   types_of [] h = tt
   types_of (f ∷ fields) h = (h.0, types_of fields h.1)
 
-  pub first_of : (fields : List Field) (k : ℕ) → AllByRecursion (λ (f : Field). IsType d f.of × IsAmong k f.of.base) fields → AllByRecursion (λ (f : Field). IsType d f.of) fields
+  pub first_of : (fields : List CheckedField) (k : ℕ) → AllByRecursion (λ (f : CheckedField). IsType d f.of × IsAmong k f.of.base) fields → AllByRecursion (λ (f : CheckedField). IsType d f.of) fields
   first_of [] k h = tt
   first_of (f ∷ fields) k h = (h.0.0, first_of fields k h.1)
 
@@ -368,8 +368,8 @@ module _ (d : Checked) (is : IsTypedDesign d) where
       let ok : IsType d (of_base (base.Struct m)) = subst (IsType d) h.0 valid in
       let it = declared-struct d m ok in
       let s = is.structs m it.struct it.is in
-      let each = subst (λ (o : Option Struct). AllByRecursion (λ (f : Field). IsType d f.of × IsAmong m f.of.base) (fields_by o)) (sym it.is) (all-each (λ (f : Field). IsType d f.of × IsAmong m f.of.base) it.struct.fields s.fields) in
-      wide_struct es (map (λ (f : Field). f.of) (fields_of d m)) (width_of d t) (wide_parts es (map (λ (f : Field). f.of) (fields_of d m)) (types_of (fields_of d m) (first_of (fields_of d m) m each)) h.1)
+      let each = subst (λ (o : Option Struct). AllByRecursion (λ (f : CheckedField). IsType d f.of × IsAmong m f.of.base) (fields_by o)) (sym it.is) (all-each (λ (f : CheckedField). IsType d f.of × IsAmong m f.of.base) it.struct.fields s.fields) in
+      wide_struct es (map (λ (f : CheckedField). f.of) (fields_of d m)) (width_of d t) (wide_parts es (map (λ (f : CheckedField). f.of) (fields_of d m)) (types_of (fields_of d m) (first_of (fields_of d m) m each)) h.1)
       (struct-total d is m ok ∙ sym (ap (width_of d) h.0)) valid
   part-width (Value-F.Items es) t valid h =
       let n : ℕ = length (map (λ e. e.0) es) in
@@ -387,17 +387,17 @@ module _ (d : Checked) (is : IsTypedDesign d) where
   constant-stands t v valid h = (h, refl, constant-width v t valid h)
 
   -- the place of a field
-  field-place : (fields : List Field) (number : ℕ) (f : Field) → slice_get fields number ≡ Some f →
-      sum_by (λ (g : Field). width_of d g.of) (drop (number + 1) fields) + width_of d f.of ≤ sum_by (λ (g : Field). width_of d g.of) fields
+  field-place : (fields : List CheckedField) (number : ℕ) (f : CheckedField) → slice_get fields number ≡ Some f →
+      sum_by (λ (g : CheckedField). width_of d g.of) (drop (number + 1) fields) + width_of d f.of ≤ sum_by (λ (g : CheckedField). width_of d g.of) fields
   field-place [] number f e = absurd (cc)
   field-place (g ∷ fields) zero f e =
       let same : g ≡ f = cc in
       let one : zero + 1 ≡ suc zero = omega arith in
-      omega (arith, sum_by-cons (λ (g : Field). width_of d g.of) g fields, ap (λ (x : Field). width_of d x.of) same, ap (λ k. sum_by (λ (g : Field). width_of d g.of) (drop k (g ∷ fields))) one)
+      omega (arith, sum_by-cons (λ (g : CheckedField). width_of d g.of) g fields, ap (λ (x : CheckedField). width_of d x.of) same, ap (λ k. sum_by (λ (g : CheckedField). width_of d g.of) (drop k (g ∷ fields))) one)
   field-place (g ∷ fields) (suc number) f e =
       let rest = field-place fields number f e in
       let more : suc number + 1 ≡ suc (number + 1) = omega arith in
-      omega (arith, rest, sum_by-cons (λ (g : Field). width_of d g.of) g fields, ap (λ k. sum_by (λ (g : Field). width_of d g.of) (drop k (g ∷ fields))) more)
+      omega (arith, rest, sum_by-cons (λ (g : CheckedField). width_of d g.of) g fields, ap (λ k. sum_by (λ (g : CheckedField). width_of d g.of) (drop k (g ∷ fields))) more)
 
   product-le : (n m i : ℕ) → i < n → i * m + m ≤ n * m
   product-le n m i below = let k : (i + 1) * m ≤ n * m = mul-le-mul (omega arith) (le_refl m) in omega (arith, k)
@@ -410,9 +410,9 @@ module _ (d : Checked) (is : IsTypedDesign d) where
       let it = declared-struct d struct ok in
       let s = is.structs struct it.struct it.is in
       let at : slice_get it.struct.fields number ≡ Some h.1 = subst (λ (o : Option Struct). slice_get (fields_by o) number ≡ Some h.1) it.is h.3 in
-      let each = all-get (λ (f : Field). IsType d f.of × IsAmong struct f.of.base) it.struct.fields number h.1 s.fields at in
+      let each = all-get (λ (f : CheckedField). IsType d f.of × IsAmong struct f.of.base) it.struct.fields number h.1 s.fields at in
       let place = field-place (fields_of d struct) number h.1 h.3 in
-      let whole : sum_by (λ (f : Field). width_of d f.of) (fields_of d struct) ≡ width_of d t = sym (total-fields d (fields_of d struct)) ∙ struct-total d is struct ok ∙ sym (ap (width_of d) h.2) in
+      let whole : sum_by (λ (f : CheckedField). width_of d f.of) (fields_of d struct) ≡ width_of d t = sym (total-fields d (fields_of d struct)) ∙ struct-total d is struct ok ∙ sym (ap (width_of d) h.2) in
       (omega (arith, place, whole, h.5, h.6), h.6 ∙ sym (ap (width_of d) h.4), subst (IsType d) (sym h.4) each.0)
   take-fit (selection.Item index width) t u valid h =
       let whole : h.0 * width_of d u ≡ width_of d t = array-width d h.0 u ∙ sym (ap (width_of d) h.1) in
@@ -443,22 +443,22 @@ module _ (d : Checked) (is : IsTypedDesign d) where
       )
 
   -- a field has the bits of its place
-  fields-total : (fields : List Field) → sum_by (λ (f : Field). width_of d f.of) fields ≡ total d (map (λ (f : Field). f.of) fields)
+  fields-total : (fields : List CheckedField) → sum_by (λ (f : CheckedField). width_of d f.of) fields ≡ total d (map (λ (f : CheckedField). f.of) fields)
   fields-total fields = sym (total-fields d fields)
 
-  field-part : (fields : List Field) (vs : List Value) (xs : List BitVector) (number : ℕ) (f : Field) (v : Value) → StandAll d (map (λ (f : Field). f.of) fields) vs xs → slice_get fields number ≡ Some f →
-      total d (map (λ (f : Field). f.of) fields) ≤ 128 → Stands d (Some f.of) (Some (slice_index_or vs number v))
-      (op.slice (stacked xs) (sum_by (λ (f : Field). width_of d f.of) (drop (number + 1) fields) + width_of d f.of - 1) (sum_by (λ (f : Field). width_of d f.of) (drop (number + 1) fields)))
+  field-part : (fields : List CheckedField) (vs : List Value) (xs : List BitVector) (number : ℕ) (f : CheckedField) (v : Value) → StandAll d (map (λ (f : CheckedField). f.of) fields) vs xs → slice_get fields number ≡ Some f →
+      total d (map (λ (f : CheckedField). f.of) fields) ≤ 128 → Stands d (Some f.of) (Some (slice_index_or vs number v))
+      (op.slice (stacked xs) (sum_by (λ (f : CheckedField). width_of d f.of) (drop (number + 1) fields) + width_of d f.of - 1) (sum_by (λ (f : CheckedField). width_of d f.of) (drop (number + 1) fields)))
   field-part [] vs xs number f v h e few = absurd (cc)
   field-part (g ∷ fields) [] xs number f v h e few = absurd h
   field-part (g ∷ fields) (w ∷ vs) [] number f v h e few = absurd h
   field-part (g ∷ []) (w ∷ []) (x ∷ []) zero f v h e few =
       let same : g ≡ f = cc in
-      let wide : x.width ≡ width_of d f.of = h.0.2.1 ∙ ap (λ (f : Field). width_of d f.of) same in
-      let none : sum_by (λ (f : Field). width_of d f.of) (drop (zero + 1) (g ∷ [])) ≡ 0 = ap (λ k. sum_by (λ (f : Field). width_of d f.of) (drop k (g ∷ []))) (one_is zero) in
+      let wide : x.width ≡ width_of d f.of = h.0.2.1 ∙ ap (λ (f : CheckedField). width_of d f.of) same in
+      let none : sum_by (λ (f : CheckedField). width_of d f.of) (drop (zero + 1) (g ∷ [])) ≡ 0 = ap (λ k. sum_by (λ (f : CheckedField). width_of d f.of) (drop k (g ∷ []))) (one_is zero) in
       subst (λ low. Stands d (Some f.of) (Some w) (op.slice (stacked (x ∷ [])) (low + width_of d f.of - 1) low)) (sym none)
       (subst (λ y. Stands d (Some f.of) (Some w) y) (sym (ap (λ b. op.slice b (0 + width_of d f.of - 1) 0) (concat-nothing x) ∙ ap (λ k. op.slice x k 0) (omega (arith, wide)) ∙ slice-whole x h.0.2.0))
-      (subst (λ (f : Field). Stands d (Some f.of) (Some w) x) same h.0))
+      (subst (λ (f : CheckedField). Stands d (Some f.of) (Some w) x) same h.0))
     where
       one_is : (k : ℕ) → k + 1 ≡ suc k
       one_is k = omega arith
@@ -468,13 +468,13 @@ module _ (d : Checked) (is : IsTypedDesign d) where
   field-part (g ∷ k ∷ fields) (w ∷ u ∷ vs) (x ∷ []) zero f v h e few = absurd h.1
   field-part (g ∷ k ∷ fields) (w ∷ u ∷ vs) (x ∷ y ∷ xs) zero f v h e few =
       let same : g ≡ f = cc in
-      let wide : x.width ≡ width_of d f.of = h.0.2.1 ∙ ap (λ (f : Field). width_of d f.of) same in
-      let under = stacked-width k.of (map (λ (f : Field). f.of) fields) u vs y xs h.1 (omega arith) in
-      let low : sum_by (λ (f : Field). width_of d f.of) (drop (zero + 1) (g ∷ k ∷ fields)) ≡ (stacked (y ∷ xs)).width =
-      ap (λ i. sum_by (λ (f : Field). width_of d f.of) (drop i (g ∷ k ∷ fields))) (one_is zero) ∙ fields-total (k ∷ fields) ∙ sym under.1 in
+      let wide : x.width ≡ width_of d f.of = h.0.2.1 ∙ ap (λ (f : CheckedField). width_of d f.of) same in
+      let under = stacked-width k.of (map (λ (f : CheckedField). f.of) fields) u vs y xs h.1 (omega arith) in
+      let low : sum_by (λ (f : CheckedField). width_of d f.of) (drop (zero + 1) (g ∷ k ∷ fields)) ≡ (stacked (y ∷ xs)).width =
+      ap (λ i. sum_by (λ (f : CheckedField). width_of d f.of) (drop i (g ∷ k ∷ fields))) (one_is zero) ∙ fields-total (k ∷ fields) ∙ sym under.1 in
       subst (λ n. Stands d (Some f.of) (Some w) (op.slice (stacked (x ∷ y ∷ xs)) (n + width_of d f.of - 1) n)) (sym low)
       (subst (λ z. Stands d (Some f.of) (Some w) z) (sym (ap (λ n. op.slice (stacked (x ∷ y ∷ xs)) n (stacked (y ∷ xs)).width) (omega (arith, wide)) ∙ (slice-concat x (stacked (y ∷ xs)) h.0.2.0 under.0).0))
-      (subst (λ (f : Field). Stands d (Some f.of) (Some w) x) same h.0))
+      (subst (λ (f : CheckedField). Stands d (Some f.of) (Some w) x) same h.0))
     where
       one_is : (k : ℕ) → k + 1 ≡ suc k
       one_is k = omega arith
@@ -482,14 +482,14 @@ module _ (d : Checked) (is : IsTypedDesign d) where
   field-part (g ∷ k ∷ fields) (w ∷ []) (x ∷ xs) (suc number) f v h e few = absurd h.1
   field-part (g ∷ k ∷ fields) (w ∷ u ∷ vs) (x ∷ []) (suc number) f v h e few = absurd h.1
   field-part (g ∷ k ∷ fields) (w ∷ u ∷ vs) (x ∷ y ∷ xs) (suc number) f v h e few =
-      let under = stacked-width k.of (map (λ (f : Field). f.of) fields) u vs y xs h.1 (omega arith) in
+      let under = stacked-width k.of (map (λ (f : CheckedField). f.of) fields) u vs y xs h.1 (omega arith) in
       let place = field-place (k ∷ fields) number f e in
       let rest = field-part (k ∷ fields) (u ∷ vs) (y ∷ xs) number f v h.1 e (omega arith) in
-      let low : sum_by (λ (f : Field). width_of d f.of) (drop (suc number + 1) (g ∷ k ∷ fields)) ≡ sum_by (λ (f : Field). width_of d f.of) (drop (number + 1) (k ∷ fields)) =
-      ap (λ i. sum_by (λ (f : Field). width_of d f.of) (drop i (g ∷ k ∷ fields))) (more_is number) in
+      let low : sum_by (λ (f : CheckedField). width_of d f.of) (drop (suc number + 1) (g ∷ k ∷ fields)) ≡ sum_by (λ (f : CheckedField). width_of d f.of) (drop (number + 1) (k ∷ fields)) =
+      ap (λ i. sum_by (λ (f : CheckedField). width_of d f.of) (drop i (g ∷ k ∷ fields))) (more_is number) in
       subst (λ n. Stands d (Some f.of) (Some (slice_index_or (u ∷ vs) number v)) (op.slice (stacked (x ∷ y ∷ xs)) (n + width_of d f.of - 1) n)) (sym low)
       (subst (λ z. Stands d (Some f.of) (Some (slice_index_or (u ∷ vs) number v)) z)
-      (sym (slice-low x (stacked (y ∷ xs)) (sum_by (λ (f : Field). width_of d f.of) (drop (number + 1) (k ∷ fields)) + width_of d f.of - 1) (sum_by (λ (f : Field). width_of d f.of) (drop (number + 1) (k ∷ fields))) h.0.2.0 under.0
+      (sym (slice-low x (stacked (y ∷ xs)) (sum_by (λ (f : CheckedField). width_of d f.of) (drop (number + 1) (k ∷ fields)) + width_of d f.of - 1) (sum_by (λ (f : CheckedField). width_of d f.of) (drop (number + 1) (k ∷ fields))) h.0.2.0 under.0
       (omega (arith, some_width d f.of _ _ rest)) (omega (arith, place, fields-total (k ∷ fields), under.1, some_width d f.of _ _ rest)))) rest)
     where
       more_is : (k : ℕ) → suc k + 1 ≡ suc (k + 1)
@@ -560,9 +560,9 @@ module _ (d : Checked) (is : IsTypedDesign d) where
       subst (λ y. Stands d (Some u) (Some (slice_index_or vs index v)) (op.slice y (index * width_of d u + width_of d u - 1) (index * width_of d u))) e
       (item-part n u vs (map packed vs) index v stand below (subst (λ w. w ≤ 128) (sym (array-width d n u)) valid.1) ok.0)
 
-  field-of : (y : Value-F Value) (v : Value) (x : BitVector) (struct number : ℕ) (f : Field) → PartIsOf d (IsOf d) y (of_base (base.Struct struct)) → packed_part (map-Value Value BitVector packed y) ≡ x →
+  field-of : (y : Value-F Value) (v : Value) (x : BitVector) (struct number : ℕ) (f : CheckedField) → PartIsOf d (IsOf d) y (of_base (base.Struct struct)) → packed_part (map-Value Value BitVector packed y) ≡ x →
       IsType d (of_base (base.Struct struct)) → slice_get (fields_of d struct) number ≡ Some f → Stands d (Some f.of) (Some (slice_index_or (parts_by y) number v))
-      (op.slice x (sum_by (λ (f : Field). width_of d f.of) (drop (number + 1) (fields_of d struct)) + width_of d f.of - 1) (sum_by (λ (f : Field). width_of d f.of) (drop (number + 1) (fields_of d struct))))
+      (op.slice x (sum_by (λ (f : CheckedField). width_of d f.of) (drop (number + 1) (fields_of d struct)) + width_of d f.of - 1) (sum_by (λ (f : CheckedField). width_of d f.of) (drop (number + 1) (fields_of d struct))))
   unfolding lengths_of base_of
   field-of (Value-F.Number b) v x struct number f h e valid at = let k = ap base_of h.0 in absurd (cc)
   field-of (Value-F.Member m b) v x struct number f h e valid at = let k = ap base_of h.0 in absurd (cc)
@@ -572,10 +572,10 @@ module _ (d : Checked) (is : IsTypedDesign d) where
       let same : struct ≡ m = cc in
       let it = declared-struct d struct valid in
       let s = is.structs struct it.struct it.is in
-      let each = subst (λ (o : Option Struct). AllByRecursion (λ (f : Field). IsType d f.of × IsAmong struct f.of.base) (fields_by o)) (sym it.is) (all-each (λ (f : Field). IsType d f.of × IsAmong struct f.of.base) it.struct.fields s.fields) in
-      let pairs : Pairwise (IsOf d) vs (map (λ (f : Field). f.of) (fields_of d struct)) = subst (λ k. Pairwise (IsOf d) vs (map (λ (f : Field). f.of) (fields_of d k))) (sym same) h.1 in
-      let stand = pair-stand vs (map (λ (f : Field). f.of) (fields_of d struct)) (types_of (fields_of d struct) (first_of (fields_of d struct) struct each)) pairs in
-      subst (λ z. Stands d (Some f.of) (Some (slice_index_or vs number v)) (op.slice z (sum_by (λ (f : Field). width_of d f.of) (drop (number + 1) (fields_of d struct)) + width_of d f.of - 1) (sum_by (λ (f : Field). width_of d f.of) (drop (number + 1) (fields_of d struct))))) e
+      let each = subst (λ (o : Option Struct). AllByRecursion (λ (f : CheckedField). IsType d f.of × IsAmong struct f.of.base) (fields_by o)) (sym it.is) (all-each (λ (f : CheckedField). IsType d f.of × IsAmong struct f.of.base) it.struct.fields s.fields) in
+      let pairs : Pairwise (IsOf d) vs (map (λ (f : CheckedField). f.of) (fields_of d struct)) = subst (λ k. Pairwise (IsOf d) vs (map (λ (f : CheckedField). f.of) (fields_of d k))) (sym same) h.1 in
+      let stand = pair-stand vs (map (λ (f : CheckedField). f.of) (fields_of d struct)) (types_of (fields_of d struct) (first_of (fields_of d struct) struct each)) pairs in
+      subst (λ z. Stands d (Some f.of) (Some (slice_index_or vs number v)) (op.slice z (sum_by (λ (f : CheckedField). width_of d f.of) (drop (number + 1) (fields_of d struct)) + width_of d f.of - 1) (sum_by (λ (f : CheckedField). width_of d f.of) (drop (number + 1) (fields_of d struct))))) e
       (field-part (fields_of d struct) vs (map packed vs) number f v stand at (subst (λ w. w ≤ 128) (sym (struct-total d is struct valid)) valid.1))
 
   -- a part has the bits of its place
@@ -628,8 +628,8 @@ module _ (d : Checked) (is : IsTypedDesign d) where
   down-stacked (t ∷ ts) (v ∷ vs) [] h some few = absurd h
   down-stacked (t ∷ ts) (v ∷ vs) (x ∷ xs) h some few = stacked-width t ts v vs x xs h few
 
-  abbrev low_of : List Field → ℕ → ℕ
-  low_of fields number = sum_by (λ (f : Field). width_of d f.of) (drop (number + 1) fields)
+  abbrev low_of : List CheckedField → ℕ → ℕ
+  low_of fields number = sum_by (λ (f : CheckedField). width_of d f.of) (drop (number + 1) fields)
 
   one_is : (k : ℕ) → k + 1 ≡ suc k
   one_is k = omega arith
@@ -640,18 +640,18 @@ module _ (d : Checked) (is : IsTypedDesign d) where
   some_bits : (t : ValueType) (v : Value) (x : BitVector) → Stands d (Some t) (Some v) x → 1 ≤ width_of d t
   some_bits t v x st = subst (λ w. 1 ≤ w) st.2.1 st.2.0.some_bit
 
-  fields-replaced : (fields : List Field) (vs : List Value) (xs : List BitVector) (number : ℕ) (f : Field) (new : Value) (y : BitVector) → StandAll d (map (λ (f : Field). f.of) fields) vs xs → slice_get fields number ≡ Some f →
-      total d (map (λ (f : Field). f.of) fields) ≤ 128 → Stands d (Some f.of) (Some new) y →
-      StandAll d (map (λ (f : Field). f.of) fields) (slice_set vs number new) (slice_set xs number y) ×
-      (stacked (slice_set xs number y) ≡ with_part (range_at (low_of fields number) (width_of d f.of)) (total d (map (λ (f : Field). f.of) fields)) (stacked xs) y)
+  fields-replaced : (fields : List CheckedField) (vs : List Value) (xs : List BitVector) (number : ℕ) (f : CheckedField) (new : Value) (y : BitVector) → StandAll d (map (λ (f : CheckedField). f.of) fields) vs xs → slice_get fields number ≡ Some f →
+      total d (map (λ (f : CheckedField). f.of) fields) ≤ 128 → Stands d (Some f.of) (Some new) y →
+      StandAll d (map (λ (f : CheckedField). f.of) fields) (slice_set vs number new) (slice_set xs number y) ×
+      (stacked (slice_set xs number y) ≡ with_part (range_at (low_of fields number) (width_of d f.of)) (total d (map (λ (f : CheckedField). f.of) fields)) (stacked xs) y)
   fields-replaced [] vs xs number f new y h e few sn = absurd (cc)
   fields-replaced (g ∷ fields) [] xs number f new y h e few sn = absurd h
   fields-replaced (g ∷ fields) (v ∷ vs) [] number f new y h e few sn = absurd h
   fields-replaced (g ∷ []) (v ∷ []) (x ∷ []) zero f new y h e few sn =
       let same : f ≡ g = cc in
-      let none : low_of (g ∷ []) zero ≡ 0 = ap (λ k. sum_by (λ (f : Field). width_of d f.of) (drop k (g ∷ []))) (one_is zero) in
-      let wide : width_of d f.of ≡ width_of d g.of + 0 = ap (λ (f : Field). width_of d f.of) same ∙ omega arith in (
-        (subst (λ (f : Field). Stands d (Some f.of) (Some new) y) same sn, tt),
+      let none : low_of (g ∷ []) zero ≡ 0 = ap (λ k. sum_by (λ (f : CheckedField). width_of d f.of) (drop k (g ∷ []))) (one_is zero) in
+      let wide : width_of d f.of ≡ width_of d g.of + 0 = ap (λ (f : CheckedField). width_of d f.of) same ∙ omega arith in (
+        (subst (λ (f : CheckedField). Stands d (Some f.of) (Some new) y) same sn, tt),
         concat-nothing y ∙ sym (replace-all (stacked (x ∷ [])) y (width_of d f.of)) ∙ ap₂ (λ l k. with_part (range_at l (width_of d f.of)) k (stacked (x ∷ [])) y) (sym none) wide,
       )
   fields-replaced (g ∷ []) (v ∷ []) (x ∷ z ∷ xs) zero f new y h e few sn = absurd h.1
@@ -660,12 +660,12 @@ module _ (d : Checked) (is : IsTypedDesign d) where
   fields-replaced (g ∷ k ∷ fields) (v ∷ u ∷ vs) (x ∷ []) zero f new y h e few sn = absurd h.1
   fields-replaced (g ∷ k ∷ fields) (v ∷ u ∷ vs) (x ∷ z ∷ xs) zero f new y h e few sn =
       let same : f ≡ g = cc in
-      let lower = stacked-width k.of (map (λ (f : Field). f.of) fields) u vs z xs h.1 (omega arith) in
+      let lower = stacked-width k.of (map (λ (f : CheckedField). f.of) fields) u vs z xs h.1 (omega arith) in
       let low : (stacked (z ∷ xs)).width ≡ low_of (g ∷ k ∷ fields) zero =
-      lower.1 ∙ sym (ap (λ i. sum_by (λ (f : Field). width_of d f.of) (drop i (g ∷ k ∷ fields))) (one_is zero) ∙ fields-total (k ∷ fields)) in
-      let own : x.width ≡ width_of d f.of = h.0.2.1 ∙ sym (ap (λ (f : Field). width_of d f.of) same) in
-      let all : x.width + (stacked (z ∷ xs)).width ≡ total d (map (λ (f : Field). f.of) (g ∷ k ∷ fields)) = omega (arith, h.0.2.1, lower.1) in (
-        (subst (λ (f : Field). Stands d (Some f.of) (Some new) y) same sn, h.1),
+      lower.1 ∙ sym (ap (λ i. sum_by (λ (f : CheckedField). width_of d f.of) (drop i (g ∷ k ∷ fields))) (one_is zero) ∙ fields-total (k ∷ fields)) in
+      let own : x.width ≡ width_of d f.of = h.0.2.1 ∙ sym (ap (λ (f : CheckedField). width_of d f.of) same) in
+      let all : x.width + (stacked (z ∷ xs)).width ≡ total d (map (λ (f : CheckedField). f.of) (g ∷ k ∷ fields)) = omega (arith, h.0.2.1, lower.1) in (
+        (subst (λ (f : CheckedField). Stands d (Some f.of) (Some new) y) same sn, h.1),
         sym (replace-upper x (stacked (z ∷ xs)) y h.0.2.0 lower.0) ∙
             ap₂ (λ l w. with_part (range_at l w) (x.width + (stacked (z ∷ xs)).width) (stacked (x ∷ z ∷ xs)) y) low own ∙
             ap (λ w. with_part (range_at (low_of (g ∷ k ∷ fields) zero) (width_of d f.of)) w (stacked (x ∷ z ∷ xs)) y) all,
@@ -674,11 +674,11 @@ module _ (d : Checked) (is : IsTypedDesign d) where
   fields-replaced (g ∷ k ∷ fields) (v ∷ []) (x ∷ xs) (suc number) f new y h e few sn = absurd h.1
   fields-replaced (g ∷ k ∷ fields) (v ∷ u ∷ vs) (x ∷ []) (suc number) f new y h e few sn = absurd h.1
   fields-replaced (g ∷ k ∷ fields) (v ∷ u ∷ vs) (x ∷ z ∷ xs) (suc number) f new y h e few sn =
-      let lower = stacked-width k.of (map (λ (f : Field). f.of) fields) u vs z xs h.1 (omega arith) in
+      let lower = stacked-width k.of (map (λ (f : CheckedField). f.of) fields) u vs z xs h.1 (omega arith) in
       let place = field-place (k ∷ fields) number f e in
       let rest = fields-replaced (k ∷ fields) (u ∷ vs) (z ∷ xs) number f new y h.1 e (omega arith) sn in
-      let low : low_of (k ∷ fields) number ≡ low_of (g ∷ k ∷ fields) (suc number) = sym (ap (λ i. sum_by (λ (f : Field). width_of d f.of) (drop i (g ∷ k ∷ fields))) (more_is number)) in
-      let all : x.width + (stacked (z ∷ xs)).width ≡ total d (map (λ (f : Field). f.of) (g ∷ k ∷ fields)) = omega (arith, h.0.2.1, lower.1) in (
+      let low : low_of (k ∷ fields) number ≡ low_of (g ∷ k ∷ fields) (suc number) = sym (ap (λ i. sum_by (λ (f : CheckedField). width_of d f.of) (drop i (g ∷ k ∷ fields))) (more_is number)) in
+      let all : x.width + (stacked (z ∷ xs)).width ≡ total d (map (λ (f : CheckedField). f.of) (g ∷ k ∷ fields)) = omega (arith, h.0.2.1, lower.1) in (
         (h.0, rest.0),
         ap (op.concat x) (rest.1 ∙ ap (λ w. with_part (range_at (low_of (k ∷ fields) number) (width_of d f.of)) w (stacked (z ∷ xs)) y) (sym lower.1)) ∙
             sym (replace-below x (stacked (z ∷ xs)) y h.0.2.0 lower.0 (low_of (k ∷ fields) number) (width_of d f.of) (omega (arith, place, fields-total (k ∷ fields), lower.1))) ∙
@@ -733,7 +733,7 @@ module _ (d : Checked) (is : IsTypedDesign d) where
             ap₂ (λ l w. with_part (range_at l m) w (stacked_up (x ∷ xs)) y) lowest all,
       )
 
-  field-replaced-of : (z : Value-F Value) (new : Value) (x y : BitVector) (struct number : ℕ) (f : Field) → PartIsOf d (IsOf d) z (of_base (base.Struct struct)) → packed_part (map-Value Value BitVector packed z) ≡ x →
+  field-replaced-of : (z : Value-F Value) (new : Value) (x y : BitVector) (struct number : ℕ) (f : CheckedField) → PartIsOf d (IsOf d) z (of_base (base.Struct struct)) → packed_part (map-Value Value BitVector packed z) ≡ x →
       IsType d (of_base (base.Struct struct)) → slice_get (fields_of d struct) number ≡ Some f → Stands d (Some f.of) (Some new) y →
       Stands d (Some (of_base (base.Struct struct))) (Some (with_parts z (slice_set (parts_by z) number new))) (with_part (range_at (low_of (fields_of d struct) number) (width_of d f.of)) (width_of d (of_base (base.Struct struct))) x y)
   unfolding lengths_of base_of
@@ -743,11 +743,11 @@ module _ (d : Checked) (is : IsTypedDesign d) where
   field-replaced-of (Value-F.Fields m vs) new x y struct number f h e valid at sn =
       let k : base.Struct struct ≡ base.Struct m = ap base_of h.0 in
       let same : struct ≡ m = cc in
-      let ts : List ValueType = map (λ (f : Field). f.of) (fields_of d struct) in
+      let ts : List ValueType = map (λ (f : CheckedField). f.of) (fields_of d struct) in
       let it = declared-struct d struct valid in
       let s = is.structs struct it.struct it.is in
-      let each = subst (λ (o : Option Struct). AllByRecursion (λ (f : Field). IsType d f.of × IsAmong struct f.of.base) (fields_by o)) (sym it.is) (all-each (λ (f : Field). IsType d f.of × IsAmong struct f.of.base) it.struct.fields s.fields) in
-      let pairs : Pairwise (IsOf d) vs ts = subst (λ k. Pairwise (IsOf d) vs (map (λ (f : Field). f.of) (fields_of d k))) (sym same) h.1 in
+      let each = subst (λ (o : Option Struct). AllByRecursion (λ (f : CheckedField). IsType d f.of × IsAmong struct f.of.base) (fields_by o)) (sym it.is) (all-each (λ (f : CheckedField). IsType d f.of × IsAmong struct f.of.base) it.struct.fields s.fields) in
+      let pairs : Pairwise (IsOf d) vs ts = subst (λ k. Pairwise (IsOf d) vs (map (λ (f : CheckedField). f.of) (fields_of d k))) (sym same) h.1 in
       let whole : total d ts ≡ width_of d (of_base (base.Struct struct)) = struct-total d is struct valid in
       let made = fields-replaced (fields_of d struct) vs (map packed vs) number f new y (pair-stand vs ts (types_of (fields_of d struct) (first_of (fields_of d struct) struct each)) pairs) at (omega (arith, whole, valid.1)) sn in
       let both = stand-stacked d ts (slice_set vs number new) (slice_set (map packed vs) number y) made.0 in
@@ -786,20 +786,20 @@ module _ (d : Checked) (is : IsTypedDesign d) where
       subst (λ z. Stands d (Some (array n u)) (Some (value.Items (slice_set vs index new))) z) bits_are
       (subst (λ c. Stands d (Some (array c u)) (Some (value.Items (slice_set vs index new))) (stacked_up (slice_set (map packed vs) index y))) size it)
 
-  pub replaced-stands : (s : Selection) (t part : ValueType) (v new : Value) (x y : BitVector) → IsType d t → Replaces d s t part → Stands d (Some t) (Some v) x → Stands d (Some part) (Some new) y →
-      Stands d (Some t) (Some (replaced v s new)) (with_part (range_at (lowest_bit s) (part_width s)) (width_of d t) x y)
-  replaced-stands (selection.Field number lowest width) t part v new x y valid h st sn =
+  pub updated-stands : (s : Selection) (t part : ValueType) (v new : Value) (x y : BitVector) → IsType d t → Replaces d s t part → Stands d (Some t) (Some v) x → Stands d (Some part) (Some new) y →
+      Stands d (Some t) (Some (updated v s new)) (with_part (range_at (lowest_bit s) (part_width s)) (width_of d t) x y)
+  updated-stands (selection.Field number lowest width) t part v new x y valid h st sn =
       let ok : IsType d (of_base (base.Struct h.0)) = subst (IsType d) h.2 valid in
       let of : IsOf d v (of_base (base.Struct h.0)) = subst (IsOf d v) h.2 st.0 in
       let it = field-replaced-of (out-Value v) new x y h.0 number h.1 (open-IsOf d v (out-Value v) (roll-out-Value v) (of_base (base.Struct h.0)) of) (sym (packed-roll (out-Value v)) ∙ ap packed (roll-out-Value v) ∙ st.1) ok h.3
       (subst (λ (q : ValueType). Stands d (Some q) (Some new) y) h.4 sn) in
-      subst (λ (q : ValueType). Stands d (Some q) (Some (replaced v (selection.Field number lowest width) new)) (with_part (range_at lowest width) (width_of d q) x y)) (sym h.2)
-      (subst (λ k. Stands d (Some (of_base (base.Struct h.0))) (Some (replaced v (selection.Field number lowest width) new)) (with_part (range_at k width) (width_of d (of_base (base.Struct h.0))) x y)) (sym h.5)
-      (subst (λ w. Stands d (Some (of_base (base.Struct h.0))) (Some (replaced v (selection.Field number lowest width) new)) (with_part (range_at (lowest_of d h.0 number) w) (width_of d (of_base (base.Struct h.0))) x y)) (sym h.6) it))
-  replaced-stands (selection.Item index width) t part v new x y valid h st sn =
+      subst (λ (q : ValueType). Stands d (Some q) (Some (updated v (selection.Field number lowest width) new)) (with_part (range_at lowest width) (width_of d q) x y)) (sym h.2)
+      (subst (λ k. Stands d (Some (of_base (base.Struct h.0))) (Some (updated v (selection.Field number lowest width) new)) (with_part (range_at k width) (width_of d (of_base (base.Struct h.0))) x y)) (sym h.5)
+      (subst (λ w. Stands d (Some (of_base (base.Struct h.0))) (Some (updated v (selection.Field number lowest width) new)) (with_part (range_at (lowest_of d h.0 number) w) (width_of d (of_base (base.Struct h.0))) x y)) (sym h.6) it))
+  updated-stands (selection.Item index width) t part v new x y valid h st sn =
       let ok : IsType d (array h.0 part) = subst (IsType d) h.1 valid in
       let of : IsOf d v (array h.0 part) = subst (IsOf d v) h.1 st.0 in
       let it = item-replaced-of (out-Value v) new x y h.0 part index (open-IsOf d v (out-Value v) (roll-out-Value v) (array h.0 part) of) (sym (packed-roll (out-Value v)) ∙ ap packed (roll-out-Value v) ∙ st.1) ok h.2 sn in
-      subst (λ (q : ValueType). Stands d (Some q) (Some (replaced v (selection.Item index width) new)) (with_part (range_at (index * width) width) (width_of d q) x y)) (sym h.1)
-      (subst (λ w. Stands d (Some (array h.0 part)) (Some (replaced v (selection.Item index width) new)) (with_part (range_at (index * w) w) (width_of d (array h.0 part)) x y)) (sym h.3) it)
-  replaced-stands (selection.Bits high low) t part v new x y valid h st sn = absurd h
+      subst (λ (q : ValueType). Stands d (Some q) (Some (updated v (selection.Item index width) new)) (with_part (range_at (index * width) width) (width_of d q) x y)) (sym h.1)
+      (subst (λ w. Stands d (Some (array h.0 part)) (Some (updated v (selection.Item index width) new)) (with_part (range_at (index * w) w) (width_of d (array h.0 part)) x y)) (sym h.3) it)
+  updated-stands (selection.Bits high low) t part v new x y valid h st sn = absurd h

@@ -13,15 +13,15 @@ use Rattle.koika_types.specs.declared.value.Value.{Value}
 use Rattle.koika_types.specs.declared.value.Value.TheOpen.{Value-F}
 use Rattle.koika_types.specs.declared.value.Value.TheVariants as value
 use Rattle.koika_types.specs.declared.value.Value.TheViews.{out-Value}
-use Rattle.typed_core.specs.Evaluation.{Ending, Value as Reached, Stop, Progress, Part, Ports, ◌>>=◌, comes_to, stops}
+use Rattle.typed_core.specs.Evaluation.{Ending, Value as Reached, Stop, Progress, Evaluation, Ports, ◌>>=◌, comes_to, stops}
 use Rattle.typed_core.specs.declared.limits.TheConstants.{PORTS}
 use Rattle.typed_core.specs.declared.outcome.Stopped.{Stopped}
-use Rattle.koika_check.specs.Meaning.{Meaning, Setting, Stepped, below, binary_value, comparison_value, extension_value, gives, joined, prefixed, replaced, steps_in_turn}
+use Rattle.koika_check.specs.Meaning.{Meaning, RuleSetting, StepMeaning, below, binary_value, comparison_value, extension_value, gives, joined_arguments, prefixed, updated, steps_in_turn}
 use Rattle.koika_check.specs.Types.{width_of}
 use Rattle.koika_check.specs.Typing.{IsOf}
 use Rattle.koika_check.specs.declared.checked.Checked.{Checked}
-use Rattle.koika_check.specs.declared.checked.Field.{Field}
-use Rattle.koika_check.specs.declared.checked.Function.{Function}
+use Rattle.koika_check.specs.declared.checked.CheckedField.{CheckedField}
+use Rattle.koika_check.specs.declared.checked.CheckedFunction.{CheckedFunction}
 use Rattle.koika_check.specs.declared.checked.Host.{Host}
 use Rattle.koika_check.specs.declared.checked.Input.{Input}
 use Rattle.koika_check.specs.declared.checked.Register.{Register}
@@ -33,8 +33,8 @@ use Rattle.koika_check.specs.declared.typed.Operation.{Operation}
 use Rattle.koika_check.specs.declared.typed.Operation.TheVariants as operation
 use Rattle.koika_check.specs.declared.typed.Selection.{Selection}
 use Rattle.koika_check.specs.declared.typed.Selection.TheVariants as selection
-use Rattle.koika_check.specs.declared.typed.Step.{Step-F}
-use Rattle.koika_check.specs.declared.typed.Step.TheOpen as typed
+use Rattle.koika_check.specs.declared.typed.TypedStep.{TypedStep-F}
+use Rattle.koika_check.specs.declared.typed.TypedStep.TheOpen as typed
 use Rattle.koika_check.specs.declared.typed.Typed.{Typed, Typed-F, fold-Typed}
 use Rattle.koika_check.specs.declared.typed.ValueType.{ValueType}
 
@@ -45,11 +45,11 @@ pub data Cause : Type 0 where
   Stuck : Cause
   By : (stopped : Stopped) → Cause
 
-abbrev pub stuck : {V : Type 0} → Part V Cause
+abbrev pub stuck : {V : Type 0} → Evaluation V Cause
 stuck = stops Stuck
 
 -- what goes on with what there has to be
-abbrev pub with_some : {V W : Type 0} → (V → Part W Cause) → Option V → Part W Cause
+abbrev pub with_some : {V W : Type 0} → (V → Evaluation W Cause) → Option V → Evaluation W Cause
 with_some next None = stuck
 with_some next (Some v) = next v
 
@@ -77,7 +77,7 @@ all_some (None ∷ rest) = None
 all_some (Some v ∷ rest) = option_map (λ vs. v ∷ vs) (all_some rest)
 
 -- the values of fields, the first from the most significant bits
-abbrev pub fields_in : Checked → (ValueType → BitVector → Option Value) → List Field → BitVector → List (Option Value)
+abbrev pub fields_in : Checked → (ValueType → BitVector → Option Value) → List CheckedField → BitVector → List (Option Value)
 fields_in d look [] bits = []
 fields_in d look (f ∷ fields) bits =
     look f.of (op.slice bits (bits.width - 1) (bits.width - width_of d f.of)) ∷
@@ -135,18 +135,18 @@ chained_if [] left [] = Some left
 chained_if (o ∷ operators) left (right ∷ rest) = chained_if operators (binary_value o left (packed right)) rest
 chained_if operators left rest = None
 
-abbrev pub gives_number : BitVector → Part (Option Value) Cause
+abbrev pub gives_number : BitVector → Evaluation (Option Value) Cause
 gives_number bits = gives (value.Number bits)
 
 -- a register that is declared, at a port that there is
-abbrev pub with_register : Setting Cause → (port register : ℕ) → (Register → Part (Option Value) Cause) → Part (Option Value) Cause
+abbrev pub with_register : RuleSetting Cause → (port register : ℕ) → (Register → Evaluation (Option Value) Cause) → Evaluation (Option Value) Cause
 with_register s port register next = if nat_lt port PORTS then with_some next (slice_get s.design.registers register) else stuck
 
-abbrev pub guarded_apply : Setting Cause → Operation → List Value → Part (Option Value) Cause
+abbrev pub guarded_apply : RuleSetting Cause → Operation → List Value → Evaluation (Option Value) Cause
 guarded_apply s (operation.Unary operators) (v ∷ []) = gives_number (prefixed operators (packed v))
 guarded_apply s (operation.Chain operators) (first ∷ rest) = with_some gives_number (chained_if operators (packed first) rest)
 guarded_apply s (operation.Select selections) (v ∷ []) = with_some gives (all_at (Some v) selections)
-guarded_apply s (operation.Update one) (v ∷ new ∷ []) = with_some (λ _. gives (replaced v one new)) (replaced_at v one)
+guarded_apply s (operation.Update one) (v ∷ new ∷ []) = with_some (λ _. gives (updated v one new)) (replaced_at v one)
 guarded_apply s (operation.Struct number) values =
     with_some (λ (struct : Struct). if nat_eq (length values) (length struct.fields) then gives (value.Fields number values) else stuck) (slice_get s.design.structs number)
 guarded_apply s operation.Array values = gives (value.Items values)
@@ -157,10 +157,10 @@ guarded_apply s (operation.Compare comparison) (a ∷ b ∷ []) = gives_number (
 guarded_apply s (operation.Table number) (v ∷ []) =
     with_some (λ (t : Table). with_some gives_number (slice_get t.spec.entries (packed v).number)) (slice_get s.design.tables number)
 guarded_apply s (operation.Host number) (v ∷ rest) =
-    with_some (λ (h : Host). if nat_eq (length (v ∷ rest)) (host.arity h.spec.kind) then gives_number (host.value h.spec.kind (joined (packed v) rest)) else stuck)
+    with_some (λ (h : Host). if nat_eq (length (v ∷ rest)) (host.arity h.spec.kind) then gives_number (host.value h.spec.kind (joined_arguments (packed v) rest)) else stuck)
     (slice_get s.design.hosts number)
 guarded_apply s (operation.Call number) values =
-    with_some (λ (f : Function). if nat_eq (length values) (length f.parameters) then with_some (λ (body : Meaning Cause). body (reverse values)) (slice_get s.bodies number) else stuck)
+    with_some (λ (f : CheckedFunction). if nat_eq (length values) (length f.parameters) then with_some (λ (body : Meaning Cause). body (reverse values)) (slice_get s.bodies number) else stuck)
     (slice_get s.design.functions number)
 guarded_apply s (operation.Read port register) [] =
     with_register s port register (λ r. s.ports.read port register >>= λ bits. with_some gives (unpacked_if s.design r.of bits))
@@ -172,12 +172,12 @@ guarded_apply s o values = stuck
 -- ---- expressions
 
 -- all operands, none of which is unit
-abbrev pub guarded_in_turn : List (Meaning Cause) → List Value → Part (List Value) Cause
+abbrev pub guarded_in_turn : List (Meaning Cause) → List Value → Evaluation (List Value) Cause
 guarded_in_turn [] locals = comes_to []
 guarded_in_turn (operand ∷ rest) locals = operand locals >>= with_some (λ v. guarded_in_turn rest locals >>= λ values. comes_to (v ∷ values))
 
 -- a condition is one bit
-abbrev pub by_bit : {V : Type 0} → ℕ → (at_one at_zero : Part V Cause) → Part V Cause
+abbrev pub by_bit : {V : Type 0} → ℕ → (at_one at_zero : Evaluation V Cause) → Evaluation V Cause
 by_bit number at_one at_zero = if nat_eq number 1 then at_one else (if nat_eq number 0 then at_zero else stuck)
 
 -- as many bodies as conditions, or one more
@@ -189,12 +189,12 @@ guarded_choose [] [] locals = comes_to None
 guarded_choose conditions bodies locals = stuck
 
 -- a name isn't bound to unit
-abbrev pub guarded_step : Step-F (Stepped Cause) (Meaning Cause) → Stepped Cause
+abbrev pub guarded_step : TypedStep-F (StepMeaning Cause) (Meaning Cause) → StepMeaning Cause
 guarded_step (typed.Let v) after locals = v locals >>= with_some (λ bound. after (bound ∷ locals))
 guarded_step (typed.Do v) after locals = v locals >>= λ _. after locals
 guarded_step (typed.Give v) after locals = v locals
 
-abbrev pub guarded_part : Setting Cause → Typed-F (Stepped Cause) (Meaning Cause) → Meaning Cause
+abbrev pub guarded_part : RuleSetting Cause → Typed-F (StepMeaning Cause) (Meaning Cause) → Meaning Cause
 guarded_part s (typed.Constant v) locals = gives v
 guarded_part s (typed.Local index) locals = with_some gives (slice_get locals index)
 guarded_part s (typed.Input number) locals =
@@ -203,20 +203,20 @@ guarded_part s (typed.Apply o operands) locals = guarded_in_turn operands locals
 guarded_part s (typed.If conditions bodies) locals = guarded_choose conditions bodies locals
 guarded_part s (typed.Block steps) locals = steps_in_turn steps locals
 
-unfoldable pub guarded_meaning : Setting Cause → Typed → Meaning Cause
-guarded_meaning s = fold-Typed (Stepped Cause) (Meaning Cause) guarded_step (guarded_part s)
+unfoldable pub guarded_meaning : RuleSetting Cause → Typed → Meaning Cause
+guarded_meaning s = fold-Typed (StepMeaning Cause) (Meaning Cause) guarded_step (guarded_part s)
 
 -- functions, each of which calls those before it
-abbrev pub guarded_bodies : Setting Cause → List Function → Setting Cause
+abbrev pub guarded_bodies : RuleSetting Cause → List CheckedFunction → RuleSetting Cause
 guarded_bodies s [] = s
 guarded_bodies s (f ∷ functions) = guarded_bodies (record s { bodies = s.bodies ++ guarded_meaning s f.body ∷ [] }) functions
 
-abbrev pub guarded_setting : Checked → List BitVector → Ports Stopped → Setting Cause
+abbrev pub guarded_setting : Checked → List BitVector → Ports Stopped → RuleSetting Cause
 guarded_setting d inputs ports =
     guarded_bodies (record { design = d; inputs = inputs; ports = unstuck_ports ports; bodies = [] }) d.functions
 
 -- what the body of a rule evaluates to, or that it's stuck
-abbrev pub guarded_body : Checked → List BitVector → Ports Stopped → Typed → Part (Option Value) Cause
+abbrev pub guarded_body : Checked → List BitVector → Ports Stopped → Typed → Evaluation (Option Value) Cause
 guarded_body d inputs ports body = guarded_meaning (guarded_setting d inputs ports) body []
 
 -- ---- values

@@ -10,11 +10,11 @@ use Rattle.typed_core.specs.declared.design.Parts.{Parts}
 use Rattle.typed_core.specs.declared.design.Rule.{Rule}
 use Rattle.typed_core.specs.declared.outcome.Stopped.{Stopped}
 use Rattle.koika_check.specs.declared.checked.Checked.{Checked}
-use Rattle.koika_lower.specs.Lowering.{IsLowered, ends_of, input_widths, register_widths}
+use Rattle.koika_lower.specs.Lowering.{IsLowered, ends_of, typed_input_widths, register_widths}
 
 -- two rules have the same events and outcome at all ports that fit the registers
 abbrev pub EndAlike : Checked → Parts → Parts → Rule → Rule → Type 0
-EndAlike d a b x y = (inputs : List BitVector) (ports : Ports Stopped) → HaveWidths (input_widths d) inputs → PortsFit (register_widths d) ports →
+EndAlike d a b x y = (inputs : List BitVector) (ports : Ports Stopped) → HaveWidths (typed_input_widths d) inputs → PortsFit (register_widths d) ports →
     ends_of (evaluate (record { externs = externs_of a; inputs = inputs }) ports x.body [] []) ≡ ends_of (evaluate (record { externs = externs_of b; inputs = inputs }) ports y.body [] [])
 
 pub record DoAlike (d : Checked) (a b : Parts) : Type 0 where

@@ -5,7 +5,7 @@ ghost use Rattle.koika_check.specs.Typing.{IsRegister, IsTypedDesign};
 ghost use Rattle.koika_check.specs.declared.checked.Checked.{Checked as CheckedDesign};
 ghost use Rattle.koika_check.specs.declared.checked.Host.{Host as CheckedHost};
 ghost use Rattle.koika_check.specs.declared.checked.Table.{Table as CheckedTable};
-ghost use Rattle.koika_lower.specs.Lowering.{input_of, register_of};
+ghost use Rattle.koika_lower.specs.Lowering.{core_input, register_of};
 ghost use Rattle.koika_types.specs.Values.{packed};
 
 use crate::packing::bits_of;
@@ -47,7 +47,7 @@ fn first_bits(register: &Register) -> Bits
 
 /// The inputs.
 pub(crate) fn lower_inputs(alloc: Global, inputs: &[Input]) -> Result<Sequence<InputDecl>, NoMemory>
-    ensures { IfOk result (λ all. all ≡ map input_of inputs.now) }
+    ensures { IfOk result (λ all. all ≡ map core_input inputs.now) }
 {
     let mut all = Sequence::new(alloc);
     for input in inputs {

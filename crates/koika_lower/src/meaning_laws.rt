@@ -14,11 +14,11 @@ ghost use Rattle.koika_check.specs.Meaning.{meaning, rule_body, setting, unpacke
 ghost use Rattle.koika_check.specs.Types.{width_of};
 ghost use Rattle.koika_check.specs.Typing.{HasType, IsOf, IsType, IsTypedDesign, Pairwise};
 ghost use Rattle.koika_check.specs.declared.checked.Checked.{Checked};
-ghost use Rattle.koika_check.specs.declared.checked.Rule.{Rule};
+ghost use Rattle.koika_check.specs.declared.checked.CheckedRule.{CheckedRule};
 ghost use Rattle.koika_check.specs.declared.typed.Typed.{Typed};
 ghost use Rattle.koika_check.specs.declared.typed.ValueType.{ValueType};
 ghost use Rattle.koika_lower.specs.Guarded.{EndsOfType, guarded_body, unstuck};
-ghost use Rattle.koika_lower.specs.Lowering.{input_widths, register_widths};
+ghost use Rattle.koika_lower.specs.Lowering.{typed_input_widths, register_widths};
 
 /// What bits are unpacked to, as a value of a type, is of the type and is packed into these bits.
 pub fn unpacked_is_packed()
@@ -37,9 +37,9 @@ pub fn packed_is_unpacked()
 /// A rule of a well typed design evaluates to what it does where no definition takes a default: it's never stuck. Inputs have
 /// their widths, and ports answer with bits of their registers' widths.
 pub fn never_stuck()
-    ensures { (d : Checked) (number : ℕ) (rule : Rule) (inputs : List BitVector) (ports : Ports Stopped) →
+    ensures { (d : Checked) (number : ℕ) (rule : CheckedRule) (inputs : List BitVector) (ports : Ports Stopped) →
         IsTypedDesign d → slice_get d.rules number ≡ Some rule →
-        HaveWidths (input_widths d) inputs → PortsFit (register_widths d) ports →
+        HaveWidths (typed_input_widths d) inputs → PortsFit (register_widths d) ports →
         guarded_body d inputs ports rule.body [] ≡ unstuck (rule_body d inputs ports rule.body []) }
 {}
 
@@ -50,7 +50,7 @@ pub fn evaluates_to_its_type()
         (inputs : List BitVector) (ports : Ports Stopped) →
         IsTypedDesign d → HasType d (length d.functions) e types of →
         AllByRecursion (IsType d) types → Pairwise (IsOf d) values types →
-        HaveWidths (input_widths d) inputs → PortsFit (register_widths d) ports →
+        HaveWidths (typed_input_widths d) inputs → PortsFit (register_widths d) ports →
         EventsFit (register_widths d) (meaning (setting d inputs ports) e values []).events
         × EndsOfType d of (meaning (setting d inputs ports) e values []).ending }
 {}

@@ -5,9 +5,9 @@ use Rattle.std.specs.List.{All}
 use Rattle.std.specs.Option.{option_map}
 use Rattle.std.proofs.lemmas.Option.{slice_get-get_or}
 use Rattle.kw_bits.specs.BitVector.{BitVector, IsBitVector}
-use Rattle.koika_syntax.specs.Grammar.{IsConstant, IsField, IsLiteral, IsMember, IsName, IsNumber, IsScheduler, IsType, IsWidth, constant_leaves, field_leaves, member_leaves, scheduler_leaves, type_leaves}
+use Rattle.koika_syntax.specs.Grammar.{IsConstant, IsField, LiteralFits, IsMember, IsName, NumberFits, IsScheduler, IsType, IsWidth, constant_leaves, field_leaves, member_leaves, scheduler_leaves, type_leaves}
 use Rattle.koika_syntax.specs.inner.Grammar.{constant_field_leaves}
-use Rattle.koika_syntax.specs.Tokens.{IsToken, StandsIn, width_of}
+use Rattle.koika_syntax.specs.Tokens.{IsToken, StandsIn, literal_width}
 use Rattle.koika_syntax.specs.Tree.{Leaf, Terminal, in_braces, keyword, literal, literal_leaves, name_leaves, number, number_leaves, symbol, terminal_of, width_leaves}
 use Rattle.koika_syntax.specs.declared.keyword.Keyword.TheVariants as keywords
 use Rattle.koika_syntax.specs.declared.symbol.Symbol.TheVariants as symbols
@@ -46,33 +46,33 @@ module _ (source : Source) (stands : All (StandsIn source.text.now) source.token
       one_last (one_name (slice_range text token.start token.end) (name_is (source.names old.at no_token low kind)) (named_terminal text token kind) (ap (option_map (terminal_of text)) (slice_get-get_or tokens old.at no_token low))))
       (λ other. (old, inr (stops.Unexpected, tt, refused (begin (Part IsName name_leaves) some_name) (λ r v word behind same. other (kind_is source old (ap (λ l. first (l ++ v)) (sym word.2) ∙ same))))))
 
-  pub number_answered : (old : Cursor) → Answered source old (Part IsNumber number_leaves) Any
+  pub number_answered : (old : Cursor) → Answered source old (Part NumberFits number_leaves) Any
   number_answered old = of (next source old) refl
     where
-      of : (o : Option Terminal) → next source old ≡ o → Answered source old (Part IsNumber number_leaves) Any
+      of : (o : Option Terminal) → next source old ≡ o → Answered source old (Part NumberFits number_leaves) Any
       of (Some (number n)) at =
           let low = within source old at in
           let token = get_or source.tokens.now old.at no_token in
           let kind : token.kind ≡ kinds.Number n = literal_kind source old no_token low (kind_is source old (sym at)) in
           let is : IsToken (kinds.Number n) (slice_range source.text.now token.start token.end) = subst (λ k. IsToken k (slice_range source.text.now token.start token.end)) kind (stands old.at no_token low).bytes in
           one_last (one_number n is.2 refl at)
-      of o at = (old, inr (stops.Unexpected, tt, refused (begin (Part IsNumber number_leaves) some_number) (λ r v word behind same. none word.0.value (sym at ∙ sym same ∙ ap (λ l. first (l ++ v)) word.2))))
+      of o at = (old, inr (stops.Unexpected, tt, refused (begin (Part NumberFits number_leaves) some_number) (λ r v word behind same. none word.0.value (sym at ∙ sym same ∙ ap (λ l. first (l ++ v)) word.2))))
         where
           none : (x : ℕ) → o ≡ Some (number x) → ⊥
           none x e = cc e
 
-  pub literal_answered : (old : Cursor) → Answered source old (Part IsLiteral literal_leaves) Any
+  pub literal_answered : (old : Cursor) → Answered source old (Part LiteralFits literal_leaves) Any
   literal_answered old = of (next source old) refl
     where
-      of : (o : Option Terminal) → next source old ≡ o → Answered source old (Part IsLiteral literal_leaves) Any
+      of : (o : Option Terminal) → next source old ≡ o → Answered source old (Part LiteralFits literal_leaves) Any
       of (Some (literal bits)) at =
           let low = within source old at in
           let token = get_or source.tokens.now old.at no_token in
           let kind : token.kind ≡ kinds.Literal bits = literal_kind source old no_token low (kind_is source old (sym at)) in
           let is : IsToken (kinds.Literal bits) (slice_range source.text.now token.start token.end) = subst (λ k. IsToken k (slice_range source.text.now token.start token.end)) kind (stands old.at no_token low).bytes in
           let said = is.2 in
-          one_last (one_literal bits (subst (λ w. IsBitVector w bits.number) (sym said.width) (subst (IsBitVector (width_of is.0)) (sym said.number) said.in_range)) refl at)
-      of o at = (old, inr (stops.Unexpected, tt, refused (begin (Part IsLiteral literal_leaves) some_literal) (λ r v word behind same. none word.0.bits (sym at ∙ sym same ∙ ap (λ l. first (l ++ v)) word.2))))
+          one_last (one_literal bits (subst (λ w. IsBitVector w bits.number) (sym said.width) (subst (IsBitVector (literal_width is.0)) (sym said.number) said.in_range)) refl at)
+      of o at = (old, inr (stops.Unexpected, tt, refused (begin (Part LiteralFits literal_leaves) some_literal) (λ r v word behind same. none word.0.bits (sym at ∙ sym same ∙ ap (λ l. first (l ++ v)) word.2))))
         where
           none : (x : BitVector) → o ≡ Some (literal x) → ⊥
           none x e = cc e

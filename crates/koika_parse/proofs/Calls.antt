@@ -3,7 +3,7 @@ use Rattle.std.proofs.Common.{◌≡◌, ℕ, List, [], ◌∷◌, ◌++◌, app
 use Rattle.std.specs.List.{flat_map}
 use Rattle.koika_syntax.specs.Grammar.{last_leaves, rule_leaves, choice_step, scheduler_step, scheduler_leaves, constant_step, constant_field_step, constant_leaves, type_leaves, prefix_leaves, suffix_leaves, expression_step, statement_step, arm_step, block_step, field_value_step, operand_step, block_leaves}
 use Rattle.koika_syntax.specs.inner.Grammar.{choice_leaves, constant_field_leaves, expression_leaves, statement_leaves, arm_leaves, field_value_leaves, operand_leaves}
-use Rattle.koika_syntax.specs.Tree.{Leaf, name_leaves, number_leaves, literal_leaves, sign, word, placed, symbol, keyword, joined, in_parentheses, in_braces, all_of, binary_symbol, extension_word, read_word, write_word}
+use Rattle.koika_syntax.specs.Tree.{Leaf, name_leaves, number_leaves, literal_leaves, sign, word, placed, symbol, keyword, with_between, in_parentheses, in_braces, all_of, binary_symbol, extension_word, read_word, write_word}
 use Rattle.koika_syntax.specs.declared.keyword.Keyword.TheVariants as keywords
 use Rattle.koika_syntax.specs.declared.symbol.Symbol.TheVariants as symbols
 use Rattle.koika_syntax.specs.declared.operator.Extension.{Extension}
@@ -32,12 +32,12 @@ use Rattle.koika_syntax.specs.declared.tree.TypeExpression.{TypeExpression}
 abbrev Leaves : Type 0
 Leaves = List Leaf
 
-one : (s x : List Leaf) → joined s (x ∷ []) ≡ x
-unfolding joined
+one : (s x : List Leaf) → with_between s (x ∷ []) ≡ x
+unfolding with_between
 one s x = append-nil x
 
-two : (s x y : List Leaf) → joined s (x ∷ y ∷ []) ≡ x ++ s ++ y
-unfolding joined
+two : (s x y : List Leaf) → with_between s (x ∷ y ∷ []) ≡ x ++ s ++ y
+unfolding with_between
 two s x y = ap (λ t. x ++ t) (append-nil (s ++ y)) ∙ sym (append_assoc x s y)
 
 pub leaves_unary : (prefixes : List Prefix) (operand : Box Expression Global) → expression_leaves (views.Unary prefixes operand) ≡ flat_map prefix_leaves prefixes ++ expression_leaves operand.value

@@ -6,7 +6,7 @@ use Rattle.std.proofs.lemmas.List.Elements.{All-cons, All-head, All-nil, All-tai
 use Rattle.koika_syntax.specs.declared.tree.Operand.{Operand}
 use Rattle.std.proofs.Common.{◌≡◌, ℕ, zero, suc, ◌+◌, ◌-◌, ◌<◌, ◌≤◌, Option, None, Some, IfSome, Err, List, [], ◌∷◌, ◌++◌, append_assoc, append-nil, inl, inr, refl, ap, sym, subst, ◌∙◌, arith, Ok, length, lit<, ◌^◌}
 use Rattle.std.specs.Prelude.{◌⊎◌, ⊤}
-use Rattle.koika_syntax.specs.Grammar.{IsSuffix, IsName, IsNumber, level_of, prefix_leaves, suffix_leaves}
+use Rattle.koika_syntax.specs.Grammar.{IsSuffix, IsName, NumberFits, level_of, prefix_leaves, suffix_leaves}
 use Rattle.koika_syntax.specs.inner.Grammar.{expression_leaves, operand_leaves}
 use Rattle.koika_syntax.specs.Tree.{Leaf, Terminal, name, number, literal, keyword, symbol, name_leaves, sign, number_leaves, unary_symbol, binary_symbol}
 use Rattle.koika_syntax.specs.declared.keyword.Keyword.TheVariants as keywords
@@ -429,10 +429,10 @@ suffixes_end {source} {old} {new} other goes = the_first (rows_split IsSuffix su
 
 -- a suffix by the next token
 abbrev pub AfterNumber : List Leaf → Type 0
-AfterNumber u = One (symbol symbols.RightBracket) u ⊎ Then (One (symbol symbols.Colon)) (Then (Part IsNumber number_leaves) (One (symbol symbols.RightBracket))) u
+AfterNumber u = One (symbol symbols.RightBracket) u ⊎ Then (One (symbol symbols.Colon)) (Then (Part NumberFits number_leaves) (One (symbol symbols.RightBracket))) u
 
 abbrev pub IndexWord : List Leaf → Type 0
-IndexWord = Then (One (symbol symbols.LeftBracket)) (Then (Part IsNumber number_leaves) (λ u. One (symbol symbols.RightBracket) u ⊎ Then (One (symbol symbols.Colon)) (Then (Part IsNumber number_leaves) (One (symbol symbols.RightBracket))) u))
+IndexWord = Then (One (symbol symbols.LeftBracket)) (Then (Part NumberFits number_leaves) (λ u. One (symbol symbols.RightBracket) u ⊎ Then (One (symbol symbols.Colon)) (Then (Part NumberFits number_leaves) (One (symbol symbols.RightBracket))) u))
 
 index_within : Within IndexWord (Part IsSuffix suffix_leaves)
 index_within q both = of both.3.3
@@ -463,7 +463,7 @@ suffix_bracket {source} {cursor} other = narrow_part IndexWord (λ x is v at. of
     of (suffixes.Index index) is v at = (sign symbols.LeftBracket, number_leaves index ++ sign symbols.RightBracket, sign_word symbols.LeftBracket, (number_leaves index, sign symbols.RightBracket, (index, is, refl), inl (sign_word symbols.RightBracket), refl), refl)
     of (suffixes.Slice high low) is v at = (sign symbols.LeftBracket, number_leaves high ++ sign symbols.Colon ++ number_leaves low ++ sign symbols.RightBracket, sign_word symbols.LeftBracket, (number_leaves high, sign symbols.Colon ++ number_leaves low ++ sign symbols.RightBracket, (high, is.0, refl), inr (sign symbols.Colon, number_leaves low ++ sign symbols.RightBracket, sign_word symbols.Colon, (number_leaves low, sign symbols.RightBracket, (low, is.1, refl), sign_word symbols.RightBracket, refl), refl), refl), refl)
 
-pub slice_at : {source : Source} {old new : Cursor} {Word : List Leaf → Type 0} {Follow : Option Terminal → Type 0} → next source new ≡ Some (symbol symbols.Colon) → Goes source old new Word Follow AfterNumber → Goes source old new Word Follow (Then (One (symbol symbols.Colon)) (Then (Part IsNumber number_leaves) (One (symbol symbols.RightBracket))))
+pub slice_at : {source : Source} {old new : Cursor} {Word : List Leaf → Type 0} {Follow : Option Terminal → Type 0} → next source new ≡ Some (symbol symbols.Colon) → Goes source old new Word Follow AfterNumber → Goes source old new Word Follow (Then (One (symbol symbols.Colon)) (Then (Part NumberFits number_leaves) (One (symbol symbols.RightBracket))))
 slice_at colon goes = the_second goes (λ r v one behind at. bracket_or_colon (sym (ap (λ l. first (l ++ v)) one.2 ∙ ap Some one.1) ∙ at ∙ colon)) (some_then (some_one (symbol symbols.Colon)) (some_then some_number (some_one (symbol symbols.RightBracket))))
 
 pub index_at : {source : Source} {old new : Cursor} {Word : List Leaf → Type 0} {Follow : Option Terminal → Type 0} → (next source new ≡ Some (symbol symbols.Colon) → ⊥) → Goes source old new Word Follow AfterNumber → Goes source old new Word Follow (One (symbol symbols.RightBracket))

@@ -3,7 +3,7 @@ use Rattle.std.proofs.Common.{◌≡◌, ℕ, ◌+◌, ◌<◌, ◌≤◌, ◌^�
 use Rattle.std.specs.List.{All}
 use Rattle.std.proofs.lemmas.List.Elements.{All-head, All-tail, All-cons, All-nil}
 use Rattle.koika_syntax.specs.Grammar.{IsNonempty}
-use Rattle.koika_syntax.specs.Tree.{Leaf, Terminal, symbol, sign, commas, joined, each_after}
+use Rattle.koika_syntax.specs.Tree.{Leaf, Terminal, symbol, sign, commas, with_between, each_after}
 use Rattle.koika_syntax.specs.declared.symbol.Symbol.TheVariants as symbols
 use Rattle.koika_parse.specs.inner.Expected.{Any, AnyMany, InVector, One, Part, Then, Takes, first, Behind, Commas, is_comma, NoComma}
 use Rattle.koika_parse.specs.inner.Reading.{Reads, next}
@@ -38,13 +38,13 @@ no_comma : (o : Option Terminal) → is_comma o ≡ false → o ≡ Some (symbol
 no_comma o other is = cc (other, ap is_comma is)
 
 commas_word : {X : Type 0} (Room : ℕ → Type 0) (Is : X → Type 0) (leaves : X → List Leaf) (xs : List X) → IsNonempty xs × All Is xs × Room (length xs) → Then (Part Is leaves) (More Room 1 Is leaves) (commas (map leaves xs))
-unfolding joined
+unfolding with_between
 commas_word Room Is leaves [] is = absurd (omega (arith, is.0))
 commas_word Room Is leaves (x ∷ xs) is =
     (leaves x, each_after (sign symbols.Comma) (map leaves xs), (x, All-head Is x xs is.1, refl), (xs, (All-tail Is x xs is.1, subst Room (omega arith) is.2), refl), refl)
 
 commas_made : {X : Type 0} (Room : ℕ → Type 0) (Is : X → Type 0) (leaves : X → List Leaf) → Within (Then (Part Is leaves) (More Room 1 Is leaves)) (Commas Room Is leaves)
-unfolding joined
+unfolding with_between
 commas_made Room Is leaves q both =
     let x = both.2.0 in
     let xs = both.3.0 in

@@ -2,7 +2,7 @@
 use Rattle.std.proofs.Common.{◌≡◌, Option, Some, List, [], ◌∷◌, ◌++◌, length, map, inl, inr, refl, ap, sym, subst, ◌∙◌, Vec, Global, arith}
 use Rattle.std.specs.List.{All}
 use lib.ListN.{length-map}
-use Rattle.koika_syntax.specs.Grammar.{IsName, IsLiteral, constant_leaves, IsConstant, IsConstantLayer, IsConstantFieldLayer, constant_step, constant_field_step}
+use Rattle.koika_syntax.specs.Grammar.{IsName, LiteralFits, constant_leaves, IsConstant, IsConstantLayer, IsConstantFieldLayer, constant_step, constant_field_step}
 use Rattle.koika_syntax.specs.inner.Grammar.{constant_field_leaves}
 use Rattle.koika_syntax.specs.Tree.{Leaf, Terminal, symbol, name_leaves, literal_leaves, sign, placed, commas}
 use Rattle.koika_syntax.specs.declared.symbol.Symbol.TheVariants as symbols
@@ -86,10 +86,10 @@ constant_bracket t is v next at here = constant_case (λ u. first (u ++ v) ≡ n
     each (constant.Struct of fields close) is at = absurd (name_or_sign (at ∙ here))
     each (constant.Array place elements) is at = (placed (symbol symbols.LeftBracket) place, commas (map constant_leaves (map (λ e. e.0) elements.items)) ++ sign symbols.RightBracket, placed_word (symbol symbols.LeftBracket) place, (commas (map constant_leaves (map (λ e. e.0) elements.items)), sign symbols.RightBracket, (map (λ e. e.0) elements.items, (is, firsts_are IsConstant elements.items, held_fit IsConstant elements), refl), sign_word symbols.RightBracket, refl), refl)
 
-pub constant_literal : (t : Constant) → IsConstant t → (v : List Leaf) (next : Option Terminal) → first (constant_leaves t ++ v) ≡ next → (option_map kind_of next ≡ Some kinds.Name → ⊥) → (next ≡ Some (symbol symbols.LeftBracket) → ⊥) → Part IsLiteral literal_leaves (constant_leaves t)
-constant_literal t is v next at named here = constant_case (λ u. first (u ++ v) ≡ next → Part IsLiteral literal_leaves u) each t is at
+pub constant_literal : (t : Constant) → IsConstant t → (v : List Leaf) (next : Option Terminal) → first (constant_leaves t ++ v) ≡ next → (option_map kind_of next ≡ Some kinds.Name → ⊥) → (next ≡ Some (symbol symbols.LeftBracket) → ⊥) → Part LiteralFits literal_leaves (constant_leaves t)
+constant_literal t is v next at named here = constant_case (λ u. first (u ++ v) ≡ next → Part LiteralFits literal_leaves u) each t is at
   where
-    each : (y : OpenConstant) → IsConstantLayer (closed_constant y) → first (constant_layer_leaves (closed_constant y) ++ v) ≡ next → Part IsLiteral literal_leaves (constant_layer_leaves (closed_constant y))
+    each : (y : OpenConstant) → IsConstantLayer (closed_constant y) → first (constant_layer_leaves (closed_constant y) ++ v) ≡ next → Part LiteralFits literal_leaves (constant_layer_leaves (closed_constant y))
     each (constant.Literal l) is at = (l, is, refl)
     each (constant.Member of member) is at = absurd (named (sym (ap (option_map kind_of) at)))
     each (constant.Struct of fields close) is at = absurd (named (sym (ap (option_map kind_of) at)))
@@ -165,7 +165,7 @@ constant_array_within q both =
     made_at q (λ place. place_then place both (like_then both.3 (like_part both.3.2) (like_one both.3.3))) (λ place. constant_views.Array place elements)
     (λ place. is_constant_array place elements both.3.2.1.1 both.3.2.1.0) (λ place. array_constant place elements)
 
-literal_constant_within : Within (Part IsLiteral literal_leaves) (Part IsConstant constant_leaves)
+literal_constant_within : Within (Part LiteralFits literal_leaves) (Part IsConstant constant_leaves)
 literal_constant_within q part = made q (like_part part) (constant_views.made-Literal part.0) (is_constant_literal part.0 part.1) (leaves_constant_literal part.0)
 
 -- a constant by the next token
@@ -177,6 +177,6 @@ pub constant_at_bracket : {source : Source} {cursor : Cursor} {Follow : Option T
 constant_at_bracket {source} {cursor} here = narrow_part ConstantArrayWord (λ x is v at. constant_bracket x is v (next source cursor) at here) some_constant_array constant_array_within
 
 pub constant_elsewhere : {source : Source} {cursor : Cursor} {Follow : Option Terminal → Type 0} → (kind_at source cursor ≡ Some kinds.Name → ⊥) → (next source cursor ≡ Some (symbol symbols.LeftBracket) → ⊥) →
-    Goes source cursor cursor (Part IsConstant constant_leaves) Follow (Part IsLiteral literal_leaves)
+    Goes source cursor cursor (Part IsConstant constant_leaves) Follow (Part LiteralFits literal_leaves)
 constant_elsewhere {source} {cursor} named here =
-    narrow_part (Part IsLiteral literal_leaves) (λ x is v at. constant_literal x is v (next source cursor) at (λ e. named (sym (kind_of_next source cursor) ∙ e)) here) some_literal literal_constant_within
+    narrow_part (Part LiteralFits literal_leaves) (λ x is v at. constant_literal x is v (next source cursor) at (λ e. named (sym (kind_of_next source cursor) ∙ e)) here) some_literal literal_constant_within

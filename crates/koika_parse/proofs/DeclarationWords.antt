@@ -5,8 +5,8 @@ use Rattle.std.proofs.lemmas.List.Elements.{All-nil}
 use Rattle.std.proofs.Common.{◌≡◌, ℕ, ◌<◌, Option, None, Some, IfSome, Err, List, [], ◌∷◌, ◌++◌, length, map, append_assoc, append-nil, inl, inr, refl, ap, sym, subst, ◌∙◌, arith}
 use Rattle.std.specs.Prelude.{◌⊎◌}
 use Rattle.std.specs.List.{All, flat_map}
-use Rattle.koika_syntax.specs.Grammar.{IsType, IsField, IsScheduler, IsDeclaration, IsDesign, type_leaves, member_leaves, field_leaves, constant_leaves, block_leaves, scheduler_leaves, result_leaves, declaration_leaves, tree_leaves, IsLiteral, IsMember}
-use Rattle.koika_syntax.specs.Tree.{Leaf, Terminal, terminal_of, name, keyword, symbol, word, sign, placed, name_leaves, literal_leaves, width_leaves, commas, joined, in_braces}
+use Rattle.koika_syntax.specs.Grammar.{IsType, IsField, IsScheduler, IsDeclaration, IsDesign, type_leaves, member_leaves, field_leaves, constant_leaves, block_leaves, scheduler_leaves, result_leaves, declaration_leaves, tree_leaves, LiteralFits, IsMember}
+use Rattle.koika_syntax.specs.Tree.{Leaf, Terminal, terminal_of, name, keyword, symbol, word, sign, placed, name_leaves, literal_leaves, width_leaves, commas, with_between, in_braces}
 use Rattle.koika_syntax.specs.declared.keyword.Keyword.{Keyword}
 use Rattle.koika_syntax.specs.declared.keyword.Keyword.TheVariants as keywords
 use Rattle.koika_syntax.specs.declared.symbol.Symbol.TheVariants as symbols
@@ -63,7 +63,7 @@ members_listed = any_many some_member
 pub fields_listed : Listed AnyMany IsField field_leaves
 fields_listed = any_many some_field
 
-pub literals_listed : Listed AnyMany IsLiteral literal_leaves
+pub literals_listed : Listed AnyMany LiteralFits literal_leaves
 literals_listed = any_many some_literal
 
 no_parameters : Has ParametersWord
@@ -278,7 +278,7 @@ parameters_start : {source : Source} {cursor : Cursor} {Follow : Option Terminal
 parameters_start = start parameters_cases ([], inl refl) parameters_within
 
 fields_first : (xs : List Field) (v : List Leaf) → 0 < length xs → (bytes : List ℕ) × (first (commas (map field_leaves xs) ++ v) ≡ Some (name bytes))
-unfolding joined
+unfolding with_between
 fields_first [] v some = absurd (omega (arith, some))
 fields_first (x ∷ xs) v some = (x.name.text, refl)
 

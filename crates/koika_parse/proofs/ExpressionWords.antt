@@ -3,9 +3,9 @@ use Rattle.std.proofs.Common.{◌≡◌, ℕ, zero, suc, ◌+◌, ◌<◌, ◌�
 use Rattle.std.specs.Prelude.{◌⊎◌}
 use Rattle.std.specs.List.{All, flat_map}
 use Rattle.std.proofs.lemmas.List.Elements.{All-cons, All-nil, All-head, All-tail}
-use Rattle.koika_syntax.specs.Grammar.{IsSuffix, IsLiteral, IsName, IsNumber, IsNonempty, IsBlock, IsOperandAt, IsExpressionLayer, IsStatementLayer, IsArmLayer, IsBlockLayer, IsFieldValueLayer, IsOperandLayer, level, level_of, call_leaves, last_leaves, type_leaves, part_leaves, prefix_leaves, suffix_leaves, block_leaves, expression_step, statement_step, arm_step, block_step, field_value_step, operand_step}
+use Rattle.koika_syntax.specs.Grammar.{IsSuffix, LiteralFits, IsName, NumberFits, IsNonempty, IsBlock, IsOperandAt, IsExpressionLayer, IsStatementLayer, IsArmLayer, IsBlockLayer, IsFieldValueLayer, IsOperandLayer, level, level_of, call_leaves, last_leaves, type_leaves, part_leaves, prefix_leaves, suffix_leaves, block_leaves, expression_step, statement_step, arm_step, block_step, field_value_step, operand_step}
 use Rattle.koika_syntax.specs.inner.Grammar.{IsExpression, expression_leaves, statement_leaves, arm_leaves, field_value_leaves, operand_leaves}
-use Rattle.koika_syntax.specs.Tree.{Leaf, keyword, symbol, word, sign, placed, name_leaves, number_leaves, literal_leaves, commas, joined, all_of, each_after, in_parentheses, binary_symbol, comparison_word, extension_word, read_word, write_word}
+use Rattle.koika_syntax.specs.Tree.{Leaf, keyword, symbol, word, sign, placed, name_leaves, number_leaves, literal_leaves, commas, with_between, all_of, each_after, in_parentheses, binary_symbol, comparison_word, extension_word, read_word, write_word}
 use Rattle.koika_syntax.specs.declared.keyword.Keyword.TheVariants as keywords
 use Rattle.koika_syntax.specs.declared.symbol.Symbol.TheVariants as symbols
 use Rattle.koika_syntax.specs.declared.token.TokenKind.{TokenKind}
@@ -35,7 +35,7 @@ use Rattle.koika_syntax.specs.declared.tree.Operand.{Operand, Operand-F, map-Ope
 
 -- a primary by the kind of its first token
 abbrev pub PrimaryWord : TokenKind → List Leaf → Type 0
-PrimaryWord (kinds.Literal bits) = Part IsLiteral literal_leaves
+PrimaryWord (kinds.Literal bits) = Part LiteralFits literal_leaves
 PrimaryWord kinds.Name = NamedWord
 PrimaryWord (kinds.Symbol s) = SymbolWord s
 PrimaryWord (kinds.Keyword k) = KeywordWord k
@@ -187,15 +187,15 @@ level_is : (e : Expression) → level e ≡ layer_level (out-Expression e)
 level_is e = refl
 
 commas_one : (x : List Leaf) → commas (x ∷ []) ≡ x
-unfolding joined
+unfolding with_between
 commas_one x = append-nil x
 
 commas_two : (x y : List Leaf) → commas (x ∷ y ∷ []) ≡ x ++ sign symbols.Comma ++ y
-unfolding joined
+unfolding with_between
 commas_two x y = ap (λ t. x ++ t) (append-nil (sign symbols.Comma ++ y)) ∙ sym (append_assoc x (sign symbols.Comma) y)
 
 commas_three : (x y z : List Leaf) → commas (x ∷ y ∷ z ∷ []) ≡ x ++ sign symbols.Comma ++ y ++ sign symbols.Comma ++ z
-unfolding joined
+unfolding with_between
 commas_three x y z =
     ap (λ t. x ++ ((sign symbols.Comma ++ y) ++ t)) (append-nil (sign symbols.Comma ++ z)) ∙ sym (append_assoc x (sign symbols.Comma ++ y) (sign symbols.Comma ++ z))
     ∙ ap (λ t. t ++ (sign symbols.Comma ++ z)) (sym (append_assoc x (sign symbols.Comma) y)) ∙ sym (append_assoc (x ++ sign symbols.Comma ++ y) (sign symbols.Comma) z)
@@ -294,7 +294,7 @@ write_headed place (suc (suc zero)) register value value_is is = (_, in_parenthe
 write_headed place (suc (suc (suc zero))) register value value_is is = (_, in_parentheses (commas (name_leaves register ∷ expression_leaves value ∷ [])), refl, call_word (WriteWord 3) (placed (keyword (write_word 3)) place) ((name_leaves register) ∷ (expression_leaves value) ∷ []) (name_leaves register ++ sign symbols.Comma ++ expression_leaves value) (commas_two (name_leaves register) (expression_leaves value)) (placed (keyword (write_word 3)) place, sign symbols.LeftParenthesis ++ name_leaves register ++ sign symbols.Comma ++ expression_leaves value ++ sign symbols.RightParenthesis, placed_word (keyword (write_word 3)) place, (sign symbols.LeftParenthesis, name_leaves register ++ sign symbols.Comma ++ expression_leaves value ++ sign symbols.RightParenthesis, sign_word symbols.LeftParenthesis, (name_leaves register, sign symbols.Comma ++ expression_leaves value ++ sign symbols.RightParenthesis, (register, is.1, refl), (sign symbols.Comma, expression_leaves value ++ sign symbols.RightParenthesis, sign_word symbols.Comma, (expression_leaves value, sign symbols.RightParenthesis, (value, value_is, refl), sign_word symbols.RightParenthesis, refl), refl), refl), refl), refl))
 write_headed place (suc (suc (suc (suc port)))) register value value_is is = absurd (omega (arith, is.0))
 
-extend_headed : (place : ℕ) (extension : Extension) (value : Expression) → IsExpression value → (width : Number) → IsNumber width → Headed PrimaryWord (call_leaves (placed (keyword (extension_word extension)) place) (expression_leaves value ∷ number_leaves width ∷ []))
+extend_headed : (place : ℕ) (extension : Extension) (value : Expression) → IsExpression value → (width : Number) → NumberFits width → Headed PrimaryWord (call_leaves (placed (keyword (extension_word extension)) place) (expression_leaves value ∷ number_leaves width ∷ []))
 extend_headed place extensions.Zero value value_is width is = (_, in_parentheses (commas (expression_leaves value ∷ number_leaves width ∷ [])), refl, call_word (ExtendWord extensions.Zero) (placed (keyword (extension_word extensions.Zero)) place) ((expression_leaves value) ∷ (number_leaves width) ∷ []) (expression_leaves value ++ sign symbols.Comma ++ number_leaves width) (commas_two (expression_leaves value) (number_leaves width)) (placed (keyword (extension_word extensions.Zero)) place, sign symbols.LeftParenthesis ++ expression_leaves value ++ sign symbols.Comma ++ number_leaves width ++ sign symbols.RightParenthesis, placed_word (keyword (extension_word extensions.Zero)) place, (sign symbols.LeftParenthesis, expression_leaves value ++ sign symbols.Comma ++ number_leaves width ++ sign symbols.RightParenthesis, sign_word symbols.LeftParenthesis, (expression_leaves value, sign symbols.Comma ++ number_leaves width ++ sign symbols.RightParenthesis, (value, value_is, refl), (sign symbols.Comma, number_leaves width ++ sign symbols.RightParenthesis, sign_word symbols.Comma, (number_leaves width, sign symbols.RightParenthesis, (width, is, refl), sign_word symbols.RightParenthesis, refl), refl), assoc3 (expression_leaves value) (sign symbols.Comma) (number_leaves width) (sign symbols.RightParenthesis)), refl), refl))
 extend_headed place extensions.Sign value value_is width is = (_, in_parentheses (commas (expression_leaves value ∷ number_leaves width ∷ [])), refl, call_word (ExtendWord extensions.Sign) (placed (keyword (extension_word extensions.Sign)) place) ((expression_leaves value) ∷ (number_leaves width) ∷ []) (expression_leaves value ++ sign symbols.Comma ++ number_leaves width) (commas_two (expression_leaves value) (number_leaves width)) (placed (keyword (extension_word extensions.Sign)) place, sign symbols.LeftParenthesis ++ expression_leaves value ++ sign symbols.Comma ++ number_leaves width ++ sign symbols.RightParenthesis, placed_word (keyword (extension_word extensions.Sign)) place, (sign symbols.LeftParenthesis, expression_leaves value ++ sign symbols.Comma ++ number_leaves width ++ sign symbols.RightParenthesis, sign_word symbols.LeftParenthesis, (expression_leaves value, sign symbols.Comma ++ number_leaves width ++ sign symbols.RightParenthesis, (value, value_is, refl), (sign symbols.Comma, number_leaves width ++ sign symbols.RightParenthesis, sign_word symbols.Comma, (number_leaves width, sign symbols.RightParenthesis, (width, is, refl), sign_word symbols.RightParenthesis, refl), refl), assoc3 (expression_leaves value) (sign symbols.Comma) (number_leaves width) (sign symbols.RightParenthesis)), refl), refl))
 
@@ -444,8 +444,8 @@ postfix_split u word = layered 11 (Then (LevelWord 12) SuffixesWord) each u word
     each (expression.Compare place comparison left right) is at = inl (omega arith)
     each (expression.Update place whole part value) is at = inl (omega arith)
 
-conditional : (arms : List (Such IsArm)) → InVector (length (map (λ e. e.0) arms)) → (otherwise : Option Block) → IfSome otherwise IsBlock → IsNonempty (map (λ e. e.0) arms) → ConditionalWord (joined (word keywords.Else) (map arm_leaves (map (λ e. e.0) arms)) ++ last_leaves otherwise (λ block. word keywords.Else ++ block_leaves block))
-unfolding joined
+conditional : (arms : List (Such IsArm)) → InVector (length (map (λ e. e.0) arms)) → (otherwise : Option Block) → IfSome otherwise IsBlock → IsNonempty (map (λ e. e.0) arms) → ConditionalWord (with_between (word keywords.Else) (map arm_leaves (map (λ e. e.0) arms)) ++ last_leaves otherwise (λ block. word keywords.Else ++ block_leaves block))
+unfolding with_between
 conditional [] low otherwise last some = absurd (omega (arith, some))
 conditional (arm ∷ arms) low otherwise last some = (arm_leaves arm.0, each_after (word keywords.Else) (map arm_leaves (map (λ e. e.0) arms)) ++ last_leaves otherwise (λ block. word keywords.Else ++ block_leaves block), (arm.0, arm.1, refl), (map (λ e. e.0) arms, otherwise, (firsts_are IsArm arms, omega (arith, low)), last, refl), append_assoc (arm_leaves arm.0) (each_after (word keywords.Else) (map arm_leaves (map (λ e. e.0) arms))) (last_leaves otherwise (λ block. word keywords.Else ++ block_leaves block)))
 

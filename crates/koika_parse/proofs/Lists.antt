@@ -5,7 +5,7 @@ use Rattle.std.proofs.lemmas.Grind.{flat_map-append}
 use Rattle.std.proofs.lemmas.List.{map-append}
 use Rattle.std.proofs.lemmas.List.Elements.{All-append, All-cons, All-nil}
 use Rattle.koika_syntax.specs.Grammar.{IsNonempty}
-use Rattle.koika_syntax.specs.Tree.{Leaf, all_of, each_after, joined}
+use Rattle.koika_syntax.specs.Tree.{Leaf, all_of, each_after, with_between}
 use Rattle.koika_parse.specs.inner.Reading.{Reads}
 use Rattle.koika_parse.specs.declared.cursor.Cursor.{Cursor}
 use Rattle.koika_parse.specs.declared.source.Source.{Source}
@@ -14,7 +14,7 @@ use Rattle.koika_parse.proofs.Calls.{all_of_map}
 
 -- items with something between them have been read, at least one
 pub record Joined {X : Type 0} (source : Source) (old new : Cursor) (between : List Leaf) (leaves : X → List Leaf) (Is : X → Type 0) (xs : List X) : Type 0 where
-  pub read : Reads source old new (joined between (map leaves xs))
+  pub read : Reads source old new (with_between between (map leaves xs))
   pub is : All Is xs
   pub some : IsNonempty xs
 
@@ -26,12 +26,12 @@ pub record Row {X : Type 0} (source : Source) (old new : Cursor) (leaves : X →
 push_all : {X : Type 0} (Is : X → Type 0) (xs : List X) (x : X) → All Is xs → Is x → All Is (xs ++ x ∷ [])
 push_all Is xs x all one = All-append Is xs (x ∷ []) all (All-cons Is x [] one (All-nil Is))
 
-joined_one : (between leaves : List Leaf) → joined between (leaves ∷ []) ≡ leaves
-unfolding joined
+joined_one : (between leaves : List Leaf) → with_between between (leaves ∷ []) ≡ leaves
+unfolding with_between
 joined_one between leaves = append-nil leaves
 
-joined_more : (between part : List Leaf) (parts : List (List Leaf)) (one : List Leaf) → joined between ((part ∷ parts) ++ one ∷ []) ≡ (joined between (part ∷ parts) ++ between) ++ one
-unfolding joined
+joined_more : (between part : List Leaf) (parts : List (List Leaf)) (one : List Leaf) → with_between between ((part ∷ parts) ++ one ∷ []) ≡ (with_between between (part ∷ parts) ++ between) ++ one
+unfolding with_between
 joined_more between part parts one =
     ap (λ t. part ++ t) (flat_map-append (λ p. between ++ p) parts (one ∷ []) ∙ ap (λ t. each_after between parts ++ t) (append-nil (between ++ one)))
     ∙ sym (append_assoc part (each_after between parts) (between ++ one)) ∙ sym (append_assoc (part ++ each_after between parts) between one)
@@ -43,10 +43,10 @@ joined_start source old new between leaves Is x zs ys read one none pushed = sub
     (record { read = subst (λ l. Reads source old new l) (sym (joined_one between (leaves x))) read; is = All-cons Is x [] one (All-nil Is); some = omega arith })
 
 more_of : {X : Type 0} (source : Source) (old mid next new : Cursor) (between : List Leaf) (leaves : X → List Leaf) (xs : List X) (x : X) → IsNonempty xs →
-    Reads source old mid (joined between (map leaves xs)) → Reads source mid next between → Reads source next new (leaves x) → Reads source old new (joined between (map leaves (xs ++ x ∷ [])))
+    Reads source old mid (with_between between (map leaves xs)) → Reads source mid next between → Reads source next new (leaves x) → Reads source old new (with_between between (map leaves (xs ++ x ∷ [])))
 more_of source old mid next new between leaves [] x some p q r = absurd (omega (arith, some))
 more_of source old mid next new between leaves (y ∷ ys) x some p q r =
-    subst (λ l. Reads source old new (joined between l)) (sym (map-append leaves (y ∷ ys) (x ∷ [])))
+    subst (λ l. Reads source old new (with_between between l)) (sym (map-append leaves (y ∷ ys) (x ∷ [])))
     (subst (λ l. Reads source old new l) (sym (joined_more between (leaves y) (map leaves ys) (leaves x))) (in_turn (in_turn p q) r))
 
 -- one item more
@@ -69,10 +69,10 @@ row_again {X} {source} {old} {mid} {new} {leaves} {Is} {xs} x ys front read one 
     })
 
 -- with nothing between them, they stand one after another
-pub one_after_another : {X : Type 0} (leaves : X → List Leaf) (xs : List X) → flat_map leaves xs ≡ joined [] (map leaves xs)
-unfolding joined
+pub one_after_another : {X : Type 0} (leaves : X → List Leaf) (xs : List X) → flat_map leaves xs ≡ with_between [] (map leaves xs)
+unfolding with_between
 one_after_another leaves [] = refl
 one_after_another leaves (x ∷ xs) = ap (λ t. leaves x ++ t) (all_of_map leaves xs)
 
-pub parts_after_another : {X : Type 0} (leaves : X → List Leaf) (xs : List X) → all_of (map leaves xs) ≡ joined [] (map leaves xs)
+pub parts_after_another : {X : Type 0} (leaves : X → List Leaf) (xs : List X) → all_of (map leaves xs) ≡ with_between [] (map leaves xs)
 parts_after_another leaves xs = sym (all_of_map leaves xs) ∙ one_after_another leaves xs

@@ -4,7 +4,7 @@ use Rattle.koika_parse.proofs.Expected.{Kept, Within, kept, like_one, like_part,
 use Rattle.koika_parse.proofs.Parts.{is_abort, is_arm, is_array, is_block, is_block_expression, is_call, is_chain_of, is_compare, is_do, is_extend, is_field_value, is_if, is_let, is_literal, is_member, is_name, is_operand, is_operand_at, is_pack, is_parentheses, is_postfix, is_read, is_struct, is_unary, is_unpack, is_update, is_write, level_abort, level_array, level_block, level_call, level_chain_of, level_compare, level_extend, level_literal, level_member, level_name, level_pack, level_parentheses, level_postfix, level_read, level_struct, level_unary, level_unpack, level_update, level_write}
 use Rattle.koika_parse.proofs.Calls.{all_of_map, leaves_abort, leaves_arm, leaves_block, leaves_do, leaves_extend, leaves_field_value, leaves_let, leaves_literal, leaves_member, leaves_name, leaves_operand, leaves_pack, leaves_parentheses, leaves_postfix, leaves_read, leaves_unary, leaves_unpack, leaves_write}
 use Rattle.koika_parse.proofs.ExpressionWords.{ArmWord, BlockWord, DoWord, FieldValueWord}
-use Rattle.koika_syntax.specs.Tree.{keyword, placed, symbol, word, Leaf, comparison_word, each_after, extension_word, in_parentheses, joined, number_leaves, sign}
+use Rattle.koika_syntax.specs.Tree.{keyword, placed, symbol, word, Leaf, comparison_word, each_after, extension_word, in_parentheses, with_between, number_leaves, sign}
 use Rattle.koika_parse.specs.inner.Parts.{IsArm, IsFieldValue, IsOperandIn, IsStatement}
 use Rattle.koika_syntax.specs.Grammar.{level, IsBlock, IsSuffix, block_leaves, last_leaves, part_leaves, suffix_leaves, type_leaves}
 use Rattle.koika_syntax.specs.inner.Grammar.{IsExpression, arm_leaves, expression_leaves, field_value_leaves, operand_leaves, statement_leaves}
@@ -191,8 +191,8 @@ else_leaves : List Arm → Option Block → List Leaf
 else_leaves arms otherwise = each_after (word keywords.Else) (map arm_leaves arms) ++ last_leaves otherwise (λ block. word keywords.Else ++ block_leaves block)
 
 if_leaves_are : (arm : Arm) (arms : List Arm) (otherwise : Option Block) →
-    joined (word keywords.Else) (map arm_leaves (arm ∷ arms)) ++ last_leaves otherwise (λ block. word keywords.Else ++ block_leaves block) ≡ arm_leaves arm ++ else_leaves arms otherwise
-unfolding joined else_leaves
+    with_between (word keywords.Else) (map arm_leaves (arm ∷ arms)) ++ last_leaves otherwise (λ block. word keywords.Else ++ block_leaves block) ≡ arm_leaves arm ++ else_leaves arms otherwise
+unfolding with_between else_leaves
 if_leaves_are arm arms otherwise = append_assoc (arm_leaves arm) (each_after (word keywords.Else) (map arm_leaves arms)) (last_leaves otherwise (λ block. word keywords.Else ++ block_leaves block))
 
 pub conditional_within : Within ConditionalWord (Part IsExpression expression_leaves)

@@ -23,7 +23,7 @@ use Rattle.koika_syntax.specs.declared.tree.Literal.{Literal}
 use Rattle.koika_syntax.specs.declared.tree.Name.{Name}
 use Rattle.koika_syntax.specs.declared.tree.Number.{Number}
 use Rattle.koika_syntax.specs.declared.tree.Operand.{Operand, Operand-F, every_made-Operand, map-Operand, roll-Operand, out-Operand, out-roll-Operand}
-use Rattle.koika_syntax.specs.declared.tree.Part.{Part}
+use Rattle.koika_syntax.specs.declared.tree.UpdatedPart.{UpdatedPart}
 use Rattle.koika_syntax.specs.declared.tree.Prefix.{Prefix}
 use Rattle.koika_syntax.specs.declared.tree.Scheduler.{Scheduler, Scheduler-F, every_made-Scheduler, map-Scheduler, roll-Scheduler}
 use Rattle.koika_syntax.specs.declared.tree.Statement.{Statement, Statement-F, every_made-Statement, map-Statement, roll-Statement}
@@ -175,7 +175,7 @@ is_extend place extension value width value_is here = subst IsExpression (views.
 pub is_compare : (place : ℕ) (comparison : SignedComparison) (left : Box Expression Global) (right : Box Expression Global) → IsExpression left.value → IsExpression right.value → IsExpressionLayer (expression.Compare place comparison left right) → IsExpression (views.Compare place comparison left right)
 is_compare place comparison left right left_is right_is here = subst IsExpression (views.rolls-Compare place comparison left right) (made_expression (expression.Compare place comparison left right) (expression.Compare place comparison (box_of IsExpression left left_is) (box_of IsExpression right right_is)) (λ i. expression.Compare place comparison left right) here)
 
-pub is_update : (place : ℕ) (whole : Box Expression Global) (part : Part) (value : Box Expression Global) → IsExpression whole.value → IsExpression value.value → IsExpressionLayer (expression.Update place whole part value) → IsExpression (views.Update place whole part value)
+pub is_update : (place : ℕ) (whole : Box Expression Global) (part : UpdatedPart) (value : Box Expression Global) → IsExpression whole.value → IsExpression value.value → IsExpressionLayer (expression.Update place whole part value) → IsExpression (views.Update place whole part value)
 is_update place whole part value whole_is value_is here = subst IsExpression (views.rolls-Update place whole part value) (made_expression (expression.Update place whole part value) (expression.Update place (box_of IsExpression whole whole_is) part (box_of IsExpression value value_is)) (λ i. expression.Update place whole part value) here)
 
 pub is_let : (n : Name) (value : Expression) → IsName n → IsExpression value → IsStatement (views.made-Let n value)
@@ -292,5 +292,5 @@ level_extend place extension value width = rw (views.outs-Extend place extension
 pub level_compare : (place : ℕ) (comparison : SignedComparison) (left : Box Expression Global) (right : Box Expression Global) → level (views.Compare place comparison left right) ≡ 12
 level_compare place comparison left right = rw (views.outs-Compare place comparison left right)
 
-pub level_update : (place : ℕ) (whole : Box Expression Global) (part : Part) (value : Box Expression Global) → level (views.Update place whole part value) ≡ 12
+pub level_update : (place : ℕ) (whole : Box Expression Global) (part : UpdatedPart) (value : Box Expression Global) → level (views.Update place whole part value) ≡ 12
 level_update place whole part value = rw (views.outs-Update place whole part value)

@@ -15,16 +15,16 @@ use Rattle.std.proofs.Common.{◌≡◌, ℕ, ◌<◌, Option, Some, Err, List, 
 use Rattle.std.specs.Prelude.{◌⊎◌}
 use Rattle.std.specs.List.{All}
 use Rattle.std.proofs.lemmas.List.Elements.{All-head, All-nil}
-use Rattle.koika_syntax.specs.Grammar.{IsName, IsNumber, IsPart, part_leaves}
+use Rattle.koika_syntax.specs.Grammar.{IsName, NumberFits, IsPart, part_leaves}
 use Rattle.koika_syntax.specs.inner.Grammar.{IsExpression, expression_leaves, field_value_leaves}
-use Rattle.koika_syntax.specs.Tree.{Leaf, Terminal, keyword, symbol, name_leaves, number_leaves, commas, joined, sign, each_after, comparison_word, extension_word, read_word, write_word}
+use Rattle.koika_syntax.specs.Tree.{Leaf, Terminal, keyword, symbol, name_leaves, number_leaves, commas, with_between, sign, each_after, comparison_word, extension_word, read_word, write_word}
 use Rattle.koika_syntax.specs.declared.keyword.Keyword.TheVariants as keywords
 use Rattle.koika_syntax.specs.declared.symbol.Symbol.TheVariants as symbols
 use Rattle.koika_syntax.specs.declared.token.TokenKind.{TokenKind}
 use Rattle.koika_syntax.specs.declared.token.TokenKind.TheVariants as kinds
 use Rattle.koika_syntax.specs.declared.tree.Expression.{Expression}
-use Rattle.koika_syntax.specs.declared.tree.Part as tree_parts
-use Rattle.koika_syntax.specs.declared.tree.Part.TheVariants as parts
+use Rattle.koika_syntax.specs.declared.tree.UpdatedPart as tree_parts
+use Rattle.koika_syntax.specs.declared.tree.UpdatedPart.TheVariants as parts
 use Rattle.koika_parse.specs.inner.Expected.{One, Part, Then, first, Takes, Commas, Any, NoComma, InVector}
 use Rattle.koika_parse.specs.inner.ExpressionWords.{Free, LevelWord, NamedWord, NamedTailWord, CallTailWord, ColonsWord, ArgumentsWord, ConditionalWord, parenthesis_follows, ArrayWord, CompareWord, ExtendWord, KeywordWord, OneBlock, OneLiteral, PackWord, ParenthesesWord, ReadWord, SymbolWord, UnpackWord, UpdateWord, WriteWord}
 use Rattle.koika_parse.specs.inner.Reading.{kind_at, next}
@@ -121,11 +121,11 @@ named_end {source} {old} {new} call colons goes = the_first goes (λ r v more be
     of r v (inr word) same = colons (sym same ∙ first_one (symbol symbols.ColonColon) ColonsWord r v word)
 
 pub no_commas : commas [] ≡ []
-unfolding joined
+unfolding with_between
 no_commas = refl
 
 commas_more : (part : List Leaf) (parts : List (List Leaf)) → commas (part ∷ parts) ≡ part ++ each_after (sign symbols.Comma) parts
-unfolding joined
+unfolding with_between
 commas_more part parts = refl
 
 number_or_name : {n : ℕ} → Some (kinds.Number n) ≡ Some kinds.Name → ⊥
@@ -167,14 +167,14 @@ arguments_at other = the_second arguments_start (λ r v empty behind same. other
 pub part_name : {source : Source} {cursor : Cursor} {Follow : Option Terminal → Type 0} → kind_at source cursor ≡ Some kinds.Name → Goes source cursor cursor (Part IsPart part_leaves) Follow (Part IsName name_leaves)
 part_name {source} {cursor} named = narrow_part (Part IsName name_leaves) (λ x is v at. of x is v at) some_name (λ q part. made q (like_part part) (parts.Field part.0) part.1 refl)
   where
-    of : (x : tree_parts.Part) → IsPart x → (v : List Leaf) → first (part_leaves x ++ v) ≡ next source cursor → Part IsName name_leaves (part_leaves x)
+    of : (x : tree_parts.UpdatedPart) → IsPart x → (v : List Leaf) → first (part_leaves x ++ v) ≡ next source cursor → Part IsName name_leaves (part_leaves x)
     of (parts.Field n) is v at = (n, is, refl)
     of (parts.Index index) is v at = absurd (number_or_name (sym (kind_is source cursor at) ∙ named))
 
-pub part_number : {source : Source} {cursor : Cursor} {Follow : Option Terminal → Type 0} → (kind_at source cursor ≡ Some kinds.Name → ⊥) → Goes source cursor cursor (Part IsPart part_leaves) Follow (Part IsNumber number_leaves)
-part_number {source} {cursor} other = narrow_part (Part IsNumber number_leaves) (λ x is v at. of x is v at) some_number (λ q part. made q (like_part part) (parts.Index part.0) part.1 refl)
+pub part_number : {source : Source} {cursor : Cursor} {Follow : Option Terminal → Type 0} → (kind_at source cursor ≡ Some kinds.Name → ⊥) → Goes source cursor cursor (Part IsPart part_leaves) Follow (Part NumberFits number_leaves)
+part_number {source} {cursor} other = narrow_part (Part NumberFits number_leaves) (λ x is v at. of x is v at) some_number (λ q part. made q (like_part part) (parts.Index part.0) part.1 refl)
   where
-    of : (x : tree_parts.Part) → IsPart x → (v : List Leaf) → first (part_leaves x ++ v) ≡ next source cursor → Part IsNumber number_leaves (part_leaves x)
+    of : (x : tree_parts.UpdatedPart) → IsPart x → (v : List Leaf) → first (part_leaves x ++ v) ≡ next source cursor → Part NumberFits number_leaves (part_leaves x)
     of (parts.Field n) is v at = absurd (other (kind_is source cursor at))
     of (parts.Index index) is v at = (index, is, refl)
 

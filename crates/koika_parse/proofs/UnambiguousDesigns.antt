@@ -4,7 +4,7 @@ use Rattle.std.specs.Prelude.{⊤, ◌⊎◌, codes}
 use Rattle.std.specs.List.{AllByRecursion, flat_map}
 use Rattle.std.proofs.lemmas.List.Elements.{recursion_from_All}
 use Rattle.std.proofs.lemmas.List.Folds.{flat_map-map}
-use Rattle.koika_syntax.specs.Tree.{Leaf, Terminal, symbol, keyword, name, sign, word, placed, width_leaves, literal_leaves, commas, joined, all_of, each_after}
+use Rattle.koika_syntax.specs.Tree.{Leaf, Terminal, symbol, keyword, name, sign, word, placed, width_leaves, literal_leaves, commas, with_between, all_of, each_after}
 use Rattle.koika_syntax.specs.Grammar.{IsExpressionLayer, IsBlock, IsDeclaration, IsScheduler, IsChoiceLayer, IsDesign, level, level_of_layer, block_leaves, prefix_leaves, suffix_leaves, type_leaves, constant_leaves, member_leaves, field_leaves, result_leaves, declaration_leaves, rule_leaves, scheduler_leaves, tree_leaves}
 use Rattle.koika_syntax.specs.inner.Grammar.{IsExpression, expression_leaves, operand_leaves, arm_leaves, choice_leaves}
 use Rattle.koika_syntax.specs.declared.keyword.Keyword.TheVariants as keywords
@@ -18,7 +18,7 @@ use Rattle.koika_syntax.specs.declared.tree.Expression.{Expression}
 use Rattle.koika_syntax.specs.declared.tree.Expression.TheOpen as expression
 use Rattle.koika_syntax.specs.declared.tree.Field.{Field}
 use Rattle.koika_syntax.specs.declared.tree.Literal.{Literal}
-use Rattle.koika_syntax.specs.declared.tree.Member.{Member}
+use Rattle.koika_syntax.specs.declared.tree.EnumMember.{EnumMember}
 use Rattle.koika_syntax.specs.declared.tree.Name.{Name}
 use Rattle.koika_syntax.specs.declared.tree.Operand.{Operand}
 use Rattle.koika_syntax.specs.declared.tree.Scheduler.{Scheduler}
@@ -55,8 +55,8 @@ some_of : {E : Type 0} (leaves : E → List Leaf) (Is : E → Type 0) → ((e : 
 some_of leaves Is each [] some all = absurd (omega (arith, some))
 some_of leaves Is each (e ∷ es) some all = omega (arith, each e all.0, length-append (leaves e) (flat_map leaves es))
 
-some_if : (arms : List Arm) → 0 < length arms → AllByRecursion IsArm arms → (more : List Leaf) → 0 < length (joined (word keywords.Else) (map arm_leaves arms) ++ more)
-unfolding joined
+some_if : (arms : List Arm) → 0 < length arms → AllByRecursion IsArm arms → (more : List Leaf) → 0 < length (with_between (word keywords.Else) (map arm_leaves arms) ++ more)
+unfolding with_between
 some_if [] some all more = absurd (omega (arith, some))
 some_if (a ∷ arms) some all more =
     let later = each_after (word keywords.Else) (map arm_leaves arms) in
@@ -123,7 +123,7 @@ module _ {at : ℕ → ℕ} where
   width_then : {next : List Outline → Reader} {ms : List Leaf} {ys : List Outline} {F : Option Terminal → Type 0} (w : Width) → Reads at (next (width_outline at w ∷ [])) ms ys F → Reads at (then (on width_at) next) (width_leaves w ++ ms) ys F
   width_then w h = reads_then {ls = width_leaves w} (reads_placed (reads_placed reads_give)) leads_any h
 
-  member_reads : (m : Member) → ⊤ → (n : ℕ) → length (member_leaves m) ≤ n → Reads at member (member_leaves m) (enum_member_outline at m ∷ []) (Free 0)
+  member_reads : (m : EnumMember) → ⊤ → (n : ℕ) → length (member_leaves m) ≤ n → Reads at member (member_leaves m) (enum_member_outline at m ∷ []) (Free 0)
   member_reads m is n within = reads_placed (reads_skip (reads_placed reads_give))
 
   field_reads : (n : ℕ) (f : Field) → ⊤ → length (field_leaves f) ≤ n → Reads at (field_of (types n)) (field_leaves f) (field_outline at f ∷ []) (Free 0)
@@ -153,7 +153,7 @@ module _ {at : ℕ → ℕ} where
     parameters_reads : (f : Name) (fields : List Field) (result : Option TypeExpression) (body : Block) → IsBlock body → length (commas (map field_leaves fields) ++ (sign symbols.RightParenthesis ++ sign symbols.Colon ++ (result_leaves result ++ block_leaves body))) ≤ (suc n) →
         Reads at (parameters (suc n) (name_outline at f)) (commas (map field_leaves fields) ++ (sign symbols.RightParenthesis ++ sign symbols.Colon ++ (result_leaves result ++ block_leaves body)))
         (node (codes "fun") (name_outline at f ∷ listed (map (field_outline at) fields) ∷ result_outline at result ∷ block_outline at body ∷ []) ∷ []) Any
-    unfolding joined
+    unfolding with_between
     parameters_reads f [] result body is within = reads_peek false (leads_head refl) (behind_reads f [] result body is (omega (arith, within)))
     parameters_reads f (p ∷ ps) result body is within =
         let tail = sign symbols.RightParenthesis ++ sign symbols.Colon ++ (result_leaves result ++ block_leaves body) in

@@ -5,7 +5,7 @@ use Rattle.std.specs.List.{AllByRecursion, flat_map}
 use Rattle.std.proofs.lemmas.List.Folds.{flat_map-map}
 use Rattle.std.proofs.lemmas.List.Elements.{recursion_from_All}
 use Rattle.std.proofs.lemmas.Bool.{eq-eqb}
-use Rattle.koika_syntax.specs.Tree.{Leaf, Terminal, symbol, keyword, sign, word, placed, name_leaves, number_leaves, commas, joined, all_of, each_after, in_parentheses, unary_symbol, binary_symbol, comparison_word, extension_word, read_word, write_word}
+use Rattle.koika_syntax.specs.Tree.{Leaf, Terminal, symbol, keyword, sign, word, placed, name_leaves, number_leaves, commas, with_between, all_of, each_after, in_parentheses, unary_symbol, binary_symbol, comparison_word, extension_word, read_word, write_word}
 use Rattle.koika_syntax.specs.Grammar.{IsExpressionLayer, IsBlock, IsOperandAt, level, level_of, level_of_chain, level_of_layer, block_leaves, prefix_leaves, suffix_leaves, part_leaves, type_leaves, call_leaves, last_leaves}
 use Rattle.koika_syntax.specs.inner.Grammar.{IsExpression, expression_leaves, operand_leaves, field_value_leaves, arm_leaves}
 use Rattle.koika_syntax.specs.declared.keyword.Keyword.TheVariants as keywords
@@ -24,8 +24,8 @@ use Rattle.koika_syntax.specs.declared.tree.Expression.{Expression}
 use Rattle.koika_syntax.specs.declared.tree.Expression.TheOpen as expression
 use Rattle.koika_syntax.specs.declared.tree.Name.{Name}
 use Rattle.koika_syntax.specs.declared.tree.Operand.{Operand, out-Operand}
-use Rattle.koika_syntax.specs.declared.tree.Part.{Part}
-use Rattle.koika_syntax.specs.declared.tree.Part.TheVariants as parts
+use Rattle.koika_syntax.specs.declared.tree.UpdatedPart.{UpdatedPart}
+use Rattle.koika_syntax.specs.declared.tree.UpdatedPart.TheVariants as parts
 use Rattle.koika_syntax.specs.declared.tree.Prefix.{Prefix}
 use Rattle.koika_syntax.specs.declared.tree.Suffix.{Suffix}
 use Rattle.koika_syntax.specs.declared.tree.Suffix.TheVariants as suffixes
@@ -43,15 +43,15 @@ comma = record { terminal = symbol symbols.Comma; place = None }
 
 -- arguments of a keyword, with their brackets
 commas_one : (x : List Leaf) → commas (x ∷ []) ++ sign symbols.RightParenthesis ≡ x ++ sign symbols.RightParenthesis
-unfolding joined
+unfolding with_between
 commas_one x = ap (λ l. l ++ sign symbols.RightParenthesis) (append-nil x)
 
 commas_two : (x y : List Leaf) → commas (x ∷ y ∷ []) ++ sign symbols.RightParenthesis ≡ x ++ (comma ∷ (y ++ sign symbols.RightParenthesis))
-unfolding joined
+unfolding with_between
 commas_two x y = ap (λ l. (x ++ (comma ∷ l)) ++ sign symbols.RightParenthesis) (append-nil y) ∙ append_assoc x (comma ∷ y) (sign symbols.RightParenthesis)
 
 commas_three : (x y z : List Leaf) → commas (x ∷ y ∷ z ∷ []) ++ sign symbols.RightParenthesis ≡ x ++ (comma ∷ (y ++ (comma ∷ (z ++ sign symbols.RightParenthesis))))
-unfolding joined
+unfolding with_between
 commas_three x y z =
     ap (λ l. (x ++ (comma ∷ (y ++ (comma ∷ l)))) ++ sign symbols.RightParenthesis) (append-nil z)
     ∙ append_assoc x (comma ∷ (y ++ (comma ∷ z))) (sign symbols.RightParenthesis)
@@ -125,7 +125,7 @@ module _ {at : ℕ → ℕ} where
   pub one_reads : {t : Terminal} {p : ℕ} {F : Option Terminal → Type 0} → Reads at one (placed t p) (token t (at p) ∷ []) F
   one_reads = reads_placed reads_give
 
-  part_reads : {F : Option Terminal → Type 0} (part : Part) → Reads at one (part_leaves part) (part_outline at part ∷ []) F
+  part_reads : {F : Option Terminal → Type 0} (part : UpdatedPart) → Reads at one (part_leaves part) (part_outline at part ∷ []) F
   part_reads (parts.Field n) = one_reads
   part_reads (parts.Index index) = one_reads
 
@@ -144,7 +144,7 @@ module _ {at : ℕ → ℕ} (n : ℕ) (R : Reader)
     (brace : Refuses R (symbol symbols.RightBrace)) (binding : Refuses R (keyword keywords.Let)) (parenthesis : Refuses R (symbol symbols.RightParenthesis)) where
   arguments_reads : {F : Option Terminal → Type 0} (called : Outline) (es : List Expression) → AllByRecursion IsExpression es → length (commas (map expression_leaves es)) ≤ n →
       Reads at (arguments R (suc n) called) (commas (map expression_leaves es) ++ sign symbols.RightParenthesis) (node (codes "call") (called ∷ map (expression_outline at) es) ∷ []) F
-  unfolding joined
+  unfolding with_between
   arguments_reads called [] all within = reads_other (refuses_then (refuses_then parenthesis)) (reads_skip reads_give)
   arguments_reads called (e ∷ es) all within =
       reads_or (reads_then (reads_separated expression_leaves (expression_outline at) IsExpression n claim (suc n) (e ∷ es) (omega arith) all within (omega (arith, within))) (leads_head (omega arith, refl)) (reads_skip reads_give))
@@ -349,10 +349,10 @@ module _ {at : ℕ → ℕ} (n : ℕ) (R : Reader)
   no_chain : Refuses (level1 R (suc n)) (keyword keywords.If)
   no_chain = record { refuses = λ q items. refl }
 
-  pub arms_reads : (arms : List Arm) → 0 < length arms → AllByRecursion IsArm arms → (otherwise : Option Block) → IfSome otherwise IsBlock → length (joined (word keywords.Else) (map arm_leaves arms) ++ last_leaves otherwise (λ block. word keywords.Else ++ block_leaves block)) ≤ suc n →
-      Reads at (or (level1 R (suc n)) (conditional R (suc n))) (joined (word keywords.Else) (map arm_leaves arms) ++ last_leaves otherwise (λ block. word keywords.Else ++ block_leaves block))
+  pub arms_reads : (arms : List Arm) → 0 < length arms → AllByRecursion IsArm arms → (otherwise : Option Block) → IfSome otherwise IsBlock → length (with_between (word keywords.Else) (map arm_leaves arms) ++ last_leaves otherwise (λ block. word keywords.Else ++ block_leaves block)) ≤ suc n →
+      Reads at (or (level1 R (suc n)) (conditional R (suc n))) (with_between (word keywords.Else) (map arm_leaves arms) ++ last_leaves otherwise (λ block. word keywords.Else ++ block_leaves block))
       (node (codes "if") (map (arm_outline at) arms ++ last_outline (codes "else") otherwise (block_outline at)) ∷ []) (Free 0)
-  unfolding joined
+  unfolding with_between
   arms_reads [] some all otherwise is within = absurd (omega (arith, some))
   arms_reads (a ∷ arms) some all otherwise is within =
       let rest = branch_leaves n R claim brace binding arms otherwise in

@@ -3,7 +3,7 @@ use Rattle.std.proofs.Common.{◌≡◌, ℕ, suc, ◌<◌, ◌≤◌, Bool, tru
 use Rattle.std.specs.List.{flat_map, AllByRecursion}
 use Rattle.std.proofs.lemmas.List.Folds.{flat_map-map}
 use Rattle.std.proofs.lemmas.Bool.{eqb-true, ne_eqb}
-use Rattle.koika_syntax.specs.Tree.{Leaf, Terminal, symbol, sign, commas, joined}
+use Rattle.koika_syntax.specs.Tree.{Leaf, Terminal, symbol, sign, commas, with_between}
 use Rattle.koika_syntax.specs.declared.symbol.Symbol.TheVariants as symbols
 use Rattle.koika_parse.specs.Outline.{Outline, node}
 use Rattle.koika_parse.proofs.UnambiguousReaders.{Reader, Reads, Leads, Refuses, run, give, then, many, skip, reads_give, reads_then, reads_map, reads_peek, reads_skip, leads_end, more_leads, reads_many, after}
@@ -48,7 +48,7 @@ module _ {at : ℕ → ℕ} {E : Type 0} {r : Reader} (leaves : E → List Leaf)
   -- at least one part
   pub reads_separated : (m : ℕ) (es : List E) → 0 < length es → AllByRecursion Is es → length (commas (map leaves es)) ≤ n → length (commas (map leaves es)) ≤ m →
       Reads at (separated r m) (commas (map leaves es)) (map out es) Closes
-  unfolding joined
+  unfolding with_between
   reads_separated m [] some all within short = absurd (omega (arith, some))
   reads_separated m (e ∷ es) some all within short =
       let same = flat_map-map (λ part. sign symbols.Comma ++ part) leaves es in

@@ -2,7 +2,7 @@
 use Rattle.std.proofs.Common.{◌≡◌, ℕ, ◌≤◌, None, List, [], ◌∷◌, length, Vec, Box, Global, refl, ap, arith, lit<}
 use Rattle.std.proofs.lemmas.List.Elements.{All-nil}
 use denote.RawPtr.{null_ptr}
-use Rattle.koika_syntax.specs.Grammar.{IsName, IsNumber, IsLiteral, IsWidth, IsType, IsConstant, IsBlock, IsScheduler, IsDeclaration, IsSuffix, type_leaves, constant_leaves, block_leaves, scheduler_leaves, declaration_leaves, suffix_leaves}
+use Rattle.koika_syntax.specs.Grammar.{IsName, NumberFits, LiteralFits, IsWidth, IsType, IsConstant, IsBlock, IsScheduler, IsDeclaration, IsSuffix, type_leaves, constant_leaves, block_leaves, scheduler_leaves, declaration_leaves, suffix_leaves}
 use Rattle.koika_syntax.specs.inner.Grammar.{IsExpression, expression_leaves}
 use Rattle.koika_syntax.specs.Keywords.{keyword_text}
 use Rattle.koika_syntax.specs.Tree.{name_leaves, number_leaves, literal_leaves, width_leaves, in_braces}
@@ -88,16 +88,16 @@ some_name = (name_leaves a_name, (a_name, a_name_is, refl))
 abbrev pub a_number : Number
 a_number = record { value = 1; place = 0 }
 
-pub some_number : Has (Part IsNumber number_leaves)
+pub some_number : Has (Part NumberFits number_leaves)
 some_number = (number_leaves a_number, (a_number, lit< tt, refl))
 
 abbrev pub a_literal : Literal
 a_literal = record { bits = record { width = 1; number = 0 }; place = 0 }
 
-pub a_literal_is : IsLiteral a_literal
+pub a_literal_is : LiteralFits a_literal
 a_literal_is = record { some_bit = omega arith; no_wider = omega arith; in_range = omega arith }
 
-pub some_literal : Has (Part IsLiteral literal_leaves)
+pub some_literal : Has (Part LiteralFits literal_leaves)
 some_literal = (literal_leaves a_literal, (a_literal, a_literal_is, refl))
 
 pub some_width : Has (Part IsWidth width_leaves)

@@ -1,6 +1,6 @@
 -- The words of each part, as the words of its own parts in turn.
 use Rattle.std.proofs.Common.{◌≡◌, ℕ, ◌<◌, ◌^◌, Option, Some, List, ◌++◌, append_assoc, refl, ap, sym, ◌∙◌}
-use Rattle.koika_syntax.specs.Grammar.{IsName, IsNumber, IsLiteral, IsWidth, IsType, IsMember, IsField, type_leaves, member_leaves, field_leaves}
+use Rattle.koika_syntax.specs.Grammar.{IsName, NumberFits, LiteralFits, IsWidth, IsType, IsMember, IsField, type_leaves, member_leaves, field_leaves}
 use Rattle.kw_bits.specs.BitVector.{BitVector, IsBitVector}
 use Rattle.koika_syntax.specs.Tokens.{IsToken}
 use Rattle.koika_syntax.specs.Tree.{Leaf, Terminal, name, number, literal, keyword, symbol, name_leaves, number_leaves, literal_leaves, width_leaves, word, sign, placed}
@@ -9,7 +9,7 @@ use Rattle.koika_syntax.specs.declared.keyword.Keyword.TheVariants as keywords
 use Rattle.koika_syntax.specs.declared.symbol.Symbol.{Symbol}
 use Rattle.koika_syntax.specs.declared.symbol.Symbol.TheVariants as symbols
 use Rattle.koika_syntax.specs.declared.tree.Field.{Field}
-use Rattle.koika_syntax.specs.declared.tree.Member.{Member}
+use Rattle.koika_syntax.specs.declared.tree.EnumMember.{EnumMember}
 use Rattle.koika_syntax.specs.declared.tree.TypeExpression.{TypeExpression, Bits, Named, Array'}
 use Rattle.koika_syntax.specs.declared.tree.Width.{Width}
 use Rattle.koika_parse.specs.inner.Expected.{Any, One, Part, Then, first}
@@ -47,15 +47,15 @@ placed_word terminal place = (_, refl, refl)
 pub one_name : {source : Source} {cursor : Cursor} {terminal : Terminal} (bytes : List ℕ) → IsToken kinds.Name bytes → name bytes ≡ terminal → next source cursor ≡ Some terminal → Goes source cursor cursor (Part IsName name_leaves) Any (One terminal)
 one_name bytes is same at = single (λ n. record { terminal = name n.text; place = Some n.place }) (λ n. refl) (λ place. record { text = bytes; place = place }) (λ place. is) (λ place. same) (λ place. refl) at
 
-pub one_number : {source : Source} {cursor : Cursor} {terminal : Terminal} (value : ℕ) → value < 2 ^ 32 → number value ≡ terminal → next source cursor ≡ Some terminal → Goes source cursor cursor (Part IsNumber number_leaves) Any (One terminal)
+pub one_number : {source : Source} {cursor : Cursor} {terminal : Terminal} (value : ℕ) → value < 2 ^ 32 → number value ≡ terminal → next source cursor ≡ Some terminal → Goes source cursor cursor (Part NumberFits number_leaves) Any (One terminal)
 one_number value is same at = single (λ n. record { terminal = number n.value; place = Some n.place }) (λ n. refl) (λ place. record { value = value; place = place }) (λ place. is) (λ place. same) (λ place. refl) at
 
-pub one_literal : {source : Source} {cursor : Cursor} {terminal : Terminal} (bits : BitVector) → IsBitVector bits.width bits.number → literal bits ≡ terminal → next source cursor ≡ Some terminal → Goes source cursor cursor (Part IsLiteral literal_leaves) Any (One terminal)
+pub one_literal : {source : Source} {cursor : Cursor} {terminal : Terminal} (bits : BitVector) → IsBitVector bits.width bits.number → literal bits ≡ terminal → next source cursor ≡ Some terminal → Goes source cursor cursor (Part LiteralFits literal_leaves) Any (One terminal)
 one_literal bits is same at = single (λ l. record { terminal = literal l.bits; place = Some l.place }) (λ l. refl) (λ place. record { bits = bits; place = place }) (λ place. is) (λ place. same) (λ place. refl) at
 
 -- `bits` and a number
 abbrev pub WidthWord : List Leaf → Type 0
-WidthWord = Then (One (keyword keywords.Bits)) (Part IsNumber number_leaves)
+WidthWord = Then (One (keyword keywords.Bits)) (Part NumberFits number_leaves)
 
 pub width_word : (width : Width) → IsWidth width → WidthWord (width_leaves width)
 width_word width is = (placed (keyword keywords.Bits) width.place, number_leaves width.number, placed_word (keyword keywords.Bits) width.place, (width.number, is, refl), refl)
@@ -68,9 +68,9 @@ width_start = starts WidthWord width_word (some_then (some_one (keyword keywords
 
 -- a member, and a field
 abbrev pub MemberWord : List Leaf → Type 0
-MemberWord = Then (Part IsName name_leaves) (Then (One (symbol symbols.Equals)) (Part IsLiteral literal_leaves))
+MemberWord = Then (Part IsName name_leaves) (Then (One (symbol symbols.Equals)) (Part LiteralFits literal_leaves))
 
-pub member_word : (member : Member) → IsMember member → MemberWord (member_leaves member)
+pub member_word : (member : EnumMember) → IsMember member → MemberWord (member_leaves member)
 member_word member is = (name_leaves member.name, sign symbols.Equals ++ literal_leaves member.value, (member.name, is.0, refl), (sign symbols.Equals, literal_leaves member.value, sign_word symbols.Equals, (member.value, is.1, refl), refl), refl)
 
 member_within : Within MemberWord (Part IsMember member_leaves)
@@ -94,7 +94,7 @@ pub field_start : {source : Source} {cursor : Cursor} {Follow : Option Terminal 
 field_start = starts FieldWord field_word (some_then some_name (some_then (some_one (symbol symbols.Colon)) some_type)) field_within
 
 pub some_member : Has (Part IsMember member_leaves)
-some_member = let m : Member = record { name = a_name; value = a_literal } in (member_leaves m, (m, (a_name_is, a_literal_is), refl))
+some_member = let m : EnumMember = record { name = a_name; value = a_literal } in (member_leaves m, (m, (a_name_is, a_literal_is), refl))
 
 pub some_field : Has (Part IsField field_leaves)
 some_field = let f : Field = record { name = a_name; of = Named a_name } in (field_leaves f, (f, (a_name_is, a_name_is), refl))

@@ -19,12 +19,12 @@ use Rattle.koika_syntax.specs.declared.tree.Expression.TheOpen as expression
 use Rattle.koika_syntax.specs.declared.tree.Field.{Field}
 use Rattle.koika_syntax.specs.declared.tree.FieldValue.{FieldValue, FieldValue-F, fold-FieldValue}
 use Rattle.koika_syntax.specs.declared.tree.Literal.{Literal}
-use Rattle.koika_syntax.specs.declared.tree.Member.{Member}
+use Rattle.koika_syntax.specs.declared.tree.EnumMember.{EnumMember}
 use Rattle.koika_syntax.specs.declared.tree.Name.{Name}
 use Rattle.koika_syntax.specs.declared.tree.Number.{Number}
 use Rattle.koika_syntax.specs.declared.tree.Operand.{Operand, Operand-F, fold-Operand}
-use Rattle.koika_syntax.specs.declared.tree.Part.{Part}
-use Rattle.koika_syntax.specs.declared.tree.Part.TheVariants as parts
+use Rattle.koika_syntax.specs.declared.tree.UpdatedPart.{UpdatedPart}
+use Rattle.koika_syntax.specs.declared.tree.UpdatedPart.TheVariants as parts
 use Rattle.koika_syntax.specs.declared.tree.Prefix.{Prefix}
 use Rattle.koika_syntax.specs.declared.tree.Scheduler.{Scheduler, Scheduler-F, fold-Scheduler}
 use Rattle.koika_syntax.specs.declared.tree.Statement.{Statement, Statement-F, fold-Statement}
@@ -129,7 +129,7 @@ module _ (at : ℕ → ℕ) where
   suffix_outline (suffixes.Index index) = node (codes "index") (number_outline index ∷ [])
   suffix_outline (suffixes.Slice high low) = node (codes "slice") (number_outline high ∷ number_outline low ∷ [])
 
-  abbrev pub part_outline : Part → Outline
+  abbrev pub part_outline : UpdatedPart → Outline
   part_outline (parts.Field n) = name_outline n
   part_outline (parts.Index index) = number_outline index
 
@@ -183,7 +183,7 @@ module _ (at : ℕ → ℕ) where
   operand_outline = fold-Operand Outline Outline Outline Outline Outline Outline expression_outline_step statement_outline_step arm_outline_step block_outline_step field_value_outline_step operand_outline_step
 
   -- declarations
-  abbrev pub enum_member_outline : Member → Outline
+  abbrev pub enum_member_outline : EnumMember → Outline
   enum_member_outline member = node (codes "member") (name_outline member.name ∷ literal_outline member.value ∷ [])
 
   abbrev pub field_outline : Field → Outline

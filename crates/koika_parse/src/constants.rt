@@ -1,7 +1,7 @@
 //! Trees: the reader of constants.
 
 ghost use Rattle.std.specs.Prelude.{All, IfOk, map};
-ghost use Rattle.koika_syntax.specs.Grammar.{IsConstant, IsLiteral, IsNonempty, constant_leaves};
+ghost use Rattle.koika_syntax.specs.Grammar.{IsConstant, LiteralFits, IsNonempty, constant_leaves};
 ghost use Rattle.koika_syntax.specs.inner.Grammar.{constant_field_leaves};
 ghost use Rattle.koika_syntax.specs.Tree.{commas, literal_leaves, sign};
 ghost use Rattle.koika_syntax.specs.declared.symbol.Symbol.TheVariants as symbols;
@@ -35,7 +35,7 @@ impl<'a> Source<'a> {
     fn literal_constant(&self, cursor: &mut Cursor) -> Result<Constant, Stop>
         ensures read { IfOk result (λ found. Reads self.now cursor.old cursor.new (constant_leaves found)) }
         ensures is { IfOk result IsConstant }
-        ensures takes { Takes self.now cursor.old cursor.new (Part IsLiteral literal_leaves) Any result }
+        ensures takes { Takes self.now cursor.old cursor.new (Part LiteralFits literal_leaves) Any result }
     {
         let literal = self.literal(cursor)?;
         Ok(Constant::Literal(literal))

@@ -1,7 +1,7 @@
 //! Trees: the reader of declarations.
 
 ghost use Rattle.std.specs.Prelude.{◌≡◌, ◌<◌, ◌++◌, All, IfOk, OnOk, IfSome, Some, map};
-ghost use Rattle.koika_syntax.specs.Grammar.{IsDeclaration, IsField, IsLiteral, IsMember, IsName, IsNonempty, IsType, declaration_leaves, field_leaves, member_leaves, result_leaves};
+ghost use Rattle.koika_syntax.specs.Grammar.{IsDeclaration, IsField, LiteralFits, IsMember, IsName, IsNonempty, IsType, declaration_leaves, field_leaves, member_leaves, result_leaves};
 ghost use Rattle.koika_syntax.specs.Tree.{commas, keyword, literal_leaves, name_leaves, word};
 ghost use Rattle.koika_parse.specs.inner.Expected.{Any, AnyMany, Commas, NoComma, One, Part, Takes, Then};
 ghost use Rattle.koika_parse.specs.inner.ExpressionWords.{parenthesis_follows};
@@ -12,7 +12,7 @@ use crate::cursor::Cursor;
 use crate::source::Source;
 use crate::stop::Stop;
 use koika_syntax::{
-    Declaration, Field, Keyword, Literal, Member, Name, Symbol, TypeExpression, Width,
+    Declaration, EnumMember, Field, Keyword, Literal, Name, Symbol, TypeExpression, Width,
 };
 use kw_bits::Sequence;
 
@@ -82,7 +82,7 @@ impl<'a> Source<'a> {
         })
     }
 
-    fn members(&self, cursor: &mut Cursor) -> Result<Sequence<Member>, Stop>
+    fn members(&self, cursor: &mut Cursor) -> Result<Sequence<EnumMember>, Stop>
         ensures read { IfOk result (λ found. Reads self.now cursor.old cursor.new (commas (map member_leaves found))) }
         ensures is { IfOk result (λ found. All IsMember found) }
         ensures some { IfOk result (λ found. IsNonempty found) }
@@ -99,7 +99,7 @@ impl<'a> Source<'a> {
         Ok(all)
     }
 
-    fn member(&self, cursor: &mut Cursor) -> Result<Member, Stop>
+    fn member(&self, cursor: &mut Cursor) -> Result<EnumMember, Stop>
         ensures read { IfOk result (λ found. Reads self.now cursor.old cursor.new (member_leaves found)) }
         ensures is { IfOk result IsMember }
         ensures takes { Takes self.now cursor.old cursor.new (Part IsMember member_leaves) Any result }
@@ -107,7 +107,7 @@ impl<'a> Source<'a> {
         let name = self.name(cursor)?;
         self.sign(cursor, Symbol::Equals)?;
         let value = self.literal(cursor)?;
-        Ok(Member { name, value })
+        Ok(EnumMember { name, value })
     }
 
     fn struct_declaration(&self, cursor: &mut Cursor) -> Result<Declaration, Stop>
@@ -203,9 +203,9 @@ impl<'a> Source<'a> {
 
     fn literals(&self, cursor: &mut Cursor) -> Result<Sequence<Literal>, Stop>
         ensures read { IfOk result (λ found. Reads self.now cursor.old cursor.new (commas (map literal_leaves found))) }
-        ensures is { IfOk result (λ found. All IsLiteral found) }
+        ensures is { IfOk result (λ found. All LiteralFits found) }
         ensures some { IfOk result (λ found. IsNonempty found) }
-        ensures takes { Takes self.now cursor.old cursor.new (Commas AnyMany IsLiteral literal_leaves) (NoComma Any) result }
+        ensures takes { Takes self.now cursor.old cursor.new (Commas AnyMany LiteralFits literal_leaves) (NoComma Any) result }
     {
         let mut all = Sequence::new(self.alloc);
         let first = self.literal(cursor)?;

@@ -17,8 +17,8 @@ use crate::cursor::Cursor;
 use crate::source::Source;
 use crate::stop::Stop;
 use koika_syntax::{
-    Expression, Extension, FieldValue, Keyword, Part, Prefix, SignedComparison, Suffix, Symbol,
-    TokenKind, UnaryOperator,
+    Expression, Extension, FieldValue, Keyword, Prefix, SignedComparison, Suffix, Symbol,
+    TokenKind, UnaryOperator, UpdatedPart,
 };
 use kw_bits::Sequence;
 
@@ -519,15 +519,15 @@ impl<'a> Source<'a> {
     }
 
     // Reads the part that an update replaces.
-    fn part(&self, cursor: &mut Cursor) -> Result<Part, Stop>
+    fn part(&self, cursor: &mut Cursor) -> Result<UpdatedPart, Stop>
         ensures read { IfOk result (λ found. Reads self.now cursor.old cursor.new (part_leaves found)) }
         ensures is { IfOk result IsPart }
         ensures takes { Takes self.now cursor.old cursor.new OnePart Any result }
     {
         if self.is_at_name(cursor) {
-            Ok(Part::Field(self.name(cursor)?))
+            Ok(UpdatedPart::Field(self.name(cursor)?))
         } else {
-            Ok(Part::Index(self.number(cursor)?))
+            Ok(UpdatedPart::Index(self.number(cursor)?))
         }
     }
 }

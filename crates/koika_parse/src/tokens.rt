@@ -1,7 +1,7 @@
 //! Trees: the next token, and the count of open brackets.
 
 ghost use Rattle.std.specs.Prelude.{ℕ, ◌≡◌, ◌≢◌, ◌<◌, ◌≤◌, ◌^◌, Some, None, IfOk, IfNone, IfErr, IfSome, OnOk, IsTrue, ◌↔◌, length};
-ghost use Rattle.koika_syntax.specs.Grammar.{IsLiteral, IsName, IsNumber, IsWidth};
+ghost use Rattle.koika_syntax.specs.Grammar.{LiteralFits, IsName, NumberFits, IsWidth};
 ghost use Rattle.kw_bits.specs.BitVector.{BitVector, IsBits};
 ghost use Rattle.koika_syntax.specs.Tree.{Terminal, keyword, literal, literal_leaves, name_leaves, number, number_leaves, placed, sign, symbol, width_leaves, word};
 ghost use Rattle.koika_syntax.specs.declared.keyword.Keyword.{Keyword};
@@ -203,8 +203,8 @@ impl<'a> Source<'a> {
     /// Reads a number.
     pub(crate) fn number(&self, cursor: &mut Cursor) -> Result<Number, Stop>
         ensures read { IfOk result (λ number. Reads self.now cursor.old cursor.new (number_leaves number)) }
-        ensures is { IfOk result IsNumber }
-        ensures takes { Takes self.now cursor.old cursor.new (Part IsNumber number_leaves) Any result }
+        ensures is { IfOk result NumberFits }
+        ensures takes { Takes self.now cursor.old cursor.new (Part NumberFits number_leaves) Any result }
     {
         match self.number_at(cursor) {
             None => Err(Stop::Unexpected),
@@ -218,8 +218,8 @@ impl<'a> Source<'a> {
     /// Reads a literal.
     pub(crate) fn literal(&self, cursor: &mut Cursor) -> Result<Literal, Stop>
         ensures read { IfOk result (λ literal. Reads self.now cursor.old cursor.new (literal_leaves literal)) }
-        ensures is { IfOk result IsLiteral }
-        ensures takes { Takes self.now cursor.old cursor.new (Part IsLiteral literal_leaves) Any result }
+        ensures is { IfOk result LiteralFits }
+        ensures takes { Takes self.now cursor.old cursor.new (Part LiteralFits literal_leaves) Any result }
     {
         match self.bits_at(cursor) {
             None => Err(Stop::Unexpected),
@@ -290,7 +290,7 @@ fn bits_of(kind: TokenKind) -> Option<Bits>
 
 fn literal_at(bits: Bits, place: u32) -> Literal
     ensures fields { result ≡ record { bits = bits; place = place } }
-    ensures is { IsLiteral result }
+    ensures is { LiteralFits result }
 {
     Literal { bits, place }
 }

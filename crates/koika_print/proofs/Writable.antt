@@ -3,10 +3,10 @@ use Rattle.std.proofs.Common.{◌≡◌, ℕ, Option, None, Some, IfSome, List, 
 use Rattle.std.specs.Prelude.{⊤}
 use Rattle.std.specs.List.{All, AllByRecursion, flat_map}
 use Rattle.std.proofs.lemmas.List.Elements.{recursion_from_All}
-use Rattle.koika_syntax.specs.Tree.{Leaf, sign, word, commas, joined, all_of, placed, symbol, in_parentheses, in_braces, name_leaves, number_leaves, literal_leaves, keyword}
+use Rattle.koika_syntax.specs.Tree.{Leaf, sign, word, commas, with_between, all_of, placed, symbol, in_parentheses, in_braces, name_leaves, number_leaves, literal_leaves, keyword}
 use Rattle.koika_syntax.specs.declared.keyword.Keyword.TheVariants as keywords
 use Rattle.koika_syntax.specs.declared.symbol.Symbol.TheVariants as symbols
-use Rattle.koika_syntax.specs.Grammar.{IsName, IsLiteral, IsType, IsMember, IsField, IsConstant, IsConstantLayer, IsConstantFieldLayer, IsBlock, IsExpressionLayer, IsStatementLayer, IsArmLayer, IsBlockLayer, IsFieldValueLayer, IsOperandLayer, IsSuffix, IsPart, IsDeclaration, IsScheduler, IsSchedulerLayer, IsChoiceLayer, IsDesign, type_leaves, constant_leaves, constant_step, constant_field_step, block_leaves, expression_step, statement_step, arm_step, block_step, field_value_step, operand_step, prefix_leaves, suffix_leaves, part_leaves, member_leaves, field_leaves, result_leaves, declaration_leaves, rule_leaves, choice_step, scheduler_step, scheduler_leaves, tree_leaves}
+use Rattle.koika_syntax.specs.Grammar.{IsName, LiteralFits, IsType, IsMember, IsField, IsConstant, IsConstantLayer, IsConstantFieldLayer, IsBlock, IsExpressionLayer, IsStatementLayer, IsArmLayer, IsBlockLayer, IsFieldValueLayer, IsOperandLayer, IsSuffix, IsPart, IsDeclaration, IsScheduler, IsSchedulerLayer, IsChoiceLayer, IsDesign, type_leaves, constant_leaves, constant_step, constant_field_step, block_leaves, expression_step, statement_step, arm_step, block_step, field_value_step, operand_step, prefix_leaves, suffix_leaves, part_leaves, member_leaves, field_leaves, result_leaves, declaration_leaves, rule_leaves, choice_step, scheduler_step, scheduler_leaves, tree_leaves}
 use Rattle.koika_syntax.specs.inner.Grammar.{IsExpression, constant_field_leaves, expression_leaves, statement_leaves, arm_leaves, field_value_leaves, operand_leaves, choice_leaves}
 use Rattle.koika_syntax.specs.declared.tree.Expression.{Expression, Expression-F, map-Expression, roll-Expression, every_held-Expression, every_here-Expression, out-roll-Expression, fold-roll-Expression, ind-Expression}
 use Rattle.koika_syntax.specs.declared.tree.Statement.{Statement, Statement-F, map-Statement, roll-Statement, every-Statement, every_held-Statement, every_here-Statement, out-roll-Statement, fold-roll-Statement}
@@ -24,10 +24,10 @@ use Rattle.koika_syntax.specs.declared.tree.Declaration.TheVariants as declarati
 use Rattle.koika_syntax.specs.declared.tree.Expression.TheOpen as expression
 use Rattle.koika_syntax.specs.declared.tree.Field.{Field}
 use Rattle.koika_syntax.specs.declared.tree.Literal.{Literal}
-use Rattle.koika_syntax.specs.declared.tree.Member.{Member}
+use Rattle.koika_syntax.specs.declared.tree.EnumMember.{EnumMember}
 use Rattle.koika_syntax.specs.declared.tree.Name.{Name}
-use Rattle.koika_syntax.specs.declared.tree.Part.{Part}
-use Rattle.koika_syntax.specs.declared.tree.Part.TheVariants as parts
+use Rattle.koika_syntax.specs.declared.tree.UpdatedPart.{UpdatedPart}
+use Rattle.koika_syntax.specs.declared.tree.UpdatedPart.TheVariants as parts
 use Rattle.koika_syntax.specs.declared.tree.Prefix.{Prefix}
 use Rattle.koika_syntax.specs.declared.tree.Suffix.{Suffix}
 use Rattle.koika_syntax.specs.declared.tree.Suffix.TheVariants as suffixes
@@ -53,8 +53,8 @@ after_each : (between : List Leaf) → AreWritable between → (parts : List (Li
 after_each between w [] each = tt
 after_each between w (part ∷ parts) each = together (between ++ part) (flat_map (λ part. between ++ part) parts) (together between part w each.0) (after_each between w parts each.1)
 
-joined_by : (between : List Leaf) → AreWritable between → (parts : List (List Leaf)) → AllByRecursion AreWritable parts → AreWritable (joined between parts)
-unfolding joined
+joined_by : (between : List Leaf) → AreWritable between → (parts : List (List Leaf)) → AllByRecursion AreWritable parts → AreWritable (with_between between parts)
+unfolding with_between
 joined_by between w [] each = tt
 joined_by between w (part ∷ parts) each = together part (flat_map (λ part. between ++ part) parts) each.0 (after_each between w parts each.1)
 
@@ -117,7 +117,7 @@ suffix_writes (suffixes.Field n) is = (tt, (is, tt))
 suffix_writes (suffixes.Index index) is = (tt, (is, (tt, tt)))
 suffix_writes (suffixes.Slice high low) is = (tt, (is.0, (tt, (is.1, (tt, tt)))))
 
-part_writes : (part : Part) → IsPart part → AreWritable (part_leaves part)
+part_writes : (part : UpdatedPart) → IsPart part → AreWritable (part_leaves part)
 part_writes (parts.Field n) is = (is, tt)
 part_writes (parts.Index index) is = (is, tt)
 
@@ -132,8 +132,8 @@ call_writes arguments each = (tt, together (commas arguments) (sign symbols.Righ
 abbrev expression_layer_leaves : Expression-F Expression Statement Arm Block FieldValue Operand → List Leaf
 expression_layer_leaves d = expression_step (map-Expression Expression Statement Arm Block FieldValue Operand (List Leaf) (List Leaf) (List Leaf) (List Leaf) (List Leaf) (List Leaf) expression_leaves statement_leaves arm_leaves block_leaves field_value_leaves operand_leaves d)
 
-if_writes : (arms : List Arm) → AllByRecursion (λ a. AreWritable (arm_leaves a)) arms → (last : List Leaf) → AreWritable last → AreWritable (joined (word keywords.Else) (map arm_leaves arms) ++ last)
-if_writes arms each last w = together (joined (word keywords.Else) (map arm_leaves arms)) last (joined_by (word keywords.Else) (tt, tt) (map arm_leaves arms) (mapped arm_leaves arms each)) w
+if_writes : (arms : List Arm) → AllByRecursion (λ a. AreWritable (arm_leaves a)) arms → (last : List Leaf) → AreWritable last → AreWritable (with_between (word keywords.Else) (map arm_leaves arms) ++ last)
+if_writes arms each last w = together (with_between (word keywords.Else) (map arm_leaves arms)) last (joined_by (word keywords.Else) (tt, tt) (map arm_leaves arms) (mapped arm_leaves arms each)) w
 
 expression_writes : (d : Expression-F Expression Statement Arm Block FieldValue Operand) → IsExpressionLayer d → ExpressionIs d → ExpressionWrites d → AreWritable (expression_layer_leaves d)
 expression_writes (expression.If arms None) here is writes = if_writes arms.items (given IsArm arm_leaves arms.items is.0 writes.0) [] tt
@@ -390,14 +390,14 @@ writable_scheduler : (t : Scheduler) → WritesScheduler t
 writable_scheduler = ind-Scheduler WritesChoice WritesScheduler choice_of_layer scheduler_of_layer
 
 -- declarations
-members_write : (members : List Member) → All IsMember members → AllByRecursion (λ m. AreWritable (member_leaves m)) members
+members_write : (members : List EnumMember) → All IsMember members → AllByRecursion (λ m. AreWritable (member_leaves m)) members
 members_write members are = of_all IsMember member_leaves (λ m is. (is.0, (tt, (is.1, tt)))) members (recursion_from_All IsMember members are)
 
 fields_write : (fields : List Field) → All IsField fields → AllByRecursion (λ f. AreWritable (field_leaves f)) fields
 fields_write fields are = of_all IsField field_leaves (λ f is. (is.0, (tt, writable_type f.of is.1))) fields (recursion_from_All IsField fields are)
 
-entries_write : (entries : List Literal) → All IsLiteral entries → AllByRecursion (λ l. AreWritable (literal_leaves l)) entries
-entries_write entries are = of_all IsLiteral literal_leaves (λ l is. (is, tt)) entries (recursion_from_All IsLiteral entries are)
+entries_write : (entries : List Literal) → All LiteralFits entries → AllByRecursion (λ l. AreWritable (literal_leaves l)) entries
+entries_write entries are = of_all LiteralFits literal_leaves (λ l is. (is, tt)) entries (recursion_from_All LiteralFits entries are)
 
 result_writes : (result : Option TypeExpression) → IfSome result IsType → AreWritable (result_leaves result)
 result_writes None is = (tt, tt)

@@ -53,7 +53,7 @@ fn constant_field(out: &mut Text, field: &ConstantField) -> Result<(), NoMemory>
 }
 
 #[cycle(constant)]
-#[tactic(auto, unfolding(koika_syntax::specs::Tree::joined))]
+#[tactic(auto, unfolding(koika_syntax::specs::Tree::with_between))]
 fn constant_fields(out: &mut Text, fields: &[ConstantField]) -> Result<(), NoMemory>
     ensures { OnOk result (Prints out.old out.new (commas (map constant_field_leaves fields.now))) }
 {
@@ -65,7 +65,7 @@ fn constant_fields(out: &mut Text, fields: &[ConstantField]) -> Result<(), NoMem
 }
 
 #[cycle(constant)]
-#[tactic(auto, unfolding(koika_syntax::specs::Tree::joined))]
+#[tactic(auto, unfolding(koika_syntax::specs::Tree::with_between))]
 fn constants(out: &mut Text, values: &[Constant]) -> Result<(), NoMemory>
     ensures { OnOk result (Prints out.old out.new (commas (map constant_leaves values.now))) }
 {

@@ -12,8 +12,8 @@ use crate::expressions::block;
 use crate::leaves::{comma_behind, literal, name, sign, width, word};
 use crate::types::type_expression;
 use koika_syntax::{
-    Block, Constant, Declaration, Field, Keyword, Literal, Member, Name, Symbol, TypeExpression,
-    Width,
+    Block, Constant, Declaration, EnumMember, Field, Keyword, Literal, Name, Symbol,
+    TypeExpression, Width,
 };
 use kw_bits::{NoMemory, Text};
 
@@ -52,7 +52,12 @@ pub(crate) fn declaration(out: &mut Text, of: &Declaration) -> Result<(), NoMemo
     }
 }
 
-fn enumeration(out: &mut Text, declared: &Name, bits: Width, all: &[Member]) -> Result<(), NoMemory>
+fn enumeration(
+    out: &mut Text,
+    declared: &Name,
+    bits: Width,
+    all: &[EnumMember],
+) -> Result<(), NoMemory>
     ensures { OnOk result (Prints out.old out.new
         (word keywords.Enum ++ name_leaves declared.now ++ sign symbols.Colon ++ width_leaves bits ++ in_braces (commas (map member_leaves all.now)))) }
 {
@@ -193,8 +198,8 @@ fn type_or_unit(out: &mut Text, of: &Option<TypeExpression>) -> Result<(), NoMem
     }
 }
 
-#[tactic(auto, unfolding(koika_syntax::specs::Tree::joined))]
-fn members(out: &mut Text, members: &[Member]) -> Result<(), NoMemory>
+#[tactic(auto, unfolding(koika_syntax::specs::Tree::with_between))]
+fn members(out: &mut Text, members: &[EnumMember]) -> Result<(), NoMemory>
     ensures { OnOk result (Prints out.old out.new (commas (map member_leaves members.now))) }
 {
     for number in 0..members.len() {
@@ -204,7 +209,7 @@ fn members(out: &mut Text, members: &[Member]) -> Result<(), NoMemory>
     Ok(())
 }
 
-fn member(out: &mut Text, of: &Member) -> Result<(), NoMemory>
+fn member(out: &mut Text, of: &EnumMember) -> Result<(), NoMemory>
     ensures { OnOk result (Prints out.old out.new (member_leaves of.now)) }
 {
     name(out, &of.name)?;
@@ -212,7 +217,7 @@ fn member(out: &mut Text, of: &Member) -> Result<(), NoMemory>
     literal(out, of.value)
 }
 
-#[tactic(auto, unfolding(koika_syntax::specs::Tree::joined))]
+#[tactic(auto, unfolding(koika_syntax::specs::Tree::with_between))]
 fn fields(out: &mut Text, fields: &[Field]) -> Result<(), NoMemory>
     ensures { OnOk result (Prints out.old out.new (commas (map field_leaves fields.now))) }
 {
@@ -231,7 +236,7 @@ fn field(out: &mut Text, of: &Field) -> Result<(), NoMemory>
     type_expression(out, &of.of)
 }
 
-#[tactic(auto, unfolding(koika_syntax::specs::Tree::joined))]
+#[tactic(auto, unfolding(koika_syntax::specs::Tree::with_between))]
 fn literals(out: &mut Text, literals: &[Literal]) -> Result<(), NoMemory>
     ensures { OnOk result (Prints out.old out.new (commas (map literal_leaves literals.now))) }
 {

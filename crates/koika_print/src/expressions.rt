@@ -3,7 +3,7 @@
 ghost use Rattle.std.specs.Prelude.{ℕ, OnOk, ◌++◌, map};
 ghost use Rattle.koika_syntax.specs.Grammar.{block_leaves, call_leaves, last_leaves, struct_leaves};
 ghost use Rattle.koika_syntax.specs.inner.Grammar.{arm_leaves, expression_leaves, field_value_leaves, operand_leaves, statement_leaves};
-ghost use Rattle.koika_syntax.specs.Tree.{all_of, commas, in_parentheses, joined, name_leaves, sign, word};
+ghost use Rattle.koika_syntax.specs.Tree.{all_of, commas, in_parentheses, with_between, name_leaves, sign, word};
 ghost use Rattle.koika_syntax.specs.declared.symbol.Symbol.TheVariants as symbols;
 ghost use Rattle.koika_syntax.specs.declared.keyword.Keyword.TheVariants as keywords;
 ghost use Rattle.koika_print.specs.inner.Printed.{Prints};
@@ -89,9 +89,9 @@ pub(crate) fn expression(out: &mut Text, value: &Expression) -> Result<(), NoMem
 }
 
 #[cycle(expression)]
-#[tactic(auto, unfolding(koika_syntax::specs::Tree::joined))]
+#[tactic(auto, unfolding(koika_syntax::specs::Tree::with_between))]
 fn arm_run(out: &mut Text, arms: &[Arm]) -> Result<(), NoMemory>
-    ensures { OnOk result (Prints out.old out.new (joined (word keywords.Else) (map arm_leaves arms.now))) }
+    ensures { OnOk result (Prints out.old out.new (with_between (word keywords.Else) (map arm_leaves arms.now))) }
 {
     for number in 0..arms.len() {
         else_behind(out, number)?;
@@ -153,7 +153,7 @@ fn call(out: &mut Text, called: &Name, arguments: &[Expression]) -> Result<(), N
 }
 
 #[cycle(expression)]
-#[tactic(auto, unfolding(koika_syntax::specs::Tree::joined))]
+#[tactic(auto, unfolding(koika_syntax::specs::Tree::with_between))]
 fn values(out: &mut Text, values: &[Expression]) -> Result<(), NoMemory>
     ensures { OnOk result (Prints out.old out.new (commas (map expression_leaves values.now))) }
 {
@@ -184,7 +184,7 @@ fn struct_of(out: &mut Text, of: &Name, fields: &[FieldValue]) -> Result<(), NoM
 }
 
 #[cycle(expression)]
-#[tactic(auto, unfolding(koika_syntax::specs::Tree::joined))]
+#[tactic(auto, unfolding(koika_syntax::specs::Tree::with_between))]
 fn field_values(out: &mut Text, fields: &[FieldValue]) -> Result<(), NoMemory>
     ensures { OnOk result (Prints out.old out.new (commas (map field_value_leaves fields.now))) }
 {

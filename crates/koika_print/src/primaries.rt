@@ -13,7 +13,8 @@ use crate::expressions::expression;
 use crate::leaves::{name, number, sign, word};
 use crate::types::type_expression;
 use koika_syntax::{
-    Expression, Extension, Keyword, Name, Number, Part, Prefix, Suffix, Symbol, TypeExpression,
+    Expression, Extension, Keyword, Name, Number, Prefix, Suffix, Symbol, TypeExpression,
+    UpdatedPart,
 };
 use kw_bits::{NoMemory, Sequence, Text};
 
@@ -88,7 +89,7 @@ fn suffix(out: &mut Text, of: &Suffix) -> Result<(), NoMemory>
     }
 }
 
-#[tactic(auto, using(crate::proofs::Printing::printing), unfolding(koika_syntax::specs::Tree::joined))]
+#[tactic(auto, using(crate::proofs::Printing::printing), unfolding(koika_syntax::specs::Tree::with_between))]
 pub(crate) fn read(out: &mut Text, port: u32, register: &Name) -> Result<(), NoMemory>
     ensures { OnOk result (Prints out.old out.new (call_leaves (word (read_word port)) (name_leaves register.now ∷ []))) }
 {
@@ -99,7 +100,7 @@ pub(crate) fn read(out: &mut Text, port: u32, register: &Name) -> Result<(), NoM
 }
 
 #[cycle(expression)]
-#[tactic(auto, using(crate::proofs::Printing::printing), unfolding(koika_syntax::specs::Tree::joined))]
+#[tactic(auto, using(crate::proofs::Printing::printing), unfolding(koika_syntax::specs::Tree::with_between))]
 pub(crate) fn write(
     out: &mut Text,
     port: u32,
@@ -118,7 +119,7 @@ pub(crate) fn write(
 }
 
 #[cycle(expression)]
-#[tactic(auto, using(crate::proofs::Printing::printing), unfolding(koika_syntax::specs::Tree::joined))]
+#[tactic(auto, using(crate::proofs::Printing::printing), unfolding(koika_syntax::specs::Tree::with_between))]
 pub(crate) fn pack(out: &mut Text, value: &Expression) -> Result<(), NoMemory>
     ensures { OnOk result (Prints out.old out.new (call_leaves (word keywords.Pack) (expression_leaves value.now ∷ []))) }
 {
@@ -129,7 +130,7 @@ pub(crate) fn pack(out: &mut Text, value: &Expression) -> Result<(), NoMemory>
 }
 
 #[cycle(expression)]
-#[tactic(auto, using(crate::proofs::Printing::printing), unfolding(koika_syntax::specs::Tree::joined))]
+#[tactic(auto, using(crate::proofs::Printing::printing), unfolding(koika_syntax::specs::Tree::with_between))]
 pub(crate) fn unpack(
     out: &mut Text,
     value: &Expression,
@@ -147,7 +148,7 @@ pub(crate) fn unpack(
 }
 
 #[cycle(expression)]
-#[tactic(auto, using(crate::proofs::Printing::printing), unfolding(koika_syntax::specs::Tree::joined))]
+#[tactic(auto, using(crate::proofs::Printing::printing), unfolding(koika_syntax::specs::Tree::with_between))]
 pub(crate) fn extend(
     out: &mut Text,
     extension: Extension,
@@ -166,12 +167,12 @@ pub(crate) fn extend(
 }
 
 // Writes the part that an update replaces, with the comma after it.
-pub(crate) fn replaced(out: &mut Text, part: &Part) -> Result<(), NoMemory>
+pub(crate) fn replaced(out: &mut Text, part: &UpdatedPart) -> Result<(), NoMemory>
     ensures { OnOk result (Prints out.old out.new (part_leaves part.now ++ sign symbols.Comma)) }
 {
     match part {
-        Part::Field(field) => name(out, field)?,
-        Part::Index(index) => number(out, *index)?,
+        UpdatedPart::Field(field) => name(out, field)?,
+        UpdatedPart::Index(index) => number(out, *index)?,
     }
     sign(out, Symbol::Comma)
 }

@@ -7,7 +7,7 @@ use Rattle.std.proofs.lemmas.Bool.Decides.{nat_tests}
 use Rattle.std.proofs.lemmas.Fmt.{decimal_is_IsNumeral, decimal_is_IsNumeral_wide}
 use Rattle.std.proofs.lemmas.List.{append_assoc}
 use Rattle.kw_bits.specs.BitVector.{BitVector, IsBitVector}
-use Rattle.koika_syntax.specs.Lexemes.{is_blank, continues_word, IsWord, Kind, HasKind, IsLongest}
+use Rattle.koika_syntax.specs.Lexemes.{is_blank, continues_word, IsWord, LexemeKind, HasKind, IsLongest}
 use Rattle.koika_syntax.specs.Symbols.{symbol_text}
 use Rattle.koika_syntax.specs.Tokens.{IsToken}
 use Rattle.koika_syntax.specs.declared.literal.Base.TheVariants as bases
@@ -100,16 +100,16 @@ within_solid (x ∷ xs) (y ∷ ys) rest behind b blank solid same =
 pub longest_symbol : (s : Symbol) (b : ℕ) (rest : List ℕ) → is_blank b ≡ true → IsLongest (symbol_text s) (b ∷ rest)
 longest_symbol s b rest blank = by (symbol_text s) (s, refl)
   where
-    by : (bytes : List ℕ) → HasKind Kind.symbol bytes → IsLongest bytes (b ∷ rest)
-    by [] has = absurd (omega (arith, length-lexeme Kind.symbol [] has))
+    by : (bytes : List ℕ) → HasKind LexemeKind.symbol bytes → IsLongest bytes (b ∷ rest)
+    by [] has = absurd (omega (arith, length-lexeme LexemeKind.symbol [] has))
     by (c ∷ cs) has =
-        let first = family-first Kind.symbol c cs has in
+        let first = family-first LexemeKind.symbol c cs has in
         IsLongest-from_none_longer (c ∷ cs) (b ∷ rest)
         (NoneLonger-from_family c (cs ++ b ∷ rest) (length (c ∷ cs))
         (λ kind bytes behind same split found.
-        let family_is : family kind ≡ Kind.symbol = sym same ∙ first in
-        let kind_is : kind ≡ Kind.symbol = sym (only_kind kind (λ is. cc)) ∙ family_is in
-        let is_symbol = subst (λ (t : Kind). HasKind t (c ∷ bytes)) kind_is found in
+        let family_is : family kind ≡ LexemeKind.symbol = sym same ∙ first in
+        let kind_is : kind ≡ LexemeKind.symbol = sym (only_kind kind (λ is. cc)) ∙ family_is in
+        let is_symbol = subst (λ (t : LexemeKind). HasKind t (c ∷ bytes)) kind_is found in
         within_solid (c ∷ cs) (c ∷ bytes) rest behind b blank (ap (list_all is_solid) is_symbol.1 ∙ solid_symbol is_symbol.0) split))
 
 width_numeral : (bits : BitVector) → IsBitVector bits.width bits.number → IsNumeral 10 (decimal bits.width) × (digits_value 10 (decimal bits.width) ≡ bits.width)

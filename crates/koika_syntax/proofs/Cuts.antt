@@ -8,10 +8,10 @@ use Rattle.kw_base.specs.Place.{place_at}
 use Rattle.kw_base.specs.declared.fault.Fault.{Fault}
 use Rattle.kw_base.specs.declared.fault.Refusal.{Refusal}
 use Rattle.kw_base.specs.declared.fault.Refusal.TheVariants as refusals
-use Rattle.koika_syntax.specs.Lexemes.{is_blank, Kind, IsLongest}
+use Rattle.koika_syntax.specs.Lexemes.{is_blank, LexemeKind, IsLongest}
 use Rattle.koika_syntax.specs.inner.LexemeAnswers.{BeginsWithPiece, tokens_of, HasRead, BeginsFault}
 use Rattle.koika_syntax.specs.Tokens.{Piece, bytes_of, IsPiece, IsCut, tokens_behind, AreTokensOf}
-use Rattle.koika_syntax.specs.TokenFaults.{IsWrong, BeginsStray, BeginsWrong, BeginsFaulty, IsFirstFault}
+use Rattle.koika_syntax.specs.TokenFaults.{IsWrongLexeme, BeginsStray, BeginsWrong, BeginsFaulty, IsFirstTokenFault}
 use Rattle.koika_syntax.specs.declared.token.Token.{Token}
 use Rattle.koika_syntax.specs.declared.token.TokenKind.{TokenKind}
 use Rattle.koika_syntax.proofs.Fronts.{text_begins_blank}
@@ -55,13 +55,13 @@ faulty_some number offset faulty =
     faulty
 
 -- no text has tokens and a fault
-pub tokens_or_fault : (text : List ℕ) (tokens : List Token) (fault : Fault) → AreTokensOf tokens text → IsFirstFault text fault → ⊥
+pub tokens_or_fault : (text : List ℕ) (tokens : List Token) (fault : Fault) → AreTokensOf tokens text → IsFirstTokenFault text fault → ⊥
 tokens_or_fault text tokens fault are first =
     let same = one_cut are.pieces first.pieces text [] first.rest are.cut Stops-end first.cut (Stops-faulty first.rest fault.number first.offset first.faulty) in
     faulty_some fault.number first.offset (subst (λ l. BeginsFaulty l fault.number first.offset) (sym same.1) first.faulty)
 
 -- the first fault of a text is one
-pub one_fault : (text : List ℕ) (f g : Fault) → IsFirstFault text f → IsFirstFault text g → f ≡ g
+pub one_fault : (text : List ℕ) (f g : Fault) → IsFirstTokenFault text f → IsFirstTokenFault text g → f ≡ g
 one_fault text f g a b =
     let same = one_cut a.pieces b.pieces text a.rest b.rest a.cut (Stops-faulty a.rest f.number a.offset a.faulty) b.cut (Stops-faulty b.rest g.number b.offset b.faulty) in
     let at = same_fault b.rest f.number a.offset g.number b.offset (subst (λ l. BeginsFaulty l f.number a.offset) same.1 a.faulty) b.faulty in
@@ -151,7 +151,7 @@ module _ (text : List ℕ) (tokens : List Token) (offset : ℕ) (so_far : CutTo 
   }
 
   -- a fault
-  pub CutTo-fault : (fault : Fault) → BeginsFault text offset fault → IsFirstFault text fault
+  pub CutTo-fault : (fault : Fault) → BeginsFault text offset fault → IsFirstTokenFault text fault
   CutTo-fault fault begins = record {
     pieces = so_far.pieces;
     rest = drop offset text;
@@ -162,36 +162,36 @@ module _ (text : List ℕ) (tokens : List Token) (offset : ℕ) (so_far : CutTo 
   }
 
   -- what is refused for a fault behind the offset is refused for the first fault
-  pub CutTo-refused : (refusal : Refusal) → IfFault {X = ℕ} (Err refusal) (BeginsFault text offset) → IfFault {X = ℕ} (Err refusal) (IsFirstFault text)
+  pub CutTo-refused : (refusal : Refusal) → IfFault {X = ℕ} (Err refusal) (BeginsFault text offset) → IfFault {X = ℕ} (Err refusal) (IsFirstTokenFault text)
   CutTo-refused (refusals.Fault fault) begins = CutTo-fault fault begins
   CutTo-refused refusals.NoMemory begins = tt
 
 -- a text that is refused for its first fault has no tokens
-pub refused-no_tokens : {X : Type 0} (text : List ℕ) (result : Result X Refusal) (refusal : Refusal) → result ≡ Err refusal → IfFault {X = ℕ} (Err refusal) (IsFirstFault text)
+pub refused-no_tokens : {X : Type 0} (text : List ℕ) (result : Result X Refusal) (refusal : Refusal) → result ≡ Err refusal → IfFault {X = ℕ} (Err refusal) (IsFirstTokenFault text)
     → (tokens : List Token) → AreTokensOf tokens text → (P : X → Type 0) → IsOkUnlessNoMemory result P
 refused-no_tokens {X} text result refusal is first tokens are P = subst (λ r. IsOkUnlessNoMemory r P) (sym is) (by refusal first)
   where
-    by : (r : Refusal) → IfFault {X = ℕ} (Err r) (IsFirstFault text) → IsOkUnlessNoMemory {X = X} (Err r) P
+    by : (r : Refusal) → IfFault {X = ℕ} (Err r) (IsFirstTokenFault text) → IsOkUnlessNoMemory {X = X} (Err r) P
     by (refusals.Fault fault) f = tokens_or_fault text tokens fault are f
     by refusals.NoMemory f = tt
 
 -- nor another first fault
-pub refused-one_fault : {X : Type 0} (text : List ℕ) (result : Result X Refusal) (refusal : Refusal) → result ≡ Err refusal → IfFault {X = ℕ} (Err refusal) (IsFirstFault text)
-    → (fault : Fault) → IsFirstFault text fault → IsFaultUnlessNoMemory result fault
+pub refused-one_fault : {X : Type 0} (text : List ℕ) (result : Result X Refusal) (refusal : Refusal) → result ≡ Err refusal → IfFault {X = ℕ} (Err refusal) (IsFirstTokenFault text)
+    → (fault : Fault) → IsFirstTokenFault text fault → IsFaultUnlessNoMemory result fault
 refused-one_fault {X} text result refusal is first other other_is = subst (λ r. IsFaultUnlessNoMemory r other) (sym is) (by refusal first)
   where
-    by : (r : Refusal) → IfFault {X = ℕ} (Err r) (IsFirstFault text) → IsFaultUnlessNoMemory {X = X} (Err r) other
+    by : (r : Refusal) → IfFault {X = ℕ} (Err r) (IsFirstTokenFault text) → IsFaultUnlessNoMemory {X = X} (Err r) other
     by (refusals.Fault fault) f = one_fault text fault other f other_is
     by refusals.NoMemory f = tt
 
-wrong_within : (kind : Kind) (bytes : List ℕ) (number offset : ℕ) → IsWrong kind bytes number offset → offset ≤ length bytes
-wrong_within Kind.blank bytes number offset wrong = absurd wrong
-wrong_within Kind.comment bytes number offset wrong = absurd wrong
-wrong_within Kind.word bytes number offset wrong = omega (arith, wrong.2)
-wrong_within Kind.number bytes number offset wrong = omega (arith, wrong.2)
-wrong_within Kind.literal bytes number offset wrong = omega (arith, wrong.4)
-wrong_within Kind.unfinished bytes number offset wrong = omega (arith, wrong.1)
-wrong_within Kind.symbol bytes number offset wrong = absurd wrong
+wrong_within : (kind : LexemeKind) (bytes : List ℕ) (number offset : ℕ) → IsWrongLexeme kind bytes number offset → offset ≤ length bytes
+wrong_within LexemeKind.blank bytes number offset wrong = absurd wrong
+wrong_within LexemeKind.comment bytes number offset wrong = absurd wrong
+wrong_within LexemeKind.word bytes number offset wrong = omega (arith, wrong.2)
+wrong_within LexemeKind.number bytes number offset wrong = omega (arith, wrong.2)
+wrong_within LexemeKind.literal bytes number offset wrong = omega (arith, wrong.4)
+wrong_within LexemeKind.unfinished bytes number offset wrong = omega (arith, wrong.1)
+wrong_within LexemeKind.symbol bytes number offset wrong = absurd wrong
 
 -- a fault stands within the text, or at its end
 pub faulty_within : (text : List ℕ) (number offset : ℕ) → BeginsFaulty text number offset → offset ≤ length text

@@ -7,7 +7,7 @@ use Rattle.std.proofs.lemmas.List.{append_assoc}
 use Rattle.std.proofs.lemmas.List.Sums.{prefix_len-le-length, take_while-cons}
 use Rattle.kw_bits.specs.BitVector.{BitVector, IsBitVector}
 use Rattle.koika_syntax.specs.Keywords.{keyword_text}
-use Rattle.koika_syntax.specs.Lexemes.{is_blank, begins_word, continues_word, stays_on_line, Kind, IsWord, LiteralParts, IsLiteral, literal_text, letter_of, radix_of, IsLongest}
+use Rattle.koika_syntax.specs.Lexemes.{is_blank, begins_word, continues_word, stays_on_line, LexemeKind, IsWord, LiteralParts, IsLiteral, literal_text, letter_of, radix_of, IsLongest}
 use Rattle.koika_syntax.specs.inner.LexemeAnswers.{BeginsWithPiece}
 use Rattle.koika_syntax.specs.Symbols.{symbol_text}
 use Rattle.koika_syntax.specs.inner.Symbols.{BeginsWith}
@@ -35,7 +35,7 @@ module _ (width tail : List ℕ) (numeral : IsNumeral 10 width) where
       let split = sym (append_assoc width (39 ∷ []) tail) in
       let size : length (width ++ 39 ∷ []) ≡ length width + 1 = length-append width (39 ∷ []) in
       inr (record {
-        kind = Kind.unfinished;
+        kind = LexemeKind.unfinished;
         bytes = width ++ 39 ∷ [];
         after = tail;
         front = split;
@@ -55,7 +55,7 @@ module _ (width tail : List ℕ) (base : Base) (numeral : IsNumeral 10 width) wh
       let size : length (width ++ 39 ∷ letter_of base ∷ []) ≡ length width + 2 = length-append width (39 ∷ letter_of base ∷ []) in
       let most : length width + 2 + run ≡ length width + 2 = omega (arith, none) in
       inr (record {
-        kind = Kind.unfinished;
+        kind = LexemeKind.unfinished;
         bytes = width ++ 39 ∷ letter_of base ∷ [];
         after = tail;
         front = split;
@@ -104,7 +104,7 @@ module _ (width tail : List ℕ) (base : Base) (numeral : IsNumeral 10 width) wh
   pub faulty_literal : 0 < run → ¬ IsBitVector (digits_value 10 width) (digits_value (radix_of base) (take run tail))
       → BeginsFaulty (width ++ 39 ∷ letter_of base ∷ tail) 13 0
   faulty_literal some absent = inr (record {
-    kind = Kind.literal;
+    kind = LexemeKind.literal;
     bytes = literal_text parts;
     after = drop run tail;
     front = split;
@@ -133,7 +133,7 @@ module _ (digits behind : List ℕ) (numeral : IsNumeral 10 digits) (whole : pre
   -- but the number is out of its range
   faulty_number : 2 ^ 32 ≤ digits_value 10 digits → BeginsFaulty (digits ++ behind) 13 0
   faulty_number above = inr (record {
-    kind = Kind.number;
+    kind = LexemeKind.number;
     bytes = digits;
     after = behind;
     front = refl;
@@ -225,7 +225,7 @@ module _ (b : ℕ) (text : List ℕ) (begins : begins_word b ≡ true) where
 
   faulty_name : 64 < word_len → BeginsFaulty (b ∷ text) 14 0
   faulty_name long = inr (record {
-    kind = Kind.word;
+    kind = LexemeKind.word;
     bytes = word_bytes;
     after = drop word_len (b ∷ text);
     front = front_run continues_word (b ∷ text);
@@ -262,7 +262,7 @@ module _ (b : ℕ) (text : List ℕ) (blank : is_blank b ≡ false) (word : begi
     bytes = symbol_text s;
     after = found.0;
     front = found.1;
-    some_byte = length-lexeme Kind.symbol (symbol_text s) (s, refl);
+    some_byte = length-lexeme LexemeKind.symbol (symbol_text s) (s, refl);
     len_is = refl;
     piece = refl;
     longest = longest_by_length (b ∷ text) (symbol_text s) found.0 (length (symbol_text s)) found.1 refl (NoneLonger-symbol b text (length (symbol_text s)) blank word digit comment most);

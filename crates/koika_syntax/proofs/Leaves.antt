@@ -2,11 +2,11 @@
 use Rattle.std.proofs.Common.{◌≡◌, ℕ, List, [], ◌∷◌, ◌++◌, append_assoc, append-nil, map, Vec, Global, Box, Option, Some, None, ap, sym, ◌∙◌}
 use Rattle.koika_syntax.specs.Grammar.{constant_step, constant_field_step, constant_leaves, struct_leaves, array_leaves, call_leaves, last_leaves, part_leaves, rule_leaves, expression_step, statement_step, arm_step, block_step, field_value_step, operand_step, block_leaves, choice_step, scheduler_step, scheduler_leaves}
 use Rattle.koika_syntax.specs.inner.Grammar.{constant_field_leaves, expression_leaves, statement_leaves, arm_leaves, field_value_leaves, operand_leaves, choice_leaves}
-use Rattle.koika_syntax.specs.Tree.{Leaf, name_leaves, sign, word, placed, symbol, keyword, joined, all_of, in_braces, in_parentheses, binary_symbol, comparison_word}
+use Rattle.koika_syntax.specs.Tree.{Leaf, name_leaves, sign, word, placed, symbol, keyword, with_between, all_of, in_braces, in_parentheses, binary_symbol, comparison_word}
 use Rattle.std.specs.List.{flat_map}
 use Rattle.koika_syntax.specs.declared.keyword.Keyword.TheVariants as keywords
 use Rattle.koika_syntax.specs.declared.operator.SignedComparison.{SignedComparison}
-use Rattle.koika_syntax.specs.declared.tree.Part.{Part}
+use Rattle.koika_syntax.specs.declared.tree.UpdatedPart.{UpdatedPart}
 use Rattle.koika_syntax.specs.declared.tree.Arm.{Arm, out-Arm, fold_out-Arm}
 use Rattle.koika_syntax.specs.declared.tree.Block.{Block, out-Block, roll-Block, roll-out-Block, fold-roll-Block}
 use Rattle.koika_syntax.specs.declared.tree.Choice.{Choice, out-Choice, fold_out-Choice}
@@ -45,7 +45,7 @@ unfolding constant_leaves constant_field_leaves
 constant_field field = fold_out-ConstantField Leaves Leaves constant_step constant_field_step field
 
 pub if_expression : (arms : Vec Arm Global) (otherwise : Option Block) →
-    expression_leaves (views.If arms otherwise) ≡ joined (word keywords.Else) (map arm_leaves arms.items) ++ last_leaves otherwise (λ block. word keywords.Else ++ block_leaves block)
+    expression_leaves (views.If arms otherwise) ≡ with_between (word keywords.Else) (map arm_leaves arms.items) ++ last_leaves otherwise (λ block. word keywords.Else ++ block_leaves block)
 unfolding expression_leaves statement_leaves arm_leaves block_leaves field_value_leaves operand_leaves
 if_expression arms None = ap expression_leaves (sym (views.rolls-If arms None)) ∙ fold-roll-Expression Leaves Leaves Leaves Leaves Leaves Leaves expression_step statement_step arm_step block_step field_value_step operand_step (expression.If arms None)
 if_expression arms (Some block) = ap expression_leaves (sym (views.rolls-If arms (Some block))) ∙ fold-roll-Expression Leaves Leaves Leaves Leaves Leaves Leaves expression_step statement_step arm_step block_step field_value_step operand_step (expression.If arms (Some block))
@@ -110,12 +110,12 @@ unfolding expression_leaves statement_leaves arm_leaves block_leaves field_value
 block_expression b =
     ap expression_leaves (sym (views.rolls-Block b)) ∙ fold-roll-Expression Leaves Leaves Leaves Leaves Leaves Leaves expression_step statement_step arm_step block_step field_value_step operand_step (expression.Block b)
 
-two : (s x y : List Leaf) → joined s (x ∷ y ∷ []) ≡ x ++ s ++ y
-unfolding joined
+two : (s x y : List Leaf) → with_between s (x ∷ y ∷ []) ≡ x ++ s ++ y
+unfolding with_between
 two s x y = ap (λ t. x ++ t) (append-nil (s ++ y)) ∙ sym (append_assoc x s y)
 
-three : (s x y z : List Leaf) → joined s (x ∷ y ∷ z ∷ []) ≡ x ++ s ++ y ++ s ++ z
-unfolding joined
+three : (s x y z : List Leaf) → with_between s (x ∷ y ∷ z ∷ []) ≡ x ++ s ++ y ++ s ++ z
+unfolding with_between
 three s x y z = ap (λ t. x ++ ((s ++ y) ++ t)) (append-nil (s ++ z)) ∙ sym (append_assoc x (s ++ y) (s ++ z)) ∙ ap (λ t. t ++ (s ++ z)) (sym (append_assoc x s y)) ∙ sym (append_assoc (x ++ s ++ y) s z)
 
 pub compare_expression : (place : ℕ) (comparison : SignedComparison) (left right : Box Expression Global) →
@@ -125,7 +125,7 @@ compare_expression place comparison left right =
     ap expression_leaves (sym (views.rolls-Compare place comparison left right)) ∙ fold-roll-Expression Leaves Leaves Leaves Leaves Leaves Leaves expression_step statement_step arm_step block_step field_value_step operand_step (expression.Compare place comparison left right) ∙
     ap (λ inside. placed (keyword (comparison_word comparison)) place ++ in_parentheses inside) (two (sign symbols.Comma) (expression_leaves left.value) (expression_leaves right.value))
 
-pub update_expression : (place : ℕ) (whole : Box Expression Global) (part : Part) (value : Box Expression Global) →
+pub update_expression : (place : ℕ) (whole : Box Expression Global) (part : UpdatedPart) (value : Box Expression Global) →
     expression_leaves (views.Update place whole part value) ≡ placed (keyword keywords.Update) place ++ in_parentheses (expression_leaves whole.value ++ sign symbols.Comma ++ part_leaves part ++ sign symbols.Comma ++ expression_leaves value.value)
 unfolding expression_leaves
 update_expression place whole part value =

@@ -18,7 +18,7 @@ use Rattle.koika_syntax.specs.inner.LexemeAnswers.{BeginsWithPiece, tokens_of, H
 use Rattle.koika_syntax.specs.Symbols.{symbol_text}
 use Rattle.koika_syntax.specs.inner.Symbols.{BeginsWith}
 use Rattle.koika_syntax.specs.Tokens.{AreTokensOf}
-use Rattle.koika_syntax.specs.TokenFaults.{BeginsFaulty, IsFirstFault}
+use Rattle.koika_syntax.specs.TokenFaults.{BeginsFaulty, IsFirstTokenFault}
 use Rattle.koika_syntax.specs.declared.keyword.Keyword.{Keyword}
 use Rattle.koika_syntax.specs.declared.literal.Base.{Base}
 use Rattle.koika_syntax.specs.declared.literal.Base.TheVariants as bases
@@ -246,7 +246,7 @@ begins text some =
 
 -- tokens, or a first fault
 abbrev Cuts : List ℕ → Type 0
-Cuts text = ((tokens : List Token) × AreTokensOf tokens text) ⊎ ((fault : Fault) × IsFirstFault text fault)
+Cuts text = ((tokens : List Token) × AreTokensOf tokens text) ⊎ ((fault : Fault) × IsFirstTokenFault text fault)
 
 -- from an offset on, so many bytes before the end
 from_offset : (left : ℕ) (text : List ℕ) (tokens : List Token) (offset : ℕ) → CutTo text tokens offset → length text ≤ offset + left → Cuts text
@@ -269,5 +269,5 @@ from_offset (suc n) text tokens offset cut most =
         inr (found, CutTo-fault text tokens offset cut found (record { further = further; faulty = faulty; place = refl }))
 
 -- each text has tokens or a first fault
-pub tokens_or_first_fault : (text : List ℕ) → ((tokens : List Token) × AreTokensOf tokens text) ⊎ ((fault : Fault) × IsFirstFault text fault)
+pub tokens_or_first_fault : (text : List ℕ) → ((tokens : List Token) × AreTokensOf tokens text) ⊎ ((fault : Fault) × IsFirstTokenFault text fault)
 tokens_or_first_fault text = from_offset (length text) text [] 0 (CutTo-start text) (omega arith)

@@ -4,7 +4,7 @@ use Rattle.std.specs.Char.{is_digit}
 use Rattle.std.specs.List.{prefix_len}
 use Rattle.std.specs.Str.Parse.{IsNumeral, AllDigits}
 use Rattle.std.proofs.lemmas.List.{append_assoc}
-use Rattle.koika_syntax.specs.Lexemes.{Kind, HasKind, letter_of, radix_of}
+use Rattle.koika_syntax.specs.Lexemes.{LexemeKind, HasKind, letter_of, radix_of}
 use Rattle.koika_syntax.specs.declared.literal.Base.{Base}
 use Rattle.koika_syntax.specs.declared.literal.Base.TheVariants as bases
 use Rattle.koika_syntax.proofs.Longest.{NoneLonger, NoneLonger-from_family}
@@ -60,17 +60,17 @@ module _ (d : ℕ) (digits behind : List ℕ) (most : ℕ) (numeral : AllDigits 
       let width_length : length (d ∷ digits) ≡ length width = ap length parts.0 in
       omega (arith, bound, width_length, ap length text, length-append width (39 ∷ tail))
 
-  by_kind : (kind : Kind) (bytes rest : List ℕ) → family_at d ≡ family kind → d ∷ (digits ++ behind) ≡ (d ∷ bytes) ++ rest → HasKind kind (d ∷ bytes) → length (d ∷ bytes) ≤ most
-  by_kind Kind.blank bytes rest same whole has = let e : Kind.number ≡ Kind.blank = sym (family-digit d numeral.0) ∙ same in cc
-  by_kind Kind.comment bytes rest same whole has = let e : Kind.number ≡ Kind.comment = sym (family-digit d numeral.0) ∙ same in cc
-  by_kind Kind.word bytes rest same whole has = let e : Kind.number ≡ Kind.word = sym (family-digit d numeral.0) ∙ same in cc
-  by_kind Kind.symbol bytes rest same whole has = let e : Kind.number ≡ Kind.symbol = sym (family-digit d numeral.0) ∙ same in cc
-  by_kind Kind.number bytes rest same whole has =
+  by_kind : (kind : LexemeKind) (bytes rest : List ℕ) → family_at d ≡ family kind → d ∷ (digits ++ behind) ≡ (d ∷ bytes) ++ rest → HasKind kind (d ∷ bytes) → length (d ∷ bytes) ≤ most
+  by_kind LexemeKind.blank bytes rest same whole has = let e : LexemeKind.number ≡ LexemeKind.blank = sym (family-digit d numeral.0) ∙ same in cc
+  by_kind LexemeKind.comment bytes rest same whole has = let e : LexemeKind.number ≡ LexemeKind.comment = sym (family-digit d numeral.0) ∙ same in cc
+  by_kind LexemeKind.word bytes rest same whole has = let e : LexemeKind.number ≡ LexemeKind.word = sym (family-digit d numeral.0) ∙ same in cc
+  by_kind LexemeKind.symbol bytes rest same whole has = let e : LexemeKind.number ≡ LexemeKind.symbol = sym (family-digit d numeral.0) ∙ same in cc
+  by_kind LexemeKind.number bytes rest same whole has =
       let within = length-le-prefix_len (λ b. is_digit b 10) (d ∷ bytes) rest (list_all-from_digits 10 (d ∷ bytes) has.1) in
       omega (arith, within, ap (prefix_len (λ b. is_digit b 10)) whole, run, number)
-  by_kind Kind.literal bytes rest same whole (parts, literal) =
+  by_kind LexemeKind.literal bytes rest same whole (parts, literal) =
       tail_within parts.width (letter_of parts.base ∷ parts.value) (d ∷ bytes) rest literal.width literal.text (going parts.base parts.value literal.value.1) whole
-  by_kind Kind.unfinished bytes rest same whole (width, has_width, broken_off) =
+  by_kind LexemeKind.unfinished bytes rest same whole (width, has_width, broken_off) =
       ⊎_elim
       (λ text. tail_within width [] (d ∷ bytes) rest has_width text broken whole)
       (λ text. tail_within width (letter_of text.0 ∷ []) (d ∷ bytes) rest has_width text.1 (going text.0 [] tt) whole)

@@ -5,8 +5,8 @@ use Rattle.std.specs.List.{prefix_len}
 use Rattle.std.specs.Str.Parse.{IsNumeral, AllDigits}
 use Rattle.std.proofs.lemmas.List.{append-nil}
 use Rattle.kw_bits.specs.BitVector.{BitVector}
-use Rattle.koika_syntax.specs.Lexemes.{Kind, HasKind, IsWord, LiteralParts, IsLiteral, letter_of, IsLongest}
-use Rattle.koika_syntax.specs.Tokens.{IsToken, IsLiteralOf, width_of, value_of}
+use Rattle.koika_syntax.specs.Lexemes.{LexemeKind, HasKind, IsWord, LiteralParts, IsLiteral, letter_of, IsLongest}
+use Rattle.koika_syntax.specs.Tokens.{IsToken, IsLiteralOf, literal_width, value_of}
 use Rattle.koika_syntax.specs.declared.token.TokenKind.{TokenKind}
 use Rattle.koika_syntax.specs.declared.token.TokenKind.TheVariants as kinds
 use Rattle.koika_syntax.proofs.KeywordTable.{same_keyword, IsWord-keyword_text}
@@ -28,7 +28,7 @@ front_cases (x ∷ xs) ys (u ∷ us) vs whole =
     (front_cases xs ys us vs (ap (drop 1) whole))
 
 -- two longest lexemes at one place are one
-pub same_longest : (s t : Kind) (xs ys us vs : List ℕ) → xs ++ ys ≡ us ++ vs → HasKind s xs → IsLongest xs ys → HasKind t us → IsLongest us vs → (xs ≡ us) × (ys ≡ vs)
+pub same_longest : (s t : LexemeKind) (xs ys us vs : List ℕ) → xs ++ ys ≡ us ++ vs → HasKind s xs → IsLongest xs ys → HasKind t us → IsLongest us vs → (xs ≡ us) × (ys ≡ vs)
 same_longest s t xs ys us vs whole has longest has' longest' =
     ⊎_elim
     (λ case.
@@ -56,52 +56,52 @@ whole_not_broken : (parts : LiteralParts) (width tail bytes : List ℕ) → IsLi
 whole_not_broken parts width tail bytes literal numeral text =
     (apostrophe_split parts.width width (letter_of parts.base ∷ parts.value) tail literal.width.1 numeral.1 (sym literal.text ∙ text)).1
 
-number_not_literal : (bytes : List ℕ) → HasKind Kind.number bytes → HasKind Kind.literal bytes → ⊥
+number_not_literal : (bytes : List ℕ) → HasKind LexemeKind.number bytes → HasKind LexemeKind.literal bytes → ⊥
 number_not_literal bytes number (parts, literal) = not_digits parts.width (letter_of parts.base ∷ parts.value) (subst (AllDigits 10) literal.text number.1)
 
-number_not_unfinished : (bytes : List ℕ) → HasKind Kind.number bytes → HasKind Kind.unfinished bytes → ⊥
+number_not_unfinished : (bytes : List ℕ) → HasKind LexemeKind.number bytes → HasKind LexemeKind.unfinished bytes → ⊥
 number_not_unfinished bytes number (width, numeral, broken) =
     ⊎_elim
     (λ text. not_digits width [] (subst (AllDigits 10) text number.1))
     (λ text. not_digits width (letter_of text.0 ∷ []) (subst (AllDigits 10) text.1 number.1))
     broken
 
-literal_not_unfinished : (bytes : List ℕ) → HasKind Kind.literal bytes → HasKind Kind.unfinished bytes → ⊥
+literal_not_unfinished : (bytes : List ℕ) → HasKind LexemeKind.literal bytes → HasKind LexemeKind.unfinished bytes → ⊥
 literal_not_unfinished bytes (parts, literal) (width, numeral, broken) =
     ⊎_elim
     (λ text. let tail = whole_not_broken parts width [] bytes literal numeral text in omega (arith, ap length tail))
     (λ text. let tail = whole_not_broken parts width (letter_of text.0 ∷ []) bytes literal numeral text.1 in omega (arith, literal.value.0, ap length tail))
     broken
 
-by_family : (s t : Kind) (bytes : List ℕ) → family s ≡ family t → HasKind s bytes → HasKind t bytes → s ≡ t
-by_family Kind.blank t bytes same has has' = same ∙ only_kind t (λ e. let f : Kind.blank ≡ Kind.number = same ∙ e in cc)
-by_family Kind.comment t bytes same has has' = same ∙ only_kind t (λ e. let f : Kind.comment ≡ Kind.number = same ∙ e in cc)
-by_family Kind.word t bytes same has has' = same ∙ only_kind t (λ e. let f : Kind.word ≡ Kind.number = same ∙ e in cc)
-by_family Kind.number Kind.blank bytes same has has' = cc
-by_family Kind.number Kind.comment bytes same has has' = cc
-by_family Kind.number Kind.word bytes same has has' = cc
-by_family Kind.number Kind.number bytes same has has' = refl
-by_family Kind.number Kind.literal bytes same has has' = absurd (number_not_literal bytes has has')
-by_family Kind.number Kind.unfinished bytes same has has' = absurd (number_not_unfinished bytes has has')
-by_family Kind.number Kind.symbol bytes same has has' = cc
-by_family Kind.literal Kind.blank bytes same has has' = cc
-by_family Kind.literal Kind.comment bytes same has has' = cc
-by_family Kind.literal Kind.word bytes same has has' = cc
-by_family Kind.literal Kind.number bytes same has has' = absurd (number_not_literal bytes has' has)
-by_family Kind.literal Kind.literal bytes same has has' = refl
-by_family Kind.literal Kind.unfinished bytes same has has' = absurd (literal_not_unfinished bytes has has')
-by_family Kind.literal Kind.symbol bytes same has has' = cc
-by_family Kind.unfinished Kind.blank bytes same has has' = cc
-by_family Kind.unfinished Kind.comment bytes same has has' = cc
-by_family Kind.unfinished Kind.word bytes same has has' = cc
-by_family Kind.unfinished Kind.number bytes same has has' = absurd (number_not_unfinished bytes has' has)
-by_family Kind.unfinished Kind.literal bytes same has has' = absurd (literal_not_unfinished bytes has' has)
-by_family Kind.unfinished Kind.unfinished bytes same has has' = refl
-by_family Kind.unfinished Kind.symbol bytes same has has' = cc
-by_family Kind.symbol t bytes same has has' = same ∙ only_kind t (λ e. let f : Kind.symbol ≡ Kind.number = same ∙ e in cc)
+by_family : (s t : LexemeKind) (bytes : List ℕ) → family s ≡ family t → HasKind s bytes → HasKind t bytes → s ≡ t
+by_family LexemeKind.blank t bytes same has has' = same ∙ only_kind t (λ e. let f : LexemeKind.blank ≡ LexemeKind.number = same ∙ e in cc)
+by_family LexemeKind.comment t bytes same has has' = same ∙ only_kind t (λ e. let f : LexemeKind.comment ≡ LexemeKind.number = same ∙ e in cc)
+by_family LexemeKind.word t bytes same has has' = same ∙ only_kind t (λ e. let f : LexemeKind.word ≡ LexemeKind.number = same ∙ e in cc)
+by_family LexemeKind.number LexemeKind.blank bytes same has has' = cc
+by_family LexemeKind.number LexemeKind.comment bytes same has has' = cc
+by_family LexemeKind.number LexemeKind.word bytes same has has' = cc
+by_family LexemeKind.number LexemeKind.number bytes same has has' = refl
+by_family LexemeKind.number LexemeKind.literal bytes same has has' = absurd (number_not_literal bytes has has')
+by_family LexemeKind.number LexemeKind.unfinished bytes same has has' = absurd (number_not_unfinished bytes has has')
+by_family LexemeKind.number LexemeKind.symbol bytes same has has' = cc
+by_family LexemeKind.literal LexemeKind.blank bytes same has has' = cc
+by_family LexemeKind.literal LexemeKind.comment bytes same has has' = cc
+by_family LexemeKind.literal LexemeKind.word bytes same has has' = cc
+by_family LexemeKind.literal LexemeKind.number bytes same has has' = absurd (number_not_literal bytes has' has)
+by_family LexemeKind.literal LexemeKind.literal bytes same has has' = refl
+by_family LexemeKind.literal LexemeKind.unfinished bytes same has has' = absurd (literal_not_unfinished bytes has has')
+by_family LexemeKind.literal LexemeKind.symbol bytes same has has' = cc
+by_family LexemeKind.unfinished LexemeKind.blank bytes same has has' = cc
+by_family LexemeKind.unfinished LexemeKind.comment bytes same has has' = cc
+by_family LexemeKind.unfinished LexemeKind.word bytes same has has' = cc
+by_family LexemeKind.unfinished LexemeKind.number bytes same has has' = absurd (number_not_unfinished bytes has' has)
+by_family LexemeKind.unfinished LexemeKind.literal bytes same has has' = absurd (literal_not_unfinished bytes has' has)
+by_family LexemeKind.unfinished LexemeKind.unfinished bytes same has has' = refl
+by_family LexemeKind.unfinished LexemeKind.symbol bytes same has has' = cc
+by_family LexemeKind.symbol t bytes same has has' = same ∙ only_kind t (λ e. let f : LexemeKind.symbol ≡ LexemeKind.number = same ∙ e in cc)
 
 -- bytes have one kind
-pub same_kind : (s t : Kind) (bytes : List ℕ) → HasKind s bytes → HasKind t bytes → s ≡ t
+pub same_kind : (s t : LexemeKind) (bytes : List ℕ) → HasKind s bytes → HasKind t bytes → s ≡ t
 same_kind s t [] has has' = absurd (omega (arith, length-lexeme s [] has))
 same_kind s t (b ∷ bytes) has has' = by_family s t (b ∷ bytes) (sym (family-first s b bytes has) ∙ family-first t b bytes has') has has'
 
@@ -116,17 +116,17 @@ same_parts p q bytes is is' =
 same_bits : (a b : BitVector) (p q : LiteralParts) (bytes : List ℕ) → IsLiteral p bytes → IsLiteral q bytes → IsLiteralOf a p → IsLiteralOf b q → a ≡ b
 same_bits a b p q bytes is is' of of' =
     let parts = same_parts p q bytes is is' in
-    let width = of.width ∙ ap width_of parts ∙ sym of'.width in
+    let width = of.width ∙ ap literal_width parts ∙ sym of'.width in
     let number = of.number ∙ ap value_of parts ∙ sym of'.number in
     (λ i. record { width = width i; number = number i })
 
 -- the kind of a token
-abbrev pub kind_of : TokenKind → Kind
-kind_of kinds.Name = Kind.word
-kind_of (kinds.Number n) = Kind.number
-kind_of (kinds.Literal bits) = Kind.literal
-kind_of (kinds.Keyword keyword) = Kind.word
-kind_of (kinds.Symbol symbol) = Kind.symbol
+abbrev pub kind_of : TokenKind → LexemeKind
+kind_of kinds.Name = LexemeKind.word
+kind_of (kinds.Number n) = LexemeKind.number
+kind_of (kinds.Literal bits) = LexemeKind.literal
+kind_of (kinds.Keyword keyword) = LexemeKind.word
+kind_of (kinds.Symbol symbol) = LexemeKind.symbol
 
 pub HasKind-token : (kind : TokenKind) (bytes : List ℕ) → IsToken kind bytes → HasKind (kind_of kind) bytes
 HasKind-token kinds.Name bytes is = is.0

@@ -5,7 +5,7 @@ use Rattle.std.specs.Prelude.{◌≡◌, ℕ, ◌<◌, ◌^◌, Option, None, So
 use Rattle.std.specs.List.{AllZip, flat_map}
 use Rattle.kw_bits.specs.BitVector.{IsBitVector}
 use Rattle.koika_syntax.specs.Tokens.{IsToken}
-use Rattle.koika_syntax.specs.Tree.{Leaf, keyword, symbol, word, sign, placed, name_leaves, number_leaves, literal_leaves, width_leaves, all_of, joined, commas, in_braces, in_parentheses, unary_symbol, binary_symbol, comparison_word, extension_word, read_word, write_word, IsLeafAt}
+use Rattle.koika_syntax.specs.Tree.{Leaf, keyword, symbol, word, sign, placed, name_leaves, number_leaves, literal_leaves, width_leaves, all_of, with_between, commas, in_braces, in_parentheses, unary_symbol, binary_symbol, comparison_word, extension_word, read_word, write_word, IsLeafAt}
 use Rattle.koika_syntax.specs.declared.keyword.Keyword.TheVariants as keywords
 use Rattle.koika_syntax.specs.declared.symbol.Symbol.TheVariants as symbols
 use Rattle.koika_syntax.specs.declared.token.Token.{Token}
@@ -25,12 +25,12 @@ use Rattle.koika_syntax.specs.declared.tree.Expression.TheOpen as expression
 use Rattle.koika_syntax.specs.declared.tree.Field.{Field}
 use Rattle.koika_syntax.specs.declared.tree.FieldValue.{FieldValue, FieldValue-F}
 use Rattle.koika_syntax.specs.declared.tree.Literal.{Literal}
-use Rattle.koika_syntax.specs.declared.tree.Member.{Member}
+use Rattle.koika_syntax.specs.declared.tree.EnumMember.{EnumMember}
 use Rattle.koika_syntax.specs.declared.tree.Name.{Name}
 use Rattle.koika_syntax.specs.declared.tree.Number.{Number}
 use Rattle.koika_syntax.specs.declared.tree.Operand.{Operand, Operand-F, out-Operand}
-use Rattle.koika_syntax.specs.declared.tree.Part.{Part}
-use Rattle.koika_syntax.specs.declared.tree.Part.TheVariants as parts
+use Rattle.koika_syntax.specs.declared.tree.UpdatedPart.{UpdatedPart}
+use Rattle.koika_syntax.specs.declared.tree.UpdatedPart.TheVariants as parts
 use Rattle.koika_syntax.specs.declared.tree.Prefix.{Prefix}
 use Rattle.koika_syntax.specs.declared.tree.Scheduler.{Scheduler, Scheduler-F, fold-Scheduler, every-Scheduler}
 use Rattle.koika_syntax.specs.declared.tree.Statement.{Statement, Statement-F}
@@ -96,7 +96,7 @@ arm_step arm = placed (keyword keywords.If) arm.place ++ arm.condition ++ arm.bo
 
 -- the tokens of an `if`, by those of its arms and its last block
 abbrev pub if_leaves : List Leaves → Option Leaves → List Leaf
-if_leaves arms otherwise = joined (word keywords.Else) arms ++ last_leaves otherwise (λ block. word keywords.Else ++ block)
+if_leaves arms otherwise = with_between (word keywords.Else) arms ++ last_leaves otherwise (λ block. word keywords.Else ++ block)
 
 -- a chain: operands joined by operators
 abbrev pub operand_step : Operand-F Leaves Leaves Leaves Leaves Leaves Leaves → List Leaf
@@ -114,7 +114,7 @@ suffix_leaves (suffixes.Slice high low) =
     sign symbols.LeftBracket ++ number_leaves high ++ sign symbols.Colon ++ number_leaves low ++ sign symbols.RightBracket
 
 -- the tokens of the part that an update replaces
-abbrev pub part_leaves : Part → List Leaf
+abbrev pub part_leaves : UpdatedPart → List Leaf
 part_leaves (parts.Field n) = name_leaves n
 part_leaves (parts.Index index) = number_leaves index
 
@@ -160,7 +160,7 @@ unfoldable pub block_leaves : Block → List Leaf
 block_leaves = fold-Block Leaves Leaves Leaves Leaves Leaves Leaves expression_step statement_step arm_step block_step field_value_step operand_step
 
 -- member = NAME "=" LIT, and field = NAME ":" type
-abbrev pub member_leaves : Member → List Leaf
+abbrev pub member_leaves : EnumMember → List Leaf
 member_leaves member = name_leaves member.name ++ sign symbols.Equals ++ literal_leaves member.value
 
 -- the tokens of a struct's field
@@ -260,22 +260,22 @@ abbrev pub IsName : Name → Type 0
 IsName n = IsToken kinds.Name n.text
 
 -- a number is below 2^32
-abbrev pub IsNumber : Number → Type 0
-IsNumber n = n.value < 2 ^ 32
+abbrev pub NumberFits : Number → Type 0
+NumberFits n = n.value < 2 ^ 32
 
 -- a literal fits its width
-abbrev pub IsLiteral : Literal → Type 0
-IsLiteral l = IsBitVector l.bits.width l.bits.number
+abbrev pub LiteralFits : Literal → Type 0
+LiteralFits l = IsBitVector l.bits.width l.bits.number
 
 -- the number of a width is one
 abbrev pub IsWidth : Width → Type 0
-IsWidth w = IsNumber w.number
+IsWidth w = NumberFits w.number
 
 -- the names and numbers of a type are such
 abbrev pub IsType : TypeExpression → Type 0
 IsType (Bits width) = IsWidth width
 IsType (Named n) = IsName n
-IsType (Array' place _ element size) = IsType element × IsNumber size
+IsType (Array' place _ element size) = IsType element × NumberFits size
 
 -- what is repeated with commas is there at least once
 abbrev pub IsNonempty : {X : Type 0} → List X → Type 0
@@ -283,7 +283,7 @@ IsNonempty xs = 0 < length xs
 
 -- what a constant's own names, numbers and lists have to be
 abbrev pub IsConstantLayer : Constant-F Constant ConstantField → Type 0
-IsConstantLayer (constant.Literal l) = IsLiteral l
+IsConstantLayer (constant.Literal l) = LiteralFits l
 IsConstantLayer (constant.Member of member) = IsName of × IsName member
 IsConstantLayer (constant.Struct of fields close) = IsName of × IsNonempty fields.items
 IsConstantLayer (constant.Array place elements) = IsNonempty elements.items
@@ -299,13 +299,13 @@ IsConstant = every-Constant IsConstantLayer IsConstantFieldLayer
 -- a suffix's name and numbers are such
 abbrev pub IsSuffix : Suffix → Type 0
 IsSuffix (suffixes.Field n) = IsName n
-IsSuffix (suffixes.Index index) = IsNumber index
-IsSuffix (suffixes.Slice high low) = IsNumber high × IsNumber low
+IsSuffix (suffixes.Index index) = NumberFits index
+IsSuffix (suffixes.Slice high low) = NumberFits high × NumberFits low
 
 -- an updated part's name or number is one
-abbrev pub IsPart : Part → Type 0
+abbrev pub IsPart : UpdatedPart → Type 0
 IsPart (parts.Field n) = IsName n
-IsPart (parts.Index index) = IsNumber index
+IsPart (parts.Index index) = NumberFits index
 
 -- operands of a chain: each operator has the chain's level, and each operand holds together more tightly
 abbrev pub IsOperandAt : ℕ → Operand → Type 0
@@ -318,7 +318,7 @@ IsExpressionLayer (expression.Chain first rest) =
     IsNonempty rest.items × (level_of_chain rest.items < level first.value) × All (IsOperandAt (level_of_chain rest.items)) rest.items
 IsExpressionLayer (expression.Unary prefixes operand) = IsNonempty prefixes × (10 < level operand.value)
 IsExpressionLayer (expression.Postfix primary suffixes) = (11 < level primary.value) × IsNonempty suffixes × All IsSuffix suffixes
-IsExpressionLayer (expression.Literal l) = IsLiteral l
+IsExpressionLayer (expression.Literal l) = LiteralFits l
 IsExpressionLayer (expression.Name n) = IsName n
 IsExpressionLayer (expression.Call called arguments) = IsName called
 IsExpressionLayer (expression.Member of member) = IsName of × IsName member
@@ -331,7 +331,7 @@ IsExpressionLayer (expression.Write place port register value) = (port < 4) × I
 IsExpressionLayer (expression.Abort place) = ⊤
 IsExpressionLayer (expression.Pack place value) = ⊤
 IsExpressionLayer (expression.Unpack place to value) = IsType to
-IsExpressionLayer (expression.Extend place extension value width) = IsNumber width
+IsExpressionLayer (expression.Extend place extension value width) = NumberFits width
 IsExpressionLayer (expression.Compare place comparison left right) = ⊤
 IsExpressionLayer (expression.Update place whole part value) = IsPart part
 
@@ -361,8 +361,8 @@ unfoldable pub IsBlock : Block → Type 0
 IsBlock = every-Block IsExpressionLayer IsStatementLayer IsArmLayer IsBlockLayer IsFieldValueLayer IsOperandLayer
 
 -- a member has a name and a literal
-abbrev pub IsMember : Member → Type 0
-IsMember member = IsName member.name × IsLiteral member.value
+abbrev pub IsMember : EnumMember → Type 0
+IsMember member = IsName member.name × LiteralFits member.value
 
 -- a field has a name and a type
 abbrev pub IsField : Field → Type 0
@@ -374,7 +374,7 @@ IsDeclaration (declarations.Enum n width members) = IsName n × IsWidth width ×
 IsDeclaration (declarations.Struct n fields) = IsName n × IsNonempty fields × All IsField fields
 IsDeclaration (declarations.Register n of first) = IsName n × IsType of × IsConstant first
 IsDeclaration (declarations.Input n of) = IsName n × IsType of
-IsDeclaration (declarations.Table n input output entries) = IsName n × IsWidth input × IsWidth output × IsNonempty entries × All IsLiteral entries
+IsDeclaration (declarations.Table n input output entries) = IsName n × IsWidth input × IsWidth output × IsNonempty entries × All LiteralFits entries
 IsDeclaration (declarations.Host n input output) = IsName n × IsWidth input × IsWidth output
 IsDeclaration (declarations.Function n parameters result body) = IsName n × All IsField parameters × IfSome result IsType × IsBlock body
 IsDeclaration (declarations.Rule n body) = IsName n × IsBlock body

@@ -70,17 +70,17 @@ IsUnfinished bytes =
     (width : List ℕ) × IsNumeral 10 width × ((bytes ≡ width ++ 39 ∷ []) ⊎ ((base : Base) × (bytes ≡ width ++ 39 ∷ letter_of base ∷ [])))
 
 -- how lexemes look
-pub data Kind : Type 0 where
-  blank : Kind
-  comment : Kind
-  word : Kind
-  number : Kind
-  literal : Kind
-  unfinished : Kind
-  symbol : Kind
+pub data LexemeKind : Type 0 where
+  blank : LexemeKind
+  comment : LexemeKind
+  word : LexemeKind
+  number : LexemeKind
+  literal : LexemeKind
+  unfinished : LexemeKind
+  symbol : LexemeKind
 
 -- the bytes are a lexeme of this kind
-abbrev pub HasKind : Kind → List ℕ → Type 0
+abbrev pub HasKind : LexemeKind → List ℕ → Type 0
 HasKind blank bytes = (b : ℕ) × (bytes ≡ b ∷ []) × IsTrue (is_blank b)
 HasKind comment bytes = IsComment bytes
 HasKind word bytes = IsWord bytes
@@ -91,8 +91,8 @@ HasKind symbol bytes = (s : Symbol) × (bytes ≡ symbol_text s)
 
 -- no lexeme is longer: every front of what follows that makes one together with the bytes is empty
 abbrev pub IsLongest : (bytes rest : List ℕ) → Type 0
-IsLongest bytes rest = (kind : Kind) (more after : List ℕ) → rest ≡ more ++ after → HasKind kind (bytes ++ more) → more ≡ []
+IsLongest bytes rest = (kind : LexemeKind) (more after : List ℕ) → rest ≡ more ++ after → HasKind kind (bytes ++ more) → more ≡ []
 
 -- no front of the text is a lexeme
 abbrev pub BeginsNoLexeme : List ℕ → Type 0
-BeginsNoLexeme text = (kind : Kind) (bytes rest : List ℕ) → text ≡ bytes ++ rest → ¬ HasKind kind bytes
+BeginsNoLexeme text = (kind : LexemeKind) (bytes rest : List ℕ) → text ≡ bytes ++ rest → ¬ HasKind kind bytes

@@ -8,19 +8,19 @@ use Rattle.kw_base.specs.declared.fault.Fault.{Fault}
 use Rattle.kw_base.specs.Fault.{fault_at}
 use Rattle.kw_base.specs.Place.{place_at}
 use Rattle.kw_bits.specs.BitVector.{IsBitVector}
-use Rattle.koika_syntax.specs.Lexemes.{Kind, LiteralParts, IsLiteral, HasKind, IsLongest, BeginsNoLexeme}
-use Rattle.koika_syntax.specs.Tokens.{width_of, value_of, Piece, bytes_of, IsCut}
+use Rattle.koika_syntax.specs.Lexemes.{LexemeKind, LiteralParts, IsLiteral, HasKind, IsLongest, BeginsNoLexeme}
+use Rattle.koika_syntax.specs.Tokens.{literal_width, value_of, Piece, bytes_of, IsCut}
 
 -- a lexeme of this kind is no token: this is the fault, and it is this many bytes after the first one
-abbrev pub IsWrong : Kind → List ℕ → (number offset : ℕ) → Type 0
-IsWrong Kind.word bytes number offset = (64 < length bytes) × (number ≡ 14) × (offset ≡ 0)
-IsWrong Kind.number bytes number offset = (2 ^ 32 ≤ digits_value 10 bytes) × (number ≡ 13) × (offset ≡ 0)
-IsWrong Kind.literal bytes number offset =
-    (parts : LiteralParts) × IsLiteral parts bytes × (¬ IsBitVector (width_of parts) (value_of parts)) × (number ≡ 13) × (offset ≡ 0)
-IsWrong Kind.unfinished bytes number offset = (number ≡ 10) × (offset ≡ length bytes)
-IsWrong Kind.blank bytes number offset = ⊥
-IsWrong Kind.comment bytes number offset = ⊥
-IsWrong Kind.symbol bytes number offset = ⊥
+abbrev pub IsWrongLexeme : LexemeKind → List ℕ → (number offset : ℕ) → Type 0
+IsWrongLexeme LexemeKind.word bytes number offset = (64 < length bytes) × (number ≡ 14) × (offset ≡ 0)
+IsWrongLexeme LexemeKind.number bytes number offset = (2 ^ 32 ≤ digits_value 10 bytes) × (number ≡ 13) × (offset ≡ 0)
+IsWrongLexeme LexemeKind.literal bytes number offset =
+    (parts : LiteralParts) × IsLiteral parts bytes × (¬ IsBitVector (literal_width parts) (value_of parts)) × (number ≡ 13) × (offset ≡ 0)
+IsWrongLexeme LexemeKind.unfinished bytes number offset = (number ≡ 10) × (offset ≡ length bytes)
+IsWrongLexeme LexemeKind.blank bytes number offset = ⊥
+IsWrongLexeme LexemeKind.comment bytes number offset = ⊥
+IsWrongLexeme LexemeKind.symbol bytes number offset = ⊥
 
 -- the text begins with a byte that begins no lexeme
 pub record BeginsStray (text : List ℕ) (number offset : ℕ) : Type 0 where
@@ -31,20 +31,20 @@ pub record BeginsStray (text : List ℕ) (number offset : ℕ) : Type 0 where
 
 -- the longest lexeme that the text begins with is no token
 pub record BeginsWrong (text : List ℕ) (number offset : ℕ) : Type 0 where
-  pub kind : Kind
+  pub kind : LexemeKind
   pub bytes : List ℕ
   pub after : List ℕ
   pub front : text ≡ bytes ++ after
   pub lexeme : HasKind kind bytes
   pub longest : IsLongest bytes after
-  pub wrong : IsWrong kind bytes number offset
+  pub wrong : IsWrongLexeme kind bytes number offset
 
 -- the text begins with this fault, at this offset
 abbrev pub BeginsFaulty : List ℕ → (number offset : ℕ) → Type 0
 BeginsFaulty text number offset = BeginsStray text number offset ⊎ BeginsWrong text number offset
 
 -- the text is cut into blanks, comments and tokens up to some place, and after it begins with the fault
-pub record IsFirstFault (text : List ℕ) (fault : Fault) : Type 0 where
+pub record IsFirstTokenFault (text : List ℕ) (fault : Fault) : Type 0 where
   pub pieces : List Piece
   pub rest : List ℕ
   pub cut : IsCut pieces text rest

@@ -5,15 +5,15 @@ use Rattle.std.specs.Str.Parse.{IsNumeral, digits_value}
 use Rattle.kw_bits.specs.BitVector.{BitVector, IsBitVector}
 use Rattle.koika_syntax.specs.Keywords.{keyword_text}
 use Rattle.koika_syntax.specs.Symbols.{symbol_text}
-use Rattle.koika_syntax.specs.Lexemes.{IsWord, LiteralParts, IsLiteral, radix_of, Kind, HasKind, IsLongest}
+use Rattle.koika_syntax.specs.Lexemes.{IsWord, LiteralParts, IsLiteral, radix_of, LexemeKind, HasKind, IsLongest}
 use Rattle.koika_syntax.specs.declared.keyword.Keyword.{Keyword}
 use Rattle.koika_syntax.specs.declared.token.Token.{Token}
 use Rattle.koika_syntax.specs.declared.token.TokenKind.{TokenKind}
 use Rattle.koika_syntax.specs.declared.token.TokenKind.TheVariants as kinds
 
 -- the number that the digits of a literal's width write
-abbrev pub width_of : LiteralParts → ℕ
-width_of parts = digits_value 10 parts.width
+abbrev pub literal_width : LiteralParts → ℕ
+literal_width parts = digits_value 10 parts.width
 
 -- the number that the digits of its value write
 abbrev pub value_of : LiteralParts → ℕ
@@ -21,9 +21,9 @@ value_of parts = digits_value (radix_of parts.base) parts.value
 
 -- the bits of a literal: its width is from 1 to 128, and its value below 2 to the width
 pub record IsLiteralOf (bits : BitVector) (parts : LiteralParts) : Type 0 where
-  pub width : bits.width ≡ width_of parts
+  pub width : bits.width ≡ literal_width parts
   pub number : bits.number ≡ value_of parts
-  pub in_range : IsBitVector (width_of parts) (value_of parts)
+  pub in_range : IsBitVector (literal_width parts) (value_of parts)
 
 -- the bytes are a token of this kind
 abbrev pub IsToken : TokenKind → List ℕ → Type 0
@@ -45,7 +45,7 @@ bytes_of (token kind bytes) = bytes
 
 -- the piece is what it says of its bytes
 abbrev pub IsPiece : Piece → Type 0
-IsPiece (gap bytes) = HasKind Kind.blank bytes ⊎ HasKind Kind.comment bytes
+IsPiece (gap bytes) = HasKind LexemeKind.blank bytes ⊎ HasKind LexemeKind.comment bytes
 IsPiece (token kind bytes) = IsToken kind bytes
 
 -- the text begins with these pieces, each the longest lexeme at its place, and the rest follows

@@ -74,13 +74,13 @@ abbrev pub each_after : List Leaf → List (List Leaf) → List Leaf
 each_after between parts = flat_map (λ part. between ++ part) parts
 
 -- parts with the same tokens between them
-unfoldable pub joined : List Leaf → List (List Leaf) → List Leaf
-joined between [] = []
-joined between (part ∷ parts) = part ++ each_after between parts
+unfoldable pub with_between : List Leaf → List (List Leaf) → List Leaf
+with_between between [] = []
+with_between between (part ∷ parts) = part ++ each_after between parts
 
 -- parts with commas between them
 abbrev pub commas : List (List Leaf) → List Leaf
-commas parts = joined (sign symbols.Comma) parts
+commas parts = with_between (sign symbols.Comma) parts
 
 -- parts in brackets
 abbrev pub in_braces : List Leaf → List Leaf

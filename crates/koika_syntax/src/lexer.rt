@@ -6,7 +6,7 @@ ghost use Rattle.kw_base.specs.Fault.{IfFault, IsOkUnlessNoMemory, IsFaultUnless
 ghost use Rattle.kw_base.specs.declared.fault.Fault.{Fault};
 ghost use Rattle.koika_syntax.specs.inner.LexemeAnswers.{HasRead, BeginsFault, tokens_of, number_of, offset_of};
 ghost use Rattle.koika_syntax.specs.Tokens.{AreTokensOf, StandsIn, AreAscending};
-ghost use Rattle.koika_syntax.specs.TokenFaults.{BeginsFaulty, IsFirstFault};
+ghost use Rattle.koika_syntax.specs.TokenFaults.{BeginsFaulty, IsFirstTokenFault};
 
 use crate::front::{line_len, symbol};
 use crate::lexeme::Flaw;
@@ -23,11 +23,11 @@ pub fn lex(alloc: Global, text: &[u8]) -> Result<Vec<Token>, Refusal>
     ensures tokens { IfOk result (λ found. AreTokensOf found.items text.now) }
     ensures spans { IfOk result (λ found. All (StandsIn text.now) found.items) }
     ensures ascending { IfOk result (λ found. AreAscending found.items) }
-    ensures fault { IfFault result (IsFirstFault text.now) }
+    ensures fault { IfFault result (IsFirstTokenFault text.now) }
 
     // The tokens of a text are one list, its first fault is one, and no text has both.
     ensures accepted { (tokens : List Token) → AreTokensOf tokens text.now → IsOkUnlessNoMemory result (λ found. found.items ≡ tokens) }
-    ensures refused { (fault : Fault) → IsFirstFault text.now fault → IsFaultUnlessNoMemory result fault }
+    ensures refused { (fault : Fault) → IsFirstTokenFault text.now fault → IsFaultUnlessNoMemory result fault }
 {
     let mut tokens = Vec::new(alloc);
     let mut offset = 0;

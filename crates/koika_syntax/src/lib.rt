@@ -25,7 +25,7 @@ pub use operator::{BinaryOperator, Extension, SignedComparison, UnaryOperator};
 pub use symbol::Symbol;
 pub use token::{Token, TokenKind};
 pub use tree::{
-    Arm, Block, Choice, Constant, ConstantField, Declaration, Expression, Field, FieldValue,
-    Literal, Member, Name, Number, Operand, Part, Prefix, Scheduler, Statement, Suffix, Tree,
-    TypeExpression, Width,
+    Arm, Block, Choice, Constant, ConstantField, Declaration, EnumMember, Expression, Field,
+    FieldValue, Literal, Name, Number, Operand, Prefix, Scheduler, Statement, Suffix, Tree,
+    TypeExpression, UpdatedPart, Width,
 };

@@ -95,7 +95,7 @@ pub enum Suffix {
 
 /// The part that an update replaces.
 #[derive(Drop)]
-pub enum Part {
+pub enum UpdatedPart {
     Field(Name),
     Index(Number),
 }
@@ -190,7 +190,7 @@ pub enum Expression {
     Update {
         place: u32,
         whole: Box<Expression>,
-        part: Part,
+        part: UpdatedPart,
         value: Box<Expression>,
     },
 }
@@ -239,7 +239,7 @@ pub enum Statement {
 
 /// A member of an enum and its number.
 #[derive(Drop)]
-pub struct Member {
+pub struct EnumMember {
     pub name: Name,
     pub value: Literal,
 }
@@ -257,7 +257,7 @@ pub enum Declaration {
     Enum {
         name: Name,
         width: Width,
-        members: Sequence<Member>,
+        members: Sequence<EnumMember>,
     },
     Struct {
         name: Name,

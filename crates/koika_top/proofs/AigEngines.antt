@@ -5,16 +5,16 @@ use Rattle.one_rule.specs.Stimulus.{InputVectors, inputs_of}
 use Rattle.one_rule.specs.declared.rows.Row.{Row}
 use Rattle.aig_blast.specs.AigRun.{run_of}
 use Rattle.aig_blast.specs.AigSims.{Simulation, after_steps, beginning, rows_from}
-use Rattle.aig_blast.specs.Aigs.{AigParts, input_widths}
+use Rattle.aig_blast.specs.Aigs.{AigParts, input_word_widths}
 use Rattle.koika_top.specs.inner.Engines.{AigStandsAfter}
 use Rattle.koika_top.proofs.AigRows.{aig-steps-on, rows-of-aig-batch, steps-aig}
 
 -- a circuit that begins has run no cycle
-pub aig-stands-first : (sim : Simulation) (a : AigParts) (stimulus : InputVectors) → sim ≡ beginning a → stimulus.widths ≡ input_widths a.inputs → AigStandsAfter sim stimulus 0
+pub aig-stands-first : (sim : Simulation) (a : AigParts) (stimulus : InputVectors) → sim ≡ beginning a → stimulus.widths ≡ input_word_widths a.inputs → AigStandsAfter sim stimulus 0
 unfolding after_steps
 aig-stands-first sim a stimulus is widths =
     let same : sim.aig ≡ a = ap (λ (s : Simulation). s.aig) is in
-    record { steps = is ∙ ap beginning (sym same); widths = widths ∙ ap (λ (k : AigParts). input_widths k.inputs) (sym same) }
+    record { steps = is ∙ ap beginning (sym same); widths = widths ∙ ap (λ (k : AigParts). input_word_widths k.inputs) (sym same) }
 
 -- the rows of a batch
 pub aig-rows-in-batch : (sim : Simulation) (stimulus : InputVectors) (at to : ℕ) → AigStandsAfter sim stimulus at → at ≤ to
@@ -41,5 +41,5 @@ aig-stands-next sim new stimulus at to stands up is =
     let kept = aig-kept sim new inputs (to - at) at is in
     record {
       steps = is ∙ ap (after_steps inputs (to - at) at) stands.steps ∙ aig-steps-on inputs at to (beginning sim.aig) up ∙ ap (λ (a : AigParts). after_steps inputs to 0 (beginning a)) (sym kept);
-      widths = stands.widths ∙ ap (λ (a : AigParts). input_widths a.inputs) (sym kept);
+      widths = stands.widths ∙ ap (λ (a : AigParts). input_word_widths a.inputs) (sym kept);
     }

@@ -11,7 +11,7 @@ use Rattle.kw_base.specs.declared.fault.Refusal.{Refusal}
 use Rattle.kw_base.specs.declared.fault.Refusal.TheVariants as refusals
 use Rattle.one_rule.specs.Stimulus.{InputVectors}
 use Rattle.typed_core.specs.Valid.{IsWidth}
-use Rattle.aig_blast.specs.Aigs.{AigParts, IsInputWord, input_widths}
+use Rattle.aig_blast.specs.Aigs.{AigParts, IsInputWord, input_word_widths}
 use Rattle.aig_blast.specs.declared.aig.InputWord.{InputWord}
 use Rattle.aiger_text.specs.AigShapes as shapes
 use Rattle.aiger_text.specs.Reading.{aig_of}
@@ -56,7 +56,7 @@ few-inputs-told aig shape few is =
     omega (arith, count, few)
 
 -- the widths of a circuit's inputs as texts tell them
-widths-told : (inputs : List InputWord) → widths_of (map shapes.of_input inputs) ≡ input_widths inputs
+widths-told : (inputs : List InputWord) → widths_of (map shapes.of_input inputs) ≡ input_word_widths inputs
 widths-told inputs = map-map (λ (n : NameWidth). n.width) shapes.of_input inputs
 
 each-valid : (inputs : List InputWord) → AllByRecursion IsInputWord inputs → AllByRecursion IsWidth (widths_of (map shapes.of_input inputs))
@@ -70,7 +70,7 @@ aig-widths-valid aig shape all is =
     (All-from_recursion IsWidth (widths_of (map shapes.of_input aig.inputs)) (each-valid aig.inputs (recursion_from_All IsInputWord aig.inputs all)))
 
 -- a stimulus of the shape has the widths of the circuit's words of inputs
-pub aig-stimulus-fits : (aig : AigParts) (shape : Shape) (line : ℕ) (bytes : List ℕ) (stimulus : InputVectors) → shape ≡ shapes.shape_of aig → stimulus_of shape line bytes ≡ Ok stimulus → stimulus.widths ≡ input_widths aig.inputs
+pub aig-stimulus-fits : (aig : AigParts) (shape : Shape) (line : ℕ) (bytes : List ℕ) (stimulus : InputVectors) → shape ≡ shapes.shape_of aig → stimulus_of shape line bytes ≡ Ok stimulus → stimulus.widths ≡ input_word_widths aig.inputs
 aig-stimulus-fits aig shape line bytes stimulus is e =
     stimulus-widths shape line bytes stimulus e ∙ ap (λ (s : Shape). widths_of s.inputs) is ∙ widths-told aig.inputs
 

@@ -9,12 +9,12 @@ use Rattle.kw_base.specs.declared.fault.Fault.{Fault}
 use Rattle.aig_blast.specs.Aigs.{AigParts}
 use Rattle.aig_blast.specs.declared.aig.InputWord.{InputWord}
 use Rattle.aig_blast.specs.declared.gate.Gate.{Gate}
-use Rattle.aiger_text.specs.Cuts.{but_empty_last, ends_line, lines_of, number_of, numbers_of, without_returns}
+use Rattle.aiger_text.specs.Cuts.{but_empty_last, ends_line, lines_of, decimal_number, numbers_of, without_returns}
 use Rattle.aiger_text.specs.Cuts as cuts
 use Rattle.aiger_text.specs.Drafts.{Draft, defined, draft_by, draft_from, draft_in, draft_of, ended, fault_in, flaw_of, has_above, in_line, is_end, more_gates, more_inputs, more_latches, more_outputs, name_after, named_at, no_lines, output_by, put_symbol, section_of, symbol_at, symbol_by, symbol_of, unless, with_gate, with_input, with_latch, with_line, with_line_in, with_output, word_before}
 use Rattle.aiger_text.specs.Headers.{header_of, numbers_by}
 use Rattle.aiger_text.specs.Reading.{aig_by, aig_of, gates_of, lits_of, nexts_of, parts_by}
-use Rattle.aiger_text.specs.Runs.{Run, begun, goes_on, wider, words_from, words_of}
+use Rattle.aiger_text.specs.Runs.{WordRun, begun, goes_on, wider, words_from, words_of_bits}
 use Rattle.aiger_text.proofs.Lines.{aig_by-parts, parts_from}
 use Rattle.btor2_net.proofs.FewLines.{filter-fewer}
 use Rattle.stim_report.specs.Stimuli.{after, next_line}
@@ -105,7 +105,7 @@ symbol_at-grows d new kind (Some k) (b ∷ bytes) reads = symbol_by-grows d new 
 
 symbol_of-grows : (d new : Draft) (word name : List ℕ) → symbol_of d word name ≡ Ok new → Grows d new
 symbol_of-grows d new [] name reads = absurd (cc)
-symbol_of-grows d new (kind ∷ digits) name reads = symbol_at-grows d new kind (number_of digits) name reads
+symbol_of-grows d new (kind ∷ digits) name reads = symbol_at-grows d new kind (decimal_number digits) name reads
 
 -- a line is of one of two sections, as a test says
 line-of : (h : _) (d new : Draft) (line : List ℕ) (t : Bool) (x y : _) → (with_line_in x h d line ≡ Ok new → Grows d new) → (with_line_in y h d line ≡ Ok new → Grows d new) → with_line_in (cond t x y) h d line ≡ Ok new → Grows d new
@@ -193,7 +193,7 @@ one-of : (t : Bool) (xs ys : List InputWord) (n : ℕ) → length xs ≤ n → l
 one-of true xs ys n h k = h
 one-of false xs ys n h k = k
 
-few-from : (kind index : ℕ) (run : Run) (symbols : List (Option (List ℕ))) → length (words_from kind index run symbols) ≤ suc (length symbols)
+few-from : (kind index : ℕ) (run : WordRun) (symbols : List (Option (List ℕ))) → length (words_from kind index run symbols) ≤ suc (length symbols)
 few-from kind index run [] = omega arith
 few-from kind index run (symbol ∷ symbols) =
     let wide : List InputWord = words_from kind (index + 1) (wider run) symbols in
@@ -201,13 +201,13 @@ few-from kind index run (symbol ∷ symbols) =
     one-of (goes_on run symbol) wide (run.word ∷ others) (suc (suc (length symbols))) (omega (arith, few-from kind (index + 1) (wider run) symbols))
     (omega (arith, few-from kind (index + 1) (begun kind index symbol) symbols))
 
-few-of : (kind : ℕ) (symbols : List (Option (List ℕ))) → length (words_of kind symbols) ≤ length symbols
-unfolding words_of
+few-of : (kind : ℕ) (symbols : List (Option (List ℕ))) → length (words_of_bits kind symbols) ≤ length symbols
+unfolding words_of_bits
 few-of kind [] = omega arith
 few-of kind (symbol ∷ symbols) = few-from kind 1 (begun kind 0 symbol) symbols
 
 -- the words of inputs of a circuit
-words-in : (d : Draft) (a : AigParts) (nexts lits : Result (List ℕ) Fault) (gates : Result (List Gate) Fault) → parts_from d nexts lits gates ≡ Ok a → a.inputs ≡ words_of 105 d.inputs
+words-in : (d : Draft) (a : AigParts) (nexts lits : Result (List ℕ) Fault) (gates : Result (List Gate) Fault) → parts_from d nexts lits gates ≡ Ok a → a.inputs ≡ words_of_bits 105 d.inputs
 words-in d a (Ok nexts) (Ok lits) (Ok gates) is = let same : parts_by d nexts lits gates ≡ a = cc in sym (ap (λ (a : AigParts). a.inputs) same)
 words-in d a (Ok nexts) (Ok lits) (Err fault) is = absurd (cc)
 words-in d a (Ok nexts) (Err fault) gates is = absurd (cc)

@@ -191,29 +191,29 @@ made-lines c =
 
 -- ---- what the lines are
 
-no-bads-in : (lines : List Line) → AllByRecursion LineIsMade lines → text.lines_of is_bad lines ≡ []
+no-bads-in : (lines : List Line) → AllByRecursion LineIsMade lines → text.lines_by_rule is_bad lines ≡ []
 no-bads-in [] all = refl
 no-bads-in (line ∷ lines) all = rw all.0.no_bad (no-bads-in lines all.1)
 
 -- none is a bad line
-pub no-bads : (c : Wires) → text.lines_of is_bad (lines_of c) ≡ []
+pub no-bads : (c : Wires) → text.lines_by_rule is_bad (lines_of c) ≡ []
 no-bads c = no-bads-in (lines_of c) (recursion_from_All LineIsMade (lines_of c) (made-lines c).made)
 
 -- a line has a symbol
 abbrev pub HasSymbol : Line → Type 0
 HasSymbol line = (name : List ℕ) × (line.symbol ≡ Some name)
 
-named-by : (line : Line) (lines : List Line) (b : Bool) → is_output (rule_of line.keyword) ≡ b → LineIsMade line → AllByRecursion HasSymbol (text.lines_of is_output lines)
-    → AllByRecursion HasSymbol (text.lines_of is_output (line ∷ lines))
+named-by : (line : Line) (lines : List Line) (b : Bool) → is_output (rule_of line.keyword) ≡ b → LineIsMade line → AllByRecursion HasSymbol (text.lines_by_rule is_output lines)
+    → AllByRecursion HasSymbol (text.lines_by_rule is_output (line ∷ lines))
 named-by line lines true e is all = rw e (is.named e, all)
 named-by line lines false e is all = rw e all
 
-named-in : (lines : List Line) → AllByRecursion LineIsMade lines → AllByRecursion HasSymbol (text.lines_of is_output lines)
+named-in : (lines : List Line) → AllByRecursion LineIsMade lines → AllByRecursion HasSymbol (text.lines_by_rule is_output lines)
 named-in [] all = tt
 named-in (line ∷ lines) all = named-by line lines (is_output (rule_of line.keyword)) refl all.0 (named-in lines all.1)
 
 -- each output has its name as symbol
-pub outputs-named : (c : Wires) → AllByRecursion HasSymbol (text.lines_of is_output (lines_of c))
+pub outputs-named : (c : Wires) → AllByRecursion HasSymbol (text.lines_by_rule is_output (lines_of c))
 outputs-named c = named-in (lines_of c) (recursion_from_All LineIsMade (lines_of c) (made-lines c).made)
 
 -- each line's number is that of its place

@@ -14,9 +14,9 @@ use Rattle.btor2_text.specs.Reading.{AreLinesOf}
 use Rattle.btor2_text.specs.declared.line.Line.{Line}
 use Rattle.btor2_model.specs.Acceptance.{first_fault}
 use Rattle.btor2_model.specs.Rules.{is_bad, is_input, is_output, is_state, rule_of}
-use Rattle.btor2_model.specs.Run.{lines_of, width_in}
-use Rattle.btor2_model.specs.declared.rule.Rule.{Rule}
-use Rattle.btor2_net.specs.Translations.{HasLines, name_of}
+use Rattle.btor2_model.specs.Run.{lines_by_rule, width_in}
+use Rattle.btor2_model.specs.declared.rule.FormRule.{FormRule}
+use Rattle.btor2_net.specs.Translations.{HasLines, line_name}
 use Rattle.btor2_net.proofs.FewLines.{few-lines, filter-fewer}
 use Rattle.circuit_eval.specs.Circuits.{input_widths}
 use Rattle.circuit_eval.specs.declared.circuit.OutputWire.{OutputWire}
@@ -56,7 +56,7 @@ text-found source read lines short is are (Err e) same none = tt
 pub few-found : (source read : List ℕ) (lines : List Line) → length source ≤ longest_circuit → length read ≤ length source → AreLinesOf read lines
     → (r : Result (List Line) Refusal) → IfOk r (λ t. t ≡ lines) → IfOk r HasFewLines
 few-found source read lines short within are (Ok t) same =
-    subst HasFewLines (sym same) (λ (test : Rule → Bool). few-lines test read lines are (omega (arith, short, within)))
+    subst HasFewLines (sym same) (λ (test : FormRule → Bool). few-lines test read lines are (omega (arith, short, within)))
 few-found source read lines short within are (Err e) same = tt
 
 -- and a fault is that of the text
@@ -69,7 +69,7 @@ no-text source read lines short is are (Err refusals.NoMemory) h = tt
 -- ---- bad lines
 
 -- where no line is a bad line there are none
-pub none-bad : (lines : List Line) → list_any (λ (line : Line). is_bad (rule_of line.keyword)) lines ≡ false → lines_of is_bad lines ≡ []
+pub none-bad : (lines : List Line) → list_any (λ (line : Line). is_bad (rule_of line.keyword)) lines ≡ false → lines_by_rule is_bad lines ≡ []
 none-bad [] none = refl
 none-bad (line ∷ lines) none =
     let both = or-sides (is_bad (rule_of line.keyword)) (list_any (λ (line : Line). is_bad (rule_of line.keyword)) lines) none in
@@ -78,11 +78,11 @@ none-bad (line ∷ lines) none =
 -- the text that shows violations has as few lines
 pub few-shown : (lines shown : List Line) → HasFewLines lines → shown ≡ bads_as_outputs lines → HasFewLines shown
 few-shown lines shown few is test =
-    let kept : List Line = lines_of (λ (r : Rule). not (is_output r)) lines in
+    let kept : List Line = lines_by_rule (λ (r : FormRule). not (is_output r)) lines in
     let less = filter-fewer (λ (line : Line). test (rule_of line.keyword)) (map turned kept) in
     let count = length-map kept turned in
-    let bound : length (lines_of test (map turned kept)) < 2 ^ 32 = omega (arith, less, count, few (λ (r : Rule). not (is_output r))) in
-    subst (λ (ls : List Line). length (lines_of test ls) < 2 ^ 32) (sym is) bound
+    let bound : length (lines_by_rule test (map turned kept)) < 2 ^ 32 = omega (arith, less, count, few (λ (r : FormRule). not (is_output r))) in
+    subst (λ (ls : List Line). length (lines_by_rule test ls) < 2 ^ 32) (sym is) bound
 
 -- the circuit that shows violations has inputs of the same widths
 bad-widths : (lines : List Line) (c bads : Wires) → HasLines lines c → ShowsBads lines bads → input_widths c.inputs ≡ input_widths bads.inputs
@@ -94,16 +94,16 @@ pub bads-fit : (lines : List Line) (c : Wires) (bads : Option BadFlags) (stimulu
 bads-fit lines c None stimulus has are fits = tt
 bads-fit lines c (Some flags) stimulus has are fits = fits ∙ bad-widths lines c flags.circuit has are.0
 
-name-turned : (line : Line) → name_of (turned line) ≡ name_of line
+name-turned : (line : Line) → line_name (turned line) ≡ line_name line
 name-turned line = refl
 
-names-turned : (lines : List Line) → map name_of (map turned lines) ≡ map name_of lines
+names-turned : (lines : List Line) → map line_name (map turned lines) ≡ map line_name lines
 names-turned [] = refl
-names-turned (line ∷ lines) = ap (λ (names : List (List ℕ)). name_of line ∷ names) (names-turned lines)
+names-turned (line ∷ lines) = ap (λ (names : List (List ℕ)). line_name line ∷ names) (names-turned lines)
 
 -- and its outputs have their names
-pub bad-names : (lines : List Line) (bads : Wires) → ShowsBads lines bads → map (λ (wire : OutputWire). wire.name) bads.outputs ≡ map name_of (lines_of is_bad lines)
-bad-names lines bads shows = shows.has.outputs ∙ ap (map name_of) shows.shows.names ∙ names-turned (lines_of is_bad lines)
+pub bad-names : (lines : List Line) (bads : Wires) → ShowsBads lines bads → map (λ (wire : OutputWire). wire.name) bads.outputs ≡ map line_name (lines_by_rule is_bad lines)
+bad-names lines bads shows = shows.has.outputs ∙ ap (map line_name) shows.shows.names ∙ names-turned (lines_by_rule is_bad lines)
 
 -- ---- shapes and stimuli
 
@@ -143,14 +143,14 @@ refused-later cycles source (Err refusals.NoMemory) h = tt
 -- a run of the shape is too long, or isn't, where one of the text is
 pub long-as : (cycles : ℕ) (lines : List Line) (shape : Shape) (long : Bool) → shape ≡ text.shape_of lines → lengths.is_too_long cycles (length shape.registers) (length shape.rules) ≡ long → is_too_long cycles lines ≡ long
 long-as cycles lines shape long is h =
-    let named : Line → NameWidth = λ line. record { name = name_of line; width = width_in lines line.id } in
-    let states = ap (λ (s : Shape). length s.registers) is ∙ length-map (lines_of is_state lines) named in
-    let flags = ap (λ (s : Shape). length s.rules) is ∙ length-map (text.flag_lines lines) name_of in
+    let named : Line → NameWidth = λ line. record { name = line_name line; width = width_in lines line.id } in
+    let states = ap (λ (s : Shape). length s.registers) is ∙ length-map (lines_by_rule is_state lines) named in
+    let flags = ap (λ (s : Shape). length s.rules) is ∙ length-map (text.flag_lines lines) line_name in
     sym (ap₂ (lengths.is_too_long cycles) states flags) ∙ h
 
 -- the names of bad lines are few
-few-names : (lines : List Line) (names : List (List ℕ)) → HasFewLines lines → names ≡ map name_of (lines_of is_bad lines) → length names < 2 ^ 32
-few-names lines names few named = omega (arith, ap length named ∙ length-map (lines_of is_bad lines) name_of, few is_bad)
+few-names : (lines : List Line) (names : List (List ℕ)) → HasFewLines lines → names ≡ map line_name (lines_by_rule is_bad lines) → length names < 2 ^ 32
+few-names lines names few named = omega (arith, ap length named ∙ length-map (lines_by_rule is_bad lines) line_name, few is_bad)
 
 pub few-bads : (lines : List Line) (bads : Option BadFlags) → HasFewLines lines → AreBadsOf lines bads → IfSome bads (λ flags. length flags.names < 2 ^ 32)
 few-bads lines None few are = tt

@@ -8,9 +8,9 @@ use Rattle.one_rule.specs.Run.{InputsByCycle}
 use Rattle.one_rule.specs.Stimulus.{AlwaysFits, InputVectors, inputs_of}
 use Rattle.one_rule.specs.declared.rows.Row.{Row}
 use Rattle.btor2_model.specs.Rules.{is_bad}
-use Rattle.btor2_model.specs.Run.{lines_of, row_behind, rows_behind}
+use Rattle.btor2_model.specs.Run.{lines_by_rule, row_behind, rows_behind}
 use Rattle.btor2_text.specs.declared.line.Line.{Line}
-use Rattle.btor2_net.specs.Translations.{name_of}
+use Rattle.btor2_net.specs.Translations.{line_name}
 use Rattle.circuit_eval.specs.Circuits.{input_widths}
 use Rattle.circuit_eval.specs.Run as wired
 use Rattle.circuit_eval.specs.declared.circuit.Wires.{Wires}
@@ -52,8 +52,8 @@ module _ (bads : List Line) (is : Line → ℕ → Bool) (row : ℕ → Row) (fl
 
   -- the lines of those behind others
   lines-behind : (front back : List Line) → front ++ back ≡ bads → (from : ℕ) → from ≡ length front
-      → violated_lines (map name_of back) (map (λ mark. position_from (has_fired mark) 1 (map row (range_with_len 0 n))) (range_with_len from (length back)))
-      ≡ flat_map (λ bad. violated_line (name_of bad) (position_from (is bad) 1 (range_with_len 0 n))) back
+      → violated_lines (map line_name back) (map (λ mark. position_from (has_fired mark) 1 (map row (range_with_len 0 n))) (range_with_len from (length back)))
+      ≡ flat_map (λ bad. violated_line (line_name bad) (position_from (is bad) 1 (range_with_len 0 n))) back
   lines-behind front [] all from e = refl
   lines-behind front (bad ∷ back) all from e =
       let first =
@@ -61,27 +61,27 @@ module _ (bads : List Line) (is : Line → ℕ → Bool) (row : ℕ → Row) (fl
       ∙ position_from-map row (has_fired (length front)) (is bad) (flag-of front back bad all) 1 (range_with_len 0 n) in
       let next : length (front ++ bad ∷ []) ≡ length front + 1 = length-one-more front bad in
       let rest = lines-behind (front ++ bad ∷ []) back (append_assoc front (bad ∷ []) back ∙ all) (from + 1) (ap (λ (k : ℕ). k + 1) e ∙ sym next) in
-      ap₂ (λ (one : Option ℕ) (others : List ℕ). violated_line (name_of bad) one ++ others) first rest
+      ap₂ (λ (one : Option ℕ) (others : List ℕ). violated_line (line_name bad) one ++ others) first rest
     where
       length-one-more : (front : List Line) (bad : Line) → length (front ++ bad ∷ []) ≡ length front + 1
       length-one-more [] bad = refl
       length-one-more (line ∷ front) bad = omega (arith, length-one-more front bad)
 
 -- what is told of the circuit that shows violations is what is told of the text
-violations-told : (lines : List Line) (bads : Wires) (names : List (List ℕ)) (stimulus : InputVectors) (n : ℕ) → ShowsBads lines bads → names ≡ map name_of (lines_of is_bad lines)
+violations-told : (lines : List Line) (bads : Wires) (names : List (List ℕ)) (stimulus : InputVectors) (n : ℕ) → ShowsBads lines bads → names ≡ map line_name (lines_by_rule is_bad lines)
     → stimulus.widths ≡ input_widths bads.inputs → AlwaysFits stimulus
     → marked.violations names (range_with_len 0 (length names)) (wired.run_of bads (inputs_of stimulus) n) ≡ violations lines (inputs_of stimulus) n
 unfolding watched
 violations-told lines bads names stimulus n shows named widths always =
     let inputs : InputsByCycle = inputs_of stimulus in
-    let marks : List Line = lines_of is_bad lines in
+    let marks : List Line = lines_by_rule is_bad lines in
     let run = shows.runs stimulus n widths always in
     let behind = drop-none (rows_behind shows.shown inputs n) ∙ rows-one-by-one shows.shown inputs n in
-    let count : length (map name_of marks) ≡ length marks = length-map marks name_of in
+    let count : length (map line_name marks) ≡ length marks = length-map marks line_name in
     ap (λ (rows : List Row). violated_lines names (map (first_violated rows) (range_with_len 0 (length names)))) run
     ∙ ap (λ (rows : List Row). violated_lines names (map (λ mark. position_from (has_fired mark) 1 rows) (range_with_len 0 (length names)))) behind
     ∙ ap (λ (ns : List (List ℕ)). violated_lines ns (map (λ mark. position_from (has_fired mark) 1 (map (row_behind shows.shown inputs) (range_with_len 0 n))) (range_with_len 0 (length ns)))) named
-    ∙ ap (λ (k : ℕ). violated_lines (map name_of marks) (map (λ mark. position_from (has_fired mark) 1 (map (row_behind shows.shown inputs) (range_with_len 0 n))) (range_with_len 0 k))) count
+    ∙ ap (λ (k : ℕ). violated_lines (map line_name marks) (map (λ mark. position_from (has_fired mark) 1 (map (row_behind shows.shown inputs) (range_with_len 0 n))) (range_with_len 0 k))) count
     ∙ lines-behind marks (λ bad step. is_violated lines inputs step bad) (row_behind shows.shown inputs) (shows.shows.flags inputs) n [] marks refl 0 refl
 
 -- and where there is no such circuit, nothing is
@@ -89,6 +89,6 @@ pub bads-told : (lines : List Line) (bads : Option BadFlags) (stimulus : InputVe
     → IfSome bads (λ flags. stimulus.widths ≡ input_widths flags.circuit.inputs) → AlwaysFits stimulus
     → violations_by bads (inputs_of stimulus) n ≡ violations lines (inputs_of stimulus) n
 bads-told lines None stimulus n none widths always =
-    sym (ap (flat_map (λ (bad : Line). violated_line (name_of bad) (text.first_violated lines (inputs_of stimulus) n bad))) none)
+    sym (ap (flat_map (λ (bad : Line). violated_line (line_name bad) (text.first_violated lines (inputs_of stimulus) n bad))) none)
 bads-told lines (Some flags) stimulus n are widths always =
     violations-told lines flags.circuit flags.names stimulus n are.0 are.1 widths always

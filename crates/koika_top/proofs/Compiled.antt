@@ -10,10 +10,10 @@ use Rattle.one_rule.specs.Stimulus.{InputVectors, inputs_of}
 use Rattle.one_rule.specs.declared.rows.Row.{Row}
 use Rattle.one_rule.proofs.Runs.{rows_are_cycles}
 use Rattle.btor2_model.specs.Rules.{is_bad, is_input, is_output, is_state}
-use Rattle.btor2_model.specs.Run.{lines_of, width_in}
+use Rattle.btor2_model.specs.Run.{lines_by_rule, width_in}
 use Rattle.btor2_text.specs.Reading.{AreLinesOf}
 use Rattle.btor2_text.specs.declared.line.Line.{Line}
-use Rattle.btor2_net.specs.Translations.{name_of}
+use Rattle.btor2_net.specs.Translations.{line_name}
 use Rattle.koika_assert.specs.Bads.{is_violated}
 use Rattle.koika_assert.specs.Violations.{violated_line, violated_lines, violations, watched}
 use Rattle.koika_check.proofs.TypedTrees.{typed-design}
@@ -59,7 +59,7 @@ first-same p q k i (row ∷ rest) same =
 -- bad lines that are violated in the cycles in which marked rules fire
 lists-same : (bads : List Line) (marks : List ℕ) (is : Line → ℕ → Bool) (rest : List Row) → length bads ≡ length marks
     → ((j : ℕ) (row : Row) → slice_get rest j ≡ Some row → map (λ bad. is bad j) bads ≡ map (λ mark. has_fired mark row) marks)
-    → flat_map (λ bad. violated_line (name_of bad) (position_from (is bad) 1 (range_with_len 0 (length rest)))) bads ≡ violated_lines (map name_of bads) (map (λ mark. position_from (has_fired mark) 1 rest) marks)
+    → flat_map (λ bad. violated_line (line_name bad) (position_from (is bad) 1 (range_with_len 0 (length rest)))) bads ≡ violated_lines (map line_name bads) (map (λ mark. position_from (has_fired mark) 1 rest) marks)
 lists-same [] marks is rest count same = refl
 lists-same (bad ∷ bads) [] is rest count same = absurd (omega (arith, count))
 lists-same (bad ∷ bads) (mark ∷ marks) is rest count same =
@@ -67,7 +67,7 @@ lists-same (bad ∷ bads) (mark ∷ marks) is rest count same =
     λ j row e. let at : 0 + j ≡ j = omega arith in let both = same j row e in ap (is bad) at ∙ heads both
     in
     let tail : (j : ℕ) (row : Row) → slice_get rest j ≡ Some row → map (λ bad. is bad j) bads ≡ map (λ mark. has_fired mark row) marks = λ j row e. tails (same j row e) in
-    ap₂ (λ (first : Option ℕ) (others : List ℕ). violated_line (name_of bad) first ++ others) (first-same (is bad) (has_fired mark) 0 1 rest head)
+    ap₂ (λ (first : Option ℕ) (others : List ℕ). violated_line (line_name bad) first ++ others) (first-same (is bad) (has_fired mark) 0 1 rest head)
     (lists-same bads marks is rest (omega (arith, count)) tail)
   where
     heads : {x y : Bool} {xs ys : List Bool} → x ∷ xs ≡ y ∷ ys → x ≡ y
@@ -82,21 +82,21 @@ module _ (d : Checked) (lines : List Line) (are : AreCircuitOf d lines) where
   shape-same : text.shape_of lines ≡ sources.shape_of d
   shape-same =
       let width : Line → ℕ = λ l. width_in lines l.id in
-      let inputs = both-agree name_of width (λ (i : Input). i.name) (λ (i : Input). i.width) (lines_of is_input lines) d.inputs are.parts.inputs
-      (sym (map-map (width_in lines) (λ (l : Line). l.id) (lines_of is_input lines)) ∙ are.parts.input_widths) in
-      let registers = both-agree name_of width (λ (r : Register). r.name) (λ (r : Register). r.width) (lines_of is_state lines) d.registers are.parts.states
-      (sym (map-map (width_in lines) (λ (l : Line). l.id) (lines_of is_state lines)) ∙ are.parts.state_widths) in
-      let rules : map name_of (text.flag_lines lines) ≡ map sources.name_of d.rules = ap (map name_of) (flags-all lines d.rules are.parts.output_widths) ∙ are.parts.outputs in
+      let inputs = both-agree line_name width (λ (i : Input). i.name) (λ (i : Input). i.width) (lines_by_rule is_input lines) d.inputs are.parts.inputs
+      (sym (map-map (width_in lines) (λ (l : Line). l.id) (lines_by_rule is_input lines)) ∙ are.parts.input_widths) in
+      let registers = both-agree line_name width (λ (r : Register). r.name) (λ (r : Register). r.width) (lines_by_rule is_state lines) d.registers are.parts.states
+      (sym (map-map (width_in lines) (λ (l : Line). l.id) (lines_by_rule is_state lines)) ∙ are.parts.state_widths) in
+      let rules : map line_name (text.flag_lines lines) ≡ map sources.name_of d.rules = ap (map line_name) (flags-all lines d.rules are.parts.output_widths) ∙ are.parts.outputs in
       let shape : List NameWidth → List NameWidth → List (List ℕ) → Shape = λ is ss rs. record { inputs = is; registers = ss; rules = rs } in
       λ i. shape (inputs i) (registers i) (rules i)
 
   long-same : (cycles : ℕ) → text.is_too_long cycles lines ≡ lengths.is_too_long_for cycles d
   long-same cycles =
-      let states : length (lines_of is_state lines) ≡ length d.registers =
-      sym (length-map (lines_of is_state lines) name_of) ∙ ap length are.parts.states ∙ length-map d.registers (λ (r : Register). r.name)
+      let states : length (lines_by_rule is_state lines) ≡ length d.registers =
+      sym (length-map (lines_by_rule is_state lines) line_name) ∙ ap length are.parts.states ∙ length-map d.registers (λ (r : Register). r.name)
       in
       let flags : length (text.flag_lines lines) ≡ length d.rules =
-      ap length (flags-all lines d.rules are.parts.output_widths) ∙ sym (length-map (lines_of is_output lines) name_of) ∙ ap length are.parts.outputs ∙ length-map d.rules sources.name_of
+      ap length (flags-all lines d.rules are.parts.output_widths) ∙ sym (length-map (lines_by_rule is_output lines) line_name) ∙ ap length are.parts.outputs ∙ length-map d.rules sources.name_of
       in
       ap₂ (lengths.is_too_long cycles) states flags
 
@@ -112,14 +112,14 @@ module _ (d : Checked) (lines : List Line) (are : AreCircuitOf d lines) where
     violated-same : text.violations lines (inputs_of stimulus) n ≡ violations (marks_of d).names (marks_of d).rules (typed.run_of d (inputs_of stimulus) n)
     unfolding watched
     violated-same =
-        let bads = lines_of is_bad lines in
+        let bads = lines_by_rule is_bad lines in
         let is : Line → ℕ → Bool = λ bad step. is_violated lines (inputs_of stimulus) step bad in
         let rows = typed.run_of d (inputs_of stimulus) n in
-        let lens : length bads ≡ length d.asserts = sym (length-map bads name_of) ∙ ap length are.parts.bads ∙ length-map d.asserts (marked_name d) in
+        let lens : length bads ≡ length d.asserts = sym (length-map bads line_name) ∙ ap length are.parts.bads ∙ length-map d.asserts (marked_name d) in
         let same : (j : ℕ) (row : Row) → slice_get rest j ≡ Some row → map (λ bad. is bad j) bads ≡ map (λ mark. has_fired mark row) d.asserts =
         λ j row e. let at : j + 1 ≡ suc j = omega arith in are.violated stimulus n j row fits (ap (slice_get rows) at ∙ e)
         in
-        ap (λ (k : ℕ). flat_map (λ bad. violated_line (name_of bad) (position_from (is bad) 1 (range_with_len 0 k))) bads) (sym rest-count)
+        ap (λ (k : ℕ). flat_map (λ bad. violated_line (line_name bad) (position_from (is bad) 1 (range_with_len 0 k))) bads) (sym rest-count)
         ∙ lists-same bads d.asserts is rest lens same
         ∙ ap₂ violated_lines are.parts.bads (ap (λ (rs : List Row). map (λ mark. position_from (has_fired mark) 1 rs) d.asserts) (sym (drop-none rest)))
 

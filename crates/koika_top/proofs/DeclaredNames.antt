@@ -42,7 +42,7 @@ use Rattle.koika_check.specs.Scopes.{function_named, host_named, input_named, re
 use Rattle.koika_check.specs.Types.{enum_named, struct_named, type_of}
 use Rattle.koika_check.specs.declared.checked.Checked.{Checked}
 use Rattle.koika_check.specs.declared.checked.Register.{Register}
-use Rattle.koika_check.specs.declared.checked.Rule.{Rule}
+use Rattle.koika_check.specs.declared.checked.CheckedRule.{CheckedRule}
 use Rattle.koika_lower.specs.Lowering.{IsLowered, register_of as lowered_register}
 use Rattle.front_end.proofs.LoweredRuns.{twice}
 use Rattle.front_end.proofs.WordNames.{GivesSuch, behind, behind-any, given, unless-such}
@@ -152,11 +152,11 @@ new-register d n written first =
     behind-any (λ (one : Register). IsNew d n one.name) (constant_of first d) (register_known d name of) (λ known.
     unless-such (λ (one : Register). IsNew d n one.name) _ _ e)))
 
-new-rule : (d : Checked) (n : Name) (body : Block) → GivesSuch (λ (one : Rule). IsNew d n one.name) (rule_with d n body)
+new-rule : (d : Checked) (n : Name) (body : Block) → GivesSuch (λ (one : CheckedRule). IsNew d n one.name) (rule_with d n body)
 new-rule d n body =
-    behind (IsNew d n) (λ (one : Rule). IsNew d n one.name) (new_name d n) (rule_of d body) (new-name d n) (λ name e.
-    behind-any (λ (one : Rule). IsNew d n one.name) (block_in body (record { design = d; locals = [] })) (rule_typed name) (λ typing.
-    unless-such (λ (one : Rule). IsNew d n one.name) _ _ e))
+    behind (IsNew d n) (λ (one : CheckedRule). IsNew d n one.name) (new_name d n) (rule_of d body) (new-name d n) (λ name e.
+    behind-any (λ (one : CheckedRule). IsNew d n one.name) (block_in body (record { design = d; locals = [] })) (rule_typed name) (λ typing.
+    unless-such (λ (one : CheckedRule). IsNew d n one.name) _ _ e))
 
 pick : (a b c e f g h r : Bool) → (a || b || c || e || f || g || h || r) ≡ false → (c ≡ false) × (r ≡ false)
 pick false false false false false false false false is = (refl, refl)
@@ -182,7 +182,7 @@ abbrev registers_of : Checked → List (List ℕ)
 registers_of d = map (λ (r : Register). r.name) d.registers
 
 abbrev rules_of : Checked → List (List ℕ)
-rules_of d = map (λ (r : Rule). r.name) d.rules
+rules_of d = map (λ (r : CheckedRule). r.name) d.rules
 
 -- names that are words, and each its own
 pub record AreNames (names : List (List ℕ)) : Type 0 where
@@ -212,9 +212,9 @@ declared hosts (declarations.Table n input output entries) d is h = behind-any H
 declared hosts (declarations.Host n input output) d is h = behind-any HasDeclaredNames (host_with hosts d n input output) _ (λ one. record { registers = h.registers; rules = h.rules })
 declared hosts (declarations.Function n parameters written body) d is h = behind-any HasDeclaredNames (function_with d n parameters written body) _ (λ one. record { registers = h.registers; rules = h.rules })
 declared hosts (declarations.Rule n body) d is h =
-    behind (λ (one : Rule). IsNew d n one.name) HasDeclaredNames (rule_with d n body) _ (new-rule d n body) (λ one e. record {
+    behind (λ (one : CheckedRule). IsNew d n one.name) HasDeclaredNames (rule_with d n body) _ (new-rule d n body) (λ one e. record {
       registers = h.registers;
-      rules = names-push (λ (r : Rule). r.name) d.rules one n is.0 e.0 (unseen d n.text e.1).1 h.rules;
+      rules = names-push (λ (r : CheckedRule). r.name) d.rules one n is.0 e.0 (unseen d n.text e.1).1 h.rules;
     })
 declared hosts (declarations.Assert n) d is h = behind-any HasDeclaredNames (assert_with d n) _ (λ one. record { registers = h.registers; rules = h.rules })
 

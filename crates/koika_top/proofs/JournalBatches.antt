@@ -25,7 +25,7 @@ use Rattle.board_lock.proofs.Ranges.{each_of, every-append, every-map}
 use Rattle.cycle_driver.proofs.Rows.{rows_fit}
 use Rattle.journal_check.specs.Checking.{AreGood, IsGood, IsGoodBatch, left_by, opening_of}
 use Rattle.journal_check.specs.Journals.{lines_of_batch}
-use Rattle.journal_check.specs.Printing.{begin_tokens, ended, joined, journal_text, line_text, text_of}
+use Rattle.journal_check.specs.Printing.{begin_tokens, ended, joined_tokens, journal_text, line_text, text_of}
 use Rattle.journal_check.specs.declared.journal.Batch.{Batch}
 use Rattle.journal_check.specs.declared.journal.Journal.{Journal}
 use Rattle.koika_top.specs.Histories.{board_of}
@@ -55,7 +55,7 @@ flat-more {A} {B} {C} f g head xs ys =
 
 -- the text of batches after others
 pub journal_text-more : (core : Parts) (workers : ℕ) (xs ys : List Batch) → journal_text core (journal_of workers (xs ++ ys)) ≡ journal_text core (journal_of workers xs) ++ text_of core (flat_map lines_of_batch ys)
-journal_text-more core workers xs ys = flat-more (λ l. ended (line_text core l)) lines_of_batch (ended (joined (begin_tokens workers))) xs ys
+journal_text-more core workers xs ys = flat-more (λ l. ended (line_text core l)) lines_of_batch (ended (joined_tokens (begin_tokens workers))) xs ys
 
 -- and of one batch
 pub journal_text-one : (core : Parts) (workers : ℕ) (xs : List Batch) (b : Batch) → journal_text core (journal_of workers (xs ++ b ∷ [])) ≡ journal_text core (journal_of workers xs) ++ text_of core (lines_of_batch b)
@@ -182,18 +182,18 @@ module _ (core : Parts) (valid : IsValid core) (stimulus : InputVectors) (fits :
   unbegun a n = fails 0 (first_values core) (at a a n n) untold.NoMemory (first_values_fit core valid) (omega arith) (begun core stimulus cycles workers (at a a n n) (Err untold.NoMemory) (told-none _ a n))
 
   -- the first line was
-  pub opened : (text : List ℕ) (sink : Stream) (result : Result (Unit {0}) Untold) → text ≡ ended (joined (begin_tokens workers)) → Told text sink result → Written core stimulus cycles workers 0 (first_values core) sink result
-  opened text sink result is told = begun core stimulus cycles workers sink result (told-as _ _ sink result (is ∙ sym (append-nil (ended (joined (begin_tokens workers))))) told)
+  pub opened : (text : List ℕ) (sink : Stream) (result : Result (Unit {0}) Untold) → text ≡ ended (joined_tokens (begin_tokens workers)) → Told text sink result → Written core stimulus cycles workers 0 (first_values core) sink result
+  opened text sink result is told = begun core stimulus cycles workers sink result (told-as _ _ sink result (is ∙ sym (append-nil (ended (joined_tokens (begin_tokens workers))))) told)
 
-  pub opened_on : (text : List ℕ) (regs : List BitVector) (sink : Stream) (result : Result (Unit {0}) Untold) → text ≡ ended (joined (begin_tokens workers)) → regs ≡ first_values core → Told text sink result → Written core stimulus cycles workers 0 regs sink result
+  pub opened_on : (text : List ℕ) (regs : List BitVector) (sink : Stream) (result : Result (Unit {0}) Untold) → text ≡ ended (joined_tokens (begin_tokens workers)) → regs ≡ first_values core → Told text sink result → Written core stimulus cycles workers 0 regs sink result
   opened_on text regs sink result is same told = subst (λ (rs : List BitVector). Written core stimulus cycles workers 0 rs sink result) (sym same) (opened text sink result is told)
 
   -- its first bytes
-  pub opened_front : (text : List ℕ) (sink : Stream) (e : Untold) → text ≡ ended (joined (begin_tokens workers)) → Told text sink (Err e) → WritesJournal core stimulus cycles workers sink (Err e)
+  pub opened_front : (text : List ℕ) (sink : Stream) (e : Untold) → text ≡ ended (joined_tokens (begin_tokens workers)) → Told text sink (Err e) → WritesJournal core stimulus cycles workers sink (Err e)
   opened_front text sink e is told = fails 0 (first_values core) sink e (first_values_fit core valid) (omega arith) (opened text sink (Err e) is told)
 
   -- and then memory ran out
-  pub opened_only : (text : List ℕ) (sink : Stream) (u : Unit {0}) → text ≡ ended (joined (begin_tokens workers)) → Told text sink (Ok u) → WritesJournal core stimulus cycles workers sink (Err untold.NoMemory)
+  pub opened_only : (text : List ℕ) (sink : Stream) (u : Unit {0}) → text ≡ ended (joined_tokens (begin_tokens workers)) → Told text sink (Ok u) → WritesJournal core stimulus cycles workers sink (Err untold.NoMemory)
   opened_only text sink u is told = opened_front text sink untold.NoMemory is (told-as _ _ sink (Err untold.NoMemory) (append-nil text) (told-so-far text [] sink u told))
 
   module _ (from to : ℕ) (regs : List BitVector) (wide : HaveWidths (register_widths core) regs) (due : to ≡ min (from + 256) cycles) (less : from < cycles) (a b d : Option (List ℕ)) (l m n : ℕ) (u : Unit {0}) (so_far : Written core stimulus cycles workers from regs (at a b l m) (Ok u)) where

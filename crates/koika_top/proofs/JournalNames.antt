@@ -4,14 +4,14 @@ use Rattle.std.specs.Prelude.{◌==◌, not}
 use Rattle.std.specs.List.{AllByRecursion, list_all}
 use Rattle.std.proofs.lemmas.Bool.{eqb-true, false≢true}
 use Rattle.std.proofs.lemmas.List.Elements.{recursion_from_All}
-use Rattle.btor2_text.specs.Printable.{IsToken, is_plain}
+use Rattle.btor2_text.specs.Printable.{IsPlainToken, is_plain}
 use Rattle.typed_core.specs.declared.design.Parts.{Parts}
 use Rattle.typed_core.specs.declared.design.RegDecl.{RegDecl}
 use Rattle.journal_check.specs.Reading as reading
 use Rattle.journal_check.specs.Tokens.{is_space, register_names}
 use Rattle.koika_check.specs.declared.checked.Checked.{Checked}
 use Rattle.koika_check.specs.declared.checked.Register.{Register}
-use Rattle.koika_check.specs.declared.checked.Rule.{Rule}
+use Rattle.koika_check.specs.declared.checked.CheckedRule.{CheckedRule}
 use Rattle.koika_lower.specs.Lowering.{IsLowered, register_of}
 use Rattle.front_end.specs.Names.{HasWordNames}
 use Rattle.front_end.proofs.LoweredRuns.{twice}
@@ -32,10 +32,10 @@ bytes-plain (b ∷ bytes) all =
     let later = bytes-plain bytes (and-right (is_plain b) (list_all is_plain bytes) all) in
     rw here later
 
-token-plain : (name : List ℕ) → IsToken name → reading.IsPlain name
+token-plain : (name : List ℕ) → IsPlainToken name → reading.IsPlain name
 token-plain name token = bytes-plain name token.plain
 
-all-plain : {X : Type 0} (name : X → List ℕ) (xs : List X) → AllByRecursion (λ x. IsToken (name x)) xs → AllByRecursion reading.IsPlain (map name xs)
+all-plain : {X : Type 0} (name : X → List ℕ) (xs : List X) → AllByRecursion (λ x. IsPlainToken (name x)) xs → AllByRecursion reading.IsPlain (map name xs)
 all-plain name [] all = tt
 all-plain name (x ∷ xs) all = (token-plain (name x) all.0, all-plain name xs all.1)
 
@@ -45,6 +45,6 @@ lowered-plain d core lowered names =
     let registers : register_names core ≡ map (λ (r : Register). r.name) d.registers =
     ap (map (λ (decl : RegDecl). decl.name)) lowered.registers ∙ twice register_of (λ (decl : RegDecl). decl.name) d.registers in
     record {
-      registers = subst (AllByRecursion reading.IsPlain) (sym registers) (all-plain (λ (r : Register). r.name) d.registers (recursion_from_All (λ (r : Register). IsToken r.name) d.registers (words-tokens (λ (r : Register). r.name) d.registers names.registers)));
-      rules = subst (AllByRecursion reading.IsPlain) (sym lowered.names) (all-plain (λ (r : Rule). r.name) d.rules (recursion_from_All (λ (r : Rule). IsToken r.name) d.rules (words-tokens (λ (r : Rule). r.name) d.rules names.rules)));
+      registers = subst (AllByRecursion reading.IsPlain) (sym registers) (all-plain (λ (r : Register). r.name) d.registers (recursion_from_All (λ (r : Register). IsPlainToken r.name) d.registers (words-tokens (λ (r : Register). r.name) d.registers names.registers)));
+      rules = subst (AllByRecursion reading.IsPlain) (sym lowered.names) (all-plain (λ (r : CheckedRule). r.name) d.rules (recursion_from_All (λ (r : CheckedRule). IsPlainToken r.name) d.rules (words-tokens (λ (r : CheckedRule). r.name) d.rules names.rules)));
     }

@@ -32,7 +32,7 @@ use Rattle.journal_check.proofs.WrittenJournals.{AreIn, IsIn, lines_fit, read-ba
 use Rattle.koika_check.specs.Typing.{IsRegister, IsTypedDesign}
 use Rattle.koika_check.specs.declared.checked.Checked.{Checked}
 use Rattle.koika_check.specs.declared.checked.Register.{Register}
-use Rattle.koika_check.specs.declared.checked.Rule.{Rule}
+use Rattle.koika_check.specs.declared.checked.CheckedRule.{CheckedRule}
 use Rattle.koika_check.proofs.TypedTrees.{typed-design}
 use Rattle.koika_lower.specs.Lowering.{IsLowered, register_of}
 use Rattle.koika_lower.proofs.Values.{constant-stands}
@@ -97,7 +97,7 @@ module _ (d : Checked) (typed : IsTypedDesign d) where
 
     core-nodes : AreNodes (length core.rules) core.nodes
     core-nodes =
-        let count : length core.rules ≡ length d.rules = sym (length-map core.rules (λ (c : CoreRule). c.name)) ∙ ap length lowered.names ∙ length-map d.rules (λ (r : Rule). r.name) in
+        let count : length core.rules ≡ length d.rules = sym (length-map core.rules (λ (c : CoreRule). c.name)) ∙ ap length lowered.names ∙ length-map d.rules (λ (r : CheckedRule). r.name) in
         subst (λ (k : ℕ). AreNodes k core.nodes) (sym count) (subst (AreNodes (length d.rules)) (sym lowered.nodes) typed.nodes)
 
 -- ---- entries

@@ -9,7 +9,7 @@ use Rattle.std.proofs.lemmas.Bool.Decides.{nat_tests}
 use Rattle.std.proofs.lemmas.List.{append-nil, append_assoc, drop-append-le, length-drop, take-append-le}
 use Rattle.std.proofs.lemmas.List.Elements.{recursion_from_All}
 use Rattle.koika_syntax.specs.Grammar.{Derives, tree_leaves}
-use Rattle.koika_syntax.specs.Lexemes.{HasKind, IsLongest, Kind, LiteralParts, continues_word, letter_of, literal_text, radix_of, stays_on_line}
+use Rattle.koika_syntax.specs.Lexemes.{HasKind, IsLongest, LexemeKind, LiteralParts, continues_word, letter_of, literal_text, radix_of, stays_on_line}
 use Rattle.koika_syntax.specs.Symbols.{symbol_text}
 use Rattle.koika_syntax.specs.Tokens.{AreTokensOf, IsCut, Piece, StandsIn, bytes_of, tokens_behind}
 use Rattle.koika_syntax.specs.Tree.{IsLeafAt, Leaf, Terminal, terminal_of}
@@ -82,17 +82,17 @@ symbol_stays : (s : Symbol) → OnLine (symbol_text s)
 symbol_stays s = grind (arith, nat_tests, symbol_text)
 
 -- a lexeme of more than one byte has no line feed
-lexeme_stays : (kind : Kind) (bytes : List ℕ) → HasKind kind bytes → 1 < length bytes → OnLine bytes
-lexeme_stays Kind.blank bytes has more = absurd (omega (arith, ap length has.1, more))
-lexeme_stays Kind.comment bytes has more = subst OnLine (sym has.1) has.2
-lexeme_stays Kind.word [] has more = absurd has
-lexeme_stays Kind.word (b ∷ bytes) has more =
+lexeme_stays : (kind : LexemeKind) (bytes : List ℕ) → HasKind kind bytes → 1 < length bytes → OnLine bytes
+lexeme_stays LexemeKind.blank bytes has more = absurd (omega (arith, ap length has.1, more))
+lexeme_stays LexemeKind.comment bytes has more = subst OnLine (sym has.1) has.2
+lexeme_stays LexemeKind.word [] has more = absurd has
+lexeme_stays LexemeKind.word (b ∷ bytes) has more =
     no_feeds continues_word (b ∷ bytes) refl (and-true (continues_word b) (list_all continues_word bytes) (continues-from_begins b has.0) has.1)
-lexeme_stays Kind.number bytes has more = width_stays bytes has
-lexeme_stays Kind.literal bytes has more = subst OnLine (sym has.1.text) (literal_stays has.0 has.1.width (value_stays has.0 has.1.value))
-lexeme_stays Kind.unfinished bytes (width, is, inl text) more = subst OnLine (sym text) (both width (39 ∷ []) (width_stays width is) refl)
-lexeme_stays Kind.unfinished bytes (width, is, inr text) more = subst OnLine (sym text.1) (literal_stays (record { width = width; base = text.0; value = [] }) is refl)
-lexeme_stays Kind.symbol bytes has more = subst OnLine (sym has.1) (symbol_stays has.0)
+lexeme_stays LexemeKind.number bytes has more = width_stays bytes has
+lexeme_stays LexemeKind.literal bytes has more = subst OnLine (sym has.1.text) (literal_stays has.0 has.1.width (value_stays has.0 has.1.value))
+lexeme_stays LexemeKind.unfinished bytes (width, is, inl text) more = subst OnLine (sym text) (both width (39 ∷ []) (width_stays width is) refl)
+lexeme_stays LexemeKind.unfinished bytes (width, is, inr text) more = subst OnLine (sym text.1) (literal_stays (record { width = width; base = text.0; value = [] }) is refl)
+lexeme_stays LexemeKind.symbol bytes has more = subst OnLine (sym has.1) (symbol_stays has.0)
 
 -- ---- pieces
 

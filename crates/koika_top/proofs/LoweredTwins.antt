@@ -14,11 +14,11 @@ use Rattle.attempt_log.specs.Trace.{IsTrace, ReadsFit, retrace, trace_ports}
 use Rattle.attempt_log.proofs.Traces.{PortsFit-trace}
 use Rattle.journal_check.specs.Twins.{AreTwins}
 use Rattle.koika_check.specs.declared.checked.Checked.{Checked}
-use Rattle.koika_lower.specs.Lowering.{IsLowered, input_widths, register_widths}
+use Rattle.koika_lower.specs.Lowering.{IsLowered, typed_input_widths, register_widths}
 use Rattle.koika_lower.proofs.TwoLowerings.{lowerings_do_alike}
 use Rattle.front_end.proofs.LoweredRuns.{not_past, registers-wide, rules-count}
 
-module _ (d : Checked) (wide : All IsWidth (register_widths d)) (inputs : List BitVector) (fit : HaveWidths (input_widths d) inputs) (rule : ℕ) (a b : Parts) (left : IsLowered d a) (right : IsLowered d b) where
+module _ (d : Checked) (wide : All IsWidth (register_widths d)) (inputs : List BitVector) (fit : HaveWidths (typed_input_widths d) inputs) (rule : ℕ) (a b : Parts) (left : IsLowered d a) (right : IsLowered d b) where
   -- as many rules
   rules-same : length a.rules ≡ length b.rules
   rules-same = rules-count d a left ∙ sym (rules-count d b right)
@@ -45,7 +45,7 @@ module _ (d : Checked) (wide : All IsWidth (register_widths d)) (inputs : List B
       }
 
 -- on a stimulus that always fits
-pub lowered-twins : (d : Checked) (stimulus : InputVectors) (a b : Parts) → All IsWidth (register_widths d) → ((cycle : ℕ) → HaveWidths (input_widths d) (inputs_of stimulus cycle)) → IsLowered d a → IsLowered d b → AreTwins stimulus a b
+pub lowered-twins : (d : Checked) (stimulus : InputVectors) (a b : Parts) → All IsWidth (register_widths d) → ((cycle : ℕ) → HaveWidths (typed_input_widths d) (inputs_of stimulus cycle)) → IsLowered d a → IsLowered d b → AreTwins stimulus a b
 lowered-twins d stimulus a b wide fit left right =
     let alike = lowerings_do_alike d a b left right in
     record {

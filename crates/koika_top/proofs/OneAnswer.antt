@@ -15,7 +15,7 @@ use Rattle.koika_parse.proofs.Unambiguous.{one_tree}
 use Rattle.koika_check.specs.BitWeights.{bit_weight}
 use Rattle.koika_check.specs.Checks.{checked}
 use Rattle.koika_check.specs.Counts.{counts_of}
-use Rattle.koika_check.specs.Outcomes.{Outcome, Fails, Gives}
+use Rattle.koika_check.specs.Outcomes.{CheckResult, Fails, Gives}
 use Rattle.koika_check.specs.declared.checked.Checked.{Checked}
 use Rattle.koika_check.specs.declared.stop.Wrong.{Wrong}
 use Rattle.one_rule.specs.Stimulus.{InputVectors, inputs_of}

@@ -6,7 +6,7 @@ use Rattle.typed_core.specs.Widths.{HaveWidths}
 use Rattle.typed_core.specs.declared.design.Parts.{Parts as Core}
 use Rattle.one_rule.specs.Stimulus.{InputVectors, inputs_of}
 use Rattle.stim_report.specs.Cuts.{lines_of}
-use Rattle.journal_check.specs.Checking.{IsFirstFault, IsGood}
+use Rattle.journal_check.specs.Checking.{IsFirstJournalFault, IsGood}
 use Rattle.journal_check.specs.Reading as reading
 use Rattle.journal_check.specs.Reading.{IsFirstMalformed, IsJournal}
 use Rattle.journal_check.specs.Twins.{AreTwins}
@@ -15,7 +15,7 @@ use Rattle.journal_check.proofs.OneFault.{good_excludes_faults, one_first_fault}
 use Rattle.journal_check.proofs.OneJournal.{no_malformed, one_journal, one_malformed}
 use Rattle.journal_check.proofs.Twins.{twins_fail_alike, twins_pass_alike, twins_read_alike, twins_stop_alike}
 use Rattle.koika_check.specs.declared.checked.Checked.{Checked}
-use Rattle.koika_lower.specs.Lowering.{IsLowered, input_widths}
+use Rattle.koika_lower.specs.Lowering.{IsLowered, typed_input_widths}
 use Rattle.koika_top.specs.Answer.{IsSameAnswer, text_of}
 use Rattle.koika_top.specs.Journal.{is_too_heavy}
 use Rattle.koika_top.specs.Recheck.{AnswersRecheck, HasNoLength, HasNoLines, IsRefusedBefore, IsWrong, MayHaveJournal, ShowsChecked}
@@ -76,7 +76,7 @@ module _ (hosts : List HostSpec) (cycles : ℕ) (bytes : List ℕ) where
       lowered-plain d core lowered (word-names hosts design.tree d design.spelled.derived.design.declarations design.typed)
 
   -- the stimulus fits
-  fits : (d : Checked) (s : InputVectors) → SpellsBoth hosts bytes d s → (cycle : ℕ) → HaveWidths (input_widths d) (inputs_of s cycle)
+  fits : (d : Checked) (s : InputVectors) → SpellsBoth hosts bytes d s → (cycle : ℕ) → HaveWidths (typed_input_widths d) (inputs_of s cycle)
   fits d s h cycle =
       let shape = shape_of d in
       let parts = parts_of bytes in
@@ -103,8 +103,8 @@ module _ (hosts : List HostSpec) (cycles : ℕ) (bytes : List ℕ) where
     pub pass-across : (j : Journal) → IsGood other r cycles j → IsGood core s cycles j
     pass-across j h = twins_pass_alike s other core cycles j twins (subst (λ (x : InputVectors). IsGood other x cycles j) given h)
 
-    fail-across : (j : Journal) (f : Fault) → IsFirstFault other r cycles j f → IsFirstFault core s cycles j f
-    fail-across j f h = twins_fail_alike s other core cycles j f twins (subst (λ (x : InputVectors). IsFirstFault other x cycles j f) given h)
+    fail-across : (j : Journal) (f : Fault) → IsFirstJournalFault other r cycles j f → IsFirstJournalFault core s cycles j f
+    fail-across j f h = twins_fail_alike s other core cycles j f twins (subst (λ (x : InputVectors). IsFirstJournalFault other x cycles j f) given h)
 
   -- what is said of the third part with one design of the core
   module _ (d : Checked) (s : InputVectors) (core : Core) (may : MayHaveJournal hosts cycles bytes d s) (lowered : IsLowered d core) where
@@ -116,14 +116,14 @@ module _ (hosts : List HostSpec) (cycles : ℕ) (bytes : List ℕ) where
     pub read_or_stop : (j : Journal) (f : Fault) → IsJournal core s line text j → IsFirstMalformed core s line text f → ⊥
     read_or_stop j f h k = no_malformed core s line text j f (core-plain d core may.spelled.first lowered) h k
 
-    pub good_or_wrong : (a b : Journal) (f : Fault) → IsJournal core s line text a → IsJournal core s line text b → IsGood core s cycles a → IsFirstFault core s cycles b f → ⊥
+    pub good_or_wrong : (a b : Journal) (f : Fault) → IsJournal core s line text a → IsJournal core s line text b → IsGood core s cycles a → IsFirstJournalFault core s cycles b f → ⊥
     good_or_wrong a b f h k good wrong = good_excludes_faults core s cycles b f (subst (IsGood core s cycles) (one_read a b h k) good) wrong
 
     abbrev Stops : Fault → Type 0
     Stops f = IsFirstMalformed core s line text f
 
     abbrev Fails : Fault → Type 0
-    Fails f = (j : Journal) × IsJournal core s line text j × IsFirstFault core s cycles j f
+    Fails f = (j : Journal) × IsJournal core s line text j × IsFirstJournalFault core s cycles j f
 
     -- another such source has these faults with this design of the core
     stops-here : (f : Fault) → HasNoLines hosts cycles bytes f → Stops f
@@ -138,7 +138,7 @@ module _ (hosts : List HostSpec) (cycles : ℕ) (bytes : List ℕ) where
     stop-same f g h k = one_malformed core s line (core-plain d core may.spelled.first lowered) text f g h k
 
     fail-same : (f g : Fault) → Fails f → Fails g → f ≡ g
-    fail-same f g h k = one_first_fault core s cycles k.0 f g (subst (λ (j : Journal). IsFirstFault core s cycles j f) (one_read h.0 k.0 h.1 k.1) h.2) k.2
+    fail-same f g h k = one_first_fault core s cycles k.0 f g (subst (λ (j : Journal). IsFirstJournalFault core s cycles j f) (one_read h.0 k.0 h.1 k.1) h.2) k.2
 
     looked-same : (f g : Fault) → Stops f ⊎ Fails f → Stops g ⊎ Fails g → f ≡ g
     looked-same f g (inl h) (inl k) = stop-same f g h k

@@ -4,7 +4,7 @@ use Rattle.std.specs.Prelude.{codes, IfSome, if◌then◌else◌}
 use Rattle.std.specs.Str.{bytes_eq}
 use Rattle.koika_top.specs.inner.Steps.{IsAlone, RunsBy}
 use Rattle.koika_top.specs.Words.{aigsim_by, aigsim_of, alone_of, asked_flag, asked_for, asks_workers, btorsim_by, btorsim_of, command_of, engine_by, engine_of, gen_by, gen_of, given_once, is_of_workers, journal_by, no_options, options_of, recheck_by, recheck_of, sim_by, sim_of, with_cycles, with_engine, with_journal, with_summary, with_word, with_workers}
-use Rattle.front_end.specs.NumberWords.{number_of}
+use Rattle.front_end.specs.NumberWords.{number_of_word}
 use Rattle.koika_top.specs.declared.shown.Shown.{Shown}
 use Rattle.koika_top.specs.declared.shown.Shown.TheVariants.{Report, Summary}
 use Rattle.koika_top.specs.declared.engine_kind.EngineKind.{EngineKind}
@@ -55,7 +55,7 @@ once-takes (Some x) put value n f = tt
 with_cycles-takes : (word : List ℕ) (others : Option Options) (m : ℕ) → Takes m others → Takes (m + 2) (with_cycles word others)
 with_cycles-takes word None m h = tt
 with_cycles-takes word (Some o) m h =
-    once-takes o.cycles _ (number_of word) (m + 2) (λ n none. let few : m ≤ 0 + value_words o.engine + value_words o.workers + shown_words o.shown + flag_words o.journal = rw none at h in omega (arith, few))
+    once-takes o.cycles _ (number_of_word word) (m + 2) (λ n none. let few : m ≤ 0 + value_words o.engine + value_words o.workers + shown_words o.shown + flag_words o.journal = rw none at h in omega (arith, few))
 
 with_engine-takes : (word : List ℕ) (others : Option Options) (m : ℕ) → Takes m others → Takes (m + 2) (with_engine word others)
 with_engine-takes word None m h = tt
@@ -65,7 +65,7 @@ with_engine-takes word (Some o) m h =
 with_workers-takes : (word : List ℕ) (others : Option Options) (m : ℕ) → Takes m others → Takes (m + 2) (with_workers word others)
 with_workers-takes word None m h = tt
 with_workers-takes word (Some o) m h =
-    once-takes o.workers _ (number_of word) (m + 2) (λ n none. let few : m ≤ value_words o.cycles + value_words o.engine + 0 + shown_words o.shown + flag_words o.journal = rw none at h in omega (arith, few))
+    once-takes o.workers _ (number_of_word word) (m + 2) (λ n none. let few : m ≤ value_words o.cycles + value_words o.engine + 0 + shown_words o.shown + flag_words o.journal = rw none at h in omega (arith, few))
 
 with_summary-takes : (others : Option Options) (m : ℕ) → Takes m others → Takes (m + 1) (with_summary others)
 with_summary-takes None m h = tt
@@ -143,7 +143,7 @@ once-without (Some x) put value f = tt
 
 with_cycles-without : (word : List ℕ) (others : Option Options) → Without others → Without (with_cycles word others)
 with_cycles-without word None h = tt
-with_cycles-without word (Some o) h = once-without o.cycles _ (number_of word) (λ n. h)
+with_cycles-without word (Some o) h = once-without o.cycles _ (number_of_word word) (λ n. h)
 
 with_engine-without : (word : List ℕ) (others : Option Options) → Without others → Without (with_engine word others)
 with_engine-without word None h = tt
@@ -253,7 +253,7 @@ gen_by-alone (Some n) = either-alone (nat_le 1 n && nat_le n 100) (Some (Gen n))
 
 gen-alone : (words : List (List ℕ)) → Alone (gen_of words)
 gen-alone [] = tt
-gen-alone (word ∷ []) = gen_by-alone (number_of word)
+gen-alone (word ∷ []) = gen_by-alone (number_of_word word)
 gen-alone (word ∷ more ∷ words) = tt
 
 word-alone : (command : Command) (words : List (List ℕ)) → RunsBy IsAlone command → Alone (alone_of command words)

@@ -7,7 +7,7 @@ use Rattle.std.proofs.lemmas.Bool.Decides.{eqb_tells}
 use Rattle.std.proofs.lemmas.List.Elements.{All-weaker}
 use Rattle.koika_syntax.specs.Lexemes.{IsWord, continues_word}
 use Rattle.koika_syntax.proofs.LexemeKinds.{continues-from_begins}
-use Rattle.btor2_text.specs.Printable.{IsToken, is_plain}
+use Rattle.btor2_text.specs.Printable.{IsPlainToken, is_plain}
 
 -- a byte of a word is none that isn't
 other-byte : (k b : ℕ) → continues_word k ≡ false → continues_word b ≡ true → eqb b k ≡ false
@@ -37,7 +37,7 @@ plain-bytes (b ∷ bytes) all =
     rw (plain-byte b (and-left (continues_word b) (list_all continues_word bytes) all), plain-bytes bytes (and-right (continues_word b) (list_all continues_word bytes) all)) refl
 
 -- a word is a token of circuit texts
-pub word-token : (bytes : List ℕ) → IsWord bytes → IsToken bytes
+pub word-token : (bytes : List ℕ) → IsWord bytes → IsPlainToken bytes
 word-token [] word = absurd word
 word-token (b ∷ bytes) word = record {
   some_byte = omega arith;
@@ -45,5 +45,5 @@ word-token (b ∷ bytes) word = record {
 }
 
 -- so names that are words are such tokens
-pub words-tokens : {X : Type 0} (name : X → List ℕ) (xs : List X) → All (λ (x : X). IsWord (name x)) xs → All (λ (x : X). IsToken (name x)) xs
-words-tokens {X} name xs words = All-weaker (λ (x : X). IsWord (name x)) (λ (x : X). IsToken (name x)) (λ x word. word-token (name x) word) xs words
+pub words-tokens : {X : Type 0} (name : X → List ℕ) (xs : List X) → All (λ (x : X). IsWord (name x)) xs → All (λ (x : X). IsPlainToken (name x)) xs
+words-tokens {X} name xs words = All-weaker (λ (x : X). IsWord (name x)) (λ (x : X). IsPlainToken (name x)) (λ x word. word-token (name x) word) xs words

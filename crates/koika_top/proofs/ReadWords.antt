@@ -21,7 +21,7 @@ use Rattle.clap.specs.Takes.{is_given, settle_passes, takes, turn_passes, walk_p
 use Rattle.clap.proofs.OnLiterals.{clap_on_literals}
 use Rattle.koika_top.specs.inner.Given.{Give, bare, cycles_rule, engine_rule, flag_of, flag_text, gen_app, journal_rule, number_in, run_app, stages_rule, summary_rule, workers_rule}
 use Rattle.koika_top.specs.Words.{asked_flag, asked_for, engine_by, engine_of, gen_by, gen_of, given_once, journal_by, no_options, options_of, sim_by, sim_of, with_cycles, with_engine, with_journal, with_summary, with_word, with_workers}
-use Rattle.front_end.specs.NumberWords.{number_of, value_of}
+use Rattle.front_end.specs.NumberWords.{number_of_word, value_of}
 use Rattle.koika_top.specs.declared.engine_kind.EngineKind.{EngineKind}
 use Rattle.koika_top.specs.declared.engine_kind.EngineKind.TheVariants.{Plain, Circuit}
 use Rattle.koika_top.specs.declared.shown.Shown.{Shown}
@@ -77,7 +77,7 @@ words_of (alone f ∷ steps) = own_word f ∷ words_of steps
 
 record PutsCycles (v : Text) (rest o : Options) : Type 0 where
   n : ℕ
-  number : number_of v ≡ Some n
+  number : number_of_word v ≡ Some n
   fresh : rest.cycles ≡ None
   cycles : o.cycles ≡ Some n
   engine : o.engine ≡ rest.engine
@@ -97,7 +97,7 @@ record PutsEngine (v : Text) (rest o : Options) : Type 0 where
 
 record PutsWorkers (v : Text) (rest o : Options) : Type 0 where
   n : ℕ
-  number : number_of v ≡ Some n
+  number : number_of_word v ≡ Some n
   fresh : rest.workers ≡ None
   cycles : o.cycles ≡ rest.cycles
   engine : o.engine ≡ rest.engine
@@ -152,7 +152,7 @@ with_key of_workers v others = with_workers v others
 with_key-is : (key : Key) (v : Text) (others : Option Options) (o : Options) → with_key key v others ≡ Some o → (rest : Options) × (others ≡ Some rest) × Puts key v rest o
 with_key-is of_cycles v None o e = absurd (none-some o e)
 with_key-is of_cycles v (Some rest) o e =
-    let found = once-is rest.cycles (λ n. record rest { cycles = Some n }) (number_of v) o e in
+    let found = once-is rest.cycles (λ n. record rest { cycles = Some n }) (number_of_word v) o e in
     let put = sym found.3 in (
       rest,
       refl,
@@ -168,7 +168,7 @@ with_key-is of_engine v (Some rest) o e =
     )
 with_key-is of_workers v None o e = absurd (none-some o e)
 with_key-is of_workers v (Some rest) o e =
-    let found = once-is rest.workers (λ n. record rest { workers = Some n }) (number_of v) o e in
+    let found = once-is rest.workers (λ n. record rest { workers = Some n }) (number_of_word v) o e in
     let put = sym found.3 in (
       rest,
       refl,
@@ -288,14 +288,14 @@ no_dash true true c value n e = none-some n e
 no_dash true false c value n e = none-some n e
 no_dash false b c value n e = none-some n e
 
-dash-first : (d : ℕ) (ds : Text) (n : ℕ) → number_of (d ∷ ds) ≡ Some n → (d == 45) ≡ false
+dash-first : (d : ℕ) (ds : Text) (n : ℕ) → number_of_word (d ∷ ds) ≡ Some n → (d == 45) ≡ false
 dash-first d ds n e = go (d == 45) refl
   where
     go : (b : Bool) → (d == 45) ≡ b → b ≡ false
     go false is = refl
-    go true is = absurd (no_dash (nat_le 1 (length (45 ∷ ds))) (nat_le (length (45 ∷ ds)) 10) (nat_le (value_of (45 ∷ ds)) 4294967295) (value_of (45 ∷ ds)) n (subst (λ x. number_of (x ∷ ds) ≡ Some n) (eqb-true d 45 is) e))
+    go true is = absurd (no_dash (nat_le 1 (length (45 ∷ ds))) (nat_le (length (45 ∷ ds)) 10) (nat_le (value_of (45 ∷ ds)) 4294967295) (value_of (45 ∷ ds)) n (subst (λ x. number_of_word (x ∷ ds) ≡ Some n) (eqb-true d 45 is) e))
 
-no_number : (n : ℕ) → number_of [] ≡ Some n → ⊥
+no_number : (n : ℕ) → number_of_word [] ≡ Some n → ⊥
 no_number n e = none-some n e
 
 record IsPlain (v : Text) : Type 0 where
@@ -304,7 +304,7 @@ record IsPlain (v : Text) : Type 0 where
   is : v ≡ d ∷ ds
   dash : (d == 45) ≡ false
 
-number-plain : (v : Text) (n : ℕ) → number_of v ≡ Some n → IsPlain v
+number-plain : (v : Text) (n : ℕ) → number_of_word v ≡ Some n → IsPlain v
 number-plain [] n e = absurd (no_number n e)
 number-plain (d ∷ ds) n e = record { d = d; ds = ds; is = refl; dash = dash-first d ds n e }
 
@@ -682,57 +682,57 @@ journal_values true given = Some (codes "true" ∷ [])
 
 -- values are read as options, where those that the options don't give were there before
 record AreReadAs (o : Options) (before values : Slot → Option (List Text)) : Type 0 where
-  cycles : first_as number_of (values (of_value of_cycles)) ≡ option_or o.cycles (first_as number_of (before (of_value of_cycles)))
+  cycles : first_as number_of_word (values (of_value of_cycles)) ≡ option_or o.cycles (first_as number_of_word (before (of_value of_cycles)))
   engine : first_as engine_of (values (of_value of_engine)) ≡ option_or o.engine (first_as engine_of (before (of_value of_engine)))
-  workers : first_as number_of (values (of_value of_workers)) ≡ option_or o.workers (first_as number_of (before (of_value of_workers)))
+  workers : first_as number_of_word (values (of_value of_workers)) ≡ option_or o.workers (first_as number_of_word (before (of_value of_workers)))
   shown : values (of_flag of_summary) ≡ flag_values o.shown (before (of_flag of_summary))
   journal : values (of_flag of_journal) ≡ journal_values o.journal (before (of_flag of_journal))
 
 module _ (rest o : Options) (before values : Slot → Option (List Text)) where
   key-read : (key : Key) (v : Text) → Puts key v rest o → AreReadAs rest (put (of_value key) (v ∷ []) before) values → AreReadAs o before values
   key-read of_cycles v put read = record {
-    cycles = read.cycles ∙ ap₂ option_or put.fresh put.number ∙ ap (λ (own : Option ℕ). option_or own (first_as number_of (before (of_value of_cycles)))) (sym put.cycles);
+    cycles = read.cycles ∙ ap₂ option_or put.fresh put.number ∙ ap (λ (own : Option ℕ). option_or own (first_as number_of_word (before (of_value of_cycles)))) (sym put.cycles);
     engine = read.engine ∙ ap (λ (own : Option EngineKind). option_or own (first_as engine_of (before (of_value of_engine)))) (sym put.engine);
-    workers = read.workers ∙ ap (λ (own : Option ℕ). option_or own (first_as number_of (before (of_value of_workers)))) (sym put.workers);
+    workers = read.workers ∙ ap (λ (own : Option ℕ). option_or own (first_as number_of_word (before (of_value of_workers)))) (sym put.workers);
     shown = read.shown ∙ ap (λ (own : Shown). flag_values own (before (of_flag of_summary))) (sym put.shown);
     journal = read.journal ∙ ap (λ (own : Bool). journal_values own (before (of_flag of_journal))) (sym put.journal);
   }
   key-read of_engine v put read = record {
-    cycles = read.cycles ∙ ap (λ (own : Option ℕ). option_or own (first_as number_of (before (of_value of_cycles)))) (sym put.cycles);
+    cycles = read.cycles ∙ ap (λ (own : Option ℕ). option_or own (first_as number_of_word (before (of_value of_cycles)))) (sym put.cycles);
     engine = read.engine ∙ ap₂ option_or put.fresh put.named ∙ ap (λ (own : Option EngineKind). option_or own (first_as engine_of (before (of_value of_engine)))) (sym put.engine);
-    workers = read.workers ∙ ap (λ (own : Option ℕ). option_or own (first_as number_of (before (of_value of_workers)))) (sym put.workers);
+    workers = read.workers ∙ ap (λ (own : Option ℕ). option_or own (first_as number_of_word (before (of_value of_workers)))) (sym put.workers);
     shown = read.shown ∙ ap (λ (own : Shown). flag_values own (before (of_flag of_summary))) (sym put.shown);
     journal = read.journal ∙ ap (λ (own : Bool). journal_values own (before (of_flag of_journal))) (sym put.journal);
   }
   key-read of_workers v put read = record {
-    cycles = read.cycles ∙ ap (λ (own : Option ℕ). option_or own (first_as number_of (before (of_value of_cycles)))) (sym put.cycles);
+    cycles = read.cycles ∙ ap (λ (own : Option ℕ). option_or own (first_as number_of_word (before (of_value of_cycles)))) (sym put.cycles);
     engine = read.engine ∙ ap (λ (own : Option EngineKind). option_or own (first_as engine_of (before (of_value of_engine)))) (sym put.engine);
-    workers = read.workers ∙ ap₂ option_or put.fresh put.number ∙ ap (λ (own : Option ℕ). option_or own (first_as number_of (before (of_value of_workers)))) (sym put.workers);
+    workers = read.workers ∙ ap₂ option_or put.fresh put.number ∙ ap (λ (own : Option ℕ). option_or own (first_as number_of_word (before (of_value of_workers)))) (sym put.workers);
     shown = read.shown ∙ ap (λ (own : Shown). flag_values own (before (of_flag of_summary))) (sym put.shown);
     journal = read.journal ∙ ap (λ (own : Bool). journal_values own (before (of_flag of_journal))) (sym put.journal);
   }
 
   flag-read-as : (f : Flag) → Sets f rest o → AreReadAs rest (put (of_flag f) (codes "true" ∷ []) before) values → AreReadAs o before values
   flag-read-as of_summary put read = record {
-    cycles = read.cycles ∙ ap (λ (own : Option ℕ). option_or own (first_as number_of (before (of_value of_cycles)))) (sym put.cycles);
+    cycles = read.cycles ∙ ap (λ (own : Option ℕ). option_or own (first_as number_of_word (before (of_value of_cycles)))) (sym put.cycles);
     engine = read.engine ∙ ap (λ (own : Option EngineKind). option_or own (first_as engine_of (before (of_value of_engine)))) (sym put.engine);
-    workers = read.workers ∙ ap (λ (own : Option ℕ). option_or own (first_as number_of (before (of_value of_workers)))) (sym put.workers);
+    workers = read.workers ∙ ap (λ (own : Option ℕ). option_or own (first_as number_of_word (before (of_value of_workers)))) (sym put.workers);
     shown = read.shown ∙ ap (λ (own : Shown). flag_values own (Some (codes "true" ∷ []))) put.fresh ∙ ap (λ (own : Shown). flag_values own (before (of_flag of_summary))) (sym put.shown);
     journal = read.journal ∙ ap (λ (own : Bool). journal_values own (before (of_flag of_journal))) (sym put.journal);
   }
   flag-read-as of_journal put read = record {
-    cycles = read.cycles ∙ ap (λ (own : Option ℕ). option_or own (first_as number_of (before (of_value of_cycles)))) (sym put.cycles);
+    cycles = read.cycles ∙ ap (λ (own : Option ℕ). option_or own (first_as number_of_word (before (of_value of_cycles)))) (sym put.cycles);
     engine = read.engine ∙ ap (λ (own : Option EngineKind). option_or own (first_as engine_of (before (of_value of_engine)))) (sym put.engine);
-    workers = read.workers ∙ ap (λ (own : Option ℕ). option_or own (first_as number_of (before (of_value of_workers)))) (sym put.workers);
+    workers = read.workers ∙ ap (λ (own : Option ℕ). option_or own (first_as number_of_word (before (of_value of_workers)))) (sym put.workers);
     shown = read.shown ∙ ap (λ (own : Shown). flag_values own (before (of_flag of_summary))) (sym put.shown);
     journal = read.journal ∙ ap (λ (own : Bool). journal_values own (Some (codes "true" ∷ []))) put.fresh ∙ ap (λ (own : Bool). journal_values own (before (of_flag of_journal))) (sym put.journal);
   }
 
 all-read-as : (steps : List Step) (o : Options) (before : Slot → Option (List Text)) → Gives steps o → AreReadAs o before (all_values steps before)
 all-read-as [] o before gives = record {
-  cycles = ap (λ (p : Options). option_or p.cycles (first_as number_of (before (of_value of_cycles)))) (sym gives);
+  cycles = ap (λ (p : Options). option_or p.cycles (first_as number_of_word (before (of_value of_cycles)))) (sym gives);
   engine = ap (λ (p : Options). option_or p.engine (first_as engine_of (before (of_value of_engine)))) (sym gives);
-  workers = ap (λ (p : Options). option_or p.workers (first_as number_of (before (of_value of_workers)))) (sym gives);
+  workers = ap (λ (p : Options). option_or p.workers (first_as number_of_word (before (of_value of_workers)))) (sym gives);
   shown = ap (λ (p : Options). flag_values p.shown (before (of_flag of_summary))) (sym gives);
   journal = ap (λ (p : Options). journal_values p.journal (before (of_flag of_journal))) (sym gives);
 }
@@ -901,7 +901,7 @@ read-through read slot None = refl
 read-through read slot (Some texts) = refl
 
 -- a row that the words gave
-given-through : (found : Option (List Text)) (n : ℕ) → first_as number_of found ≡ Some n → (final : List Row) → row_of_id (codes "cycles") final ≡ option_map (row_for (of_value of_cycles)) found → is_given (codes "cycles") final ≡ true
+given-through : (found : Option (List Text)) (n : ℕ) → first_as number_of_word found ≡ Some n → (final : List Row) → row_of_id (codes "cycles") final ≡ option_map (row_for (of_value of_cycles)) found → is_given (codes "cycles") final ≡ true
 given-through None n e final is = absurd (none-some n e)
 given-through (Some texts) n e final is = rw is refl
 
@@ -937,7 +937,7 @@ module _ (name : Text) (words : List Text) (o : Options) (values : Slot → Opti
   row-is : (key : Key) → row_of_id (id_of (of_value key)) final ≡ option_map (row_for (of_value key)) (values (of_value key))
   row-is key = is-finished.values key ∙ reads.stands.known (of_value key)
 
-  own-cycles : first_as number_of (values (of_value of_cycles)) ≡ o.cycles
+  own-cycles : first_as number_of_word (values (of_value of_cycles)) ≡ o.cycles
   own-cycles = told.cycles ∙ or-none o.cycles
 
   given : is_given (codes "cycles") (finished run_rules (held_with reads.stands.rows reads.stands.pending)) ≡ true
@@ -953,9 +953,9 @@ module _ (name : Text) (words : List Text) (o : Options) (values : Slot → Opti
   are-read = record {
     taken = are-taken;
     gives = subst (λ (rows : List Row). Give rows o) (sym end) (record {
-      cycles = ap (λ found. option_and_then number_of (option_and_then (λ (r : Row). slice_get r.values 0) found)) (row-is of_cycles) ∙ read-through number_of (of_value of_cycles) (values (of_value of_cycles)) ∙ own-cycles;
+      cycles = ap (λ found. option_and_then number_of_word (option_and_then (λ (r : Row). slice_get r.values 0) found)) (row-is of_cycles) ∙ read-through number_of_word (of_value of_cycles) (values (of_value of_cycles)) ∙ own-cycles;
       engine = ap (λ found. option_and_then engine_of (option_and_then (λ (r : Row). slice_get r.values 0) found)) (row-is of_engine) ∙ read-through engine_of (of_value of_engine) (values (of_value of_engine)) ∙ told.engine ∙ or-none o.engine;
-      workers = ap (λ found. option_and_then number_of (option_and_then (λ (r : Row). slice_get r.values 0) found)) (row-is of_workers) ∙ read-through number_of (of_value of_workers) (values (of_value of_workers)) ∙ told.workers ∙ or-none o.workers;
+      workers = ap (λ found. option_and_then number_of_word (option_and_then (λ (r : Row). slice_get r.values 0) found)) (row-is of_workers) ∙ read-through number_of_word (of_value of_workers) (values (of_value of_workers)) ∙ told.workers ∙ or-none o.workers;
       shown = is-finished.flag;
       journal = is-finished.noted;
     });
@@ -985,13 +985,13 @@ words_are_read name words valid = go (options_of words) refl valid
 pub stages_are_read : (words : List Text) → is_some (gen_of words) ≡ true
     → (takes gen_app words ≡ true) × (gen_of words ≡ gen_by (number_in (codes "stages") (matches_of gen_app words)))
 stages_are_read [] valid = absurd (true≢false (sym valid))
-stages_are_read (word ∷ []) valid = go word (number_of word) refl valid
+stages_are_read (word ∷ []) valid = go word (number_of_word word) refl valid
   where
-    go : (word : Text) (m : Option ℕ) → number_of word ≡ m → is_some (gen_by m) ≡ true
-        → (takes gen_app (word ∷ []) ≡ true) × (gen_by (number_of word) ≡ gen_by (number_in (codes "stages") (matches_of gen_app (word ∷ []))))
+    go : (word : Text) (m : Option ℕ) → number_of_word word ≡ m → is_some (gen_by m) ≡ true
+        → (takes gen_app (word ∷ []) ≡ true) × (gen_by (number_of_word word) ≡ gen_by (number_in (codes "stages") (matches_of gen_app (word ∷ []))))
     go word None is valid = absurd (true≢false (sym valid))
     go [] (Some n) is valid = absurd (no_number n is)
     go (d ∷ ds) (Some n) is valid =
         let found = gen_taken d ds (dash-first d ds n is) in
-        (found.0, ap (λ o. gen_by (option_and_then number_of o)) (sym found.1))
+        (found.0, ap (λ o. gen_by (option_and_then number_of_word o)) (sym found.1))
 stages_are_read (word ∷ more ∷ words) valid = absurd (true≢false (sym valid))

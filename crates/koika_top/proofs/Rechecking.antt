@@ -10,12 +10,12 @@ use Rattle.one_rule.specs.Run as core_run
 use Rattle.one_rule.specs.Run.{InputsByCycle}
 use Rattle.one_rule.specs.Stimulus.{AlwaysFits, InputVectors, inputs_of}
 use Rattle.one_rule.specs.declared.rows.Row.{Row}
-use Rattle.journal_check.specs.Checking.{IsFirstFault, IsGood}
+use Rattle.journal_check.specs.Checking.{IsFirstJournalFault, IsGood}
 use Rattle.journal_check.specs.Reading.{IsFirstMalformed, IsJournal}
 use Rattle.journal_check.specs.declared.journal.Journal.{Journal}
 use Rattle.koika_assert.specs.Violations.{watched_text}
 use Rattle.koika_check.specs.declared.checked.Checked.{Checked}
-use Rattle.koika_lower.specs.Lowering.{IsLowered, input_widths}
+use Rattle.koika_lower.specs.Lowering.{IsLowered, typed_input_widths}
 use Rattle.stim_report.specs.Shapes.{RowsFit}
 use Rattle.stim_report.specs.declared.shape.Shape.{Shape}
 use Rattle.front_end.specs.Marks.{Marks}
@@ -51,10 +51,10 @@ module _ (core core' : Parts) (s s' : InputVectors) (same : core' ≡ core) (giv
   pub good-at : IfOk r (λ rows. IsGood core' s' cycles journal) → IfOk r (λ rows. IsGood core s cycles journal)
   good-at h = subst (λ (x : Parts). IfOk r (λ rows. IsGood x s cycles journal)) same (subst (λ (x : InputVectors). IfOk r (λ rows. IsGood core' x cycles journal)) given h)
 
-  pub fault-at : IfFault r (λ fault. IsFirstFault core' s' cycles journal fault) → IfFault r (λ fault. IsFirstFault core s cycles journal fault)
-  fault-at h = subst (λ (x : Parts). IfFault r (λ fault. IsFirstFault x s cycles journal fault)) same (subst (λ (x : InputVectors). IfFault r (λ fault. IsFirstFault core' x cycles journal fault)) given h)
+  pub fault-at : IfFault r (λ fault. IsFirstJournalFault core' s' cycles journal fault) → IfFault r (λ fault. IsFirstJournalFault core s cycles journal fault)
+  fault-at h = subst (λ (x : Parts). IfFault r (λ fault. IsFirstJournalFault x s cycles journal fault)) same (subst (λ (x : InputVectors). IfFault r (λ fault. IsFirstJournalFault core' x cycles journal fault)) given h)
 
-  module _ (d : Checked) (lowered : IsLowered d core) (valid : IsValid core) (fits : s.widths ≡ input_widths d) (always : AlwaysFits s) (run : IfOk r (λ rows. rows ≡ core_run.run_of core' (inputs_of s') cycles)) where
+  module _ (d : Checked) (lowered : IsLowered d core) (valid : IsValid core) (fits : s.widths ≡ typed_input_widths d) (always : AlwaysFits s) (run : IfOk r (λ rows. rows ≡ core_run.run_of core' (inputs_of s') cycles)) where
     pub run-at : IfOk r (λ rows. rows ≡ run_of d (inputs_of s) cycles)
     run-at =
         if_ok r (λ rows. rows ≡ core_run.run_of core' (inputs_of s') cycles) (λ rows. rows ≡ run_of d (inputs_of s) cycles)

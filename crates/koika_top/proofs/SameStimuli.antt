@@ -8,7 +8,7 @@ use Rattle.one_rule.specs.Run.{InputsByCycle, first_values, last_registers}
 use Rattle.one_rule.specs.Stimulus.{AreSame, InputVectors, inputs_of}
 use Rattle.attempt_log.specs.declared.entry.Entry.{Entry}
 use Rattle.attempt_log.specs.declared.entry.Entry.TheVariants as entry
-use Rattle.board_core.specs.Board.{Board, BoardRun, Opening, Step, opened, run_events, step}
+use Rattle.board_core.specs.Board.{Board, BoardRun, Opening, BoardStep, opened, run_events, step}
 use Rattle.board_core.specs.History.{IsLegal, SubmitsFor, board_after, events_of, told_of}
 use Rattle.board_core.specs.declared.event.BoardEvent.{BoardEvent}
 use Rattle.board_core.specs.declared.event.BoardEvent.TheVariants as event
@@ -84,7 +84,7 @@ module _ (a b : InputVectors) (same : AreSame a b) where
       run-same : (board : Board) (events : List BoardEvent) → run_events of_a board events ≡ run_events of_b board events
       run-same board [] = refl
       run-same board (e ∷ events) =
-          ap (λ (first : Step). let rest : BoardRun = run_events of_a first.board events in let both : BoardRun = record { answers = first.answer ∷ rest.answers; board = rest.board } in both) (step-same board e)
+          ap (λ (first : BoardStep). let rest : BoardRun = run_events of_a first.board events in let both : BoardRun = record { answers = first.answer ∷ rest.answers; board = rest.board } in both) (step-same board e)
           ∙ ap (λ (rest : BoardRun). let both : BoardRun = record { answers = (step of_b board e).answer ∷ rest.answers; board = rest.board } in both) (run-same (step of_b board e).board events)
 
       -- and so have the events of a history

@@ -8,9 +8,9 @@ use Rattle.net_graph.specs.Nets.{width_at, widths_of}
 use Rattle.typed_core.specs.Valid.{IsWidth}
 use Rattle.btor2_text.specs.declared.line.Line.{Line}
 use Rattle.btor2_model.specs.Rules.{is_input, is_output, is_state}
-use Rattle.btor2_model.specs.Run.{lines_of, width_in}
+use Rattle.btor2_model.specs.Run.{lines_by_rule, width_in}
 use Rattle.btor2_model.specs.Scope.{id_at}
-use Rattle.btor2_net.specs.Translations.{HasLines, name_of}
+use Rattle.btor2_net.specs.Translations.{HasLines, line_name}
 use Rattle.circuit_eval.specs.Circuits.{IsInput, input_widths}
 use Rattle.circuit_eval.specs.declared.circuit.InputWire.{InputWire}
 use Rattle.circuit_eval.specs.declared.circuit.OutputWire.{OutputWire}
@@ -64,11 +64,11 @@ flags-agree f g f' g' (x ∷ xs) (y ∷ ys) names widths =
 -- a circuit of a text has the text's shape
 pub shape-of-text : (lines : List Line) (c : Wires) → HasLines lines c → circuit.shape_of c ≡ text.shape_of lines
 shape-of-text lines c has =
-    let inputs = both-agree (λ (w : InputWire). w.name) (λ (w : InputWire). w.width) name_of (λ (l : Line). width_in lines l.id) c.inputs (lines_of is_input lines)
-    has.inputs (has.input_widths ∙ map-map (width_in lines) (λ (l : Line). l.id) (lines_of is_input lines)) in
-    let states = both-agree (λ (w : StateWire). w.name) (λ (w : StateWire). w.width) name_of (λ (l : Line). width_in lines l.id) c.states (lines_of is_state lines)
-    has.states (has.state_widths ∙ map-map (width_in lines) (λ (l : Line). l.id) (lines_of is_state lines)) in
-    let flags = flags-agree (λ (w : OutputWire). w.name) (λ (w : OutputWire). width_at (widths_of c.net) w.id) name_of (λ (l : Line). width_in lines (id_at l.arguments 0)) c.outputs (lines_of is_output lines)
+    let inputs = both-agree (λ (w : InputWire). w.name) (λ (w : InputWire). w.width) line_name (λ (l : Line). width_in lines l.id) c.inputs (lines_by_rule is_input lines)
+    has.inputs (has.input_widths ∙ map-map (width_in lines) (λ (l : Line). l.id) (lines_by_rule is_input lines)) in
+    let states = both-agree (λ (w : StateWire). w.name) (λ (w : StateWire). w.width) line_name (λ (l : Line). width_in lines l.id) c.states (lines_by_rule is_state lines)
+    has.states (has.state_widths ∙ map-map (width_in lines) (λ (l : Line). l.id) (lines_by_rule is_state lines)) in
+    let flags = flags-agree (λ (w : OutputWire). w.name) (λ (w : OutputWire). width_at (widths_of c.net) w.id) line_name (λ (l : Line). width_in lines (id_at l.arguments 0)) c.outputs (lines_by_rule is_output lines)
     has.outputs has.output_widths in
     let shape : List NameWidth → List NameWidth → List (List ℕ) → Shape = λ is ss rs. record { inputs = is; registers = ss; rules = rs } in
     ap (λ l. shape l (map circuit.of_state c.states) (map circuit.name_of (filter (circuit.is_flag (widths_of c.net)) c.outputs))) inputs
@@ -88,6 +88,6 @@ pub widths-valid : (inputs : List InputWire) → All IsInput inputs → All IsWi
 widths-valid inputs all = All-from_recursion IsWidth (told.widths_of (map circuit.of_input inputs)) (each-valid inputs (recursion_from_All IsInput inputs all))
 
 -- a circuit of a text has an input for each of the text's
-pub inputs-count : (lines : List Line) (c : Wires) → HasLines lines c → length (map circuit.of_input c.inputs) ≡ length (lines_of is_input lines)
+pub inputs-count : (lines : List Line) (c : Wires) → HasLines lines c → length (map circuit.of_input c.inputs) ≡ length (lines_by_rule is_input lines)
 inputs-count lines c has =
-    length-map c.inputs circuit.of_input ∙ sym (length-map c.inputs (λ (w : InputWire). w.name)) ∙ ap length has.inputs ∙ length-map (lines_of is_input lines) name_of
+    length-map c.inputs circuit.of_input ∙ sym (length-map c.inputs (λ (w : InputWire). w.name)) ∙ ap length has.inputs ∙ length-map (lines_by_rule is_input lines) line_name

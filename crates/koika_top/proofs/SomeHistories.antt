@@ -29,7 +29,7 @@ use Rattle.attempt_log.specs.declared.entry.Settled.TheVariants as settled
 use Rattle.attempt_log.specs.declared.entry.Submitted.TheVariants as submitted
 use Rattle.attempt_log.proofs.Alike.{same_by_equal}
 use Rattle.attempt_log.proofs.Commits.{alone_gives_traces}
-use Rattle.board_core.specs.Board.{Board, Opening, Step, dropped, head, judged, node_at, settle, settle_at, settle_with, stays, submit}
+use Rattle.board_core.specs.Board.{Board, Opening, BoardStep, dropped, head, judged, node_at, settle, settle_at, settle_with, stays, submit}
 use Rattle.board_core.specs.History.{GoesOn, IsLegal, board_after, told_of}
 use Rattle.board_core.specs.Laws.{IsRuleSettled, head_attempt, left_of}
 use Rattle.board_core.specs.Position.{IsOpening, IsPlain, position, visit_if}
@@ -81,7 +81,7 @@ module _ (o : Opening) (opening' : IsOpening o) where
 
 -- ---- answers of a settle
 
-abbrev Tells : Step → Type 0
+abbrev Tells : BoardStep → Type 0
 Tells s = (told : Settled) × (s.answer ≡ answer.Settle told)
 
 judged_tells : (b : Board) (node : Node) (a : Attempted) (v : Verdict) → Tells (judged b node a v)
@@ -223,8 +223,8 @@ module _ (o : Opening) (opening' : IsOpening o) (window : 1 ≤ o.window) where
     same_told s t e = cc
 
     -- the answer of a settle that is this step
-    told_is : (n : Next entries) (s : Step) (t : Settled) → settle o here ≡ s → s.answer ≡ answer.Settle t → n.told ≡ t
-    told_is n s t is told = same_told n.told t (sym n.is ∙ ap (λ (x : Step). x.answer) is ∙ told)
+    told_is : (n : Next entries) (s : BoardStep) (t : Settled) → settle o here ≡ s → s.answer ≡ answer.Settle t → n.told ≡ t
+    told_is n s t is told = same_told n.told t (sym n.is ∙ ap (λ (x : BoardStep). x.answer) is ∙ told)
 
     rule_of : (at : After) (node : Node) → node_at o.design.nodes at ≡ Some node → node.rule < length o.design.rules
     rule_of (next_of.Node number) node is = (opening'.design.nodes number node is).rule
@@ -242,7 +242,7 @@ module _ (o : Opening) (opening' : IsOpening o) (window : 1 ≤ o.window) where
     begins : settle o b ≡ settle_at o b (head o b)
     begins = settle_here o opening' window entries done within
 
-    on : (s : Step) (t : Settled) → settle o b ≡ s → s.answer ≡ answer.Settle t → goes_on t ≡ true → Goes o opening' window entries done
+    on : (s : BoardStep) (t : Settled) → settle o b ≡ s → s.answer ≡ answer.Settle t → goes_on t ≡ true → Goes o opening' window entries done
     on s t is told goes = by_settle o opening' window entries done n (ap goes_on (told_is o opening' window entries done n s t is told) ∙ goes)
 
     module _ (node : Node) (at : head o b ≡ Some node) where
@@ -262,7 +262,7 @@ module _ (o : Opening) (opening' : IsOpening o) (window : 1 ≤ o.window) where
         stale read is =
             let told = told_is o opening' window entries done n (judged b node a (Stale read)) (settled.Stale b.cycle node.rule read) is refl in
             let entries' = entries ++ settle_entry 0 n.told ∷ [] in
-            let after : board_after o entries' ≡ dropped b node.rule = n.after ∙ ap (λ (s : Step). s.board) is in
+            let after : board_after o entries' ≡ dropped b node.rule = n.after ∙ ap (λ (s : BoardStep). s.board) is in
             let same : left_of o (board_after o entries') ≡ left_of o b =
             ap (left_of o) n.after ∙ (going_on_lowers o b n.told opening' (plain o opening' window entries done) n.is).1 (ap goes_on told) in
             let goes = by_job o opening' window entries' n.done node

@@ -11,7 +11,7 @@ use Rattle.kw_base.specs.declared.place.Place.{Place}
 use Rattle.kw_bits.specs.BitVector.{BitVector}
 use Rattle.one_rule.specs.Stimulus.{AlwaysFits, Assignment, Assigns, InputVectors, inputs_by, inputs_of}
 use Rattle.one_rule.proofs.Inputs.{inputs_by_fits}
-use Rattle.stim_report.specs.Assignments.{assigned_by, assigned_to, assignment_of, input_of, is_assigned, name_and_number}
+use Rattle.stim_report.specs.Assignments.{assigned_by, assigned_to, assignment_of, input_by_name, is_assigned, name_and_number}
 use Rattle.stim_report.specs.Cuts.{lines_of, words_from}
 use Rattle.stim_report.specs.Shapes.{widths_of}
 use Rattle.stim_report.specs.Stimuli.{after, at_place, cycles_from, line_from, line_of, next_line, place, stimulus_of}
@@ -77,7 +77,7 @@ module _ (inputs : List NameWidth) where
             subst (Assigns (widths_of inputs)) same
             (width, slice_get-get_or (widths_of inputs) input 0 within, (record { some_bit = is.0; no_wider = is.1; in_range = ltb-true number (2 ^ width) below }, refl))
 
-        by-input : (o : Option ℕ) (name : List ℕ) (number : ℕ) → input_of inputs name ≡ o → assigned_to inputs line o number ≡ Ok a → Assigns (widths_of inputs) a
+        by-input : (o : Option ℕ) (name : List ℕ) (number : ℕ) → input_by_name inputs name ≡ o → assigned_to inputs line o number ≡ Ok a → Assigns (widths_of inputs) a
         by-input None name number found e = absurd cc
         by-input (Some input) name number found e =
             let d : NameWidth = record { name = []; width = 0 } in
@@ -86,7 +86,7 @@ module _ (inputs : List NameWidth) where
 
         by-parts : (o : Option (List ℕ × ℕ)) → assigned_by inputs line o ≡ Ok a → Assigns (widths_of inputs) a
         by-parts None e = absurd cc
-        by-parts (Some parts) e = by-input (input_of inputs parts.0) parts.0 parts.1 refl e
+        by-parts (Some parts) e = by-input (input_by_name inputs parts.0) parts.0 parts.1 refl e
 
     line-fits : (l : ℕ) (line : List Assignment) (words : List (ℕ × List ℕ)) (out : List Assignment) → All (Assigns (widths_of inputs)) line → line_from inputs l line words ≡ Ok out → All (Assigns (widths_of inputs)) out
     line-fits l line [] out fit e = let same : line ≡ out = cc in subst (All (Assigns (widths_of inputs))) same fit

@@ -9,7 +9,7 @@ use Rattle.typed_core.specs.Valid.{IsValid}
 use Rattle.typed_core.specs.Widths.{HaveWidths}
 use Rattle.typed_core.specs.declared.design.Parts.{Parts}
 use Rattle.koika_check.specs.declared.checked.Checked.{Checked}
-use Rattle.koika_lower.specs.Lowering.{IsLowered, input_widths}
+use Rattle.koika_lower.specs.Lowering.{IsLowered, typed_input_widths}
 use Rattle.koika_top.specs.inner.Engines.{AreRows}
 use Rattle.front_end.specs.Sources.{shape_of}
 use Rattle.front_end.specs.Systems.{first_values, run_of, system_of}
@@ -20,8 +20,8 @@ use Rattle.koika_top.proofs.PlainRows.{are-rows}
 pub typed-rows : (d : Checked) (stimulus : InputVectors) → AreRows (run_of d (inputs_of stimulus))
 typed-rows d stimulus = are-rows (system_of d) (inputs_of stimulus) (first_values d)
 
-module _ (d : Checked) (design : Parts) (lowered : IsLowered d design) (valid : IsValid design) (stimulus : InputVectors) (fits : stimulus.widths ≡ input_widths d) (always : AlwaysFits stimulus) where
-  inputs-fit : (k : ℕ) → HaveWidths (input_widths d) (inputs_of stimulus k)
+module _ (d : Checked) (design : Parts) (lowered : IsLowered d design) (valid : IsValid design) (stimulus : InputVectors) (fits : stimulus.widths ≡ typed_input_widths d) (always : AlwaysFits stimulus) where
+  inputs-fit : (k : ℕ) → HaveWidths (typed_input_widths d) (inputs_of stimulus k)
   inputs-fit k = subst (λ (ws : List ℕ). HaveWidths ws (inputs_of stimulus k)) fits (always k)
 
   -- and the run of what it is lowered to

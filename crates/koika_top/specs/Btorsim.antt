@@ -14,10 +14,10 @@ use Rattle.btor2_text.specs.Reading.{AreLinesOf, IsFirstFaultOf}
 use Rattle.btor2_text.specs.declared.line.Line.{Line}
 use Rattle.btor2_model.specs.Acceptance.{first_fault}
 use Rattle.btor2_model.specs.Rules.{is_bad, is_input, is_output, is_state}
-use Rattle.btor2_model.specs.Run.{lines_of, run_of, width_in}
+use Rattle.btor2_model.specs.Run.{lines_by_rule, run_of, width_in}
 use Rattle.btor2_model.specs.Scope.{id_at}
-use Rattle.btor2_model.specs.declared.rule.Rule.{Rule}
-use Rattle.btor2_net.specs.Translations.{name_of}
+use Rattle.btor2_model.specs.declared.rule.FormRule.{FormRule}
+use Rattle.btor2_net.specs.Translations.{line_name}
 use Rattle.koika_assert.specs.Bads.{is_violated}
 use Rattle.koika_assert.specs.Violations.{violated_line}
 use Rattle.front_end.specs.Lengths as lengths
@@ -34,8 +34,8 @@ longest_circuit = 268435456
 -- ---- what a text tells of itself
 
 -- the lines of a rule by name and width
-abbrev pub named_lines : (Rule → Bool) → List Line → List NameWidth
-named_lines test lines = map (λ (line : Line). record { name = name_of line; width = width_in lines line.id }) (lines_of test lines)
+abbrev pub named_lines : (FormRule → Bool) → List Line → List NameWidth
+named_lines test lines = map (λ (line : Line). record { name = line_name line; width = width_in lines line.id }) (lines_by_rule test lines)
 
 -- whether an output names a value of one bit
 abbrev pub is_flag : List Line → Line → Bool
@@ -43,15 +43,15 @@ is_flag lines line = width_in lines (id_at line.arguments 0) == 1
 
 -- the outputs of one bit
 abbrev pub flag_lines : List Line → List Line
-flag_lines lines = filter (is_flag lines) (lines_of is_output lines)
+flag_lines lines = filter (is_flag lines) (lines_by_rule is_output lines)
 
 -- the states stand for registers, and the outputs of one bit for rules
 abbrev pub shape_of : List Line → Shape
-shape_of lines = record { inputs = named_lines is_input lines; registers = named_lines is_state lines; rules = map name_of (flag_lines lines) }
+shape_of lines = record { inputs = named_lines is_input lines; registers = named_lines is_state lines; rules = map line_name (flag_lines lines) }
 
 -- whether a run of the text for these cycles is longer than runs may be
 abbrev pub is_too_long : ℕ → List Line → Bool
-is_too_long cycles lines = lengths.is_too_long cycles (length (lines_of is_state lines)) (length (flag_lines lines))
+is_too_long cycles lines = lengths.is_too_long cycles (length (lines_by_rule is_state lines)) (length (flag_lines lines))
 
 -- ---- sources
 
@@ -110,7 +110,7 @@ first_violated lines inputs cycles bad = position_from (λ step. is_violated lin
 
 -- a line for each bad line that is violated, in their order
 abbrev pub violations : List Line → InputsByCycle → ℕ → List ℕ
-violations lines inputs cycles = flat_map (λ bad. violated_line (name_of bad) (first_violated lines inputs cycles bad)) (lines_of is_bad lines)
+violations lines inputs cycles = flat_map (λ bad. violated_line (line_name bad) (first_violated lines inputs cycles bad)) (lines_by_rule is_bad lines)
 
 -- what is shown of a text's run for these cycles: a report or a summary, and after it the violations
 abbrev pub shown_run : Shown → List Line → InputsByCycle → ℕ → List ℕ

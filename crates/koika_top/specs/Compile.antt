@@ -15,13 +15,13 @@ use Rattle.koika_assert.specs.Bads.{is_violated}
 use Rattle.koika_check.specs.declared.checked.Checked.{Checked}
 use Rattle.koika_check.specs.declared.checked.Input.{Input}
 use Rattle.koika_check.specs.declared.checked.Register.{Register}
-use Rattle.koika_check.specs.declared.checked.Rule.{Rule}
+use Rattle.koika_check.specs.declared.checked.CheckedRule.{CheckedRule}
 use Rattle.one_rule.specs.Stimulus.{InputVectors, inputs_of}
 use Rattle.one_rule.specs.declared.rows.Row.{Row}
 use Rattle.stim_report.specs.Cuts as cuts
 use Rattle.stim_report.specs.Summary.{has_fired}
 use Rattle.kw_bits.specs.declared.host.HostSpec.{HostSpec}
-use Rattle.koika_lower.specs.Lowering.{input_widths}
+use Rattle.koika_lower.specs.Lowering.{typed_input_widths}
 use Rattle.front_end.specs.Circuits.{IsStimulusFor}
 use Rattle.koika_top.specs.Btorsim.{longest_circuit}
 use Rattle.front_end.specs.Marks.{marks_of}
@@ -34,11 +34,11 @@ use Rattle.front_end.specs.declared.answer.Answer.TheVariants.{Usage, Refused, W
 -- bad line for each mark, in order and of the same names and widths.
 pub record HasPartsOf (d : Checked) (lines : List Line) : Type 0 where
   pub inputs : names_of is_input lines ≡ map (λ (i : Input). i.name) d.inputs
-  pub input_widths : widths_in is_input lines ≡ input_widths d
+  pub input_widths : widths_in is_input lines ≡ typed_input_widths d
   pub states : names_of is_state lines ≡ map (λ (r : Register). r.name) d.registers
   pub state_widths : widths_in is_state lines ≡ map (λ (r : Register). r.width) d.registers
   pub outputs : names_of is_output lines ≡ map name_of d.rules
-  pub output_widths : output_widths lines ≡ map (λ (r : Rule). 1) d.rules
+  pub output_widths : output_widths lines ≡ map (λ (r : CheckedRule). 1) d.rules
   pub bads : names_of is_bad lines ≡ (marks_of d).names
 
 -- on every stimulus for the design's inputs, the text's own rows of every number of cycles are the design's
@@ -50,7 +50,7 @@ CircuitRunsAs d lines = (stimulus : InputVectors) (n : ℕ) → IsStimulusFor d 
 abbrev pub IsViolatedAs : Checked → List Line → Type 0
 IsViolatedAs d lines = (stimulus : InputVectors) (n step : ℕ) (row : Row) → IsStimulusFor d stimulus
     → slice_get (typed.run_of d (inputs_of stimulus) n) (step + 1) ≡ Some row
-    → map (is_violated lines (inputs_of stimulus) step) (circuit.lines_of is_bad lines) ≡ map (λ rule. has_fired rule row) d.asserts
+    → map (is_violated lines (inputs_of stimulus) step) (circuit.lines_by_rule is_bad lines) ≡ map (λ rule. has_fired rule row) d.asserts
 
 -- the lines are a circuit of the design
 pub record AreCircuitOf (d : Checked) (lines : List Line) : Type 0 where

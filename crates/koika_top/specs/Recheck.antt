@@ -6,7 +6,7 @@ use Rattle.kw_base.specs.declared.fault.Fault.{Fault}
 use Rattle.kw_bits.specs.declared.host.HostSpec.{HostSpec}
 use Rattle.typed_core.specs.declared.design.Parts.{Parts as Core}
 use Rattle.one_rule.specs.Stimulus.{AreSame, InputVectors}
-use Rattle.journal_check.specs.Checking.{IsFirstFault, IsGood}
+use Rattle.journal_check.specs.Checking.{IsFirstJournalFault, IsGood}
 use Rattle.journal_check.specs.Reading.{IsFirstMalformed, IsJournal}
 use Rattle.journal_check.specs.declared.journal.Journal.{Journal}
 use Rattle.koika_check.specs.declared.checked.Checked.{Checked}
@@ -69,7 +69,7 @@ HasNoLines hosts cycles source fault =
 abbrev pub IsWrong : List HostSpec → ℕ → List ℕ → Fault → Type 0
 IsWrong hosts cycles source fault =
     (design : Checked) × (stimulus : InputVectors) × (core : Core) × (journal : Journal) × SpellsJournal hosts cycles source design stimulus core journal
-    × IsFirstFault core stimulus cycles journal fault
+    × IsFirstJournalFault core stimulus cycles journal fault
 
 -- no journal certifies a run of that many cycles, and this is why
 abbrev pub IsUncertified : List HostSpec → ℕ → List ℕ → Fault → Type 0

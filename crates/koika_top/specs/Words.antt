@@ -1,7 +1,7 @@
 -- Which arguments are valid, as words of the command line, and what they ask for. The program's own name isn't among them.
 use Rattle.std.specs.Prelude.{ℕ, ◌&&◌, ◌||◌, nat_le, Bool, true, false, List, [], ◌∷◌, codes, take, drop, Option, Some, None, if◌then◌else◌}
 use Rattle.std.specs.Str.{bytes_eq}
-use Rattle.front_end.specs.NumberWords.{number_of}
+use Rattle.front_end.specs.NumberWords.{number_of_word}
 use Rattle.koika_top.specs.declared.engine_kind.EngineKind.{EngineKind}
 use Rattle.koika_top.specs.declared.engine_kind.EngineKind.TheVariants.{Plain, Circuit, Workers}
 use Rattle.koika_top.specs.declared.shown.Shown.{Shown}
@@ -27,7 +27,7 @@ given_once (Some earlier) put value = None
 -- options, if they are valid, with a value of `--cycles`
 abbrev pub with_cycles : List ℕ → Option Options → Option Options
 with_cycles word None = None
-with_cycles word (Some options) = given_once options.cycles (λ n. record options { cycles = Some n }) (number_of word)
+with_cycles word (Some options) = given_once options.cycles (λ n. record options { cycles = Some n }) (number_of_word word)
 
 -- options, if they are valid, with a value of `--engine`
 abbrev pub with_engine : List ℕ → Option Options → Option Options
@@ -37,7 +37,7 @@ with_engine word (Some options) = given_once options.engine (λ kind. record opt
 -- options, if they are valid, with a value of `--workers`
 abbrev pub with_workers : List ℕ → Option Options → Option Options
 with_workers word None = None
-with_workers word (Some options) = given_once options.workers (λ count. record options { workers = Some count }) (number_of word)
+with_workers word (Some options) = given_once options.workers (λ count. record options { workers = Some count }) (number_of_word word)
 
 -- a report is shown where nothing is asked for
 abbrev pub asked_for : Shown → Option Shown
@@ -145,7 +145,7 @@ gen_by (Some stages) = if nat_le 1 stages && nat_le stages 100 then Some (Gen st
 
 -- `gen` with a number
 abbrev pub gen_of : List (List ℕ) → Option Command
-gen_of (word ∷ []) = gen_by (number_of word)
+gen_of (word ∷ []) = gen_by (number_of_word word)
 gen_of words = None
 
 -- a command that takes no words

@@ -2,7 +2,7 @@
 
 ghost use Rattle.std.specs.Prelude.{◌≡◌, IfOk};
 ghost use Rattle.aig_blast.specs.AigRun.{run_of};
-ghost use Rattle.aig_blast.specs.Aigs.{input_widths};
+ghost use Rattle.aig_blast.specs.Aigs.{input_word_widths};
 ghost use Rattle.one_rule.specs.Stimulus.{inputs_of};
 ghost use Rattle.koika_top.specs.inner.Engines.{AigStandsAfter};
 
@@ -28,7 +28,7 @@ impl<'a> AigEngine<'a> {
         aig: &'a Aig,
         stimulus: &'a Stimulus,
     ) -> Result<AigEngine<'a>, NoMemory>
-        requires { stimulus.now.widths ≡ input_widths aig.now.inputs }
+        requires { stimulus.now.widths ≡ input_word_widths aig.now.inputs }
         ensures aig { IfOk result (λ engine. engine.sim.aig ≡ aig.now) }
         ensures stimulus { IfOk result (λ engine. engine.stimulus.now ≡ stimulus.now) }
         ensures at { IfOk result (λ engine. engine.at ≡ 0) }

@@ -3,7 +3,7 @@
 ghost use Rattle.std.specs.Prelude.{◌≡◌, ◌≤◌, ◌<◌, ◌^◌, ◌⊎◌, [], IfOk, OnOk, false, true, length};
 ghost use Rattle.kw_base.specs.Fault.{IfFault};
 ghost use Rattle.aig_blast.specs.AigRun as bits;
-ghost use Rattle.aig_blast.specs.Aigs.{input_widths};
+ghost use Rattle.aig_blast.specs.Aigs.{input_word_widths};
 ghost use Rattle.aiger_text.specs.AigShapes as shapes;
 ghost use Rattle.one_rule.specs.Stimulus.{inputs_of};
 ghost use Rattle.stim_report.specs.Cuts.{parts_of};
@@ -41,7 +41,7 @@ pub(crate) struct AigRun {
     pub(crate) cycles: u32,
     pub(crate) shown: Shown,
     ghost shape_fits: { shape ≡ shapes.shape_of aig },
-    ghost stimulus_fits: { stimulus.widths ≡ input_widths aig.inputs },
+    ghost stimulus_fits: { stimulus.widths ≡ input_word_widths aig.inputs },
     ghost few_cycles: { cycles ≤ 16777216 },
 }
 
@@ -95,7 +95,7 @@ fn tell_aig<K: Sink>(
     sink: &mut K,
 ) -> Result<(), Untold>
     requires few { cycles ≤ 16777216 }
-    requires widths { stimulus.now.widths ≡ input_widths aig.now.inputs }
+    requires widths { stimulus.now.widths ≡ input_word_widths aig.now.inputs }
     requires shape { shape.now ≡ shapes.shape_of aig.now }
     requires none { HasRows teller shape.now (marks_in teller) [] }
     ensures { Told (all_told (shown_by teller) shape.now (marks_in teller)

@@ -7,7 +7,7 @@ ghost use Rattle.circuit_eval.specs.declared.circuit.OutputWire.{OutputWire as W
 ghost use Rattle.koika_assert.specs.Violations.{watched};
 ghost use Rattle.koika_top.specs.inner.CircuitRuns.{AreBadsOf, HasFewLines, ShowsBads};
 
-use btor2_model::{Btor, Rule};
+use btor2_model::{Btor, FormRule};
 use btor2_net::to_circuit;
 use btor2_text::Line;
 use circuit_eval::{Circuit, OutputWire};
@@ -41,7 +41,7 @@ impl BadFlags {
 fn has_bads(lines: &[Line]) -> bool
     ensures { result ≡ list_any (λ line. is_bad (rule_of line.keyword)) lines.now }
 {
-    lines.iter().any(|line| Rule::of(line.keyword).is_bad())
+    lines.iter().any(|line| FormRule::of(line.keyword).is_bad())
 }
 
 // The circuit whose flags are the violations of a text's bad lines. The text is given back before the circuit is made.

@@ -5,7 +5,7 @@ ghost use Rattle.kw_base.specs.Fault.{IfFault};
 ghost use Rattle.btor2_text.specs.Printable.{numbered_from};
 ghost use Rattle.btor2_model.specs.Acceptance.{IsAccepted};
 ghost use Rattle.btor2_model.specs.Rules.{is_input, is_state};
-ghost use Rattle.btor2_model.specs.Run.{lines_of};
+ghost use Rattle.btor2_model.specs.Run.{lines_by_rule};
 ghost use Rattle.btor2_net.specs.Translations.{HasLines, RunsAs};
 
 use btor2_model::accept;
@@ -20,8 +20,8 @@ use std::alloc::Global;
 pub(crate) fn read_again(alloc: Global, lines: &Lines) -> Result<Circuit, NoMemory>
     requires accepted { IsAccepted lines.now }
     requires numbers { numbered_from 1 lines.now ≡ lines.now }
-    requires inputs { length (lines_of is_input lines.now) < 2 ^ 32 }
-    requires states { length (lines_of is_state lines.now) < 2 ^ 32 }
+    requires inputs { length (lines_by_rule is_input lines.now) < 2 ^ 32 }
+    requires states { length (lines_by_rule is_state lines.now) < 2 ^ 32 }
     ensures lines { IfOk result (HasLines lines.now) }
     ensures run { IfOk result (RunsAs lines.now) }
 {

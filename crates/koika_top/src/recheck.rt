@@ -5,7 +5,7 @@ ghost use Rattle.std.specs.Arc.{arc_value};
 ghost use Rattle.std.specs.List.{AllByRecursion};
 ghost use Rattle.kw_base.specs.Fault.{IfFault};
 ghost use Rattle.koika_check.specs.Typing.{IsTypedDesign};
-ghost use Rattle.journal_check.specs.Checking.{BatchFits, IsFirstFault, IsGood};
+ghost use Rattle.journal_check.specs.Checking.{BatchFits, IsFirstJournalFault, IsGood};
 ghost use Rattle.one_rule.specs.Hosts.{host_specs};
 ghost use Rattle.one_rule.specs.Stimulus.{inputs_of};
 ghost use Rattle.stim_report.specs.Shapes.{RowsFit};
@@ -100,7 +100,7 @@ fn certified_rows(
     ensures good { IfOk result (λ rows. IsGood (arc_value lowered.now.design) (arc_value lowered.now.stimulus) cycles journal) }
     ensures run { IfOk result (λ rows. rows ≡ run_of lowered.now.checked (inputs_of (arc_value lowered.now.stimulus)) cycles) }
     ensures fit { IfOk result (RowsFit lowered.now.shape) }
-    ensures fault { IfFault result (IsFirstFault (arc_value lowered.now.design) (arc_value lowered.now.stimulus) cycles journal) }
+    ensures fault { IfFault result (IsFirstJournalFault (arc_value lowered.now.design) (arc_value lowered.now.stimulus) cycles journal) }
 {
     let core: &Design = &lowered.design;
     let inputs: &Stimulus = &lowered.stimulus;

@@ -17,7 +17,7 @@ use Rattle.attempt_log.specs.declared.cause.Verdict.TheVariants.{Stale}
 use Rattle.attempt_log.proofs.Commits.{never_stale}
 use Rattle.lab_core.specs.Laws.{AgreesWithAttempts, FiredWhereItFires, as_attempt}
 use Rattle.lab_core.specs.Trials.{clash_among, refused}
-use Rattle.lab_core.specs.declared.trial.Verdict.TheVariants as verdict
+use Rattle.lab_core.specs.declared.trial.TrialVerdict.TheVariants as verdict
 use Rattle.lab_core.proofs.Verdicts.{fired_fires, verdict_plain}
 
 pub fired_where_it_fires : FiredWhereItFires

@@ -7,10 +7,10 @@ use Rattle.std.proofs.lemmas.List.{length-map, length_push, map-append, same_lis
 use Rattle.std.proofs.lemmas.List.FromFn.{get_or-map-range_with_len, length-map-range_with_len}
 use Rattle.attempt_log.specs.declared.cause.Cause.{Cause}
 use Rattle.attempt_log.specs.declared.cause.Cause.TheVariants as cause
-use Rattle.lab_core.specs.Numbers.{Counted, Numbers, RuleNumbers, cause_in, has_fired, is_abort, is_clash, is_own, is_unwatched, numbers_of, passes, refusals_from, rule_numbers, same_cause, verdict_in, was_untried}
+use Rattle.lab_core.specs.Numbers.{Counted, RunNumbers, RuleNumbers, cause_in, has_fired, is_abort, is_clash, is_own, is_unwatched, numbers_of, passes, refusals_from, rule_numbers, same_cause, verdict_in, was_untried}
 use Rattle.lab_core.specs.declared.trial.Trial.{Trial}
-use Rattle.lab_core.specs.declared.trial.Verdict.{Verdict}
-use Rattle.lab_core.specs.declared.trial.Verdict.TheVariants as verdict
+use Rattle.lab_core.specs.declared.trial.TrialVerdict.{TrialVerdict}
+use Rattle.lab_core.specs.declared.trial.TrialVerdict.TheVariants as verdict
 use Rattle.lab_core.specs.inner.Counting.{first_of, verdicts_of, with_refusal, with_verdict}
 use Rattle.lab_core.proofs.Refusals.{count_push, more, refusals_new, refusals_skip}
 
@@ -48,12 +48,12 @@ refusals_push cycle causes (Some (cause.OwnClash a)) place = refusals_new (cause
 refusals_push cycle causes (Some (cause.Clash a q e)) place = refusals_new (cause.Clash a q e) refl 1 cycle [] causes (omega (arith, place)) refl
 
 -- all numbers of a rule with one cycle more
-grown : (cycle : ℕ) (verdicts : List (Option Verdict)) (v : Option Verdict) → cycle ≡ length verdicts + 1
+grown : (cycle : ℕ) (verdicts : List (Option TrialVerdict)) (v : Option TrialVerdict) → cycle ≡ length verdicts + 1
     → let n = rule_numbers verdicts in let o = cause_in v in
     rule_numbers (verdicts ++ v ∷ []) ≡ make (more (has_fired v) n.fired) (more (passes is_abort o) n.aborted) (more (passes is_own o) n.own) (more (passes is_clash o) n.clashed) (more (was_untried v) n.untried)
     (option_or n.unwatched (cond (is_unwatched v) (Some cycle) None)) (refusals_with cycle o n.refusals)
 grown cycle verdicts v place =
-    let all : List (Option Verdict) = verdicts ++ v ∷ [] in
+    let all : List (Option TrialVerdict) = verdicts ++ v ∷ [] in
     let causes : List (Option Cause) = map cause_in verdicts in
     let split : map cause_in all ≡ causes ++ cause_in v ∷ [] = map-append cause_in verdicts (v ∷ []) in
     let n : RuleNumbers = rule_numbers verdicts in
@@ -84,13 +84,13 @@ stays n f a o c u w r ef ea eo ec eu ew =
     ap₂ (λ x y. make x y o c u w r) ef ea ∙ ap₂ (λ x y. make n.fired n.aborted x y u w r) eo ec ∙ ap₂ (λ x y. make n.fired n.aborted n.own n.clashed x y r) eu ew
 
 -- the numbers of a rule with a verdict more
-pub numbers_grow : (cycle : ℕ) (verdicts : List (Option Verdict)) (v : Option Verdict) → cycle ≡ length verdicts + 1 → with_verdict cycle (rule_numbers verdicts) v ≡ rule_numbers (verdicts ++ v ∷ [])
+pub numbers_grow : (cycle : ℕ) (verdicts : List (Option TrialVerdict)) (v : Option TrialVerdict) → cycle ≡ length verdicts + 1 → with_verdict cycle (rule_numbers verdicts) v ≡ rule_numbers (verdicts ++ v ∷ [])
 numbers_grow cycle verdicts v place = sym (grown cycle verdicts v place ∙ at v)
   where
     n : RuleNumbers
     n = rule_numbers verdicts
 
-    at : (v : Option Verdict) → let o = cause_in v in
+    at : (v : Option TrialVerdict) → let o = cause_in v in
         make (more (has_fired v) n.fired) (more (passes is_abort o) n.aborted) (more (passes is_own o) n.own) (more (passes is_clash o) n.clashed) (more (was_untried v) n.untried)
         (option_or n.unwatched (cond (is_unwatched v) (Some cycle) None)) (refusals_with cycle o n.refusals) ≡ with_verdict cycle n v
     at None = stays (record n { untried = n.untried + 1; unwatched = first_of n.unwatched cycle }) _ _ _ _ _ _ n.refusals (same n.fired) (same n.aborted) (same n.own) (same n.clashed) refl refl
@@ -104,15 +104,15 @@ numbers_grow cycle verdicts v place = sym (grown cycle verdicts v place ∙ at v
 -- ---- runs
 
 -- each rule's numbers have grown by its verdict
-abbrev pub EachGrows : ℕ → List RuleNumbers → List (Option Verdict) → List RuleNumbers → Type 0
+abbrev pub EachGrows : ℕ → List RuleNumbers → List (Option TrialVerdict) → List RuleNumbers → Type 0
 EachGrows cycle old verdicts new =
     (rule : ℕ) (none : RuleNumbers) → rule < length old → slice_index_or new rule none ≡ with_verdict cycle (slice_index_or old rule none) (slice_index_or verdicts rule None)
 
-pub run_grows : (rules cycle : ℕ) (cycles : List (List Trial)) (tried : List Trial) (old : Numbers) (new : List RuleNumbers) → old ≡ numbers_of rules cycles → cycle ≡ old.cycles + 1
+pub run_grows : (rules cycle : ℕ) (cycles : List (List Trial)) (tried : List Trial) (old : RunNumbers) (new : List RuleNumbers) → old ≡ numbers_of rules cycles → cycle ≡ old.cycles + 1
     → length new ≡ length old.rules → EachGrows cycle old.rules (verdicts_of rules tried) new → record { cycles = cycle; rules = new } ≡ numbers_of rules (cycles ++ tried ∷ [])
 unfolding numbers_of
 run_grows rules cycle cycles tried old new is next count each =
-    ap₂ (λ (c : ℕ) (rs : List RuleNumbers). let n : Numbers = record { cycles = c; rules = rs } in n) place (same_lists new all length_same at)
+    ap₂ (λ (c : ℕ) (rs : List RuleNumbers). let n : RunNumbers = record { cycles = c; rules = rs } in n) place (same_lists new all length_same at)
   where
     before : ℕ → RuleNumbers
     before rule = rule_numbers (map (verdict_in rule) cycles)
@@ -124,10 +124,10 @@ run_grows rules cycle cycles tried old new is next count each =
     all = map after (range_with_len 0 rules)
 
     old_rules : old.rules ≡ map before (range_with_len 0 rules)
-    old_rules = ap (λ (n : Numbers). n.rules) is
+    old_rules = ap (λ (n : RunNumbers). n.rules) is
 
     place : cycle ≡ length (cycles ++ tried ∷ [])
-    place = omega (arith, next, ap (λ (n : Numbers). n.cycles) is, length_push cycles tried)
+    place = omega (arith, next, ap (λ (n : RunNumbers). n.cycles) is, length_push cycles tried)
 
     length_same : length new ≡ length all
     length_same = omega (arith, count, ap length old_rules, length-map-range_with_len before 0 rules, length-map-range_with_len after 0 rules)
@@ -136,7 +136,7 @@ run_grows rules cycle cycles tried old new is next count each =
     at k d inside =
         let within : k < rules = omega (arith, inside, length_same, length-map-range_with_len after 0 rules) in
         let here : 0 + k ≡ k = omega arith in
-        let many : cycle ≡ length (map (verdict_in k) cycles) + 1 = omega (arith, next, ap (λ (n : Numbers). n.cycles) is, length-map cycles (verdict_in k)) in
+        let many : cycle ≡ length (map (verdict_in k) cycles) + 1 = omega (arith, next, ap (λ (n : RunNumbers). n.cycles) is, length-map cycles (verdict_in k)) in
         each k d (omega (arith, inside, count))
         ∙ ap₂ (with_verdict cycle) (ap (λ (rs : List RuleNumbers). slice_index_or rs k d) old_rules ∙ get_or-map-range_with_len before 0 rules k k d within here) (get_or-map-range_with_len (λ rule. verdict_in rule tried) 0 rules k k None within here)
         ∙ numbers_grow cycle (map (verdict_in k) cycles) (verdict_in k tried) many
@@ -151,14 +151,14 @@ begins (suc n) from = ap (λ (rs : List RuleNumbers). rule_numbers [] ∷ rs) (b
 pub run_begins : (rules n : ℕ) (items : List RuleNumbers) → items ≡ replicate n (rule_numbers []) → n ≡ rules → record { cycles = 0; rules = items } ≡ numbers_of rules []
 unfolding numbers_of
 run_begins rules n items is same =
-    ap (λ (rs : List RuleNumbers). let x : Numbers = record { cycles = 0; rules = rs } in x) (is ∙ ap (λ (k : ℕ). replicate k (rule_numbers [])) same ∙ begins rules 0)
+    ap (λ (rs : List RuleNumbers). let x : RunNumbers = record { cycles = 0; rules = rs } in x) (is ∙ ap (λ (k : ℕ). replicate k (rule_numbers [])) same ∙ begins rules 0)
 
 -- what holds after a call that succeeded
 pub on_ok : {E : Type 0} (r : Result (Unit {0}) E) (A B : Type 0) → OnOk r A → (A → B) → OnOk r B
 on_ok (Ok x) A B a f = f a
 on_ok (Err e) A B a f = a
 
-pub profile_grows : {E : Type 0} (r : Result (Unit {0}) E) (rules cycle len : ℕ) (tried : List Trial) (old : Numbers) (before after : List RuleNumbers) (verdicts : List (Option Verdict))
+pub profile_grows : {E : Type 0} (r : Result (Unit {0}) E) (rules cycle len : ℕ) (tried : List Trial) (old : RunNumbers) (before after : List RuleNumbers) (verdicts : List (Option TrialVerdict))
     → before ≡ old.rules → cycle ≡ old.cycles + 1 → length old.rules ≡ rules → len ≡ length before → verdicts ≡ verdicts_of len tried → length after ≡ length before
     → OnOk r (EachGrows cycle before verdicts after)
     → OnOk r ((cycles : List (List Trial)) → old ≡ numbers_of rules cycles → record { cycles = cycle; rules = after } ≡ numbers_of rules (cycles ++ tried ∷ []))
@@ -170,4 +170,4 @@ profile_grows r rules cycle len tried old before after verdicts begun next count
     table = is ∙ ap (λ (n : ℕ). verdicts_of n tried) (size ∙ ap length begun ∙ count)
 
     moved : EachGrows cycle before verdicts after → EachGrows cycle old.rules (verdicts_of rules tried) after
-    moved grown = subst (λ (rs : List RuleNumbers). EachGrows cycle rs (verdicts_of rules tried) after) begun (subst (λ (vs : List (Option Verdict)). EachGrows cycle before vs after) table grown)
+    moved grown = subst (λ (rs : List RuleNumbers). EachGrows cycle rs (verdicts_of rules tried) after) begun (subst (λ (vs : List (Option TrialVerdict)). EachGrows cycle before vs after) table grown)

@@ -8,35 +8,35 @@ use Rattle.std.proofs.lemmas.List.FromFn.{get_or-map-range_with_len, length-map-
 use Rattle.lab_core.specs.Numbers.{verdict_in}
 use Rattle.lab_core.specs.Trials.{is_tried}
 use Rattle.lab_core.specs.declared.trial.Trial.{Trial}
-use Rattle.lab_core.specs.declared.trial.Verdict.{Verdict}
+use Rattle.lab_core.specs.declared.trial.TrialVerdict.{TrialVerdict}
 use Rattle.lab_core.specs.inner.Counting.{verdicts_of}
 
 -- no trial
 begins_from : (n from : ℕ) → replicate n None ≡ map (λ (rule : ℕ). verdict_in rule []) (range_with_len from n)
 begins_from zero from = refl
-begins_from (suc n) from = ap (λ (vs : List (Option Verdict)). None ∷ vs) (begins_from n (from + 1))
+begins_from (suc n) from = ap (λ (vs : List (Option TrialVerdict)). None ∷ vs) (begins_from n (from + 1))
 
 pub table_begins : (rules : ℕ) → replicate rules None ≡ verdicts_of rules []
 table_begins rules = begins_from rules 0
 
 -- no place is set past the end
-pub outside : (verdicts : List (Option Verdict)) (rule : ℕ) (v : Option Verdict) → length verdicts ≤ rule → verdicts ≡ slice_set verdicts rule v
+pub outside : (verdicts : List (Option TrialVerdict)) (rule : ℕ) (v : Option TrialVerdict) → length verdicts ≤ rule → verdicts ≡ slice_set verdicts rule v
 outside verdicts rule v h = sym (set_past verdicts rule v h)
 
 -- one trial more in front
 pub table_next : (rules : ℕ) (t : Trial) (tried : List Trial) → slice_set (verdicts_of rules tried) t.rule (Some t.verdict) ≡ verdicts_of rules (t ∷ tried)
 table_next rules t tried = same_lists old new lengths at
   where
-    old : List (Option Verdict)
+    old : List (Option TrialVerdict)
     old = slice_set (verdicts_of rules tried) t.rule (Some t.verdict)
 
-    new : List (Option Verdict)
+    new : List (Option TrialVerdict)
     new = verdicts_of rules (t ∷ tried)
 
-    short : ℕ → Option Verdict
+    short : ℕ → Option TrialVerdict
     short rule = verdict_in rule tried
 
-    long : ℕ → Option Verdict
+    long : ℕ → Option TrialVerdict
     long rule = verdict_in rule (t ∷ tried)
 
     size : length (verdicts_of rules tried) ≡ rules
@@ -45,7 +45,7 @@ table_next rules t tried = same_lists old new lengths at
     lengths : length old ≡ length new
     lengths = length-set (verdicts_of rules tried) t.rule (Some t.verdict) ∙ size ∙ sym (length-map-range_with_len long 0 rules)
 
-    at : (k : ℕ) (d : Option Verdict) → k < length old → slice_index_or old k d ≡ slice_index_or new k d
+    at : (k : ℕ) (d : Option TrialVerdict) → k < length old → slice_index_or old k d ≡ slice_index_or new k d
     at k d inside = chosen (cases_eq t.rule k)
       where
         within : k < rules
@@ -78,9 +78,9 @@ tried_some rule (t ∷ tried) = chosen (t.rule == rule) (tried_some rule tried)
     chosen false h = h
 
 -- the verdict on a rule in the table
-pub verdict_at : (rules rule : ℕ) (tried : List Trial) (verdicts : List (Option Verdict)) (d : Option Verdict) → verdicts ≡ verdicts_of rules tried → rule < rules → slice_index_or verdicts rule d ≡ verdict_in rule tried
+pub verdict_at : (rules rule : ℕ) (tried : List Trial) (verdicts : List (Option TrialVerdict)) (d : Option TrialVerdict) → verdicts ≡ verdicts_of rules tried → rule < rules → slice_index_or verdicts rule d ≡ verdict_in rule tried
 verdict_at rules rule tried verdicts d is within =
-    ap (λ (vs : List (Option Verdict)). slice_index_or vs rule d) is ∙ get_or-map-range_with_len (λ (r : ℕ). verdict_in r tried) 0 rules rule rule d within (omega arith)
+    ap (λ (vs : List (Option TrialVerdict)). slice_index_or vs rule d) is ∙ get_or-map-range_with_len (λ (r : ℕ). verdict_in r tried) 0 rules rule rule d within (omega arith)
 
-pub table_length : (rules : ℕ) (tried : List Trial) (verdicts : List (Option Verdict)) → verdicts ≡ verdicts_of rules tried → length verdicts ≡ rules
+pub table_length : (rules : ℕ) (tried : List Trial) (verdicts : List (Option TrialVerdict)) → verdicts ≡ verdicts_of rules tried → length verdicts ≡ rules
 table_length rules tried verdicts is = ap length is ∙ length-map-range_with_len (λ (r : ℕ). verdict_in r tried) 0 rules

@@ -18,11 +18,11 @@ use Rattle.stim_report.specs.declared.shape.Shape.{Shape}
 use Rattle.stim_report.proofs.Values.{value_width}
 use Rattle.attempt_log.specs.declared.cause.Cause.{Cause}
 use Rattle.attempt_log.specs.declared.cause.Cause.TheVariants as cause
-use Rattle.journal_check.specs.Printing.{access_text, joined, rule_name, spaced, value_text}
+use Rattle.journal_check.specs.Printing.{access_text, joined_tokens, rule_name, spaced, value_text}
 use Rattle.lab_core.specs.Trials.{is_tried, untried}
 use Rattle.lab_core.specs.Why.{is_asked, untried_line}
 use Rattle.lab_core.specs.declared.trial.Trial.{Trial}
-use Rattle.lab_core.specs.declared.trial.Verdict.{Verdict}
+use Rattle.lab_core.specs.declared.trial.TrialVerdict.{TrialVerdict}
 use Rattle.lab_core.specs.inner.Lines.{asked_line, text_at}
 use Rattle.lab_core.specs.Numbers.{RuleNumbers, unwatched_count, verdict_in}
 use Rattle.lab_core.specs.Profiles.{assert_counts, assert_line, first_tokens, refusal_line, refusal_tokens, unwatched_tokens}
@@ -70,7 +70,7 @@ lines_more design only rule tried =
     ∙ flat_map-append (untried_line design) (filter (is_asked only) (untried rule tried)) (filter (is_asked only) last)
 
 -- a rule's own line, by its verdict
-own_line : (design : Parts) (only : Option ℕ) (rule : ℕ) (v : Option Verdict) → lines_of design only (cond (not (is_some v)) (rule ∷ []) []) ≡ asked_line design only rule v
+own_line : (design : Parts) (only : Option ℕ) (rule : ℕ) (v : Option TrialVerdict) → lines_of design only (cond (not (is_some v)) (rule ∷ []) []) ≡ asked_line design only rule v
 own_line design only rule (Some v) = refl
 own_line design only rule None = chosen (is_asked only rule)
   where
@@ -78,12 +78,12 @@ own_line design only rule None = chosen (is_asked only rule)
     chosen true = append-nil (untried_line design rule)
     chosen false = refl
 
-pub line_more : (design : Parts) (only : Option ℕ) (rule : ℕ) (tried : List Trial) (text now next : List ℕ) (v : Option Verdict) → v ≡ verdict_in rule tried
+pub line_more : (design : Parts) (only : Option ℕ) (rule : ℕ) (tried : List Trial) (text now next : List ℕ) (v : Option TrialVerdict) → v ≡ verdict_in rule tried
     → now ≡ text ++ flat_map (untried_line design) (filter (is_asked only) (untried rule tried)) → next ≡ now ++ asked_line design only rule v
     → next ≡ text ++ flat_map (untried_line design) (filter (is_asked only) (untried (rule + 1) tried))
 line_more design only rule tried text now next v is so_far written =
     let last : lines_of design only (cond (not (is_tried tried rule)) (rule ∷ []) []) ≡ asked_line design only rule v =
-    ap (λ (b : Bool). lines_of design only (cond (not b) (rule ∷ []) [])) (sym (ap (λ (o : Option Verdict). is_some o) is ∙ tried_some rule tried)) ∙ own_line design only rule v in
+    ap (λ (b : Bool). lines_of design only (cond (not b) (rule ∷ []) [])) (sym (ap (λ (o : Option TrialVerdict). is_some o) is ∙ tried_some rule tried)) ∙ own_line design only rule v in
     written ∙ ap (λ (t : List ℕ). t ++ asked_line design only rule v) so_far
     ∙ append_assoc text (lines_of design only (untried rule tried)) (asked_line design only rule v)
     ∙ ap (λ (t : List ℕ). text ++ t) (sym (lines_more design only rule tried ∙ ap (λ (t : List ℕ). lines_of design only (untried rule tried) ++ t) last))
@@ -122,20 +122,20 @@ items_more {X} f xs n = ap (λ (k : ℕ). flat_map f (take k xs)) (add-one n) �
 -- ---- tokens
 
 -- a line of tokens and more tokens
-pub joined_more : (t : List ℕ) (ts us : List (List ℕ)) → joined ((t ∷ ts) ++ us) ≡ joined (t ∷ ts) ++ flat_map spaced us
+pub joined_more : (t : List ℕ) (ts us : List (List ℕ)) → joined_tokens ((t ∷ ts) ++ us) ≡ joined_tokens (t ∷ ts) ++ flat_map spaced us
 joined_more t ts us = ap (λ (x : List ℕ). t ++ x) (flat_map-append spaced ts us) ∙ sym (append_assoc t (flat_map spaced ts) (flat_map spaced us))
 
-refusal_joined : (design : Parts) (name : List ℕ) (c : Cause) (us : List (List ℕ)) → joined (refusal_tokens design name c ++ us) ≡ joined (refusal_tokens design name c) ++ flat_map spaced us
+refusal_joined : (design : Parts) (name : List ℕ) (c : Cause) (us : List (List ℕ)) → joined_tokens (refusal_tokens design name c ++ us) ≡ joined_tokens (refusal_tokens design name c) ++ flat_map spaced us
 refusal_joined design name cause.Abort us = joined_more (codes "abort") (name ∷ []) us
 refusal_joined design name (cause.OwnClash a) us = joined_more (codes "own") (name ∷ access_text design a ∷ []) us
 refusal_joined design name (cause.Clash a q e) us = joined_more (codes "clash") (name ∷ access_text design a ∷ rule_name design q ∷ access_text design e ∷ []) us
 
 -- a refusal, its count and its first cycle, one after another
 pub refusal_written : (design : Parts) (name : List ℕ) (c : Cause) (count first : ℕ) (text : List ℕ)
-    → (((text ++ joined (refusal_tokens design name c)) ++ spaced (decimal count)) ++ flat_map spaced (first_tokens first)) ++ 10 ∷ []
+    → (((text ++ joined_tokens (refusal_tokens design name c)) ++ spaced (decimal count)) ++ flat_map spaced (first_tokens first)) ++ 10 ∷ []
     ≡ text ++ refusal_line design name (record { cause = c; count = count; first = first })
 refusal_written design name c count first text =
-    let tokens = joined (refusal_tokens design name c) in
+    let tokens = joined_tokens (refusal_tokens design name c) in
     let last = flat_map spaced (first_tokens first) in
     ap (λ (t : List ℕ). t ++ 10 ∷ []) (append_assoc (text ++ tokens) (spaced (decimal count)) last ∙ append_assoc text tokens (spaced (decimal count) ++ last))
     ∙ append_assoc text (tokens ++ (spaced (decimal count) ++ last)) (10 ∷ [])
@@ -143,9 +143,9 @@ refusal_written design name c count first text =
 
 -- the counts of an assertion, and its first cycle
 pub assert_written : (name : List ℕ) (n : RuleNumbers) (text : List ℕ)
-    → ((text ++ joined (assert_counts name n)) ++ flat_map spaced (unwatched_tokens n.unwatched)) ++ 10 ∷ [] ≡ text ++ assert_line name (Some n)
+    → ((text ++ joined_tokens (assert_counts name n)) ++ flat_map spaced (unwatched_tokens n.unwatched)) ++ 10 ∷ [] ≡ text ++ assert_line name (Some n)
 assert_written name n text =
-    let tokens = joined (assert_counts name n) in
+    let tokens = joined_tokens (assert_counts name n) in
     let last = flat_map spaced (unwatched_tokens n.unwatched) in
     ap (λ (t : List ℕ). t ++ 10 ∷ []) (append_assoc text tokens last) ∙ append_assoc text (tokens ++ last) (10 ∷ [])
     ∙ ap (λ (t : List ℕ). text ++ (t ++ 10 ∷ []))
@@ -153,7 +153,7 @@ assert_written name n text =
 
 -- a word, a token and lists of tokens, one after another
 pub five_in_turn : (text word name : List ℕ) (a b c : List (List ℕ))
-    → ((((text ++ word) ++ spaced name) ++ flat_map spaced a) ++ flat_map spaced b) ++ flat_map spaced c ≡ text ++ joined (word ∷ name ∷ (a ++ (b ++ c)))
+    → ((((text ++ word) ++ spaced name) ++ flat_map spaced a) ++ flat_map spaced b) ++ flat_map spaced c ≡ text ++ joined_tokens (word ∷ name ∷ (a ++ (b ++ c)))
 five_in_turn text word name a b c =
     let x = flat_map spaced a in
     let y = flat_map spaced b in

@@ -7,7 +7,7 @@ use Rattle.typed_core.specs.Clash.{clashes, ports_clash}
 use Rattle.typed_core.specs.declared.access.Access.{Access}
 use Rattle.typed_core.specs.declared.access.Event.{Event}
 use Rattle.one_rule.specs.declared.cycle.Fired.{Fired}
-use Rattle.attempt_log.specs.Verdict.{clash, clash_or, first_clash, first_of}
+use Rattle.attempt_log.specs.Verdict.{clash, clash_or, first_clash, named_first}
 use Rattle.lab_core.specs.declared.trial.Trial.{Trial}
 use Rattle.lab_core.specs.declared.tried.Top.{Top}
 use Rattle.lab_core.specs.inner.Tops.{Covers, IsCovered, IsUnder, Keeps, fired_by, fired_in, may_clash, may_meet}
@@ -41,7 +41,7 @@ apart tops a e covered h = chosen (a.register == e.register) refl
 first_none : (tops : List Top) (a : Access) → may_clash tops a ≡ false → (events : List Event) → AllByRecursion (λ (e : Event). IsCovered tops e.access) events → first_clash a events ≡ None
 first_none tops a h [] covered = refl
 first_none tops a h (e ∷ events) covered =
-    ap (λ (b : Bool). if b then Some (first_of e.access (first_clash a events)) else first_clash a events) (apart tops a e.access covered.0 h)
+    ap (λ (b : Bool). if b then Some (named_first e.access (first_clash a events)) else first_clash a events) (apart tops a e.access covered.0 h)
     ∙ first_none tops a h events covered.1
 
 -- an access that may clash with none doesn't

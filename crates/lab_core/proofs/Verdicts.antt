@@ -15,7 +15,7 @@ use Rattle.attempt_log.specs.declared.cause.Cause.{Cause}
 use Rattle.attempt_log.proofs.Verdicts.{Has, clash_is_behind, free_is_clear}
 use Rattle.typed_core.specs.declared.access.Access.{Access}
 use Rattle.lab_core.specs.Trials.{clash_among, refused, unclashed, verdict_of}
-use Rattle.lab_core.specs.declared.trial.Verdict.TheVariants as verdict
+use Rattle.lab_core.specs.declared.trial.TrialVerdict.TheVariants as verdict
 
 -- a clash is that of some event
 record HasClash (past : List Fired) (events : List Event) : Type 0 where

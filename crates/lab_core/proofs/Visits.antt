@@ -13,23 +13,23 @@ use Rattle.one_rule.specs.declared.cycle.State.{State}
 use Rattle.attempt_log.specs.declared.cause.Cause.{Cause}
 use Rattle.lab_core.specs.Trials.{unclashed, verdict_of}
 use Rattle.lab_core.specs.declared.trial.Trial.{Trial}
-use Rattle.lab_core.specs.declared.trial.Verdict.{Verdict}
-use Rattle.lab_core.specs.declared.trial.Verdict.TheVariants as verdict
+use Rattle.lab_core.specs.declared.trial.TrialVerdict.{TrialVerdict}
+use Rattle.lab_core.specs.declared.trial.TrialVerdict.TheVariants as verdict
 use Rattle.lab_core.specs.inner.Steps.{state_of, walk_at}
 use Rattle.lab_core.specs.inner.Tops.{fired_by, fired_in}
 use Rattle.lab_core.proofs.Tops.{fired_in-push}
 use Rattle.lab_core.proofs.Verdicts.{all_shown, fired_fires, fires_clear, refused_idle}
 
 -- the trial of a rule that did this alone
-abbrev pub IsTrial : List Trial → Alone → Verdict → List Event → Type 0
+abbrev pub IsTrial : List Trial → Alone → TrialVerdict → List Event → Type 0
 IsTrial tried run v events = (v ≡ verdict_of (fired_in tried) run) × (events ≡ unclashed (fired_in tried) run.events)
 
 -- a rule that fires shows all events
-pub fired_shows : (tried : List Trial) (run : Alone) (v : Verdict) (events : List Event) → IsTrial tried run v events → v ≡ verdict.Fired → events ≡ run.events
+pub fired_shows : (tried : List Trial) (run : Alone) (v : TrialVerdict) (events : List Event) → IsTrial tried run v events → v ≡ verdict.Fired → events ≡ run.events
 fired_shows tried run v events is fired =
     is.1 ∙ all_shown (fired_in tried) run.events (fires_clear (fired_in tried) run (fired_fires (fired_in tried) run (sym is.0 ∙ fired)))
 
-module _ (system : System) (inputs : List BitVector) (node : Node) (regs : List BitVector) (tried : List Trial) (run : Alone) (v : Verdict) (events : List Event)
+module _ (system : System) (inputs : List BitVector) (node : Node) (regs : List BitVector) (tried : List Trial) (run : Alone) (v : TrialVerdict) (events : List Event)
     (alone : run ≡ system.alone node.rule inputs regs) (is : IsTrial tried run v events) where
   abbrev state : State
   state = state_of regs tried
@@ -44,7 +44,7 @@ module _ (system : System) (inputs : List BitVector) (node : Node) (regs : List 
       ∙ ap (λ (b : Bool). goes_on node state (if b then Some (join state node.rule run.events) else None)) (fired_fires (fired_in tried) run (sym is.0 ∙ fired))
       ∙ ap₂ (λ (rs : List BitVector) (past : List Fired). let w : Walk State = record { state = record { regs = rs; past = past }; at = node.yes } in w)
       (sym (changed ∙ ap (λ (es : List Event). after es regs) same))
-      (sym (ap fired_in pushed ∙ fired_in-push tried trial ∙ ap₂ (λ (w : Verdict) (es : List Event). fired_in tried ++ fired_by w node.rule es) fired same))
+      (sym (ap fired_in pushed ∙ fired_in-push tried trial ∙ ap₂ (λ (w : TrialVerdict) (es : List Event). fired_in tried ++ fired_by w node.rule es) fired same))
     where
       same : events ≡ run.events
       same = fired_shows tried run v events is fired
@@ -55,4 +55,4 @@ module _ (system : System) (inputs : List BitVector) (node : Node) (regs : List 
       ap (λ (r : Alone). goes_on node state (if fires (fired_in tried) r then Some (join state node.rule r.events) else None)) (sym alone)
       ∙ ap (λ (b : Bool). goes_on node state (if b then Some (join state node.rule run.events) else None)) (refused_idle (fired_in tried) run c (sym is.0 ∙ refused))
       ∙ ap (λ (past : List Fired). let w : Walk State = record { state = record { regs = regs; past = past }; at = node.no } in w)
-      (sym (ap fired_in pushed ∙ fired_in-push tried trial ∙ ap (λ (w : Verdict). fired_in tried ++ fired_by w node.rule events) refused ∙ append-nil (fired_in tried)))
+      (sym (ap fired_in pushed ∙ fired_in-push tried trial ∙ ap (λ (w : TrialVerdict). fired_in tried ++ fired_by w node.rule events) refused ∙ append-nil (fired_in tried)))

@@ -12,8 +12,8 @@ use Rattle.attempt_log.specs.declared.cause.Verdict.TheVariants.{Commit, Skip}
 use Rattle.lab_core.specs.Runs.{registers_before, trials_in, trials_of_run}
 use Rattle.lab_core.specs.Trials.{verdict_of}
 use Rattle.lab_core.specs.Why.{text_in, why_text}
-use Rattle.lab_core.specs.declared.trial.Verdict.{Verdict}
-use Rattle.lab_core.specs.declared.trial.Verdict.TheVariants as verdict
+use Rattle.lab_core.specs.declared.trial.TrialVerdict.{TrialVerdict}
+use Rattle.lab_core.specs.declared.trial.TrialVerdict.TheVariants as verdict
 
 -- ---- verdicts
 
@@ -22,7 +22,7 @@ abbrev pub FiredWhereItFires : Type 0
 FiredWhereItFires = (past : List Fired) (run : Alone) → (verdict_of past run ≡ verdict.Fired) ↔ (fires past run ≡ true)
 
 -- what is answered to an attempt with this verdict
-abbrev pub as_attempt : Verdict → attempt.Verdict
+abbrev pub as_attempt : TrialVerdict → attempt.Verdict
 as_attempt verdict.Fired = Commit
 as_attempt (verdict.Refused c) = Skip c
 

@@ -6,17 +6,17 @@ use Rattle.typed_core.specs.declared.access.Access.{Access}
 use Rattle.attempt_log.specs.declared.cause.Cause.{Cause}
 use Rattle.attempt_log.specs.declared.cause.Cause.TheVariants as cause
 use Rattle.lab_core.specs.declared.trial.Trial.{Trial}
-use Rattle.lab_core.specs.declared.trial.Verdict.{Verdict}
-use Rattle.lab_core.specs.declared.trial.Verdict.TheVariants as verdict
+use Rattle.lab_core.specs.declared.trial.TrialVerdict.{TrialVerdict}
+use Rattle.lab_core.specs.declared.trial.TrialVerdict.TheVariants as verdict
 
 -- ---- a rule in a cycle
 
 -- the verdict on a rule, if it was tried
-abbrev pub verdict_in : ℕ → List Trial → Option Verdict
+abbrev pub verdict_in : ℕ → List Trial → Option TrialVerdict
 verdict_in rule tried = option_map (λ (t : Trial). t.verdict) (find (λ (t : Trial). t.rule == rule) tried)
 
 -- the rule fired
-abbrev pub has_fired : Option Verdict → Bool
+abbrev pub has_fired : Option TrialVerdict → Bool
 has_fired (Some verdict.Fired) = true
 has_fired (Some (verdict.Refused c)) = false
 has_fired None = false
@@ -40,7 +40,7 @@ is_clash (cause.OwnClash access) = false
 is_clash (cause.Clash access rule earlier) = true
 
 -- why the rule was tried and didn't fire, if so
-abbrev pub cause_in : Option Verdict → Option Cause
+abbrev pub cause_in : Option TrialVerdict → Option Cause
 cause_in (Some verdict.Fired) = None
 cause_in (Some (verdict.Refused c)) = Some c
 cause_in None = None
@@ -51,7 +51,7 @@ passes test (Some c) = test c
 passes test None = false
 
 -- the rule wasn't tried
-abbrev pub was_untried : Option Verdict → Bool
+abbrev pub was_untried : Option TrialVerdict → Bool
 was_untried v = not (is_some v)
 
 -- a refusal by the rule's own accesses or those of another
@@ -59,7 +59,7 @@ abbrev pub is_refusal : Cause → Bool
 is_refusal c = not (is_abort c)
 
 -- the cycle says nothing of an assertion: the rule was refused or not tried
-abbrev pub is_unwatched : Option Verdict → Bool
+abbrev pub is_unwatched : Option TrialVerdict → Bool
 is_unwatched v = passes is_refusal (cause_in v) || was_untried v
 
 -- ---- refusals
@@ -117,7 +117,7 @@ pub record RuleNumbers : Type 0 where
   pub refusals : List Counted
 
 -- the numbers of a rule with these verdicts in the cycles 1 and on
-abbrev pub rule_numbers : List (Option Verdict) → RuleNumbers
+abbrev pub rule_numbers : List (Option TrialVerdict) → RuleNumbers
 rule_numbers verdicts =
     let causes : List (Option Cause) = map cause_in verdicts in
     record {
@@ -131,12 +131,12 @@ rule_numbers verdicts =
     }
 
 -- what is counted of a run, rule by rule in order of declaration
-pub record Numbers : Type 0 where
+pub record RunNumbers : Type 0 where
   pub cycles : ℕ
   pub rules : List RuleNumbers
 
 -- the numbers of cycles with these trials, of a system with that many rules
-unfoldable pub numbers_of : ℕ → List (List Trial) → Numbers
+unfoldable pub numbers_of : ℕ → List (List Trial) → RunNumbers
 numbers_of rules cycles = record {
   cycles = length cycles;
   rules = map (λ rule. rule_numbers (map (verdict_in rule) cycles)) (range_with_len 0 rules);
@@ -154,5 +154,5 @@ is_in_doubt None = false
 is_in_doubt (Some n) = nat_lt 0 n.fired || nat_lt 0 (unwatched_count n)
 
 -- so it is with the assertion of one of these rules
-abbrev pub fails_strictly : List ℕ → Numbers → Bool
+abbrev pub fails_strictly : List ℕ → RunNumbers → Bool
 fails_strictly marks numbers = list_any (λ mark. is_in_doubt (slice_get numbers.rules mark)) marks

@@ -4,17 +4,17 @@ use Rattle.std.specs.List.{flat_map}
 use Rattle.typed_core.specs.declared.design.Parts.{Parts}
 use Rattle.attempt_log.specs.declared.cause.Cause.{Cause}
 use Rattle.attempt_log.specs.declared.cause.Cause.TheVariants as cause
-use Rattle.journal_check.specs.Printing.{access_text, ended, joined, rule_name}
-use Rattle.lab_core.specs.Numbers.{Counted, Numbers, RuleNumbers, unwatched_count}
+use Rattle.journal_check.specs.Printing.{access_text, ended, joined_tokens, rule_name}
+use Rattle.lab_core.specs.Numbers.{Counted, RunNumbers, RuleNumbers, unwatched_count}
 
 -- how many cycles there were
 abbrev pub cycles_line : ℕ → List ℕ
-cycles_line cycles = ended (joined (codes "cycles" ∷ decimal cycles ∷ []))
+cycles_line cycles = ended (joined_tokens (codes "cycles" ∷ decimal cycles ∷ []))
 
 -- the five counts of a rule
 abbrev pub counts_line : List ℕ → RuleNumbers → List ℕ
 counts_line name n =
-    ended (joined (codes "rule" ∷ name ∷ codes "fired" ∷ decimal n.fired ∷ codes "abort" ∷ decimal n.aborted
+    ended (joined_tokens (codes "rule" ∷ name ∷ codes "fired" ∷ decimal n.fired ∷ codes "abort" ∷ decimal n.aborted
     ∷ codes "own" ∷ decimal n.own ∷ codes "clash" ∷ decimal n.clashed ∷ codes "untried" ∷ decimal n.untried ∷ []))
 
 -- a refusal of a rule
@@ -31,7 +31,7 @@ first_tokens cycle = codes "first" ∷ decimal cycle ∷ []
 -- a refusal with its count and its first cycle
 abbrev pub refusal_line : Parts → List ℕ → Counted → List ℕ
 refusal_line design name c =
-    ended (joined (refusal_tokens design name c.cause ++ (decimal c.count ∷ first_tokens c.first)))
+    ended (joined_tokens (refusal_tokens design name c.cause ++ (decimal c.count ∷ first_tokens c.first)))
 
 -- the lines of a rule
 abbrev pub rule_text : Parts → List ℕ → RuleNumbers → List ℕ
@@ -55,10 +55,10 @@ assert_counts name n =
 -- the line of an assertion, whose rule has these numbers
 abbrev pub assert_line : List ℕ → Option RuleNumbers → List ℕ
 assert_line name None = []
-assert_line name (Some n) = ended (joined (assert_counts name n ++ unwatched_tokens n.unwatched))
+assert_line name (Some n) = ended (joined_tokens (assert_counts name n ++ unwatched_tokens n.unwatched))
 
 -- the text of numbers, with the assertions of these rules
-abbrev pub profile_text : Parts → List ℕ → Numbers → List ℕ
+abbrev pub profile_text : Parts → List ℕ → RunNumbers → List ℕ
 profile_text design marks numbers =
     cycles_line numbers.cycles ++ rules_text design 0 numbers.rules
     ++ flat_map (λ mark. assert_line (rule_name design mark) (slice_get numbers.rules mark)) marks

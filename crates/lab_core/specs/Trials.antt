@@ -18,8 +18,8 @@ use Rattle.attempt_log.specs.Verdict.{clash}
 use Rattle.attempt_log.specs.declared.cause.Cause.{Cause}
 use Rattle.attempt_log.specs.declared.cause.Cause.TheVariants as cause
 use Rattle.lab_core.specs.declared.trial.Trial.{Trial}
-use Rattle.lab_core.specs.declared.trial.Verdict.{Verdict}
-use Rattle.lab_core.specs.declared.trial.Verdict.TheVariants as verdict
+use Rattle.lab_core.specs.declared.trial.TrialVerdict.{TrialVerdict}
+use Rattle.lab_core.specs.declared.trial.TrialVerdict.TheVariants as verdict
 
 -- the clash of the first event that clashes with a rule that fired before
 abbrev pub clash_among : List Fired → List Event → Option Cause
@@ -32,14 +32,14 @@ unclashed past [] = []
 unclashed past (e ∷ events) = if is_some (clash e.access past) then [] else e ∷ unclashed past events
 
 -- why a rule doesn't fire: its clash, or else how it ended; with neither it fires
-abbrev pub refused : Option Cause → Outcome → Verdict
+abbrev pub refused : Option Cause → Outcome → TrialVerdict
 refused (Some found) ending = verdict.Refused found
 refused None outcome.Abort = verdict.Refused cause.Abort
 refused None (outcome.OwnClash access) = verdict.Refused (cause.OwnClash access)
 refused None outcome.Done = verdict.Fired
 
 -- whether a rule that does this alone fires after these rules, or why not
-abbrev pub verdict_of : List Fired → Alone → Verdict
+abbrev pub verdict_of : List Fired → Alone → TrialVerdict
 verdict_of past run = if fires past run then verdict.Fired else refused (clash_among past run.events) run.outcome
 
 -- the trial of a rule on a state of the walk

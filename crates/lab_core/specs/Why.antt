@@ -8,13 +8,13 @@ use Rattle.one_rule.specs.Cycle.{system_of}
 use Rattle.one_rule.specs.Run.{InputsByCycle}
 use Rattle.stim_report.specs.Report.{registers_text}
 use Rattle.stim_report.specs.Shapes.{shape_of}
-use Rattle.journal_check.specs.Printing.{cause_tokens, ended, event_text, joined, rule_name}
+use Rattle.journal_check.specs.Printing.{cause_tokens, ended, event_text, joined_tokens, rule_name}
 use Rattle.journal_check.specs.Tokens.{number_named, rule_names}
 use Rattle.lab_core.specs.Runs.{registers_before}
 use Rattle.lab_core.specs.Trials.{trials, untried}
 use Rattle.lab_core.specs.declared.trial.Trial.{Trial}
-use Rattle.lab_core.specs.declared.trial.Verdict.{Verdict}
-use Rattle.lab_core.specs.declared.trial.Verdict.TheVariants as verdict
+use Rattle.lab_core.specs.declared.trial.TrialVerdict.{TrialVerdict}
+use Rattle.lab_core.specs.declared.trial.TrialVerdict.TheVariants as verdict
 
 -- the cycle, its inputs, and the registers that it finds
 abbrev pub cycle_line : Parts → ℕ → List BitVector → List BitVector → List ℕ
@@ -22,18 +22,18 @@ cycle_line design cycle inputs regs =
     ended (codes "cycle " ++ decimal cycle ++ registers_text (shape_of design).inputs inputs ++ registers_text (shape_of design).registers regs)
 
 -- whether a rule fired, or why not
-abbrev pub verdict_tokens : Parts → Verdict → List (List ℕ)
+abbrev pub verdict_tokens : Parts → TrialVerdict → List (List ℕ)
 verdict_tokens design verdict.Fired = codes "fired" ∷ []
 verdict_tokens design (verdict.Refused cause) = cause_tokens design cause
 
 -- the rule, its verdict, a colon and the events
 abbrev pub trial_line : Parts → Trial → List ℕ
 trial_line design t =
-    ended (joined (rule_name design t.rule ∷ verdict_tokens design t.verdict ++ (codes ":" ∷ map (event_text design) t.events)))
+    ended (joined_tokens (rule_name design t.rule ∷ verdict_tokens design t.verdict ++ (codes ":" ∷ map (event_text design) t.events)))
 
 -- a rule that has no trial
 abbrev pub untried_line : Parts → ℕ → List ℕ
-untried_line design rule = ended (joined (rule_name design rule ∷ codes "untried" ∷ []))
+untried_line design rule = ended (joined_tokens (rule_name design rule ∷ codes "untried" ∷ []))
 
 -- whether lines of the rule are written: where one rule is asked for, those of that rule alone
 abbrev pub is_asked : Option ℕ → ℕ → Bool

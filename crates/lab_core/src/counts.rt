@@ -5,7 +5,7 @@ ghost use Rattle.lab_core.specs.Numbers.{Counted, unwatched_count};
 ghost use Rattle.lab_core.specs.inner.Counting.{AreBelow, cause_at, counted_of, first_of, seen_next, with_cause, with_refusal, with_verdict};
 
 use crate::refusal::{Refusal, Seen};
-use crate::trial::Verdict;
+use crate::trial::TrialVerdict;
 use attempt_log::Cause;
 use indexmap::IndexMap;
 use kw_bits::NoMemory;
@@ -62,14 +62,14 @@ impl RuleCounts {
     }
 
     /// Counts the verdict on the rule in a cycle, if it was tried.
-    pub(crate) fn note(&mut self, cycle: u32, verdict: Option<Verdict>) -> Result<(), NoMemory>
+    pub(crate) fn note(&mut self, cycle: u32, verdict: Option<TrialVerdict>) -> Result<(), NoMemory>
         requires { AreBelow cycle self.old }
         ensures numbers { OnOk result (self.new ≡ with_verdict cycle self.old verdict) }
         ensures few { AreBelow (cycle + 1) self.new }
     {
         match verdict {
-            Some(Verdict::Fired) => self.fired += 1,
-            Some(Verdict::Refused(cause)) => self.note_cause(cycle, &cause)?,
+            Some(TrialVerdict::Fired) => self.fired += 1,
+            Some(TrialVerdict::Refused(cause)) => self.note_cause(cycle, &cause)?,
             None => {
                 self.untried += 1;
                 self.unwatched = first_of(self.unwatched, cycle);

@@ -4,7 +4,7 @@ ghost use Rattle.std.specs.Prelude.{◌≡◌, None, take};
 ghost use Rattle.lab_core.specs.Trials.{refused, unclashed, verdict_of};
 ghost use Rattle.lab_core.specs.inner.Tops.{fired_in};
 
-use crate::trial::Verdict;
+use crate::trial::TrialVerdict;
 use crate::tried::Tried;
 use attempt_log::Cause;
 use typed_core::{Alone, Outcome};
@@ -12,7 +12,7 @@ use typed_core::{Alone, Outcome};
 // A verdict, and how many of the events a trial shows.
 #[derive(Clone, Copy)]
 pub(crate) struct Judged {
-    pub(crate) verdict: Verdict,
+    pub(crate) verdict: TrialVerdict,
     pub(crate) shown: usize,
 }
 
@@ -24,7 +24,7 @@ pub(crate) fn judge(tried: &Tried, run: &Alone) -> Judged
     for (number, event) in run.events.as_slice().iter().enumerate() {
         if let Some(cause) = tried.clash(&event.access) {
             return Judged {
-                verdict: Verdict::Refused(cause),
+                verdict: TrialVerdict::Refused(cause),
                 shown: number,
             };
         }
@@ -36,12 +36,12 @@ pub(crate) fn judge(tried: &Tried, run: &Alone) -> Judged
 }
 
 // The verdict on a rule that ended so and has no clash.
-fn at_end(outcome: Outcome) -> Verdict
+fn at_end(outcome: Outcome) -> TrialVerdict
     ensures { result ≡ refused None outcome }
 {
     match outcome {
-        Outcome::Done => Verdict::Fired,
-        Outcome::Abort => Verdict::Refused(Cause::Abort),
-        Outcome::OwnClash(access) => Verdict::Refused(Cause::OwnClash(access)),
+        Outcome::Done => TrialVerdict::Fired,
+        Outcome::Abort => TrialVerdict::Refused(Cause::Abort),
+        Outcome::OwnClash(access) => TrialVerdict::Refused(Cause::OwnClash(access)),
     }
 }

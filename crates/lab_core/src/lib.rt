@@ -24,6 +24,6 @@ pub use laws::{
     a_verdict_says_whether_the_rule_fires, each_cycle_finds_what_was_left,
 };
 pub use profile::Profile;
-pub use trial::{Trial, Verdict};
+pub use trial::{Trial, TrialVerdict};
 pub use walk::{slow_trials, trials};
 pub use why::{rule_named, why_cycle};

@@ -17,7 +17,7 @@ ghost use Rattle.lab_core.specs.inner.Counting.{AreBelow, with_verdict};
 use crate::counts::RuleCounts;
 use crate::shown::{push_assert, push_cycles, push_rules};
 use crate::table::verdicts_of;
-use crate::trial::Verdict;
+use crate::trial::TrialVerdict;
 use crate::walk::trials;
 use crate::words::name_of;
 use kw_bits::{NoMemory, Text};
@@ -35,10 +35,10 @@ pub struct Profile {
 
 impl Model for Profile {
     ghost use Rattle.std.specs.Prelude.{◌+◌, All};
-    ghost use Rattle.lab_core.specs.Numbers.{Numbers};
+    ghost use Rattle.lab_core.specs.Numbers.{RunNumbers};
     ghost use Rattle.lab_core.specs.inner.Counting.{AreBelow};
 
-    ghost Value = { Numbers };
+    ghost Value = { RunNumbers };
 
     ghost view = { λ p. record { cycles = p.cycles; rules = p.rules.items } };
 
@@ -142,7 +142,7 @@ fn no_counts(alloc: Global, rules: usize) -> Result<Vec<RuleCounts>, NoMemory>
 fn note_all(
     rules: &mut Vec<RuleCounts>,
     cycle: u32,
-    verdicts: &[Option<Verdict>],
+    verdicts: &[Option<TrialVerdict>],
 ) -> Result<(), NoMemory>
     requires few { All (AreBelow cycle) rules.old.items }
     requires count { length verdicts.now ≡ length rules.old.items }

@@ -2,7 +2,7 @@
 
 ghost use Rattle.std.specs.Prelude.{◌≡◌, ◌++◌, ◌∷◌, [], OnOk, Some, decimal, slice_get};
 ghost use Rattle.std.specs.List.{flat_map};
-ghost use Rattle.journal_check.specs.Printing.{joined, rule_name, spaced};
+ghost use Rattle.journal_check.specs.Printing.{joined_tokens, rule_name, spaced};
 ghost use Rattle.lab_core.specs.inner.Lines.{text_at};
 ghost use Rattle.lab_core.specs.Profiles.{assert_counts, assert_line, counts_line, cycles_line, first_tokens, refusal_line, refusal_tokens, rules_text, unwatched_tokens};
 
@@ -123,7 +123,7 @@ fn push_refusal(
     name: &[u8],
     cause: &Cause,
 ) -> Result<(), NoMemory>
-    ensures { OnOk result (text.new ≡ text.old ++ joined (refusal_tokens design.now name.now cause.now)) }
+    ensures { OnOk result (text.new ≡ text.old ++ joined_tokens (refusal_tokens design.now name.now cause.now)) }
 {
     match cause {
         Cause::Abort => {
@@ -168,7 +168,7 @@ pub(crate) fn push_assert(text: &mut Text, name: &[u8], counts: &RuleCounts) -> 
 
 // Adds the name and the counts of an assertion.
 fn push_assert_counts(text: &mut Text, name: &[u8], counts: &RuleCounts) -> Result<(), NoMemory>
-    ensures { OnOk result (text.new ≡ text.old ++ joined (assert_counts name.now counts.now)) }
+    ensures { OnOk result (text.new ≡ text.old ++ joined_tokens (assert_counts name.now counts.now)) }
 {
     text.extend_from_slice(b"assert")?;
     push_token(text, name)?;

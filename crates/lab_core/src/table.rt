@@ -3,7 +3,7 @@
 ghost use Rattle.std.specs.Prelude.{◌≡◌, IfOk, None, Some, replicate, slice_set};
 ghost use Rattle.lab_core.specs.inner.Counting.{verdicts_of};
 
-use crate::trial::{Trial, Verdict};
+use crate::trial::{Trial, TrialVerdict};
 use kw_bits::NoMemory;
 use std::alloc::Global;
 
@@ -12,7 +12,7 @@ pub(crate) fn verdicts_of(
     alloc: Global,
     rules: usize,
     tried: &[Trial],
-) -> Result<Vec<Option<Verdict>>, NoMemory>
+) -> Result<Vec<Option<TrialVerdict>>, NoMemory>
     ensures { IfOk result (λ verdicts. verdicts.items ≡ verdicts_of rules tried.now) }
 {
     let mut verdicts = no_verdicts(alloc, rules)?;
@@ -23,7 +23,7 @@ pub(crate) fn verdicts_of(
 }
 
 // No verdict on that many rules.
-fn no_verdicts(alloc: Global, rules: usize) -> Result<Vec<Option<Verdict>>, NoMemory>
+fn no_verdicts(alloc: Global, rules: usize) -> Result<Vec<Option<TrialVerdict>>, NoMemory>
     ensures { IfOk result (λ verdicts. verdicts.items ≡ replicate rules None) }
 {
     let mut verdicts = Vec::with_capacity(alloc, rules)?;
@@ -35,7 +35,7 @@ fn no_verdicts(alloc: Global, rules: usize) -> Result<Vec<Option<Verdict>>, NoMe
 
 // Puts the verdict of a trial in the place of its rule.
 #[tactic(auto, using(crate::proofs::Tables::outside))]
-fn put(verdicts: &mut Vec<Option<Verdict>>, trial: &Trial)
+fn put(verdicts: &mut Vec<Option<TrialVerdict>>, trial: &Trial)
     ensures { verdicts.new.items ≡ slice_set verdicts.old.items trial.now.rule (Some trial.now.verdict) }
 {
     let rule = trial.rule as usize;

@@ -5,7 +5,7 @@ use typed_core::Events;
 
 /// Whether a rule that was tried fired.
 #[derive(Clone, Copy, Debug, PartialEq, Eq)]
-pub enum Verdict {
+pub enum TrialVerdict {
     Fired,
     /// It didn't, for this cause.
     Refused(Cause),
@@ -16,7 +16,7 @@ pub enum Verdict {
 pub struct Trial {
     /// The rule's number.
     pub rule: u32,
-    pub verdict: Verdict,
+    pub verdict: TrialVerdict,
     /// What it read and wrote, in order, before the access that clashed with an earlier rule, if one did.
     pub events: Events,
 }

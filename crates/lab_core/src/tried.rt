@@ -1,10 +1,10 @@
 //! The lab: the trials of a cycle so far, and which of them an access clashes with.
 
 ghost use Rattle.std.specs.Prelude.{◌≡◌, ◌∷◌, ◌++◌, [], ℕ, All, Bool, IfOk, OnOk};
-ghost use Rattle.attempt_log.specs.Verdict.{clash, first_clash, first_of, kind_before};
+ghost use Rattle.attempt_log.specs.Verdict.{clash, first_clash, named_first, kind_before};
 ghost use Rattle.lab_core.specs.inner.Tops.{Covers, IsCovered, IsUnder, Keeps, clash_with, fired_by, fired_in, may_clash};
 
-use crate::trial::{Trial, Verdict};
+use crate::trial::{Trial, TrialVerdict};
 use attempt_log::Cause;
 use kw_bits::{NoMemory, Sequence};
 use std::alloc::Global;
@@ -97,8 +97,8 @@ fn raise_for(tops: &mut Vec<Top>, trial: &Trial)
     ensures kept { Keeps tops.old.items tops.new.items }
 {
     match trial.verdict {
-        Verdict::Fired => raise_all(tops, trial.events.as_slice()),
-        Verdict::Refused(_) => {}
+        TrialVerdict::Fired => raise_all(tops, trial.events.as_slice()),
+        TrialVerdict::Refused(_) => {}
     }
 }
 
@@ -165,8 +165,8 @@ fn clash_with(access: &Access, trial: &Trial) -> Option<Access>
     ensures { result ≡ clash_with access.now trial.now }
 {
     match trial.verdict {
-        Verdict::Fired => first_clash(access, &trial.events),
-        Verdict::Refused(_) => None,
+        TrialVerdict::Fired => first_clash(access, &trial.events),
+        TrialVerdict::Refused(_) => None,
     }
 }
 
@@ -186,7 +186,7 @@ fn first_clash(access: &Access, events: &Events) -> Option<Access>
 
 // Of an access and another, if there is one, the one that is named first.
 fn first_of(access: Access, other: Option<Access>) -> Access
-    ensures { result ≡ first_of access other }
+    ensures { result ≡ named_first access other }
 {
     match other {
         Some(other) if is_named_before(&other, &access) => other,

@@ -12,7 +12,7 @@ ghost use Rattle.lab_core.specs.Trials.{trial_at, trial_of, trials};
 ghost use Rattle.lab_core.specs.inner.Steps.{state_of, walk_at};
 
 use crate::judge::judge;
-use crate::trial::{Trial, Verdict};
+use crate::trial::{Trial, TrialVerdict};
 use crate::tried::Tried;
 use kw_bits::{NoMemory, Sequence};
 use one_rule::{Environment, Externs, Inputs, Regs, alone};
@@ -162,12 +162,12 @@ fn visit(
         events,
     };
     match judged.verdict {
-        Verdict::Fired => {
+        TrialVerdict::Fired => {
             apply(env.design, &trial.events, regs);
             tried.push(trial)?;
             Ok(node.yes)
         }
-        Verdict::Refused(_) => {
+        TrialVerdict::Refused(_) => {
             tried.push(trial)?;
             Ok(node.no)
         }

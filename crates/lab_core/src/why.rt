@@ -16,7 +16,7 @@ ghost use Rattle.lab_core.specs.Why as texts;
 ghost use Rattle.lab_core.specs.Why.{cycle_line, cycle_text, is_asked, trial_line, untried_line, verdict_tokens};
 
 use crate::table::verdicts_of;
-use crate::trial::{Trial, Verdict};
+use crate::trial::{Trial, TrialVerdict};
 use crate::walk::trials;
 use crate::words::{name_of, push_cause, push_events, push_number, push_token, push_value};
 use kw_bits::{Bits, NoMemory, Text};
@@ -136,12 +136,12 @@ fn push_trial(text: &mut Text, design: &Design, trial: &Trial) -> Result<(), NoM
     text.push(b'\n')
 }
 
-fn push_verdict(text: &mut Text, design: &Design, verdict: &Verdict) -> Result<(), NoMemory>
+fn push_verdict(text: &mut Text, design: &Design, verdict: &TrialVerdict) -> Result<(), NoMemory>
     ensures { OnOk result (text.new ≡ text.old ++ flat_map spaced (verdict_tokens design.now verdict.now)) }
 {
     match verdict {
-        Verdict::Fired => push_token(text, b"fired"),
-        Verdict::Refused(cause) => push_cause(text, design, cause),
+        TrialVerdict::Fired => push_token(text, b"fired"),
+        TrialVerdict::Refused(cause) => push_cause(text, design, cause),
     }
 }
 
@@ -168,7 +168,7 @@ fn push_if_untried(
     design: &Design,
     only: Option<u32>,
     rule: usize,
-    verdict: Option<Verdict>,
+    verdict: Option<TrialVerdict>,
 ) -> Result<(), NoMemory>
     ensures { OnOk result (text.new ≡ text.old ++ asked_line design.now only rule verdict) }
 {

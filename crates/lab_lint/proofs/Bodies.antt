@@ -4,8 +4,8 @@ use Rattle.std.specs.Prelude.{slice_get}
 use Rattle.std.proofs.lemmas.Bool.{cases_lt}
 use Rattle.std.proofs.lemmas.List.{take_all}
 use Rattle.koika_check.specs.declared.checked.Checked.{Checked}
-use Rattle.koika_check.specs.declared.checked.Function.{Function}
-use Rattle.koika_check.specs.declared.checked.Rule.{Rule}
+use Rattle.koika_check.specs.declared.checked.CheckedFunction.{CheckedFunction}
+use Rattle.koika_check.specs.declared.checked.CheckedRule.{CheckedRule}
 use Rattle.koika_check.specs.declared.typed.Operation.TheVariants as operation
 use Rattle.koika_lower.proofs.Calls.{get-front}
 use Rattle.lab_lint.specs.Occurrences.{Part, bodies_before, bodies_behind, body_if, nothing, own, part_if, part_of, rule_part}
@@ -19,12 +19,12 @@ length-end [] x = refl
 length-end (y ∷ xs) x = omega (arith, length-end xs x)
 
 -- more of them leave those that are there
-bodies-keep : (before : List Part) (fs : List Function) (i : ℕ) → i < length before → slice_get (bodies_behind before fs) i ≡ slice_get before i
+bodies-keep : (before : List Part) (fs : List CheckedFunction) (i : ℕ) → i < length before → slice_get (bodies_behind before fs) i ≡ slice_get before i
 bodies-keep before [] i h = refl
 bodies-keep before (f ∷ fs) i h =
     bodies-keep (before ++ part_of before f.body ∷ []) fs i (omega (arith, length-end before (part_of before f.body))) ∙ get-front before (part_of before f.body ∷ []) i h
 
-bodies-get : (before : List Part) (fs : List Function) (n number : ℕ) (f : Function) → number < n → slice_get fs number ≡ Some f →
+bodies-get : (before : List Part) (fs : List CheckedFunction) (n number : ℕ) (f : CheckedFunction) → number < n → slice_get fs number ≡ Some f →
     slice_get (bodies_behind before (take n fs)) (length before + number) ≡ Some (part_of (bodies_behind before (take number fs)) f.body)
 bodies-get before [] n number f h e = absurd cc
 bodies-get before (g ∷ fs) zero number f h e = absurd (omega arith)
@@ -33,12 +33,12 @@ bodies-get before (g ∷ fs) (suc n) zero f h e =
     ap (λ i. slice_get (bodies_behind (before ++ part_of before g.body ∷ []) (take n fs)) i) (omega arith) ∙
     bodies-keep (before ++ part_of before g.body ∷ []) (take n fs) (length before) (omega (arith, length-end before (part_of before g.body))) ∙
     get-end before (part_of before g.body) ∙
-    ap (λ (x : Function). Some (part_of before x.body)) same
+    ap (λ (x : CheckedFunction). Some (part_of before x.body)) same
 bodies-get before (g ∷ fs) (suc n) (suc number) f h e =
     ap (λ i. slice_get (bodies_behind (before ++ part_of before g.body ∷ []) (take n fs)) i) (omega (arith, length-end before (part_of before g.body))) ∙
     bodies-get (before ++ part_of before g.body ∷ []) fs n number f (omega arith) e
 
-bodies-length : (before : List Part) (fs : List Function) → length (bodies_behind before fs) ≡ length before + length fs
+bodies-length : (before : List Part) (fs : List CheckedFunction) → length (bodies_behind before fs) ≡ length before + length fs
 bodies-length before [] = omega arith
 bodies-length before (f ∷ fs) = bodies-length (before ++ part_of before f.body ∷ []) fs ∙ omega (arith, length-end before (part_of before f.body))
 
@@ -47,19 +47,19 @@ beyond [] k h = refl
 beyond (x ∷ xs) zero h = absurd (omega arith)
 beyond (x ∷ xs) (suc k) h = beyond xs k (omega arith)
 
-few : (fs : List Function) (n : ℕ) → (length (take n fs) ≤ n) × (length (take n fs) ≤ length fs)
+few : (fs : List CheckedFunction) (n : ℕ) → (length (take n fs) ≤ n) × (length (take n fs) ≤ length fs)
 few [] zero = (omega arith, omega arith)
 few [] (suc n) = (omega arith, omega arith)
 few (f ∷ fs) zero = (omega arith, omega arith)
 few (f ∷ fs) (suc n) = let rest = few fs n in (omega (arith, rest.0), omega (arith, rest.1))
 
-missing : (fs : List Function) (k : ℕ) → slice_get fs k ≡ None → length fs ≤ k
+missing : (fs : List CheckedFunction) (k : ℕ) → slice_get fs k ≡ None → length fs ≤ k
 missing [] k e = omega arith
 missing (f ∷ fs) zero e = absurd cc
 missing (f ∷ fs) (suc k) e = omega (arith, missing fs k e)
 
 -- a call is the body of the function, which calls those before it
-pub own-Call : (d : Checked) (functions number : ℕ) (f : Function) → number < functions → slice_get d.functions number ≡ Some f →
+pub own-Call : (d : Checked) (functions number : ℕ) (f : CheckedFunction) → number < functions → slice_get d.functions number ≡ Some f →
     own (bodies_before d functions) (operation.Call number) ≡ part_of (bodies_before d number) f.body
 own-Call d functions number f below at =
     ap part_if (ap (λ i. slice_get (bodies_behind [] (take functions d.functions)) i) (omega arith) ∙ bodies-get [] d.functions functions number f below at)
@@ -79,7 +79,7 @@ bodies-all d = ap (bodies_behind []) (take_all (length d.functions) d.functions 
 
 -- ---- rules
 
-pub rule-some : (d : Checked) (rule : ℕ) (r : Rule) → slice_get d.rules rule ≡ Some r → rule_part d rule ≡ part_of (bodies_before d (length d.functions)) r.body
+pub rule-some : (d : Checked) (rule : ℕ) (r : CheckedRule) → slice_get d.rules rule ≡ Some r → rule_part d rule ≡ part_of (bodies_before d (length d.functions)) r.body
 unfolding rule_part
 rule-some d rule r at = ap (body_if d) at
 

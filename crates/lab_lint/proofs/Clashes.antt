@@ -6,7 +6,7 @@ use Rattle.typed_core.specs.Clash.{clashes}
 use Rattle.typed_core.specs.declared.access.Access.{Access}
 use Rattle.typed_core.specs.declared.access.Event.{Event}
 use Rattle.one_rule.specs.declared.cycle.Fired.{Fired}
-use Rattle.attempt_log.specs.Verdict.{clash, clash_or, first_clash, first_of, kind_before}
+use Rattle.attempt_log.specs.Verdict.{clash, clash_or, first_clash, named_first, kind_before}
 use Rattle.attempt_log.specs.declared.cause.Cause.{Cause}
 use Rattle.attempt_log.specs.declared.cause.Cause.TheVariants as cause
 use Rattle.lab_core.specs.Trials.{clash_among}
@@ -31,13 +31,13 @@ first-is a (x ∷ events) e h = chosen (λ y k. first-is a events y k) (clashes 
     sooner is true y way = way
     sooner is false y way = (inl refl, is)
 
-    least : AreInTheWay a events → clashes a x.access ≡ true → (o : Option Access) → first_clash a events ≡ o → InTheWay a (x ∷ events) (first_of x.access o)
+    least : AreInTheWay a events → clashes a x.access ≡ true → (o : Option Access) → first_clash a events ≡ o → InTheWay a (x ∷ events) (named_first x.access o)
     least rest is None k = (inl refl, is)
     least rest is (Some y) k = sooner is (kind_before y.write y.port x.access.write x.access.port) y (later rest y k)
 
-    chosen : AreInTheWay a events → (b : Bool) → clashes a x.access ≡ b → (if b then Some (first_of x.access (first_clash a events)) else first_clash a events) ≡ Some e → InTheWay a (x ∷ events) e
+    chosen : AreInTheWay a events → (b : Bool) → clashes a x.access ≡ b → (if b then Some (named_first x.access (first_clash a events)) else first_clash a events) ≡ Some e → InTheWay a (x ∷ events) e
     chosen rest true is k =
-        let same : first_of x.access (first_clash a events) ≡ e = cc in
+        let same : named_first x.access (first_clash a events) ≡ e = cc in
         subst (InTheWay a (x ∷ events)) same (least rest is (first_clash a events) refl)
     chosen rest false is k = later rest e k
 

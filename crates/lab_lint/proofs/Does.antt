@@ -5,7 +5,7 @@ use Rattle.std.specs.Prelude.{◌||◌, if◌then◌else◌, map}
 use Rattle.std.specs.List.{AllByRecursion, list_any}
 use Rattle.typed_core.specs.Alone.{alone_ports, is_refused}
 use Rattle.typed_core.specs.Clash.{clashes}
-use Rattle.typed_core.specs.Evaluation.{Ending, Value, Stop, Part as Run, Ports, Progress, bind, comes_to, notes, stops, unit}
+use Rattle.typed_core.specs.Evaluation.{Ending, Value, Stop, Evaluation as Run, Ports, Progress, bind, comes_to, notes, stops, unit}
 use Rattle.typed_core.specs.Laws.{read_at, write_at}
 use Rattle.typed_core.specs.declared.access.Access.{Access}
 use Rattle.typed_core.specs.declared.access.Event.{Event}

@@ -4,17 +4,17 @@ use Rattle.std.specs.Prelude.{if◌then◌else◌, reverse, slice_get}
 use Rattle.std.specs.List.{AllByRecursion}
 use Rattle.kw_bits.specs.BitVector.{BitVector}
 use Rattle.koika_types.specs.declared.value.Value.{Value}
-use Rattle.typed_core.specs.Evaluation.{Part as Run, Ports, ◌>>=◌, bind, comes_to}
+use Rattle.typed_core.specs.Evaluation.{Evaluation as Run, Ports, ◌>>=◌, bind, comes_to}
 use Rattle.typed_core.specs.declared.outcome.Stopped.{Stopped}
-use Rattle.koika_check.specs.Meaning.{Meaning, Setting, Stepped, apply, bits_of_first, bodies_behind, body_by, choose, gives, in_turn, input_as, meaning, number_by, read_as, rule_body, setting, step_step, steps_in_turn, typed_step, unpacked, with_value}
+use Rattle.koika_check.specs.Meaning.{Meaning, RuleSetting, StepMeaning, apply, bits_of_first, bodies_behind, body_by, choose, gives, in_turn, input_as, meaning, number_by, read_as, rule_body, setting, step_step, steps_in_turn, typed_step, unpacked, with_value}
 use Rattle.koika_check.specs.declared.checked.Checked.{Checked}
-use Rattle.koika_check.specs.declared.checked.Function.{Function}
+use Rattle.koika_check.specs.declared.checked.CheckedFunction.{CheckedFunction}
 use Rattle.koika_check.specs.declared.checked.Input.{Input}
 use Rattle.koika_check.specs.declared.checked.Register.{Register}
 use Rattle.koika_check.specs.declared.typed.Operation.{Operation}
 use Rattle.koika_check.specs.declared.typed.Operation.TheVariants as operation
-use Rattle.koika_check.specs.declared.typed.Step.{Step, Step-F, map-Step, roll-Step, fold-roll-Step}
-use Rattle.koika_check.specs.declared.typed.Step.TheOpen as opened
+use Rattle.koika_check.specs.declared.typed.TypedStep.{TypedStep, TypedStep-F, map-TypedStep, roll-TypedStep, fold-roll-TypedStep}
+use Rattle.koika_check.specs.declared.typed.TypedStep.TheOpen as opened
 use Rattle.koika_check.specs.declared.typed.Typed.{Typed, Typed-F, map-Typed, roll-Typed, fold-roll-Typed, ind-Typed}
 use Rattle.koika_check.proofs.TreeParts.{Such, firsts}
 use Rattle.koika_lower.specs.inner.Expressions.{step_meaning}
@@ -27,13 +27,13 @@ use Rattle.lab_lint.proofs.Layers.{part-roll, step-roll}
 
 -- ---- one layer
 
-meaning-roll : (s : Setting Stopped) (x : Typed-F Step Typed) → meaning s (roll-Typed x) ≡ typed_step s (map-Typed Step Typed (Stepped Stopped) (Meaning Stopped) (step_meaning s) (meaning s) x)
+meaning-roll : (s : RuleSetting Stopped) (x : Typed-F TypedStep Typed) → meaning s (roll-Typed x) ≡ typed_step s (map-Typed TypedStep Typed (StepMeaning Stopped) (Meaning Stopped) (step_meaning s) (meaning s) x)
 unfolding meaning step_meaning
-meaning-roll s x = fold-roll-Typed (Stepped Stopped) (Meaning Stopped) step_step (typed_step s) x
+meaning-roll s x = fold-roll-Typed (StepMeaning Stopped) (Meaning Stopped) step_step (typed_step s) x
 
-stepped-roll : (s : Setting Stopped) (x : Step-F Step Typed) → step_meaning s (roll-Step x) ≡ step_step (map-Step Step Typed (Stepped Stopped) (Meaning Stopped) (step_meaning s) (meaning s) x)
+stepped-roll : (s : RuleSetting Stopped) (x : TypedStep-F TypedStep Typed) → step_meaning s (roll-TypedStep x) ≡ step_step (map-TypedStep TypedStep Typed (StepMeaning Stopped) (Meaning Stopped) (step_meaning s) (meaning s) x)
 unfolding meaning step_meaning
-stepped-roll s x = fold-roll-Step (Stepped Stopped) (Meaning Stopped) step_step (typed_step s) x
+stepped-roll s x = fold-roll-TypedStep (StepMeaning Stopped) (Meaning Stopped) step_step (typed_step s) x
 
 -- wherever it is evaluated
 abbrev pub DoesAs : Part → Meaning Stopped → Type 0
@@ -42,11 +42,11 @@ DoesAs part m = (locals : List Value) → DoesRun part (m locals)
 abbrev pub BodiesDo : List Part → List (Meaning Stopped) → Type 0
 BodiesDo ps ms = (number : ℕ) → DoesAs (part_if (slice_get ps number)) (body_by (slice_get ms number))
 
-module _ (ps : List Part) (s : Setting Stopped) (ports : PortsDo s.ports) (bodies : BodiesDo ps s.bodies) where
+module _ (ps : List Part) (s : RuleSetting Stopped) (ports : PortsDo s.ports) (bodies : BodiesDo ps s.bodies) where
   abbrev Fine : Typed → Type 0
   Fine e = DoesAs (part_of ps e) (meaning s e)
 
-  abbrev FineStep : Step → Type 0
+  abbrev FineStep : TypedStep → Type 0
   FineStep x = (rest : Part) (behind : Meaning Stopped) → DoesAs rest behind → DoesAs (in_order (part_of_step ps x) rest) (step_meaning s x behind)
 
   turns-do : (es : List Typed) → AllByRecursion Fine es → (locals : List Value) → DoesRun (parts.in_turn (map (part_of ps) es)) (in_turn (map (meaning s) es) locals)
@@ -70,7 +70,7 @@ module _ (ps : List Part) (s : Setting Stopped) (ports : PortsDo s.ports) (bodie
       (λ v. arm-does (nat_eq (number_by v) 1) (part_of ps b) (choice (map (part_of ps) cs) (map (part_of ps) bs)) (meaning s b locals) (choose (map (meaning s) cs) (map (meaning s) bs) locals)
       (fb.0 locals) (choice-does cs bs fc.1 fb.1 locals))
 
-  steps-do : (xs : List Step) → AllByRecursion FineStep xs → DoesAs (parts.in_turn (map (part_of_step ps) xs)) (steps_in_turn (map (step_meaning s) xs))
+  steps-do : (xs : List TypedStep) → AllByRecursion FineStep xs → DoesAs (parts.in_turn (map (part_of_step ps) xs)) (steps_in_turn (map (step_meaning s) xs))
   steps-do [] fine locals = run-value nothing None
   steps-do (x ∷ xs) fine locals = fine.0 (parts.in_turn (map (part_of_step ps) xs)) (steps_in_turn (map (step_meaning s) xs)) (steps-do xs fine.1) locals
 
@@ -117,7 +117,7 @@ module _ (ps : List Part) (s : Setting Stopped) (ports : PortsDo s.ports) (bodie
   input-does number (Some i) None = run-value _ _
   input-does number (Some i) (Some bits) = run-value _ _
 
-  abbrev EachFine : Typed-F Step Typed → Type 0
+  abbrev EachFine : Typed-F TypedStep Typed → Type 0
   EachFine (opened.Constant v) = Unit {0}
   EachFine (opened.Local index) = Unit {0}
   EachFine (opened.Input number) = Unit {0}
@@ -125,7 +125,7 @@ module _ (ps : List Part) (s : Setting Stopped) (ports : PortsDo s.ports) (bodie
   EachFine (opened.If conditions arms) = AllByRecursion Fine conditions × AllByRecursion Fine arms
   EachFine (opened.Block steps) = AllByRecursion FineStep steps
 
-  each-fine : (y : Typed-F (Such FineStep) (Such Fine)) → EachFine (map-Typed (Such FineStep) (Such Fine) Step Typed (λ e. e.0) (λ e. e.0) y)
+  each-fine : (y : Typed-F (Such FineStep) (Such Fine)) → EachFine (map-Typed (Such FineStep) (Such Fine) TypedStep Typed (λ e. e.0) (λ e. e.0) y)
   each-fine (opened.Constant v) = tt
   each-fine (opened.Local index) = tt
   each-fine (opened.Input number) = tt
@@ -133,8 +133,8 @@ module _ (ps : List Part) (s : Setting Stopped) (ports : PortsDo s.ports) (bodie
   each-fine (opened.If conditions arms) = (firsts Fine conditions, firsts Fine arms)
   each-fine (opened.Block steps) = firsts FineStep steps
 
-  part-does : (x : Typed-F Step Typed) → EachFine x →
-      DoesAs (parts.typed_step ps (map-Typed Step Typed Part Part (part_of_step ps) (part_of ps) x)) (typed_step s (map-Typed Step Typed (Stepped Stopped) (Meaning Stopped) (step_meaning s) (meaning s) x))
+  part-does : (x : Typed-F TypedStep Typed) → EachFine x →
+      DoesAs (parts.typed_step ps (map-Typed TypedStep Typed Part Part (part_of_step ps) (part_of ps) x)) (typed_step s (map-Typed TypedStep Typed (StepMeaning Stopped) (Meaning Stopped) (step_meaning s) (meaning s) x))
   part-does (opened.Constant v) fine locals = run-value nothing _
   part-does (opened.Local index) fine locals = run-value nothing _
   part-does (opened.Input number) fine locals = input-does number (slice_get s.design.inputs number) (slice_get s.inputs number)
@@ -143,36 +143,36 @@ module _ (ps : List Part) (s : Setting Stopped) (ports : PortsDo s.ports) (bodie
   part-does (opened.If conditions arms) fine locals = choice-does conditions arms fine.0 fine.1 locals
   part-does (opened.Block steps) fine locals = steps-do steps fine locals
 
-  typed_layer : (x : Typed-F Step Typed) (y : Typed-F (Such FineStep) (Such Fine)) → map-Typed (Such FineStep) (Such Fine) Step Typed (λ e. e.0) (λ e. e.0) y ≡ x → Fine (roll-Typed x)
+  typed_layer : (x : Typed-F TypedStep Typed) (y : Typed-F (Such FineStep) (Such Fine)) → map-Typed (Such FineStep) (Such Fine) TypedStep Typed (λ e. e.0) (λ e. e.0) y ≡ x → Fine (roll-Typed x)
   typed_layer x y same =
       let it = part-does x (subst EachFine same (each-fine y)) in
       subst (λ (m : Meaning Stopped). DoesAs (part_of ps (roll-Typed x)) m) (sym (meaning-roll s x))
-      (subst (λ (p : Part). DoesAs p (typed_step s (map-Typed Step Typed (Stepped Stopped) (Meaning Stopped) (step_meaning s) (meaning s) x))) (sym (part-roll ps x)) it)
+      (subst (λ (p : Part). DoesAs p (typed_step s (map-Typed TypedStep Typed (StepMeaning Stopped) (Meaning Stopped) (step_meaning s) (meaning s) x))) (sym (part-roll ps x)) it)
 
   -- ---- and of a step
 
-  abbrev EachFineStep : Step-F Step Typed → Type 0
+  abbrev EachFineStep : TypedStep-F TypedStep Typed → Type 0
   EachFineStep (opened.Let v) = Fine v
   EachFineStep (opened.Do v) = Fine v
   EachFineStep (opened.Give v) = Fine v
 
-  each-fine-step : (y : Step-F (Such FineStep) (Such Fine)) → EachFineStep (map-Step (Such FineStep) (Such Fine) Step Typed (λ e. e.0) (λ e. e.0) y)
+  each-fine-step : (y : TypedStep-F (Such FineStep) (Such Fine)) → EachFineStep (map-TypedStep (Such FineStep) (Such Fine) TypedStep Typed (λ e. e.0) (λ e. e.0) y)
   each-fine-step (opened.Let v) = v.1
   each-fine-step (opened.Do v) = v.1
   each-fine-step (opened.Give v) = v.1
 
-  step-does : (x : Step-F Step Typed) → EachFineStep x → (rest : Part) (behind : Meaning Stopped) → DoesAs rest behind →
-      DoesAs (in_order (parts.step_step (map-Step Step Typed Part Part (part_of_step ps) (part_of ps) x)) rest) (step_step (map-Step Step Typed (Stepped Stopped) (Meaning Stopped) (step_meaning s) (meaning s) x) behind)
+  step-does : (x : TypedStep-F TypedStep Typed) → EachFineStep x → (rest : Part) (behind : Meaning Stopped) → DoesAs rest behind →
+      DoesAs (in_order (parts.step_step (map-TypedStep TypedStep Typed Part Part (part_of_step ps) (part_of ps) x)) rest) (step_step (map-TypedStep TypedStep Typed (StepMeaning Stopped) (Meaning Stopped) (step_meaning s) (meaning s) x) behind)
   step-does (opened.Let v) fine rest behind next locals =
       run-bind (part_of ps v) rest (meaning s v locals) (λ bound. behind (with_value bound locals)) (fine locals) (λ bound. next (with_value bound locals))
   step-does (opened.Do v) fine rest behind next locals = run-bind (part_of ps v) rest (meaning s v locals) (λ _. behind locals) (fine locals) (λ _. next locals)
   step-does (opened.Give v) fine rest behind next locals = run-within (part_of ps v) (in_order (part_of ps v) rest) (meaning s v locals) (first-within (part_of ps v) rest) (fine locals)
 
-  step_layer : (x : Step-F Step Typed) (y : Step-F (Such FineStep) (Such Fine)) → map-Step (Such FineStep) (Such Fine) Step Typed (λ e. e.0) (λ e. e.0) y ≡ x → FineStep (roll-Step x)
+  step_layer : (x : TypedStep-F TypedStep Typed) (y : TypedStep-F (Such FineStep) (Such Fine)) → map-TypedStep (Such FineStep) (Such Fine) TypedStep Typed (λ e. e.0) (λ e. e.0) y ≡ x → FineStep (roll-TypedStep x)
   step_layer x y same rest behind next =
       let it = step-does x (subst EachFineStep same (each-fine-step y)) rest behind next in
-      subst (λ (m : Stepped Stopped). DoesAs (in_order (part_of_step ps (roll-Step x)) rest) (m behind)) (sym (stepped-roll s x))
-      (subst (λ (p : Part). DoesAs (in_order p rest) (step_step (map-Step Step Typed (Stepped Stopped) (Meaning Stopped) (step_meaning s) (meaning s) x) behind)) (sym (step-roll ps x)) it)
+      subst (λ (m : StepMeaning Stopped). DoesAs (in_order (part_of_step ps (roll-TypedStep x)) rest) (m behind)) (sym (stepped-roll s x))
+      (subst (λ (p : Part). DoesAs (in_order p rest) (step_step (map-TypedStep TypedStep Typed (StepMeaning Stopped) (Meaning Stopped) (step_meaning s) (meaning s) x) behind)) (sym (step-roll ps x)) it)
 
   -- where these bodies may be called
   pub expression-does : (e : Typed) → DoesAs (part_of ps e) (meaning s e)
@@ -199,14 +199,14 @@ side-push (q ∷ ps) [] p m side does = absurd side
 side-push (q ∷ ps) (n ∷ ms) p m side does = (side.0, side-push ps ms p m side.1 does)
 
 -- settings in which these bodies may be called, and the parts that they are
-record Settled (ps : List Part) (before after : Setting Stopped) : Type 0 where
+record Settled (ps : List Part) (before after : RuleSetting Stopped) : Type 0 where
   ports : after.ports ≡ before.ports
   side : Side ps after.bodies
 
-settle : (s : Setting Stopped) (ps : List Part) (fs : List Function) → PortsDo s.ports → Side ps s.bodies → Settled (parts.bodies_behind ps fs) s (bodies_behind s fs)
+settle : (s : RuleSetting Stopped) (ps : List Part) (fs : List CheckedFunction) → PortsDo s.ports → Side ps s.bodies → Settled (parts.bodies_behind ps fs) s (bodies_behind s fs)
 settle s ps [] ports side = record { ports = refl; side = side }
 settle s ps (f ∷ fs) ports side =
-    let next : Setting Stopped = record s { bodies = s.bodies ++ meaning s f.body ∷ [] } in
+    let next : RuleSetting Stopped = record s { bodies = s.bodies ++ meaning s f.body ∷ [] } in
     let it = settle next (ps ++ part_of ps f.body ∷ []) fs ports
     (side-push ps s.bodies (part_of ps f.body) (meaning s f.body) side (expression-does ps s ports (side-at ps s.bodies side) f.body)) in
     record { ports = it.ports; side = it.side }
@@ -214,6 +214,6 @@ settle s ps (f ∷ fs) ports side =
 -- a body of a rule, in a design all of whose functions may be called
 pub body-does : (d : Checked) (inputs : List BitVector) (ports : Ports Stopped) (e : Typed) → PortsDo ports → DoesRun (part_of (parts.bodies_behind [] d.functions) e) (rule_body d inputs ports e)
 body-does d inputs ports e they =
-    let s : Setting Stopped = record { design = d; inputs = inputs; ports = ports; bodies = [] } in
+    let s : RuleSetting Stopped = record { design = d; inputs = inputs; ports = ports; bodies = [] } in
     let it = settle s [] d.functions they tt in
     expression-does (parts.bodies_behind [] d.functions) (bodies_behind s d.functions) (subst PortsDo (sym it.ports) they) (side-at (parts.bodies_behind [] d.functions) (bodies_behind s d.functions).bodies it.side) e []

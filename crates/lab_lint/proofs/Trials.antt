@@ -37,12 +37,12 @@ use Rattle.koika_check.specs.TypedAlone.{outcome_of, typed_alone}
 use Rattle.koika_check.specs.declared.checked.Checked.{Checked}
 use Rattle.koika_check.specs.declared.checked.Input.{Input}
 use Rattle.koika_check.specs.declared.checked.Register.{Register}
-use Rattle.koika_check.specs.declared.checked.Rule.{Rule}
-use Rattle.koika_lower.specs.Lowering.{IsLowered, input_of, input_widths, register_of, register_widths}
+use Rattle.koika_check.specs.declared.checked.CheckedRule.{CheckedRule}
+use Rattle.koika_lower.specs.Lowering.{IsLowered, core_input, typed_input_widths, register_of, register_widths}
 use Rattle.lab_core.specs.Trials.{clash_among, refused, trial_at, trial_of, trials, trials_past, verdict_of}
 use Rattle.lab_core.specs.declared.trial.Trial.{Trial}
-use Rattle.lab_core.specs.declared.trial.Verdict.{Verdict}
-use Rattle.lab_core.specs.declared.trial.Verdict.TheVariants as verdict
+use Rattle.lab_core.specs.declared.trial.TrialVerdict.{TrialVerdict}
+use Rattle.lab_core.specs.declared.trial.TrialVerdict.TheVariants as verdict
 use Rattle.lab_core.proofs.Verdicts.{verdict_plain}
 use Rattle.lab_lint.specs.Laws.{ClashesAreListed, IsDesignOf, MayBegin, OwnsAreListed}
 use Rattle.lab_lint.specs.Occurrences.{bodies_behind, bodies_before, body_if, part_of, rule_part}
@@ -58,7 +58,7 @@ use Rattle.lab_lint.proofs.Typed.{rule-right}
 
 -- ---- the widths of a design are those of the typed one
 
-inputs-wide : (inputs : List Input) → map (λ (x : InputDecl). x.width) (map input_of inputs) ≡ map (λ (i : Input). i.width) inputs
+inputs-wide : (inputs : List Input) → map (λ (x : InputDecl). x.width) (map core_input inputs) ≡ map (λ (i : Input). i.width) inputs
 inputs-wide [] = refl
 inputs-wide (i ∷ inputs) = ap (λ (ws : List ℕ). i.width ∷ ws) (inputs-wide inputs)
 
@@ -82,18 +82,18 @@ module _ (d : Checked) (design : Parts) (of : IsDesignOf d design) (inputs : Lis
   abbrev system : System
   system = system_of design
 
-  typed-inputs : HaveWidths (input_widths d) inputs
+  typed-inputs : HaveWidths (typed_input_widths d) inputs
   typed-inputs = subst (λ (ws : List ℕ). HaveWidths ws inputs) (ap (λ (xs : List InputDecl). map (λ (x : InputDecl). x.width) xs) of.lowered.inputs ∙ inputs-wide d.inputs) wide
 
   typed-registers : (regs : List BitVector) → HaveWidths (core.register_widths design) regs → HaveWidths (register_widths d) regs
   typed-registers regs fit = subst (λ (ws : List ℕ). HaveWidths ws regs) (ap (λ (xs : List RegDecl). map (λ (x : RegDecl). x.width) xs) of.lowered.registers ∙ registers-wide d.registers) fit
 
-  part-is : (rule : ℕ) (r : Rule) → slice_get d.rules rule ≡ Some r → rule_part d rule ≡ part_of (bodies_behind [] d.functions) r.body
+  part-is : (rule : ℕ) (r : CheckedRule) → slice_get d.rules rule ≡ Some r → rule_part d rule ≡ part_of (bodies_behind [] d.functions) r.body
   unfolding rule_part
   part-is rule r at = ap (body_if d) at ∙ ap (λ ps. part_of ps r.body) (bodies-all d)
 
   -- a rule of the typed design, of which the core's is the same
-  run-typed : (rule : ℕ) (r : Rule) (regs : List BitVector) → HaveWidths (core.register_widths design) regs → slice_get d.rules rule ≡ Some r → system.alone rule inputs regs ≡ typed_alone d inputs regs r.body → IsRun d rule (system.alone rule inputs regs)
+  run-typed : (rule : ℕ) (r : CheckedRule) (regs : List BitVector) → HaveWidths (core.register_widths design) regs → slice_get d.rules rule ≡ Some r → system.alone rule inputs regs ≡ typed_alone d inputs regs r.body → IsRun d rule (system.alone rule inputs regs)
   run-typed rule r regs fit at same =
       let p = part_of (bodies_behind [] d.functions) r.body in
       let is : rule_part d rule ≡ p = part-is rule r at in
@@ -114,13 +114,13 @@ module _ (d : Checked) (design : Parts) (of : IsDesignOf d design) (inputs : Lis
             | inr h ↦ (own-among d rule a ref.access right.0 ref.is_write o' (subst (λ q. Among (pair ref.access a) q.pairs) (sym (part-is rule r at)) h) ref.clash, right.1)
           ]
 
-  typed-rule : (rule : ℕ) (c : CoreRule) → slice_get design.rules rule ≡ Some c → (r : Rule) × (slice_get d.rules rule ≡ Some r)
+  typed-rule : (rule : ℕ) (c : CoreRule) → slice_get design.rules rule ≡ Some c → (r : CheckedRule) × (slice_get d.rules rule ≡ Some r)
   typed-rule rule c at =
       let count : length design.rules ≡ length d.rules =
-      sym (length-map design.rules (λ (x : CoreRule). x.name)) ∙ ap (λ (ns : List (List ℕ)). length ns) of.lowered.names ∙ length-map d.rules (λ (x : Rule). x.name) in
+      sym (length-map design.rules (λ (x : CoreRule). x.name)) ∙ ap (λ (ns : List (List ℕ)). length ns) of.lowered.names ∙ length-map d.rules (λ (x : CheckedRule). x.name) in
       found d.rules rule (omega (arith, slice_get_within design.rules rule c at, count))
     where
-      found : (rs : List Rule) (k : ℕ) → k < length rs → (r : Rule) × (slice_get rs k ≡ Some r)
+      found : (rs : List CheckedRule) (k : ℕ) → k < length rs → (r : CheckedRule) × (slice_get rs k ≡ Some r)
       found [] k h = absurd (omega (arith, h))
       found (r ∷ rs) zero h = (r, refl)
       found (r ∷ rs) (suc k) h = found rs k (omega (arith, h))

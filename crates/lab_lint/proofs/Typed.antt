@@ -8,12 +8,12 @@ use Rattle.koika_check.specs.Types.{bits}
 use Rattle.koika_check.specs.Typing.{Applies, Binds, Doing, Gives, HasType, IsTypedDesign, Pairwise, PartHasType, Runs, StepDoes, StepsHaveType}
 use Rattle.koika_check.specs.inner.Typing.{StepHasType}
 use Rattle.koika_check.specs.declared.checked.Checked.{Checked}
-use Rattle.koika_check.specs.declared.checked.Function.{Function}
-use Rattle.koika_check.specs.declared.checked.Rule.{Rule}
+use Rattle.koika_check.specs.declared.checked.CheckedFunction.{CheckedFunction}
+use Rattle.koika_check.specs.declared.checked.CheckedRule.{CheckedRule}
 use Rattle.koika_check.specs.declared.typed.Operation.{Operation}
 use Rattle.koika_check.specs.declared.typed.Operation.TheVariants as operation
-use Rattle.koika_check.specs.declared.typed.Step.{Step, Step-F, map-Step, roll-Step}
-use Rattle.koika_check.specs.declared.typed.Step.TheOpen as opened
+use Rattle.koika_check.specs.declared.typed.TypedStep.{TypedStep, TypedStep-F, map-TypedStep, roll-TypedStep}
+use Rattle.koika_check.specs.declared.typed.TypedStep.TheOpen as opened
 use Rattle.koika_check.specs.declared.typed.Typed.{Typed, Typed-F, ind-Typed, map-Typed, roll-Typed}
 use Rattle.koika_check.specs.declared.typed.ValueType.{ValueType}
 use Rattle.koika_check.proofs.TreeParts.{Such, firsts}
@@ -39,7 +39,7 @@ module _ (d : Checked) (n : ℕ) (ps : List Part) (bodies : (number : ℕ) → A
   abbrev Right : Typed → Type 0
   Right e = (types : List ValueType) (of : Option ValueType) → HasType d n e types of → AreRight d (part_of ps e)
 
-  abbrev RightStep : Step → Type 0
+  abbrev RightStep : TypedStep → Type 0
   RightStep x = (types : List ValueType) (doing : Doing) → StepHasType d n x types doing → AreRight d (part_of_step ps x)
 
   turns-right : (es : List Typed) (ts types : List ValueType) → AllByRecursion Right es → Pairwise (λ e t. HasType d n e types (Some t)) es ts → AreRight d (in_turn (map (part_of ps) es))
@@ -57,7 +57,7 @@ module _ (d : Checked) (n : ℕ) (ps : List Part) (bodies : (number : ℕ) → A
       all-append (IsRight d) (part_of ps e).all ((part_of ps b).all ++ (choice (map (part_of ps) cs) (map (part_of ps) bs)).all) (rc.0 types c hc.0)
       (all-append (IsRight d) (part_of ps b).all (choice (map (part_of ps) cs) (map (part_of ps) bs)).all (rb.0 types of hb.0) (choice-right cs bs types c of rc.1 rb.1 hc.1 hb.1))
 
-  steps-right : (xs : List Step) (types : List ValueType) (of : Option ValueType) → AllByRecursion RightStep xs → StepsHaveType (StepHasType d n) xs types of → AreRight d (in_turn (map (part_of_step ps) xs))
+  steps-right : (xs : List TypedStep) (types : List ValueType) (of : Option ValueType) → AllByRecursion RightStep xs → StepsHaveType (StepHasType d n) xs types of → AreRight d (in_turn (map (part_of_step ps) xs))
   steps-right [] types of right are = tt
   steps-right (x ∷ xs) types of right (inl h) =
       all-append (IsRight d) (part_of_step ps x).all (in_turn (map (part_of_step ps) xs)).all (right.0 types (Binds h.0) h.1) (steps-right xs (h.0 ∷ types) of right.1 h.2)
@@ -87,7 +87,7 @@ module _ (d : Checked) (n : ℕ) (ps : List Part) (bodies : (number : ℕ) → A
   own-right (operation.Write port register) (t ∷ u ∷ ts) of h = absurd h
   own-right operation.Abort ts of h = tt
 
-  abbrev EachRight : Typed-F Step Typed → Type 0
+  abbrev EachRight : Typed-F TypedStep Typed → Type 0
   EachRight (opened.Constant v) = Unit {0}
   EachRight (opened.Local index) = Unit {0}
   EachRight (opened.Input number) = Unit {0}
@@ -95,7 +95,7 @@ module _ (d : Checked) (n : ℕ) (ps : List Part) (bodies : (number : ℕ) → A
   EachRight (opened.If conditions arms) = AllByRecursion Right conditions × AllByRecursion Right arms
   EachRight (opened.Block steps) = AllByRecursion RightStep steps
 
-  each-right : (y : Typed-F (Such RightStep) (Such Right)) → EachRight (map-Typed (Such RightStep) (Such Right) Step Typed (λ e. e.0) (λ e. e.0) y)
+  each-right : (y : Typed-F (Such RightStep) (Such Right)) → EachRight (map-Typed (Such RightStep) (Such Right) TypedStep Typed (λ e. e.0) (λ e. e.0) y)
   each-right (opened.Constant v) = tt
   each-right (opened.Local index) = tt
   each-right (opened.Input number) = tt
@@ -103,8 +103,8 @@ module _ (d : Checked) (n : ℕ) (ps : List Part) (bodies : (number : ℕ) → A
   each-right (opened.If conditions arms) = (firsts Right conditions, firsts Right arms)
   each-right (opened.Block steps) = firsts RightStep steps
 
-  part-right : (x : Typed-F Step Typed) (types : List ValueType) (of : Option ValueType) → EachRight x → PartHasType d n (StepHasType d n) (HasType d n) x types of →
-      AreRight d (parts.typed_step ps (map-Typed Step Typed Part Part (part_of_step ps) (part_of ps) x))
+  part-right : (x : Typed-F TypedStep Typed) (types : List ValueType) (of : Option ValueType) → EachRight x → PartHasType d n (StepHasType d n) (HasType d n) x types of →
+      AreRight d (parts.typed_step ps (map-Typed TypedStep Typed Part Part (part_of_step ps) (part_of ps) x))
   part-right (opened.Constant v) types of right h = tt
   part-right (opened.Local index) types of right h = tt
   part-right (opened.Input number) types of right h = (tt, tt)
@@ -113,22 +113,22 @@ module _ (d : Checked) (n : ℕ) (ps : List Part) (bodies : (number : ℕ) → A
   part-right (opened.If conditions arms) types of right h = choice-right conditions arms types (Some (bits 1)) of right.0 right.1 h.0 h.1
   part-right (opened.Block steps) types of right h = steps-right steps types of right h
 
-  typed_layer : (x : Typed-F Step Typed) (y : Typed-F (Such RightStep) (Such Right)) → map-Typed (Such RightStep) (Such Right) Step Typed (λ e. e.0) (λ e. e.0) y ≡ x → Right (roll-Typed x)
+  typed_layer : (x : Typed-F TypedStep Typed) (y : Typed-F (Such RightStep) (Such Right)) → map-Typed (Such RightStep) (Such Right) TypedStep Typed (λ e. e.0) (λ e. e.0) y ≡ x → Right (roll-Typed x)
   typed_layer x y same types of has =
       subst (AreRight d) (sym (part-roll ps x)) (part-right x types of (subst EachRight same (each-right y)) (open-HasType d n (roll-Typed x) x refl types of has))
 
-  abbrev EachRightStep : Step-F Step Typed → Type 0
+  abbrev EachRightStep : TypedStep-F TypedStep Typed → Type 0
   EachRightStep (opened.Let v) = Right v
   EachRightStep (opened.Do v) = Right v
   EachRightStep (opened.Give v) = Right v
 
-  each-right-step : (y : Step-F (Such RightStep) (Such Right)) → EachRightStep (map-Step (Such RightStep) (Such Right) Step Typed (λ e. e.0) (λ e. e.0) y)
+  each-right-step : (y : TypedStep-F (Such RightStep) (Such Right)) → EachRightStep (map-TypedStep (Such RightStep) (Such Right) TypedStep Typed (λ e. e.0) (λ e. e.0) y)
   each-right-step (opened.Let v) = v.1
   each-right-step (opened.Do v) = v.1
   each-right-step (opened.Give v) = v.1
 
-  step-right : (x : Step-F Step Typed) (types : List ValueType) (doing : Doing) → EachRightStep x → StepDoes (HasType d n) x types doing →
-      AreRight d (parts.step_step (map-Step Step Typed Part Part (part_of_step ps) (part_of ps) x))
+  step-right : (x : TypedStep-F TypedStep Typed) (types : List ValueType) (doing : Doing) → EachRightStep x → StepDoes (HasType d n) x types doing →
+      AreRight d (parts.step_step (map-TypedStep TypedStep Typed Part Part (part_of_step ps) (part_of ps) x))
   step-right (opened.Let v) types (Binds t) right h = right types (Some t) h
   step-right (opened.Let v) types Runs right h = absurd h
   step-right (opened.Let v) types (Gives of) right h = absurd h
@@ -139,9 +139,9 @@ module _ (d : Checked) (n : ℕ) (ps : List Part) (bodies : (number : ℕ) → A
   step-right (opened.Give v) types Runs right h = absurd h
   step-right (opened.Give v) types (Gives of) right h = right types of h
 
-  step_layer : (x : Step-F Step Typed) (y : Step-F (Such RightStep) (Such Right)) → map-Step (Such RightStep) (Such Right) Step Typed (λ e. e.0) (λ e. e.0) y ≡ x → RightStep (roll-Step x)
+  step_layer : (x : TypedStep-F TypedStep Typed) (y : TypedStep-F (Such RightStep) (Such Right)) → map-TypedStep (Such RightStep) (Such Right) TypedStep Typed (λ e. e.0) (λ e. e.0) y ≡ x → RightStep (roll-TypedStep x)
   step_layer x y same types doing has =
-      subst (AreRight d) (sym (step-roll ps x)) (step-right x types doing (subst EachRightStep same (each-right-step y)) (open-step d n (roll-Step x) x refl types doing has))
+      subst (AreRight d) (sym (step-roll ps x)) (step-right x types doing (subst EachRightStep same (each-right-step y)) (open-step d n (roll-TypedStep x) x refl types doing has))
 
   pub expression-right : (e : Typed) (types : List ValueType) (of : Option ValueType) → HasType d n e types of → AreRight d (part_of ps e)
   expression-right = ind-Typed RightStep Right step_layer typed_layer
@@ -160,11 +160,11 @@ get-middle : {X : Type 0} (xs : List X) (x : X) (ys : List X) → slice_get (xs 
 get-middle [] x ys = refl
 get-middle (y ∷ xs) x ys = get-middle xs x ys
 
-bodies-right : (d : Checked) → IsTypedDesign d → (fs done : List Function) (ps : List Part) → d.functions ≡ done ++ fs → AllRight d ps → AllRight d (parts.bodies_behind ps fs)
+bodies-right : (d : Checked) → IsTypedDesign d → (fs done : List CheckedFunction) (ps : List Part) → d.functions ≡ done ++ fs → AllRight d ps → AllRight d (parts.bodies_behind ps fs)
 bodies-right d is [] done ps e all = all
 bodies-right d is (f ∷ fs) done ps e all =
     let n : ℕ = length done in
-    let at : slice_get d.functions n ≡ Some f = ap (λ (xs : List Function). slice_get xs n) e ∙ get-middle done f fs in
+    let at : slice_get d.functions n ≡ Some f = ap (λ (xs : List CheckedFunction). slice_get xs n) e ∙ get-middle done f fs in
     let ok = is.functions n f at in
     bodies-right d is fs (done ++ f ∷ []) (ps ++ part_of ps f.body ∷ []) (e ∙ sym (append_assoc done (f ∷ []) fs))
     (all-append (AreRight d) ps (part_of ps f.body ∷ []) all (expression-right d n ps (all-at d ps all) f.body (reverse f.parameters) f.result ok.body, tt))
@@ -180,9 +180,9 @@ pub rule-right : (d : Checked) → IsTypedDesign d → (rule : ℕ) (o : Occurre
 unfolding rule_part
 rule-right d is rule o h = chosen (slice_get d.rules rule) refl h
   where
-    chosen : (r : Option Rule) → slice_get d.rules rule ≡ r → Among o (body_if d r).all → IsRight d o × (rule < length d.rules)
+    chosen : (r : Option CheckedRule) → slice_get d.rules rule ≡ r → Among o (body_if d r).all → IsRight d o × (rule < length d.rules)
     chosen None at k = absurd k
     chosen (Some r) at k =
-        let has = all-get (λ (x : Rule). HasType d (length d.functions) x.body [] None) d.rules rule r is.rules at in
+        let has = all-get (λ (x : CheckedRule). HasType d (length d.functions) x.body [] None) d.rules rule r is.rules at in
         let whole = subst (λ (ps : List Part). Among o (part_of ps r.body).all) (bodies-all d) k in
         (among-all (IsRight d) o (part_of (parts.bodies_behind [] d.functions) r.body).all (body-right d is r.body has) whole, slice_get_within d.rules rule r at)

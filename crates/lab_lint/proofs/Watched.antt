@@ -27,8 +27,8 @@ use Rattle.lab_core.specs.Numbers.{is_unwatched, verdict_in}
 use Rattle.lab_core.specs.Runs.{registers_before, trials_in}
 use Rattle.lab_core.specs.Trials.{is_tried, trial_at, trial_of, trials, trials_past}
 use Rattle.lab_core.specs.declared.trial.Trial.{Trial}
-use Rattle.lab_core.specs.declared.trial.Verdict.{Verdict}
-use Rattle.lab_core.specs.declared.trial.Verdict.TheVariants as verdict
+use Rattle.lab_core.specs.declared.trial.TrialVerdict.{TrialVerdict}
+use Rattle.lab_core.specs.declared.trial.TrialVerdict.TheVariants as verdict
 use Rattle.lab_core.proofs.Tables.{tried_some}
 use Rattle.lab_lint.specs.Laws.{IsDesignOf, OthersAreWatched}
 use Rattle.lab_lint.specs.Occurrences.{rule_part}
@@ -106,13 +106,13 @@ numbered xs k h = subst (λ m. Among m (numbers xs)) (omega arith) (in-range k (
 
 -- ---- trials
 
-record IsTrialOf (tried : List Trial) (rule : ℕ) (v : Verdict) : Type 0 where
+record IsTrialOf (tried : List Trial) (rule : ℕ) (v : TrialVerdict) : Type 0 where
   trial : Trial
   among : Among trial tried
   is_rule : trial.rule ≡ rule
   is_verdict : trial.verdict ≡ v
 
-trial-in : (rule : ℕ) (tried : List Trial) (v : Verdict) → verdict_in rule tried ≡ Some v → IsTrialOf tried rule v
+trial-in : (rule : ℕ) (tried : List Trial) (v : TrialVerdict) → verdict_in rule tried ≡ Some v → IsTrialOf tried rule v
 trial-in rule [] v h = absurd cc
 trial-in rule (t ∷ tried) v h = chosen (t.rule == rule) refl h (trial-in rule tried v)
   where
@@ -172,9 +172,9 @@ module _ (d : Checked) (design : Parts) (order : Order) (of : IsDesignOf d desig
         let both : false ≡ true = sym always ∙ shown in
         cc
 
-    watched : (o : Option Verdict) → verdict_in rule tried ≡ o → is_unwatched o ≡ false
+    watched : (o : Option TrialVerdict) → verdict_in rule tried ≡ o → is_unwatched o ≡ false
     watched None is =
-        absurd (not-past (sym (tried_some rule tried) ∙ ap (λ (o : Option Verdict). is_some o) is))
+        absurd (not-past (sym (tried_some rule tried) ∙ ap (λ (o : Option TrialVerdict). is_some o) is))
     watched (Some verdict.Fired) is = refl
     watched (Some (verdict.Refused cause.Abort)) is = refl
     watched (Some (verdict.Refused (cause.OwnClash a))) is =

@@ -16,7 +16,7 @@ use Rattle.lab_core.specs.Numbers.{is_unwatched, verdict_in}
 use Rattle.lab_core.specs.Runs.{trials_in}
 use Rattle.lab_core.specs.Trials.{trials}
 use Rattle.lab_core.specs.declared.trial.Trial.{Trial}
-use Rattle.lab_core.specs.declared.trial.Verdict.TheVariants as verdict
+use Rattle.lab_core.specs.declared.trial.TrialVerdict.TheVariants as verdict
 use Rattle.lab_lint.specs.Rules.{may_be_refused}
 use Rattle.lab_lint.specs.Order.{IsOrder, MayPrecede, Order, is_scheduled}
 use Rattle.lab_lint.specs.Refusals.{clashed, clashing, own_writes}

@@ -6,12 +6,12 @@ use Rattle.std.specs.Prelude.{ℕ, List, [], ◌∷◌, ◌++◌, length, map, t
 use Rattle.std.specs.List.{flat_map}
 use Rattle.typed_core.specs.Laws.{read_at, write_at}
 use Rattle.koika_check.specs.declared.checked.Checked.{Checked}
-use Rattle.koika_check.specs.declared.checked.Function.{Function}
-use Rattle.koika_check.specs.declared.checked.Rule.{Rule}
+use Rattle.koika_check.specs.declared.checked.CheckedFunction.{CheckedFunction}
+use Rattle.koika_check.specs.declared.checked.CheckedRule.{CheckedRule}
 use Rattle.koika_check.specs.declared.typed.Operation.{Operation}
 use Rattle.koika_check.specs.declared.typed.Operation.TheVariants as operation
-use Rattle.koika_check.specs.declared.typed.Step.{Step, Step-F}
-use Rattle.koika_check.specs.declared.typed.Step.TheOpen as typed
+use Rattle.koika_check.specs.declared.typed.TypedStep.{TypedStep, TypedStep-F}
+use Rattle.koika_check.specs.declared.typed.TypedStep.TheOpen as typed
 use Rattle.koika_check.specs.declared.typed.Typed.{Typed, Typed-F, fold-Typed}
 use Rattle.lab_lint.specs.declared.occurrence.Occurrence.{Occurrence}
 use Rattle.lab_lint.specs.declared.occurrence.Occurrence.TheVariants as occurrence
@@ -85,7 +85,7 @@ typed_step bodies (typed.Apply o operands) = in_order (in_turn operands) (own bo
 typed_step bodies (typed.If conditions bodies') = choice conditions bodies'
 typed_step bodies (typed.Block steps) = in_turn steps
 
-abbrev pub step_step : Step-F Part Part → Part
+abbrev pub step_step : TypedStep-F Part Part → Part
 step_step (typed.Let value) = value
 step_step (typed.Do value) = value
 step_step (typed.Give value) = value
@@ -97,7 +97,7 @@ part_of bodies = fold-Typed Part Part step_step (typed_step bodies)
 -- ---- rules
 
 -- the bodies of functions, each of which calls those before it
-abbrev pub bodies_behind : List Part → List Function → List Part
+abbrev pub bodies_behind : List Part → List CheckedFunction → List Part
 bodies_behind before [] = before
 bodies_behind before (f ∷ functions) = bodies_behind (before ++ part_of before f.body ∷ []) functions
 
@@ -106,7 +106,7 @@ abbrev pub bodies_before : Checked → (functions : ℕ) → List Part
 bodies_before d functions = bodies_behind [] (take functions d.functions)
 
 -- the body of a rule, in which all functions may be called
-abbrev pub body_if : Checked → Option Rule → Part
+abbrev pub body_if : Checked → Option CheckedRule → Part
 body_if d None = nothing
 body_if d (Some r) = part_of (bodies_before d (length d.functions)) r.body
 

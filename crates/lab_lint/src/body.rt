@@ -8,7 +8,7 @@ ghost use Rattle.lab_lint.specs.Occurrences.{bodies_before, choice, in_turn, own
 ghost use Rattle.lab_lint.specs.inner.Occurrences.{part_of_step};
 
 use crate::occurrence::Occurrence;
-use koika_check::{Checked, Operation, Step, Typed};
+use koika_check::{Checked, Operation, Typed, TypedStep};
 use kw_bits::{NoMemory, Sequence};
 use std::alloc::Global;
 use typed_core::Access;
@@ -105,7 +105,7 @@ fn push_operands(
 fn push_steps(
     design: &Checked,
     functions: usize,
-    steps: &[Step],
+    steps: &[TypedStep],
     all: &mut Sequence<Occurrence>,
 ) -> Result<(), NoMemory>
     ensures { OnOk result (all.new ≡ all.old ++ (in_turn (map (part_of_step (bodies_before design.now functions)) steps.now)).all) }
@@ -121,15 +121,15 @@ fn push_steps(
 fn push_step(
     design: &Checked,
     functions: usize,
-    step: &Step,
+    step: &TypedStep,
     all: &mut Sequence<Occurrence>,
 ) -> Result<(), NoMemory>
     ensures { OnOk result (all.new ≡ all.old ++ (part_of_step (bodies_before design.now functions) step.now).all) }
 {
     match step {
-        Step::Let(value) => push_all(design, functions, value, all),
-        Step::Do(value) => push_all(design, functions, value, all),
-        Step::Give(value) => push_all(design, functions, value, all),
+        TypedStep::Let(value) => push_all(design, functions, value, all),
+        TypedStep::Do(value) => push_all(design, functions, value, all),
+        TypedStep::Give(value) => push_all(design, functions, value, all),
     }
 }
 

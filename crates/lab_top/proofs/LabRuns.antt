@@ -12,10 +12,10 @@ use Rattle.one_rule.specs.Run as core_run
 use Rattle.one_rule.specs.Run.{InputsByCycle, last_registers}
 use Rattle.one_rule.specs.Stimulus.{AlwaysFits, InputVectors, inputs_of}
 use Rattle.koika_check.specs.declared.checked.Checked.{Checked}
-use Rattle.koika_lower.specs.Lowering.{IsLowered, input_widths, register_widths}
+use Rattle.koika_lower.specs.Lowering.{IsLowered, typed_input_widths, register_widths}
 use Rattle.front_end.specs.Systems.{system_of}
 use Rattle.front_end.proofs.LoweredRuns.{first-same, inputs-wide, registers-wide, run-same, same-alone, twice}
-use Rattle.lab_core.specs.Numbers.{Numbers}
+use Rattle.lab_core.specs.Numbers.{RunNumbers}
 use Rattle.lab_core.specs.Profiles.{profile_text}
 use Rattle.lab_core.specs.Trials.{trials}
 use Rattle.journal_check.specs.Tokens.{number_named}
@@ -28,18 +28,18 @@ use Rattle.lab_top.proofs.Registers.{left, left-fit}
 use Rattle.lab_top.proofs.SameTrials.{same-trials}
 
 -- a stimulus for the typed design's inputs fits them in each cycle
-pub stimulus-fit : (d : Checked) (stimulus : InputVectors) → stimulus.widths ≡ input_widths d → AlwaysFits stimulus → (k : ℕ) → HaveWidths (input_widths d) (inputs_of stimulus k)
+pub stimulus-fit : (d : Checked) (stimulus : InputVectors) → stimulus.widths ≡ typed_input_widths d → AlwaysFits stimulus → (k : ℕ) → HaveWidths (typed_input_widths d) (inputs_of stimulus k)
 stimulus-fit d stimulus fits always k = subst (λ (ws : List ℕ). HaveWidths ws (inputs_of stimulus k)) fits (always k)
 
 module _ (d : Checked) (design : Parts) (lowered : IsLowered d design) where
   -- and those of what it is lowered to
-  pub stimulus-wide : (widths : List ℕ) → widths ≡ input_widths d → widths ≡ core.input_widths design
+  pub stimulus-wide : (widths : List ℕ) → widths ≡ typed_input_widths d → widths ≡ core.input_widths design
   stimulus-wide widths fits = fits ∙ sym (inputs-wide d design lowered)
 
   names-same : names_in design ≡ names_in (declared d)
   names-same = lowered.names ∙ sym (twice named (λ (r : CoreRule). r.name) d.rules)
 
-  module _ (valid : IsValid design) (inputs : InputsByCycle) (fit : (k : ℕ) → HaveWidths (input_widths d) (inputs k)) where
+  module _ (valid : IsValid design) (inputs : InputsByCycle) (fit : (k : ℕ) → HaveWidths (typed_input_widths d) (inputs k)) where
     -- the registers that a cycle finds
     abbrev pub found : ℕ → List BitVector
     found cycle = left (core_cycle.system_of design) inputs (core_run.first_values design) (cycle - 1)
@@ -56,7 +56,7 @@ module _ (d : Checked) (design : Parts) (lowered : IsLowered d design) where
     -- its trials
     pub trials-same : (cycle : ℕ) → trials (core_cycle.system_of design) (inputs cycle) (found cycle) ≡ trials_in d inputs cycle
     trials-same cycle =
-        same-trials (input_widths d) (register_widths d) (core_cycle.system_of design) (system_of d) (same-alone d design lowered valid) (inputs cycle) (fit cycle) (found cycle) (registers-fit cycle)
+        same-trials (typed_input_widths d) (register_widths d) (core_cycle.system_of design) (system_of d) (same-alone d design lowered valid) (inputs cycle) (fit cycle) (found cycle) (registers-fit cycle)
         ∙ ap (trials (system_of d) (inputs cycle)) (registers-same cycle)
 
     -- and what `why` writes of it
@@ -72,7 +72,7 @@ module _ (d : Checked) (design : Parts) (lowered : IsLowered d design) where
   named-same name = ap (λ (names : List (List ℕ)). number_named names name) (sym lowered.names)
 
   -- what `profile` writes of numbers
-  pub profile-same : (marks : List ℕ) (numbers : Numbers) → profile_text design marks numbers ≡ profile_text (declared d) marks numbers
+  pub profile-same : (marks : List ℕ) (numbers : RunNumbers) → profile_text design marks numbers ≡ profile_text (declared d) marks numbers
   profile-same marks numbers = profile_text-same design (declared d) lowered.registers lowered.inputs names-same marks numbers
 
   -- the rule that is asked for

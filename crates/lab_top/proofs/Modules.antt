@@ -14,7 +14,7 @@ use Rattle.koika_syntax.specs.Lexemes as design
 use Rattle.koika_check.specs.declared.checked.Checked.{Checked}
 use Rattle.koika_check.specs.declared.checked.Input.{Input}
 use Rattle.koika_check.specs.declared.checked.Register.{Register}
-use Rattle.koika_check.specs.declared.checked.Rule.{Rule}
+use Rattle.koika_check.specs.declared.checked.CheckedRule.{CheckedRule}
 use Rattle.front_end.specs.Circuits.{IsWiredAs}
 use Rattle.front_end.specs.Names.{AreDistinct, HasWordNames, names_of}
 use Rattle.front_end.specs.Sources.{name_of}
@@ -33,13 +33,13 @@ same-word : (bytes : List ℕ) → design.IsWord bytes → IsWord bytes
 same-word [] is = is
 same-word (b ∷ bytes) is = is
 
-all-ones : (f : OutputWire → ℕ) (wires : List OutputWire) (rules : List Rule) → map f wires ≡ map (λ (r : Rule). 1) rules
+all-ones : (f : OutputWire → ℕ) (wires : List OutputWire) (rules : List CheckedRule) → map f wires ≡ map (λ (r : CheckedRule). 1) rules
     → AllByRecursion (λ (wire : OutputWire). f wire ≡ 1) wires
 all-ones f [] rules e = tt
 all-ones f (wire ∷ wires) [] e = absurd cc
 all-ones f (wire ∷ wires) (r ∷ rules) e =
     let first : f wire ≡ 1 = cc in
-    let others : map f wires ≡ map (λ (r : Rule). 1) rules = cc in
+    let others : map f wires ≡ map (λ (r : CheckedRule). 1) rules = cc in
     (first, all-ones f wires rules others)
 
 module _ (d : Checked) (c : Wires) (wired : IsWiredAs d c) where

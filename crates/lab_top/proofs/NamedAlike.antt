@@ -14,14 +14,14 @@ use Rattle.attempt_log.specs.declared.cause.Cause.{Cause}
 use Rattle.attempt_log.specs.declared.cause.Cause.TheVariants as cause
 use Rattle.stim_report.specs.Report.{registers_text}
 use Rattle.stim_report.specs.Shapes.{of_input, of_register}
-use Rattle.journal_check.specs.Printing.{access_text, ended, event_text, joined, name_of_rule, rule_name}
-use Rattle.lab_core.specs.Numbers.{Counted, Numbers, RuleNumbers}
+use Rattle.journal_check.specs.Printing.{access_text, ended, event_text, joined_tokens, name_of_rule, rule_name}
+use Rattle.lab_core.specs.Numbers.{Counted, RunNumbers, RuleNumbers}
 use Rattle.lab_core.specs.Profiles.{assert_line, counts_line, cycles_line, first_tokens, profile_text, refusal_line, refusal_tokens, rule_text, rules_text}
 use Rattle.lab_core.specs.Trials.{untried}
 use Rattle.lab_core.specs.Why.{cycle_line, is_asked, trial_line, trials_text, untried_line, verdict_tokens}
 use Rattle.lab_core.specs.declared.trial.Trial.{Trial}
-use Rattle.lab_core.specs.declared.trial.Verdict.{Verdict}
-use Rattle.lab_core.specs.declared.trial.Verdict.TheVariants as verdict
+use Rattle.lab_core.specs.declared.trial.TrialVerdict.{TrialVerdict}
+use Rattle.lab_core.specs.declared.trial.TrialVerdict.TheVariants as verdict
 
 abbrev pub names_in : Parts → List (List ℕ)
 names_in design = map (λ (r : Rule). r.name) design.rules
@@ -51,17 +51,17 @@ module _ (a b : Parts) (regs : a.regs ≡ b.regs) (inputs : a.inputs ≡ b.input
   cycle_line-same cycle values held =
       ap₂ (λ (ins : List InputDecl) (own : List RegDecl). ended (codes "cycle " ++ decimal cycle ++ registers_text (map of_input ins) values ++ registers_text (map of_register own) held)) inputs regs
 
-  verdict-same : (v : Verdict) → verdict_tokens a v ≡ verdict_tokens b v
+  verdict-same : (v : TrialVerdict) → verdict_tokens a v ≡ verdict_tokens b v
   verdict-same verdict.Fired = refl
   verdict-same (verdict.Refused cause.Abort) = refl
   verdict-same (verdict.Refused (cause.OwnClash x)) = ap (λ (text : List ℕ). codes "own" ∷ text ∷ []) (access-same x)
   verdict-same (verdict.Refused (cause.Clash x rule earlier)) = λ i. codes "clash" ∷ access-same x i ∷ rule_name-same rule i ∷ access-same earlier i ∷ []
 
   trial_line-same : (t : Trial) → trial_line a t ≡ trial_line b t
-  trial_line-same t i = ended (joined (rule_name-same t.rule i ∷ verdict-same t.verdict i ++ (codes ":" ∷ map (λ (e : Event). event-same e i) t.events)))
+  trial_line-same t i = ended (joined_tokens (rule_name-same t.rule i ∷ verdict-same t.verdict i ++ (codes ":" ∷ map (λ (e : Event). event-same e i) t.events)))
 
   untried_line-same : (rule : ℕ) → untried_line a rule ≡ untried_line b rule
-  untried_line-same rule i = ended (joined (rule_name-same rule i ∷ codes "untried" ∷ []))
+  untried_line-same rule i = ended (joined_tokens (rule_name-same rule i ∷ codes "untried" ∷ []))
 
   pub trials_text-same : (only : Option ℕ) (tried : List Trial) → trials_text a only tried ≡ trials_text b only tried
   trials_text-same only tried i =
@@ -76,7 +76,7 @@ module _ (a b : Parts) (regs : a.regs ≡ b.regs) (inputs : a.inputs ≡ b.input
   refusal-same name (cause.Clash x rule earlier) = λ i. codes "clash" ∷ name ∷ access-same x i ∷ rule_name-same rule i ∷ access-same earlier i ∷ []
 
   refusal_line-same : (name : List ℕ) (c : Counted) → refusal_line a name c ≡ refusal_line b name c
-  refusal_line-same name c = ap (λ (tokens : List (List ℕ)). ended (joined (tokens ++ (decimal c.count ∷ first_tokens c.first)))) (refusal-same name c.cause)
+  refusal_line-same name c = ap (λ (tokens : List (List ℕ)). ended (joined_tokens (tokens ++ (decimal c.count ∷ first_tokens c.first)))) (refusal-same name c.cause)
 
   rule_text-same : (rule : ℕ) (n : RuleNumbers) → rule_text a (rule_name a rule) n ≡ rule_text b (rule_name b rule) n
   rule_text-same rule n =
@@ -87,7 +87,7 @@ module _ (a b : Parts) (regs : a.regs ≡ b.regs) (inputs : a.inputs ≡ b.input
   rules_text-same rule [] = refl
   rules_text-same rule (n ∷ rules) = ap₂ (λ (x y : List ℕ). x ++ y) (rule_text-same rule n) (rules_text-same (rule + 1) rules)
 
-  pub profile_text-same : (marks : List ℕ) (numbers : Numbers) → profile_text a marks numbers ≡ profile_text b marks numbers
+  pub profile_text-same : (marks : List ℕ) (numbers : RunNumbers) → profile_text a marks numbers ≡ profile_text b marks numbers
   profile_text-same marks numbers i =
       cycles_line numbers.cycles ++ rules_text-same 0 numbers.rules i
       ++ flat_map (λ (mark : ℕ). assert_line (rule_name-same mark i) (slice_get numbers.rules mark)) marks

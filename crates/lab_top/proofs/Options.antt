@@ -2,7 +2,7 @@
 use Rattle.std.proofs.Common.{◌≡◌, ℕ, ◌+◌, ◌<◌, ◌≤◌, Bool, true, false, List, [], ◌∷◌, length, Option, Some, None, refl, arith, take, drop}
 use Rattle.std.specs.Prelude.{codes, if◌then◌else◌}
 use Rattle.std.specs.Str.{bytes_eq}
-use Rattle.front_end.specs.NumberWords.{number_of}
+use Rattle.front_end.specs.NumberWords.{number_of_word}
 use Rattle.lab_top.specs.Words.{asked_flag, given_once, name_of, no_options, options_of, with_cycle, with_cycles, with_rule, with_strict, with_word}
 use Rattle.lab_top.specs.declared.words.Options.{Options}
 
@@ -40,12 +40,12 @@ once-takes (Some x) put value n f = tt
 with_cycle-takes : (word : List ℕ) (others : Option Options) (m : ℕ) → Takes m others → Takes (m + 2) (with_cycle word others)
 with_cycle-takes word None m h = tt
 with_cycle-takes word (Some o) m h =
-    once-takes o.cycle _ (number_of word) (m + 2) (λ n none. let few : m ≤ 0 + value_words o.cycles + value_words o.rule + flag_words o.is_strict = rw none at h in omega (arith, few))
+    once-takes o.cycle _ (number_of_word word) (m + 2) (λ n none. let few : m ≤ 0 + value_words o.cycles + value_words o.rule + flag_words o.is_strict = rw none at h in omega (arith, few))
 
 with_cycles-takes : (word : List ℕ) (others : Option Options) (m : ℕ) → Takes m others → Takes (m + 2) (with_cycles word others)
 with_cycles-takes word None m h = tt
 with_cycles-takes word (Some o) m h =
-    once-takes o.cycles _ (number_of word) (m + 2) (λ n none. let few : m ≤ value_words o.cycle + 0 + value_words o.rule + flag_words o.is_strict = rw none at h in omega (arith, few))
+    once-takes o.cycles _ (number_of_word word) (m + 2) (λ n none. let few : m ≤ value_words o.cycle + 0 + value_words o.rule + flag_words o.is_strict = rw none at h in omega (arith, few))
 
 with_rule-takes : (word : List ℕ) (others : Option Options) (m : ℕ) → Takes m others → Takes (m + 2) (with_rule word others)
 with_rule-takes word None m h = tt

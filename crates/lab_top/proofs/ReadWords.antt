@@ -19,7 +19,7 @@ use Rattle.clap.specs.declared.parser.matches.ValueSource.TheVariants.{CommandLi
 use Rattle.clap.specs.declared.builder.value_parser.Reading.{Reading}
 use Rattle.clap.specs.Takes.{settle_passes, takes, turn_passes, walk_passes}
 use Rattle.clap.proofs.OnLiterals.{clap_on_literals}
-use Rattle.front_end.specs.NumberWords.{number_of, value_of}
+use Rattle.front_end.specs.NumberWords.{number_of_word, value_of}
 use Rattle.lab_top.specs.Words.{asked_flag, given_once, name_of, no_options, options_of, with_cycle, with_cycles, with_rule as with_named, with_strict, with_word}
 use Rattle.lab_top.specs.inner.Given.{Give, bare, cycle_rule, cycles_rule, flag_text, name_rule, options_app, strict_rule}
 use Rattle.lab_top.specs.declared.words.Options.{Options}
@@ -71,7 +71,7 @@ words_of (alone f ∷ steps) = own_word f ∷ words_of steps
 
 record PutsCycle (v : Text) (rest o : Options) : Type 0 where
   n : ℕ
-  number : number_of v ≡ Some n
+  number : number_of_word v ≡ Some n
   fresh : rest.cycle ≡ None
   cycle : o.cycle ≡ Some n
   cycles : o.cycles ≡ rest.cycles
@@ -80,7 +80,7 @@ record PutsCycle (v : Text) (rest o : Options) : Type 0 where
 
 record PutsCycles (v : Text) (rest o : Options) : Type 0 where
   n : ℕ
-  number : number_of v ≡ Some n
+  number : number_of_word v ≡ Some n
   fresh : rest.cycles ≡ None
   cycle : o.cycle ≡ rest.cycle
   cycles : o.cycles ≡ Some n
@@ -133,7 +133,7 @@ with_key of_name v others = with_named v others
 with_key-is : (key : Key) (v : Text) (others : Option Options) (o : Options) → with_key key v others ≡ Some o → (rest : Options) × (others ≡ Some rest) × Puts key v rest o
 with_key-is of_cycle v None o e = absurd (none-some o e)
 with_key-is of_cycle v (Some rest) o e =
-    let found = once-is rest.cycle (λ n. record rest { cycle = Some n }) (number_of v) o e in
+    let found = once-is rest.cycle (λ n. record rest { cycle = Some n }) (number_of_word v) o e in
     let put = sym found.3 in (
       rest,
       refl,
@@ -141,7 +141,7 @@ with_key-is of_cycle v (Some rest) o e =
     )
 with_key-is of_cycles v None o e = absurd (none-some o e)
 with_key-is of_cycles v (Some rest) o e =
-    let found = once-is rest.cycles (λ n. record rest { cycles = Some n }) (number_of v) o e in
+    let found = once-is rest.cycles (λ n. record rest { cycles = Some n }) (number_of_word v) o e in
     let put = sym found.3 in (
       rest,
       refl,
@@ -244,14 +244,14 @@ no_dash true true c value n e = none-some n e
 no_dash true false c value n e = none-some n e
 no_dash false b c value n e = none-some n e
 
-dash-first : (d : ℕ) (ds : Text) (n : ℕ) → number_of (d ∷ ds) ≡ Some n → (d == 45) ≡ false
+dash-first : (d : ℕ) (ds : Text) (n : ℕ) → number_of_word (d ∷ ds) ≡ Some n → (d == 45) ≡ false
 dash-first d ds n e = go (d == 45) refl
   where
     go : (b : Bool) → (d == 45) ≡ b → b ≡ false
     go false is = refl
-    go true is = absurd (no_dash (nat_le 1 (length (45 ∷ ds))) (nat_le (length (45 ∷ ds)) 10) (nat_le (value_of (45 ∷ ds)) 4294967295) (value_of (45 ∷ ds)) n (subst (λ x. number_of (x ∷ ds) ≡ Some n) (eqb-true d 45 is) e))
+    go true is = absurd (no_dash (nat_le 1 (length (45 ∷ ds))) (nat_le (length (45 ∷ ds)) 10) (nat_le (value_of (45 ∷ ds)) 4294967295) (value_of (45 ∷ ds)) n (subst (λ x. number_of_word (x ∷ ds) ≡ Some n) (eqb-true d 45 is) e))
 
-no_number : (n : ℕ) → number_of [] ≡ Some n → ⊥
+no_number : (n : ℕ) → number_of_word [] ≡ Some n → ⊥
 no_number n e = none-some n e
 
 record IsPlain (v : Text) : Type 0 where
@@ -260,7 +260,7 @@ record IsPlain (v : Text) : Type 0 where
   is : v ≡ d ∷ ds
   dash : (d == 45) ≡ false
 
-number-plain : (v : Text) (n : ℕ) → number_of v ≡ Some n → IsPlain v
+number-plain : (v : Text) (n : ℕ) → number_of_word v ≡ Some n → IsPlain v
 number-plain [] n e = absurd (no_number n e)
 number-plain (d ∷ ds) n e = record { d = d; ds = ds; is = refl; dash = dash-first d ds n e }
 
@@ -612,17 +612,17 @@ flag_values true given = Some (codes "true" ∷ [])
 
 -- values are read as options, where those that the options don't give were there before
 record AreReadAs (o : Options) (before values : Slot → Option (List Text)) : Type 0 where
-  cycle : first_as number_of (values (of_value of_cycle)) ≡ option_or o.cycle (first_as number_of (before (of_value of_cycle)))
-  cycles : first_as number_of (values (of_value of_cycles)) ≡ option_or o.cycles (first_as number_of (before (of_value of_cycles)))
+  cycle : first_as number_of_word (values (of_value of_cycle)) ≡ option_or o.cycle (first_as number_of_word (before (of_value of_cycle)))
+  cycles : first_as number_of_word (values (of_value of_cycles)) ≡ option_or o.cycles (first_as number_of_word (before (of_value of_cycles)))
   rule : first_as name_of (values (of_value of_name)) ≡ option_or o.rule (first_as name_of (before (of_value of_name)))
   strict : values (of_flag of_strict) ≡ flag_values o.is_strict (before (of_flag of_strict))
 
 module _ (rest o : Options) (before values : Slot → Option (List Text)) where
   abbrev cycle-own : Option ℕ → Option ℕ
-  cycle-own own = option_or own (first_as number_of (before (of_value of_cycle)))
+  cycle-own own = option_or own (first_as number_of_word (before (of_value of_cycle)))
 
   abbrev cycles-own : Option ℕ → Option ℕ
-  cycles-own own = option_or own (first_as number_of (before (of_value of_cycles)))
+  cycles-own own = option_or own (first_as number_of_word (before (of_value of_cycles)))
 
   abbrev rule-own : Option (List ℕ) → Option (List ℕ)
   rule-own own = option_or own (first_as name_of (before (of_value of_name)))
@@ -660,8 +660,8 @@ module _ (rest o : Options) (before values : Slot → Option (List Text)) where
 
 all-read-as : (steps : List Step) (o : Options) (before : Slot → Option (List Text)) → Gives steps o → AreReadAs o before (all_values steps before)
 all-read-as [] o before gives = record {
-  cycle = ap (λ (p : Options). option_or p.cycle (first_as number_of (before (of_value of_cycle)))) (sym gives);
-  cycles = ap (λ (p : Options). option_or p.cycles (first_as number_of (before (of_value of_cycles)))) (sym gives);
+  cycle = ap (λ (p : Options). option_or p.cycle (first_as number_of_word (before (of_value of_cycle)))) (sym gives);
+  cycles = ap (λ (p : Options). option_or p.cycles (first_as number_of_word (before (of_value of_cycles)))) (sym gives);
   rule = ap (λ (p : Options). option_or p.rule (first_as name_of (before (of_value of_name)))) (sym gives);
   strict = ap (λ (p : Options). flag_values p.is_strict (before (of_flag of_strict))) (sym gives);
 }
@@ -819,8 +819,8 @@ module _ (name : Text) (words : List Text) (o : Options) (values : Slot → Opti
   are-read = record {
     taken = are-taken;
     gives = subst (λ (rows : List Row). Give rows o) (sym end) (record {
-      cycle = ap (λ found. option_and_then number_of (option_and_then (λ (r : Row). slice_get r.values 0) found)) (row-is of_cycle) ∙ read-through number_of (of_value of_cycle) (values (of_value of_cycle)) ∙ told.cycle ∙ or-none o.cycle;
-      cycles = ap (λ found. option_and_then number_of (option_and_then (λ (r : Row). slice_get r.values 0) found)) (row-is of_cycles) ∙ read-through number_of (of_value of_cycles) (values (of_value of_cycles)) ∙ told.cycles ∙ or-none o.cycles;
+      cycle = ap (λ found. option_and_then number_of_word (option_and_then (λ (r : Row). slice_get r.values 0) found)) (row-is of_cycle) ∙ read-through number_of_word (of_value of_cycle) (values (of_value of_cycle)) ∙ told.cycle ∙ or-none o.cycle;
+      cycles = ap (λ found. option_and_then number_of_word (option_and_then (λ (r : Row). slice_get r.values 0) found)) (row-is of_cycles) ∙ read-through number_of_word (of_value of_cycles) (values (of_value of_cycles)) ∙ told.cycles ∙ or-none o.cycles;
       rule = ap (λ found. option_and_then name_of (option_and_then (λ (r : Row). slice_get r.values 0) found)) (row-is of_name) ∙ read-through name_of (of_value of_name) (values (of_value of_name)) ∙ told.rule ∙ or-none o.rule;
       strict = is-finished.flag;
     });

@@ -3,7 +3,7 @@ use Rattle.std.proofs.Common.{◌≡◌, ℕ, ◌+◌, ◌-◌, ◌≤◌, List,
 use Rattle.std.specs.List.{fold}
 use Rattle.kw_bits.specs.BitVector.{BitVector}
 use Rattle.koika_check.specs.declared.checked.Checked.{Checked}
-use Rattle.koika_lower.specs.Lowering.{IsLowered, input_widths}
+use Rattle.koika_lower.specs.Lowering.{IsLowered, typed_input_widths}
 use Rattle.one_rule.specs.Cycle as core_cycle
 use Rattle.one_rule.specs.Cycle.{System}
 use Rattle.one_rule.specs.Rows as core_rows
@@ -46,7 +46,7 @@ run-values : (system : System) (inputs : InputsByCycle) (regs : List BitVector) 
 run-values system inputs regs from to = values-registers regs (rows_after system inputs (to - from) from regs)
 
 -- the widths of a design's inputs are those that texts tell of them
-pub shape-wide : (d : Checked) (shape : Shape) → shape ≡ shape_of d → input_widths d ≡ widths_of shape.inputs
+pub shape-wide : (d : Checked) (shape : Shape) → shape ≡ shape_of d → typed_input_widths d ≡ widths_of shape.inputs
 shape-wide d shape is =
     sym (twice of_input (λ (one : NameWidth). one.width) d.inputs) ∙ ap (λ (s : Shape). widths_of s.inputs) (sym is)
 
@@ -127,7 +127,7 @@ module _ (system : System) (inputs : InputsByCycle) (first : List BitVector) whe
       (rest, ap (part shape inputs) (sym (joined-rows from to up)) ∙ takes.written)
 
 module _ (d : Checked) (design : Parts) (lowered : IsLowered d design) (valid : IsValid design) where
-  module _ (inputs : InputsByCycle) (fit : (k : ℕ) → HaveWidths (input_widths d) (inputs k)) where
+  module _ (inputs : InputsByCycle) (fit : (k : ℕ) → HaveWidths (typed_input_widths d) (inputs k)) where
     pub same-run : (n : ℕ) → core_run.run_of design inputs n ≡ run_of d inputs n
     same-run n = run-same d design lowered valid inputs fit n
 

@@ -55,7 +55,7 @@ module _ (it : Lowered) where
       valid : IsValid core
       valid = subst IsValid is holds
 
-      fit : (k : ℕ) → HaveWidths (lowering.input_widths it.checked) (given k)
+      fit : (k : ℕ) → HaveWidths (lowering.typed_input_widths it.checked) (given k)
       fit = stimulus-fit it.checked (arc_value it.stimulus) it.stimulus_fits (subst AlwaysFits by always)
 
       -- the registers that a batch begins with fit, and so do its rows

@@ -5,18 +5,18 @@ use Rattle.typed_core.specs.declared.action.Action.TheVariants.{Unit as DoesNoth
 use Rattle.typed_core.specs.declared.design.Parts.{Parts}
 use Rattle.typed_core.specs.declared.design.Rule.{Rule as CoreRule}
 use Rattle.koika_check.specs.declared.checked.Checked.{Checked}
-use Rattle.koika_check.specs.declared.checked.Rule.{Rule}
-use Rattle.koika_lower.specs.Lowering.{input_of, register_of}
+use Rattle.koika_check.specs.declared.checked.CheckedRule.{CheckedRule}
+use Rattle.koika_lower.specs.Lowering.{core_input, register_of}
 
 -- a rule by its name alone
-abbrev pub named : Rule → CoreRule
+abbrev pub named : CheckedRule → CoreRule
 named r = record { name = r.name; body = DoesNothing }
 
 -- a design's names, widths and nodes, without what its rules do
 abbrev pub declared : Checked → Parts
 declared d = record {
   regs = map register_of d.registers;
-  inputs = map input_of d.inputs;
+  inputs = map core_input d.inputs;
   tables = [];
   hosts = [];
   rules = map named d.rules;

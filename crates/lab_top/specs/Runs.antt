@@ -8,7 +8,7 @@ use Rattle.one_rule.specs.Run.{InputsByCycle, last_registers}
 use Rattle.journal_check.specs.Tokens.{number_named}
 use Rattle.front_end.specs.Sources.{name_of, shape_of}
 use Rattle.front_end.specs.Systems.{first_values, run_of, system_of}
-use Rattle.lab_core.specs.Numbers.{Numbers, fails_strictly, numbers_of}
+use Rattle.lab_core.specs.Numbers.{RunNumbers, fails_strictly, numbers_of}
 use Rattle.lab_core.specs.Profiles.{profile_text}
 use Rattle.lab_core.specs.Trials.{trials}
 use Rattle.lab_core.specs.Why.{cycle_line, trials_text}
@@ -44,7 +44,7 @@ abbrev pub why_text : Checked → Option ℕ → InputsByCycle → ℕ → ℕ �
 why_text d only inputs cycle cycles = flat_map (text_in d only inputs) (range_with_len cycle cycles)
 
 -- what is counted of the trials of the cycles 1 to n
-abbrev pub numbers_in : Checked → InputsByCycle → ℕ → Numbers
+abbrev pub numbers_in : Checked → InputsByCycle → ℕ → RunNumbers
 numbers_in d inputs n = numbers_of (length d.rules) (map (trials_in d inputs) (range_with_len 1 n))
 
 -- what `profile` writes of them

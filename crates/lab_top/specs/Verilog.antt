@@ -6,8 +6,8 @@ use Rattle.kw_bits.specs.declared.host.HostSpec.{HostSpec}
 use Rattle.koika_check.specs.declared.checked.Checked.{Checked}
 use Rattle.koika_check.specs.declared.checked.Input.{Input}
 use Rattle.koika_check.specs.declared.checked.Register.{Register as Declared}
-use Rattle.koika_check.specs.declared.checked.Rule.{Rule}
-use Rattle.koika_lower.specs.Lowering.{input_widths}
+use Rattle.koika_check.specs.declared.checked.CheckedRule.{CheckedRule}
+use Rattle.koika_lower.specs.Lowering.{typed_input_widths}
 use Rattle.one_rule.specs.Stimulus.{InputVectors, inputs_of}
 use Rattle.front_end.specs.Circuits.{IsStimulusFor}
 use Rattle.front_end.specs.Names.{names_of}
@@ -34,8 +34,8 @@ pub record HasPartsOf (d : Checked) (options : Options) (m : Module) : Type 0 wh
   pub reset : m.reset ≡ (if options.reset then Some (own_name (names_of d) (codes "rst")) else None)
   pub ports : All (λ (register : Register). register.is_port ≡ options.registers) m.registers
   pub inputs : map (λ (port : Port). port.name) m.inputs ≡ map (λ (i : Input). written i.name) d.inputs
-  pub input_widths : map (λ (port : Port). port.width) m.inputs ≡ input_widths d
-  pub outputs : map (λ (output : Output). output.name) m.outputs ≡ map (λ (r : Rule). written (name_of r)) d.rules
+  pub input_widths : map (λ (port : Port). port.width) m.inputs ≡ typed_input_widths d
+  pub outputs : map (λ (output : Output). output.name) m.outputs ≡ map (λ (r : CheckedRule). written (name_of r)) d.rules
   pub registers : map (λ (register : Register). register.name) m.registers ≡ map
       (λ (r : Declared). written r.name) d.registers
   pub first_values : run.first_values m ≡ typed.first_values d

@@ -5,7 +5,7 @@ use Rattle.std.specs.Prelude.{List, [], ◌∷◌, codes, fold, take, drop, Opti
 use Rattle.std.specs.List.{list_all}
 use Rattle.std.specs.Char.{is_ascii_alphabetic, is_ascii_digit}
 use Rattle.std.specs.Str.{bytes_eq}
-use Rattle.front_end.specs.NumberWords.{number_of}
+use Rattle.front_end.specs.NumberWords.{number_of_word}
 use Rattle.verilog_text.specs.declared.verilog.Options.{Options as Ports}
 use Rattle.lab_top.specs.declared.words.Command.{Command}
 use Rattle.lab_top.specs.declared.words.Command.TheVariants.{Why, Profile, Waves, Verilog}
@@ -41,12 +41,12 @@ given_once (Some earlier) put value = None
 -- options, if they are valid, with a value of `--cycle`
 abbrev pub with_cycle : List ℕ → Option Options → Option Options
 with_cycle word None = None
-with_cycle word (Some options) = given_once options.cycle (λ n. record options { cycle = Some n }) (number_of word)
+with_cycle word (Some options) = given_once options.cycle (λ n. record options { cycle = Some n }) (number_of_word word)
 
 -- options, if they are valid, with a value of `--cycles`
 abbrev pub with_cycles : List ℕ → Option Options → Option Options
 with_cycles word None = None
-with_cycles word (Some options) = given_once options.cycles (λ n. record options { cycles = Some n }) (number_of word)
+with_cycles word (Some options) = given_once options.cycles (λ n. record options { cycles = Some n }) (number_of_word word)
 
 -- options, if they are valid, with a name that is valid, if it is
 abbrev pub with_name : Option (List ℕ) → Option Options → Option Options

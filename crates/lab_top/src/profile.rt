@@ -2,7 +2,7 @@
 
 ghost use Rattle.std.specs.Prelude.{◌≡◌, ◌≤◌, ◌&&◌, IfOk, length};
 ghost use Rattle.kw_base.specs.Fault.{IfFault};
-ghost use Rattle.koika_lower.specs.Lowering.{IsLowered, input_widths};
+ghost use Rattle.koika_lower.specs.Lowering.{IsLowered, typed_input_widths};
 ghost use Rattle.typed_core.specs.Valid.{externs_of};
 ghost use Rattle.one_rule.specs.Externs.{kept};
 ghost use Rattle.one_rule.specs.Hosts.{host_specs};
@@ -75,7 +75,7 @@ fn count(
 ) -> Result<Profile, NoMemory>
     requires lowered { IsLowered checked.now design.now }
     requires externs { kept externs.now ≡ externs_of design.now }
-    requires stimulus { stimulus.now.widths ≡ input_widths checked.now }
+    requires stimulus { stimulus.now.widths ≡ typed_input_widths checked.now }
     ensures { IfOk result (λ profile. profile ≡ numbers_in checked.now (inputs_of stimulus.now) cycles) }
 {
     let _checked = checked;

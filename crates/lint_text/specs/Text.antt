@@ -8,9 +8,9 @@ use Rattle.koika_check.specs.declared.checked.Checked.{Checked}
 use Rattle.koika_check.specs.declared.checked.Host.{Host}
 use Rattle.koika_check.specs.declared.checked.Input.{Input}
 use Rattle.koika_check.specs.declared.checked.Register.{Register}
-use Rattle.koika_check.specs.declared.checked.Rule.{Rule}
+use Rattle.koika_check.specs.declared.checked.CheckedRule.{CheckedRule}
 use Rattle.koika_check.specs.declared.checked.Table.{Table}
-use Rattle.journal_check.specs.Printing.{ended, joined}
+use Rattle.journal_check.specs.Printing.{ended, joined_tokens}
 use Rattle.lint_text.specs.declared.note.Note.{Note}
 use Rattle.lint_text.specs.declared.note.Note.TheVariants as note
 use Rattle.lint_text.specs.declared.note.Use.{Use}
@@ -26,7 +26,7 @@ name_by name (Some x) = name x
 
 -- the name of the rule of a number
 abbrev pub rule_name : Checked → ℕ → List ℕ
-rule_name d number = name_by (λ (r : Rule). r.name) (slice_get d.rules number)
+rule_name d number = name_by (λ (r : CheckedRule). r.name) (slice_get d.rules number)
 
 -- that of a register
 abbrev pub register_name : Checked → ℕ → List ℕ
@@ -123,7 +123,7 @@ note_tokens d places (note.Unused kind number) =
 
 -- the line of a note
 abbrev pub note_line : Checked → Places → Note → List ℕ
-note_line d places n = ended (joined (note_tokens d places n))
+note_line d places n = ended (joined_tokens (note_tokens d places n))
 
 -- the lines of notes
 abbrev pub notes_text : Checked → Places → List Note → List ℕ

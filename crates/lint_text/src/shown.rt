@@ -2,7 +2,7 @@
 
 ghost use Rattle.std.specs.Prelude.{◌≡◌, ◌++◌, OnOk, codes};
 ghost use Rattle.std.specs.List.{flat_map};
-ghost use Rattle.journal_check.specs.Printing.{ended, joined};
+ghost use Rattle.journal_check.specs.Printing.{ended, joined_tokens};
 ghost use Rattle.lint_text.specs.Text.{assert_tokens, host_name, input_name, may_tokens, note_line, own_tokens, place_text, placed, register_name, rule_name, size_tokens, table_name, use_word, used_name, used_places};
 
 use crate::note::{Note, Use};
@@ -105,7 +105,7 @@ fn push_placed(
     places: &Sequence<Place>,
     number: usize,
 ) -> Result<(), NoMemory>
-    ensures { OnOk result (text.new ≡ text.old ++ ended (joined (placed word.now name.now (place_text places.now number)))) }
+    ensures { OnOk result (text.new ≡ text.old ++ ended (joined_tokens (placed word.now name.now (place_text places.now number)))) }
 {
     text.extend_from_slice(word)?;
     push_token(text, name)?;
@@ -116,7 +116,7 @@ fn push_placed(
 
 // Adds the line with the weight and the depth of a rule's body.
 fn push_size(text: &mut Text, name: &[u8], weight: u32, depth: u32) -> Result<(), NoMemory>
-    ensures { OnOk result (text.new ≡ text.old ++ ended (joined (size_tokens name.now weight depth))) }
+    ensures { OnOk result (text.new ≡ text.old ++ ended (joined_tokens (size_tokens name.now weight depth))) }
 {
     text.extend_from_slice(b"size")?;
     push_token(text, b"rule")?;
@@ -135,7 +135,7 @@ fn push_own(
     register: &[u8],
     writes: &[Access],
 ) -> Result<(), NoMemory>
-    ensures { OnOk result (text.new ≡ text.old ++ ended (joined (own_tokens name.now register.now writes.now))) }
+    ensures { OnOk result (text.new ≡ text.old ++ ended (joined_tokens (own_tokens name.now register.now writes.now))) }
 {
     text.extend_from_slice(b"own")?;
     push_token(text, name)?;
@@ -153,7 +153,7 @@ fn push_may(
     accesses: &[Access],
     others: &[Access],
 ) -> Result<(), NoMemory>
-    ensures { OnOk result (text.new ≡ text.old ++ ended (joined (may_tokens name.now earlier.now register.now accesses.now others.now))) }
+    ensures { OnOk result (text.new ≡ text.old ++ ended (joined_tokens (may_tokens name.now earlier.now register.now accesses.now others.now))) }
 {
     text.extend_from_slice(b"may")?;
     push_token(text, name)?;
@@ -166,7 +166,7 @@ fn push_may(
 
 // Adds the line of what may be so of an assertion.
 fn push_assert(text: &mut Text, name: &[u8], what: &[u8]) -> Result<(), NoMemory>
-    ensures { OnOk result (text.new ≡ text.old ++ ended (joined (assert_tokens name.now what.now))) }
+    ensures { OnOk result (text.new ≡ text.old ++ ended (joined_tokens (assert_tokens name.now what.now))) }
 {
     text.extend_from_slice(b"assert")?;
     push_token(text, name)?;

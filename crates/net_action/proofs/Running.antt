@@ -5,7 +5,7 @@ use Rattle.std.specs.List.{AllByRecursion}
 use Rattle.std.proofs.lemmas.Option.{slice_get_within}
 use Rattle.kw_bits.specs.BitVector.{BitVector}
 use Rattle.kw_bits.specs.Laws.{HasWidth}
-use Rattle.typed_core.specs.Evaluation.{Ending, Part, Progress, Stop, Value, bind, choose, comes_to, ◌>>=◌}
+use Rattle.typed_core.specs.Evaluation.{Ending, Evaluation, Progress, Stop, Value, bind, choose, comes_to, ◌>>=◌}
 use Rattle.typed_core.specs.Fits.{EventsFit}
 use Rattle.typed_core.specs.declared.access.Event.{Event}
 use Rattle.typed_core.specs.declared.outcome.Stopped.{Stopped}
@@ -49,7 +49,7 @@ module _ (widths : List ℕ) (values : List BitVector) where
   pub means_value : (run : RuleNet) (wire : Option ℕ) (w : BitVector) → w ≡ wire_value values wire → Means widths values run run wire (comes_to w)
   means_value run wire w e = record { runs = λ events up stands. (up, stands, e); stands_still = λ down. (down, same_self run.log) }
 
-  pub means_then : (r0 r1 r2 : RuleNet) (x wire : Option ℕ) (first : Part BitVector Stopped) (next : BitVector → Part BitVector Stopped)
+  pub means_then : (r0 r1 r2 : RuleNet) (x wire : Option ℕ) (first : Evaluation BitVector Stopped) (next : BitVector → Evaluation BitVector Stopped)
       → Means widths values r0 r1 x first → Means widths values r1 r2 wire (next (wire_value values x)) → Means widths values r0 r2 wire (first >>= next)
   means_then r0 r1 r2 x wire first next m n = record {
     runs = λ events up stands. by (first events).events (first events).ending (m.runs events up stands);
@@ -71,7 +71,7 @@ module _ (widths : List ℕ) (values : List BitVector) where
   zero_or_one (suc zero) lt = refl
   zero_or_one (suc (suc n)) lt = absurd (omega arith)
 
-  module _ (r1 r3 r5 : RuleNet) (x g1 g2 g3 : ℕ) (a b wire : Option ℕ) (P Q : Part BitVector Stopped)
+  module _ (r1 r3 r5 : RuleNet) (x g1 g2 g3 : ℕ) (a b wire : Option ℕ) (P Q : Evaluation BitVector Stopped)
       (is1 : Up g1 ≡ (Up r1.fires && Up x)) (m1 : Means widths values (record { fires = g1; log = r1.log }) r3 a P)
       (is2 : Up g2 ≡ (Up r1.fires && not (Up x))) (m2 : Means widths values (record { fires = g2; log = r3.log }) r5 b Q)
       (is3 : Up g3 ≡ (Up r3.fires || Up r5.fires))

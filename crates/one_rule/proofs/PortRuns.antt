@@ -7,7 +7,7 @@ use Rattle.std.proofs.lemmas.List.{get_or-set_same, get_or-set_other, map_push}
 use Rattle.kw_bits.specs.BitVector.{BitVector}
 use Rattle.typed_core.specs.Alone.{after, after_one, alone_ports, is_refused, outcome_of, seen}
 use Rattle.typed_core.specs.Clash.{clashes}
-use Rattle.typed_core.specs.Evaluation.{bind, evaluate, unit, Ending, Environment, Part, Progress, Stop, Value}
+use Rattle.typed_core.specs.Evaluation.{bind, evaluate, unit, Ending, Environment, Evaluation, Progress, Stop, Value}
 use Rattle.typed_core.specs.Fits.{Continues, EventsFit}
 use Rattle.typed_core.specs.Laws.{read_at, write_at}
 use Rattle.typed_core.specs.Valid.{IsValid}
@@ -99,7 +99,7 @@ module _ (widths : List ℕ) (log : List Event) (start : List BitVector) (fit : 
   abbrev Related : List Event → Progress BitVector Stopped → Progress BitVector Stopped → Type 0
   Related before p q = Continues before q.events × (meets log before ≡ false → Agree p q)
 
-  bound : (events : List Event) (p q : Progress BitVector Stopped) (f g : BitVector → Part BitVector Stopped) → Related events p q → ((value : BitVector) (es : List Event) → Related es (f value es) (g value es)) → Related events (bind p.events p.ending f) (bind q.events q.ending g)
+  bound : (events : List Event) (p q : Progress BitVector Stopped) (f g : BitVector → Evaluation BitVector Stopped) → Related events p q → ((value : BitVector) (es : List Event) → Related es (f value es) (g value es)) → Related events (bind p.events p.ending f) (bind q.events q.ending g)
   bound events p q f g h k = (Continues-bind events q.events q.ending g h.0 (λ value es. (k value es).0), λ clear. both (h.1 clear))
     where
       at_once : (es : List Event) (ending : Ending BitVector Stopped) → meets log es ≡ false → Agree (bind es ending f) (bind es ending g)

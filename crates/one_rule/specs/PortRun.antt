@@ -3,7 +3,7 @@
 use Rattle.std.specs.Prelude.{ℕ, true, false, ◌||◌, List, [], ◌∷◌, ◌++◌, length, Option, Some, None, slice_get, slice_index_or, if◌then◌else◌}
 use Rattle.kw_bits.specs.BitVector.{BitVector}
 use Rattle.typed_core.specs.Alone.{after, is_refused, seen}
-use Rattle.typed_core.specs.Evaluation.{Ending, Value, Stop, Environment, Part, Ports, Progress, comes_to, evaluate, notes, stops, unit}
+use Rattle.typed_core.specs.Evaluation.{Ending, Value, Stop, Environment, Evaluation, Ports, Progress, comes_to, evaluate, notes, stops, unit}
 use Rattle.typed_core.specs.declared.access.Access.{Access}
 use Rattle.typed_core.specs.declared.access.Event.{Event}
 use Rattle.typed_core.specs.declared.action.Action.{Action}
@@ -17,7 +17,7 @@ use Rattle.one_rule.specs.declared.rows.Row.{Row}
 
 -- A read that the scheduler log refuses stops the rule. Every other evaluates to the value of the last write below its
 -- port in the rule log, else in the scheduler log, else to the start value, and is noted with it.
-abbrev pub read_behind : List Event → List BitVector → ℕ → ℕ → Part BitVector Stopped
+abbrev pub read_behind : List Event → List BitVector → ℕ → ℕ → Evaluation BitVector Stopped
 read_behind log regs port register events =
     let access : Access = record { write = false; port = port; register = register } in
     let value = seen port register events (seen port register log (slice_index_or regs register unit)) in
@@ -25,7 +25,7 @@ read_behind log regs port register events =
     else notes (record { access = access; value = value }) value events
 
 -- a write that the scheduler log or the rule log refuses stops the rule; every other is noted
-abbrev pub write_behind : List Event → ℕ → ℕ → BitVector → Part BitVector Stopped
+abbrev pub write_behind : List Event → ℕ → ℕ → BitVector → Evaluation BitVector Stopped
 write_behind log port register value events =
     let access : Access = record { write = true; port = port; register = register } in
     if is_refused log access || is_refused events access then stops (Refused access) events

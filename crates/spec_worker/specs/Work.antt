@@ -4,7 +4,7 @@ use Rattle.kw_bits.specs.Faults.{Rose, last_count}
 use Rattle.attempt_log.specs.declared.entry.Entry.{Entry}
 use Rattle.attempt_log.specs.Entries.{settled_among, settles_among, stored_among, submits_among}
 use Rattle.attempt_log.specs.Seats.{Grown}
-use Rattle.attempt_log.specs.Setting.{Setting}
+use Rattle.attempt_log.specs.Setting.{DesignAndStimulus}
 use Rattle.attempt_log.specs.declared.report.Report.{Report}
 use Rattle.attempt_log.specs.declared.report.Ending.{Ending}
 use Rattle.attempt_log.specs.declared.report.Ending.TheVariants as ending
@@ -52,7 +52,7 @@ Ends turns r ended ended_new = (r.ending ≡ ending.Turns → r.turns ≡ turns)
 
 -- the seat keeps its number, its origin and its setting, and has as many more entries of its own, of each kind, as its
 -- report says
-pub record WorksAt {S O : Type 0} (turns : ℕ) (number : S → ℕ) (origin : S → O) (setting : S → Option Setting) (asked given ended : S → ℕ) (own : S → Option (List Entry)) (old new : Working S) : Type 0 where
+pub record WorksAt {S O : Type 0} (turns : ℕ) (number : S → ℕ) (origin : S → O) (setting : S → Option DesignAndStimulus) (asked given ended : S → ℕ) (own : S → Option (List Entry)) (old new : Working S) : Type 0 where
   pub numbered : number new.seat ≡ number old.seat
   pub from : origin new.seat ≡ origin old.seat
   pub set : setting new.seat ≡ setting old.seat

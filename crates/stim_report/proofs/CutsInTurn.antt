@@ -4,7 +4,7 @@ use Rattle.std.specs.List.{All, AllPass, filter, slice_split}
 use Rattle.std.proofs.lemmas.Bool.{eqb-true, eqb-false}
 use Rattle.std.proofs.lemmas.List.{nil_from_length}
 use Rattle.std.proofs.lemmas.List.Splits.{length-slice_split, slice_split-cons_yes, slice_split_none, slice_split_at}
-use Rattle.stim_report.specs.Cuts.{but_empty_last, ends_line, has_bytes, is_blank, lines_of, placed, without_return, words_from}
+use Rattle.stim_report.specs.Cuts.{but_empty_last, ends_line, has_bytes, is_blank, lines_of, with_columns, without_return, words_from}
 use Rattle.stim_report.specs.inner.Runs.{StopsAt}
 
 not-true : (b : Bool) → not b ≡ true → b ≡ false
@@ -72,8 +72,8 @@ words_from-nil column = refl
 words_from-blank : (column b : ℕ) (bytes : List ℕ) → is_blank b ≡ true → words_from column (b ∷ bytes) ≡ words_from (column + 1) bytes
 unfolding words_from
 words_from-blank column b bytes blank =
-    ap (λ (ps : List (List ℕ)). filter (λ (word : ℕ × List ℕ). has_bytes word.1) (placed column ps)) (slice_split-cons_yes is_blank b bytes blank)
-    ∙ (let e : column + 0 + 1 ≡ column + 1 = omega arith in ap (λ (n : ℕ). filter (λ (word : ℕ × List ℕ). has_bytes word.1) (placed n (slice_split is_blank bytes))) e)
+    ap (λ (ps : List (List ℕ)). filter (λ (word : ℕ × List ℕ). has_bytes word.1) (with_columns column ps)) (slice_split-cons_yes is_blank b bytes blank)
+    ∙ (let e : column + 0 + 1 ≡ column + 1 = omega arith in ap (λ (n : ℕ). filter (λ (word : ℕ × List ℕ). has_bytes word.1) (with_columns n (slice_split is_blank bytes))) e)
 
 -- nor is a row of blanks
 pub words_from-blanks : (column : ℕ) (blanks bytes : List ℕ) → AllPass is_blank blanks → words_from column (blanks ++ bytes) ≡ words_from (column + length blanks) bytes
@@ -88,11 +88,11 @@ pub words_from-word : (column b : ℕ) (word rest : List ℕ) → AllPass (λ x.
     → words_from column ((b ∷ word) ++ rest) ≡ (column, b ∷ word) ∷ words_from (column + length (b ∷ word)) rest
 unfolding words_from
 words_from-word column b word [] all stops =
-    ap (λ (bytes : List ℕ). filter (λ (w : ℕ × List ℕ). has_bytes w.1) (placed column (slice_split is_blank bytes))) (append-nil (b ∷ word))
-    ∙ ap (λ (ps : List (List ℕ)). filter (λ (w : ℕ × List ℕ). has_bytes w.1) (placed column ps)) (slice_split_none is_blank (b ∷ word) (none_passes is_blank (b ∷ word) all))
+    ap (λ (bytes : List ℕ). filter (λ (w : ℕ × List ℕ). has_bytes w.1) (with_columns column (slice_split is_blank bytes))) (append-nil (b ∷ word))
+    ∙ ap (λ (ps : List (List ℕ)). filter (λ (w : ℕ × List ℕ). has_bytes w.1) (with_columns column ps)) (slice_split_none is_blank (b ∷ word) (none_passes is_blank (b ∷ word) all))
 words_from-word column b word (y ∷ rest) all stops =
     let blank = not-false (is_blank y) stops in
-    ap (λ (ps : List (List ℕ)). filter (λ (w : ℕ × List ℕ). has_bytes w.1) (placed column ps)) (slice_split_at is_blank (b ∷ word) y rest (none_passes is_blank (b ∷ word) all) blank)
+    ap (λ (ps : List (List ℕ)). filter (λ (w : ℕ × List ℕ). has_bytes w.1) (with_columns column ps)) (slice_split_at is_blank (b ∷ word) y rest (none_passes is_blank (b ∷ word) all) blank)
     ∙ ap (λ (ws : List (ℕ × List ℕ)). (column, b ∷ word) ∷ ws) (sym (words_from-blank (column + length (b ∷ word)) y rest blank))
 
 -- bytes that stop at both classes are none

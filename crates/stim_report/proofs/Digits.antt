@@ -9,7 +9,7 @@ use Rattle.std.proofs.lemmas.Int.Digits.{digits_value_more}
 use Rattle.std.specs.List.{list_all}
 use Rattle.std.specs.Prelude.{nat_lt, if◌then◌else◌, Bool, false, ◌&&◌}
 use Rattle.std.specs.Str.Parse.{IsNumeral}
-use Rattle.stim_report.specs.Assignments.{is_hexadecimal, is_numeral, number_of, numeral}
+use Rattle.stim_report.specs.Assignments.{is_hexadecimal, is_numeral, value_written, numeral}
 
 -- each digit is below the radix
 pub digit_value-get_or : (radix : ℕ) (digits : List ℕ) (i : ℕ) → AllDigits radix digits → i < length digits → digit_value (get_or digits i 0) < radix
@@ -63,13 +63,13 @@ numeral_some radix digits is = ap (λ (b : Bool). if b then Some (digits_value r
 pub numeral_none : (radix : ℕ) (digits : List ℕ) → is_numeral radix digits ≡ false → numeral radix digits ≡ None
 numeral_none radix digits is = ap (λ (b : Bool). if b then Some (digits_value radix digits) else None) is
 
-pub number_of-hexadecimal : (value : List ℕ) → is_hexadecimal value ≡ true → number_of value ≡ numeral 16 (drop 2 value)
-unfolding number_of
-number_of-hexadecimal value is = ap (λ (b : Bool). if b then numeral 16 (drop 2 value) else numeral 10 value) is
+pub value_written-hexadecimal : (value : List ℕ) → is_hexadecimal value ≡ true → value_written value ≡ numeral 16 (drop 2 value)
+unfolding value_written
+value_written-hexadecimal value is = ap (λ (b : Bool). if b then numeral 16 (drop 2 value) else numeral 10 value) is
 
-pub number_of-decimal : (value : List ℕ) → is_hexadecimal value ≡ false → number_of value ≡ numeral 10 value
-unfolding number_of
-number_of-decimal value is = ap (λ (b : Bool). if b then numeral 16 (drop 2 value) else numeral 10 value) is
+pub value_written-decimal : (value : List ℕ) → is_hexadecimal value ≡ false → value_written value ≡ numeral 10 value
+unfolding value_written
+value_written-decimal value is = ap (λ (b : Bool). if b then numeral 16 (drop 2 value) else numeral 10 value) is
 
 pub hexadecimal-length : (value : List ℕ) → is_hexadecimal value ≡ true → 2 ≤ length value
 hexadecimal-length [] is = absurd (true≢false (sym is))

@@ -12,7 +12,7 @@ use Rattle.std.proofs.lemmas.Slice.Eq.{bytes_eq-Decides}
 use Rattle.kw_base.specs.Names.{Adds, AreNumbered, number_of}
 use Rattle.kw_base.specs.declared.names.Added.{Added}
 use Rattle.kw_base.specs.declared.names.Added.TheVariants.{New, There}
-use Rattle.stim_report.specs.Assignments.{input_of}
+use Rattle.stim_report.specs.Assignments.{input_by_name}
 use Rattle.stim_report.specs.inner.FirstNames.{AreFirst}
 use Rattle.stim_report.specs.declared.shape.NameWidth.{NameWidth}
 
@@ -71,11 +71,11 @@ first_there names firsts before input number first found = record {
   first = λ name. position_push (λ (i : NameWidth). bytes_eq name i.name) before input ∙ same name (bytes_eq name input.name) refl ∙ first.first name;
 }
   where
-    same : (name : List ℕ) (b : Bool) → bytes_eq name input.name ≡ b → or_at (input_of before name) b (length before) ≡ input_of before name
-    same name false is = at_other (input_of before name) (length before)
+    same : (name : List ℕ) (b : Bool) → bytes_eq name input.name ≡ b → or_at (input_by_name before name) b (length before) ≡ input_by_name before name
+    same name false is = at_other (input_by_name before name) (length before)
     same name true is =
         let named : name ≡ input.name = (bytes_eq-Decides name input.name).0 is in
-        at_found (input_of before name) (slice_index firsts number) (length before) true
+        at_found (input_by_name before name) (slice_index firsts number) (length before) true
         (first.first name ∙ map_found (slice_index firsts) (number_of names name) number (ap (number_of names) named ∙ found))
 
 last_of : (firsts : List ℕ) (n : ℕ) → slice_index (firsts ++ n ∷ []) (length firsts) ≡ n
@@ -132,12 +132,12 @@ first_within names firsts inputs name number first found = omega (arith, (positi
 
 -- the first input of a name that was found, and that there is none
 pub find_first : (names : List (List ℕ)) (firsts : List ℕ) (inputs : List NameWidth) (name : List ℕ) (number x : ℕ) → AreFirst names firsts inputs → number_of names name ≡ Some number → x ≡ get_or firsts number x
-    → Some x ≡ input_of inputs name
+    → Some x ≡ input_by_name inputs name
 find_first names firsts inputs name number x first found is =
     let same : get_or firsts number x ≡ slice_index firsts number = get_or_default firsts number x 0 (first_within names firsts inputs name number first found) in
     ap Some (is ∙ same) ∙ sym (first.first name ∙ map_found (slice_index firsts) (number_of names name) number found)
 
-pub find_none : (names : List (List ℕ)) (firsts : List ℕ) (inputs : List NameWidth) (name : List ℕ) → AreFirst names firsts inputs → number_of names name ≡ None → None ≡ input_of inputs name
+pub find_none : (names : List (List ℕ)) (firsts : List ℕ) (inputs : List NameWidth) (name : List ℕ) → AreFirst names firsts inputs → number_of names name ≡ None → None ≡ input_by_name inputs name
 find_none names firsts inputs name first found = sym (first.first name ∙ ap (option_map (slice_index firsts)) found)
 
 -- what adding a name gives

@@ -24,8 +24,8 @@ is_hexadecimal (first ∷ []) = false
 is_hexadecimal (first ∷ second ∷ bytes) = (first == 48) && (second == 120)
 
 -- the number that a value writes
-unfoldable pub number_of : List ℕ → Option ℕ
-number_of value = if is_hexadecimal value then numeral 16 (drop 2 value) else numeral 10 value
+unfoldable pub value_written : List ℕ → Option ℕ
+value_written value = if is_hexadecimal value then numeral 16 (drop 2 value) else numeral 10 value
 
 -- how many bytes come after the last `=`
 abbrev pub behind_equals : List ℕ → ℕ
@@ -40,11 +40,11 @@ name_and_value word =
 
 -- the same with the number that the value writes
 abbrev pub name_and_number : List ℕ → Option (List ℕ × ℕ)
-name_and_number word = option_and_then (λ (parts : List ℕ × List ℕ). option_map (λ (number : ℕ). (parts.0, number)) (number_of parts.1)) (name_and_value word)
+name_and_number word = option_and_then (λ (parts : List ℕ × List ℕ). option_map (λ (number : ℕ). (parts.0, number)) (value_written parts.1)) (name_and_value word)
 
 -- the first input of a name
-abbrev pub input_of : List NameWidth → List ℕ → Option ℕ
-input_of inputs name = position (λ (input : NameWidth). bytes_eq name input.name) inputs
+abbrev pub input_by_name : List NameWidth → List ℕ → Option ℕ
+input_by_name inputs name = position (λ (input : NameWidth). bytes_eq name input.name) inputs
 
 -- the input is assigned
 abbrev pub is_assigned : List Assignment → ℕ → Bool
@@ -64,7 +64,7 @@ assigned_to inputs line (Some input) number = assigned line input (slice_index (
 -- and where the word was read
 abbrev pub assigned_by : List NameWidth → List Assignment → Option (List ℕ × ℕ) → Result Assignment ℕ
 assigned_by inputs line None = Err 30
-assigned_by inputs line (Some parts) = assigned_to inputs line (input_of inputs parts.0) parts.1
+assigned_by inputs line (Some parts) = assigned_to inputs line (input_by_name inputs parts.0) parts.1
 
 -- what a word of a line gives after what the line assigns before: an assignment, or the number of a fault
 unfoldable pub assignment_of : List NameWidth → List Assignment → List ℕ → Result Assignment ℕ

@@ -36,7 +36,7 @@ abbrev pub is_mark : List ℕ → Bool
 is_mark line = bytes_eq (without_return line) (codes "%%")
 
 -- a source: the bytes before the mark, those after its line, and the number of the line that they begin with
-pub record Parts : Type 0 where
+pub record SourceParts : Type 0 where
   pub design : List ℕ
   pub stimulus : List ℕ
   pub first_line : ℕ
@@ -46,7 +46,7 @@ abbrev pub with_line_feed : List ℕ → List ℕ
 with_line_feed line = line ++ 10 ∷ []
 
 -- the parts of a source with these lines whose mark is the line with this index; without a mark all is the design
-abbrev pub cut_at : List (List ℕ) → Option ℕ → List ℕ → Parts
+abbrev pub cut_at : List (List ℕ) → Option ℕ → List ℕ → SourceParts
 cut_at lines None bytes = record { design = bytes; stimulus = []; first_line = capped (length lines + 1) }
 cut_at lines (Some mark) bytes =
     record {
@@ -56,14 +56,14 @@ cut_at lines (Some mark) bytes =
     }
 
 -- the design before the first line `%%`, and the stimulus after it
-unfoldable pub parts_of : List ℕ → Parts
+unfoldable pub parts_of : List ℕ → SourceParts
 parts_of bytes = let lines = slice_split ends_line bytes in cut_at lines (position is_mark lines) bytes
 
 -- pieces, the first at this column and each after one byte more, with their columns
-abbrev pub placed : ℕ → List (List ℕ) → List (ℕ × List ℕ)
-placed column [] = []
-placed column (piece ∷ pieces) = (column, piece) ∷ placed (column + length piece + 1) pieces
+abbrev pub with_columns : ℕ → List (List ℕ) → List (ℕ × List ℕ)
+with_columns column [] = []
+with_columns column (piece ∷ pieces) = (column, piece) ∷ with_columns (column + length piece + 1) pieces
 
 -- the words of bytes that begin at a column: what is between blanks, with the column of its first byte
 unfoldable pub words_from : ℕ → List ℕ → List (ℕ × List ℕ)
-words_from column bytes = filter (λ (word : ℕ × List ℕ). has_bytes word.1) (placed column (slice_split is_blank bytes))
+words_from column bytes = filter (λ (word : ℕ × List ℕ). has_bytes word.1) (with_columns column (slice_split is_blank bytes))

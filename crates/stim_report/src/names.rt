@@ -3,7 +3,7 @@
 // The inputs by their names.
 ghost use Rattle.std.specs.Prelude.{◌≡◌, ◌≤◌, ◌<◌, ◌+◌, ◌^◌, ◌++◌, ◌∷◌, [], List, IfOk, OnOk, length};
 ghost use Rattle.kw_base.specs.Names.{AreNumbered, number_of};
-ghost use Rattle.stim_report.specs.Assignments.{input_of};
+ghost use Rattle.stim_report.specs.Assignments.{input_by_name};
 ghost use Rattle.stim_report.specs.inner.FirstNames.{AreFirst};
 ghost use Rattle.stim_report.specs.declared.shape.NameWidth.{NameWidth as NamedInput};
 
@@ -36,7 +36,7 @@ impl InputNames {
     /// The first input of a name, found faster where it is the one that is expected.
     pub(crate) fn find(&self, inputs: &[NameWidth], name: &[u8], expected: u32) -> Option<u32>
         requires { AreFirst self.now.names self.now.firsts.items inputs.now }
-        ensures { result ≡ input_of inputs.now name.now }
+        ensures { result ≡ input_by_name inputs.now name.now }
     {
         let number = find_near(&self.names, name, expected)?;
         Some(self.firsts[number as usize])

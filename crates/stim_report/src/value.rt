@@ -24,8 +24,8 @@ pub(crate) struct Numeral<'a> {
 
 /// The digits that a value consists of.
 pub(crate) fn numeral_of(value: &[u8]) -> Option<Numeral<'_>>
-    ensures found { IfSome result (λ n. IsBase n.radix × IsNumeral n.radix n.digits.now × (texts.number_of value.now ≡ Some (digits_value n.radix n.digits.now))) }
-    ensures absent { IfNone result (texts.number_of value.now ≡ None) }
+    ensures found { IfSome result (λ n. IsBase n.radix × IsNumeral n.radix n.digits.now × (texts.value_written value.now ≡ Some (digits_value n.radix n.digits.now))) }
+    ensures absent { IfNone result (texts.value_written value.now ≡ None) }
 {
     let numeral = in_base(value);
     if !is_numeral(numeral.radix, numeral.digits) {
@@ -37,7 +37,7 @@ pub(crate) fn numeral_of(value: &[u8]) -> Option<Numeral<'_>>
 // The bytes of a value after its base.
 fn in_base(value: &[u8]) -> Numeral<'_>
     ensures base { IsBase result.radix }
-    ensures number { texts.number_of value.now ≡ texts.numeral result.radix result.digits.now }
+    ensures number { texts.value_written value.now ≡ texts.numeral result.radix result.digits.now }
 {
     if is_hexadecimal(value) {
         let (_, digits) = value.split_at(2);

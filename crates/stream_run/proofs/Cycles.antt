@@ -13,7 +13,7 @@ use Rattle.one_rule.specs.Stimulus.{AlwaysFits, InputVectors, inputs_of}
 use Rattle.one_rule.specs.declared.rows.Row.{Row}
 use Rattle.one_rule.proofs.Alike.{same_runs}
 use Rattle.koika_check.specs.declared.checked.Checked.{Checked}
-use Rattle.koika_lower.specs.Lowering.{IsLowered, input_widths, register_widths}
+use Rattle.koika_lower.specs.Lowering.{IsLowered, typed_input_widths, register_widths}
 use Rattle.stim_report.specs.Shapes.{RowsFit}
 use Rattle.stim_report.proofs.ShapesOfDesigns.{rows_fit}
 use Rattle.front_end.specs.Sources.{shape_of}
@@ -22,14 +22,14 @@ use Rattle.front_end.proofs.LoweredRuns.{inputs-wide, registers-named, registers
 
 module _ (d : Checked) (design : Parts) (lowered : IsLowered d design) where
   -- a stimulus for the typed design is one for what it is lowered to
-  pub stimulus-wide : (widths : List ℕ) → widths ≡ input_widths d → widths ≡ core.input_widths design
+  pub stimulus-wide : (widths : List ℕ) → widths ≡ typed_input_widths d → widths ≡ core.input_widths design
   stimulus-wide widths fits = fits ∙ sym (inputs-wide d design lowered)
 
   -- the two rows of one cycle
-  pub one-cycle : IsValid design → (stimulus : InputVectors) → stimulus.widths ≡ input_widths d → AlwaysFits stimulus → (regs : List BitVector) → HaveWidths (core.register_widths design) regs
+  pub one-cycle : IsValid design → (stimulus : InputVectors) → stimulus.widths ≡ typed_input_widths d → AlwaysFits stimulus → (regs : List BitVector) → HaveWidths (core.register_widths design) regs
       → run (core_cycle.system_of design) (inputs_of stimulus) regs 0 1 ≡ opening (system_of d).rules regs ∷ cycle (system_of d) (inputs_of stimulus 1) regs ∷ []
   one-cycle valid stimulus fits always regs held =
-      same_runs (input_widths d) (register_widths d) (core_cycle.system_of design) (system_of d) (inputs_of stimulus) regs 0 1 (same-alone d design lowered valid)
+      same_runs (typed_input_widths d) (register_widths d) (core_cycle.system_of design) (system_of d) (inputs_of stimulus) regs 0 1 (same-alone d design lowered valid)
       (λ (k : ℕ). subst (λ (ws : List ℕ). HaveWidths ws (inputs_of stimulus k)) fits (always k))
       (subst (λ (ws : List ℕ). HaveWidths ws regs) (registers-wide d design lowered) held)
 

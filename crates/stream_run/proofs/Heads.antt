@@ -5,7 +5,7 @@ use Rattle.std.proofs.lemmas.List.{length-take-le, take_all}
 use Rattle.std.proofs.lemmas.List.Splits.{join_with_byte-slice_split, length-slice_split, slice_split-cons_no, slice_split_at, slice_split_none}
 use Rattle.std.proofs.Math.Seq.{take-append_seam}
 use Rattle.kw_base.specs.Place.{capped}
-use Rattle.stim_report.specs.Cuts.{Parts, but_empty_last, ends_line, is_mark, parts_of}
+use Rattle.stim_report.specs.Cuts.{SourceParts, but_empty_last, ends_line, is_mark, parts_of}
 use Rattle.stim_report.proofs.SourceInTurn.{HasPassed, is_next, none_passed, one_passed, parts_marked, parts_unmarked, pieces}
 use Rattle.stream_run.specs.Lines.{head_of}
 use Rattle.stream_run.specs.inner.Reading.{HasHead, IsOneLine}
@@ -49,10 +49,10 @@ goes_on (b ∷ line) more one =
 pub stimulus_behind : (bytes line : List ℕ) (later : List (List ℕ)) (lines : ℕ) → HasPassed bytes lines (line ∷ later) → (marked : Bool) → is_mark line ≡ marked
     → length (parts_of bytes).stimulus ≤ length (join_with_byte 10 later)
 stimulus_behind bytes line later lines passed true marked =
-    let same = ap (λ (p : Parts). length p.stimulus) (parts_marked bytes line later lines passed marked) in
+    let same = ap (λ (p : SourceParts). length p.stimulus) (parts_marked bytes line later lines passed marked) in
     omega (arith, same)
 stimulus_behind bytes line [] lines passed false unmarked =
-    let same = ap (λ (p : Parts). length p.stimulus) (parts_unmarked bytes (lines + 1) (one_passed bytes lines line [] passed unmarked)) in
+    let same = ap (λ (p : SourceParts). length p.stimulus) (parts_unmarked bytes (lines + 1) (one_passed bytes lines line [] passed unmarked)) in
     omega (arith, same)
 stimulus_behind bytes line (next ∷ later) lines passed false unmarked =
     let rest = stimulus_behind bytes next later (lines + 1) (one_passed bytes lines line (next ∷ later) passed unmarked) (is_mark next) refl in
@@ -103,10 +103,10 @@ module _ (head line : List ℕ) (lines : ℕ) (passed : Passed head lines) (one 
 
   parts-behind : (rest : List ℕ) → (parts_of (marked_head ++ rest)).stimulus ≡ rest
   parts-behind rest =
-      ap (λ (p : Parts). p.stimulus) (parts_marked (marked_head ++ rest) line (pieces rest) lines (passed-line head line lines passed one rest) marked) ∙ join_with_byte-slice_split 10 rest
+      ap (λ (p : SourceParts). p.stimulus) (parts_marked (marked_head ++ rest) line (pieces rest) lines (passed-line head line lines passed one rest) marked) ∙ join_with_byte-slice_split 10 rest
 
   parts-number : (rest : List ℕ) → (parts_of (marked_head ++ rest)).first_line ≡ capped (lines + 2)
-  parts-number rest = ap (λ (p : Parts). p.first_line) (parts_marked (marked_head ++ rest) line (pieces rest) lines (passed-line head line lines passed one rest) marked)
+  parts-number rest = ap (λ (p : SourceParts). p.first_line) (parts_marked (marked_head ++ rest) line (pieces rest) lines (passed-line head line lines passed one rest) marked)
 
   -- whatever follows it
   pub head-marked : (rest : List ℕ) → HasHead (marked_head ++ rest) marked_head rest
@@ -125,8 +125,8 @@ head-all head line lines passed one = record { head = all; rest = none (is_mark 
     last = subst (λ (left : List (List ℕ)). HasPassed (head ++ line) lines left) (pieces-one line one) (passed line)
 
     none : (marked : Bool) → is_mark line ≡ marked → (parts_of (head ++ line)).stimulus ≡ []
-    none true marked = ap (λ (p : Parts). p.stimulus) (parts_marked (head ++ line) line [] lines last marked)
-    none false unmarked = ap (λ (p : Parts). p.stimulus) (parts_unmarked (head ++ line) (lines + 1) (one_passed (head ++ line) lines line [] last unmarked))
+    none true marked = ap (λ (p : SourceParts). p.stimulus) (parts_marked (head ++ line) line [] lines last marked)
+    none false unmarked = ap (λ (p : SourceParts). p.stimulus) (parts_unmarked (head ++ line) (lines + 1) (one_passed (head ++ line) lines line [] last unmarked))
 
     all : head_of (head ++ line) ≡ head ++ line
     all = ap head_of (sym (append-nil (head ++ line))) ∙ head-is (head ++ line) [] (ap (λ (bytes : List ℕ). (parts_of bytes).stimulus) (append-nil (head ++ line)) ∙ none (is_mark line) refl)

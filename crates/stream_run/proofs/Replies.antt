@@ -5,7 +5,7 @@ use Rattle.kw_base.specs.declared.fault.Fault.{Fault}
 use Rattle.kw_bits.specs.BitVector.{BitVector}
 use Rattle.koika_assert.specs.Violations.{Watched, watched, watched_on, watched_text}
 use Rattle.koika_check.specs.declared.checked.Checked.{Checked}
-use Rattle.koika_lower.specs.Lowering.{input_widths}
+use Rattle.koika_lower.specs.Lowering.{typed_input_widths}
 use Rattle.one_rule.specs.Run.{opening}
 use Rattle.one_rule.specs.declared.rows.Row.{Row}
 use Rattle.stim_report.specs.Cuts.{parts_of}
@@ -75,7 +75,7 @@ module _ (d : Checked) where
       let h = heard_from shape.inputs 1 number lines in
       let first = opening (system_of d).rules (first_values d) in
       let rows = rows_by (system_of d) h.cycles (first_values d) in
-      ap (λ (all : List Row). let reply : Reply = record { text = lines_from shape 0 all ++ ending d all h.fault; fault = h.fault } in reply) (run-by (system_of d) (input_widths d) h.cycles (first_values d))
+      ap (λ (all : List Row). let reply : Reply = record { text = lines_from shape 0 all ++ ending d all h.fault; fault = h.fault } in reply) (run-by (system_of d) (typed_input_widths d) h.cycles (first_values d))
       ∙ ap (λ (text : List ℕ). let reply : Reply = record { text = text; fault = h.fault } in reply) (append_assoc (line_of shape 0 first) (lines_from shape 1 rows) (ending d (first ∷ rows) h.fault))
       ∙ ap (after_text (line_of shape 0 first)) (sym (told lines 0 number first (first_values d) _ [] (watched-first (marks_of d).names (marks_of d).rules first)))
 

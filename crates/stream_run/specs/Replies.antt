@@ -7,7 +7,7 @@ use Rattle.kw_bits.specs.BitVector.{BitVector}
 use Rattle.kw_bits.specs.declared.host.HostSpec.{HostSpec}
 use Rattle.koika_assert.specs.Violations.{violations}
 use Rattle.koika_check.specs.declared.checked.Checked.{Checked}
-use Rattle.koika_lower.specs.Lowering.{input_widths}
+use Rattle.koika_lower.specs.Lowering.{typed_input_widths}
 use Rattle.one_rule.specs.Stimulus.{inputs_of}
 use Rattle.one_rule.specs.declared.rows.Row.{Row}
 use Rattle.stim_report.specs.Report.{report}
@@ -29,7 +29,7 @@ refusal fault = record { text = line_of_fault fault; fault = Some fault }
 
 -- the rows of a design's run in these cycles
 abbrev pub rows_of : Checked → List (List BitVector) → List Row
-rows_of d cycles = run_of d (inputs_of (record { widths = input_widths d; cycles = cycles })) (length cycles)
+rows_of d cycles = run_of d (inputs_of (record { widths = typed_input_widths d; cycles = cycles })) (length cycles)
 
 -- what comes after the rows: which marked rules fired, or the line of a fault
 abbrev pub ending : Checked → List Row → Option Fault → List ℕ

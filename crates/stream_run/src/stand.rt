@@ -6,7 +6,7 @@ ghost use Rattle.kw_base.specs.Fault.{IfFault};
 ghost use Rattle.koika_assert.specs.Violations.{watched_text};
 ghost use Rattle.kw_bits.specs.Faults.{Rose};
 ghost use Rattle.koika_check.specs.Typing.{IsTypedDesign};
-ghost use Rattle.koika_lower.specs.Lowering.{input_widths};
+ghost use Rattle.koika_lower.specs.Lowering.{typed_input_widths};
 ghost use Rattle.one_rule.specs.Run.{opening};
 ghost use Rattle.one_rule.specs.Stimulus.{inputs_of};
 ghost use Rattle.one_rule.specs.declared.rows.Row.{Row as RowOf};
@@ -169,7 +169,7 @@ impl Stand {
         requires one { IsOneLine line.now }
         ensures inputs { IfOk result (λ stimulus. inputs_on (shape_of lowered.now.checked).inputs
             (self.now.cycle + 1) self.now.line line.now ≡ Ok (inputs_of stimulus 1)) }
-        ensures widths { IfOk result (λ stimulus. stimulus.widths ≡ input_widths lowered.now.checked) }
+        ensures widths { IfOk result (λ stimulus. stimulus.widths ≡ typed_input_widths lowered.now.checked) }
         ensures few { OnOk result (self.now.cycle < 16777216) }
         ensures fault { IfFault result (λ fault. inputs_on (shape_of lowered.now.checked).inputs
             (self.now.cycle + 1) self.now.line line.now ≡ Err fault) }
@@ -192,7 +192,7 @@ impl Stand {
         stimulus: &Stimulus,
     ) -> Result<Text, NoMemory>
         requires fits { HaveWidths (register_widths (arc_value lowered.now.design)) self.old.regs }
-        requires widths { stimulus.now.widths ≡ input_widths lowered.now.checked }
+        requires widths { stimulus.now.widths ≡ typed_input_widths lowered.now.checked }
         requires few { self.old.cycle < 16777216 }
         ensures text { IfOk result (λ text. text ≡ line_of (shape_of lowered.now.checked) (self.old.cycle + 1)
             (next_row lowered.now.checked (place_of self.old) (inputs_of stimulus.now 1))) }
@@ -217,7 +217,7 @@ impl Stand {
         stimulus: &Stimulus,
     ) -> Result<Rows, NoMemory>
         requires fits { HaveWidths (register_widths (arc_value lowered.now.design)) self.now.regs }
-        requires widths { stimulus.now.widths ≡ input_widths lowered.now.checked }
+        requires widths { stimulus.now.widths ≡ typed_input_widths lowered.now.checked }
         ensures rows { IfOk result (λ rows. rows ≡ opening (system_of lowered.now.checked).rules self.now.regs
             ∷ next_row lowered.now.checked (place_of self.now) (inputs_of stimulus.now 1) ∷ []) }
         ensures fit { IfOk result (λ rows. RowsFit (shape_of lowered.now.checked) rows) }

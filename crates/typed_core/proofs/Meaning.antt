@@ -3,7 +3,7 @@ use Rattle.std.proofs.Common.{◌≡◌, ℕ, List, [], ◌∷◌, map, refl, ap
 use Rattle.std.specs.Prelude.{slice_get}
 use Rattle.kw_bits.specs.BitVector.{BitVector}
 use Rattle.kw_bits.specs.Operators as op
-use Rattle.typed_core.specs.Evaluation.{Part, Progress, Environment, Ports, ◌>>=◌, answer_of, apply_one, apply_two, choose, comes_to, entry_of, evaluate}
+use Rattle.typed_core.specs.Evaluation.{Evaluation, Progress, Environment, Ports, ◌>>=◌, answer_of, apply_one, apply_two, choose, comes_to, entry_of, evaluate}
 use Rattle.typed_core.specs.Same.{DoTheSame, SameAction, SameDesign, SameRules}
 use Rattle.typed_core.specs.declared.action.Action.{Action}
 use Rattle.typed_core.specs.declared.action.Action.TheVariants as action
@@ -14,10 +14,10 @@ use Rattle.typed_core.specs.declared.design.Rule.{Rule}
 
 -- an action by the values of the names that are bound round it
 abbrev Meaning : Type 0 → Type 0
-Meaning S = List BitVector → Part BitVector S
+Meaning S = List BitVector → Evaluation BitVector S
 
 -- what a part comes to goes on so
-abbrev on : {S : Type 0} → Meaning S → (List BitVector → BitVector → Part BitVector S) → Meaning S
+abbrev on : {S : Type 0} → Meaning S → (List BitVector → BitVector → Evaluation BitVector S) → Meaning S
 on f next locals = f locals >>= next locals
 
 -- actions that are the same come to the same in every environment, whatever the ports answer

@@ -4,7 +4,7 @@ use Rattle.std.specs.Prelude.{nat_eq, if◌then◌else◌, slice_get}
 use Rattle.kw_bits.specs.BitVector.{BitVector}
 use Rattle.kw_bits.specs.Operators as op
 use Rattle.typed_core.specs.Alone.{alone_ports, is_refused}
-use Rattle.typed_core.specs.Evaluation.{answer_of, apply_one, apply_two, bind, comes_to, entry_of, evaluate, Ending, Environment, Part, Ports, Progress, Stop, Value, unit}
+use Rattle.typed_core.specs.Evaluation.{answer_of, apply_one, apply_two, bind, comes_to, entry_of, evaluate, Ending, Environment, Evaluation, Ports, Progress, Stop, Value, unit}
 use Rattle.typed_core.specs.Fits.{Appends, Continues, PortsAppend}
 use Rattle.typed_core.specs.declared.access.Event.{Event}
 use Rattle.typed_core.specs.declared.action.Action.{Action}
@@ -17,7 +17,7 @@ use Rattle.typed_core.specs.declared.outcome.Stopped.{Stopped}
 -- value at once, it holds of two parts one after another, and it holds of what the ports answer.
 pub record Relates {S T : Type 0} (first : Ports S) (second : Ports T) (R : List Event → Progress BitVector S → Progress BitVector T → Type 0) : Type 0 where
   pub value : (events : List Event) (value : BitVector) → R events (record { events = events; ending = Value value }) (record { events = events; ending = Value value })
-  pub bind : (events : List Event) (p : Progress BitVector S) (q : Progress BitVector T) (f : BitVector → Part BitVector S) (g : BitVector → Part BitVector T) → R events p q
+  pub bind : (events : List Event) (p : Progress BitVector S) (q : Progress BitVector T) (f : BitVector → Evaluation BitVector S) (g : BitVector → Evaluation BitVector T) → R events p q
       → ((value : BitVector) (es : List Event) → R es (f value es) (g value es)) → R events (bind p.events p.ending f) (bind q.events q.ending g)
   pub read : (port register : ℕ) (events : List Event) → R events (first.read port register events) (second.read port register events)
   pub write : (port register : ℕ) (value : BitVector) (events : List Event) → R events (first.write port register value events) (second.write port register value events)
@@ -25,13 +25,13 @@ pub record Relates {S T : Type 0} (first : Ports S) (second : Ports T) (R : List
 
 module _ {S T : Type 0} (env : Environment) (first : Ports S) (second : Ports T) (R : List Event → Progress BitVector S → Progress BitVector T → Type 0) (relates : Relates first second R) where
   -- two parts with one value in place of each other, from the same events
-  abbrev Related : Part BitVector S → Part BitVector T → Type 0
+  abbrev Related : Evaluation BitVector S → Evaluation BitVector T → Type 0
   Related f g = (events : List Event) → R events (f events) (g events)
 
-  one_more : (f : Part BitVector S) (g : Part BitVector T) (value_of : BitVector → BitVector) → Related f g → (events : List Event) → R events (bind (f events).events (f events).ending (λ x. comes_to (value_of x))) (bind (g events).events (g events).ending (λ x. comes_to (value_of x)))
+  one_more : (f : Evaluation BitVector S) (g : Evaluation BitVector T) (value_of : BitVector → BitVector) → Related f g → (events : List Event) → R events (bind (f events).events (f events).ending (λ x. comes_to (value_of x))) (bind (g events).events (g events).ending (λ x. comes_to (value_of x)))
   one_more f g value_of h events = relates.bind events (f events) (g events) _ _ (h events) (λ x es. relates.value es (value_of x))
 
-  chosen : (is_zero : Bool) (f g : Part BitVector S) (f' g' : Part BitVector T) → Related f f' → Related g g' → Related (if is_zero then g else f) (if is_zero then g' else f')
+  chosen : (is_zero : Bool) (f g : Evaluation BitVector S) (f' g' : Evaluation BitVector T) → Related f f' → Related g g' → Related (if is_zero then g else f) (if is_zero then g' else f')
   chosen true f g f' g' h k = k
   chosen false f g f' g' h k = h
 
@@ -69,7 +69,7 @@ Continues-self events = ([], sym (append-nil events))
 pub Continues-trans : (a b c : List Event) → Continues a b → Continues b c → Continues a c
 Continues-trans a b c (x, e) (y, f) = (x ++ y, f ∙ ap (λ (s : List Event). s ++ y) e ∙ append_assoc a x y)
 
-pub Continues-bind : {V W S : Type 0} (before events : List Event) (ending : Ending V S) (next : V → Part W S) → Continues before events → ((value : V) → Appends (next value)) → Continues before (bind events ending next).events
+pub Continues-bind : {V W S : Type 0} (before events : List Event) (ending : Ending V S) (next : V → Evaluation W S) → Continues before events → ((value : V) → Appends (next value)) → Continues before (bind events ending next).events
 Continues-bind before events (Value value) next h k = Continues-trans before events _ h (k value events)
 Continues-bind before events (Stop cause) next h k = h
 

@@ -5,7 +5,7 @@ use Rattle.std.specs.Prelude.{nat_eq, slice_get, if◌then◌else◌}
 use Rattle.kw_bits.specs.BitVector.{BitVector}
 use Rattle.kw_bits.specs.Laws.{HasWidth}
 use Rattle.kw_bits.specs.Operators as op
-use Rattle.typed_core.specs.Evaluation.{answer_of, bind, entry_of, evaluate, Ending, Environment, Externs, Part, Ports, Progress, Stop, Value, unit}
+use Rattle.typed_core.specs.Evaluation.{answer_of, bind, entry_of, evaluate, Ending, Environment, Externs, Evaluation, Ports, Progress, Stop, Value, unit}
 use Rattle.typed_core.specs.Alone.{alone, is_refused, alone_ports}
 use Rattle.typed_core.specs.Fits.{EndingFits, EnvironmentFits, EventsFit, PortsFit, ProgressFits, ValueFits}
 use Rattle.typed_core.specs.Valid.{ActionHasWidth, Declarations, IsPort, IsTyped, IsWidth}
@@ -22,14 +22,14 @@ use Rattle.typed_core.proofs.Values.{ValueFits-unit, ValueFits-bits, bits_of, on
 use Rattle.typed_core.proofs.WidthLists.{HaveWidths-cons, HaveWidths-empty}
 
 -- what goes on with a fitting value from fitting events comes to what fits
-bind_fits : {S : Type 0} (widths : List ℕ) (v w : ℕ) (events : List Event) (ending : Ending BitVector S) (next : BitVector → Part BitVector S) → EventsFit widths events → EndingFits v ending → ((value : BitVector) (es : List Event) → ValueFits v value → EventsFit widths es → ProgressFits widths w (next value es)) → ProgressFits widths w (bind events ending next)
+bind_fits : {S : Type 0} (widths : List ℕ) (v w : ℕ) (events : List Event) (ending : Ending BitVector S) (next : BitVector → Evaluation BitVector S) → EventsFit widths events → EndingFits v ending → ((value : BitVector) (es : List Event) → ValueFits v value → EventsFit widths es → ProgressFits widths w (next value es)) → ProgressFits widths w (bind events ending next)
 bind_fits widths v w events (Value value) next e f k = k value events f e
 bind_fits widths v w events (Stop cause) next e f k = (e, tt)
 
 no_value : (width : ℕ) → width ≡ 0 → ValueFits width unit
 no_value width none = subst (λ (n : ℕ). ValueFits n unit) (sym none) ValueFits-unit
 
-choose_fits : {S : Type 0} (widths : List ℕ) (width : ℕ) (is_zero : Bool) (first second : Part BitVector S) (events : List Event) → ProgressFits widths width (first events) → ProgressFits widths width (second events) → ProgressFits widths width ((if is_zero then second else first) events)
+choose_fits : {S : Type 0} (widths : List ℕ) (width : ℕ) (is_zero : Bool) (first second : Evaluation BitVector S) (events : List Event) → ProgressFits widths width (first events) → ProgressFits widths width (second events) → ProgressFits widths width ((if is_zero then second else first) events)
 choose_fits widths width true first second events f g = g
 choose_fits widths width false first second events f g = f
 

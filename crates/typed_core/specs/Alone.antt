@@ -4,7 +4,7 @@ use Rattle.std.specs.Prelude.{ℕ, Bool, true, false, ◌==◌, ◌&&◌, nat_lt
 use Rattle.std.specs.List.{list_any}
 use Rattle.kw_bits.specs.BitVector.{BitVector}
 use Rattle.typed_core.specs.Clash.{clashes}
-use Rattle.typed_core.specs.Evaluation.{Ending, Value, Stop, Part, Environment, Ports, evaluate, notes, stops, unit}
+use Rattle.typed_core.specs.Evaluation.{Ending, Value, Stop, Evaluation, Environment, Ports, evaluate, notes, stops, unit}
 use Rattle.typed_core.specs.declared.access.Access.{Access}
 use Rattle.typed_core.specs.declared.access.Event.{Event}
 use Rattle.typed_core.specs.declared.action.Action.{Action}
@@ -29,14 +29,14 @@ abbrev pub is_refused : List Event → Access → Bool
 is_refused events access = list_any (λ (e : Event). clashes access e.access) events
 
 -- a read evaluates to the value that it sees, and is noted with it
-abbrev pub read : List BitVector → ℕ → ℕ → Part BitVector Stopped
+abbrev pub read : List BitVector → ℕ → ℕ → Evaluation BitVector Stopped
 read regs port register events =
     let access : Access = record { write = false; port = port; register = register } in
     let value = seen port register events (slice_index_or regs register unit) in
     notes (record { access = access; value = value }) value events
 
 -- a write that the rule's own events refuse stops the rule and isn't noted; every other is noted
-abbrev pub write : ℕ → ℕ → BitVector → Part BitVector Stopped
+abbrev pub write : ℕ → ℕ → BitVector → Evaluation BitVector Stopped
 write port register value events =
     let access : Access = record { write = true; port = port; register = register } in
     if is_refused events access then stops (stopped.Refused access) events

@@ -27,29 +27,29 @@ pub record Progress (V S : Type 0) : Type 0 where
   pub ending : Ending V S
 
 -- a part goes on from the events before it
-abbrev pub Part : Type 0 → Type 0 → Type 0
-Part V S = List Event → Progress V S
+abbrev pub Evaluation : Type 0 → Type 0 → Type 0
+Evaluation V S = List Event → Progress V S
 
 -- evaluates to the value
-abbrev pub comes_to : {V S : Type 0} → V → Part V S
+abbrev pub comes_to : {V S : Type 0} → V → Evaluation V S
 comes_to value events = record { events = events; ending = Value value }
 
 -- stops the rule
-abbrev pub stops : {V S : Type 0} → S → Part V S
+abbrev pub stops : {V S : Type 0} → S → Evaluation V S
 stops cause events = record { events = events; ending = Stop cause }
 
 -- adds the event and evaluates to the value
-abbrev pub notes : {V S : Type 0} → Event → V → Part V S
+abbrev pub notes : {V S : Type 0} → Event → V → Evaluation V S
 notes event value events = record { events = events ++ event ∷ []; ending = Value value }
 
 -- what goes on with the value, where there is one
-abbrev pub bind : {V W S : Type 0} → List Event → Ending V S → (V → Part W S) → Progress W S
+abbrev pub bind : {V W S : Type 0} → List Event → Ending V S → (V → Evaluation W S) → Progress W S
 bind events (Value value) next = next value events
 bind events (Stop cause) next = record { events = events; ending = Stop cause }
 
 -- where the first part has a value, the second goes on with it
 infixl 10 ◌>>=◌
-abbrev pub ◌>>=◌ : {V W S : Type 0} → Part V S → (V → Part W S) → Part W S
+abbrev pub ◌>>=◌ : {V W S : Type 0} → Evaluation V S → (V → Evaluation W S) → Evaluation W S
 (first >>= next) events = bind (first events).events (first events).ending next
 
 -- ---- what actions are evaluated in
@@ -67,8 +67,8 @@ pub record Environment : Type 0 where
 -- what a read at a port of a register evaluates to, what a write of a value there does, and what an abort stops the
 -- rule with
 pub record Ports (S : Type 0) : Type 0 where
-  pub read : ℕ → ℕ → Part BitVector S
-  pub write : ℕ → ℕ → BitVector → Part BitVector S
+  pub read : ℕ → ℕ → Evaluation BitVector S
+  pub write : ℕ → ℕ → BitVector → Evaluation BitVector S
   pub abort : S
 
 -- ---- actions
@@ -114,12 +114,12 @@ answer_of None x = unit
 answer_of (Some spec) x = host.value spec.kind x
 
 -- the first where the condition is 1, the second where it is 0
-abbrev pub choose : {V S : Type 0} → BitVector → Part V S → Part V S → Part V S
+abbrev pub choose : {V S : Type 0} → BitVector → Evaluation V S → Evaluation V S → Evaluation V S
 choose condition first second = if nat_eq condition.number 0 then second else first
 
 -- What an action evaluates to, with these values of the names that are bound round it, the innermost first. Parts are
 -- evaluated from left to right, a write's value before the write, and of an `If` one arm.
-abbrev pub evaluate : {S : Type 0} → Environment → Ports S → Action → List BitVector → Part BitVector S
+abbrev pub evaluate : {S : Type 0} → Environment → Ports S → Action → List BitVector → Evaluation BitVector S
 evaluate env ports action.Unit locals = comes_to unit
 evaluate env ports (action.Const value) locals = comes_to value
 evaluate env ports (action.Local name) locals = comes_to (slice_index_or locals name unit)

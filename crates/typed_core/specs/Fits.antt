@@ -4,7 +4,7 @@ use Rattle.std.specs.Prelude.{◌≡◌, ℕ, ◌≤◌, List, ◌++◌, slice_g
 use Rattle.std.specs.List.{AllByRecursion}
 use Rattle.kw_bits.specs.BitVector.{BitVector, IsBits}
 use Rattle.kw_bits.specs.Laws.{HasWidth}
-use Rattle.typed_core.specs.Evaluation.{Ending, Value, Stop, Progress, Part, Environment, Ports}
+use Rattle.typed_core.specs.Evaluation.{Ending, Value, Stop, Progress, Evaluation, Environment, Ports}
 use Rattle.typed_core.specs.Valid.{Declarations, IsHost, IsPort, IsTable, IsTyped, IsWidth}
 use Rattle.typed_core.specs.Widths.{HaveWidths}
 use Rattle.typed_core.specs.declared.access.Event.{Event}
@@ -58,7 +58,7 @@ abbrev pub Continues : List Event → List Event → Type 0
 Continues earlier later = (more : List Event) × (later ≡ earlier ++ more)
 
 -- the part only adds events after those before it
-abbrev pub Appends : {V S : Type 0} → Part V S → Type 0
+abbrev pub Appends : {V S : Type 0} → Evaluation V S → Type 0
 Appends part = (events : List Event) → Continues events (part events).events
 
 -- reads and writes at these ports only add events

@@ -13,14 +13,14 @@ use Rattle.wave_text.specs.Parts.{last_of, moments_before_last}
 use Rattle.wave_text.specs.Waves.{edge, edges, flag, known, last_levels, levels, numbered, of_rule, variables}
 use Rattle.wave_text.specs.declared.level.Level.{Level}
 use Rattle.wave_text.specs.declared.level.Level.TheVariants.{Unknown}
-use Rattle.wave_text.specs.declared.variable.Kind.{Kind}
-use Rattle.wave_text.specs.declared.variable.Kind.TheVariants.{Input, Register, Rule}
+use Rattle.wave_text.specs.declared.variable.VariableKind.{VariableKind}
+use Rattle.wave_text.specs.declared.variable.VariableKind.TheVariants.{Input, Register, Rule}
 use Rattle.wave_text.specs.declared.variable.Variable.{Variable}
 use Rattle.wave_text.proofs.Turns.{turned}
 
 -- ---- how many there are
 
-pub length_numbered : (kind : Kind) (number : ℕ) (named : List NameWidth) → length (numbered kind number named) ≡ length named
+pub length_numbered : (kind : VariableKind) (number : ℕ) (named : List NameWidth) → length (numbered kind number named) ≡ length named
 length_numbered kind number [] = refl
 length_numbered kind number (one ∷ more) = ap suc (length_numbered kind (number + 1) more)
 

@@ -18,8 +18,8 @@ use Rattle.wave_text.specs.Reading.{ClockReadsBack, ReadsBack, value_at}
 use Rattle.wave_text.specs.Waves.{body, changes, code, edges, flag, known, last_levels, letter, levels, line, moments, no_levels, numbered, of_rule, rise, time, variables}
 use Rattle.wave_text.specs.declared.level.Level.{Level}
 use Rattle.wave_text.specs.declared.level.Level.TheVariants.{Unknown, Known}
-use Rattle.wave_text.specs.declared.variable.Kind.{Kind}
-use Rattle.wave_text.specs.declared.variable.Kind.TheVariants.{Input, Register, Rule}
+use Rattle.wave_text.specs.declared.variable.VariableKind.{VariableKind}
+use Rattle.wave_text.specs.declared.variable.VariableKind.TheVariants.{Input, Register, Rule}
 use Rattle.wave_text.specs.declared.variable.Variable.{Variable}
 use Rattle.wave_text.proofs.Follow.{Apart, Distinct, Fine, Holds, after, found_fallen, found_risen, given_other, given_own, other_changes, own_changes}
 use Rattle.wave_text.proofs.Moments.{length_levels, length_numbered, length_last_levels, length_variables}
@@ -36,7 +36,7 @@ head_of [] = 0
 head_of (x ∷ xs) = x
 
 -- those of one kind, with greater numbers
-apart_greater : (kind : Kind) (number width from : ℕ) (named : List NameWidth) → number < from → from + length named ≤ 2 ^ 32
+apart_greater : (kind : VariableKind) (number width from : ℕ) (named : List NameWidth) → number < from → from + length named ≤ 2 ^ 32
     → Apart (code (record { kind = kind; number = number; width = width })) (numbered kind from named)
 apart_greater kind number width from [] less few = tt
 apart_greater kind number width from (one ∷ more) less few = (
@@ -45,7 +45,7 @@ apart_greater kind number width from (one ∷ more) less few = (
 )
 
 -- those of another kind
-apart_letters : (own : List ℕ) (kind : Kind) (from : ℕ) (named : List NameWidth) → letter kind ≢ head_of own → Apart own (numbered kind from named)
+apart_letters : (own : List ℕ) (kind : VariableKind) (from : ℕ) (named : List NameWidth) → letter kind ≢ head_of own → Apart own (numbered kind from named)
 apart_letters own kind from [] differ = tt
 apart_letters own kind from (one ∷ more) differ = ((λ e. differ (ap head_of e)), apart_letters own kind (from + 1) more differ)
 
@@ -53,7 +53,7 @@ apart_append : (own : List ℕ) (vs ws : List Variable) → Apart own vs → Apa
 apart_append own [] ws first second = second
 apart_append own (v ∷ vs) ws first second = (first.0, apart_append own vs ws first.1 second)
 
-distinct_numbered : (kind : Kind) (from : ℕ) (named : List NameWidth) → from + length named ≤ 2 ^ 32 → Distinct (numbered kind from named)
+distinct_numbered : (kind : VariableKind) (from : ℕ) (named : List NameWidth) → from + length named ≤ 2 ^ 32 → Distinct (numbered kind from named)
 distinct_numbered kind from [] few = tt
 distinct_numbered kind from (one ∷ more) few =
     (apart_greater kind from one.width (from + 1) more (omega arith) (omega (arith, few)), distinct_numbered kind (from + 1) more (omega (arith, few)))
@@ -67,7 +67,7 @@ distinct_append : (vs ws : List Variable) → Distinct vs → Distinct ws → Al
 distinct_append [] ws first second apart = second
 distinct_append (v ∷ vs) ws first second apart = (apart_append (code v) vs ws first.0 apart.0, distinct_append vs ws first.1 second apart.1)
 
-kinds_apart : (one other : Kind) (from : ℕ) (named others : List NameWidth) → letter other ≢ letter one → AllApart (numbered one from named) (numbered other 0 others)
+kinds_apart : (one other : VariableKind) (from : ℕ) (named others : List NameWidth) → letter other ≢ letter one → AllApart (numbered one from named) (numbered other 0 others)
 kinds_apart one other from [] others differ = tt
 kinds_apart one other from (n ∷ named) others differ =
     (apart_letters (code (record { kind = one; number = from; width = n.width })) other 0 others differ, kinds_apart one other (from + 1) named others differ)
@@ -99,7 +99,7 @@ clock_apart shape =
 clock_differs : (v : Variable) → codes "c" ≢ code v
 clock_differs v e = letter_differs v.kind (ap head_of e)
   where
-    letter_differs : (k : Kind) → 99 ≡ letter k → ⊥
+    letter_differs : (k : VariableKind) → 99 ≡ letter k → ⊥
     letter_differs Input e = absurd (omega (arith, e))
     letter_differs Register e = absurd (omega (arith, e))
     letter_differs Rule e = absurd (omega (arith, e))
@@ -112,7 +112,7 @@ fine_append [] ws (n ∷ now) later count first second = absurd (omega (arith, c
 fine_append (v ∷ vs) ws [] later count first second = absurd (omega (arith, count))
 fine_append (v ∷ vs) ws (n ∷ now) later count first second = (first.0, first.1, fine_append vs ws now later (omega (arith, count)) first.2 second)
 
-fine_known : (kind : Kind) (from : ℕ) (named : List NameWidth) (values : List BitVector) → HaveWidths (widths_of named) values → from + length named ≤ 2 ^ 32 → Fine (numbered kind from named) (map known values)
+fine_known : (kind : VariableKind) (from : ℕ) (named : List NameWidth) (values : List BitVector) → HaveWidths (widths_of named) values → from + length named ≤ 2 ^ 32 → Fine (numbered kind from named) (map known values)
 fine_known kind from [] values have few = tt
 fine_known kind from (one ∷ more) [] have few = tt
 fine_known kind from (one ∷ more) (value ∷ values) have few =
@@ -128,7 +128,7 @@ fine_flags from (rule ∷ rules) [] few = tt
 fine_flags from (rule ∷ rules) (false ∷ fired) few = (omega (arith, few), (omega arith, omega arith), fine_flags (from + 1) rules fired (omega (arith, few)))
 fine_flags from (rule ∷ rules) (true ∷ fired) few = (omega (arith, few), (omega arith, omega arith), fine_flags (from + 1) rules fired (omega (arith, few)))
 
-fine_unknown : (kind : Kind) (from : ℕ) (named : List NameWidth) (count : ℕ) → from + length named ≤ 2 ^ 32 → Fine (numbered kind from named) (replicate count Unknown)
+fine_unknown : (kind : VariableKind) (from : ℕ) (named : List NameWidth) (count : ℕ) → from + length named ≤ 2 ^ 32 → Fine (numbered kind from named) (replicate count Unknown)
 fine_unknown kind from [] count few = tt
 fine_unknown kind from (one ∷ more) zero few = tt
 fine_unknown kind from (one ∷ more) (suc count) few = (omega (arith, few), tt, fine_unknown kind (from + 1) more count (omega (arith, few)))

@@ -14,8 +14,8 @@ use Rattle.wave_text.specs.Reading.{begins, gives, neither, said_by, vector_leve
 use Rattle.wave_text.specs.Waves.{binary, binary_digits, bit_text, change, code, letter, line, vector_text, without_leading_zeros}
 use Rattle.wave_text.specs.declared.level.Level.{Level}
 use Rattle.wave_text.specs.declared.level.Level.TheVariants.{Unknown, Known}
-use Rattle.wave_text.specs.declared.variable.Kind.{Kind}
-use Rattle.wave_text.specs.declared.variable.Kind.TheVariants.{Input, Register, Rule}
+use Rattle.wave_text.specs.declared.variable.VariableKind.{VariableKind}
+use Rattle.wave_text.specs.declared.variable.VariableKind.TheVariants.{Input, Register, Rule}
 use Rattle.wave_text.specs.declared.variable.Variable.{Variable}
 
 -- ---- cuts
@@ -62,7 +62,7 @@ digits_clear p none_is (d ∷ ds) all = let r = digit_from_value d all.0 in (non
 decimal_clear : (p : ℕ → Bool) → NoDigit p → (n : ℕ) → n < 2 ^ 64 → Clear p (decimal n)
 decimal_clear p none_is n small = digits_clear p none_is (decimal n) (decimal_is_IsNumeral n small).0.1
 
-letter_is : (p : ℕ → Bool) (k : Kind) → p 105 ≡ false → p 114 ≡ false → p 102 ≡ false → p (letter k) ≡ false
+letter_is : (p : ℕ → Bool) (k : VariableKind) → p 105 ≡ false → p 114 ≡ false → p 102 ≡ false → p (letter k) ≡ false
 letter_is p Input i r f = i
 letter_is p Register i r f = r
 letter_is p Rule i r f = f

@@ -4,7 +4,7 @@ use Rattle.std.proofs.lemmas.List.{drop_all, drop_more}
 use Rattle.stim_report.specs.declared.shape.NameWidth.{NameWidth}
 use Rattle.wave_text.specs.Waves.{change_if, changes, declaration, declarations, numbered}
 use Rattle.wave_text.specs.declared.level.Level.{Level}
-use Rattle.wave_text.specs.declared.variable.Kind.{Kind}
+use Rattle.wave_text.specs.declared.variable.VariableKind.{VariableKind}
 use Rattle.wave_text.specs.declared.variable.Variable.{Variable}
 
 -- the first part of what is left is added
@@ -28,14 +28,14 @@ head_parts t0 t1 t2 t3 t4 t5 t6 t7 t8 l1 l2 l3 s1 s2 s3 l4 l5 none one two three
     rw (eight, seven, six, five, four, three, two, one, none) (simp append_assoc)
 
 -- the next variable
-pub numbered_more : (kind : Kind) (named : List NameWidth) (i : ℕ) (one : NameWidth) → i < length named → one ≡ get_or named i one
+pub numbered_more : (kind : VariableKind) (named : List NameWidth) (i : ℕ) (one : NameWidth) → i < length named → one ≡ get_or named i one
     → numbered kind i (drop i named) ≡ (record { kind = kind; number = i; width = one.width } ∷ []) ++ numbered kind (i + 1) (drop (i + 1) named)
 numbered_more kind named i one h is =
     ap (numbered kind i) (drop_more named i one h)
     ∙ ap (λ (n : NameWidth). record { kind = kind; number = i; width = n.width } ∷ numbered kind (i + 1) (drop (i + 1) named)) (sym is)
 
 -- its declaration
-pub declarations_more : (kind : Kind) (named : List NameWidth) (i : ℕ) (one : NameWidth) → i < length named → one ≡ get_or named i one
+pub declarations_more : (kind : VariableKind) (named : List NameWidth) (i : ℕ) (one : NameWidth) → i < length named → one ≡ get_or named i one
     → declarations kind i (drop i named) ≡ declaration (record { kind = kind; number = i; width = one.width }) one.name ++ declarations kind (i + 1) (drop (i + 1) named)
 declarations_more kind named i one h is =
     ap (declarations kind i) (drop_more named i one h)

@@ -9,8 +9,8 @@ use Rattle.stim_report.specs.declared.shape.NameWidth.{NameWidth}
 use Rattle.stim_report.specs.declared.shape.Shape.{Shape}
 use Rattle.wave_text.specs.declared.level.Level.{Level}
 use Rattle.wave_text.specs.declared.level.Level.TheVariants.{Unknown, Known}
-use Rattle.wave_text.specs.declared.variable.Kind.{Kind}
-use Rattle.wave_text.specs.declared.variable.Kind.TheVariants.{Input, Register, Rule}
+use Rattle.wave_text.specs.declared.variable.VariableKind.{VariableKind}
+use Rattle.wave_text.specs.declared.variable.VariableKind.TheVariants.{Input, Register, Rule}
 use Rattle.wave_text.specs.declared.variable.Variable.{Variable}
 
 -- ---- variables
@@ -20,7 +20,7 @@ abbrev pub of_rule : List ℕ → NameWidth
 of_rule name = record { name = name; width = 1 }
 
 -- the variables of these names and widths, numbered from this number on
-abbrev pub numbered : Kind → ℕ → List NameWidth → List Variable
+abbrev pub numbered : VariableKind → ℕ → List NameWidth → List Variable
 numbered kind number [] = []
 numbered kind number (one ∷ more) = record { kind = kind; number = number; width = one.width } ∷ numbered kind (number + 1) more
 
@@ -29,7 +29,7 @@ abbrev pub variables : Shape → List Variable
 variables shape = numbered Input 0 shape.inputs ++ numbered Register 0 shape.registers ++ numbered Rule 0 (map of_rule shape.rules)
 
 -- the identifier code of a variable: a letter for its kind, and its number
-abbrev pub letter : Kind → ℕ
+abbrev pub letter : VariableKind → ℕ
 letter Input = 105
 letter Register = 114
 letter Rule = 102
@@ -44,7 +44,7 @@ abbrev pub line : List ℕ → List ℕ
 line bytes = bytes ++ 10 ∷ []
 
 -- the type of a variable
-abbrev pub type_of : Kind → List ℕ
+abbrev pub type_of : VariableKind → List ℕ
 type_of Input = codes "wire"
 type_of Register = codes "reg"
 type_of Rule = codes "wire"
@@ -54,7 +54,7 @@ abbrev pub declaration : Variable → List ℕ → List ℕ
 declaration v name = line (codes "$var " ++ type_of v.kind ++ 32 ∷ decimal v.width ++ 32 ∷ code v ++ 32 ∷ name ++ codes " $end")
 
 -- those of the variables of these names and widths, numbered from this number on
-abbrev pub declarations : Kind → ℕ → List NameWidth → List ℕ
+abbrev pub declarations : VariableKind → ℕ → List NameWidth → List ℕ
 declarations kind number [] = []
 declarations kind number (one ∷ more) = declaration (record { kind = kind; number = number; width = one.width }) one.name ++ declarations kind (number + 1) more
 

@@ -4,7 +4,7 @@ ghost use Rattle.std.specs.Prelude.{◌≡◌, ◌++◌, ◌∷◌, codes, IfOk,
 ghost use Rattle.wave_text.specs.Waves as texts;
 
 use crate::lines::{push_line, push_number};
-use crate::variable::{Kind, Variable, named_rules};
+use crate::variable::{Variable, VariableKind, named_rules};
 use kw_bits::{NoMemory, Text};
 use std::alloc::Global;
 use stim_report::{NameWidth, Shape};
@@ -18,21 +18,31 @@ pub fn head(alloc: Global, shape: &Shape) -> Result<Text, NoMemory>
     push_line(&mut text, b"$timescale 1 ns $end")?;
     push_line(&mut text, b"$scope module design $end")?;
     push_line(&mut text, b"$var wire 1 c clk $end")?;
-    push_scope(&mut text, b"inputs", Kind::Input, shape.inputs.as_slice())?;
+    push_scope(
+        &mut text,
+        b"inputs",
+        VariableKind::Input,
+        shape.inputs.as_slice(),
+    )?;
     push_scope(
         &mut text,
         b"registers",
-        Kind::Register,
+        VariableKind::Register,
         shape.registers.as_slice(),
     )?;
-    push_scope(&mut text, b"rules", Kind::Rule, rules.as_slice())?;
+    push_scope(&mut text, b"rules", VariableKind::Rule, rules.as_slice())?;
     push_line(&mut text, b"$upscope $end")?;
     push_line(&mut text, b"$enddefinitions $end")?;
     Ok(text)
 }
 
 // A scope with the declarations of a kind.
-fn push_scope(text: &mut Text, name: &[u8], kind: Kind, named: &[NameWidth]) -> Result<(), NoMemory>
+fn push_scope(
+    text: &mut Text,
+    name: &[u8],
+    kind: VariableKind,
+    named: &[NameWidth],
+) -> Result<(), NoMemory>
     ensures { OnOk result (text.new ≡ text.old ++ texts.scope name.now (texts.declarations kind 0 named.now)) }
 {
     text.extend_from_slice(b"$scope module ")?;
@@ -43,7 +53,11 @@ fn push_scope(text: &mut Text, name: &[u8], kind: Kind, named: &[NameWidth]) -> 
     Ok(())
 }
 
-fn push_declarations(text: &mut Text, kind: Kind, named: &[NameWidth]) -> Result<(), NoMemory>
+fn push_declarations(
+    text: &mut Text,
+    kind: VariableKind,
+    named: &[NameWidth],
+) -> Result<(), NoMemory>
     ensures { OnOk result (text.new ≡ text.old ++ texts.declarations kind 0 named.now) }
 {
     for (number, one) in named.iter().enumerate() {

@@ -10,21 +10,21 @@ use stim_report::{NameWidth, Shape};
 
 /// What a variable shows.
 #[derive(Clone, Copy, Debug)]
-pub(crate) enum Kind {
+pub(crate) enum VariableKind {
     Input,
     Register,
     Rule,
 }
 
-impl Kind {
+impl VariableKind {
     /// The letter that begins the identifier codes of this kind.
     pub(crate) fn letter(self) -> u8
         ensures { result ≡ texts.letter self }
     {
         match self {
-            Kind::Input => b'i',
-            Kind::Register => b'r',
-            Kind::Rule => b'f',
+            VariableKind::Input => b'i',
+            VariableKind::Register => b'r',
+            VariableKind::Rule => b'f',
         }
     }
 
@@ -33,9 +33,9 @@ impl Kind {
         ensures { result.now ≡ texts.type_of self }
     {
         match self {
-            Kind::Input => b"wire",
-            Kind::Register => b"reg",
-            Kind::Rule => b"wire",
+            VariableKind::Input => b"wire",
+            VariableKind::Register => b"reg",
+            VariableKind::Rule => b"wire",
         }
     }
 }
@@ -43,7 +43,7 @@ impl Kind {
 /// A variable: its number among those of its kind, and how many bits it has.
 #[derive(Clone, Copy, Debug)]
 pub(crate) struct Variable {
-    pub(crate) kind: Kind,
+    pub(crate) kind: VariableKind,
     pub(crate) number: usize,
     pub(crate) width: u32,
 }
@@ -54,9 +54,9 @@ pub(crate) fn variables(alloc: Global, shape: &Shape) -> Result<Sequence<Variabl
 {
     let rules = named_rules(alloc, shape.rules.as_slice())?;
     let mut all = Sequence::new(alloc);
-    push_numbered(&mut all, Kind::Input, shape.inputs.as_slice())?;
-    push_numbered(&mut all, Kind::Register, shape.registers.as_slice())?;
-    push_numbered(&mut all, Kind::Rule, rules.as_slice())?;
+    push_numbered(&mut all, VariableKind::Input, shape.inputs.as_slice())?;
+    push_numbered(&mut all, VariableKind::Register, shape.registers.as_slice())?;
+    push_numbered(&mut all, VariableKind::Rule, rules.as_slice())?;
     Ok(all)
 }
 
@@ -75,7 +75,7 @@ pub(crate) fn named_rules(alloc: Global, rules: &[Text]) -> Result<Sequence<Name
 // Adds the variables of these names and widths, numbered from 0.
 fn push_numbered(
     all: &mut Sequence<Variable>,
-    kind: Kind,
+    kind: VariableKind,
     named: &[NameWidth],
 ) -> Result<(), NoMemory>
     ensures { OnOk result (all.new ≡ all.old ++ texts.numbered kind 0 named.now) }

@@ -3,7 +3,7 @@
 use Rattle.std.specs.Prelude.{◌≡◌, ℕ, zero, suc, Bool, true, false, ◌&&◌, ◌||◌, List, map, min, nat_le, Option, Result, Ok, Err, slice_index_or, if◌then◌else◌}
 use Rattle.kw_bits.specs.BitVector.{BitVector}
 use Rattle.typed_core.specs.Alone.{is_refused, seen}
-use Rattle.typed_core.specs.Evaluation.{Part, Ports, notes, stops, unit}
+use Rattle.typed_core.specs.Evaluation.{Evaluation, Ports, notes, stops, unit}
 use Rattle.typed_core.specs.Widths.{HaveWidths}
 use Rattle.typed_core.specs.declared.access.Access.{Access}
 use Rattle.typed_core.specs.declared.access.Event.{Event}
@@ -33,14 +33,14 @@ abbrev pub seen_by : RegisterLog → ℕ → ℕ → BitVector → BitVector
 seen_by log port register start = written_below log (min port PORTS) register start
 
 -- what a read evaluates to and what a write does, by the log
-abbrev pub read_by : RegisterLog → List BitVector → ℕ → ℕ → Part BitVector Stopped
+abbrev pub read_by : RegisterLog → List BitVector → ℕ → ℕ → Evaluation BitVector Stopped
 read_by log regs port register events =
     let access : Access = record { write = false; port = port; register = register } in
     let value = seen port register events (seen_by log port register (slice_index_or regs register unit)) in
     if refused_by log access then stops (Refused access) events
     else notes (record { access = access; value = value }) value events
 
-abbrev pub write_by : RegisterLog → ℕ → ℕ → BitVector → Part BitVector Stopped
+abbrev pub write_by : RegisterLog → ℕ → ℕ → BitVector → Evaluation BitVector Stopped
 write_by log port register value events =
     let access : Access = record { write = true; port = port; register = register } in
     if refused_by log access || is_refused events access then stops (Refused access) events

@@ -18,11 +18,11 @@ use Rattle.btor2_text.specs.declared.line.Line.{Line}
 use Rattle.btor2_model.specs.Acceptance.{digits_of}
 use Rattle.btor2_model.specs.Rules.{is_input, is_sort, is_state, rule_of}
 use Rattle.btor2_model.specs.Run.{base_of, constant}
-use Rattle.btor2_model.specs.Scope.{id_at, number_of}
+use Rattle.btor2_model.specs.Scope.{id_at, argument_number}
 use Rattle.btor2_model.specs.SlowRun.{is_constant}
 use Rattle.btor2_model.specs.Table.{value_in}
-use Rattle.btor2_model.specs.declared.rule.Rule.{Rule}
-use Rattle.btor2_model.specs.declared.rule.Rule.TheVariants as forms
+use Rattle.btor2_model.specs.declared.rule.FormRule.{FormRule}
+use Rattle.btor2_model.specs.declared.rule.FormRule.TheVariants as forms
 use Rattle.btor2_net.specs.declared.nodes.Nodes.{Nodes}
 
 -- the operator on one node, or on two, that a keyword names, if it names one
@@ -83,7 +83,7 @@ abbrev pub node_at : Numbering → List Argument → ℕ → ℕ
 node_at n given place = unwrap_or (n.nodes (id_at given place)) 0
 
 abbrev pub number_at : List Argument → ℕ → ℕ
-number_at given place = number_of (slice_get given place)
+number_at given place = argument_number (slice_get given place)
 
 -- the number that a constant's digits write
 abbrev pub numeral_at : Keyword → List Argument → ℕ
@@ -95,7 +95,7 @@ extension keywords.Sext a more = Sext a more
 extension other a more = Uext a more
 
 -- the operator of a line's node, if the line has one
-abbrev pub op_by : Numbering → Rule → Keyword → List Argument → Option NetOp
+abbrev pub op_by : Numbering → FormRule → Keyword → List Argument → Option NetOp
 op_by n forms.Input keyword given = Some (Input n.inputs (sort_at n given))
 op_by n forms.State keyword given = Some (State n.states (sort_at n given))
 op_by n forms.Constant keyword given = Some (Const (constant keyword (sort_at n given)))

@@ -4,10 +4,10 @@ use Rattle.kw_bits.specs.BitVector.{BitVector}
 use Rattle.net_graph.specs.Nets.{IsNet, width_at, widths_of}
 use Rattle.net_graph.specs.Values.{AllRead, Sources, node_value, value_at}
 use Rattle.net_graph.specs.declared.node.NetOp.{NetOp}
-use Rattle.btor2_text.specs.declared.kind.Kind.TheVariants as kinds
+use Rattle.btor2_text.specs.declared.kind.ArgumentKind.TheVariants as kinds
 use Rattle.btor2_text.specs.declared.line.Line.{Line}
 use Rattle.btor2_model.specs.Rules.{is_input, is_state}
-use Rattle.btor2_model.specs.Run.{Step, Values, ids_of, values_at}
+use Rattle.btor2_model.specs.Run.{StepValues, Values, ids_of, values_at}
 use Rattle.btor2_model.specs.Scope.{behind_all, no_lines, width_wanted}
 use Rattle.btor2_net.specs.inner.Nodes.{Numbering}
 use Rattle.btor2_net.specs.Translations.{widths_in}
@@ -24,7 +24,7 @@ abbrev pub AreGiven : List ℕ → Values → List BitVector → Type 0
 AreGiven ids values given = (place id : ℕ) → slice_get ids place ≡ Some id → values id ≡ value_at given place
 
 -- a step of a text, and what nodes read from outside, have the same inputs and states
-pub record SameStep (lines : List Line) (step : Step) (s : Sources) : Type 0 where
+pub record SameStep (lines : List Line) (step : StepValues) (s : Sources) : Type 0 where
   pub inputs : AreGiven (ids_of is_input lines) step.inputs s.inputs
   pub states : AreGiven (ids_of is_state lines) step.states s.states
 
@@ -33,4 +33,4 @@ pub record AreNodesOf (lines : List Line) (n : Numbering) (net : List NetOp) : T
   pub is_net : IsNet net
   pub widths : (id width : ℕ) → width_wanted kinds.Value ((behind_all no_lines lines).meanings id) ≡ Some width → HasNodeOf n net id width
   pub reads : AllRead (widths_in is_input lines) (widths_in is_state lines) net
-  pub values : (step : Step) (s : Sources) → SameStep lines step s → (id node : ℕ) → n.nodes id ≡ Some node → node_value s net node ≡ values_at lines step id
+  pub values : (step : StepValues) (s : Sources) → SameStep lines step s → (id node : ℕ) → n.nodes id ≡ Some node → node_value s net node ≡ values_at lines step id

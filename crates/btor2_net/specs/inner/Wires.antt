@@ -15,14 +15,14 @@ use Rattle.btor2_model.specs.Rules.{rule_of, is_init, is_input, is_next, is_outp
 use Rattle.btor2_model.specs.Scope.{id_at}
 use Rattle.btor2_model.specs.inner.SlowRun.{sets}
 use Rattle.btor2_model.specs.Table.{value_in}
-use Rattle.btor2_model.specs.declared.rule.Rule.{Rule}
-use Rattle.btor2_net.specs.Translations.{GivesOutputs, HasLines, HasTokens, RunsAs, name_of}
+use Rattle.btor2_model.specs.declared.rule.FormRule.{FormRule}
+use Rattle.btor2_net.specs.Translations.{GivesOutputs, HasLines, HasTokens, RunsAs, line_name}
 use Rattle.btor2_net.specs.declared.form.Form.{Form}
 use Rattle.btor2_net.specs.declared.form.Form.TheVariants as forms
 use Rattle.btor2_net.specs.declared.nodes.Nodes.{Nodes}
 
 -- the lines of a form
-abbrev pub is_form : Form → Rule → Bool
+abbrev pub is_form : Form → FormRule → Bool
 is_form forms.Input rule = is_input rule
 is_form forms.State rule = is_state rule
 is_form forms.Init rule = is_init rule
@@ -51,10 +51,10 @@ zero_of n line = zero_at (width_of n line.id)
 
 -- the wires of lines
 abbrev pub input_wire : Nodes → Line → InputWire
-input_wire n line = record { name = name_of line; width = width_of n line.id }
+input_wire n line = record { name = line_name line; width = width_of n line.id }
 
 abbrev pub output_wire : Nodes → Line → OutputWire
-output_wire n line = record { name = name_of line; id = node_of n (id_at line.arguments 0) }
+output_wire n line = record { name = line_name line; id = node_of n (id_at line.arguments 0) }
 
 -- the first value of a state, by the values of nodes while inputs and states are 0
 abbrev pub first_of : Nodes → List BitVector → Option ℕ → ℕ → BitVector
@@ -62,7 +62,7 @@ first_of n constants init state = option_map_or (λ id. value_at constants (node
 
 abbrev pub state_wire : Nodes → List BitVector → (ℕ → Option ℕ) → (ℕ → Option ℕ) → Line → StateWire
 state_wire n constants inits nexts line =
-    record { name = name_of line; width = width_of n line.id; first = first_of n constants (inits line.id) line.id; next = node_of n (unwrap_or (nexts line.id) 0) }
+    record { name = line_name line; width = width_of n line.id; first = first_of n constants (inits line.id) line.id; next = node_of n (unwrap_or (nexts line.id) 0) }
 
 -- the wires make a circuit, which is the text's
 pub record AreWiresOf (lines : List Line) (c : Wires) : Type 0 where

@@ -5,8 +5,8 @@ use Rattle.attempt_log.specs.declared.entry.Entry.TheVariants as entry
 use Rattle.attempt_log.specs.declared.entry.Settled.{Settled}
 use Rattle.attempt_log.specs.declared.entry.Settled.TheVariants as settled
 use Rattle.board_core.specs.declared.kept.TheConstants.{MAX_CYCLES}
-use Rattle.journal_check.specs.declared.line.Line.{Line}
-use Rattle.journal_check.specs.declared.line.Line.TheVariants as line
+use Rattle.journal_check.specs.declared.line.JournalLine.{JournalLine}
+use Rattle.journal_check.specs.declared.line.JournalLine.TheVariants as line
 
 abbrev pub Differs : Settled → Type 0
 Differs (settled.Committed cycle rule) = Unit {0}
@@ -16,7 +16,7 @@ Differs (settled.CycleClosed cycle) = Unit {0}
 Differs (settled.Waiting cycle rule) = Unit {0}
 Differs settled.Finished = Unit {0}
 
-abbrev pub IsAllowed : ℕ → Line → Type 0
+abbrev pub IsAllowed : ℕ → JournalLine → Type 0
 IsAllowed workers (line.Begins count) = (1 ≤ count) × (count ≤ 8)
 IsAllowed workers (line.Batch from to) = Unit {0}
 IsAllowed workers (line.Entry (entry.Submit worker cycle rule inputs events ending answer)) = (worker ≤ workers) × (1 ≤ cycle) × (cycle ≤ MAX_CYCLES)

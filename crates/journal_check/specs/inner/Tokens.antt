@@ -23,8 +23,8 @@ use Rattle.journal_check.specs.Numbers.{number_read, value_read}
 use Rattle.journal_check.specs.declared.flaw.Flaw.{Flaw}
 use Rattle.journal_check.specs.declared.flaw.Flaw.TheVariants as flaws
 use Rattle.journal_check.specs.declared.head.Head.{Head}
-use Rattle.journal_check.specs.declared.line.Line.{Line}
-use Rattle.journal_check.specs.declared.line.Line.TheVariants as line
+use Rattle.journal_check.specs.declared.line.JournalLine.{JournalLine}
+use Rattle.journal_check.specs.declared.line.JournalLine.TheVariants as line
 use denote.Ref.{Bor}
 use Rattle.journal_check.specs.Tokens.{is_space, register_names, rule_names, number_named}
 
@@ -207,7 +207,7 @@ settled_at design tokens = do
 
 -- ---- lines
 
-unfoldable pub submit_at : Parts → InputVectors → List (List ℕ) → Option Line
+unfoldable pub submit_at : Parts → InputVectors → List (List ℕ) → Option JournalLine
 submit_at design stimulus tokens = do
   worker ← number_at tokens
   head ← head_at design worker.1
@@ -216,25 +216,25 @@ submit_at design stimulus tokens = do
   word ← token_at events.1
   Some (line.Entry (entry.Submit worker.0 head.0.cycle head.0.rule (inputs_of stimulus head.0.cycle) events.0 ending.0 (taken_read word.0)))
 
-unfoldable pub settle_at : Parts → List (List ℕ) → Option Line
+unfoldable pub settle_at : Parts → List (List ℕ) → Option JournalLine
 settle_at design tokens = do
   worker ← number_at tokens
   colon ← token_at worker.1
   answer ← settled_at design colon.1
   Some (line.Entry (entry.Settle worker.0 answer))
 
-unfoldable pub batch_at : List (List ℕ) → Option Line
+unfoldable pub batch_at : List (List ℕ) → Option JournalLine
 batch_at tokens = do
   from ← number_at tokens
   to ← number_at from.1
   Some (line.Batch from.0 to.0)
 
-unfoldable pub begin_at : List (List ℕ) → Option Line
+unfoldable pub begin_at : List (List ℕ) → Option JournalLine
 begin_at tokens = do
   workers ← token_at tokens
   Some (line.Begins (number_read (drop 8 workers.0)))
 
-abbrev pub line_by : Parts → InputVectors → List ℕ → List (List ℕ) → Option Line
+abbrev pub line_by : Parts → InputVectors → List ℕ → List (List ℕ) → Option JournalLine
 line_by design stimulus word tokens =
     if bytes_eq word (codes "s") then submit_at design stimulus tokens
     else if bytes_eq word (codes "t") then settle_at design tokens
@@ -242,7 +242,7 @@ line_by design stimulus word tokens =
     else begin_at tokens
 
 -- what the tokens of a line are read as
-unfoldable pub line_at : Parts → InputVectors → List (List ℕ) → Option Line
+unfoldable pub line_at : Parts → InputVectors → List (List ℕ) → Option JournalLine
 line_at design stimulus tokens = do
   word ← token_at tokens
   line_by design stimulus word.0 word.1

@@ -12,18 +12,18 @@ use Rattle.koika_check.specs.Composites as composites
 use Rattle.koika_check.specs.Constants as constants
 use Rattle.koika_check.specs.Constructs as constructs
 use Rattle.koika_check.specs.inner.Locals.{AreLocals, locals_of, shapes_of}
-use Rattle.koika_check.specs.Outcomes.{Outcome, Gives}
+use Rattle.koika_check.specs.Outcomes.{CheckResult, Gives}
 use Rattle.koika_check.specs.inner.Outcomes.{Ends}
 use Rattle.koika_check.specs.Scopes as scopes
 use Rattle.koika_check.specs.Scopes.{Scope, function_named, host_named, input_named, register_named, rule_named, table_named}
 use Rattle.koika_check.specs.Selections as selections
 use Rattle.koika_check.specs.inner.Shapes.{AreShapes, IsShape, array_types, part_of, type_if, type_of_shape}
 use Rattle.koika_check.specs.inner.Things.{AreParts, AreThings, position_of, thing_named}
-use Rattle.koika_check.specs.Types.{Part as TypedPart, base_width, bits, enum_named, struct_named, width_of}
+use Rattle.koika_check.specs.Types.{TypedPart as TypedPart, base_width, bits, enum_named, struct_named, width_of}
 use Rattle.koika_check.specs.declared.agreement.Part.{Part}
 use Rattle.koika_check.specs.declared.checked.Checked.{Checked}
-use Rattle.koika_check.specs.declared.checked.Field.{Field}
-use Rattle.koika_check.specs.declared.checked.Function.{Function}
+use Rattle.koika_check.specs.declared.checked.CheckedField.{CheckedField}
+use Rattle.koika_check.specs.declared.checked.CheckedFunction.{CheckedFunction}
 use Rattle.koika_check.specs.declared.checked.Host.{Host}
 use Rattle.koika_check.specs.declared.checked.Input.{Input}
 use Rattle.koika_check.specs.declared.checked.Register.{Register}
@@ -148,7 +148,7 @@ pub record IsTypeIf (c : Checker) (s : Option Shape) (of : Option ValueType) : T
   pub known : IsTypeOrUnit c s
 
 -- what callers see of a function
-pub record IsSignature (c : Checker) (s : Signature) (f : Function) : Type 0 where
+pub record IsSignature (c : Checker) (s : Signature) (f : CheckedFunction) : Type 0 where
   pub parameters : AreTypes c s.parameters f.parameters
   pub result : IsTypeIf c s.result f.result
 
@@ -156,7 +156,7 @@ pub record IsSignature (c : Checker) (s : Signature) (f : Function) : Type 0 whe
 pub record AreWidths (d : Checked) : Type 0 where
   pub enums : (number : ℕ) → number < length d.enums → IsWidth (base_width d (base.Enum number))
   pub structs : (number : ℕ) → number < length d.structs →
-      base_width d (base.Struct number) ≡ min (sum_by (λ (f : Field). width_of d f.of) (fields_of d number)) 129
+      base_width d (base.Struct number) ≡ min (sum_by (λ (f : CheckedField). width_of d f.of) (fields_of d number)) 129
   pub tables : All (λ (t : Table). IsWidth t.spec.in_width × IsWidth t.spec.out_width) d.tables
   pub hosts : All (λ (h : Host). TakesWidth h.spec.kind h.spec.in_width) d.hosts
 
@@ -178,9 +178,9 @@ pub record IsChecker (c : Checker) : Type 0 where
   pub registers : AreTypes c c.registers (map (λ (r : Register). r.of) c.design.registers)
   pub inputs : AreTypes c c.inputs (map (λ (i : Input). i.of) c.design.inputs)
   pub each_fields : length c.fields ≡ length c.design.structs
-  pub fields : (number : ℕ) (d : List Shape) → number < length c.fields → AreTypes c (slice_index_or c.fields number d) (map (λ (f : Field). f.of) (fields_of c.design number))
+  pub fields : (number : ℕ) (d : List Shape) → number < length c.fields → AreTypes c (slice_index_or c.fields number d) (map (λ (f : CheckedField). f.of) (fields_of c.design number))
   pub each_function : length c.functions ≡ length c.design.functions
-  pub functions : (number : ℕ) (s : Signature) (f : Function) → number < length c.functions → IsSignature c (slice_index_or c.functions number s) (slice_index_or c.design.functions number f)
+  pub functions : (number : ℕ) (s : Signature) (f : CheckedFunction) → number < length c.functions → IsSignature c (slice_index_or c.functions number s) (slice_index_or c.design.functions number f)
   pub locals : AreLocals c.locals
   pub bound : All (IsType c) (shapes_of c.locals)
   pub hosts : All (λ (h : HostSpec). TakesWidth h.kind h.in_width) c.hosts
@@ -211,7 +211,7 @@ abbrev pub scope_of : Checker → Scope
 scope_of c = record { design = c.design; locals = locals_of (arrays_of c) c.locals }
 
 -- a step gives what an outcome gives, where its values stand for those of outcomes as `Means` says
-pub record Yields {X Y : Type 0} (Means : Checker → Y → X → Type 0) (old : Checker) (outcome : Outcome X) (new : Checker) (y : Y) : Type 0 where
+pub record Yields {X Y : Type 0} (Means : Checker → Y → X → Type 0) (old : Checker) (outcome : CheckResult X) (new : Checker) (y : Y) : Type 0 where
   pub kept : IsChecker new
   pub grows : Grows old new
   pub value : X
@@ -219,7 +219,7 @@ pub record Yields {X Y : Type 0} (Means : Checker → Y → X → Type 0) (old :
   pub means : Means new y value
 
 -- a step answers what an outcome says: a value for a result, the fault for a fault
-abbrev pub Checks : {X Y : Type 0} → (Checker → Y → X → Type 0) → (old : Checker) → Outcome X → (new : Checker) → Result Y Stop → Type 0
+abbrev pub Checks : {X Y : Type 0} → (Checker → Y → X → Type 0) → (old : Checker) → CheckResult X → (new : Checker) → Result Y Stop → Type 0
 Checks Means old outcome new (Ok y) = Yields Means old outcome new y
 Checks Means old outcome new (Err stop) = Ends outcome stop
 
@@ -261,15 +261,15 @@ Takes c s one = (one.selection ≡ s.selection) × Stands c s.of one.of
 -- ---- fields that are given
 
 -- whether the next declared field has this name
-abbrev pub is_named : Option Field → List ℕ → Bool
+abbrev pub is_named : Option CheckedField → List ℕ → Bool
 is_named None text = false
 is_named (Some f) text = bytes_eq f.name text
 
-abbrev pub is_next : (next : List Field) → List ℕ → Bool
+abbrev pub is_next : (next : List CheckedField) → List ℕ → Bool
 is_next next text = is_named (slice_get next 0) text
 
 -- what is known of a field that is given where these are the fields, and these come next
-pub record IsGiven (c : Checker) (fields next : List Field) (g : Given) (x : composites.Given) : Type 0 where
+pub record IsGiven (c : Checker) (fields next : List CheckedField) (g : Given) (x : composites.Given) : Type 0 where
   pub place : x.name.place ≡ g.place
   pub in_order : g.is_in_order ≡ is_next next x.name.text
   pub wanted : type_if (arrays_of c) g.wanted ≡ type_at fields (field_named fields x.name.text)
@@ -277,7 +277,7 @@ pub record IsGiven (c : Checker) (fields next : List Field) (g : Given) (x : com
   pub part : x.part ≡ part_of (arrays_of c) g.part
   pub type : IsPart c g.part
 
-abbrev pub AreGiven : Checker → (fields next : List Field) → List Given → List composites.Given → Type 0
+abbrev pub AreGiven : Checker → (fields next : List CheckedField) → List Given → List composites.Given → Type 0
 AreGiven c fields next [] [] = ⊤
 AreGiven c fields next (g ∷ given) (x ∷ xs) = IsGiven c fields next g x × AreGiven c fields (drop 1 next) given xs
 AreGiven c fields next given xs = ⊥
@@ -314,7 +314,7 @@ TypedAs c y x = (x ≡ typing_of c y) × IsPart c y.part
 
 -- many in order
 pub record AreTyped (c : Checker) (y : Typings) (xs : List constructs.Typing) : Type 0 where
-  pub parts : constructs.parts_of xs ≡ map (part_of (arrays_of c)) y.parts
+  pub parts : constructs.types_of_parts xs ≡ map (part_of (arrays_of c)) y.parts
   pub types : All (IsPart c) y.parts
   pub typed : constructs.typed_of xs ≡ y.typed
 

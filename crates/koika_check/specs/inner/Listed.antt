@@ -4,7 +4,7 @@ use Rattle.kw_base.specs.Names.{number_of}
 use Rattle.koika_check.specs.inner.Checking.{AreTypes, Grows}
 use Rattle.koika_check.specs.inner.Things.{key_of_declaration, position_of}
 use Rattle.koika_check.specs.Types.{width_of}
-use Rattle.koika_check.specs.declared.checked.Field.{Field}
+use Rattle.koika_check.specs.declared.checked.CheckedField.{CheckedField}
 use Rattle.koika_check.specs.declared.checker.Checker.{Checker}
 use Rattle.koika_check.specs.declared.structs.Fields.{Fields}
 use Rattle.koika_check.specs.declared.parts.Parts.{Parts}
@@ -20,8 +20,8 @@ Keeps old new of = (other : Thing) (name : List ℕ) → key_of_declaration othe
 
 -- the fields that are read, with their shapes and their width together
 pub record AreFields (c : Checker) (kept : Fields) : Type 0 where
-  pub types : AreTypes c kept.shapes (map (λ (f : Field). f.of) kept.fields)
-  pub width : kept.width ≡ min (sum_by (λ (f : Field). width_of c.design f.of) kept.fields) 129
+  pub types : AreTypes c kept.shapes (map (λ (f : CheckedField). f.of) kept.fields)
+  pub width : kept.width ≡ min (sum_by (λ (f : CheckedField). width_of c.design f.of) kept.fields) 129
 
 -- array types and parts were added; what is declared stayed
 abbrev pub GrowsInParts : (old new : Checker) → Type 0

@@ -3,11 +3,11 @@ use Rattle.std.specs.Prelude.{◌≡◌, ⊤, Result, Ok, Err, Some, None}
 use Rattle.koika_check.specs.declared.stop.Stop.{Stop}
 use Rattle.koika_check.specs.declared.stop.Stop.TheVariants as stops
 use Rattle.koika_check.specs.declared.stop.Wrong.{Wrong}
-use Rattle.koika_check.specs.Outcomes.{Outcome, Condition, found, Gives, Fails}
+use Rattle.koika_check.specs.Outcomes.{CheckResult, Condition, found, Gives, Fails}
 
 -- A call answers what an outcome says, where its values stand for those of outcomes as `is` says: a value for a
 -- result, the fault for a fault. Being out of memory is free.
-abbrev pub Tells : {X Y : Type 0} → (Y → X → Type 0) → Outcome X → Result Y Stop → Type 0
+abbrev pub Tells : {X Y : Type 0} → (Y → X → Type 0) → CheckResult X → Result Y Stop → Type 0
 Tells is outcome (Err stops.NoMemory) = ⊤
 Tells is (Gives value) (Ok y) = is y value
 Tells is (Fails fault) (Ok y) = ⊥
@@ -21,11 +21,11 @@ Passes (Some fault) (Err (stops.Wrong found)) = found ≡ fault
 Passes condition answer = ⊥
 
 -- an outcome is this fault; being out of memory is free
-abbrev pub Ends : {X : Type 0} → Outcome X → Stop → Type 0
+abbrev pub Ends : {X : Type 0} → CheckResult X → Stop → Type 0
 Ends outcome stops.NoMemory = ⊤
 Ends outcome (stops.Wrong fault) = outcome ≡ Fails fault
 
 -- a call answers what an outcome says, as above, told by the answer
-abbrev pub Answers : {X Y : Type 0} → (Y → X → Type 0) → Outcome X → Result Y Stop → Type 0
+abbrev pub Answers : {X Y : Type 0} → (Y → X → Type 0) → CheckResult X → Result Y Stop → Type 0
 Answers {X} is outcome (Ok y) = (value : X) × (outcome ≡ Gives value) × is y value
 Answers is outcome (Err stop) = Ends outcome stop

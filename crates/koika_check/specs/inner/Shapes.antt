@@ -2,7 +2,7 @@
 -- private functions alone.
 use Rattle.std.specs.Prelude.{◌≡◌, ℕ, ◌<◌, ◌^◌, ◌⊎◌, ⊤, List, [], ◌∷◌, ◌++◌, length, map, Option, Some, IfSome, option_map, slice_index_or}
 use Rattle.std.specs.Int.{to_le_bytes, w32}
-use Rattle.koika_check.specs.Types.{Part as TypedPart, array, bits, of_base, part}
+use Rattle.koika_check.specs.Types.{TypedPart as TypedPart, array, bits, of_base, part}
 use Rattle.koika_check.specs.declared.agreement.Part.{Part}
 use Rattle.koika_check.specs.declared.shapes.ArrayShape.{ArrayShape}
 use Rattle.koika_check.specs.declared.shapes.Shape.{Shape}

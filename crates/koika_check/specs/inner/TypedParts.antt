@@ -6,8 +6,8 @@ use Rattle.koika_syntax.specs.declared.tree.Name.{Name}
 use Rattle.koika_check.specs.inner.Checking.{AreGiven, AreTyped, IsPart, arrays_of, scope_of, typing_of}
 use Rattle.koika_check.specs.Composites.{fields_of}
 use Rattle.koika_check.specs.Constructs as constructs
-use Rattle.koika_check.specs.Expressions.{Run, Stepping}
-use Rattle.koika_check.specs.Outcomes.{Outcome, ◌>>=◌, Gives, found}
+use Rattle.koika_check.specs.Expressions.{BlockSoFar, Stepping}
+use Rattle.koika_check.specs.Outcomes.{CheckResult, ◌>>=◌, Gives, found}
 use Rattle.koika_check.specs.Scopes.{Local, Scope, bound}
 use Rattle.koika_check.specs.inner.Shapes.{part_of}
 use Rattle.koika_check.specs.Types.{wrong_type}
@@ -16,8 +16,8 @@ use Rattle.koika_check.specs.declared.checker.Checker.{Checker}
 use Rattle.koika_check.specs.declared.checker.Typing.{Typing}
 use Rattle.koika_check.specs.declared.expressions.Arms.{Arms}
 use Rattle.koika_check.specs.declared.expressions.TypedFields.{TypedFields}
-use Rattle.koika_check.specs.declared.typed.Step.{Step}
-use Rattle.koika_check.specs.declared.typed.Step.TheVariants as step
+use Rattle.koika_check.specs.declared.typed.TypedStep.{TypedStep}
+use Rattle.koika_check.specs.declared.typed.TypedStep.TheVariants as step
 use Rattle.koika_check.specs.declared.typed.Typed.{Typed}
 
 -- a value stands for one of outcomes, and names stand for what this scope says
@@ -71,16 +71,16 @@ pub record IsLast (c : Checker) (y : Option Typing) (xs : List constructs.Typing
 -- ---- statements
 
 -- what `let` does after its value
-abbrev pub bound_step : Name → Scope → constructs.Typing → Outcome Stepping
+abbrev pub bound_step : Name → Scope → constructs.Typing → CheckResult Stepping
 bound_step n scope inner = found inner.part.of (wrong_type inner.part) >>= λ of. Gives (record { step = step.Let inner.typed; behind = bound n.text of scope })
 
 -- a step, after which names stand for what it leaves: locals were bound inside
-pub record IsStep (scope : Scope) (c : Checker) (y : Step) (x : Stepping) : Type 0 where
+pub record IsStep (scope : Scope) (c : Checker) (y : TypedStep) (x : Stepping) : Type 0 where
   pub step : x.step ≡ y
   pub behind : scope_of c ≡ x.behind
   pub inner : (more : List Local) × (x.behind.locals ≡ more ++ scope.locals)
 
-pub record AreSteps (scope : Scope) (c : Checker) (y : List Step) (x : Run) : Type 0 where
+pub record AreSteps (scope : Scope) (c : Checker) (y : List TypedStep) (x : BlockSoFar) : Type 0 where
   pub steps : x.steps ≡ y
   pub behind : scope_of c ≡ x.behind
   pub inner : (more : List Local) × (x.behind.locals ≡ more ++ scope.locals)

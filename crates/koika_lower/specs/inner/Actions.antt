@@ -3,7 +3,7 @@
 use Rattle.std.specs.Prelude.{◌≡◌, ℕ, ◌+◌, ◌-◌, ◌<◌, ◌≤◌, List, ◌∷◌}
 use Rattle.kw_bits.specs.BitVector.{BitVector}
 use Rattle.kw_bits.specs.Operators as op
-use Rattle.typed_core.specs.Evaluation.{Environment, Part, Ports, ◌>>=◌, apply_one, apply_two, choose, comes_to, evaluate}
+use Rattle.typed_core.specs.Evaluation.{Environment, Evaluation, Ports, ◌>>=◌, apply_one, apply_two, choose, comes_to, evaluate}
 use Rattle.typed_core.specs.Valid.{ActionHasWidth, Declarations, OneHasWidth, TwoHasWidth}
 use Rattle.typed_core.specs.declared.action.Action.{Action}
 use Rattle.typed_core.specs.declared.action.OneOp.{OneOp}
@@ -12,7 +12,7 @@ use Rattle.typed_core.specs.declared.outcome.Stopped.{Stopped}
 
 -- what an action evaluates to, by the values of the names that are bound round it
 abbrev pub Value : Type 0
-Value = List BitVector → Part BitVector Stopped
+Value = List BitVector → Evaluation BitVector Stopped
 
 -- the action evaluates to this, wherever it is evaluated
 abbrev pub ComesTo : Action → (Environment → Ports Stopped → Value) → Type 0

@@ -8,7 +8,7 @@ use Rattle.koika_syntax.specs.declared.operator.BinaryOperator.{BinaryOperator}
 use Rattle.koika_syntax.specs.declared.operator.Extension.{Extension}
 use Rattle.koika_syntax.specs.declared.operator.SignedComparison.{SignedComparison}
 use Rattle.koika_syntax.specs.declared.operator.UnaryOperator.{UnaryOperator}
-use Rattle.typed_core.specs.Evaluation.{Environment, Part, Ports, ◌>>=◌, answer_of, choose, comes_to, entry_of, evaluate, unit}
+use Rattle.typed_core.specs.Evaluation.{Environment, Evaluation, Ports, ◌>>=◌, answer_of, choose, comes_to, entry_of, evaluate, unit}
 use Rattle.typed_core.specs.Valid.{ActionHasWidth, Declarations, HostHasWidth, IsPort, TableHasWidth}
 use Rattle.typed_core.specs.declared.action.Action.{Action}
 use Rattle.typed_core.specs.declared.action.Action.TheVariants as action
@@ -99,7 +99,7 @@ pub record IsSelected (selections : List Selection) (whole l : Lowered) : Type 0
       IsSlice whole.action (lowest_of_all selections + width_of_all selections whole.width - 1) (lowest_of_all selections) l.action
 
 -- what comes of actions of which each binds its value round those after it and a last one
-abbrev pub lets : List (List BitVector → Part BitVector Stopped) → (List BitVector → Part BitVector Stopped) → List BitVector → Part BitVector Stopped
+abbrev pub lets : List (List BitVector → Evaluation BitVector Stopped) → (List BitVector → Evaluation BitVector Stopped) → List BitVector → Evaluation BitVector Stopped
 lets [] body locals = body locals
 lets (value ∷ rest) body locals = value locals >>= λ x. lets rest body (x ∷ locals)
 
@@ -107,7 +107,7 @@ abbrev pub LetsTyped : Declarations → List Lowered → Action → (widths : Li
 LetsTyped d [] body widths width = ActionHasWidth d body widths width
 LetsTyped d (l ∷ rest) body widths width = ActionHasWidth d l.action widths l.width × (1 ≤ l.width) × LetsTyped d rest body (l.width ∷ widths) width
 
-abbrev pub values_of : Environment → Ports Stopped → List Lowered → List (List BitVector → Part BitVector Stopped)
+abbrev pub values_of : Environment → Ports Stopped → List Lowered → List (List BitVector → Evaluation BitVector Stopped)
 values_of env ports = map (λ (l : Lowered). evaluate env ports l.action)
 
 pub record IsBound (operands : List Lowered) (body action : Action) : Type 0 where
@@ -120,11 +120,11 @@ names_stacked zero locals = slice_index_or locals 0 unit
 names_stacked (suc n) locals = op.concat (names_stacked n locals) (slice_index_or locals (suc n) unit)
 
 -- an operand after operators: all that comes after the value so far
-abbrev pub behind : List BinaryOperator → List (List BitVector → Part BitVector Stopped) → BitVector → List BitVector → Part BitVector Stopped
+abbrev pub behind : List BinaryOperator → List (List BitVector → Evaluation BitVector Stopped) → BitVector → List BitVector → Evaluation BitVector Stopped
 behind (o ∷ operators) (value ∷ values) x locals = value locals >>= λ y. behind operators values (binary_value o x y) locals
 behind operators values x locals = comes_to x
 
-abbrev pub chain_part : List BinaryOperator → List (List BitVector → Part BitVector Stopped) → List BitVector → Part BitVector Stopped
+abbrev pub chain_part : List BinaryOperator → List (List BitVector → Evaluation BitVector Stopped) → List BitVector → Evaluation BitVector Stopped
 chain_part operators [] locals = comes_to unit
 chain_part operators (value ∷ values) locals = value locals >>= λ x. behind operators values x locals
 
@@ -139,7 +139,7 @@ pub record IsChain (operators : List BinaryOperator) (operands : List Lowered) (
       ((ds : Declarations) (widths : List ℕ) → AllByRecursion (λ (o : Lowered). ActionHasWidth ds o.action widths o.width) operands → ActionHasWidth ds l.action widths l.width)
 
 -- what comes of conditions with a body each, and of what is after them
-abbrev pub arms_part : (conditions bodies : List (List BitVector → Part BitVector Stopped)) → (List BitVector → Part BitVector Stopped) → List BitVector → Part BitVector Stopped
+abbrev pub arms_part : (conditions bodies : List (List BitVector → Evaluation BitVector Stopped)) → (List BitVector → Evaluation BitVector Stopped) → List BitVector → Evaluation BitVector Stopped
 arms_part (condition ∷ conditions) (body ∷ bodies) behind locals = condition locals >>= λ x. choose x (body locals) (arms_part conditions bodies behind locals)
 arms_part conditions bodies behind locals = behind locals
 

@@ -7,23 +7,23 @@ use Rattle.kw_bits.specs.BitVector.{BitVector}
 use Rattle.kw_bits.specs.Laws.{HasWidth}
 use Rattle.koika_types.specs.Values.{packed}
 use Rattle.koika_types.specs.declared.value.Value.{Value}
-use Rattle.typed_core.specs.Evaluation.{Ending, Value as Reached, Stop, Progress, Part, ◌>>=◌, Environment, Externs, Ports, evaluate, unit}
+use Rattle.typed_core.specs.Evaluation.{Ending, Value as Reached, Stop, Progress, Evaluation, ◌>>=◌, Environment, Externs, Ports, evaluate, unit}
 use Rattle.typed_core.specs.Fits.{EventsFit, PortsFit}
 use Rattle.typed_core.specs.Valid.{ActionHasWidth, Declarations}
 use Rattle.typed_core.specs.Widths.{HaveWidths}
 use Rattle.typed_core.specs.declared.access.Event.{Event}
 use Rattle.typed_core.specs.declared.outcome.Stopped.{Stopped}
-use Rattle.koika_check.specs.Meaning.{Meaning, Setting, apply, bodies_behind, in_turn, meaning}
+use Rattle.koika_check.specs.Meaning.{Meaning, RuleSetting, apply, bodies_behind, in_turn, meaning}
 use Rattle.koika_check.specs.Types.{width_of}
 use Rattle.koika_check.specs.Typing.{Applies, IsOf, IsType, IsTypedDesign, Pairwise}
 use Rattle.koika_check.specs.declared.checked.Checked.{Checked}
-use Rattle.koika_check.specs.declared.checked.Function.{Function}
+use Rattle.koika_check.specs.declared.checked.CheckedFunction.{CheckedFunction}
 use Rattle.koika_check.specs.declared.checked.Host.{Host}
 use Rattle.koika_check.specs.declared.checked.Table.{Table}
 use Rattle.koika_check.specs.declared.typed.Operation.{Operation}
 use Rattle.koika_check.specs.declared.typed.Operation.TheVariants as operation
 use Rattle.koika_check.specs.declared.typed.ValueType.{ValueType}
-use Rattle.koika_lower.specs.Lowering.{input_widths, register_widths}
+use Rattle.koika_lower.specs.Lowering.{typed_input_widths, register_widths}
 use Rattle.koika_lower.specs.declared.lowered.Bound.{Bound}
 use Rattle.koika_lower.specs.declared.lowered.Lowered.{Lowered}
 
@@ -40,7 +40,7 @@ abbrev pub Alike : {V W : Type 0} → List ℕ → (V → W → Type 0) → Prog
 Alike regs R p q = (q.events ≡ p.events) × EventsFit regs p.events × EndAlike R p.ending q.ending
 
 -- after the same events that fit
-abbrev pub Simulates : {V W : Type 0} → List ℕ → (V → W → Type 0) → Part V Stopped → Part W Stopped → Type 0
+abbrev pub Simulates : {V W : Type 0} → List ℕ → (V → W → Type 0) → Evaluation V Stopped → Evaluation W Stopped → Type 0
 Simulates regs R m a = (events : List Event) → EventsFit regs events → Alike regs R (m events) (a events)
 
 -- ---- values
@@ -92,21 +92,21 @@ abbrev pub externs_of : Checked → Externs
 externs_of d = record { tables = map (λ (t : Table). t.spec) d.tables; hosts = map (λ (h : Host). h.spec) d.hosts }
 
 abbrev pub declared_by : Checked → Declarations
-declared_by d = record { regs = register_widths d; inputs = input_widths d; externs = externs_of d }
+declared_by d = record { regs = register_widths d; inputs = typed_input_widths d; externs = externs_of d }
 
 -- what the actions of a design are evaluated in
 abbrev pub environment : Checked → List BitVector → Environment
 environment d inputs = record { externs = externs_of d; inputs = inputs }
 
 -- the setting in which that many functions, the first ones, may be called
-abbrev pub world : Checked → (functions : ℕ) → List BitVector → Ports Stopped → Setting Stopped
+abbrev pub world : Checked → (functions : ℕ) → List BitVector → Ports Stopped → RuleSetting Stopped
 world d functions inputs ports = bodies_behind (record { design = d; inputs = inputs; ports = ports; bodies = [] }) (take functions d.functions)
 
 -- ---- lowered expressions
 
 -- what an expression evaluates to, in a setting
 abbrev pub Sense : Type 0
-Sense = Setting Stopped → Meaning Stopped
+Sense = RuleSetting Stopped → Meaning Stopped
 
 -- The action evaluates to what the expression evaluates to, where that many functions may be called, that many lets
 -- stand round it and these names, of these types, are bound by some of them. It has the width of the expression's type.
@@ -115,7 +115,7 @@ pub record Lowers (d : Checked) (functions depth : ℕ) (names : List Bound) (ty
   pub width : l.width ≡ width_if d of
   pub typed : (widths : List ℕ) → NamesFit depth names widths → ActionHasWidth (declared_by d) l.action widths l.width
   pub means : (inputs : List BitVector) (ports : Ports Stopped) (values : List Value) (locals : List BitVector) →
-      HaveWidths (input_widths d) inputs → PortsFit (register_widths d) ports → NamesStand d depth names types values locals →
+      HaveWidths (typed_input_widths d) inputs → PortsFit (register_widths d) ports → NamesStand d depth names types values locals →
       Simulates (register_widths d) (Stands d of) (sense (world d functions inputs ports) values) (evaluate (environment d inputs) ports l.action locals)
 
 -- expressions side by side, each of which stands one let deeper than the one before where the depth rises
@@ -153,11 +153,11 @@ parameter_names d level [] names = names
 parameter_names d level (t ∷ types) names = parameter_names d (level + 1) types (record { level = level; width = width_of d t } ∷ names)
 
 -- the body of a function stands where its parameters alone are bound, and may call the functions before it
-abbrev pub IsBody : Checked → (number : ℕ) → Function → Lowered → Type 0
+abbrev pub IsBody : Checked → (number : ℕ) → CheckedFunction → Lowered → Type 0
 IsBody d number f l =
     Lowers d number (length f.parameters) (parameter_names d 0 f.parameters []) (reverse f.parameters) f.result (λ s. meaning s f.body) l
 
 -- the body of the function that an operation calls, which is one of the first that many
 abbrev pub IsCallee : Checked → (functions : ℕ) → Operation → Lowered → Type 0
-IsCallee d functions (operation.Call number) l = (f : Function) → number < functions → slice_get d.functions number ≡ Some f → IsBody d number f l
+IsCallee d functions (operation.Call number) l = (f : CheckedFunction) → number < functions → slice_get d.functions number ≡ Some f → IsBody d number f l
 IsCallee d functions o l = Unit {0}

@@ -3,7 +3,7 @@
 -- them.
 use Rattle.std.specs.Prelude.{◌≡◌, ◌⊎◌, ℕ, ◌+◌, ◌<◌, ◌≤◌, Option, None, Some, IfSome, ⊤, List, [], ◌++◌, length, map, All}
 use Rattle.std.specs.List.{flat_map}
-use Rattle.koika_syntax.specs.Grammar.{IsName, IsNumber, IsLiteral, IsType, IsBlock, IsPart, IsSuffix, type_leaves, block_leaves, part_leaves, prefix_leaves, suffix_leaves, last_leaves, level, level_of}
+use Rattle.koika_syntax.specs.Grammar.{IsName, NumberFits, LiteralFits, IsType, IsBlock, IsPart, IsSuffix, type_leaves, block_leaves, part_leaves, prefix_leaves, suffix_leaves, last_leaves, level, level_of}
 use Rattle.koika_syntax.specs.inner.Grammar.{IsExpression, expression_leaves, statement_leaves, arm_leaves, operand_leaves, field_value_leaves}
 use Rattle.koika_syntax.specs.Tree.{Leaf, Terminal, keyword, symbol, word, name_leaves, number_leaves, literal_leaves, commas, each_after, unary_symbol, binary_symbol, comparison_word, extension_word, read_word, write_word}
 use Rattle.koika_syntax.specs.declared.keyword.Keyword.{Keyword}
@@ -95,7 +95,7 @@ no_prefix _ = ⊤
 
 -- a literal, a block, a suffix, the part of an update and a field of a struct
 abbrev pub OneLiteral : List Leaf → Type 0
-OneLiteral = Part IsLiteral literal_leaves
+OneLiteral = Part LiteralFits literal_leaves
 
 abbrev pub OneBlock : List Leaf → Type 0
 OneBlock = Part IsBlock block_leaves
@@ -129,7 +129,7 @@ abbrev pub UnpackWord : List Leaf → Type 0
 UnpackWord = Then (One (keyword keywords.Unpack)) (Then (One (symbol symbols.LeftParenthesis)) (Then (Part IsType type_leaves) (Then (One (symbol symbols.Comma)) (Then (Part IsExpression expression_leaves) (One (symbol symbols.RightParenthesis))))))
 
 abbrev pub ExtendWord : Extension → List Leaf → Type 0
-ExtendWord extension = Then (One (keyword (extension_word extension))) (Then (One (symbol symbols.LeftParenthesis)) (Then (Part IsExpression expression_leaves) (Then (One (symbol symbols.Comma)) (Then (Part IsNumber number_leaves) (One (symbol symbols.RightParenthesis))))))
+ExtendWord extension = Then (One (keyword (extension_word extension))) (Then (One (symbol symbols.LeftParenthesis)) (Then (Part IsExpression expression_leaves) (Then (One (symbol symbols.Comma)) (Then (Part NumberFits number_leaves) (One (symbol symbols.RightParenthesis))))))
 
 abbrev pub CompareWord : SignedComparison → List Leaf → Type 0
 CompareWord comparison = Then (One (keyword (comparison_word comparison))) (Then (One (symbol symbols.LeftParenthesis)) (Then (Part IsExpression expression_leaves) (Then (One (symbol symbols.Comma)) (Then (Part IsExpression expression_leaves) (One (symbol symbols.RightParenthesis))))))

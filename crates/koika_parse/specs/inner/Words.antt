@@ -1,7 +1,7 @@
 -- The words of each production, in the order of its parts, and of each part by its first token. They are the
 -- grammar's, as the clauses of private functions cite them.
 use Rattle.std.specs.Prelude.{◌≡◌, ◌⊎◌, Option, None, Some, IfSome, ⊤, List, map, All}
-use Rattle.koika_syntax.specs.Grammar.{IsName, IsNumber, IsLiteral, IsWidth, IsType, IsMember, IsField, IsConstant, IsBlock, IsDeclaration, IsDesign, block_leaves, declaration_leaves, result_leaves, tree_leaves, type_leaves, member_leaves, field_leaves, constant_leaves, rule_leaves, last_leaves}
+use Rattle.koika_syntax.specs.Grammar.{IsName, NumberFits, LiteralFits, IsWidth, IsType, IsMember, IsField, IsConstant, IsBlock, IsDeclaration, IsDesign, block_leaves, declaration_leaves, result_leaves, tree_leaves, type_leaves, member_leaves, field_leaves, constant_leaves, rule_leaves, last_leaves}
 use Rattle.koika_syntax.specs.inner.Grammar.{choice_leaves, constant_field_leaves}
 use Rattle.koika_syntax.specs.Tree.{Leaf, Terminal, name, keyword, symbol, commas, name_leaves, number_leaves, literal_leaves, width_leaves}
 use Rattle.koika_syntax.specs.declared.keyword.Keyword.{Keyword}
@@ -13,7 +13,7 @@ use Rattle.koika_parse.specs.inner.Parts.{IsConstantField, IsChoice}
 
 -- `[T; N]`
 abbrev pub ArrayTypeWord : List Leaf → Type 0
-ArrayTypeWord = Then (One (symbol symbols.LeftBracket)) (Then (Part IsType type_leaves) (Then (One (symbol symbols.Semicolon)) (Then (Part IsNumber number_leaves) (One (symbol symbols.RightBracket)))))
+ArrayTypeWord = Then (One (symbol symbols.LeftBracket)) (Then (Part IsType type_leaves) (Then (One (symbol symbols.Semicolon)) (Then (Part NumberFits number_leaves) (One (symbol symbols.RightBracket)))))
 
 -- the declarations, one for each word
 abbrev pub EnumWord : List Leaf → Type 0
@@ -29,7 +29,7 @@ abbrev pub InputWord : List Leaf → Type 0
 InputWord = Then (Then (One (keyword keywords.Input)) (Part IsName name_leaves)) (Then (One (symbol symbols.Colon)) (Then (Part IsType type_leaves) (One (symbol symbols.Semicolon))))
 
 abbrev pub TableWord : List Leaf → Type 0
-TableWord = Then (Then (One (keyword keywords.Table)) (Part IsName name_leaves)) (Then (One (symbol symbols.Colon)) (Then (Part IsWidth width_leaves) (Then (One (symbol symbols.Arrow)) (Then (Part IsWidth width_leaves) (Then (One (symbol symbols.LeftBrace)) (Then (Commas AnyMany IsLiteral literal_leaves) (One (symbol symbols.RightBrace))))))))
+TableWord = Then (Then (One (keyword keywords.Table)) (Part IsName name_leaves)) (Then (One (symbol symbols.Colon)) (Then (Part IsWidth width_leaves) (Then (One (symbol symbols.Arrow)) (Then (Part IsWidth width_leaves) (Then (One (symbol symbols.LeftBrace)) (Then (Commas AnyMany LiteralFits literal_leaves) (One (symbol symbols.RightBrace))))))))
 
 abbrev pub HostWord : List Leaf → Type 0
 HostWord = Then (Then (One (keyword keywords.Host)) (Part IsName name_leaves)) (Then (One (symbol symbols.Colon)) (Then (Part IsWidth width_leaves) (Then (One (symbol symbols.Arrow)) (Then (Part IsWidth width_leaves) (One (symbol symbols.Semicolon))))))

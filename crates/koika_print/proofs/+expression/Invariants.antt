@@ -1,12 +1,12 @@
 use Rattle.std.proofs.Common.{map, take}
 use Rattle.koika_syntax.specs.inner.Grammar.{arm_leaves, expression_leaves, field_value_leaves, operand_leaves, statement_leaves}
-use Rattle.koika_syntax.specs.Tree.{all_of, commas, joined, word}
+use Rattle.koika_syntax.specs.Tree.{all_of, commas, with_between, word}
 use Rattle.koika_syntax.specs.declared.keyword.Keyword.TheVariants as keywords
 use Rattle.koika_print.specs.inner.Printed.{Prints}
 use Rattle.koika_print.proofs.+expression.Given as goal
 
 abbrev pub invariant-expressions::arm_run-loop-number : goal.invariant-expressions::arm_run-loop-number
-invariant-expressions::arm_run-loop-number l = Prints l.fn.out l.out (joined (word keywords.Else) (map arm_leaves (take l.number l.arms)))
+invariant-expressions::arm_run-loop-number l = Prints l.fn.out l.out (with_between (word keywords.Else) (map arm_leaves (take l.number l.arms)))
 
 abbrev pub invariant-expressions::operand_run-loop-one : goal.invariant-expressions::operand_run-loop-one
 invariant-expressions::operand_run-loop-one l = Prints l.fn.out l.out (all_of (map operand_leaves (take l.one-index l.operands)))

@@ -3,9 +3,9 @@ use Rattle.std.specs.Prelude.{◌≡◌, ◌<◌, ◌^◌, ℕ, Bool, List, [], 
 use Rattle.std.specs.List.{range_with_len}
 use Rattle.btor2_text.specs.declared.line.Line.{Line}
 use Rattle.btor2_model.specs.Rules.{is_bad}
-use Rattle.btor2_model.specs.Run.{lines_of}
-use Rattle.btor2_model.specs.declared.rule.Rule.{Rule}
-use Rattle.btor2_net.specs.Translations.{HasLines, RunsAs, name_of}
+use Rattle.btor2_model.specs.Run.{lines_by_rule}
+use Rattle.btor2_model.specs.declared.rule.FormRule.{FormRule}
+use Rattle.btor2_net.specs.Translations.{HasLines, RunsAs, line_name}
 use Rattle.circuit_eval.specs.Run as wired
 use Rattle.circuit_eval.specs.declared.circuit.Wires.{Wires}
 use Rattle.koika_assert.specs.Bads.{ShowsViolations}
@@ -15,7 +15,7 @@ use Rattle.koika_top.specs.declared.bad_flags.BadFlags.{BadFlags}
 
 -- the text has fewer than 2^32 lines of each rule
 abbrev pub HasFewLines : List Line → Type 0
-HasFewLines lines = (test : Rule → Bool) → length (lines_of test lines) < 2 ^ 32
+HasFewLines lines = (test : FormRule → Bool) → length (lines_by_rule test lines) < 2 ^ 32
 
 -- the flags of the circuit are the violations of the text's bad lines
 pub record ShowsBads (lines : List Line) (c : Wires) : Type 0 where
@@ -26,8 +26,8 @@ pub record ShowsBads (lines : List Line) (c : Wires) : Type 0 where
 
 -- there is no bad line, and no circuit for them; or the circuit shows their violations, and they have these names
 abbrev pub AreBadsOf : List Line → Option BadFlags → Type 0
-AreBadsOf lines None = lines_of is_bad lines ≡ []
-AreBadsOf lines (Some flags) = ShowsBads lines flags.circuit × (flags.names ≡ map name_of (lines_of is_bad lines))
+AreBadsOf lines None = lines_by_rule is_bad lines ≡ []
+AreBadsOf lines (Some flags) = ShowsBads lines flags.circuit × (flags.names ≡ map line_name (lines_by_rule is_bad lines))
 
 -- the lines of the violations that a circuit shows, if there is one
 abbrev pub violations_by : Option BadFlags → InputsByCycle → ℕ → List ℕ

@@ -28,4 +28,4 @@ pub record StandsAfter (sim : Simulation) (stimulus : InputVectors) (cycle : ℕ
 -- a bit-level circuit has run on a stimulus for its inputs up to this cycle
 pub record AigStandsAfter (sim : aig_sims.Simulation) (stimulus : InputVectors) (cycle : ℕ) : Type 0 where
   pub steps : sim ≡ aig_sims.after_steps (inputs_of stimulus) cycle 0 (aig_sims.beginning sim.aig)
-  pub widths : stimulus.widths ≡ aigs.input_widths sim.aig.inputs
+  pub widths : stimulus.widths ≡ aigs.input_word_widths sim.aig.inputs

@@ -5,7 +5,7 @@ use Rattle.clap.specs.Walk.{Row, Rule, Text, first_of, one_of}
 use Rattle.clap.specs.Simple.{App, new_app, new_rule, on_top, with_rule}
 use Rattle.clap.specs.declared.builder.action.ArgAction.TheVariants.{SetTrue}
 use Rattle.koika_top.specs.Words.{engine_of}
-use Rattle.front_end.specs.NumberWords.{number_of}
+use Rattle.front_end.specs.NumberWords.{number_of_word}
 use Rattle.koika_top.specs.declared.engine_kind.EngineKind.{EngineKind}
 use Rattle.koika_top.specs.declared.shown.Shown.{Shown}
 use Rattle.koika_top.specs.declared.shown.Shown.TheVariants.{Report, Summary}
@@ -50,7 +50,7 @@ gen_app = with_rule (bare (codes "gen")) stages_rule
 
 -- the number that the first value of an argument writes
 abbrev pub number_in : Text → List Row → Option ℕ
-number_in id rows = option_and_then number_of (first_of id rows)
+number_in id rows = option_and_then number_of_word (first_of id rows)
 
 -- the engine that the first value of an argument names
 abbrev pub engine_in : Text → List Row → Option EngineKind

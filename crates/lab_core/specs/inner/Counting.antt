@@ -11,8 +11,8 @@ use Rattle.lab_core.specs.declared.refusal.Refusal.{Refusal}
 use Rattle.lab_core.specs.declared.refusal.Refusal.TheVariants as refusal
 use Rattle.lab_core.specs.declared.refusal.Seen.{Seen}
 use Rattle.lab_core.specs.declared.trial.Trial.{Trial}
-use Rattle.lab_core.specs.declared.trial.Verdict.{Verdict}
-use Rattle.lab_core.specs.declared.trial.Verdict.TheVariants as verdict
+use Rattle.lab_core.specs.declared.trial.TrialVerdict.{TrialVerdict}
+use Rattle.lab_core.specs.declared.trial.TrialVerdict.TheVariants as verdict
 
 -- ---- refusals as keys
 
@@ -61,7 +61,7 @@ with_cause cycle n (cause.Clash a rule earlier) =
     record n { clashed = n.clashed + 1; unwatched = first_of n.unwatched cycle; refusals = with_refusal cycle (cause.Clash a rule earlier) n.refusals }
 
 -- the numbers after a cycle in which the rule has this verdict
-abbrev pub with_verdict : ℕ → RuleNumbers → Option Verdict → RuleNumbers
+abbrev pub with_verdict : ℕ → RuleNumbers → Option TrialVerdict → RuleNumbers
 with_verdict cycle n (Some verdict.Fired) = record n { fired = n.fired + 1 }
 with_verdict cycle n (Some (verdict.Refused c)) = with_cause cycle n c
 with_verdict cycle n None = record n { untried = n.untried + 1; unwatched = first_of n.unwatched cycle }
@@ -76,5 +76,5 @@ pub record AreBelow (cycle : ℕ) (n : RuleNumbers) : Type 0 where
   pub refusals : All (λ (c : Counted). c.count < cycle) n.refusals
 
 -- the verdicts of rules by number
-abbrev pub verdicts_of : ℕ → List Trial → List (Option Verdict)
+abbrev pub verdicts_of : ℕ → List Trial → List (Option TrialVerdict)
 verdicts_of rules tried = map (λ rule. verdict_in rule tried) (range_with_len 0 rules)

@@ -2,10 +2,10 @@
 use Rattle.std.specs.Prelude.{ℕ, List, [], Option, Some, None, if◌then◌else◌}
 use Rattle.typed_core.specs.declared.design.Parts.{Parts}
 use Rattle.lab_core.specs.Why.{is_asked, untried_line}
-use Rattle.lab_core.specs.declared.trial.Verdict.{Verdict}
+use Rattle.lab_core.specs.declared.trial.TrialVerdict.{TrialVerdict}
 
 -- the line of a rule by its verdict, if it has none and is asked for
-abbrev pub asked_line : Parts → Option ℕ → ℕ → Option Verdict → List ℕ
+abbrev pub asked_line : Parts → Option ℕ → ℕ → Option TrialVerdict → List ℕ
 asked_line design only rule (Some v) = []
 asked_line design only rule None = if is_asked only rule then untried_line design rule else []
 

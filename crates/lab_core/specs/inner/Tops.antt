@@ -7,13 +7,13 @@ use Rattle.typed_core.specs.declared.access.Event.{Event}
 use Rattle.one_rule.specs.declared.cycle.Fired.{Fired}
 use Rattle.attempt_log.specs.Verdict.{first_clash}
 use Rattle.lab_core.specs.declared.trial.Trial.{Trial}
-use Rattle.lab_core.specs.declared.trial.Verdict.{Verdict}
-use Rattle.lab_core.specs.declared.trial.Verdict.TheVariants as verdict
+use Rattle.lab_core.specs.declared.trial.TrialVerdict.{TrialVerdict}
+use Rattle.lab_core.specs.declared.trial.TrialVerdict.TheVariants as verdict
 use Rattle.lab_core.specs.declared.tried.Top.{Top}
 
 -- ---- the rules that fired
 
-abbrev pub fired_by : Verdict → ℕ → List Event → List Fired
+abbrev pub fired_by : TrialVerdict → ℕ → List Event → List Fired
 fired_by verdict.Fired rule events = record { rule = rule; events = events } ∷ []
 fired_by (verdict.Refused c) rule events = []
 
@@ -23,7 +23,7 @@ fired_in [] = []
 fired_in (t ∷ tried) = fired_by t.verdict t.rule t.events ++ fired_in tried
 
 -- the first access of a rule that fired with which an access clashes
-abbrev pub clash_by : Access → Verdict → List Event → Option Access
+abbrev pub clash_by : Access → TrialVerdict → List Event → Option Access
 clash_by access verdict.Fired events = first_clash access events
 clash_by access (verdict.Refused c) events = None
 

@@ -3,7 +3,7 @@ use Rattle.std.specs.Prelude.{◌≡◌, ℕ, Bool, true, false, List, codes, Op
 use Rattle.clap.specs.Walk.{Row, Rule, Text, first_of, one_of}
 use Rattle.clap.specs.Simple.{App, new_app, new_rule, on_top, with_rule}
 use Rattle.clap.specs.declared.builder.action.ArgAction.TheVariants.{SetTrue}
-use Rattle.front_end.specs.NumberWords.{number_of}
+use Rattle.front_end.specs.NumberWords.{number_of_word}
 use Rattle.lab_top.specs.Words.{name_of}
 use Rattle.lab_top.specs.declared.words.Options.{Options}
 
@@ -37,7 +37,7 @@ options_app name =
 
 -- the number that the first value of an argument writes
 abbrev pub number_in : Text → List Row → Option ℕ
-number_in id rows = option_and_then number_of (first_of id rows)
+number_in id rows = option_and_then number_of_word (first_of id rows)
 
 -- the name that the first value of an argument is
 abbrev pub name_in : Text → List Row → Option (List ℕ)

@@ -4,7 +4,7 @@ use Rattle.kw_bits.specs.BitVector.{BitVector}
 use Rattle.kw_bits.specs.Operators as op
 use Rattle.net_graph.specs.Values.{Sources, value_at}
 use Rattle.net_graph.specs.declared.node.NetOp.{NetOp}
-use Rattle.typed_core.specs.Evaluation.{Ending, Environment, Externs, Part, Ports, Stop, Value, answer_of, apply_one, apply_two, choose, comes_to, entry_of, evaluate, unit, ◌>>=◌}
+use Rattle.typed_core.specs.Evaluation.{Ending, Environment, Externs, Evaluation, Ports, Stop, Value, answer_of, apply_one, apply_two, choose, comes_to, entry_of, evaluate, unit, ◌>>=◌}
 use Rattle.typed_core.specs.Valid.{ActionHasWidth, Declarations, HostHasWidth, IsPort, OneHasWidth, TableHasWidth, TwoHasWidth}
 use Rattle.typed_core.specs.declared.access.Event.{Event}
 use Rattle.typed_core.specs.declared.action.Action.{Action}
@@ -66,7 +66,7 @@ ComesTo widths values run wire events (Stop cause) = is_up values run.fires ≡ 
 
 -- The wires of a part: where the rule runs before it, they have what the part evaluates to, and where it doesn't run,
 -- it doesn't run afterwards and the log stays.
-pub record Means (widths : List ℕ) (values : List BitVector) (old new : RuleNet) (wire : Option ℕ) (part : Part BitVector Stopped) : Type 0 where
+pub record Means (widths : List ℕ) (values : List BitVector) (old new : RuleNet) (wire : Option ℕ) (part : Evaluation BitVector Stopped) : Type 0 where
   pub runs : (events : List Event) → is_up values old.fires ≡ true → LogStandsFor widths values old.log events
       → ComesTo widths values new wire (part events).events (part events).ending
   pub stands_still : is_up values old.fires ≡ false → (is_up values new.fires ≡ false) × SameLog widths values old.log new.log
@@ -85,7 +85,7 @@ CanBeOperand d net part locals = (widths : List ℕ) × (width : ℕ) × HaveWir
 
 -- what something evaluates to, by what it is evaluated in
 abbrev pub Meaning : Type 0
-Meaning = Environment → Ports Stopped → List BitVector → Part BitVector Stopped
+Meaning = Environment → Ports Stopped → List BitVector → Evaluation BitVector Stopped
 
 -- the wires that were made of something with such widths and such a meaning
 pub record IsMade (d : Declarations) (ports : PortWires) (old : List NetOp) (before : RuleNet) (has_width : List ℕ → ℕ → Type 0) (meaning : Meaning) (locals : List ℕ) (new : List NetOp) (after : RuleNet) (wire : Option ℕ) : Type 0 where

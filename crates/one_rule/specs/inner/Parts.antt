@@ -1,7 +1,7 @@
 -- How the evaluator goes through the parts of a rule's body: each leaves its value, or what interrupts it, in one slot.
 use Rattle.std.specs.Prelude.{◌≡◌, ℕ, ◌≤◌, Bool, true, false, List, ◌∷◌}
 use Rattle.kw_bits.specs.BitVector.{BitVector}
-use Rattle.typed_core.specs.Evaluation.{Part, Ports, Progress, Stop, Value, unit, ◌>>=◌}
+use Rattle.typed_core.specs.Evaluation.{Evaluation, Ports, Progress, Stop, Value, unit, ◌>>=◌}
 use Rattle.typed_core.specs.Fits.{EventsFit, PortsFit}
 use Rattle.typed_core.specs.Valid.{ActionHasWidth, Declarations, TwoHasWidth}
 use Rattle.typed_core.specs.Widths.{HaveWidths}
@@ -29,7 +29,7 @@ Interrupts stands_for (interrupt.Stop cause) p = stands_for p.events × (p.endin
 Interrupts stands_for interrupt.NoMemory p = Unit {0}
 
 -- the second part goes on with the value of the first, where it has one
-abbrev pub bind : Part BitVector Stopped → (BitVector → Part BitVector Stopped) → Part BitVector Stopped
+abbrev pub bind : Evaluation BitVector Stopped → (BitVector → Evaluation BitVector Stopped) → Evaluation BitVector Stopped
 bind first next = first >>= next
 
 -- what is left says what the part evaluates to, and the events after it are those that are stood for

@@ -1,7 +1,7 @@
 use Rattle.std.proofs.Common.{◌≡◌, take}
 use Rattle.std.specs.Prelude.{sum}
-use Rattle.aig_blast.specs.Aigs.{input_widths}
+use Rattle.aig_blast.specs.Aigs.{input_word_widths}
 use Rattle.aiger_text.proofs.print.count_inputs.Given as goal
 
 abbrev pub invariant-loop-word : goal.invariant-loop-word
-invariant-loop-word l = l.count ≡ sum (input_widths (take l.word-index l.words))
+invariant-loop-word l = l.count ≡ sum (input_word_widths (take l.word-index l.words))

@@ -2,14 +2,14 @@ use Rattle.std.proofs.Common.{◌+◌, ◌++◌, List, ℕ, Option, ap, ◌∷�
 use Rattle.std.proofs.lemmas.List.{nil_from_length}
 use Rattle.aiger_text.specs.Runs.{words_from}
 use Rattle.aiger_text.specs.inner.RunsSoFar.{run_of}
-use Rattle.aiger_text.proofs.Running.{words_from-end, words_from-step, words_of-first, words_of-none}
+use Rattle.aiger_text.proofs.Running.{words_from-end, words_from-step, words_of_bits-first, words_of_bits-none}
 use Rattle.aiger_text.proofs.runs.words_of.Goals as goal
 
 pub returns-in_default : goal.returns-in_default
-returns-in_default c = words_of-none c.args.kind c.args.symbols.now c.new-words.result.items (nil_from_length c.args.symbols.now c.in_default.ensures.cases) c.new-words.ensures.items
+returns-in_default c = words_of_bits-none c.args.kind c.args.symbols.now c.new-words.result.items (nil_from_length c.args.symbols.now c.in_default.ensures.cases) c.new-words.ensures.items
 
 pub loop-k-init : goal.loop-k-init
-loop-k-init c = words_of-first c.args.kind c.args.symbols.now c.in-Some.others.now c.in-Some.first.now (run_of c.in_ok-run.run') c.new-words.result.items c.in-Some.ensures.cases.0 c.in_ok-run.ensures c.new-words.ensures.items
+loop-k-init c = words_of_bits-first c.args.kind c.args.symbols.now c.in-Some.others.now c.in-Some.first.now (run_of c.in_ok-run.run') c.new-words.result.items c.in-Some.ensures.cases.0 c.in_ok-run.ensures c.new-words.ensures.items
 
 pub loop-k-preserved : goal.loop-k-preserved
 loop-k-preserved c =

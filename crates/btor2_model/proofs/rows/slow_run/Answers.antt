@@ -8,7 +8,7 @@ use Rattle.btor2_text.specs.Printable.{ArePrintable}
 use Rattle.btor2_model.specs.Acceptance.{IsAccepted}
 use Rattle.btor2_model.specs.Rules.{is_input, is_state}
 use Rattle.btor2_model.specs.Scope.{behind_all, no_lines}
-use Rattle.btor2_model.specs.Run.{Values, first_row, first_values, flag_ids, ids_of, next_values, row_behind, states_at, values_in, values_with, width_in}
+use Rattle.btor2_model.specs.Run.{Values, first_row, first_state_values, flag_ids, ids_of, next_values, row_behind, states_at, values_in, values_with, width_in}
 use Rattle.btor2_model.specs.inner.SlowRun.{InputsHave, IsFilled, Knows, StatesHave}
 use Rattle.one_rule.proofs.Fitting.{widths-same}
 use Rattle.btor2_model.proofs.Declared.{fine-lines}
@@ -22,7 +22,7 @@ loop-step-init c =
     let same : c.as_slice-lines.result.now ≡ c.args.text.now = c.as_slice-lines.ensures ∙ c.lines.ensures.lines in
     let first = if_some-at (λ (row : Row). row ≡ first_row c.as_slice-lines.result.now) c.in_ok-first.field-0 c.in-Some.first c.in_ok-first.ensures.row c.in-Some.is in
     record {
-      states = subst (λ (lines : List Line). Knows c.in_ok-states.states (first_values lines)) same c.in_ok-states.ensures.known;
+      states = subst (λ (lines : List Line). Knows c.in_ok-states.states (first_state_values lines)) same c.in_ok-states.ensures.known;
       rows = c.in_ok-push.ensures.ok ∙ ap (λ (rows : List Row). rows ++ c.in-Some.first ∷ []) c.new-rows.ensures ∙ ap (λ (row : Row). row ∷ []) (first ∙ ap first_row same);
       have = λ fits. subst (λ (lines : List Line). StatesHave lines c.in_ok-states.states) same (c.in_ok-states.ensures.have (subst ArePrintable (sym same) c.lines.ensures.accepted.forms));
     }

@@ -2,7 +2,7 @@ use Rattle.std.proofs.Common.{◌≡◌, ℕ, false, All, subst, ◌∙◌, sym}
 use Rattle.std.proofs.lemmas.List.{take_all}
 use Rattle.std.proofs.lemmas.List.Elements.{All-nil}
 use Rattle.btor2_model.specs.Rules.{is_state}
-use Rattle.btor2_model.specs.Run.{Values, first_values, ids_of, no_bits, values_at, width_in}
+use Rattle.btor2_model.specs.Run.{Values, first_state_values, ids_of, no_bits, values_at, width_in}
 use Rattle.btor2_model.specs.SlowRun.{HasValue}
 use Rattle.btor2_model.specs.inner.SlowRun.{Knows, known_value}
 use Rattle.btor2_model.proofs.Evaluation.{Knows-more, Knows-nothing}
@@ -12,7 +12,7 @@ use Rattle.btor2_model.proofs.states.first_values.Goals as goal
 
 pub loop-state-init : goal.loop-state-init
 loop-state-init c = record {
-  known = Knows-nothing c.new-states.result (first_values c.args.lines.now) c.new-states.ensures;
+  known = Knows-nothing c.new-states.result (first_state_values c.args.lines.now) c.new-states.ensures;
   have = λ forms. All-nil (λ id. HasValue (known_value c.new-states.result id) (width_in c.args.lines.now id));
 }
 
@@ -22,7 +22,7 @@ loop-state-preserved c =
     let nothing : Values = λ _. no_bits in
     let before = subst (λ (inputs : Values). Knows c.in_ok-values.values (values_at lines (record { inputs = inputs; states = nothing }))) (no-inputs lines) (c.in_ok-values.ensures.known nothing (Knows-nothing c.new.result nothing c.new.ensures)) in
     record {
-      known = Knows-more c.loop-state.states c.set.new.self _ c.first_value.result (first_values lines) c.in_ok-set.ensures c.loop-state.invariant.known
+      known = Knows-more c.loop-state.states c.set.new.self _ c.first_value.result (first_state_values lines) c.in_ok-set.ensures c.loop-state.invariant.known
           (c.first_value.ensures.known (values_at lines (record { inputs = nothing; states = nothing })) before);
       have = λ forms.
           let items = c.as_slice-state-items.result.now in

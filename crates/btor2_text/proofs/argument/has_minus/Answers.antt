@@ -1,7 +1,7 @@
 use Rattle.btor2_text.proofs.Arguments.{SoFar-next, SoFar-none, SoFar-end}
 use Rattle.std.proofs.Common.{sym, ◌∙◌}
 use Rattle.std.proofs.lemmas.Bool.{false≢true}
-use Rattle.btor2_text.specs.declared.kind.Kind.TheVariants as kinds
+use Rattle.btor2_text.specs.declared.kind.ArgumentKind.TheVariants as kinds
 use Rattle.btor2_text.proofs.argument.has_minus.Goals as goal
 
 pub loop-kind-preserved : goal.loop-kind-preserved

@@ -1,5 +1,5 @@
 use Rattle.btor2_text.proofs.Arguments.{Reached-next, Reached-none, Reached-end, Reached-start}
-use Rattle.btor2_text.specs.declared.kind.Kind.TheVariants as kinds
+use Rattle.btor2_text.specs.declared.kind.ArgumentKind.TheVariants as kinds
 use Rattle.btor2_text.proofs.argument.read_arguments.Goals as goal
 
 pub loop-kind-preserved : goal.loop-kind-preserved

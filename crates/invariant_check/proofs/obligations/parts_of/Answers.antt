@@ -1,7 +1,7 @@
 use Rattle.std.proofs.Common.{ℕ, ◌+◌, List, length, ap, sym, subst, ◌∙◌, arith, sum}
 use Rattle.std.specs.List.{All}
 use Rattle.clause_check.specs.Clauses.{IsLiteral}
-use Rattle.aig_blast.specs.Aigs.{AigParts, IsAig, input_widths, latch_widths, variables}
+use Rattle.aig_blast.specs.Aigs.{AigParts, IsAig, input_word_widths, latch_widths, variables}
 use Rattle.aig_blast.specs.declared.aig.InputWord.{InputWord}
 use Rattle.aig_blast.specs.declared.aig.OutputBit.{OutputBit}
 use Rattle.invariant_check.specs.inner.Kept.{IsClaim}
@@ -38,7 +38,7 @@ cone_of-requires-clause-few c =
     let latches = c.as_slice-2.ensures ∙ ap (λ (x : AigParts). x.latches) c.aig.view_is in
     let nexts = c.in_ok-nexts.ensures ∙ ap next_lits latches in
     let inputs = c.count_inputs-inputs.ensures
-    ∙ ap (λ (ws : List InputWord). sum (input_widths ws)) (c.as_slice.ensures
+    ∙ ap (λ (ws : List InputWord). sum (input_word_widths ws)) (c.as_slice.ensures
     ∙ ap (λ (x : AigParts). x.inputs) c.aig.view_is) in
     omega (
       arith,
@@ -67,7 +67,7 @@ cone_of-requires-clause-stand c =
     let nexts = c.in_ok-nexts.ensures
     ∙ ap next_lits (c.as_slice-2.ensures ∙ ap (λ (x : AigParts). x.latches) c.aig.view_is) in
     let inputs = c.count_inputs-inputs.ensures
-    ∙ ap (λ (ws : List InputWord). sum (input_widths ws)) (c.as_slice.ensures
+    ∙ ap (λ (ws : List InputWord). sum (input_word_widths ws)) (c.as_slice.ensures
     ∙ ap (λ (x : AigParts). x.inputs) c.aig.view_is) in
     let count = same_sources a invariant c.args.claimed.now valid claim c.count_inputs-inputs.result c.len.result
     c.in_ok-nexts.nexts.items inputs nexts (c.len.ensures ∙ c.in_ok-nexts.nexts.ok.0) in
@@ -90,7 +90,7 @@ cone_of-requires-clause-below c =
     let nexts = c.in_ok-nexts.ensures
     ∙ ap next_lits (c.as_slice-2.ensures ∙ ap (λ (x : AigParts). x.latches) c.aig.view_is) in
     let inputs = c.count_inputs-inputs.ensures
-    ∙ ap (λ (ws : List InputWord). sum (input_widths ws)) (c.as_slice.ensures
+    ∙ ap (λ (ws : List InputWord). sum (input_word_widths ws)) (c.as_slice.ensures
     ∙ ap (λ (x : AigParts). x.inputs) c.aig.view_is) in
     let claims = c.in_ok-claims.ensures
     ∙ ap (λ (os : List OutputBit). claimed_lits os c.args.claimed.now) (c.as_slice-3.ensures
@@ -134,7 +134,7 @@ returns c =
     let nexts' = c.in_ok-nexts.ensures
     ∙ ap next_lits (c.as_slice-2.ensures ∙ ap (λ (x : AigParts). x.latches) c.aig.view_is) in
     let inputs' = c.count_inputs-inputs.ensures
-    ∙ ap (λ (ws : List InputWord). sum (input_widths ws)) (c.as_slice.ensures
+    ∙ ap (λ (ws : List InputWord). sum (input_word_widths ws)) (c.as_slice.ensures
     ∙ ap (λ (x : AigParts). x.inputs) c.aig.view_is) in
     let claims' = c.in_ok-claims.ensures
     ∙ ap (λ (os : List OutputBit). claimed_lits os claimed) (c.as_slice-3.ensures

@@ -6,7 +6,7 @@ use Rattle.typed_core.specs.declared.design.Parts.{Parts}
 use Rattle.one_rule.specs.Rows.{RowsFit}
 use Rattle.one_rule.specs.Run.{run_of}
 use Rattle.one_rule.specs.Stimulus.{InputVectors, inputs_of}
-use Rattle.journal_check.specs.Checking.{IsFaultOf, IsFirstFault, opening_of}
+use Rattle.journal_check.specs.Checking.{IsFaultOf, IsFirstJournalFault, opening_of}
 use Rattle.journal_check.specs.declared.journal.Batch.{Batch}
 use Rattle.journal_check.proofs.RunsOfBatches.{fault_onto, last_of_run_fit, next_faulty, next_good, none_rechecked}
 use Rattle.journal_check.proofs.batches.recheck.Goals as goal
@@ -42,7 +42,7 @@ returns-in_err-recheck_batch-clause-fault c =
     let is : batch ≡ get_or c.args.journal.batches l.batch-index batch = subst (λ (bs : List Batch). batch ≡ get_or bs l.batch-index batch) l.invariant.items c.batch-item.is in
     let p = err_from_is_err_and c.from_residual-in_err-recheck_batch.result c.from_residual-in_err-recheck_batch.ensures.1 in
     rw (p.1, p.2)
-    (fault_onto (IsFaultOf c.args.n l.from (opening_of design stimulus regs batch) batch) (IsFirstFault design stimulus c.args.n c.args.journal) c.in_err-recheck_batch.field-0.0
+    (fault_onto (IsFaultOf c.args.n l.from (opening_of design stimulus regs batch) batch) (IsFirstJournalFault design stimulus c.args.n c.args.journal) c.in_err-recheck_batch.field-0.0
     (λ fault wrong. next_faulty design stimulus c.args.n c.args.journal l.invariant.so_far batch regs inside is c.in_ok-regs.ensures fault wrong)
     c.in_err-recheck_batch.ensures.fault)
 

@@ -2,9 +2,9 @@ use Rattle.std.proofs.Common.{◌≡◌, ◌+◌, ◌<◌, ◌≤◌, List, [], 
 use Rattle.std.proofs.lemmas.List.{length-append}
 use Rattle.std.proofs.lemmas.Option.{slice_get_past}
 use Rattle.koika_check.specs.Typing.{IsType}
-use Rattle.koika_check.specs.declared.checked.Function.{Function}
+use Rattle.koika_check.specs.declared.checked.CheckedFunction.{CheckedFunction}
 use Rattle.koika_check.specs.declared.typed.Operation.{Operation}
-use Rattle.koika_check.specs.declared.typed.Step.{Step}
+use Rattle.koika_check.specs.declared.typed.TypedStep.{TypedStep}
 use Rattle.koika_check.specs.declared.typed.Typed.{Typed}
 use Rattle.koika_check.specs.declared.typed.Typed.TheVariants as typed
 use Rattle.koika_check.specs.declared.typed.ValueType.{ValueType}
@@ -83,7 +83,7 @@ lower_expression-returns-in-Block t c =
     (λ l made types of design are h.
     at_form c.args.design.now c.args.functions c.args.depth c.args.names.now types c.args.of.now (typed.Block c.in-Block.steps) of l c.in-Block.is h
     (block-lowered c.args.design.now c.args.functions c.args.depth c.args.names.now c.in-Block.steps l
-    (subst (λ (steps : List Step). AreLoweredSteps c.args.design.now c.args.functions c.args.depth c.args.names.now steps l) c.as_slice.ensures made)
+    (subst (λ (steps : List TypedStep). AreLoweredSteps c.args.design.now c.args.functions c.args.depth c.args.names.now steps l) c.as_slice.ensures made)
     types of design are))
     c.lower_steps.ensures
 
@@ -123,8 +123,8 @@ lower_steps-lower_expression-requires-in-Give t c =
 pub lower_steps-returns-in_ok-second-in-Do : goal.lower_steps-returns-in_ok-second-in-Do
 lower_steps-returns-in_ok-second-in-Do t c =
     on_ok c.one_after_another.result
-    (λ l h. subst (λ (steps : List Step). AreLoweredSteps c.args.design.now c.args.functions c.args.depth c.args.names.now steps l)
-    (sym (c.in-Some.ensures.cases.0 ∙ ap (λ (s : Step). s ∷ c.in-Some.rest.now) c.in-Do.is))
+    (λ l h. subst (λ (steps : List TypedStep). AreLoweredSteps c.args.design.now c.args.functions c.args.depth c.args.names.now steps l)
+    (sym (c.in-Some.ensures.cases.0 ∙ ap (λ (s : TypedStep). s ∷ c.in-Some.rest.now) c.in-Do.is))
     (do-lowered c.args.design.now c.args.functions c.args.depth c.args.names.now c.in-Do.value c.in-Some.rest.now c.in_ok-first-in-Do.first c.in_ok-second-in-Do.second l
     c.in_ok-first-in-Do.ensures c.in_ok-second-in-Do.ensures h))
     c.one_after_another.ensures
@@ -132,8 +132,8 @@ lower_steps-returns-in_ok-second-in-Do t c =
 pub lower_steps-returns-in-Give : goal.lower_steps-returns-in-Give
 lower_steps-returns-in-Give t c =
     on_ok c.lower_expression-in-Give.result
-    (λ l h. subst (λ (steps : List Step). AreLoweredSteps c.args.design.now c.args.functions c.args.depth c.args.names.now steps l)
-    (sym (c.in-Some.ensures.cases.0 ∙ ap (λ (s : Step). s ∷ c.in-Some.rest.now) c.in-Give.is))
+    (λ l h. subst (λ (steps : List TypedStep). AreLoweredSteps c.args.design.now c.args.functions c.args.depth c.args.names.now steps l)
+    (sym (c.in-Some.ensures.cases.0 ∙ ap (λ (s : TypedStep). s ∷ c.in-Some.rest.now) c.in-Give.is))
     (give-lowered c.args.design.now c.args.functions c.args.depth c.args.names.now c.in-Give.value c.in-Some.rest.now l h))
     c.lower_expression-in-Give.ensures
 
@@ -161,20 +161,20 @@ called_body-returns-in-Some t c =
     let at : slice_get d.functions number ≡ Some f = item-at d.functions c.as_slice.result.now number f c.as_slice.ensures c.in-Some.ensures.lookup.3.0 c.in-Some.ensures.lookup.1 in
     on_ok c.lower_body.result
     (λ body made design. subst (λ (o : Operation). IsCallee d c.args.functions o body) (sym c.in-Call.is)
-    (λ (g : Function) below at'.
+    (λ (g : CheckedFunction) below at'.
     let same : f ≡ g = let e = sym at ∙ at' in cc in
-    subst (λ (h : Function). IsBody d number h body) same (made design (omega arith) (ap (λ (bs : List Bound). parameter_names d 0 f.parameters bs) c.empty.ensures))))
+    subst (λ (h : CheckedFunction). IsBody d number h body) same (made design (omega arith) (ap (λ (bs : List Bound). parameter_names d 0 f.parameters bs) c.empty.ensures))))
     c.lower_body.ensures
 
 pub called_body-returns-in_default-get : goal.called_body-returns-in_default-get
 called_body-returns-in_default-get t c design =
     let d = c.args.design.now in
     subst (λ (o : Operation). IsCallee d c.args.functions o c.unit.result) (sym c.in-Call.is)
-    (λ (f : Function) below at. elim c.in_default-get.branch [
+    (λ (f : CheckedFunction) below at. elim c.in_default-get.branch [
       | called_body-in_default-get-via-in-Some+else-number-functions w ↦ absurd (omega (arith, below, w.if-number-functions.false))
       | called_body-in_default-get-via-in_default-get w ↦
           let none : slice_get d.functions c.in-Call.number ≡ None =
-          slice_get_past d.functions c.in-Call.number (subst (λ (fs : List Function). length fs ≤ c.in-Call.number) c.as_slice.ensures w.in_default-get.ensures.lookup.3) in
+          slice_get_past d.functions c.in-Call.number (subst (λ (fs : List CheckedFunction). length fs ≤ c.in-Call.number) c.as_slice.ensures w.in_default-get.ensures.lookup.3) in
           absurd (let e = sym none ∙ at in cc)
     ])
 

@@ -1,6 +1,6 @@
 use Rattle.std.proofs.Common.{◌≡◌, ◌<◌, None, [], ap, arith, get_or, length, subst, sym, ◌∙◌}
 use Rattle.koika_check.specs.Typing.{HasType}
-use Rattle.koika_check.specs.declared.checked.Rule.{Rule}
+use Rattle.koika_check.specs.declared.checked.CheckedRule.{CheckedRule}
 use Rattle.koika_lower.specs.inner.Rules.{IsRule}
 use Rattle.koika_lower.proofs.Designs.{rule-is}
 use Rattle.koika_lower.proofs.Lists.{pairs-more}
@@ -15,5 +15,5 @@ loop-rule-preserved c =
     let is : r ≡ get_or d.rules i r = c.rule-item.is ∙ ap (λ rs. get_or rs i r) c.as_slice-rules.ensures in
     pairs-more (IsRule d) d.rules i r c.loop-rule.all c.push.new.self _ within is c.loop-rule.invariant c.in_ok-push.ensures.ok
     (rule-is d c.len-functions.result c.empty.result r c.in_ok-from_slice.field-0 c.in_ok-body.body c.requires c.len-functions.ensures c.empty.ensures
-    (subst (λ (x : Rule). HasType d (length d.functions) x.body [] None) (sym is) (c.requires.rules i r within))
+    (subst (λ (x : CheckedRule). HasType d (length d.functions) x.body [] None) (sym is) (c.requires.rules i r within))
     (c.in_ok-from_slice.ensures ∙ c.as_slice.ensures) c.in_ok-body.ensures)

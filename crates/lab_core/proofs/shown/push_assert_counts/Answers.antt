@@ -1,7 +1,7 @@
 use Rattle.std.proofs.Common.{◌++◌, ◌∷◌, [], ℕ, List, ap, ◌∙◌}
 use Rattle.std.specs.Prelude.{codes, decimal}
 use Rattle.std.specs.List.{flat_map}
-use Rattle.journal_check.specs.Printing.{joined, spaced}
+use Rattle.journal_check.specs.Printing.{joined_tokens, spaced}
 use Rattle.lab_core.specs.Numbers.{RuleNumbers, unwatched_count}
 use Rattle.lab_core.proofs.Grown.{on_ok}
 use Rattle.lab_core.proofs.Texts.{five_in_turn}
@@ -22,5 +22,5 @@ returns c =
     (c.in_ok-push_count.ensures ∙ ap (λ (t : List ℕ). t ++ flat_map spaced held)
     (c.in_ok-push_token.ensures ∙ ap (λ (t : List ℕ). t ++ spaced name) c.in_ok-extend_from_slice.ensures.ok)))
     ∙ five_in_turn text (codes "assert") name held violated (last c.unwatched_count.result)
-    ∙ ap (λ (k : ℕ). text ++ joined (codes "assert" ∷ name ∷ (held ++ (violated ++ last k)))) c.unwatched_count.ensures
-    ∙ ap (λ (m : RuleNumbers). text ++ joined (codes "assert" ∷ name ∷ codes "held" ∷ decimal m.aborted ∷ codes "violated" ∷ decimal m.fired ∷ last (unwatched_count n))) c.counts.view_is)
+    ∙ ap (λ (k : ℕ). text ++ joined_tokens (codes "assert" ∷ name ∷ (held ++ (violated ++ last k)))) c.unwatched_count.ensures
+    ∙ ap (λ (m : RuleNumbers). text ++ joined_tokens (codes "assert" ∷ name ∷ codes "held" ∷ decimal m.aborted ∷ codes "violated" ∷ decimal m.fired ∷ last (unwatched_count n))) c.counts.view_is)

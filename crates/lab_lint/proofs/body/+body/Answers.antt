@@ -2,7 +2,7 @@ use Rattle.std.proofs.Common.{◌≡◌, ◌≤◌, ◌++◌, ◌∙◌, [], Lis
 use Rattle.std.specs.Prelude.{slice_get}
 use Rattle.std.proofs.lemmas.Bool.{ltb-false}
 use Rattle.std.proofs.lemmas.Option.{slice_get_past}
-use Rattle.koika_check.specs.declared.checked.Function.{Function}
+use Rattle.koika_check.specs.declared.checked.CheckedFunction.{CheckedFunction}
 use Rattle.koika_check.specs.declared.typed.Typed.{Typed}
 use Rattle.koika_lower.proofs.Bodies.{item-at}
 use Rattle.lab_core.proofs.Grown.{on_ok}
@@ -27,7 +27,7 @@ pub push_body-returns-in_default-2 : goal.push_body-returns-in_default-2
 push_body-returns-in_default-2 t c =
     let d = c.args.design.now in
     let short : length c.as_slice.result.now ≤ c.args.number = ltb-false c.args.number (length c.as_slice.result.now) (sym c.get.ensures.lookup.0 ∙ ap (λ o. is_some o) c.in_default.is) in
-    let none : slice_get d.functions c.args.number ≡ None = slice_get_past d.functions c.args.number (subst (λ (fs : List Function). length fs ≤ c.args.number) c.as_slice.ensures short) in
+    let none : slice_get d.functions c.args.number ≡ None = slice_get_past d.functions c.args.number (subst (λ (fs : List CheckedFunction). length fs ≤ c.args.number) c.as_slice.ensures short) in
     sym (ap (λ (p : Part). c.args.all.now ++ p.all) (own-none d c.args.functions c.args.number (inl none)) ∙ append-nil c.args.all.now)
 
 pub push_choice-returns-in-None : goal.push_choice-returns-in-None

@@ -1,7 +1,7 @@
 use Rattle.std.proofs.Common.{◌≡◌, ◌≤◌, ◌∙◌, List, Some, None, length, ap, subst, sym}
 use Rattle.std.specs.Prelude.{IfOk, slice_get}
 use Rattle.std.proofs.lemmas.Option.{slice_get_past}
-use Rattle.koika_check.specs.declared.checked.Rule.{Rule}
+use Rattle.koika_check.specs.declared.checked.CheckedRule.{CheckedRule}
 use Rattle.koika_lower.proofs.Bodies.{item-at}
 use Rattle.lab_lint.specs.Occurrences.{Part}
 use Rattle.lab_lint.proofs.Bodies.{rule-none, rule-some}
@@ -17,5 +17,5 @@ returns-in-Some c =
 pub returns-in-None : goal.returns-in-None
 returns-in-None c =
     let d = c.args.design.now in
-    let none : slice_get d.rules c.args.rule ≡ None = slice_get_past d.rules c.args.rule (subst (λ (rs : List Rule). length rs ≤ c.args.rule) c.as_slice.ensures c.in-None.ensures.lookup.3) in
+    let none : slice_get d.rules c.args.rule ≡ None = slice_get_past d.rules c.args.rule (subst (λ (rs : List CheckedRule). length rs ≤ c.args.rule) c.as_slice.ensures c.in-None.ensures.lookup.3) in
     c.new.ensures ∙ ap (λ (p : Part). p.all) (sym (rule-none d c.args.rule none))

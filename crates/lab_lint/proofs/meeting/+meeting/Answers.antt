@@ -2,7 +2,7 @@ use Rattle.std.proofs.Common.{◌≡◌, ◌≤◌, ◌+◌, ◌-◌, ◌∙◌,
 use Rattle.std.specs.Prelude.{slice_get}
 use Rattle.std.proofs.lemmas.Bool.{ltb-false}
 use Rattle.std.proofs.lemmas.Option.{slice_get_past}
-use Rattle.koika_check.specs.declared.checked.Function.{Function}
+use Rattle.koika_check.specs.declared.checked.CheckedFunction.{CheckedFunction}
 use Rattle.koika_check.specs.declared.typed.Typed.{Typed}
 use Rattle.koika_lower.proofs.Bodies.{item-at}
 use Rattle.lab_lint.specs.Occurrences as parts
@@ -39,7 +39,7 @@ pub meet_body-returns-in_default-2 : goal.meet_body-returns-in_default-2
 meet_body-returns-in_default-2 t c =
     let d = c.args.design.now in
     let short : length c.as_slice.result.now ≤ c.args.number = ltb-false c.args.number (length c.as_slice.result.now) (sym c.get.ensures.lookup.0 ∙ ap (λ o. is_some o) c.in_default.is) in
-    let none : slice_get d.functions c.args.number ≡ None = slice_get_past d.functions c.args.number (subst (λ (fs : List Function). length fs ≤ c.args.number) c.as_slice.ensures short) in
+    let none : slice_get d.functions c.args.number ≡ None = slice_get_past d.functions c.args.number (subst (λ (fs : List CheckedFunction). length fs ≤ c.args.number) c.as_slice.ensures short) in
     ap (meeting_of c.args.access) (sym (own-none d c.args.functions c.args.number (inl none)))
 
 pub meet_choice-returns-in-Some-split_first : goal.meet_choice-returns-in-Some-split_first

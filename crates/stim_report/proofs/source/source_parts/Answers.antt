@@ -1,5 +1,5 @@
 use Rattle.std.proofs.Common.{ℕ, List, sym, ap, ◌∙◌, subst, arith}
-use Rattle.stim_report.specs.Cuts.{Parts}
+use Rattle.stim_report.specs.Cuts.{SourceParts}
 use Rattle.stim_report.specs.inner.Runs.{pieces_of}
 use Rattle.stim_report.proofs.SourceInTurn.{HasPassed, behind_joined, design_is, few_pieces, is_next, one_passed, parts_marked, parts_unmarked, text_fits}
 use Rattle.stim_report.proofs.source.source_parts.Goals as goal
@@ -27,7 +27,7 @@ returns-then-is_mark-clause-design c =
     let cut = subst (λ (left : List (List ℕ)). HasPassed bytes l.lines left) c.split_line.ensures.pieces passed in
     let some = (is_next bytes l.lines line (pieces_of behind) cut).0 in
     let parts = parts_marked bytes line (pieces_of behind) l.lines cut (sym c.is_mark.ensures ∙ c.if-is_mark.true) in
-    c.split_at.ensures.front ∙ design_is bytes text l.lines passed some ∙ sym (ap (λ (p : Parts). p.design) parts)
+    c.split_at.ensures.front ∙ design_is bytes text l.lines passed some ∙ sym (ap (λ (p : SourceParts). p.design) parts)
 
 pub returns-then-is_mark-clause-stimulus : goal.returns-then-is_mark-clause-stimulus
 returns-then-is_mark-clause-stimulus c =
@@ -40,7 +40,7 @@ returns-then-is_mark-clause-stimulus c =
     let cut = subst (λ (left : List (List ℕ)). HasPassed bytes l.lines left) c.split_line.ensures.pieces passed in
     let some = (is_next bytes l.lines line (pieces_of behind) cut).0 in
     let parts = parts_marked bytes line (pieces_of behind) l.lines cut (sym c.is_mark.ensures ∙ c.if-is_mark.true) in
-    c.text_behind.ensures ∙ behind_joined behind ∙ sym (ap (λ (p : Parts). p.stimulus) parts)
+    c.text_behind.ensures ∙ behind_joined behind ∙ sym (ap (λ (p : SourceParts). p.stimulus) parts)
 
 pub returns-then-is_mark-clause-first_line : goal.returns-then-is_mark-clause-first_line
 returns-then-is_mark-clause-first_line c =
@@ -53,7 +53,7 @@ returns-then-is_mark-clause-first_line c =
     let cut = subst (λ (left : List (List ℕ)). HasPassed bytes l.lines left) c.split_line.ensures.pieces passed in
     let some = (is_next bytes l.lines line (pieces_of behind) cut).0 in
     let parts = parts_marked bytes line (pieces_of behind) l.lines cut (sym c.is_mark.ensures ∙ c.if-is_mark.true) in
-    c.line_number.ensures ∙ sym (ap (λ (p : Parts). p.first_line) parts)
+    c.line_number.ensures ∙ sym (ap (λ (p : SourceParts). p.first_line) parts)
 
 pub overflow_add-lines : goal.overflow_add-lines
 overflow_add-lines c =
@@ -84,18 +84,18 @@ returns-clause-design c =
     let l = c.loop-rest in
     let passed = subst (λ (left : List (List ℕ)). HasPassed c.args.bytes.now l.lines left) (ap pieces_of c.in_default.is) l.invariant in
     let parts = parts_unmarked c.args.bytes.now l.lines passed in
-    sym (ap (λ (p : Parts). p.design) parts)
+    sym (ap (λ (p : SourceParts). p.design) parts)
 
 pub returns-clause-stimulus : goal.returns-clause-stimulus
 returns-clause-stimulus c =
     let l = c.loop-rest in
     let passed = subst (λ (left : List (List ℕ)). HasPassed c.args.bytes.now l.lines left) (ap pieces_of c.in_default.is) l.invariant in
     let parts = parts_unmarked c.args.bytes.now l.lines passed in
-    sym (ap (λ (p : Parts). p.stimulus) parts)
+    sym (ap (λ (p : SourceParts). p.stimulus) parts)
 
 pub returns-clause-first_line : goal.returns-clause-first_line
 returns-clause-first_line c =
     let l = c.loop-rest in
     let passed = subst (λ (left : List (List ℕ)). HasPassed c.args.bytes.now l.lines left) (ap pieces_of c.in_default.is) l.invariant in
     let parts = parts_unmarked c.args.bytes.now l.lines passed in
-    c.line_number-end.ensures ∙ sym (ap (λ (p : Parts). p.first_line) parts)
+    c.line_number-end.ensures ∙ sym (ap (λ (p : SourceParts). p.first_line) parts)

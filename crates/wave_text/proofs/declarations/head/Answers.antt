@@ -2,7 +2,7 @@ use Rattle.std.proofs.Common.{List, ◌++◌, map, ap, ◌∙◌}
 use Rattle.std.specs.Prelude.{codes}
 use Rattle.stim_report.specs.declared.shape.NameWidth.{NameWidth}
 use Rattle.wave_text.specs.Waves.{declarations, head, line, of_rule, scope}
-use Rattle.wave_text.specs.declared.variable.Kind.TheVariants.{Input, Register, Rule}
+use Rattle.wave_text.specs.declared.variable.VariableKind.TheVariants.{Input, Register, Rule}
 use Rattle.wave_text.proofs.Turns.{head_parts}
 use Rattle.wave_text.proofs.declarations.head.Goals as goal
 

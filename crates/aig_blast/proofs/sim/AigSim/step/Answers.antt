@@ -4,7 +4,7 @@ use Rattle.std.specs.Vec.{with_items}
 use Rattle.std.proofs.lemmas.List.{length-map, with_items_is}
 use Rattle.kw_bits.specs.BitVector.{BitVector}
 use Rattle.circuit_eval.specs.Circuits.{AreBits}
-use Rattle.aig_blast.specs.Aigs.{AigParts, input_widths, IsAig, latch_widths, variables}
+use Rattle.aig_blast.specs.Aigs.{AigParts, input_word_widths, IsAig, latch_widths, variables}
 use Rattle.aig_blast.specs.AigRun.{bits_of, next_words, values_in}
 use Rattle.aig_blast.specs.AigSims.{after_step, flags_in, Simulation}
 use Rattle.aig_blast.specs.inner.AigSims.{IsReadable}
@@ -15,8 +15,8 @@ use Rattle.aig_blast.proofs.sim.AigSim.step.Goals as goal
 
 pub put_values-requires-clause-inputs : goal.put_values-requires-clause-inputs
 put_values-requires-clause-inputs c =
-    let given : AreBits c.args.inputs.now (input_widths c.self.inside.aig.now.inputs) = subst (λ (s : Simulation). AreBits c.args.inputs.now (input_widths s.aig.inputs)) (sym c.self.view_is) c.requires in
-    subst (λ (xs : List BitVector). AreBits xs (input_widths c.self.inside.aig.now.inputs)) (sym c.as_slice.ensures) given
+    let given : AreBits c.args.inputs.now (input_word_widths c.self.inside.aig.now.inputs) = subst (λ (s : Simulation). AreBits c.args.inputs.now (input_word_widths s.aig.inputs)) (sym c.self.view_is) c.requires in
+    subst (λ (xs : List BitVector). AreBits xs (input_word_widths c.self.inside.aig.now.inputs)) (sym c.as_slice.ensures) given
 
 pub put_values-requires-clause-states : goal.put_values-requires-clause-states
 put_values-requires-clause-states c =

@@ -6,7 +6,7 @@ use Rattle.koika_check.specs.Expressions.{block_in}
 use Rattle.koika_check.specs.Outcomes.{◌>>=◌}
 use Rattle.koika_check.specs.Types.{agrees}
 use Rattle.koika_check.specs.declared.checked.Checked.{Checked}
-use Rattle.koika_check.specs.declared.checked.Function.{Function}
+use Rattle.koika_check.specs.declared.checked.CheckedFunction.{CheckedFunction}
 use Rattle.koika_check.specs.declared.typed.Typed.{Typed}
 use Rattle.koika_check.specs.declared.typed.ValueType.{ValueType}
 use Rattle.koika_check.proofs.Answering.{ends, ends-same, passes-ends, passes-gives}
@@ -40,7 +40,7 @@ returns-in_err-refuse-clause-answers c =
     let y = c.in_ok-typing.ensures in
     let s = scope_of c.gives.new.self in
     let given = gives.answers.0 in
-    let function : Function = record { name = n.text; parameters = types_in_order all.answers.0; result = given; body = y.value.typed } in
+    let function : CheckedFunction = record { name = n.text; parameters = types_in_order all.answers.0; result = given; body = y.value.typed } in
     rw (p.1, p.2)
     (ends-same (function_with d n c.args.parameters.now c.args.written.now c.args.body.now) (function_typed n.text all.answers.0 given y.value) _
     (function-chain d n c.args.parameters.now c.args.written.now c.args.body.now new.0 all.answers.0 given s new.1 new.2.0 all.answers.1 (ap (λ (e : Checked). result_of e c.args.written.now) (sym all.grows.design) ∙ gives.answers.1)
@@ -80,7 +80,7 @@ returns-clause-answers c =
     let y = c.in_ok-typing.ensures in
     let s = scope_of c.gives.new.self in
     let given = gives.answers.0 in
-    let make = λ (m : List ℕ) (ts : List ValueType) (r : Option ValueType) (b : Typed). let f : Function = record { name = m; parameters = ts; result = r; body = b } in f in
+    let make = λ (m : List ℕ) (ts : List ValueType) (r : Option ValueType) (b : Typed). let f : CheckedFunction = record { name = m; parameters = ts; result = r; body = b } in f in
     let function = make n.text (types_in_order all.answers.0) given y.value.typed in (
       function,
       function-chain d n c.args.parameters.now c.args.written.now c.args.body.now new.0 all.answers.0 given s new.1 new.2.0 all.answers.1 (ap (λ (e : Checked). result_of e c.args.written.now) (sym all.grows.design) ∙ gives.answers.1)
@@ -90,7 +90,7 @@ returns-clause-answers c =
           (body-agrees c.gives.new.self c.block.new.self y.grows y.kept.shapes.arrays c.in_ok-gives.gives.shape c.in_ok-gives.gives.of given c.in_ok-typing.typing.part y.value.part c.agrees.result
           gives.answers.2.1 gives.answers.2.0 y.means.type y.means.part c.agrees.ensures) c.in_ok-refuse.ensures,
       c.in_ok-add_function.ensures.design
-          ∙ ap₂ (λ (e : Checked) (f : Function). let u : Checked = record e { functions = e.functions ++ f ∷ [] } in u) (y.grows.design ∙ gives.grows.design ∙ all.grows.design)
+          ∙ ap₂ (λ (e : Checked) (f : CheckedFunction). let u : Checked = record e { functions = e.functions ++ f ∷ [] } in u) (y.grows.design ∙ gives.grows.design ∙ all.grows.design)
           (ap₂ (λ (m : List ℕ) (ts : List ValueType). make m ts c.in_ok-gives.gives.of c.in_ok-typing.typing.typed) (c.in_ok-text.ensures ∙ c.as_slice.ensures) (all.answers.2.1.order ∙ ap types_in_order all.answers.2.0)
           ∙ ap₂ (make n.text (types_in_order all.answers.0)) gives.answers.2.0 (sym y.means.typed)),
     )

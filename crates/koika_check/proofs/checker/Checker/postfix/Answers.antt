@@ -1,18 +1,18 @@
 use Rattle.std.proofs.Common.{List, [], ◌∷◌, ◌++◌, Some, ap, ap₂, arith, sym, ◌∙◌}
 use Rattle.std.proofs.lemmas.Result.{err_from_is_err_and}
 use Rattle.koika_check.specs.inner.Checking.{Takes, TypedAs, arrays_of, typing_of}
-use Rattle.koika_check.specs.Constructs.{Taken, postfix, take_part}
+use Rattle.koika_check.specs.Constructs.{SelectedPart, postfix, take_part}
 use Rattle.koika_check.specs.Outcomes.{Gives, ◌>>=◌, one_by_one}
 use Rattle.koika_check.specs.Selections.{select}
 use Rattle.koika_check.specs.inner.Shapes.{part_of}
-use Rattle.koika_check.specs.Types.{Part, part}
+use Rattle.koika_check.specs.Types.{TypedPart, part}
 use Rattle.koika_check.specs.declared.typed.Selection.{Selection}
 use Rattle.koika_check.proofs.Leaves.{tells-ends}
 use Rattle.koika_check.proofs.Telling.{tells-ok}
 use Rattle.koika_check.proofs.Turns.{ends-bind, ends-tells, one-ends, one-push}
 use Rattle.koika_check.proofs.checker.Checker.postfix.Goals as goal
 
-abbrev taken : Part → List Selection → Taken
+abbrev taken : TypedPart → List Selection → SelectedPart
 taken whole selections = record { whole = whole; selections = selections }
 
 pub returns-in_err-selected : goal.returns-in_err-selected

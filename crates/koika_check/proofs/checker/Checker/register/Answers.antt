@@ -3,7 +3,7 @@ use Rattle.std.proofs.lemmas.Result.{err_from_is_err_and}
 use Rattle.koika_check.specs.inner.Checking.{arrays_of}
 use Rattle.koika_check.specs.Constants.{constant_of}
 use Rattle.koika_check.specs.Declarations.{register_known, register_with}
-use Rattle.koika_check.specs.Types.{Part, agrees, type_of, width_of}
+use Rattle.koika_check.specs.Types.{TypedPart, agrees, type_of, width_of}
 use Rattle.koika_check.specs.declared.checked.Checked.{Checked}
 use Rattle.koika_check.specs.declared.checked.Register.{Register}
 use Rattle.koika_check.specs.declared.typed.ValueType.{ValueType}
@@ -24,7 +24,7 @@ returns-in_err-refuse-clause-answers c =
     let stands = known-stands c.named_type.new.self c.constant.new.self y.grows c.in_ok-of.of (type_of d c.args.of.now) c.in_ok-of.ensures.tells in
     let register : Register = record { name = n.text; of = named.0; width = width_of d named.0; first = y.value.value } in
     let agree = c.agrees.ensures arrays y.kept.shapes.arrays stands.1.known (part-shape c.constant.new.self c.in_ok-known.known.part.of y.means.type)
-    ∙ ap₂ (λ (u : ValueType) (q : Part). agrees (Some u) q) (sym stands.0 ∙ named.2) (sym y.means.part) in
+    ∙ ap₂ (λ (u : ValueType) (q : TypedPart). agrees (Some u) q) (sym stands.0 ∙ named.2) (sym y.means.part) in
     rw (p.1, p.2)
     (ends-same (register_with d n c.args.of.now c.args.first.now) (register_known d n.text named.0 y.value) _
     (register-chain d n c.args.of.now c.args.first.now new.0 named.0 y.value new.1 new.2.0 named.1 (ap (constant_of c.args.first.now) (sym c.in_ok-of.ensures.grows.design) ∙ y.gives))
@@ -57,7 +57,7 @@ returns-clause-answers c =
     let register : Register = record { name = n.text; of = named.0; width = width_of d named.0; first = y.value.value } in
     let same = y.grows.design ∙ c.in_ok-of.ensures.grows.design in
     let agree = c.agrees.ensures arrays y.kept.shapes.arrays stands.1.known (part-shape c.constant.new.self c.in_ok-known.known.part.of y.means.type)
-    ∙ ap₂ (λ (u : ValueType) (q : Part). agrees (Some u) q) (sym stands.0 ∙ named.2) (sym y.means.part) in (
+    ∙ ap₂ (λ (u : ValueType) (q : TypedPart). agrees (Some u) q) (sym stands.0 ∙ named.2) (sym y.means.part) in (
       register,
       register-chain d n c.args.of.now c.args.first.now new.0 named.0 y.value new.1 new.2.0 named.1 (ap (constant_of c.args.first.now) (sym c.in_ok-of.ensures.grows.design) ∙ y.gives)
           ∙ passes-gives c.agrees.result (agrees (Some named.0) y.value.part) c.in_ok-refuse.field-0 register agree c.in_ok-refuse.ensures,

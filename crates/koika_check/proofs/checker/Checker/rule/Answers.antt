@@ -3,7 +3,7 @@ use Rattle.koika_check.specs.inner.Checking.{arrays_of, ready, scope_of}
 use Rattle.koika_check.specs.Scopes.{Local, Scope}
 use Rattle.koika_check.specs.Types.{agrees}
 use Rattle.koika_check.specs.declared.checked.Checked.{Checked}
-use Rattle.koika_check.specs.declared.checked.Rule.{Rule}
+use Rattle.koika_check.specs.declared.checked.CheckedRule.{CheckedRule}
 use Rattle.koika_check.specs.declared.typed.Typed.{Typed}
 use Rattle.koika_check.proofs.Answering.{passes-gives}
 use Rattle.koika_check.proofs.Declaring.{settled-scope}
@@ -26,12 +26,12 @@ returns-clause-answers c =
     let n = c.args.name.now in
     let arrays = arrays_of c.block.new.self in
     let new = c.in_ok-is_new.ensures in
-    let rule : Rule = record { name = n.text; body = y.value.typed } in
-    let one = λ (m : List ℕ) (b : Typed). let r : Rule = record { name = m; body = b } in r in (
+    let rule : CheckedRule = record { name = n.text; body = y.value.typed } in
+    let one = λ (m : List ℕ) (b : Typed). let r : CheckedRule = record { name = m; body = b } in r in (
       rule,
       rule-chain d n c.args.body.now new.0 (scope_of c.args.self.now) y.value new.1 new.2.0 (ap (λ (l : List Local). let s : Scope = record { design = d; locals = l } in s) c.requires.unbound) y.gives
           ∙ passes-gives c.agrees.result (agrees None y.value.part) c.in_ok-refuse.field-0 rule
           (c.agrees.ensures arrays y.kept.shapes.arrays tt (part-shape c.block.new.self c.in_ok-typing.typing.part.of y.means.type) ∙ ap (agrees None) (sym y.means.part)) c.in_ok-refuse.ensures,
       c.in_ok-add_rule.ensures.design
-          ∙ ap₂ (λ (e : Checked) (r : Rule). let u : Checked = record e { rules = e.rules ++ r ∷ [] } in u) y.grows.design (ap₂ one (c.in_ok-text.ensures ∙ c.as_slice.ensures) (sym y.means.typed)),
+          ∙ ap₂ (λ (e : Checked) (r : CheckedRule). let u : Checked = record e { rules = e.rules ++ r ∷ [] } in u) y.grows.design (ap₂ one (c.in_ok-text.ensures ∙ c.as_slice.ensures) (sym y.means.typed)),
     )

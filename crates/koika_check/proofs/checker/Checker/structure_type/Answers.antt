@@ -4,7 +4,7 @@ use Rattle.koika_check.specs.Outcomes.{◌>>=◌}
 use Rattle.koika_check.specs.inner.Things.{thing_named}
 use Rattle.koika_check.specs.Types.{width_of}
 use Rattle.koika_check.specs.declared.checked.Checked.{Checked}
-use Rattle.koika_check.specs.declared.checked.Field.{Field}
+use Rattle.koika_check.specs.declared.checked.CheckedField.{CheckedField}
 use Rattle.koika_check.specs.declared.checked.Struct.{Struct}
 use Rattle.koika_check.proofs.Added.{declares-at}
 use Rattle.koika_check.proofs.Declaring.{named-gives}
@@ -33,12 +33,12 @@ returns-clause-answers c =
     let s = c.all_fields.new.self in
     let k = c.in_ok-kept.ensures in
     let new = c.in_ok-is_new.ensures in
-    let width = λ (e : Checked) (fs : List Field). min (sum_by (λ (f : Field). width_of e f.of) fs) 129 in
-    let make = λ (m : List ℕ) (fs : List Field) (w : ℕ). let one : Struct = record { name = m; fields = fs; width = w } in one in (
+    let width = λ (e : Checked) (fs : List CheckedField). min (sum_by (λ (f : CheckedField). width_of e f.of) fs) 129 in
+    let make = λ (m : List ℕ) (fs : List CheckedField) (w : ℕ). let one : Struct = record { name = m; fields = fs; width = w } in one in (
       make n.text k.answers.0 (width d k.answers.0),
       named-gives d n (struct_of d c.args.fields.now) new.0 new.1 new.2.0 ∙ ap (λ o. o >>= struct_typed d n.text) k.answers.1,
       ap (λ (ss : List Struct). let e : Checked = record s.design { structs = ss } in e) c.in_ok-push.ensures.ok
           ∙ ap₂ (λ (e : Checked) (x : Struct). let u : Checked = record e { structs = e.structs ++ x ∷ [] } in u) k.grows.design
-          (ap₂ (λ (m : List ℕ) (fs : List Field). make m fs c.in_ok-kept.kept.width) (c.in_ok-text.ensures ∙ c.as_slice.ensures) k.answers.2.0
+          (ap₂ (λ (m : List ℕ) (fs : List CheckedField). make m fs c.in_ok-kept.kept.width) (c.in_ok-text.ensures ∙ c.as_slice.ensures) k.answers.2.0
           ∙ ap (make n.text k.answers.0) (k.answers.2.1.width ∙ ap₂ width k.grows.design k.answers.2.0)),
     )

@@ -5,7 +5,7 @@ use Rattle.koika_syntax.specs.declared.token.TokenKind.TheVariants as kinds
 use Rattle.std.proofs.Common.{subst, sym, refl, ap, arith, [], ◌∙◌, append-nil, map, None, Some}
 use Rattle.koika_syntax.specs.Grammar.{level}
 use Rattle.koika_syntax.specs.inner.Grammar.{IsExpression, expression_leaves, field_value_leaves, operand_leaves, arm_leaves, statement_leaves}
-use Rattle.koika_syntax.specs.Tree.{commas, comparison_word, extension_word, joined, keyword, placed, sign, word, write_word, symbol}
+use Rattle.koika_syntax.specs.Tree.{commas, comparison_word, extension_word, with_between, keyword, placed, sign, word, write_word, symbol}
 use Rattle.std.specs.List.{All}
 use Rattle.std.proofs.lemmas.List.Elements.{All-nil}
 use Rattle.koika_syntax.proofs.Leaves.{array_expression, chain_expression, if_expression, block_expression, call_expression, compare_expression, struct_expression, update_expression}
@@ -249,7 +249,7 @@ pub conditional-returns-clause-is : goal.conditional-returns-clause-is
 conditional-returns-clause-is t c = is_if c.more.arms None c.more.invariant.0.is tt c.more.invariant.0.some
 
 pub arguments-returns-then-is_at_sign-clause-read : goal.arguments-returns-then-is_at_sign-clause-read
-unfolding joined
+unfolding with_between
 arguments-returns-then-is_at_sign-clause-read t c = as_leaves _ (ap (λ xs. commas (map expression_leaves xs)) c.new-none.ensures.items) (nothing c.args.self.now c.args.cursor.now c.args.cursor.now refl)
 
 pub arguments-returns-then-is_at_sign-clause-is : goal.arguments-returns-then-is_at_sign-clause-is

@@ -1,5 +1,5 @@
 use Rattle.std.proofs.Common.{refl, sym, ap, ◌∙◌, ◌++◌}
-use Rattle.koika_syntax.specs.Grammar.{IsLiteral}
+use Rattle.koika_syntax.specs.Grammar.{LiteralFits}
 use Rattle.koika_syntax.specs.Tree.{literal_leaves}
 use Rattle.koika_parse.specs.inner.Expected.{Part, first}
 use Rattle.koika_parse.proofs.Expected.{begin, fails_last, last_part, refused, within}
@@ -15,7 +15,7 @@ pub returns-in_ok-place-in-Some-clause-read : goal.returns-in_ok-place-in-Some-c
 returns-in_ok-place-in-Some-clause-read c = in_place_of literal_leaves c.literal_at.result c.literal_at.ensures.fields (c.in_ok-place-in-Some.ensures.read _ c.in-Some.ensures.at)
 
 pub returns-in-None-clause-takes : goal.returns-in-None-clause-takes
-returns-in-None-clause-takes c = refused (begin (Part IsLiteral literal_leaves) some_literal) (λ r v word behind same. c.in-None.ensures.none word.0.bits (sym same ∙ ap (λ l. first (l ++ v)) word.2))
+returns-in-None-clause-takes c = refused (begin (Part LiteralFits literal_leaves) some_literal) (λ r v word behind same. c.in-None.ensures.none word.0.bits (sym same ∙ ap (λ l. first (l ++ v)) word.2))
 
 pub returns-in_err-place-in-Some-clause-takes : goal.returns-in_err-place-in-Some-clause-takes
 returns-in_err-place-in-Some-clause-takes c =

@@ -1,6 +1,6 @@
 use Rattle.std.proofs.Common.{◌+◌}
 use Rattle.koika_parse.proofs.DeclarationWords.{literals_listed}
-use Rattle.koika_syntax.specs.Grammar.{IsLiteral}
+use Rattle.koika_syntax.specs.Grammar.{LiteralFits}
 use Rattle.koika_syntax.specs.Tree.{literal_leaves, sign}
 use Rattle.koika_syntax.specs.declared.symbol.Symbol.TheVariants as symbols
 use Rattle.koika_parse.proofs.Lists.{joined_start, joined_again}
@@ -10,7 +10,7 @@ use Rattle.koika_parse.proofs.Commas.{commas_start, commas_apart, commas_at, com
 use Rattle.koika_parse.proofs.source.Source.literals.Goals as goal
 
 pub more-init : goal.more-init
-more-init c = (joined_start _ _ _ (sign symbols.Comma) literal_leaves IsLiteral c.in_ok-first.first _ c.push.new.self c.in_ok-first.ensures.read c.in_ok-first.ensures.is c.new-all.ensures c.in_ok-push.ensures.ok, commas_first literals_listed c.in_ok-first.ensures.takes tt)
+more-init c = (joined_start _ _ _ (sign symbols.Comma) literal_leaves LiteralFits c.in_ok-first.first _ c.push.new.self c.in_ok-first.ensures.read c.in_ok-first.ensures.is c.new-all.ensures c.in_ok-push.ensures.ok, commas_first literals_listed c.in_ok-first.ensures.takes tt)
 
 pub more-preserved : goal.more-preserved
 more-preserved c = (joined_again c.in_ok-next.next c.push-in-more.new.self c.more.invariant.0 c.in_ok-sign.ensures.read c.in_ok-next.ensures.read c.in_ok-next.ensures.is c.in_ok-push-2.ensures.ok, commas_next literals_listed (c.is_at_sign.ensures.0 c.more-test.true) c.more.invariant.1 c.in_ok-sign.ensures.read c.in_ok-sign.ensures.takes c.in_ok-next.ensures.takes tt)

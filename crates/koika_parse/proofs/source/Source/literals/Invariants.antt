@@ -1,4 +1,4 @@
-use Rattle.koika_syntax.specs.Grammar.{IsLiteral}
+use Rattle.koika_syntax.specs.Grammar.{LiteralFits}
 use Rattle.koika_syntax.specs.Tree.{literal_leaves, sign}
 use Rattle.koika_syntax.specs.declared.symbol.Symbol.TheVariants as symbols
 use Rattle.koika_parse.specs.inner.Reading.{tokens_left}
@@ -8,7 +8,7 @@ use Rattle.koika_parse.proofs.Commas.{CommasGo}
 use Rattle.koika_parse.proofs.source.Source.literals.Given as goal
 
 abbrev pub invariant-more : goal.invariant-more
-invariant-more l = Joined l.self l.fn.cursor l.cursor (sign symbols.Comma) literal_leaves IsLiteral l.all × CommasGo l.self l.fn.cursor l.cursor Any AnyMany IsLiteral literal_leaves
+invariant-more l = Joined l.self l.fn.cursor l.cursor (sign symbols.Comma) literal_leaves LiteralFits l.all × CommasGo l.self l.fn.cursor l.cursor Any AnyMany LiteralFits literal_leaves
 
 abbrev pub decreases-more : goal.decreases-more
 decreases-more l = tokens_left l.self l.cursor

@@ -1,5 +1,5 @@
 use Rattle.std.proofs.Common.{refl, sym, ap, ◌∙◌, ◌++◌}
-use Rattle.koika_syntax.specs.Grammar.{IsNumber}
+use Rattle.koika_syntax.specs.Grammar.{NumberFits}
 use Rattle.koika_syntax.specs.Tree.{number_leaves}
 use Rattle.koika_parse.specs.inner.Expected.{Part, first}
 use Rattle.koika_parse.proofs.Expected.{begin, fails_last, last_part, refused, within}
@@ -11,7 +11,7 @@ pub step-requires : goal.step-requires
 step-requires c = within c.args.self.now c.args.cursor.now c.in-Some.ensures.at
 
 pub returns-in-None-clause-takes : goal.returns-in-None-clause-takes
-returns-in-None-clause-takes c = refused (begin (Part IsNumber number_leaves) some_number) (λ r v word behind same. c.in-None.ensures.none word.0.value (sym same ∙ ap (λ l. first (l ++ v)) word.2))
+returns-in-None-clause-takes c = refused (begin (Part NumberFits number_leaves) some_number) (λ r v word behind same. c.in-None.ensures.none word.0.value (sym same ∙ ap (λ l. first (l ++ v)) word.2))
 
 pub returns-in_err-place-in-Some-clause-takes : goal.returns-in_err-place-in-Some-clause-takes
 returns-in_err-place-in-Some-clause-takes c =

@@ -2,7 +2,7 @@ use Rattle.std.proofs.Common.{refl, ap, map, subst, sym}
 use Rattle.std.specs.List.{All}
 use Rattle.std.proofs.lemmas.List.Elements.{All-nil}
 use Rattle.koika_syntax.specs.Grammar.{IsField, field_leaves}
-use Rattle.koika_syntax.specs.Tree.{commas, joined}
+use Rattle.koika_syntax.specs.Tree.{commas, with_between}
 use Rattle.koika_parse.proofs.Reading.{nothing, as_leaves}
 use Rattle.koika_parse.proofs.Expected.{finish, not_so, tail}
 use Rattle.koika_parse.specs.inner.Expected.{first}
@@ -11,7 +11,7 @@ use Rattle.koika_parse.proofs.PrimaryWords.{parenthesis_any}
 use Rattle.koika_parse.proofs.source.Source.parameters.Goals as goal
 
 pub returns-then-not-is_at_name-clause-read : goal.returns-then-not-is_at_name-clause-read
-unfolding joined
+unfolding with_between
 returns-then-not-is_at_name-clause-read c = as_leaves _ (ap (λ xs. commas (map field_leaves xs)) c.new-none.ensures) (nothing c.args.self.now c.args.cursor.now c.args.cursor.now refl)
 
 pub returns-then-not-is_at_name-clause-is : goal.returns-then-not-is_at_name-clause-is

@@ -1,6 +1,6 @@
 use Rattle.std.proofs.Common.{◌≡◌, ℕ, List, length, ap, ◌∙◌}
 use Rattle.one_rule.specs.Cycle.{system_of}
-use Rattle.lab_core.specs.Numbers.{Numbers, RuleNumbers}
+use Rattle.lab_core.specs.Numbers.{RunNumbers, RuleNumbers}
 use Rattle.lab_core.specs.Trials.{trials}
 use Rattle.lab_core.specs.inner.Counting.{verdicts_of}
 use Rattle.lab_core.proofs.Grown.{profile_grows}
@@ -18,6 +18,6 @@ pub returns-clause-numbers : goal.returns-clause-numbers
 returns-clause-numbers c =
     profile_grows c.note_all.result (length c.args.design.now.rules) c.args.cycle c.len.result (trials (system_of c.args.design.now) c.args.inputs.now c.args.regs.now) c.args.self.now
     c.self.inside.rules.items c.note_all.new.rules.items c.deref.result.now
-    (ap (λ (n : Numbers). n.rules) c.self.view_is) c.requires.next c.requires.rules (size c.self.inside.rules.items c.self.inside.rules.len c.len.result c.self.inside.rules.ok.0 c.len.ensures)
+    (ap (λ (n : RunNumbers). n.rules) c.self.view_is) c.requires.next c.requires.rules (size c.self.inside.rules.items c.self.inside.rules.len c.len.result c.self.inside.rules.ok.0 c.len.ensures)
     (c.deref.ensures.value ∙ c.in_ok-verdicts.ensures ∙ ap (verdicts_of c.len.result) (c.as_slice.ensures ∙ c.in_ok-tried.ensures.trials))
     c.note_all.ensures.count c.note_all.ensures.each
