@@ -462,6 +462,7 @@ def padded(length, text="schedule { }", rest=""):
 # The rows of LIMITS.md: the command, and its source for a number.
 LIMITS = {
     "bytes of a source, with its stimulus": ("check", padded),
+    "bytes of a source of `step`, up to the end of its line `%%`": ("step", lambda n: padded(n - 3, rest="%%\n")),
     "bytes of a name": ("check", lambda n: f"rule {'a' * n} {{ }} schedule {{ }}"),
     "open brackets": ("check", brackets),
     "a number, such as a length": ("check", lambda n: f"rule a {{ zext(1'd0, {n}); }} schedule {{ }}"),
@@ -596,8 +597,8 @@ class Tables:
             words = words.replace("LAST", str(number - 1))  # the second of two cycles is the one with the number
             # A run that isn't refused at once needn't end.
             said = self.answer(words, numbered(source(number)), 5 if number == most else 600)
-            if command == "step":
-                said = said.split("\n", 1)[-1]  # the row before all cycles comes first
+            if said.startswith("@0 "):
+                said = said.split("\n", 1)[-1]  # of `step` the row before all cycles comes first
             if said.startswith(refusal) != (number > most):
                 self.pages.say("LIMITS.md", f"{of}: {number}: {said[:60]!r}")
 
