@@ -1,6 +1,6 @@
 #!/usr/bin/env bash
-# Shows that other tools read what `verilog` writes as it is defined, and measures it. The lab has no such command so
-# far; the crate verilog_text, which writes the text, is proved, and bench/verilog_forms.sh tries it:
+# Shows that other tools read what `verilog` writes as it is defined, and measures it. bench/verilog_forms.sh tries each
+# expression at several widths.
 #
 #     bench/verilog.sh [--part PART].. [--design NAME].. [PROGRAM LAB_PROGRAM]
 #
