@@ -6,7 +6,7 @@ use Rattle.koika_check.specs.Sizes.{Rests, Size, StepSize, arms_size, both, heav
 use Rattle.koika_check.specs.inner.Sizes.{size_of_step}
 use Rattle.koika_check.specs.declared.typed.Operation.{Operation}
 use Rattle.koika_check.specs.declared.typed.TypedStep.{TypedStep, fold-roll-TypedStep}
-use Rattle.koika_check.specs.declared.typed.TypedStep.TheOpen as opened
+use Rattle.koika_check.specs.declared.typed.Typed.TheOpen as opened
 use Rattle.koika_check.specs.declared.typed.TypedStep.TheVariants as step
 use Rattle.koika_check.specs.declared.typed.Typed.{Typed, fold-roll-Typed}
 use Rattle.koika_check.specs.declared.typed.Typed.TheVariants as typed

@@ -7,7 +7,7 @@ use Rattle.koika_check.specs.declared.checked.Checked.{Checked}
 use Rattle.koika_check.specs.declared.checked.CheckedFunction.{CheckedFunction}
 use Rattle.koika_check.specs.declared.typed.Operation.{Operation}
 use Rattle.koika_check.specs.declared.typed.TypedStep.{TypedStep, TypedStep-F, fold-TypedStep, fold-roll-TypedStep}
-use Rattle.koika_check.specs.declared.typed.TypedStep.TheOpen as opened
+use Rattle.koika_check.specs.declared.typed.Typed.TheOpen as opened
 use Rattle.koika_check.specs.declared.typed.TypedStep.TheVariants as step
 use Rattle.koika_check.specs.declared.typed.Typed.{Typed, Typed-F, fold-Typed, fold-roll-Typed}
 use Rattle.koika_check.specs.declared.typed.Typed.TheVariants as typed

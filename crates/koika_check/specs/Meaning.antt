@@ -37,7 +37,7 @@ use Rattle.koika_check.specs.declared.typed.Operation.TheVariants as operation
 use Rattle.koika_check.specs.declared.typed.Selection.{Selection}
 use Rattle.koika_check.specs.declared.typed.Selection.TheVariants as selection
 use Rattle.koika_check.specs.declared.typed.TypedStep.{TypedStep-F}
-use Rattle.koika_check.specs.declared.typed.TypedStep.TheOpen as typed
+use Rattle.koika_check.specs.declared.typed.Typed.TheOpen as typed
 use Rattle.koika_check.specs.declared.typed.Typed.{Typed, Typed-F, fold-Typed}
 use Rattle.koika_check.specs.declared.typed.ValueType.{ValueType}
 

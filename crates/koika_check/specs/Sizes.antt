@@ -12,7 +12,7 @@ use Rattle.koika_check.specs.declared.typed.Operation.{Operation}
 use Rattle.koika_check.specs.declared.typed.Operation.TheVariants as operation
 use Rattle.koika_check.specs.declared.typed.TypedStep.{TypedStep, TypedStep-F}
 use Rattle.koika_check.specs.declared.typed.Typed.{Typed, Typed-F, fold-Typed}
-use Rattle.koika_check.specs.declared.typed.TypedStep.TheOpen as typed
+use Rattle.koika_check.specs.declared.typed.Typed.TheOpen as typed
 
 -- a weight and a depth
 pub record Size : Type 0 where

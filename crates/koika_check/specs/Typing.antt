@@ -34,7 +34,7 @@ use Rattle.koika_check.specs.declared.typed.Operation.TheVariants as operation
 use Rattle.koika_check.specs.declared.typed.Selection.{Selection}
 use Rattle.koika_check.specs.declared.typed.Selection.TheVariants as selection
 use Rattle.koika_check.specs.declared.typed.TypedStep.{TypedStep, TypedStep-F}
-use Rattle.koika_check.specs.declared.typed.TypedStep.TheOpen as typed
+use Rattle.koika_check.specs.declared.typed.Typed.TheOpen as typed
 use Rattle.koika_check.specs.declared.typed.Typed.{Typed, Typed-F, rec-Typed}
 use Rattle.koika_check.specs.declared.typed.ValueType.{ValueType}
 

@@ -11,7 +11,7 @@ use Rattle.koika_check.specs.Typing.{AreArms, HasType, IsTypedDesign, Pairwise}
 use Rattle.koika_check.specs.declared.checked.Checked.{Checked}
 use Rattle.koika_check.specs.declared.typed.Operation.{Operation}
 use Rattle.koika_check.specs.declared.typed.TypedStep.{TypedStep}
-use Rattle.koika_check.specs.declared.typed.TypedStep.TheOpen as opened
+use Rattle.koika_check.specs.declared.typed.Typed.TheOpen as opened
 use Rattle.koika_check.specs.declared.typed.TypedStep.TheVariants as step
 use Rattle.koika_check.specs.declared.typed.Typed.{Typed}
 use Rattle.koika_check.specs.declared.typed.Typed.TheVariants as typed

@@ -5,7 +5,7 @@ use Rattle.typed_core.specs.declared.outcome.Stopped.{Stopped}
 use Rattle.koika_check.specs.Meaning.{Meaning, RuleSetting, StepMeaning, meaning, step_step, typed_step}
 use Rattle.koika_check.specs.declared.typed.Operation.{Operation}
 use Rattle.koika_check.specs.declared.typed.TypedStep.{TypedStep, fold-roll-TypedStep}
-use Rattle.koika_check.specs.declared.typed.TypedStep.TheOpen as opened
+use Rattle.koika_check.specs.declared.typed.Typed.TheOpen as opened
 use Rattle.koika_check.specs.declared.typed.TypedStep.TheVariants as step
 use Rattle.koika_check.specs.declared.typed.Typed.{Typed, fold-roll-Typed}
 use Rattle.koika_check.specs.declared.typed.Typed.TheVariants as typed

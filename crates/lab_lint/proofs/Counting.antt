@@ -1,7 +1,7 @@
 -- A measure of typed trees that is less for their parts: every expression counts.
 use Rattle.std.proofs.Common.{◌≡◌, ℕ, ◌+◌, ◌≤◌, List, map, sum_by, subst, sym, arith}
 use Rattle.koika_check.specs.declared.typed.TypedStep.{TypedStep, TypedStep-F}
-use Rattle.koika_check.specs.declared.typed.TypedStep.TheOpen as opened
+use Rattle.koika_check.specs.declared.typed.Typed.TheOpen as opened
 use Rattle.koika_check.specs.declared.typed.Typed.{Typed, Typed-F, fold-roll-Typed, ind-Typed, map-Typed, roll-Typed}
 use Rattle.koika_check.proofs.TreeParts.{Such}
 use Rattle.koika_check.proofs.TreeCounts.{count, count_step}

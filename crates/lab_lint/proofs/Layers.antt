@@ -3,7 +3,7 @@ use Rattle.std.proofs.Common.{◌≡◌, ℕ, List, append-nil, append_assoc, ma
 use Rattle.koika_types.specs.declared.value.Value.{Value}
 use Rattle.koika_check.specs.declared.typed.Operation.{Operation}
 use Rattle.koika_check.specs.declared.typed.TypedStep.{TypedStep, TypedStep-F, fold-roll-TypedStep, map-TypedStep, roll-TypedStep}
-use Rattle.koika_check.specs.declared.typed.TypedStep.TheOpen as opened
+use Rattle.koika_check.specs.declared.typed.Typed.TheOpen as opened
 use Rattle.koika_check.specs.declared.typed.TypedStep.TheVariants as step
 use Rattle.koika_check.specs.declared.typed.Typed.{Typed, Typed-F, fold-roll-Typed, map-Typed, roll-Typed}
 use Rattle.koika_check.specs.declared.typed.Typed.TheVariants as typed

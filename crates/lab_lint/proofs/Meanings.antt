@@ -14,7 +14,7 @@ use Rattle.koika_check.specs.declared.checked.Register.{Register}
 use Rattle.koika_check.specs.declared.typed.Operation.{Operation}
 use Rattle.koika_check.specs.declared.typed.Operation.TheVariants as operation
 use Rattle.koika_check.specs.declared.typed.TypedStep.{TypedStep, TypedStep-F, map-TypedStep, roll-TypedStep, fold-roll-TypedStep}
-use Rattle.koika_check.specs.declared.typed.TypedStep.TheOpen as opened
+use Rattle.koika_check.specs.declared.typed.Typed.TheOpen as opened
 use Rattle.koika_check.specs.declared.typed.Typed.{Typed, Typed-F, map-Typed, roll-Typed, fold-roll-Typed, ind-Typed}
 use Rattle.koika_check.proofs.TreeParts.{Such, firsts}
 use Rattle.koika_lower.specs.inner.Expressions.{step_meaning}

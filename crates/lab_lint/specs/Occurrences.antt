@@ -11,7 +11,7 @@ use Rattle.koika_check.specs.declared.checked.CheckedRule.{CheckedRule}
 use Rattle.koika_check.specs.declared.typed.Operation.{Operation}
 use Rattle.koika_check.specs.declared.typed.Operation.TheVariants as operation
 use Rattle.koika_check.specs.declared.typed.TypedStep.{TypedStep, TypedStep-F}
-use Rattle.koika_check.specs.declared.typed.TypedStep.TheOpen as typed
+use Rattle.koika_check.specs.declared.typed.Typed.TheOpen as typed
 use Rattle.koika_check.specs.declared.typed.Typed.{Typed, Typed-F, fold-Typed}
 use Rattle.lab_lint.specs.declared.occurrence.Occurrence.{Occurrence}
 use Rattle.lab_lint.specs.declared.occurrence.Occurrence.TheVariants as occurrence
