@@ -43,7 +43,7 @@ use Rattle.koika_check.specs.Outcomes.{CheckResult, ◌>>=◌, Fails, Gives, fou
 use Rattle.koika_check.specs.Scopes.{Scope, bound, called, register}
 use Rattle.koika_check.specs.Types.{struct_named, type_of, wrong_type}
 use Rattle.koika_check.specs.declared.checked.Checked.{Checked}
-use Rattle.koika_check.specs.declared.typed.TypedStep.TheVariants as step
+use Rattle.koika_check.specs.declared.typed.BlockStep.TheVariants as step
 use Rattle.koika_check.specs.declared.typed.ValueType.{ValueType}
 use Rattle.front_end.proofs.Senses.{Sensed, Unmarked, front, front-of, keyword_at, kept, kept-list, last, last-of, map-join, name_at, number_at, place_at, sense, sensed, sense-node, symbol_at, is_of}
 use Rattle.front_end.proofs.SensesOfTypes.{here, type_at, type-at}

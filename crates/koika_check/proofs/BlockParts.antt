@@ -17,7 +17,7 @@ use Rattle.koika_check.specs.inner.Expressions.{arm_in, expression_in, field_val
 use Rattle.koika_check.specs.Outcomes.{Fails, Gives, CheckResult, ◌>>=◌, in_turn, one_by_one}
 use Rattle.koika_check.specs.Scopes.{Scope}
 use Rattle.koika_check.specs.inner.TypedParts.{bound_step}
-use Rattle.koika_check.specs.declared.typed.TypedStep.TheVariants as step
+use Rattle.koika_check.specs.declared.typed.BlockStep.TheVariants as step
 use Rattle.koika_check.proofs.Turns.{one-map, turn-map}
 
 pub expression-If : (arms : Vec Arm Global) (otherwise : Option Block) (s : Scope) →

@@ -27,8 +27,8 @@ use Rattle.koika_check.specs.declared.shapes.Shape.{Shape}
 use Rattle.koika_check.specs.declared.stop.Stop.{Stop}
 use Rattle.koika_check.specs.declared.stop.Stop.TheVariants as stops
 use Rattle.koika_check.specs.declared.stop.Wrong.{Wrong}
-use Rattle.koika_check.specs.declared.typed.TypedStep.{TypedStep}
-use Rattle.koika_check.specs.declared.typed.TypedStep.TheVariants as step
+use Rattle.koika_check.specs.declared.typed.BlockStep.{BlockStep}
+use Rattle.koika_check.specs.declared.typed.BlockStep.TheVariants as step
 use Rattle.koika_check.specs.declared.typed.Typed.{Typed}
 use Rattle.koika_check.specs.declared.typed.Typed.TheVariants as made
 use Rattle.koika_check.specs.declared.typed.ValueType.{ValueType}
@@ -41,13 +41,13 @@ use Rattle.koika_check.proofs.Turns.{ends-behind, ends-bind, ends-same, one-ends
 abbrev pub running : Statement → BlockSoFar → CheckResult BlockSoFar
 running t = run (statement_in t)
 
-abbrev pub run-of : List TypedStep → Scope → BlockSoFar
+abbrev pub run-of : List BlockStep → Scope → BlockSoFar
 run-of steps behind = record { steps = steps; behind = behind }
 
 pub steps-start : (c : Checker) → IsChecker c → Yields (AreSteps (scope_of c)) c (one_by_one running [] (run-of [] (scope_of c))) c []
 steps-start c h = record { kept = h; grows = grows-refl c; value = run-of [] (scope_of c); gives = refl; means = record { steps = refl; behind = refl; inner = ([], refl) } }
 
-pub steps-more : (old mid new : Checker) (xs : List Statement) (i : ℕ) (x : Statement) (y : List TypedStep) (s : TypedStep) → i < length xs → x ≡ get_or xs i x →
+pub steps-more : (old mid new : Checker) (xs : List Statement) (i : ℕ) (x : Statement) (y : List BlockStep) (s : BlockStep) → i < length xs → x ≡ get_or xs i x →
     Yields (AreSteps (scope_of old)) old (one_by_one running (take i xs) (run-of [] (scope_of old))) mid y → Yields (IsStep (scope_of mid)) mid (statement_in x (scope_of mid)) new s →
     Yields (AreSteps (scope_of old)) old (one_by_one running (take (i + 1) xs) (run-of [] (scope_of old))) new (y ++ s ∷ [])
 steps-more old mid new xs i x y s lt is h now = record {
@@ -58,7 +58,7 @@ steps-more old mid new xs i x y s lt is h now = record {
       one-push running xs i x (run-of [] (scope_of old)) h.value lt is h.gives
       ∙ ap (λ o. o >>= λ (one : Stepping). Gives (run-of (h.value.steps ++ one.step ∷ []) one.behind)) (ap (statement_in x) (sym h.means.behind) ∙ now.gives);
   means = record {
-    steps = ap₂ (λ (ts : List TypedStep) (t : TypedStep). ts ++ t ∷ []) h.means.steps now.means.step;
+    steps = ap₂ (λ (ts : List BlockStep) (t : BlockStep). ts ++ t ∷ []) h.means.steps now.means.step;
     behind = now.means.behind;
     inner = (
       now.means.inner.0 ++ h.means.inner.0,
@@ -67,7 +67,7 @@ steps-more old mid new xs i x y s lt is h now = record {
   };
 }
 
-pub steps-end : (old mid : Checker) (xs : List Statement) (i : ℕ) (x : Statement) (y : List TypedStep) (e : Stop) → i < length xs → x ≡ get_or xs i x →
+pub steps-end : (old mid : Checker) (xs : List Statement) (i : ℕ) (x : Statement) (y : List BlockStep) (e : Stop) → i < length xs → x ≡ get_or xs i x →
     Yields (AreSteps (scope_of old)) old (one_by_one running (take i xs) (run-of [] (scope_of old))) mid y → Ends (statement_in x (scope_of mid)) e → Ends (one_by_one running xs (run-of [] (scope_of old))) e
 steps-end old mid xs i x y e lt is h k =
     one-ends running xs i x (run-of [] (scope_of old)) h.value e lt is h.gives
@@ -127,13 +127,13 @@ value-bound c h l kept n name s y text some part locals shapes =
 
 -- ---- the end of a block
 
-pub closed-none : (c : Checker) → IsChecker c → (place : ℕ) (steps : List TypedStep) (y : Typing) → y ≡ record { part = record { of = None; place = place }; typed = made.Block steps } →
+pub closed-none : (c : Checker) → IsChecker c → (place : ℕ) (steps : List BlockStep) (y : Typing) → y ≡ record { part = record { of = None; place = place }; typed = made.Block steps } →
     Yields (IsTyping (scope_of c)) c (close place None (run-of steps (scope_of c))) c y
 closed-none c h place steps y is =
     subst (λ z. Yields (IsTyping (scope_of c)) c (close place None (run-of steps (scope_of c))) c z) (sym is)
     (record { kept = h; grows = grows-refl c; value = typing None place (made.Block steps); gives = refl; means = record { scope_is = refl; part = refl; type = tt; typed = refl } })
 
-pub closed-gives : (old new : Checker) (place : ℕ) (steps all : List TypedStep) (last : Expression) (y z : Typing) → Yields (IsTyping (scope_of old)) old (expression_in last (scope_of old)) new y → all ≡ steps ++ step.Give y.typed ∷ [] →
+pub closed-gives : (old new : Checker) (place : ℕ) (steps all : List BlockStep) (last : Expression) (y z : Typing) → Yields (IsTyping (scope_of old)) old (expression_in last (scope_of old)) new y → all ≡ steps ++ step.Give y.typed ∷ [] →
     z ≡ record { part = record { of = y.part.of; place = place }; typed = made.Block all } → Yields (IsTyping (scope_of old)) old (close place (Some (expression_in last)) (run-of steps (scope_of old))) new z
 closed-gives old new place steps all last y z h pushed is =
     subst (λ w. Yields (IsTyping (scope_of old)) old (close place (Some (expression_in last)) (run-of steps (scope_of old))) new w) (sym is)
@@ -156,7 +156,7 @@ count-locals : (arrays : List ValueType) (l : Locals) → length (locals_of arra
 count-locals arrays l = omega (arith, length-map (inside_of [] l.bound) (local_of arrays l.names), length-inside [] l.bound)
 
 -- what was bound in a block is inside what was bound before it
-inside-block : (old mid new : Checker) (o : CheckResult BlockSoFar) (p : CheckResult constructs.Typing) (steps : List TypedStep) (y : Typing) → (h : Yields (AreSteps (scope_of old)) old o mid steps) → Yields (IsTyping (scope_of mid)) mid p new y →
+inside-block : (old mid new : Checker) (o : CheckResult BlockSoFar) (p : CheckResult constructs.Typing) (steps : List BlockStep) (y : Typing) → (h : Yields (AreSteps (scope_of old)) old o mid steps) → Yields (IsTyping (scope_of mid)) mid p new y →
     locals_of (arrays_of new) new.locals ≡ h.means.inner.0 ++ locals_of (arrays_of old) old.locals
 inside-block old mid new o p steps y h k = ap (λ (s : Scope). s.locals) (k.means.scope_is ∙ h.means.behind) ∙ h.means.inner.1
 
@@ -164,11 +164,11 @@ count-inside : (old new : Checker) (more : List Local) → locals_of (arrays_of 
 count-inside old new more e =
     omega (arith, count-locals (arrays_of new) new.locals, ap length e, length-append more (locals_of (arrays_of old) old.locals), count-locals (arrays_of old) old.locals)
 
-pub block-within : (old mid new : Checker) (o : CheckResult BlockSoFar) (p : CheckResult constructs.Typing) (steps : List TypedStep) (y : Typing) → Yields (AreSteps (scope_of old)) old o mid steps → Yields (IsTyping (scope_of mid)) mid p new y →
+pub block-within : (old mid new : Checker) (o : CheckResult BlockSoFar) (p : CheckResult constructs.Typing) (steps : List BlockStep) (y : Typing) → Yields (AreSteps (scope_of old)) old o mid steps → Yields (IsTyping (scope_of mid)) mid p new y →
     length old.locals.bound ≤ length new.locals.bound
 block-within old mid new o p steps y h k = omega (arith, count-inside old new h.means.inner.0 (inside-block old mid new o p steps y h k))
 
-pub block-gives : (old mid new : Checker) (o : CheckResult BlockSoFar) (place : ℕ) (value : Option (Scope → CheckResult constructs.Typing)) (steps : List TypedStep) (y : Typing) (l : Locals) (n : ℕ) → Yields (AreSteps (scope_of old)) old o mid steps →
+pub block-gives : (old mid new : Checker) (o : CheckResult BlockSoFar) (place : ℕ) (value : Option (Scope → CheckResult constructs.Typing)) (steps : List BlockStep) (y : Typing) (l : Locals) (n : ℕ) → Yields (AreSteps (scope_of old)) old o mid steps →
     Yields (IsTyping (scope_of mid)) mid (close place value (run-of steps (scope_of mid))) new y → n ≡ length old.locals.bound → AreLocals l →
     ((arrays : List ValueType) → locals_of arrays l ≡ drop (length new.locals.bound - n) (locals_of arrays new.locals)) → shapes_of l ≡ take n (shapes_of new.locals) →
     Yields (IsTyping (scope_of old)) old (o >>= close place value) (record new { locals = l }) y
@@ -195,7 +195,7 @@ block-gives old mid new o place value steps y l n h k count kept left shapes =
     scoped : Checked → List Local → Scope
     scoped d ls = record { design = d; locals = ls }
 
-pub block-ends : (old mid : Checker) (o : CheckResult BlockSoFar) (place : ℕ) (value : Option (Scope → CheckResult constructs.Typing)) (steps : List TypedStep) (e : Stop) → Yields (AreSteps (scope_of old)) old o mid steps →
+pub block-ends : (old mid : Checker) (o : CheckResult BlockSoFar) (place : ℕ) (value : Option (Scope → CheckResult constructs.Typing)) (steps : List BlockStep) (e : Stop) → Yields (AreSteps (scope_of old)) old o mid steps →
     Ends (close place value (run-of steps (scope_of mid))) e → Ends (o >>= close place value) e
 block-ends old mid o place value steps e h k =
     ends-behind o (close place value) h.value e h.gives (ends-same (close place value h.value) (close place value (run-of steps (scope_of mid))) e (ap (close place value) (ap₂ run-of h.means.steps (sym h.means.behind))) k)

@@ -6,9 +6,9 @@ use Rattle.koika_check.specs.BitWeights.{Bodies, Gauging, StepGauge, all_with, a
 use Rattle.koika_check.specs.inner.BitWeights.{gauge_of_step}
 use Rattle.koika_check.specs.inner.Gauges.{all_of, steps_of}
 use Rattle.koika_check.specs.declared.typed.Operation.{Operation}
-use Rattle.koika_check.specs.declared.typed.TypedStep.{TypedStep, fold-roll-TypedStep}
-use Rattle.koika_check.specs.declared.typed.Typed.TheOpen as opened
-use Rattle.koika_check.specs.declared.typed.TypedStep.TheVariants as step
+use Rattle.koika_check.specs.declared.typed.BlockStep.{BlockStep, fold-roll-BlockStep}
+use Rattle.koika_check.specs.declared.typed.BlockStep.TheOpen as opened
+use Rattle.koika_check.specs.declared.typed.BlockStep.TheVariants as step
 use Rattle.koika_check.specs.declared.typed.Typed.{Typed, fold-roll-Typed}
 use Rattle.koika_check.specs.declared.typed.Typed.TheVariants as typed
 
@@ -42,32 +42,32 @@ if_parts b cs bs ws = ap (λ e. gauge_of b e ws) (sym (typed.rolls-If cs bs)) �
 pub gauge-If : (b : Bodies) (cs bs : List Typed) (ws : List ℕ) → gauge_of b (typed.If cs bs) ws ≡ chosen (all_of b cs ws) (all_of b bs ws)
 gauge-If b cs bs ws = if_parts b cs bs ws ∙ ap₂ chosen (with-names b cs ws) (with-names b bs ws)
 
-pub gauge-Block : (b : Bodies) (steps : List TypedStep) (ws : List ℕ) → gauge_of b (typed.Block steps) ws ≡ steps_of b steps ws
+pub gauge-Block : (b : Bodies) (steps : List BlockStep) (ws : List ℕ) → gauge_of b (typed.Block steps) ws ≡ steps_of b steps ws
 unfolding gauge_of gauge_of_step
 gauge-Block b steps ws = ap (λ e. gauge_of b e ws) (sym (typed.rolls-Block steps)) ∙ ap (λ (g : Gauging). g ws) (fold-roll-Typed StepGauge Gauging step_step (typed_step b) (opened.Block steps))
 
 pub step-Let : (b : Bodies) (v : Typed) (after : Gauging) (ws : List ℕ) →
     gauge_of_step b (step.Let v) after ws ≡ more (gauge_of b v ws).squares (after ((gauge_of b v ws).width ∷ ws))
 unfolding gauge_of gauge_of_step
-step-Let b v after ws = ap (λ s. gauge_of_step b s after ws) (sym (step.rolls-Let v)) ∙ ap (λ (s : StepGauge). s after ws) (fold-roll-TypedStep StepGauge Gauging step_step (typed_step b) (opened.Let v))
+step-Let b v after ws = ap (λ s. gauge_of_step b s after ws) (sym (step.rolls-Let v)) ∙ ap (λ (s : StepGauge). s after ws) (fold-roll-BlockStep StepGauge Gauging step_step (typed_step b) (opened.Let v))
 
 pub step-Do : (b : Bodies) (v : Typed) (after : Gauging) (ws : List ℕ) → gauge_of_step b (step.Do v) after ws ≡ more (gauge_of b v ws).squares (after ws)
 unfolding gauge_of gauge_of_step
-step-Do b v after ws = ap (λ s. gauge_of_step b s after ws) (sym (step.rolls-Do v)) ∙ ap (λ (s : StepGauge). s after ws) (fold-roll-TypedStep StepGauge Gauging step_step (typed_step b) (opened.Do v))
+step-Do b v after ws = ap (λ s. gauge_of_step b s after ws) (sym (step.rolls-Do v)) ∙ ap (λ (s : StepGauge). s after ws) (fold-roll-BlockStep StepGauge Gauging step_step (typed_step b) (opened.Do v))
 
 pub step-Give : (b : Bodies) (v : Typed) (after : Gauging) (ws : List ℕ) → gauge_of_step b (step.Give v) after ws ≡ gauge_of b v ws
 unfolding gauge_of gauge_of_step
-step-Give b v after ws = ap (λ s. gauge_of_step b s after ws) (sym (step.rolls-Give v)) ∙ ap (λ (s : StepGauge). s after ws) (fold-roll-TypedStep StepGauge Gauging step_step (typed_step b) (opened.Give v))
+step-Give b v after ws = ap (λ s. gauge_of_step b s after ws) (sym (step.rolls-Give v)) ∙ ap (λ (s : StepGauge). s after ws) (fold-roll-BlockStep StepGauge Gauging step_step (typed_step b) (opened.Give v))
 
 -- a step, and the steps after it
-pub steps-Let : (b : Bodies) (v : Typed) (rest : List TypedStep) (ws : List ℕ) →
+pub steps-Let : (b : Bodies) (v : Typed) (rest : List BlockStep) (ws : List ℕ) →
     steps_of b (step.Let v ∷ rest) ws ≡ more (gauge_of b v ws).squares (steps_of b rest ((gauge_of b v ws).width ∷ ws))
 steps-Let b v rest ws = step-Let b v (steps_of b rest) ws
 
-pub steps-Do : (b : Bodies) (v : Typed) (rest : List TypedStep) (ws : List ℕ) → steps_of b (step.Do v ∷ rest) ws ≡ more (gauge_of b v ws).squares (steps_of b rest ws)
+pub steps-Do : (b : Bodies) (v : Typed) (rest : List BlockStep) (ws : List ℕ) → steps_of b (step.Do v ∷ rest) ws ≡ more (gauge_of b v ws).squares (steps_of b rest ws)
 steps-Do b v rest ws = step-Do b v (steps_of b rest) ws
 
-pub steps-Give : (b : Bodies) (v : Typed) (rest : List TypedStep) (ws : List ℕ) → steps_of b (step.Give v ∷ rest) ws ≡ gauge_of b v ws
+pub steps-Give : (b : Bodies) (v : Typed) (rest : List BlockStep) (ws : List ℕ) → steps_of b (step.Give v ∷ rest) ws ≡ gauge_of b v ws
 steps-Give b v rest ws = step-Give b v (steps_of b rest) ws
 
 pub ruleset gauge_equations = (gauge-Constant, gauge-Local, gauge-Input, gauge-Apply, gauge-If, gauge-Block)

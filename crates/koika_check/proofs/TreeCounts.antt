@@ -6,13 +6,13 @@ use Rattle.koika_types.proofs.Sizes.{sum_by-map}
 use Rattle.koika_check.specs.declared.checked.Checked.{Checked}
 use Rattle.koika_check.specs.declared.checked.CheckedFunction.{CheckedFunction}
 use Rattle.koika_check.specs.declared.typed.Operation.{Operation}
-use Rattle.koika_check.specs.declared.typed.TypedStep.{TypedStep, TypedStep-F, fold-TypedStep, fold-roll-TypedStep}
-use Rattle.koika_check.specs.declared.typed.Typed.TheOpen as opened
-use Rattle.koika_check.specs.declared.typed.TypedStep.TheVariants as step
+use Rattle.koika_check.specs.declared.typed.BlockStep.{BlockStep, BlockStep-F, fold-BlockStep, fold-roll-BlockStep}
+use Rattle.koika_check.specs.declared.typed.BlockStep.TheOpen as opened
+use Rattle.koika_check.specs.declared.typed.BlockStep.TheVariants as step
 use Rattle.koika_check.specs.declared.typed.Typed.{Typed, Typed-F, fold-Typed, fold-roll-Typed}
 use Rattle.koika_check.specs.declared.typed.Typed.TheVariants as typed
 
-abbrev step_part : TypedStep-F ℕ ℕ → ℕ
+abbrev step_part : BlockStep-F ℕ ℕ → ℕ
 step_part (opened.Let n) = n + 1
 step_part (opened.Do n) = n + 1
 step_part (opened.Give n) = n + 1
@@ -28,8 +28,8 @@ typed_part (opened.Block counts) = sum_by (λ n. n) counts + 1
 abbrev pub count : Typed → ℕ
 count = fold-Typed ℕ ℕ step_part typed_part
 
-abbrev pub count_step : TypedStep → ℕ
-count_step = fold-TypedStep ℕ ℕ step_part typed_part
+abbrev pub count_step : BlockStep → ℕ
+count_step = fold-BlockStep ℕ ℕ step_part typed_part
 
 pub count-Apply : (o : Operation) (es : List Typed) → count (typed.Apply o es) ≡ sum_by count es + 1
 count-Apply o es = ap count (sym (typed.rolls-Apply o es)) ∙ fold-roll-Typed ℕ ℕ step_part typed_part (opened.Apply o es) ∙ ap (λ k. k + 1) (sum_by-map (λ n. n) count es)
@@ -39,22 +39,22 @@ count-If cs bs =
     ap count (sym (typed.rolls-If cs bs)) ∙ fold-roll-Typed ℕ ℕ step_part typed_part (opened.If cs bs) ∙
     (λ i. sum_by-map (λ n. n) count cs i + sum_by-map (λ n. n) count bs i + 1)
 
-pub count-Block : (steps : List TypedStep) → count (typed.Block steps) ≡ sum_by count_step steps + 1
+pub count-Block : (steps : List BlockStep) → count (typed.Block steps) ≡ sum_by count_step steps + 1
 count-Block steps = ap count (sym (typed.rolls-Block steps)) ∙ fold-roll-Typed ℕ ℕ step_part typed_part (opened.Block steps) ∙ ap (λ k. k + 1) (sum_by-map (λ n. n) count_step steps)
 
 pub count-Let : (v : Typed) → count_step (step.Let v) ≡ count v + 1
-count-Let v = ap count_step (sym (step.rolls-Let v)) ∙ fold-roll-TypedStep ℕ ℕ step_part typed_part (opened.Let v)
+count-Let v = ap count_step (sym (step.rolls-Let v)) ∙ fold-roll-BlockStep ℕ ℕ step_part typed_part (opened.Let v)
 
 pub count-Do : (v : Typed) → count_step (step.Do v) ≡ count v + 1
-count-Do v = ap count_step (sym (step.rolls-Do v)) ∙ fold-roll-TypedStep ℕ ℕ step_part typed_part (opened.Do v)
+count-Do v = ap count_step (sym (step.rolls-Do v)) ∙ fold-roll-BlockStep ℕ ℕ step_part typed_part (opened.Do v)
 
 pub count-Give : (v : Typed) → count_step (step.Give v) ≡ count v + 1
-count-Give v = ap count_step (sym (step.rolls-Give v)) ∙ fold-roll-TypedStep ℕ ℕ step_part typed_part (opened.Give v)
+count-Give v = ap count_step (sym (step.rolls-Give v)) ∙ fold-roll-BlockStep ℕ ℕ step_part typed_part (opened.Give v)
 
 pub count-one : (es : List Typed) (k : ℕ) (e : Typed) → k < length es → e ≡ get_or es k e → count e ≤ sum_by count es
 count-one es k e below is = omega (arith, sum_by_more_le count es k e below, ap count is)
 
-pub count-first : (steps rest : List TypedStep) (first : TypedStep) → steps ≡ first ∷ rest → sum_by count_step steps ≡ count_step first + sum_by count_step rest
+pub count-first : (steps rest : List BlockStep) (first : BlockStep) → steps ≡ first ∷ rest → sum_by count_step steps ≡ count_step first + sum_by count_step rest
 count-first steps rest first e = ap (sum_by count_step) e ∙ sum_by-cons count_step first rest
 
 -- ---- the bodies of functions

@@ -9,9 +9,9 @@ use Rattle.koika_check.specs.Typing.{Binds, HasType, IsType, Runs, StepsHaveType
 use Rattle.koika_check.specs.inner.Typing.{StepHasType}
 use Rattle.koika_check.specs.Typing as has
 use Rattle.koika_check.specs.declared.checked.Checked.{Checked}
-use Rattle.koika_check.specs.declared.typed.TypedStep.{TypedStep}
-use Rattle.koika_check.specs.declared.typed.Typed.TheOpen as opened
-use Rattle.koika_check.specs.declared.typed.TypedStep.TheVariants as step
+use Rattle.koika_check.specs.declared.typed.BlockStep.{BlockStep}
+use Rattle.koika_check.specs.declared.typed.BlockStep.TheOpen as opened
+use Rattle.koika_check.specs.declared.typed.BlockStep.TheVariants as step
 use Rattle.koika_check.specs.declared.typed.Typed.TheVariants as typed
 use Rattle.koika_check.specs.declared.typed.ValueType.{ValueType}
 use Rattle.koika_check.proofs.Answering.{bind-gives}
@@ -72,7 +72,7 @@ pub record IsRun (d : Checked) (start : List Local) (r : BlockSoFar) : Type 0 wh
   pub locals : List Local
   pub behind : r.behind ≡ scope_at d locals
   pub good : IsGood (scope_at d locals)
-  pub rest : (tail : List TypedStep) (of : Option ValueType) → StepsHaveType (StepHasType d (length d.functions)) tail (types_of locals) of →
+  pub rest : (tail : List BlockStep) (of : Option ValueType) → StepsHaveType (StepHasType d (length d.functions)) tail (types_of locals) of →
       StepsHaveType (StepHasType d (length d.functions)) (r.steps ++ tail) (types_of start) of
 
 bound_too : (d : Checked) (locals : List Local) (l : Local) → IsGood (scope_at d locals) → IsType d l.of → IsGood (scope_at d (l ∷ locals))
@@ -112,7 +112,7 @@ module _ (d : Checked) (start : List Local) where
       let next = bind-gives (run m before) (one_by_one run statements) after e in
       run_all statements next.0 after sound.1 (run_next m before next.0 sound.0 h next.1) next.2
 
-  block_has : (place : ℕ) (of : Option ValueType) (steps : List TypedStep) → StepsHaveType (StepHasType d (length d.functions)) steps (types_of start) of → IsTyped (scope_at d start) (typing of place (typed.Block steps))
+  block_has : (place : ℕ) (of : Option ValueType) (steps : List BlockStep) → StepsHaveType (StepHasType d (length d.functions)) steps (types_of start) of → IsTyped (scope_at d start) (typing of place (typed.Block steps))
   block_has place of steps h = close-HasType d (length d.functions) (typed.Block steps) (opened.Block steps) (typed.rolls-Block steps) (types_of start) of h
 
   close_typed : (place : ℕ) (last : Option ExpressionTyping) (all : BlockSoFar) (x : Typing) → IfSome last Sound → IsRun d start all → close place last all ≡ Gives x → IsTyped (scope_at d start) x

@@ -19,8 +19,8 @@ use Rattle.koika_check.specs.Outcomes.{Gives, CheckResult, ◌>>=◌, found, wro
 use Rattle.koika_check.specs.Scopes.{Local, Scope, called, register}
 use Rattle.koika_check.specs.Types.{struct_named, type_of, wrong_type}
 use Rattle.koika_check.specs.Typing.{Binds, HasType, Runs}
-use Rattle.koika_check.specs.declared.typed.Typed.TheOpen as opened
-use Rattle.koika_check.specs.declared.typed.TypedStep.TheVariants as step
+use Rattle.koika_check.specs.declared.typed.BlockStep.TheOpen as opened
+use Rattle.koika_check.specs.declared.typed.BlockStep.TheVariants as step
 use Rattle.koika_check.proofs.Answering.{bind-gives, found-some}
 use Rattle.koika_check.proofs.TreeParts.{EachOfArm, EachOfBlock, EachOfExpression, EachOfFieldValue, EachOfOperand, EachOfStatement, Such, each_of_arm, each_of_block, each_of_expression, each_of_field_value, each_of_operand, each_of_statement}
 use Rattle.koika_check.proofs.TypedBlocks.{Sound, SoundStep, IsStepped, block-typed, chain-typed, scope_at}

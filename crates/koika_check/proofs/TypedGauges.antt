@@ -31,9 +31,9 @@ use Rattle.koika_check.specs.declared.typed.Operation.{Operation}
 use Rattle.koika_check.specs.declared.typed.Operation.TheVariants as operation
 use Rattle.koika_check.specs.declared.typed.Selection.{Selection}
 use Rattle.koika_check.specs.declared.typed.Selection.TheVariants as selection
-use Rattle.koika_check.specs.declared.typed.TypedStep.{TypedStep, TypedStep-F, map-TypedStep, roll-TypedStep}
-use Rattle.koika_check.specs.declared.typed.Typed.TheOpen as opened
-use Rattle.koika_check.specs.declared.typed.TypedStep.TheVariants as step
+use Rattle.koika_check.specs.declared.typed.BlockStep.{BlockStep, BlockStep-F, map-BlockStep, roll-BlockStep}
+use Rattle.koika_check.specs.declared.typed.BlockStep.TheOpen as opened
+use Rattle.koika_check.specs.declared.typed.BlockStep.TheVariants as step
 use Rattle.koika_check.specs.declared.typed.Typed.{Typed, Typed-F, ind-Typed, map-Typed, roll-Typed}
 use Rattle.koika_check.specs.declared.typed.Typed.TheVariants as typed
 use Rattle.koika_check.specs.declared.typed.ValueType.{ValueType}
@@ -283,12 +283,12 @@ module _ (d : Checked) (h : IsTypedDesign d) (n : ℕ) (bodies : List Gauge) (we
   abbrev step_weight : StepSize → ℕ
   step_weight s = s.statement + s.value.weight
 
-  abbrev StepIs : TypedStep → List ValueType → Doing → Type 0
+  abbrev StepIs : BlockStep → List ValueType → Doing → Type 0
   StepIs x locals (Binds of) = IsType d of × ((squares : ℕ) × (squares ≤ 16384 * step_weight (size_of_step R x)) × ((after : Gauging) → gauge_of_step B x after (at_types locals) ≡ more squares (after (width_of d of ∷ at_types locals))))
   StepIs x locals Runs = (squares : ℕ) × (squares ≤ 16384 * step_weight (size_of_step R x)) × ((after : Gauging) → gauge_of_step B x after (at_types locals) ≡ more squares (after (at_types locals)))
   StepIs x locals (Gives of) = (g : Gauge) × IsFine d of g (step_weight (size_of_step R x)) × ((after : Gauging) → gauge_of_step B x after (at_types locals) ≡ g)
 
-  abbrev StepFine : TypedStep → Type 0
+  abbrev StepFine : BlockStep → Type 0
   StepFine x = (locals : List ValueType) (doing : Doing) → All (IsType d) locals → StepHasType d n x locals doing → StepIs x locals doing
 
   operands-fine : (xs : List Typed) (ts : List ValueType) (locals : List ValueType) → AllByRecursion TypedFine xs → All (IsType d) locals → Pairwise (λ x t. HasType d n x locals (Some t)) xs ts →
@@ -322,11 +322,11 @@ module _ (d : Checked) (h : IsTypedDesign d) (n : ℕ) (bodies : List Gauge) (we
   bound_too locals t types valid zero b lt = valid
   bound_too locals t types valid (suc k) b lt = types k b (omega (arith, lt))
 
-  abbrev all_steps : List TypedStep → ℕ
-  all_steps = sum_by (λ (x : TypedStep). step_weight (size_of_step R x))
+  abbrev all_steps : List BlockStep → ℕ
+  all_steps = sum_by (λ (x : BlockStep). step_weight (size_of_step R x))
 
-  step-cons : (x : TypedStep) (xs : List TypedStep) → all_steps (x ∷ xs) ≡ step_weight (size_of_step R x) + all_steps xs
-  step-cons x xs = sum_by-cons (λ (x : TypedStep). step_weight (size_of_step R x)) x xs
+  step-cons : (x : BlockStep) (xs : List BlockStep) → all_steps (x ∷ xs) ≡ step_weight (size_of_step R x) + all_steps xs
+  step-cons x xs = sum_by-cons (λ (x : BlockStep). step_weight (size_of_step R x)) x xs
 
   -- a step and what is after it
   after-step : (of : Option ValueType) (whole after : Gauge) (squares one rest all : ℕ) → whole ≡ more squares after → squares ≤ 16384 * one → IsFine d of after rest → all ≡ one + rest → IsFine d of whole all
@@ -336,7 +336,7 @@ module _ (d : Checked) (h : IsTypedDesign d) (n : ℕ) (bodies : List Gauge) (we
     squares = let more_few = fine.squares in omega (arith, ap (λ (g : Gauge). g.squares) e, few, more_few, sum);
   }
 
-  steps-fine : (xs : List TypedStep) (locals : List ValueType) (of : Option ValueType) → AllByRecursion StepFine xs → All (IsType d) locals → StepsHaveType (StepHasType d n) xs locals of → IsFine d of (steps_of B xs (at_types locals)) (all_steps xs)
+  steps-fine : (xs : List BlockStep) (locals : List ValueType) (of : Option ValueType) → AllByRecursion StepFine xs → All (IsType d) locals → StepsHaveType (StepHasType d n) xs locals of → IsFine d of (steps_of B xs (at_types locals)) (all_steps xs)
   steps-fine [] locals of each types are = fine-none d of (gauge 0 0) 0 are refl (omega arith)
   steps-fine (x ∷ xs) locals of each types (inl are) =
       let one = each.0 locals (Binds are.0) types are.1 in
@@ -356,7 +356,7 @@ module _ (d : Checked) (h : IsTypedDesign d) (n : ℕ) (bodies : List Gauge) (we
         squares = omega (arith, ap (λ (g : Gauge). g.squares) same, few, step-cons x xs);
       }
 
-  abbrev EachTyped : Typed-F TypedStep Typed → Type 0
+  abbrev EachTyped : Typed-F BlockStep Typed → Type 0
   EachTyped (opened.Constant v) = Unit {0}
   EachTyped (opened.Local index) = Unit {0}
   EachTyped (opened.Input number) = Unit {0}
@@ -364,7 +364,7 @@ module _ (d : Checked) (h : IsTypedDesign d) (n : ℕ) (bodies : List Gauge) (we
   EachTyped (opened.If conditions arms) = AllByRecursion TypedFine conditions × AllByRecursion TypedFine arms
   EachTyped (opened.Block steps) = AllByRecursion StepFine steps
 
-  each_typed : (y : Typed-F (Such StepFine) (Such TypedFine)) → EachTyped (map-Typed (Such StepFine) (Such TypedFine) TypedStep Typed (λ e. e.0) (λ e. e.0) y)
+  each_typed : (y : Typed-F (Such StepFine) (Such TypedFine)) → EachTyped (map-Typed (Such StepFine) (Such TypedFine) BlockStep Typed (λ e. e.0) (λ e. e.0) y)
   each_typed (opened.Constant v) = tt
   each_typed (opened.Local index) = tt
   each_typed (opened.Input number) = tt
@@ -388,7 +388,7 @@ module _ (d : Checked) (h : IsTypedDesign d) (n : ℕ) (bodies : List Gauge) (we
   no_arms [] ws e = refl
   no_arms (x ∷ xs) ws e = absurd (omega arith)
 
-  part-fine : (x : Typed-F TypedStep Typed) → EachTyped x → (locals : List ValueType) (of : Option ValueType) → All (IsType d) locals → PartHasType d n (StepHasType d n) (HasType d n) x locals of →
+  part-fine : (x : Typed-F BlockStep Typed) → EachTyped x → (locals : List ValueType) (of : Option ValueType) → All (IsType d) locals → PartHasType d n (StepHasType d n) (HasType d n) x locals of →
       IsFine d of (gauge_of B (roll-Typed x) (at_types locals)) (size_of R (roll-Typed x)).weight
   part-fine (opened.Constant v) each locals of types has =
       rolled of _ (typed.Constant v) locals (typed.rolls-Constant v)
@@ -421,23 +421,23 @@ module _ (d : Checked) (h : IsTypedDesign d) (n : ℕ) (bodies : List Gauge) (we
       (known of (typed.Block steps) locals _ _ (gauge-Block B steps (at_types locals)) (size-Block R steps)
       (record { valid = fine.valid; width = fine.width; squares = omega (arith, few, total) }))
 
-  typed_layer : (x : Typed-F TypedStep Typed) (y : Typed-F (Such StepFine) (Such TypedFine)) → map-Typed (Such StepFine) (Such TypedFine) TypedStep Typed (λ e. e.0) (λ e. e.0) y ≡ x → TypedFine (roll-Typed x)
+  typed_layer : (x : Typed-F BlockStep Typed) (y : Typed-F (Such StepFine) (Such TypedFine)) → map-Typed (Such StepFine) (Such TypedFine) BlockStep Typed (λ e. e.0) (λ e. e.0) y ≡ x → TypedFine (roll-Typed x)
   typed_layer x y same locals of types has = part-fine x (subst EachTyped same (each_typed y)) locals of types (open-HasType d n (roll-Typed x) x refl locals of has)
 
-  abbrev EachStep : TypedStep-F TypedStep Typed → Type 0
+  abbrev EachStep : BlockStep-F BlockStep Typed → Type 0
   EachStep (opened.Let v) = TypedFine v
   EachStep (opened.Do v) = TypedFine v
   EachStep (opened.Give v) = TypedFine v
 
-  each_step : (y : TypedStep-F (Such StepFine) (Such TypedFine)) → EachStep (map-TypedStep (Such StepFine) (Such TypedFine) TypedStep Typed (λ e. e.0) (λ e. e.0) y)
+  each_step : (y : BlockStep-F (Such StepFine) (Such TypedFine)) → EachStep (map-BlockStep (Such StepFine) (Such TypedFine) BlockStep Typed (λ e. e.0) (λ e. e.0) y)
   each_step (opened.Let v) = v.1
   each_step (opened.Do v) = v.1
   each_step (opened.Give v) = v.1
 
-  rolled_step : (x y : TypedStep) (locals : List ValueType) (doing : Doing) → x ≡ y → StepIs y locals doing → StepIs x locals doing
-  rolled_step x y locals doing e is = subst (λ (z : TypedStep). StepIs z locals doing) (sym e) is
+  rolled_step : (x y : BlockStep) (locals : List ValueType) (doing : Doing) → x ≡ y → StepIs y locals doing → StepIs x locals doing
+  rolled_step x y locals doing e is = subst (λ (z : BlockStep). StepIs z locals doing) (sym e) is
 
-  step-does : (x : TypedStep-F TypedStep Typed) → EachStep x → (locals : List ValueType) (doing : Doing) → All (IsType d) locals → StepDoes (HasType d n) x locals doing → StepIs (roll-TypedStep x) locals doing
+  step-does : (x : BlockStep-F BlockStep Typed) → EachStep x → (locals : List ValueType) (doing : Doing) → All (IsType d) locals → StepDoes (HasType d n) x locals doing → StepIs (roll-BlockStep x) locals doing
   step-does (opened.Let v) each locals (Binds of) types has =
       let one = each locals (Some of) types has in
       let ws = at_types locals in
@@ -465,8 +465,8 @@ module _ (d : Checked) (h : IsTypedDesign d) (n : ℕ) (bodies : List Gauge) (we
       rolled_step _ (step.Give v) locals (Gives of) (step.rolls-Give v)
       (gauge_of B v ws, record { valid = one.valid; width = one.width; squares = omega (arith, few, weight) }, λ after. step-Give B v after ws)
 
-  step_layer : (x : TypedStep-F TypedStep Typed) (y : TypedStep-F (Such StepFine) (Such TypedFine)) → map-TypedStep (Such StepFine) (Such TypedFine) TypedStep Typed (λ e. e.0) (λ e. e.0) y ≡ x → StepFine (roll-TypedStep x)
-  step_layer x y same locals doing types has = step-does x (subst EachStep same (each_step y)) locals doing types (open-step d n (roll-TypedStep x) x refl locals doing has)
+  step_layer : (x : BlockStep-F BlockStep Typed) (y : BlockStep-F (Such StepFine) (Such TypedFine)) → map-BlockStep (Such StepFine) (Such TypedFine) BlockStep Typed (λ e. e.0) (λ e. e.0) y ≡ x → StepFine (roll-BlockStep x)
+  step_layer x y same locals doing types has = step-does x (subst EachStep same (each_step y)) locals doing types (open-step d n (roll-BlockStep x) x refl locals doing has)
 
   pub typed-fine : (x : Typed) (locals : List ValueType) (of : Option ValueType) → All (IsType d) locals → HasType d n x locals of → IsFine d of (gauge_of B x (map (width_of d) locals)) (size_of R x).weight
   typed-fine = ind-Typed StepFine TypedFine step_layer typed_layer

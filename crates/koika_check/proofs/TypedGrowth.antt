@@ -31,8 +31,8 @@ use Rattle.koika_check.specs.declared.typed.Operation.{Operation}
 use Rattle.koika_check.specs.declared.typed.Operation.TheVariants as operation
 use Rattle.koika_check.specs.declared.typed.Selection.{Selection}
 use Rattle.koika_check.specs.declared.typed.Selection.TheVariants as selection
-use Rattle.koika_check.specs.declared.typed.TypedStep.{TypedStep, TypedStep-F, map-TypedStep, roll-TypedStep}
-use Rattle.koika_check.specs.declared.typed.Typed.TheOpen as opened
+use Rattle.koika_check.specs.declared.typed.BlockStep.{BlockStep, BlockStep-F, map-BlockStep, roll-BlockStep}
+use Rattle.koika_check.specs.declared.typed.BlockStep.TheOpen as opened
 use Rattle.koika_check.specs.declared.typed.Typed.{Typed, Typed-F, ind-Typed, map-Typed, roll-Typed}
 use Rattle.koika_check.specs.declared.typed.ValueType.{ValueType}
 use Rattle.koika_check.proofs.CalledTypes.{answer-width}
@@ -307,7 +307,7 @@ module _ (d e : Checked) (g : Extends d e) (h : IsTypedSoFar d) (n m : ℕ) (le 
   ValidDoing Runs = Unit {0}
   ValidDoing (Gives of) = Valid of
 
-  abbrev StepStays : TypedStep → Type 0
+  abbrev StepStays : BlockStep → Type 0
   StepStays x = (locals : List ValueType) (doing : Doing) → All (IsType d) locals → StepHasType d n x locals doing → ValidDoing doing × StepHasType e m x locals doing
 
   operands_stay : (xs : List Typed) (ts : List ValueType) (locals : List ValueType) → AllByRecursion TypedStays xs → All (IsType d) locals → Pairwise (λ x t. HasType d n x locals (Some t)) xs ts →
@@ -327,7 +327,7 @@ module _ (d e : Checked) (g : Extends d e) (h : IsTypedSoFar d) (n m : ℕ) (le 
       let one = stay.0 locals of types are.0 in
       (λ some. one.0, (one.1, (all_stay xs locals of stay.1 types are.1).1))
 
-  steps_stay : (xs : List TypedStep) (locals : List ValueType) (of : Option ValueType) → AllByRecursion StepStays xs → All (IsType d) locals → StepsHaveType (StepHasType d n) xs locals of →
+  steps_stay : (xs : List BlockStep) (locals : List ValueType) (of : Option ValueType) → AllByRecursion StepStays xs → All (IsType d) locals → StepsHaveType (StepHasType d n) xs locals of →
       Valid of × StepsHaveType (StepHasType e m) xs locals of
   steps_stay [] locals of stay types are = (subst Valid (sym are) tt, are)
   steps_stay (x ∷ xs) locals of stay types (inl are) =
@@ -350,7 +350,7 @@ module _ (d e : Checked) (g : Extends d e) (h : IsTypedSoFar d) (n m : ℕ) (le 
   arms_valid conditions bodies of (inl one_more) some = some (omega (arith, one_more))
   arms_valid conditions bodies of (inr unit) some = subst Valid (sym unit.1) tt
 
-  abbrev EachTyped : Typed-F TypedStep Typed → Type 0
+  abbrev EachTyped : Typed-F BlockStep Typed → Type 0
   EachTyped (opened.Constant v) = Unit {0}
   EachTyped (opened.Local index) = Unit {0}
   EachTyped (opened.Input number) = Unit {0}
@@ -358,7 +358,7 @@ module _ (d e : Checked) (g : Extends d e) (h : IsTypedSoFar d) (n m : ℕ) (le 
   EachTyped (opened.If conditions bodies) = AllByRecursion TypedStays conditions × AllByRecursion TypedStays bodies
   EachTyped (opened.Block steps) = AllByRecursion StepStays steps
 
-  each_typed : (y : Typed-F (Such StepStays) (Such TypedStays)) → EachTyped (map-Typed (Such StepStays) (Such TypedStays) TypedStep Typed (λ e. e.0) (λ e. e.0) y)
+  each_typed : (y : Typed-F (Such StepStays) (Such TypedStays)) → EachTyped (map-Typed (Such StepStays) (Such TypedStays) BlockStep Typed (λ e. e.0) (λ e. e.0) y)
   each_typed (opened.Constant v) = tt
   each_typed (opened.Local index) = tt
   each_typed (opened.Input number) = tt
@@ -366,7 +366,7 @@ module _ (d e : Checked) (g : Extends d e) (h : IsTypedSoFar d) (n m : ℕ) (le 
   each_typed (opened.If conditions bodies) = (firsts TypedStays conditions, firsts TypedStays bodies)
   each_typed (opened.Block steps) = firsts StepStays steps
 
-  part_has : (x : Typed-F TypedStep Typed) → EachTyped x → (locals : List ValueType) (of : Option ValueType) → All (IsType d) locals → PartHasType d n (StepHasType d n) (HasType d n) x locals of →
+  part_has : (x : Typed-F BlockStep Typed) → EachTyped x → (locals : List ValueType) (of : Option ValueType) → All (IsType d) locals → PartHasType d n (StepHasType d n) (HasType d n) x locals of →
       Valid of × PartHasType e m (StepHasType e m) (HasType e m) x locals of
   part_has (opened.Constant v) each locals of types has = (subst Valid (sym has.3) has.2, (has.0, value-stays d e g h v has.0 has.2 has.1, type-stays d e g has.0 has.2, has.3))
   part_has (opened.Local index) each locals of types has = (subst Valid (sym has.2) (all-at (IsType d) locals index has.0 types has.1), has)
@@ -382,23 +382,23 @@ module _ (d e : Checked) (g : Extends d e) (h : IsTypedSoFar d) (n m : ℕ) (le 
       (arms_valid (length conditions) (length bodies) of has.2 second.0, (first.1, second.1, has.2))
   part_has (opened.Block steps) each locals of types has = steps_stay steps locals of each types has
 
-  typed_layer : (x : Typed-F TypedStep Typed) (y : Typed-F (Such StepStays) (Such TypedStays)) → map-Typed (Such StepStays) (Such TypedStays) TypedStep Typed (λ e. e.0) (λ e. e.0) y ≡ x → TypedStays (roll-Typed x)
+  typed_layer : (x : Typed-F BlockStep Typed) (y : Typed-F (Such StepStays) (Such TypedStays)) → map-Typed (Such StepStays) (Such TypedStays) BlockStep Typed (λ e. e.0) (λ e. e.0) y ≡ x → TypedStays (roll-Typed x)
   typed_layer x y same locals of types has =
       let opens = open-HasType d n (roll-Typed x) x refl locals of has in
       let it = part_has x (subst EachTyped same (each_typed y)) locals of types opens in
       (it.0, close-HasType e m (roll-Typed x) x refl locals of it.1)
 
-  abbrev EachStep : TypedStep-F TypedStep Typed → Type 0
+  abbrev EachStep : BlockStep-F BlockStep Typed → Type 0
   EachStep (opened.Let v) = TypedStays v
   EachStep (opened.Do v) = TypedStays v
   EachStep (opened.Give v) = TypedStays v
 
-  each_step : (y : TypedStep-F (Such StepStays) (Such TypedStays)) → EachStep (map-TypedStep (Such StepStays) (Such TypedStays) TypedStep Typed (λ e. e.0) (λ e. e.0) y)
+  each_step : (y : BlockStep-F (Such StepStays) (Such TypedStays)) → EachStep (map-BlockStep (Such StepStays) (Such TypedStays) BlockStep Typed (λ e. e.0) (λ e. e.0) y)
   each_step (opened.Let v) = v.1
   each_step (opened.Do v) = v.1
   each_step (opened.Give v) = v.1
 
-  step_does : (x : TypedStep-F TypedStep Typed) → EachStep x → (locals : List ValueType) (doing : Doing) → All (IsType d) locals → StepDoes (HasType d n) x locals doing → ValidDoing doing × StepDoes (HasType e m) x locals doing
+  step_does : (x : BlockStep-F BlockStep Typed) → EachStep x → (locals : List ValueType) (doing : Doing) → All (IsType d) locals → StepDoes (HasType d n) x locals doing → ValidDoing doing × StepDoes (HasType e m) x locals doing
   step_does (opened.Let v) each locals (Binds of) types has = each locals (Some of) types has
   step_does (opened.Let v) each locals Runs types has = absurd has
   step_does (opened.Let v) each locals (Gives of) types has = absurd has
@@ -409,11 +409,11 @@ module _ (d e : Checked) (g : Extends d e) (h : IsTypedSoFar d) (n m : ℕ) (le 
   step_does (opened.Give v) each locals Runs types has = absurd has
   step_does (opened.Give v) each locals (Gives of) types has = each locals of types has
 
-  step_layer : (x : TypedStep-F TypedStep Typed) (y : TypedStep-F (Such StepStays) (Such TypedStays)) → map-TypedStep (Such StepStays) (Such TypedStays) TypedStep Typed (λ e. e.0) (λ e. e.0) y ≡ x → StepStays (roll-TypedStep x)
+  step_layer : (x : BlockStep-F BlockStep Typed) (y : BlockStep-F (Such StepStays) (Such TypedStays)) → map-BlockStep (Such StepStays) (Such TypedStays) BlockStep Typed (λ e. e.0) (λ e. e.0) y ≡ x → StepStays (roll-BlockStep x)
   step_layer x y same locals doing types has =
-      let opens = open-step d n (roll-TypedStep x) x refl locals doing has in
+      let opens = open-step d n (roll-BlockStep x) x refl locals doing has in
       let it = step_does x (subst EachStep same (each_step y)) locals doing types opens in
-      (it.0, close-step e m (roll-TypedStep x) x refl locals doing it.1)
+      (it.0, close-step e m (roll-BlockStep x) x refl locals doing it.1)
 
   -- an expression has the type that it had, and the type is valid
   pub typed-stays : (x : Typed) (locals : List ValueType) (of : Option ValueType) → All (IsType d) locals → HasType d n x locals of → IfSome of (IsType d) × HasType e m x locals of

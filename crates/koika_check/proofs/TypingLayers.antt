@@ -13,8 +13,8 @@ use Rattle.koika_check.specs.inner.Typing.{StepHasType}
 use Rattle.koika_check.specs.declared.checked.Checked.{Checked}
 use Rattle.koika_check.specs.declared.checked.CheckedField.{CheckedField}
 use Rattle.koika_check.specs.declared.typed.BaseType.TheVariants as base
-use Rattle.koika_check.specs.declared.typed.TypedStep.{TypedStep, TypedStep-F, rec-roll-TypedStep, map-TypedStep, roll-TypedStep}
-use Rattle.koika_check.specs.declared.typed.Typed.TheOpen as opened
+use Rattle.koika_check.specs.declared.typed.BlockStep.{BlockStep, BlockStep-F, rec-roll-BlockStep, map-BlockStep, roll-BlockStep}
+use Rattle.koika_check.specs.declared.typed.BlockStep.TheOpen as opened
 use Rattle.koika_check.specs.declared.typed.Typed.{Typed, Typed-F, rec-roll-Typed, map-Typed, roll-Typed}
 use Rattle.koika_check.specs.declared.typed.ValueType.{ValueType}
 
@@ -41,7 +41,7 @@ steps-map does f (x ∷ xs) locals of = λ i.
     (does (f x) locals (Gives of) × end-map f xs i)
 
 module _ {X X' Y Y' : Type 0} (f : X → X') (g : Y → Y') (is : Y' → List ValueType → Option ValueType → Type 0) where
-  StepDoes-map : (s : TypedStep-F X Y) (locals : List ValueType) (doing : Doing) → StepDoes (λ y. is (g y)) s locals doing ≡ StepDoes is (map-TypedStep X Y X' Y' f g s) locals doing
+  StepDoes-map : (s : BlockStep-F X Y) (locals : List ValueType) (doing : Doing) → StepDoes (λ y. is (g y)) s locals doing ≡ StepDoes is (map-BlockStep X Y X' Y' f g s) locals doing
   StepDoes-map (opened.Let v) locals (Binds of) = refl
   StepDoes-map (opened.Let v) locals Runs = refl
   StepDoes-map (opened.Let v) locals (Gives of) = refl
@@ -65,30 +65,30 @@ module _ {X X' Y Y' : Type 0} (f : X → X') (g : Y → Y') (is : Y' → List Va
   PartHasType-map d n does (opened.Block steps) locals of = steps-map does f steps locals of
 
 module _ (d : Checked) (n : ℕ) where
-  whole : (x : Typed-F TypedStep Typed) → HasType d n (roll-Typed x) ≡ PartHasType d n (StepHasType d n) (HasType d n) x
+  whole : (x : Typed-F BlockStep Typed) → HasType d n (roll-Typed x) ≡ PartHasType d n (StepHasType d n) (HasType d n) x
   whole x = rec-roll-Typed (List ValueType → Doing → Type 0) (List ValueType → Option ValueType → Type 0)
       (λ X Y s w does is. StepDoes is) (λ X Y s w does is. PartHasType d n does is)
       (λ X Y v w k h y i locals of. PartHasType-map v w h d n k y locals of i) x
 
-  step_whole : (x : TypedStep-F TypedStep Typed) → StepHasType d n (roll-TypedStep x) ≡ StepDoes (HasType d n) x
-  step_whole x = rec-roll-TypedStep (List ValueType → Doing → Type 0) (List ValueType → Option ValueType → Type 0)
+  step_whole : (x : BlockStep-F BlockStep Typed) → StepHasType d n (roll-BlockStep x) ≡ StepDoes (HasType d n) x
+  step_whole x = rec-roll-BlockStep (List ValueType → Doing → Type 0) (List ValueType → Option ValueType → Type 0)
       (λ X Y s w does is. StepDoes is) (λ X Y s w does is. PartHasType d n does is)
       (λ X Y v w k h y i locals doing. StepDoes-map v w h y locals doing i) x
 
   -- an expression, and a step, of which the outermost part is known
-  pub open-HasType : (t : Typed) (x : Typed-F TypedStep Typed) → roll-Typed x ≡ t → (locals : List ValueType) (of : Option ValueType) →
+  pub open-HasType : (t : Typed) (x : Typed-F BlockStep Typed) → roll-Typed x ≡ t → (locals : List ValueType) (of : Option ValueType) →
       HasType d n t locals of → PartHasType d n (StepHasType d n) (HasType d n) x locals of
   open-HasType t x e locals of h = subst (λ (is : List ValueType → Option ValueType → Type 0). is locals of) (ap (HasType d n) (sym e) ∙ whole x) h
 
-  pub close-HasType : (t : Typed) (x : Typed-F TypedStep Typed) → roll-Typed x ≡ t → (locals : List ValueType) (of : Option ValueType) →
+  pub close-HasType : (t : Typed) (x : Typed-F BlockStep Typed) → roll-Typed x ≡ t → (locals : List ValueType) (of : Option ValueType) →
       PartHasType d n (StepHasType d n) (HasType d n) x locals of → HasType d n t locals of
   close-HasType t x e locals of h = subst (λ (is : List ValueType → Option ValueType → Type 0). is locals of) (sym (ap (HasType d n) (sym e) ∙ whole x)) h
 
-  pub open-step : (t : TypedStep) (x : TypedStep-F TypedStep Typed) → roll-TypedStep x ≡ t → (locals : List ValueType) (doing : Doing) →
+  pub open-step : (t : BlockStep) (x : BlockStep-F BlockStep Typed) → roll-BlockStep x ≡ t → (locals : List ValueType) (doing : Doing) →
       StepHasType d n t locals doing → StepDoes (HasType d n) x locals doing
   open-step t x e locals doing h = subst (λ (is : List ValueType → Doing → Type 0). is locals doing) (ap (StepHasType d n) (sym e) ∙ step_whole x) h
 
-  pub close-step : (t : TypedStep) (x : TypedStep-F TypedStep Typed) → roll-TypedStep x ≡ t → (locals : List ValueType) (doing : Doing) →
+  pub close-step : (t : BlockStep) (x : BlockStep-F BlockStep Typed) → roll-BlockStep x ≡ t → (locals : List ValueType) (doing : Doing) →
       StepDoes (HasType d n) x locals doing → StepHasType d n t locals doing
   close-step t x e locals doing h = subst (λ (is : List ValueType → Doing → Type 0). is locals doing) (sym (ap (StepHasType d n) (sym e) ∙ step_whole x)) h
 

@@ -20,8 +20,8 @@ use Rattle.koika_check.specs.declared.typed.Operation.{Operation}
 use Rattle.koika_check.specs.declared.typed.Operation.TheVariants as operation
 use Rattle.koika_check.specs.declared.typed.Selection.{Selection}
 use Rattle.koika_check.specs.declared.typed.Selection.TheVariants as selection
-use Rattle.koika_check.specs.declared.typed.TypedStep.{TypedStep, TypedStep-F}
-use Rattle.koika_check.specs.declared.typed.Typed.TheOpen as typed
+use Rattle.koika_check.specs.declared.typed.BlockStep.{BlockStep, BlockStep-F}
+use Rattle.koika_check.specs.declared.typed.BlockStep.TheOpen as typed
 use Rattle.koika_check.specs.declared.typed.Typed.{Typed, Typed-F, fold-Typed}
 
 -- the width of an expression's value, 0 where it is unit, and the sum of w * w over its operators `*` on w bits
@@ -169,7 +169,7 @@ steps_in_turn [] names = gauge 0 0
 steps_in_turn (step ∷ rest) names = step (steps_in_turn rest) names
 
 -- a statement, and then what follows it
-abbrev pub step_step : TypedStep-F StepGauge Gauging → StepGauge
+abbrev pub step_step : BlockStep-F StepGauge Gauging → StepGauge
 step_step (typed.Let value) after names = let bound : Gauge = value names in more bound.squares (after (bound.width ∷ names))
 step_step (typed.Do value) after names = more (value names).squares (after names)
 step_step (typed.Give value) after names = value names

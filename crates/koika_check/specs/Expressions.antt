@@ -15,15 +15,15 @@ use Rattle.koika_check.specs.Outcomes.{CheckResult, ◌>>=◌, Gives, in_turn, o
 use Rattle.koika_check.specs.Types.{struct_named, type_of, wrong_type}
 use Rattle.koika_check.specs.Constructs.{ArmTyping, FieldTyping, Joined, Typing, abort_at, array_in, call, chained, comparison, conditional, extended, join, literal, member_in, named, packed, postfix, read_in, struct_in, typing, unary, unpacked, updated, written}
 use Rattle.koika_check.specs.Scopes.{Scope, bound, called, register}
-use Rattle.koika_check.specs.declared.typed.TypedStep.{TypedStep}
-use Rattle.koika_check.specs.declared.typed.TypedStep.TheVariants as step
+use Rattle.koika_check.specs.declared.typed.BlockStep.{BlockStep}
+use Rattle.koika_check.specs.declared.typed.BlockStep.TheVariants as step
 use Rattle.koika_check.specs.declared.typed.Typed.TheVariants as typed
 
 -- ---- what the parts of an expression evaluate to
 
 -- a statement that is well typed, and what names stand for after it
 pub record Stepping : Type 0 where
-  pub step : TypedStep
+  pub step : BlockStep
   pub behind : Scope
 
 -- what each of them evaluates to in a scope
@@ -68,7 +68,7 @@ chain_in scope rest first = one_by_one (join_in scope) rest (record { left = fir
 
 -- statements in order, each in the scope that those before it leave
 pub record BlockSoFar : Type 0 where
-  pub steps : List TypedStep
+  pub steps : List BlockStep
   pub behind : Scope
 
 -- one statement more of a block

@@ -36,8 +36,8 @@ use Rattle.koika_check.specs.declared.typed.Operation.{Operation}
 use Rattle.koika_check.specs.declared.typed.Operation.TheVariants as operation
 use Rattle.koika_check.specs.declared.typed.Selection.{Selection}
 use Rattle.koika_check.specs.declared.typed.Selection.TheVariants as selection
-use Rattle.koika_check.specs.declared.typed.TypedStep.{TypedStep-F}
-use Rattle.koika_check.specs.declared.typed.Typed.TheOpen as typed
+use Rattle.koika_check.specs.declared.typed.BlockStep.{BlockStep-F}
+use Rattle.koika_check.specs.declared.typed.BlockStep.TheOpen as typed
 use Rattle.koika_check.specs.declared.typed.Typed.{Typed, Typed-F, fold-Typed}
 use Rattle.koika_check.specs.declared.typed.ValueType.{ValueType}
 
@@ -259,7 +259,7 @@ steps_in_turn [] locals = comes_to None
 steps_in_turn (step ∷ rest) locals = step (steps_in_turn rest) locals
 
 -- what a statement does, and then what follows it
-abbrev pub step_step : {S : Type 0} → TypedStep-F (StepMeaning S) (Meaning S) → StepMeaning S
+abbrev pub step_step : {S : Type 0} → BlockStep-F (StepMeaning S) (Meaning S) → StepMeaning S
 step_step (typed.Let v) behind locals = v locals >>= λ bound. behind (with_value bound locals)
 step_step (typed.Do v) behind locals = v locals >>= λ _. behind locals
 step_step (typed.Give v) behind locals = v locals

@@ -10,9 +10,9 @@ use Rattle.koika_check.specs.declared.checked.CheckedRule.{CheckedRule}
 use Rattle.koika_check.specs.declared.checked.Table.{Table}
 use Rattle.koika_check.specs.declared.typed.Operation.{Operation}
 use Rattle.koika_check.specs.declared.typed.Operation.TheVariants as operation
-use Rattle.koika_check.specs.declared.typed.TypedStep.{TypedStep, TypedStep-F}
+use Rattle.koika_check.specs.declared.typed.BlockStep.{BlockStep, BlockStep-F}
 use Rattle.koika_check.specs.declared.typed.Typed.{Typed, Typed-F, fold-Typed}
-use Rattle.koika_check.specs.declared.typed.Typed.TheOpen as typed
+use Rattle.koika_check.specs.declared.typed.BlockStep.TheOpen as typed
 
 -- a weight and a depth
 pub record Size : Type 0 where
@@ -157,7 +157,7 @@ typed_step r (typed.If conditions bodies) = heavier (length conditions) (both (o
 typed_step r (typed.Block steps) = heavier 1 (steps_size steps)
 
 -- the size of a statement
-abbrev pub step_step : TypedStep-F StepSize Size → StepSize
+abbrev pub step_step : BlockStep-F StepSize Size → StepSize
 step_step (typed.Let value) = record { statement = 1; value = value }
 step_step (typed.Do value) = record { statement = 1; value = value }
 step_step (typed.Give value) = record { statement = 0; value = value }

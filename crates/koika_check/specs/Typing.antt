@@ -33,8 +33,8 @@ use Rattle.koika_check.specs.declared.typed.Operation.{Operation}
 use Rattle.koika_check.specs.declared.typed.Operation.TheVariants as operation
 use Rattle.koika_check.specs.declared.typed.Selection.{Selection}
 use Rattle.koika_check.specs.declared.typed.Selection.TheVariants as selection
-use Rattle.koika_check.specs.declared.typed.TypedStep.{TypedStep, TypedStep-F}
-use Rattle.koika_check.specs.declared.typed.Typed.TheOpen as typed
+use Rattle.koika_check.specs.declared.typed.BlockStep.{BlockStep, BlockStep-F}
+use Rattle.koika_check.specs.declared.typed.BlockStep.TheOpen as typed
 use Rattle.koika_check.specs.declared.typed.Typed.{Typed, Typed-F, rec-Typed}
 use Rattle.koika_check.specs.declared.typed.ValueType.{ValueType}
 
@@ -200,7 +200,7 @@ PartHasType d functions does is (typed.If conditions bodies) locals of =
     AllByRecursion (λ x. is x locals (Some (bits 1))) conditions × AllByRecursion (λ x. is x locals of) bodies × AreArms (length conditions) (length bodies) of
 PartHasType d functions does is (typed.Block steps) locals of = StepsHaveType does steps locals of
 
-abbrev pub StepDoes : {X Y : Type 0} → (Y → List ValueType → Option ValueType → Type 0) → TypedStep-F X Y → List ValueType → Doing → Type 0
+abbrev pub StepDoes : {X Y : Type 0} → (Y → List ValueType → Option ValueType → Type 0) → BlockStep-F X Y → List ValueType → Doing → Type 0
 StepDoes is (typed.Let v) locals (Binds of) = is v locals (Some of)
 StepDoes is (typed.Do v) locals Runs = (of : Option ValueType) × is v locals of
 StepDoes is (typed.Give v) locals (Gives of) = is v locals of

@@ -9,7 +9,7 @@ ghost use Rattle.koika_types.specs.Values.{packed};
 ghost use Rattle.koika_types.specs.declared.value.Value.{Value as Packed};
 
 use crate::checked::{Checked, CheckedFunction, CheckedRule};
-use crate::typed::{BaseType, Operation, Selection, Typed, TypedStep, ValueType};
+use crate::typed::{BaseType, BlockStep, Operation, Selection, Typed, ValueType};
 use koika_syntax::BinaryOperator;
 use koika_types::Value;
 use typed_core::{Node, Scope};
@@ -241,23 +241,23 @@ fn gauge_body(
 
 // Steps of a block.
 #[cycle(gauge)]
-fn gauge_steps(design: &Checked, functions: usize, names: &Scope<u64>, steps: &[TypedStep]) -> Gauge
+fn gauge_steps(design: &Checked, functions: usize, names: &Scope<u64>, steps: &[BlockStep]) -> Gauge
     ensures { IsCounted names.now (steps_of (bodies_before design.now functions) steps.now) result }
 {
     match steps.split_first() {
         Some((step, rest)) => match step {
-            TypedStep::Let(value) => {
+            BlockStep::Let(value) => {
                 let bound = gauge_expression(&*design, functions, &*names, value);
                 let inside = Scope::bind(bound.width, &*names);
                 let after = gauge_steps(&*design, functions, &inside, rest);
                 more(bound.squares, after)
             }
-            TypedStep::Do(value) => {
+            BlockStep::Do(value) => {
                 let first = gauge_expression(&*design, functions, &*names, value);
                 let after = gauge_steps(&*design, functions, &*names, rest);
                 more(first.squares, after)
             }
-            TypedStep::Give(value) => gauge_expression(&*design, functions, &*names, value),
+            BlockStep::Give(value) => gauge_expression(&*design, functions, &*names, value),
         },
         None => sized(0),
     }

@@ -25,7 +25,7 @@ use crate::constructs::{abort_at, at, literal};
 use crate::operators::joined;
 use crate::shapes::Shape;
 use crate::stop::{Stop, least, refuse};
-use crate::typed::{Operation, Typed, TypedStep};
+use crate::typed::{BlockStep, Operation, Typed};
 use koika_syntax::{
     Arm, Block, Expression, Extension, FieldValue, Name, Number, Operand, Prefix, SignedComparison,
     Statement, Suffix, TypeExpression, UpdatedPart as WrittenPart,
@@ -408,7 +408,7 @@ impl Checker {
 
     // Statements in order, each where those before it are bound.
     #[cycle(expression)]
-    fn steps(&mut self, statements: &[Statement]) -> Result<Sequence<TypedStep>, Stop>
+    fn steps(&mut self, statements: &[Statement]) -> Result<Sequence<BlockStep>, Stop>
         requires { IsReady self.old }
         ensures { Checks (AreSteps (scope_of self.old)) self.old (one_by_one (λ s. expressions.run (statement_in s)) statements.now (record { steps = []; behind = scope_of self.old })) self.new result }
     {
@@ -425,7 +425,7 @@ impl Checker {
         &mut self,
         place: u32,
         value: &Option<Box<Expression>>,
-        mut steps: Sequence<TypedStep>,
+        mut steps: Sequence<BlockStep>,
     ) -> Result<Typing, Stop>
         requires { IsReady self.old }
         ensures { Checks (IsTyping (scope_of self.old)) self.old (expressions.close place (option_map (λ e. expression_in e.value) value.now) (record { steps = steps; behind = scope_of self.old })) self.new result }
@@ -434,7 +434,7 @@ impl Checker {
             None => Ok(at(place, None, Typed::Block(steps))),
             Some(last) => {
                 let last = self.expression(last)?;
-                steps.push(TypedStep::Give(last.typed))?;
+                steps.push(BlockStep::Give(last.typed))?;
                 Ok(at(place, last.part.of, Typed::Block(steps)))
             }
         }
@@ -442,7 +442,7 @@ impl Checker {
 
     // A statement, and what it binds.
     #[cycle(expression)]
-    fn statement(&mut self, statement: &Statement) -> Result<TypedStep, Stop>
+    fn statement(&mut self, statement: &Statement) -> Result<BlockStep, Stop>
         requires { IsReady self.old }
         ensures { Checks (IsStep (scope_of self.old)) self.old (statement_in statement.now (scope_of self.old)) self.new result }
     {
@@ -451,12 +451,12 @@ impl Checker {
                 let value = self.expression(value)?;
                 self.bound(name, value)
             }
-            Statement::Do(value) => Ok(TypedStep::Do(self.expression(value)?.typed)),
+            Statement::Do(value) => Ok(BlockStep::Do(self.expression(value)?.typed)),
         }
     }
 
     // Binds a name to a value.
-    fn bound(&mut self, name: &Name, value: Typing) -> Result<TypedStep, Stop>
+    fn bound(&mut self, name: &Name, value: Typing) -> Result<BlockStep, Stop>
         requires checker { IsReady self.old }
         requires part { IsPart self.old value.part }
         ensures { Checks (IsStep (scope_of self.old)) self.old (bound_step name.now (scope_of self.old) (typing_of self.old value)) self.new result }
@@ -465,7 +465,7 @@ impl Checker {
             None => Err(Stop::Wrong(wrong_type(value.part))),
             Some(shape) => {
                 self.locals.bind(name.text.as_slice(), shape)?;
-                Ok(TypedStep::Let(value.typed))
+                Ok(BlockStep::Let(value.typed))
             }
         }
     }

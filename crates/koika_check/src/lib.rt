@@ -43,4 +43,4 @@ pub use checked::{
 };
 pub use counts::Counts;
 pub use measure::{MAX_DEPTH, MAX_WEIGHT, Measure, measure_of};
-pub use typed::{BaseType, Operation, Selection, Typed, TypedStep, ValueType};
+pub use typed::{BaseType, BlockStep, Operation, Selection, Typed, ValueType};

@@ -98,13 +98,13 @@ pub enum Typed {
         bodies: Sequence<Typed>,
     },
     /// Steps in order.
-    Block(Sequence<TypedStep>),
+    Block(Sequence<BlockStep>),
 }
 
 /// A step of a block.
 #[derive(Debug, PartialEq, Eq, Drop)]
 #[cycle(typed)]
-pub enum TypedStep {
+pub enum BlockStep {
     /// Binds the value in all later steps of its block.
     Let(Typed),
     /// Evaluates an expression for its effect.

@@ -10,9 +10,9 @@ use Rattle.koika_check.specs.Types.{bits}
 use Rattle.koika_check.specs.Typing.{AreArms, HasType, IsTypedDesign, Pairwise}
 use Rattle.koika_check.specs.declared.checked.Checked.{Checked}
 use Rattle.koika_check.specs.declared.typed.Operation.{Operation}
-use Rattle.koika_check.specs.declared.typed.TypedStep.{TypedStep}
-use Rattle.koika_check.specs.declared.typed.Typed.TheOpen as opened
-use Rattle.koika_check.specs.declared.typed.TypedStep.TheVariants as step
+use Rattle.koika_check.specs.declared.typed.BlockStep.{BlockStep}
+use Rattle.koika_check.specs.declared.typed.BlockStep.TheOpen as opened
+use Rattle.koika_check.specs.declared.typed.BlockStep.TheVariants as step
 use Rattle.koika_check.specs.declared.typed.Typed.{Typed}
 use Rattle.koika_check.specs.declared.typed.Typed.TheVariants as typed
 use Rattle.koika_check.specs.declared.typed.ValueType.{ValueType}
@@ -95,7 +95,7 @@ module _ (d : Checked) (n depth : ℕ) (names : List Bound) where
       (if-lowers d n depth names types of (map sense_of conditions) (map sense_of arms) tests branches l is
       (subst (λ k. AreArms k (length branches) of) (sym cs.0) (subst (λ k. AreArms (length conditions) k of) (sym bs.0) it.2)) cs.1 bs.1)
 
-  pub block-lowered : (steps : List TypedStep) (l : Lowered) → AreLoweredSteps d n depth names steps l → IsLowered (typed.Block steps) l
+  pub block-lowered : (steps : List BlockStep) (l : Lowered) → AreLoweredSteps d n depth names steps l → IsLowered (typed.Block steps) l
   block-lowered steps l made types of design are h =
       lowers-sense d n depth names types of (block_sense steps) (λ s. meaning s (typed.Block steps)) l (λ s. sym (meaning-Block s steps))
       (made types of design are (open-HasType d n (typed.Block steps) (opened.Block steps) (typed.rolls-Block steps) types of h))
@@ -105,17 +105,17 @@ module _ (d : Checked) (n depth : ℕ) (names : List Bound) where
   pub end-lowered : AreLoweredSteps d n depth names [] idle
   end-lowered types of design are h = end-lowers d n depth names types of h
 
-  pub do-lowered : (v : Typed) (rest : List TypedStep) (first second l : Lowered) → IsLowered v first → AreLoweredSteps d n depth names rest second → IsAfter first second l →
+  pub do-lowered : (v : Typed) (rest : List BlockStep) (first second l : Lowered) → IsLowered v first → AreLoweredSteps d n depth names rest second → IsAfter first second l →
       AreLoweredSteps d n depth names (step.Do v ∷ rest) l
   do-lowered v rest first second l run body is types of design are h =
       let it = do-typed d n rest types of v h in
       do-lowers d n depth names types v it.0 rest of first second l is (run types it.0 design are it.1) (body types of design are it.2)
 
-  pub give-lowered : (v : Typed) (rest : List TypedStep) (l : Lowered) → IsLowered v l → AreLoweredSteps d n depth names (step.Give v ∷ rest) l
+  pub give-lowered : (v : Typed) (rest : List BlockStep) (l : Lowered) → IsLowered v l → AreLoweredSteps d n depth names (step.Give v ∷ rest) l
   give-lowered v rest l made types of design are h =
       give-lowers d n depth names types v rest of l (made types of design are (give-typed d n rest types of v h))
 
-  pub let-lowered : (v : Typed) (rest : List TypedStep) (first second : Lowered) (at : ℕ) (a : Action) → IsLowered v first → at ≡ depth + 1 →
+  pub let-lowered : (v : Typed) (rest : List BlockStep) (first second : Lowered) (at : ℕ) (a : Action) → IsLowered v first → at ≡ depth + 1 →
       AreLoweredSteps d n at (record { level = depth; width = first.width } ∷ names) rest second → IsLet first.action second.action a →
       AreLoweredSteps d n depth names (step.Let v ∷ rest) (record { action = a; width = second.width })
   let-lowered v rest first second at a made place body is types of design are h =

@@ -17,8 +17,8 @@ use Rattle.koika_check.specs.inner.Typing.{StepHasType}
 use Rattle.koika_check.specs.declared.checked.Checked.{Checked}
 use Rattle.koika_check.specs.declared.checked.CheckedFunction.{CheckedFunction}
 use Rattle.koika_check.specs.declared.checked.Input.{Input}
-use Rattle.koika_check.specs.declared.typed.TypedStep.{TypedStep, TypedStep-F, fold-TypedStep, fold-roll-TypedStep, map-TypedStep, roll-TypedStep}
-use Rattle.koika_check.specs.declared.typed.Typed.TheOpen as opened
+use Rattle.koika_check.specs.declared.typed.BlockStep.{BlockStep, BlockStep-F, fold-BlockStep, fold-roll-BlockStep, map-BlockStep, roll-BlockStep}
+use Rattle.koika_check.specs.declared.typed.BlockStep.TheOpen as opened
 use Rattle.koika_check.specs.declared.typed.Typed.{Typed, Typed-F, fold-roll-Typed, ind-Typed, map-Typed, roll-Typed}
 use Rattle.koika_check.specs.declared.typed.ValueType.{ValueType}
 use Rattle.koika_check.proofs.TreeParts.{Such, firsts}
@@ -34,24 +34,24 @@ use Rattle.koika_lower.proofs.Values.{all-get}
 
 -- ---- one layer
 
-unfoldable guarded_steps : RuleSetting Cause → TypedStep → StepMeaning Cause
-guarded_steps g = fold-TypedStep (StepMeaning Cause) (Meaning Cause) guarded_step (guarded_part g)
+unfoldable guarded_steps : RuleSetting Cause → BlockStep → StepMeaning Cause
+guarded_steps g = fold-BlockStep (StepMeaning Cause) (Meaning Cause) guarded_step (guarded_part g)
 
-meaning-roll : (s : RuleSetting Stopped) (x : Typed-F TypedStep Typed) → meaning s (roll-Typed x) ≡ typed_step s (map-Typed TypedStep Typed (StepMeaning Stopped) (Meaning Stopped) (step_meaning s) (meaning s) x)
+meaning-roll : (s : RuleSetting Stopped) (x : Typed-F BlockStep Typed) → meaning s (roll-Typed x) ≡ typed_step s (map-Typed BlockStep Typed (StepMeaning Stopped) (Meaning Stopped) (step_meaning s) (meaning s) x)
 unfolding meaning step_meaning
 meaning-roll s x = fold-roll-Typed (StepMeaning Stopped) (Meaning Stopped) step_step (typed_step s) x
 
-step-roll : (s : RuleSetting Stopped) (x : TypedStep-F TypedStep Typed) → step_meaning s (roll-TypedStep x) ≡ step_step (map-TypedStep TypedStep Typed (StepMeaning Stopped) (Meaning Stopped) (step_meaning s) (meaning s) x)
+step-roll : (s : RuleSetting Stopped) (x : BlockStep-F BlockStep Typed) → step_meaning s (roll-BlockStep x) ≡ step_step (map-BlockStep BlockStep Typed (StepMeaning Stopped) (Meaning Stopped) (step_meaning s) (meaning s) x)
 unfolding meaning step_meaning
-step-roll s x = fold-roll-TypedStep (StepMeaning Stopped) (Meaning Stopped) step_step (typed_step s) x
+step-roll s x = fold-roll-BlockStep (StepMeaning Stopped) (Meaning Stopped) step_step (typed_step s) x
 
-guarded-roll : (g : RuleSetting Cause) (x : Typed-F TypedStep Typed) → guarded_meaning g (roll-Typed x) ≡ guarded_part g (map-Typed TypedStep Typed (StepMeaning Cause) (Meaning Cause) (guarded_steps g) (guarded_meaning g) x)
+guarded-roll : (g : RuleSetting Cause) (x : Typed-F BlockStep Typed) → guarded_meaning g (roll-Typed x) ≡ guarded_part g (map-Typed BlockStep Typed (StepMeaning Cause) (Meaning Cause) (guarded_steps g) (guarded_meaning g) x)
 unfolding guarded_meaning guarded_steps
 guarded-roll g x = fold-roll-Typed (StepMeaning Cause) (Meaning Cause) guarded_step (guarded_part g) x
 
-guarded-step-roll : (g : RuleSetting Cause) (x : TypedStep-F TypedStep Typed) → guarded_steps g (roll-TypedStep x) ≡ guarded_step (map-TypedStep TypedStep Typed (StepMeaning Cause) (Meaning Cause) (guarded_steps g) (guarded_meaning g) x)
+guarded-step-roll : (g : RuleSetting Cause) (x : BlockStep-F BlockStep Typed) → guarded_steps g (roll-BlockStep x) ≡ guarded_step (map-BlockStep BlockStep Typed (StepMeaning Cause) (Meaning Cause) (guarded_steps g) (guarded_meaning g) x)
 unfolding guarded_meaning guarded_steps
-guarded-step-roll g x = fold-roll-TypedStep (StepMeaning Cause) (Meaning Cause) guarded_step (guarded_part g) x
+guarded-step-roll g x = fold-roll-BlockStep (StepMeaning Cause) (Meaning Cause) guarded_step (guarded_part g) x
 
 -- the value of a name
 value-at : (d : Checked) (values : List Value) (types : List ValueType) (index : ℕ) (t : ValueType) → AllHave d values types → slice_get types index ≡ Some t → (v : Value) × (slice_get values index ≡ Some v) × Has d v t
@@ -82,7 +82,7 @@ module _ (d : Checked) (is : IsTypedDesign d) (n : ℕ) (inputs : List BitVector
   AfterFine Runs types of after behind = (values : List Value) → AllHave d values types → Agrees regs (HasIf d of) (after values) (behind values)
   AfterFine (Gives given) types of after behind = of ≡ given
 
-  abbrev FineStep : TypedStep → Type 0
+  abbrev FineStep : BlockStep → Type 0
   FineStep x = (types : List ValueType) (doing : Doing) (of : Option ValueType) (values : List Value) (after : Meaning Stopped) (behind : Meaning Cause) → AllHave d values types → StepHasType d n x types doing →
       AfterFine doing types of after behind → Agrees regs (HasIf d of) (step_meaning s x after values) (guarded_steps g x behind values)
 
@@ -128,7 +128,7 @@ module _ (d : Checked) (is : IsTypedDesign d) (n : ℕ) (inputs : List BitVector
       fewer k j of (inl more) = inl (omega (arith, more))
       fewer k j of (inr same) = inr (omega (arith, same.0), same.1)
 
-  steps-fine : (xs : List TypedStep) (types : List ValueType) (of : Option ValueType) (values : List Value) → AllByRecursion FineStep xs → AllHave d values types → StepsHaveType (StepHasType d n) xs types of →
+  steps-fine : (xs : List BlockStep) (types : List ValueType) (of : Option ValueType) (values : List Value) → AllByRecursion FineStep xs → AllHave d values types → StepsHaveType (StepHasType d n) xs types of →
       Agrees regs (HasIf d of) (steps_in_turn (map (step_meaning s) xs) values) (steps_in_turn (map (guarded_steps g) xs) values)
   steps-fine [] types of values fine have are = subst (λ (o : Option ValueType). Agrees regs (HasIf d o) (comes_to None) (comes_to None)) (sym are) (agrees-value regs (HasIf d None) None tt)
   steps-fine (x ∷ xs) types of values fine have (inl h) =
@@ -154,7 +154,7 @@ module _ (d : Checked) (is : IsTypedDesign d) (n : ℕ) (inputs : List BitVector
       (subst (λ (o : Option BitVector). Agrees regs (HasIf d of) (input_as d (Some i) o) (with_some (λ x. with_some gives (unpacked_if d i.of x)) o)) (sym found)
       (unpacks d is n inputs ports fit bodies guarded callable of i.of x same ok.of (width.0, width.1 ∙ ok.width)))
 
-  abbrev EachFine : Typed-F TypedStep Typed → Type 0
+  abbrev EachFine : Typed-F BlockStep Typed → Type 0
   EachFine (opened.Constant v) = Unit {0}
   EachFine (opened.Local index) = Unit {0}
   EachFine (opened.Input number) = Unit {0}
@@ -162,7 +162,7 @@ module _ (d : Checked) (is : IsTypedDesign d) (n : ℕ) (inputs : List BitVector
   EachFine (opened.If conditions bodies) = AllByRecursion Fine conditions × AllByRecursion Fine bodies
   EachFine (opened.Block steps) = AllByRecursion FineStep steps
 
-  each-fine : (y : Typed-F (Such FineStep) (Such Fine)) → EachFine (map-Typed (Such FineStep) (Such Fine) TypedStep Typed (λ e. e.0) (λ e. e.0) y)
+  each-fine : (y : Typed-F (Such FineStep) (Such Fine)) → EachFine (map-Typed (Such FineStep) (Such Fine) BlockStep Typed (λ e. e.0) (λ e. e.0) y)
   each-fine (opened.Constant v) = tt
   each-fine (opened.Local index) = tt
   each-fine (opened.Input number) = tt
@@ -170,9 +170,9 @@ module _ (d : Checked) (is : IsTypedDesign d) (n : ℕ) (inputs : List BitVector
   each-fine (opened.If conditions bodies) = (firsts Fine conditions, firsts Fine bodies)
   each-fine (opened.Block steps) = firsts FineStep steps
 
-  part-fine : (x : Typed-F TypedStep Typed) (types : List ValueType) (of : Option ValueType) (values : List Value) → EachFine x → AllHave d values types → PartHasType d n (StepHasType d n) (HasType d n) x types of →
-      Agrees regs (HasIf d of) (typed_step s (map-Typed TypedStep Typed (StepMeaning Stopped) (Meaning Stopped) (step_meaning s) (meaning s) x) values)
-      (guarded_part g (map-Typed TypedStep Typed (StepMeaning Cause) (Meaning Cause) (guarded_steps g) (guarded_meaning g) x) values)
+  part-fine : (x : Typed-F BlockStep Typed) (types : List ValueType) (of : Option ValueType) (values : List Value) → EachFine x → AllHave d values types → PartHasType d n (StepHasType d n) (HasType d n) x types of →
+      Agrees regs (HasIf d of) (typed_step s (map-Typed BlockStep Typed (StepMeaning Stopped) (Meaning Stopped) (step_meaning s) (meaning s) x) values)
+      (guarded_part g (map-Typed BlockStep Typed (StepMeaning Cause) (Meaning Cause) (guarded_steps g) (guarded_meaning g) x) values)
   part-fine (opened.Constant v) types of values fine have h = comes d is n inputs ports fit bodies guarded callable of h.0 v h.3 (h.1, h.2)
   part-fine (opened.Local index) types of values fine have h =
       let at = value-at d values types index h.0 have h.1 in
@@ -185,28 +185,28 @@ module _ (d : Checked) (is : IsTypedDesign d) (n : ℕ) (inputs : List BitVector
   part-fine (opened.If conditions bodies) types of values fine have h = choice-fine conditions bodies types of values fine.0 fine.1 have h.0 h.1 h.2
   part-fine (opened.Block steps) types of values fine have h = steps-fine steps types of values fine have h
 
-  typed_layer : (x : Typed-F TypedStep Typed) (y : Typed-F (Such FineStep) (Such Fine)) → map-Typed (Such FineStep) (Such Fine) TypedStep Typed (λ e. e.0) (λ e. e.0) y ≡ x → Fine (roll-Typed x)
+  typed_layer : (x : Typed-F BlockStep Typed) (y : Typed-F (Such FineStep) (Such Fine)) → map-Typed (Such FineStep) (Such Fine) BlockStep Typed (λ e. e.0) (λ e. e.0) y ≡ x → Fine (roll-Typed x)
   typed_layer x y same types of values have has =
       let it = part-fine x types of values (subst EachFine same (each-fine y)) have (open-HasType d n (roll-Typed x) x refl types of has) in
       subst (λ (m : Meaning Stopped). Agrees regs (HasIf d of) (m values) (guarded_meaning g (roll-Typed x) values)) (sym (meaning-roll s x))
-      (subst (λ (m : Meaning Cause). Agrees regs (HasIf d of) (typed_step s (map-Typed TypedStep Typed (StepMeaning Stopped) (Meaning Stopped) (step_meaning s) (meaning s) x) values) (m values)) (sym (guarded-roll g x)) it)
+      (subst (λ (m : Meaning Cause). Agrees regs (HasIf d of) (typed_step s (map-Typed BlockStep Typed (StepMeaning Stopped) (Meaning Stopped) (step_meaning s) (meaning s) x) values) (m values)) (sym (guarded-roll g x)) it)
 
   -- ---- and of a step
 
-  abbrev EachFineStep : TypedStep-F TypedStep Typed → Type 0
+  abbrev EachFineStep : BlockStep-F BlockStep Typed → Type 0
   EachFineStep (opened.Let v) = Fine v
   EachFineStep (opened.Do v) = Fine v
   EachFineStep (opened.Give v) = Fine v
 
-  each-fine-step : (y : TypedStep-F (Such FineStep) (Such Fine)) → EachFineStep (map-TypedStep (Such FineStep) (Such Fine) TypedStep Typed (λ e. e.0) (λ e. e.0) y)
+  each-fine-step : (y : BlockStep-F (Such FineStep) (Such Fine)) → EachFineStep (map-BlockStep (Such FineStep) (Such Fine) BlockStep Typed (λ e. e.0) (λ e. e.0) y)
   each-fine-step (opened.Let v) = v.1
   each-fine-step (opened.Do v) = v.1
   each-fine-step (opened.Give v) = v.1
 
-  step-fine : (x : TypedStep-F TypedStep Typed) (types : List ValueType) (doing : Doing) (of : Option ValueType) (values : List Value) (after : Meaning Stopped) (behind : Meaning Cause) → EachFineStep x → AllHave d values types →
+  step-fine : (x : BlockStep-F BlockStep Typed) (types : List ValueType) (doing : Doing) (of : Option ValueType) (values : List Value) (after : Meaning Stopped) (behind : Meaning Cause) → EachFineStep x → AllHave d values types →
       StepDoes (HasType d n) x types doing → AfterFine doing types of after behind →
-      Agrees regs (HasIf d of) (step_step (map-TypedStep TypedStep Typed (StepMeaning Stopped) (Meaning Stopped) (step_meaning s) (meaning s) x) after values)
-      (guarded_step (map-TypedStep TypedStep Typed (StepMeaning Cause) (Meaning Cause) (guarded_steps g) (guarded_meaning g) x) behind values)
+      Agrees regs (HasIf d of) (step_step (map-BlockStep BlockStep Typed (StepMeaning Stopped) (Meaning Stopped) (step_meaning s) (meaning s) x) after values)
+      (guarded_step (map-BlockStep BlockStep Typed (StepMeaning Cause) (Meaning Cause) (guarded_steps g) (guarded_meaning g) x) behind values)
   step-fine (opened.Let v) types (Binds t) of values after behind fine have h next =
       agrees-known d regs (HasIf d of) t (λ bound. after (with_value bound values)) (λ bound. behind (bound ∷ values)) (λ v has. next (v ∷ values) (has, have))
       (meaning s v values) (guarded_meaning g v values) (fine types (Some t) values have h)
@@ -221,11 +221,11 @@ module _ (d : Checked) (is : IsTypedDesign d) (n : ℕ) (inputs : List BitVector
   step-fine (opened.Give v) types (Gives given) of values after behind fine have h next =
       subst (λ (o : Option ValueType). Agrees regs (HasIf d o) (meaning s v values) (guarded_meaning g v values)) (sym next) (fine types given values have h)
 
-  step_layer : (x : TypedStep-F TypedStep Typed) (y : TypedStep-F (Such FineStep) (Such Fine)) → map-TypedStep (Such FineStep) (Such Fine) TypedStep Typed (λ e. e.0) (λ e. e.0) y ≡ x → FineStep (roll-TypedStep x)
+  step_layer : (x : BlockStep-F BlockStep Typed) (y : BlockStep-F (Such FineStep) (Such Fine)) → map-BlockStep (Such FineStep) (Such Fine) BlockStep Typed (λ e. e.0) (λ e. e.0) y ≡ x → FineStep (roll-BlockStep x)
   step_layer x y same types doing of values after behind have has next =
-      let it = step-fine x types doing of values after behind (subst EachFineStep same (each-fine-step y)) have (open-step d n (roll-TypedStep x) x refl types doing has) next in
-      subst (λ (m : StepMeaning Stopped). Agrees regs (HasIf d of) (m after values) (guarded_steps g (roll-TypedStep x) behind values)) (sym (step-roll s x))
-      (subst (λ (m : StepMeaning Cause). Agrees regs (HasIf d of) (step_step (map-TypedStep TypedStep Typed (StepMeaning Stopped) (Meaning Stopped) (step_meaning s) (meaning s) x) after values) (m behind values)) (sym (guarded-step-roll g x)) it)
+      let it = step-fine x types doing of values after behind (subst EachFineStep same (each-fine-step y)) have (open-step d n (roll-BlockStep x) x refl types doing has) next in
+      subst (λ (m : StepMeaning Stopped). Agrees regs (HasIf d of) (m after values) (guarded_steps g (roll-BlockStep x) behind values)) (sym (step-roll s x))
+      (subst (λ (m : StepMeaning Cause). Agrees regs (HasIf d of) (step_step (map-BlockStep BlockStep Typed (StepMeaning Stopped) (Meaning Stopped) (step_meaning s) (meaning s) x) after values) (m behind values)) (sym (guarded-step-roll g x)) it)
 
   -- where these functions may be called
   pub fine : (e : Typed) (types : List ValueType) (of : Option ValueType) (values : List Value) → AllHave d values types → HasType d n e types of → Agrees regs (HasIf d of) (meaning s e values) (guarded_meaning g e values)

@@ -10,9 +10,9 @@ use Rattle.koika_check.specs.Meaning.{StepMeaning, meaning, with_value}
 use Rattle.koika_check.specs.Typing.{Binds, Gives, HasType, IsType, Runs, StepsHaveType}
 use Rattle.koika_check.specs.inner.Typing.{StepHasType}
 use Rattle.koika_check.specs.declared.checked.Checked.{Checked}
-use Rattle.koika_check.specs.declared.typed.TypedStep.{TypedStep}
-use Rattle.koika_check.specs.declared.typed.Typed.TheOpen as opened
-use Rattle.koika_check.specs.declared.typed.TypedStep.TheVariants as step
+use Rattle.koika_check.specs.declared.typed.BlockStep.{BlockStep}
+use Rattle.koika_check.specs.declared.typed.BlockStep.TheOpen as opened
+use Rattle.koika_check.specs.declared.typed.BlockStep.TheVariants as step
 use Rattle.koika_check.specs.declared.typed.Typed.{Typed}
 use Rattle.koika_check.specs.declared.typed.ValueType.{ValueType}
 use Rattle.koika_lower.specs.inner.Actions.{IsLet}
@@ -32,7 +32,7 @@ use Rattle.koika_check.proofs.TypingLayers.{open-step}
 
 -- ---- what steps do, by their kinds
 
-module _ (d : Checked) (n : ℕ) (rest : List TypedStep) (types : List ValueType) (of : Option ValueType) where
+module _ (d : Checked) (n : ℕ) (rest : List BlockStep) (types : List ValueType) (of : Option ValueType) where
   pub let-typed : (v : Typed) → StepsHaveType (StepHasType d n) (step.Let v ∷ rest) types of →
       (bound : ValueType) × HasType d n v types (Some bound) × StepsHaveType (StepHasType d n) rest (bound ∷ types) of
   let-typed v (inl h) = (h.0, open-step d n (step.Let v) (opened.Let v) (step.rolls-Let v) types (Binds h.0) h.1, h.2)
@@ -80,7 +80,7 @@ module _ (d : Checked) (n depth : ℕ) (names : List Bound) (types : List ValueT
 
   -- ---- a value that is bound
 
-  pub let-lowers : (v : Typed) (t : ValueType) (rest : List TypedStep) (of : Option ValueType) (value behind : Lowered) (a : Action) → AreNames d depth names types → IsLet value.action behind.action a →
+  pub let-lowers : (v : Typed) (t : ValueType) (rest : List BlockStep) (of : Option ValueType) (value behind : Lowered) (a : Action) → AreNames d depth names types → IsLet value.action behind.action a →
       Lowers d n depth names types (Some t) (sense_of v) value →
       Lowers d n (depth + 1) (record { level = depth; width = value.width } ∷ names) (t ∷ types) of (block_sense rest) behind →
       Lowers d n depth names types of (block_sense (step.Let v ∷ rest)) (record { action = a; width = behind.width })
@@ -107,10 +107,10 @@ module _ (d : Checked) (n depth : ℕ) (names : List Bound) (types : List ValueT
   -- ---- a value that is dropped
 
   -- one after another
-  abbrev both : Typed → List TypedStep → Sense
+  abbrev both : Typed → List BlockStep → Sense
   both v rest s values = meaning s v values >>= λ _. block_sense rest s values
 
-  after : (v : Typed) (t : Option ValueType) (rest : List TypedStep) (of : Option ValueType) (first behind l : Lowered) → IsAfter first behind l → Lowers d n depth names types t (sense_of v) first →
+  after : (v : Typed) (t : Option ValueType) (rest : List BlockStep) (of : Option ValueType) (first behind l : Lowered) → IsAfter first behind l → Lowers d n depth names types t (sense_of v) first →
       Lowers d n depth names types of (block_sense rest) behind → Lowers d n depth names types of (both v rest) l
   after v t rest of first behind l (inl (nothing, same)) run body =
       subst (λ (x : Lowered). Lowers d n depth names types of (both v rest) x) (sym same) (record {
@@ -155,7 +155,7 @@ module _ (d : Checked) (n depth : ℕ) (names : List Bound) (types : List ValueT
             (run.means inputs ports values locals w p st));
       }
 
-  pub do-lowers : (v : Typed) (t : Option ValueType) (rest : List TypedStep) (of : Option ValueType) (first behind l : Lowered) → IsAfter first behind l → Lowers d n depth names types t (sense_of v) first →
+  pub do-lowers : (v : Typed) (t : Option ValueType) (rest : List BlockStep) (of : Option ValueType) (first behind l : Lowered) → IsAfter first behind l → Lowers d n depth names types t (sense_of v) first →
       Lowers d n depth names types of (block_sense rest) behind → Lowers d n depth names types of (block_sense (step.Do v ∷ rest)) l
   do-lowers v t rest of first behind l is run body =
       lowers-sense d n depth names types of (both v rest) (block_sense (step.Do v ∷ rest)) l (λ s. sym (ap (λ (m : StepMeaning Stopped). m (block_sense rest s)) (meaning-Do s v)))
@@ -163,7 +163,7 @@ module _ (d : Checked) (n depth : ℕ) (names : List Bound) (types : List ValueT
 
   -- ---- the value of the block
 
-  pub give-lowers : (v : Typed) (rest : List TypedStep) (of : Option ValueType) (l : Lowered) → Lowers d n depth names types of (sense_of v) l →
+  pub give-lowers : (v : Typed) (rest : List BlockStep) (of : Option ValueType) (l : Lowered) → Lowers d n depth names types of (sense_of v) l →
       Lowers d n depth names types of (block_sense (step.Give v ∷ rest)) l
   give-lowers v rest of l h =
       lowers-sense d n depth names types of (sense_of v) (block_sense (step.Give v ∷ rest)) l (λ s. sym (ap (λ (m : StepMeaning Stopped). m (block_sense rest s)) (meaning-Give s v))) h

@@ -33,8 +33,8 @@ use Rattle.koika_check.specs.declared.typed.Operation.{Operation}
 use Rattle.koika_check.specs.declared.typed.Operation.TheVariants as operation
 use Rattle.koika_check.specs.declared.typed.Selection.{Selection}
 use Rattle.koika_check.specs.declared.typed.Selection.TheVariants as selection
-use Rattle.koika_check.specs.declared.typed.TypedStep.{TypedStep-F}
-use Rattle.koika_check.specs.declared.typed.Typed.TheOpen as typed
+use Rattle.koika_check.specs.declared.typed.BlockStep.{BlockStep-F}
+use Rattle.koika_check.specs.declared.typed.BlockStep.TheOpen as typed
 use Rattle.koika_check.specs.declared.typed.Typed.{Typed, Typed-F, fold-Typed}
 use Rattle.koika_check.specs.declared.typed.ValueType.{ValueType}
 
@@ -189,7 +189,7 @@ guarded_choose [] [] locals = comes_to None
 guarded_choose conditions bodies locals = stuck
 
 -- a name isn't bound to unit
-abbrev pub guarded_step : TypedStep-F (StepMeaning Cause) (Meaning Cause) → StepMeaning Cause
+abbrev pub guarded_step : BlockStep-F (StepMeaning Cause) (Meaning Cause) → StepMeaning Cause
 guarded_step (typed.Let v) after locals = v locals >>= with_some (λ bound. after (bound ∷ locals))
 guarded_step (typed.Do v) after locals = v locals >>= λ _. after locals
 guarded_step (typed.Give v) after locals = v locals

@@ -3,7 +3,7 @@
 ghost use Rattle.std.specs.Prelude.{◌≡◌, ◌≤◌, ◌∷◌, [], List, Option, Some, drop, length, slice_get, IfOk};
 ghost use Rattle.koika_check.specs.Meaning.{meaning};
 ghost use Rattle.koika_check.specs.Typing.{HasType, IsTypedDesign};
-ghost use Rattle.koika_check.specs.declared.typed.TypedStep.TheVariants as step;
+ghost use Rattle.koika_check.specs.declared.typed.BlockStep.TheVariants as step;
 ghost use Rattle.koika_check.specs.declared.typed.ValueType.{ValueType};
 ghost use Rattle.koika_lower.specs.inner.Expressions.{AreLowered, AreLoweredSteps};
 ghost use Rattle.koika_lower.specs.inner.Simulation.{AreNames, IsBody, IsCallee, Lowers, parameter_names};
@@ -13,7 +13,7 @@ use crate::choosing::{chosen, one_after_another};
 use crate::leaves::{constant, input, local};
 use crate::lowered::{Bound, Lowered, behind, bind, deeper};
 use crate::type_width::width_of;
-use koika_check::{Checked, CheckedFunction, Operation, Typed, TypedStep};
+use koika_check::{BlockStep, Checked, CheckedFunction, Operation, Typed};
 use kw_bits::{NoMemory, Sequence};
 use std::alloc::Global;
 use typed_core::Scope;
@@ -94,19 +94,19 @@ fn lower_steps(
     functions: usize,
     names: &Scope<Bound>,
     depth: u32,
-    steps: &[TypedStep],
+    steps: &[BlockStep],
 ) -> Result<Lowered, NoMemory>
     ensures { IfOk result (AreLoweredSteps design.now functions depth names.now steps.now) }
 {
     match steps.split_first() {
         Some((step, rest)) => match step {
-            TypedStep::Let(value) => lower_let(alloc, design, functions, names, depth, value, rest),
-            TypedStep::Do(value) => {
+            BlockStep::Let(value) => lower_let(alloc, design, functions, names, depth, value, rest),
+            BlockStep::Do(value) => {
                 let first = lower_expression(alloc, design, functions, names, depth, value)?;
                 let second = lower_steps(alloc, design, functions, names, depth, rest)?;
                 one_after_another(alloc, first, second)
             }
-            TypedStep::Give(value) => lower_expression(
+            BlockStep::Give(value) => lower_expression(
                 alloc, design, functions, names, depth, value,
             ),
         },
@@ -123,7 +123,7 @@ fn lower_let(
     names: &Scope<Bound>,
     depth: u32,
     value: &Typed,
-    rest: &[TypedStep],
+    rest: &[BlockStep],
 ) -> Result<Lowered, NoMemory>
     ensures { IfOk result (AreLoweredSteps design.now functions depth names.now (step.Let value.now ∷ rest.now)) }
 {

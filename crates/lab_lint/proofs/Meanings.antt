@@ -13,8 +13,8 @@ use Rattle.koika_check.specs.declared.checked.Input.{Input}
 use Rattle.koika_check.specs.declared.checked.Register.{Register}
 use Rattle.koika_check.specs.declared.typed.Operation.{Operation}
 use Rattle.koika_check.specs.declared.typed.Operation.TheVariants as operation
-use Rattle.koika_check.specs.declared.typed.TypedStep.{TypedStep, TypedStep-F, map-TypedStep, roll-TypedStep, fold-roll-TypedStep}
-use Rattle.koika_check.specs.declared.typed.Typed.TheOpen as opened
+use Rattle.koika_check.specs.declared.typed.BlockStep.{BlockStep, BlockStep-F, map-BlockStep, roll-BlockStep, fold-roll-BlockStep}
+use Rattle.koika_check.specs.declared.typed.BlockStep.TheOpen as opened
 use Rattle.koika_check.specs.declared.typed.Typed.{Typed, Typed-F, map-Typed, roll-Typed, fold-roll-Typed, ind-Typed}
 use Rattle.koika_check.proofs.TreeParts.{Such, firsts}
 use Rattle.koika_lower.specs.inner.Expressions.{step_meaning}
@@ -27,13 +27,13 @@ use Rattle.lab_lint.proofs.Layers.{part-roll, step-roll}
 
 -- ---- one layer
 
-meaning-roll : (s : RuleSetting Stopped) (x : Typed-F TypedStep Typed) → meaning s (roll-Typed x) ≡ typed_step s (map-Typed TypedStep Typed (StepMeaning Stopped) (Meaning Stopped) (step_meaning s) (meaning s) x)
+meaning-roll : (s : RuleSetting Stopped) (x : Typed-F BlockStep Typed) → meaning s (roll-Typed x) ≡ typed_step s (map-Typed BlockStep Typed (StepMeaning Stopped) (Meaning Stopped) (step_meaning s) (meaning s) x)
 unfolding meaning step_meaning
 meaning-roll s x = fold-roll-Typed (StepMeaning Stopped) (Meaning Stopped) step_step (typed_step s) x
 
-stepped-roll : (s : RuleSetting Stopped) (x : TypedStep-F TypedStep Typed) → step_meaning s (roll-TypedStep x) ≡ step_step (map-TypedStep TypedStep Typed (StepMeaning Stopped) (Meaning Stopped) (step_meaning s) (meaning s) x)
+stepped-roll : (s : RuleSetting Stopped) (x : BlockStep-F BlockStep Typed) → step_meaning s (roll-BlockStep x) ≡ step_step (map-BlockStep BlockStep Typed (StepMeaning Stopped) (Meaning Stopped) (step_meaning s) (meaning s) x)
 unfolding meaning step_meaning
-stepped-roll s x = fold-roll-TypedStep (StepMeaning Stopped) (Meaning Stopped) step_step (typed_step s) x
+stepped-roll s x = fold-roll-BlockStep (StepMeaning Stopped) (Meaning Stopped) step_step (typed_step s) x
 
 -- wherever it is evaluated
 abbrev pub DoesAs : Part → Meaning Stopped → Type 0
@@ -46,7 +46,7 @@ module _ (ps : List Part) (s : RuleSetting Stopped) (ports : PortsDo s.ports) (b
   abbrev Fine : Typed → Type 0
   Fine e = DoesAs (part_of ps e) (meaning s e)
 
-  abbrev FineStep : TypedStep → Type 0
+  abbrev FineStep : BlockStep → Type 0
   FineStep x = (rest : Part) (behind : Meaning Stopped) → DoesAs rest behind → DoesAs (in_order (part_of_step ps x) rest) (step_meaning s x behind)
 
   turns-do : (es : List Typed) → AllByRecursion Fine es → (locals : List Value) → DoesRun (parts.in_turn (map (part_of ps) es)) (in_turn (map (meaning s) es) locals)
@@ -70,7 +70,7 @@ module _ (ps : List Part) (s : RuleSetting Stopped) (ports : PortsDo s.ports) (b
       (λ v. arm-does (nat_eq (number_by v) 1) (part_of ps b) (choice (map (part_of ps) cs) (map (part_of ps) bs)) (meaning s b locals) (choose (map (meaning s) cs) (map (meaning s) bs) locals)
       (fb.0 locals) (choice-does cs bs fc.1 fb.1 locals))
 
-  steps-do : (xs : List TypedStep) → AllByRecursion FineStep xs → DoesAs (parts.in_turn (map (part_of_step ps) xs)) (steps_in_turn (map (step_meaning s) xs))
+  steps-do : (xs : List BlockStep) → AllByRecursion FineStep xs → DoesAs (parts.in_turn (map (part_of_step ps) xs)) (steps_in_turn (map (step_meaning s) xs))
   steps-do [] fine locals = run-value nothing None
   steps-do (x ∷ xs) fine locals = fine.0 (parts.in_turn (map (part_of_step ps) xs)) (steps_in_turn (map (step_meaning s) xs)) (steps-do xs fine.1) locals
 
@@ -117,7 +117,7 @@ module _ (ps : List Part) (s : RuleSetting Stopped) (ports : PortsDo s.ports) (b
   input-does number (Some i) None = run-value _ _
   input-does number (Some i) (Some bits) = run-value _ _
 
-  abbrev EachFine : Typed-F TypedStep Typed → Type 0
+  abbrev EachFine : Typed-F BlockStep Typed → Type 0
   EachFine (opened.Constant v) = Unit {0}
   EachFine (opened.Local index) = Unit {0}
   EachFine (opened.Input number) = Unit {0}
@@ -125,7 +125,7 @@ module _ (ps : List Part) (s : RuleSetting Stopped) (ports : PortsDo s.ports) (b
   EachFine (opened.If conditions arms) = AllByRecursion Fine conditions × AllByRecursion Fine arms
   EachFine (opened.Block steps) = AllByRecursion FineStep steps
 
-  each-fine : (y : Typed-F (Such FineStep) (Such Fine)) → EachFine (map-Typed (Such FineStep) (Such Fine) TypedStep Typed (λ e. e.0) (λ e. e.0) y)
+  each-fine : (y : Typed-F (Such FineStep) (Such Fine)) → EachFine (map-Typed (Such FineStep) (Such Fine) BlockStep Typed (λ e. e.0) (λ e. e.0) y)
   each-fine (opened.Constant v) = tt
   each-fine (opened.Local index) = tt
   each-fine (opened.Input number) = tt
@@ -133,8 +133,8 @@ module _ (ps : List Part) (s : RuleSetting Stopped) (ports : PortsDo s.ports) (b
   each-fine (opened.If conditions arms) = (firsts Fine conditions, firsts Fine arms)
   each-fine (opened.Block steps) = firsts FineStep steps
 
-  part-does : (x : Typed-F TypedStep Typed) → EachFine x →
-      DoesAs (parts.typed_step ps (map-Typed TypedStep Typed Part Part (part_of_step ps) (part_of ps) x)) (typed_step s (map-Typed TypedStep Typed (StepMeaning Stopped) (Meaning Stopped) (step_meaning s) (meaning s) x))
+  part-does : (x : Typed-F BlockStep Typed) → EachFine x →
+      DoesAs (parts.typed_step ps (map-Typed BlockStep Typed Part Part (part_of_step ps) (part_of ps) x)) (typed_step s (map-Typed BlockStep Typed (StepMeaning Stopped) (Meaning Stopped) (step_meaning s) (meaning s) x))
   part-does (opened.Constant v) fine locals = run-value nothing _
   part-does (opened.Local index) fine locals = run-value nothing _
   part-does (opened.Input number) fine locals = input-does number (slice_get s.design.inputs number) (slice_get s.inputs number)
@@ -143,36 +143,36 @@ module _ (ps : List Part) (s : RuleSetting Stopped) (ports : PortsDo s.ports) (b
   part-does (opened.If conditions arms) fine locals = choice-does conditions arms fine.0 fine.1 locals
   part-does (opened.Block steps) fine locals = steps-do steps fine locals
 
-  typed_layer : (x : Typed-F TypedStep Typed) (y : Typed-F (Such FineStep) (Such Fine)) → map-Typed (Such FineStep) (Such Fine) TypedStep Typed (λ e. e.0) (λ e. e.0) y ≡ x → Fine (roll-Typed x)
+  typed_layer : (x : Typed-F BlockStep Typed) (y : Typed-F (Such FineStep) (Such Fine)) → map-Typed (Such FineStep) (Such Fine) BlockStep Typed (λ e. e.0) (λ e. e.0) y ≡ x → Fine (roll-Typed x)
   typed_layer x y same =
       let it = part-does x (subst EachFine same (each-fine y)) in
       subst (λ (m : Meaning Stopped). DoesAs (part_of ps (roll-Typed x)) m) (sym (meaning-roll s x))
-      (subst (λ (p : Part). DoesAs p (typed_step s (map-Typed TypedStep Typed (StepMeaning Stopped) (Meaning Stopped) (step_meaning s) (meaning s) x))) (sym (part-roll ps x)) it)
+      (subst (λ (p : Part). DoesAs p (typed_step s (map-Typed BlockStep Typed (StepMeaning Stopped) (Meaning Stopped) (step_meaning s) (meaning s) x))) (sym (part-roll ps x)) it)
 
   -- ---- and of a step
 
-  abbrev EachFineStep : TypedStep-F TypedStep Typed → Type 0
+  abbrev EachFineStep : BlockStep-F BlockStep Typed → Type 0
   EachFineStep (opened.Let v) = Fine v
   EachFineStep (opened.Do v) = Fine v
   EachFineStep (opened.Give v) = Fine v
 
-  each-fine-step : (y : TypedStep-F (Such FineStep) (Such Fine)) → EachFineStep (map-TypedStep (Such FineStep) (Such Fine) TypedStep Typed (λ e. e.0) (λ e. e.0) y)
+  each-fine-step : (y : BlockStep-F (Such FineStep) (Such Fine)) → EachFineStep (map-BlockStep (Such FineStep) (Such Fine) BlockStep Typed (λ e. e.0) (λ e. e.0) y)
   each-fine-step (opened.Let v) = v.1
   each-fine-step (opened.Do v) = v.1
   each-fine-step (opened.Give v) = v.1
 
-  step-does : (x : TypedStep-F TypedStep Typed) → EachFineStep x → (rest : Part) (behind : Meaning Stopped) → DoesAs rest behind →
-      DoesAs (in_order (parts.step_step (map-TypedStep TypedStep Typed Part Part (part_of_step ps) (part_of ps) x)) rest) (step_step (map-TypedStep TypedStep Typed (StepMeaning Stopped) (Meaning Stopped) (step_meaning s) (meaning s) x) behind)
+  step-does : (x : BlockStep-F BlockStep Typed) → EachFineStep x → (rest : Part) (behind : Meaning Stopped) → DoesAs rest behind →
+      DoesAs (in_order (parts.step_step (map-BlockStep BlockStep Typed Part Part (part_of_step ps) (part_of ps) x)) rest) (step_step (map-BlockStep BlockStep Typed (StepMeaning Stopped) (Meaning Stopped) (step_meaning s) (meaning s) x) behind)
   step-does (opened.Let v) fine rest behind next locals =
       run-bind (part_of ps v) rest (meaning s v locals) (λ bound. behind (with_value bound locals)) (fine locals) (λ bound. next (with_value bound locals))
   step-does (opened.Do v) fine rest behind next locals = run-bind (part_of ps v) rest (meaning s v locals) (λ _. behind locals) (fine locals) (λ _. next locals)
   step-does (opened.Give v) fine rest behind next locals = run-within (part_of ps v) (in_order (part_of ps v) rest) (meaning s v locals) (first-within (part_of ps v) rest) (fine locals)
 
-  step_layer : (x : TypedStep-F TypedStep Typed) (y : TypedStep-F (Such FineStep) (Such Fine)) → map-TypedStep (Such FineStep) (Such Fine) TypedStep Typed (λ e. e.0) (λ e. e.0) y ≡ x → FineStep (roll-TypedStep x)
+  step_layer : (x : BlockStep-F BlockStep Typed) (y : BlockStep-F (Such FineStep) (Such Fine)) → map-BlockStep (Such FineStep) (Such Fine) BlockStep Typed (λ e. e.0) (λ e. e.0) y ≡ x → FineStep (roll-BlockStep x)
   step_layer x y same rest behind next =
       let it = step-does x (subst EachFineStep same (each-fine-step y)) rest behind next in
-      subst (λ (m : StepMeaning Stopped). DoesAs (in_order (part_of_step ps (roll-TypedStep x)) rest) (m behind)) (sym (stepped-roll s x))
-      (subst (λ (p : Part). DoesAs (in_order p rest) (step_step (map-TypedStep TypedStep Typed (StepMeaning Stopped) (Meaning Stopped) (step_meaning s) (meaning s) x) behind)) (sym (step-roll ps x)) it)
+      subst (λ (m : StepMeaning Stopped). DoesAs (in_order (part_of_step ps (roll-BlockStep x)) rest) (m behind)) (sym (stepped-roll s x))
+      (subst (λ (p : Part). DoesAs (in_order p rest) (step_step (map-BlockStep BlockStep Typed (StepMeaning Stopped) (Meaning Stopped) (step_meaning s) (meaning s) x) behind)) (sym (step-roll ps x)) it)
 
   -- where these bodies may be called
   pub expression-does : (e : Typed) → DoesAs (part_of ps e) (meaning s e)

@@ -12,8 +12,8 @@ use Rattle.koika_check.specs.declared.checked.CheckedFunction.{CheckedFunction}
 use Rattle.koika_check.specs.declared.checked.CheckedRule.{CheckedRule}
 use Rattle.koika_check.specs.declared.typed.Operation.{Operation}
 use Rattle.koika_check.specs.declared.typed.Operation.TheVariants as operation
-use Rattle.koika_check.specs.declared.typed.TypedStep.{TypedStep, TypedStep-F, map-TypedStep, roll-TypedStep}
-use Rattle.koika_check.specs.declared.typed.Typed.TheOpen as opened
+use Rattle.koika_check.specs.declared.typed.BlockStep.{BlockStep, BlockStep-F, map-BlockStep, roll-BlockStep}
+use Rattle.koika_check.specs.declared.typed.BlockStep.TheOpen as opened
 use Rattle.koika_check.specs.declared.typed.Typed.{Typed, Typed-F, ind-Typed, map-Typed, roll-Typed}
 use Rattle.koika_check.specs.declared.typed.ValueType.{ValueType}
 use Rattle.koika_check.proofs.TreeParts.{Such, firsts}
@@ -39,7 +39,7 @@ module _ (d : Checked) (n : ℕ) (ps : List Part) (bodies : (number : ℕ) → A
   abbrev Right : Typed → Type 0
   Right e = (types : List ValueType) (of : Option ValueType) → HasType d n e types of → AreRight d (part_of ps e)
 
-  abbrev RightStep : TypedStep → Type 0
+  abbrev RightStep : BlockStep → Type 0
   RightStep x = (types : List ValueType) (doing : Doing) → StepHasType d n x types doing → AreRight d (part_of_step ps x)
 
   turns-right : (es : List Typed) (ts types : List ValueType) → AllByRecursion Right es → Pairwise (λ e t. HasType d n e types (Some t)) es ts → AreRight d (in_turn (map (part_of ps) es))
@@ -57,7 +57,7 @@ module _ (d : Checked) (n : ℕ) (ps : List Part) (bodies : (number : ℕ) → A
       all-append (IsRight d) (part_of ps e).all ((part_of ps b).all ++ (choice (map (part_of ps) cs) (map (part_of ps) bs)).all) (rc.0 types c hc.0)
       (all-append (IsRight d) (part_of ps b).all (choice (map (part_of ps) cs) (map (part_of ps) bs)).all (rb.0 types of hb.0) (choice-right cs bs types c of rc.1 rb.1 hc.1 hb.1))
 
-  steps-right : (xs : List TypedStep) (types : List ValueType) (of : Option ValueType) → AllByRecursion RightStep xs → StepsHaveType (StepHasType d n) xs types of → AreRight d (in_turn (map (part_of_step ps) xs))
+  steps-right : (xs : List BlockStep) (types : List ValueType) (of : Option ValueType) → AllByRecursion RightStep xs → StepsHaveType (StepHasType d n) xs types of → AreRight d (in_turn (map (part_of_step ps) xs))
   steps-right [] types of right are = tt
   steps-right (x ∷ xs) types of right (inl h) =
       all-append (IsRight d) (part_of_step ps x).all (in_turn (map (part_of_step ps) xs)).all (right.0 types (Binds h.0) h.1) (steps-right xs (h.0 ∷ types) of right.1 h.2)
@@ -87,7 +87,7 @@ module _ (d : Checked) (n : ℕ) (ps : List Part) (bodies : (number : ℕ) → A
   own-right (operation.Write port register) (t ∷ u ∷ ts) of h = absurd h
   own-right operation.Abort ts of h = tt
 
-  abbrev EachRight : Typed-F TypedStep Typed → Type 0
+  abbrev EachRight : Typed-F BlockStep Typed → Type 0
   EachRight (opened.Constant v) = Unit {0}
   EachRight (opened.Local index) = Unit {0}
   EachRight (opened.Input number) = Unit {0}
@@ -95,7 +95,7 @@ module _ (d : Checked) (n : ℕ) (ps : List Part) (bodies : (number : ℕ) → A
   EachRight (opened.If conditions arms) = AllByRecursion Right conditions × AllByRecursion Right arms
   EachRight (opened.Block steps) = AllByRecursion RightStep steps
 
-  each-right : (y : Typed-F (Such RightStep) (Such Right)) → EachRight (map-Typed (Such RightStep) (Such Right) TypedStep Typed (λ e. e.0) (λ e. e.0) y)
+  each-right : (y : Typed-F (Such RightStep) (Such Right)) → EachRight (map-Typed (Such RightStep) (Such Right) BlockStep Typed (λ e. e.0) (λ e. e.0) y)
   each-right (opened.Constant v) = tt
   each-right (opened.Local index) = tt
   each-right (opened.Input number) = tt
@@ -103,8 +103,8 @@ module _ (d : Checked) (n : ℕ) (ps : List Part) (bodies : (number : ℕ) → A
   each-right (opened.If conditions arms) = (firsts Right conditions, firsts Right arms)
   each-right (opened.Block steps) = firsts RightStep steps
 
-  part-right : (x : Typed-F TypedStep Typed) (types : List ValueType) (of : Option ValueType) → EachRight x → PartHasType d n (StepHasType d n) (HasType d n) x types of →
-      AreRight d (parts.typed_step ps (map-Typed TypedStep Typed Part Part (part_of_step ps) (part_of ps) x))
+  part-right : (x : Typed-F BlockStep Typed) (types : List ValueType) (of : Option ValueType) → EachRight x → PartHasType d n (StepHasType d n) (HasType d n) x types of →
+      AreRight d (parts.typed_step ps (map-Typed BlockStep Typed Part Part (part_of_step ps) (part_of ps) x))
   part-right (opened.Constant v) types of right h = tt
   part-right (opened.Local index) types of right h = tt
   part-right (opened.Input number) types of right h = (tt, tt)
@@ -113,22 +113,22 @@ module _ (d : Checked) (n : ℕ) (ps : List Part) (bodies : (number : ℕ) → A
   part-right (opened.If conditions arms) types of right h = choice-right conditions arms types (Some (bits 1)) of right.0 right.1 h.0 h.1
   part-right (opened.Block steps) types of right h = steps-right steps types of right h
 
-  typed_layer : (x : Typed-F TypedStep Typed) (y : Typed-F (Such RightStep) (Such Right)) → map-Typed (Such RightStep) (Such Right) TypedStep Typed (λ e. e.0) (λ e. e.0) y ≡ x → Right (roll-Typed x)
+  typed_layer : (x : Typed-F BlockStep Typed) (y : Typed-F (Such RightStep) (Such Right)) → map-Typed (Such RightStep) (Such Right) BlockStep Typed (λ e. e.0) (λ e. e.0) y ≡ x → Right (roll-Typed x)
   typed_layer x y same types of has =
       subst (AreRight d) (sym (part-roll ps x)) (part-right x types of (subst EachRight same (each-right y)) (open-HasType d n (roll-Typed x) x refl types of has))
 
-  abbrev EachRightStep : TypedStep-F TypedStep Typed → Type 0
+  abbrev EachRightStep : BlockStep-F BlockStep Typed → Type 0
   EachRightStep (opened.Let v) = Right v
   EachRightStep (opened.Do v) = Right v
   EachRightStep (opened.Give v) = Right v
 
-  each-right-step : (y : TypedStep-F (Such RightStep) (Such Right)) → EachRightStep (map-TypedStep (Such RightStep) (Such Right) TypedStep Typed (λ e. e.0) (λ e. e.0) y)
+  each-right-step : (y : BlockStep-F (Such RightStep) (Such Right)) → EachRightStep (map-BlockStep (Such RightStep) (Such Right) BlockStep Typed (λ e. e.0) (λ e. e.0) y)
   each-right-step (opened.Let v) = v.1
   each-right-step (opened.Do v) = v.1
   each-right-step (opened.Give v) = v.1
 
-  step-right : (x : TypedStep-F TypedStep Typed) (types : List ValueType) (doing : Doing) → EachRightStep x → StepDoes (HasType d n) x types doing →
-      AreRight d (parts.step_step (map-TypedStep TypedStep Typed Part Part (part_of_step ps) (part_of ps) x))
+  step-right : (x : BlockStep-F BlockStep Typed) (types : List ValueType) (doing : Doing) → EachRightStep x → StepDoes (HasType d n) x types doing →
+      AreRight d (parts.step_step (map-BlockStep BlockStep Typed Part Part (part_of_step ps) (part_of ps) x))
   step-right (opened.Let v) types (Binds t) right h = right types (Some t) h
   step-right (opened.Let v) types Runs right h = absurd h
   step-right (opened.Let v) types (Gives of) right h = absurd h
@@ -139,9 +139,9 @@ module _ (d : Checked) (n : ℕ) (ps : List Part) (bodies : (number : ℕ) → A
   step-right (opened.Give v) types Runs right h = absurd h
   step-right (opened.Give v) types (Gives of) right h = right types of h
 
-  step_layer : (x : TypedStep-F TypedStep Typed) (y : TypedStep-F (Such RightStep) (Such Right)) → map-TypedStep (Such RightStep) (Such Right) TypedStep Typed (λ e. e.0) (λ e. e.0) y ≡ x → RightStep (roll-TypedStep x)
+  step_layer : (x : BlockStep-F BlockStep Typed) (y : BlockStep-F (Such RightStep) (Such Right)) → map-BlockStep (Such RightStep) (Such Right) BlockStep Typed (λ e. e.0) (λ e. e.0) y ≡ x → RightStep (roll-BlockStep x)
   step_layer x y same types doing has =
-      subst (AreRight d) (sym (step-roll ps x)) (step-right x types doing (subst EachRightStep same (each-right-step y)) (open-step d n (roll-TypedStep x) x refl types doing has))
+      subst (AreRight d) (sym (step-roll ps x)) (step-right x types doing (subst EachRightStep same (each-right-step y)) (open-step d n (roll-BlockStep x) x refl types doing has))
 
   pub expression-right : (e : Typed) (types : List ValueType) (of : Option ValueType) → HasType d n e types of → AreRight d (part_of ps e)
   expression-right = ind-Typed RightStep Right step_layer typed_layer

@@ -10,8 +10,8 @@ use Rattle.koika_check.specs.declared.checked.CheckedFunction.{CheckedFunction}
 use Rattle.koika_check.specs.declared.checked.CheckedRule.{CheckedRule}
 use Rattle.koika_check.specs.declared.typed.Operation.{Operation}
 use Rattle.koika_check.specs.declared.typed.Operation.TheVariants as operation
-use Rattle.koika_check.specs.declared.typed.TypedStep.{TypedStep, TypedStep-F}
-use Rattle.koika_check.specs.declared.typed.Typed.TheOpen as typed
+use Rattle.koika_check.specs.declared.typed.BlockStep.{BlockStep, BlockStep-F}
+use Rattle.koika_check.specs.declared.typed.BlockStep.TheOpen as typed
 use Rattle.koika_check.specs.declared.typed.Typed.{Typed, Typed-F, fold-Typed}
 use Rattle.lab_lint.specs.declared.occurrence.Occurrence.{Occurrence}
 use Rattle.lab_lint.specs.declared.occurrence.Occurrence.TheVariants as occurrence
@@ -85,7 +85,7 @@ typed_step bodies (typed.Apply o operands) = in_order (in_turn operands) (own bo
 typed_step bodies (typed.If conditions bodies') = choice conditions bodies'
 typed_step bodies (typed.Block steps) = in_turn steps
 
-abbrev pub step_step : TypedStep-F Part Part → Part
+abbrev pub step_step : BlockStep-F Part Part → Part
 step_step (typed.Let value) = value
 step_step (typed.Do value) = value
 step_step (typed.Give value) = value

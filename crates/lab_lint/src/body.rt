@@ -8,7 +8,7 @@ ghost use Rattle.lab_lint.specs.Occurrences.{bodies_before, choice, in_turn, own
 ghost use Rattle.lab_lint.specs.inner.Occurrences.{part_of_step};
 
 use crate::occurrence::Occurrence;
-use koika_check::{Checked, Operation, Typed, TypedStep};
+use koika_check::{BlockStep, Checked, Operation, Typed};
 use kw_bits::{NoMemory, Sequence};
 use std::alloc::Global;
 use typed_core::Access;
@@ -105,7 +105,7 @@ fn push_operands(
 fn push_steps(
     design: &Checked,
     functions: usize,
-    steps: &[TypedStep],
+    steps: &[BlockStep],
     all: &mut Sequence<Occurrence>,
 ) -> Result<(), NoMemory>
     ensures { OnOk result (all.new ≡ all.old ++ (in_turn (map (part_of_step (bodies_before design.now functions)) steps.now)).all) }
@@ -121,15 +121,15 @@ fn push_steps(
 fn push_step(
     design: &Checked,
     functions: usize,
-    step: &TypedStep,
+    step: &BlockStep,
     all: &mut Sequence<Occurrence>,
 ) -> Result<(), NoMemory>
     ensures { OnOk result (all.new ≡ all.old ++ (part_of_step (bodies_before design.now functions) step.now).all) }
 {
     match step {
-        TypedStep::Let(value) => push_all(design, functions, value, all),
-        TypedStep::Do(value) => push_all(design, functions, value, all),
-        TypedStep::Give(value) => push_all(design, functions, value, all),
+        BlockStep::Let(value) => push_all(design, functions, value, all),
+        BlockStep::Do(value) => push_all(design, functions, value, all),
+        BlockStep::Give(value) => push_all(design, functions, value, all),
     }
 }
 

@@ -8,7 +8,7 @@ ghost use Rattle.koika_check.specs.inner.Capped as inner_counts;
 ghost use Rattle.koika_check.specs.Sizes as sizes;
 ghost use Rattle.koika_check.specs.inner.Sizes as inner_sizes;
 
-use koika_check::{Checked, MAX_DEPTH, MAX_WEIGHT, Measure, Operation, Typed, TypedStep};
+use koika_check::{BlockStep, Checked, MAX_DEPTH, MAX_WEIGHT, Measure, Operation, Typed};
 use kw_bits::{NoMemory, Sequence};
 use std::alloc::Global;
 
@@ -241,7 +241,7 @@ fn weigh_chain(
 // Steps of a block: each is one deeper than the statement before, the first by one. Where no last expression stands,
 // its place is as deep.
 #[cycle(measure)]
-fn weigh_steps(design: &Checked, bodies: &[Measure], steps: &[TypedStep]) -> Measure
+fn weigh_steps(design: &Checked, bodies: &[Measure], steps: &[BlockStep]) -> Measure
     ensures { (parts : List sizes.Size) → bodies.now ≡ map counts.capped parts → result ≡ counts.capped (sizes.steps_size (map (inner_sizes.size_of_step (record { design = design.now; bodies = parts })) steps.now)) }
 {
     let mut all = measure(0, 0);
@@ -259,26 +259,26 @@ fn weigh_steps(design: &Checked, bodies: &[Measure], steps: &[TypedStep]) -> Mea
 
 // How much a step weighs besides its value: 1 where it is a statement.
 #[tactic(auto, using(koika_check::proofs::Equations::equations))]
-fn step_weight(step: &TypedStep) -> usize
+fn step_weight(step: &BlockStep) -> usize
     ensures statement { (parts : sizes.Rests) → result ≡ (inner_sizes.size_of_step parts step.now).statement }
     ensures few { result ≤ 1 }
 {
     match step {
-        TypedStep::Let(_) => 1,
-        TypedStep::Do(_) => 1,
-        TypedStep::Give(_) => 0,
+        BlockStep::Let(_) => 1,
+        BlockStep::Do(_) => 1,
+        BlockStep::Give(_) => 0,
     }
 }
 
 #[cycle(measure)]
 #[tactic(auto, using(koika_check::proofs::Equations::equations))]
-fn weigh_step(design: &Checked, bodies: &[Measure], step: &TypedStep) -> Measure
+fn weigh_step(design: &Checked, bodies: &[Measure], step: &BlockStep) -> Measure
     ensures { (parts : List sizes.Size) → bodies.now ≡ map counts.capped parts → result ≡ counts.capped (inner_sizes.size_of_step (record { design = design.now; bodies = parts }) step.now).value }
 {
     match step {
-        TypedStep::Let(value) => weigh(design, bodies, value),
-        TypedStep::Do(value) => weigh(design, bodies, value),
-        TypedStep::Give(value) => weigh(design, bodies, value),
+        BlockStep::Let(value) => weigh(design, bodies, value),
+        BlockStep::Do(value) => weigh(design, bodies, value),
+        BlockStep::Give(value) => weigh(design, bodies, value),
     }
 }
 

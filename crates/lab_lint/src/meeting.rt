@@ -9,7 +9,7 @@ ghost use Rattle.lab_lint.specs.declared.occurrence.Occurrence.TheVariants as oc
 ghost use Rattle.lab_lint.specs.inner.Meetings as meetings;
 ghost use Rattle.lab_lint.specs.inner.Meetings.{meeting_of};
 
-use koika_check::{Checked, Operation, Typed, TypedStep};
+use koika_check::{BlockStep, Checked, Operation, Typed};
 use typed_core::Access;
 
 /// What a part of a body has to do with an access.
@@ -104,7 +104,7 @@ fn meet_operands(design: &Checked, functions: usize, access: Access, operands: &
 
 // The steps of a block, the last one first.
 #[cycle(meeting)]
-fn meet_steps(design: &Checked, functions: usize, access: Access, steps: &[TypedStep]) -> Meeting
+fn meet_steps(design: &Checked, functions: usize, access: Access, steps: &[BlockStep]) -> Meeting
     ensures { result ≡ meeting_of access (in_turn (map (part_of_step (bodies_before design.now functions)) steps.now)) }
 {
     let mut all = Meeting::NONE;
@@ -118,13 +118,13 @@ fn meet_steps(design: &Checked, functions: usize, access: Access, steps: &[Typed
 
 #[cycle(meeting)]
 #[tactic(auto, using(crate::proofs::Layers::layers))]
-fn meet_step(design: &Checked, functions: usize, access: Access, step: &TypedStep) -> Meeting
+fn meet_step(design: &Checked, functions: usize, access: Access, step: &BlockStep) -> Meeting
     ensures { result ≡ meeting_of access (part_of_step (bodies_before design.now functions) step.now) }
 {
     match step {
-        TypedStep::Let(value) => meet(design, functions, access, value),
-        TypedStep::Do(value) => meet(design, functions, access, value),
-        TypedStep::Give(value) => meet(design, functions, access, value),
+        BlockStep::Let(value) => meet(design, functions, access, value),
+        BlockStep::Do(value) => meet(design, functions, access, value),
+        BlockStep::Give(value) => meet(design, functions, access, value),
     }
 }
 

@@ -6,7 +6,7 @@ use Rattle.koika_check.specs.inner.BitWeights.{gauge_of_step}
 use Rattle.koika_check.specs.declared.bit_weight.Gauge.{Gauge as Counted}
 use Rattle.koika_check.specs.declared.bit_weight.Side.{Side}
 use Rattle.koika_check.specs.declared.checked.Checked.{Checked}
-use Rattle.koika_check.specs.declared.typed.TypedStep.{TypedStep}
+use Rattle.koika_check.specs.declared.typed.BlockStep.{BlockStep}
 use Rattle.koika_check.specs.declared.typed.Typed.{Typed}
 
 -- how a number is counted
@@ -35,5 +35,5 @@ IsCounted names of result = (widths : List ℕ) → names ≡ map cap widths →
 abbrev pub AreCounted : (names : List ℕ) → (List ℕ → List Gauge) → Side → Type 0
 AreCounted names of result = (widths : List ℕ) → names ≡ map cap widths → result ≡ side_of (of widths)
 
-abbrev pub steps_of : Bodies → List TypedStep → List ℕ → Gauge
+abbrev pub steps_of : Bodies → List BlockStep → List ℕ → Gauge
 steps_of b steps = steps_in_turn (map (gauge_of_step b) steps)

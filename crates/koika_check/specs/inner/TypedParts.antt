@@ -16,8 +16,8 @@ use Rattle.koika_check.specs.declared.checker.Checker.{Checker}
 use Rattle.koika_check.specs.declared.checker.Typing.{Typing}
 use Rattle.koika_check.specs.declared.expressions.Arms.{Arms}
 use Rattle.koika_check.specs.declared.expressions.TypedFields.{TypedFields}
-use Rattle.koika_check.specs.declared.typed.TypedStep.{TypedStep}
-use Rattle.koika_check.specs.declared.typed.TypedStep.TheVariants as step
+use Rattle.koika_check.specs.declared.typed.BlockStep.{BlockStep}
+use Rattle.koika_check.specs.declared.typed.BlockStep.TheVariants as step
 use Rattle.koika_check.specs.declared.typed.Typed.{Typed}
 
 -- a value stands for one of outcomes, and names stand for what this scope says
@@ -75,12 +75,12 @@ abbrev pub bound_step : Name → Scope → constructs.Typing → CheckResult Ste
 bound_step n scope inner = found inner.part.of (wrong_type inner.part) >>= λ of. Gives (record { step = step.Let inner.typed; behind = bound n.text of scope })
 
 -- a step, after which names stand for what it leaves: locals were bound inside
-pub record IsStep (scope : Scope) (c : Checker) (y : TypedStep) (x : Stepping) : Type 0 where
+pub record IsStep (scope : Scope) (c : Checker) (y : BlockStep) (x : Stepping) : Type 0 where
   pub step : x.step ≡ y
   pub behind : scope_of c ≡ x.behind
   pub inner : (more : List Local) × (x.behind.locals ≡ more ++ scope.locals)
 
-pub record AreSteps (scope : Scope) (c : Checker) (y : List TypedStep) (x : BlockSoFar) : Type 0 where
+pub record AreSteps (scope : Scope) (c : Checker) (y : List BlockStep) (x : BlockSoFar) : Type 0 where
   pub steps : x.steps ≡ y
   pub behind : scope_of c ≡ x.behind
   pub inner : (more : List Local) × (x.behind.locals ≡ more ++ scope.locals)

@@ -5,7 +5,7 @@ use Rattle.koika_check.specs.Meaning.{Meaning, RuleSetting, StepMeaning, meaning
 use Rattle.koika_check.specs.Typing.{HasType, IsTypedDesign, Pairwise, StepsHaveType}
 use Rattle.koika_check.specs.inner.Typing.{StepHasType}
 use Rattle.koika_check.specs.declared.checked.Checked.{Checked}
-use Rattle.koika_check.specs.declared.typed.TypedStep.{TypedStep, fold-TypedStep}
+use Rattle.koika_check.specs.declared.typed.BlockStep.{BlockStep, fold-BlockStep}
 use Rattle.koika_check.specs.declared.typed.Typed.{Typed}
 use Rattle.koika_check.specs.declared.typed.ValueType.{ValueType}
 use Rattle.koika_lower.specs.inner.Simulation.{AreNames, Lowers, LowersAll, Sense}
@@ -16,10 +16,10 @@ use Rattle.koika_lower.specs.declared.lowered.Lowered.{Lowered}
 abbrev pub sense_of : Typed → Sense
 sense_of e s = meaning s e
 
-unfoldable pub step_meaning : RuleSetting Stopped → TypedStep → StepMeaning Stopped
-step_meaning s = fold-TypedStep (StepMeaning Stopped) (Meaning Stopped) step_step (typed_step s)
+unfoldable pub step_meaning : RuleSetting Stopped → BlockStep → StepMeaning Stopped
+step_meaning s = fold-BlockStep (StepMeaning Stopped) (Meaning Stopped) step_step (typed_step s)
 
-abbrev pub block_sense : List TypedStep → Sense
+abbrev pub block_sense : List BlockStep → Sense
 block_sense steps s = steps_in_turn (map (step_meaning s) steps)
 
 -- the lowered are those of the expressions, one by one, wherever these are well typed
@@ -29,7 +29,7 @@ AreLowered d functions depth rises names es ls = (types : List ValueType) (ofs :
     LowersAll d functions depth rises names types ofs (map sense_of es) ls
 
 -- the lowered is that of the steps of a block, wherever these are well typed
-abbrev pub AreLoweredSteps : Checked → (functions depth : ℕ) → List Bound → List TypedStep → Lowered → Type 0
+abbrev pub AreLoweredSteps : Checked → (functions depth : ℕ) → List Bound → List BlockStep → Lowered → Type 0
 AreLoweredSteps d functions depth names steps l = (types : List ValueType) (of : Option ValueType) →
     IsTypedDesign d → AreNames d depth names types → StepsHaveType (StepHasType d functions) steps types of →
     Lowers d functions depth names types of (block_sense steps) l

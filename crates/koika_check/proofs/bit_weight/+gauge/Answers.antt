@@ -11,7 +11,7 @@ use Rattle.koika_check.specs.declared.bit_weight.Gauge.{Gauge as Counted}
 use Rattle.koika_check.specs.declared.bit_weight.Side.{Side}
 use Rattle.koika_check.specs.declared.checked.CheckedFunction.{CheckedFunction}
 use Rattle.koika_check.specs.declared.typed.Operation.{Operation}
-use Rattle.koika_check.specs.declared.typed.TypedStep.{TypedStep}
+use Rattle.koika_check.specs.declared.typed.BlockStep.{BlockStep}
 use Rattle.koika_check.specs.declared.typed.Typed.{Typed}
 use Rattle.koika_check.specs.declared.typed.ValueType.{ValueType}
 use Rattle.koika_check.proofs.GaugeEquations.{gauge-Apply, gauge-Block, gauge-Constant, gauge-If, gauge-Input, gauge-Local, steps-Do, steps-Give, steps-Let}
@@ -73,7 +73,7 @@ gauge_expression-gauge_steps-requires t c =
 pub gauge_expression-returns-in-Block : goal.gauge_expression-returns-in-Block
 gauge_expression-returns-in-Block t c ws e =
     let b = bodies_before c.args.design.now c.args.functions in
-    c.gauge_steps.ensures ws e ∙ ap (λ (ss : List TypedStep). counted (steps_of b ss ws)) c.as_slice.ensures
+    c.gauge_steps.ensures ws e ∙ ap (λ (ss : List BlockStep). counted (steps_of b ss ws)) c.as_slice.ensures
     ∙ ap counted (sym (gauge-Block b c.in-Block.steps ws)) ∙ ap (λ (x : Typed). counted (gauge_of b x ws)) (sym c.in-Block.is)
 
 -- ---- operations
@@ -211,7 +211,7 @@ gauge_steps-returns-in-Let t c ws e =
     let bound = c.gauge_expression-bound.ensures ws e in
     let inside = c.bind-inside.ensures ∙ ap₂ (λ w ns. w ∷ ns) (ap (λ (g : Counted). g.width) bound) e in
     c.more.ensures (gauge_of b v ws).squares (steps_of b rest ((gauge_of b v ws).width ∷ ws)) (ap (λ (g : Counted). g.squares) bound) (c.gauge_steps-after.ensures ((gauge_of b v ws).width ∷ ws) inside)
-    ∙ ap counted (sym (steps-Let b v rest ws)) ∙ ap (λ (ss : List TypedStep). counted (steps_of b ss ws)) (sym (c.in-Some.ensures.cases.0 ∙ ap (λ (s : TypedStep). s ∷ rest) c.in-Let.is))
+    ∙ ap counted (sym (steps-Let b v rest ws)) ∙ ap (λ (ss : List BlockStep). counted (steps_of b ss ws)) (sym (c.in-Some.ensures.cases.0 ∙ ap (λ (s : BlockStep). s ∷ rest) c.in-Let.is))
 
 pub gauge_steps-returns-in-Do : goal.gauge_steps-returns-in-Do
 gauge_steps-returns-in-Do t c ws e =
@@ -219,11 +219,11 @@ gauge_steps-returns-in-Do t c ws e =
     let v = c.in-Do.value in
     let rest = c.in-Some.rest.now in
     c.more-in-Do.ensures (gauge_of b v ws).squares (steps_of b rest ws) (ap (λ (g : Counted). g.squares) (c.gauge_expression-first.ensures ws e)) (c.gauge_steps-after-in-Do.ensures ws e)
-    ∙ ap counted (sym (steps-Do b v rest ws)) ∙ ap (λ (ss : List TypedStep). counted (steps_of b ss ws)) (sym (c.in-Some.ensures.cases.0 ∙ ap (λ (s : TypedStep). s ∷ rest) c.in-Do.is))
+    ∙ ap counted (sym (steps-Do b v rest ws)) ∙ ap (λ (ss : List BlockStep). counted (steps_of b ss ws)) (sym (c.in-Some.ensures.cases.0 ∙ ap (λ (s : BlockStep). s ∷ rest) c.in-Do.is))
 
 pub gauge_steps-returns-in-Give : goal.gauge_steps-returns-in-Give
 gauge_steps-returns-in-Give t c ws e =
     let b = bodies_before c.args.design.now c.args.functions in
     let v = c.in-Give.value in
     let rest = c.in-Some.rest.now in
-    c.gauge_expression.ensures ws e ∙ ap counted (sym (steps-Give b v rest ws)) ∙ ap (λ (ss : List TypedStep). counted (steps_of b ss ws)) (sym (c.in-Some.ensures.cases.0 ∙ ap (λ (s : TypedStep). s ∷ rest) c.in-Give.is))
+    c.gauge_expression.ensures ws e ∙ ap counted (sym (steps-Give b v rest ws)) ∙ ap (λ (ss : List BlockStep). counted (steps_of b ss ws)) (sym (c.in-Some.ensures.cases.0 ∙ ap (λ (s : BlockStep). s ∷ rest) c.in-Give.is))

@@ -4,7 +4,7 @@ use Rattle.std.proofs.lemmas.Option.{slice_get_past}
 use Rattle.koika_check.specs.Typing.{IsType}
 use Rattle.koika_check.specs.declared.checked.CheckedFunction.{CheckedFunction}
 use Rattle.koika_check.specs.declared.typed.Operation.{Operation}
-use Rattle.koika_check.specs.declared.typed.TypedStep.{TypedStep}
+use Rattle.koika_check.specs.declared.typed.BlockStep.{BlockStep}
 use Rattle.koika_check.specs.declared.typed.Typed.{Typed}
 use Rattle.koika_check.specs.declared.typed.Typed.TheVariants as typed
 use Rattle.koika_check.specs.declared.typed.ValueType.{ValueType}
@@ -83,7 +83,7 @@ lower_expression-returns-in-Block t c =
     (λ l made types of design are h.
     at_form c.args.design.now c.args.functions c.args.depth c.args.names.now types c.args.of.now (typed.Block c.in-Block.steps) of l c.in-Block.is h
     (block-lowered c.args.design.now c.args.functions c.args.depth c.args.names.now c.in-Block.steps l
-    (subst (λ (steps : List TypedStep). AreLoweredSteps c.args.design.now c.args.functions c.args.depth c.args.names.now steps l) c.as_slice.ensures made)
+    (subst (λ (steps : List BlockStep). AreLoweredSteps c.args.design.now c.args.functions c.args.depth c.args.names.now steps l) c.as_slice.ensures made)
     types of design are))
     c.lower_steps.ensures
 
@@ -123,8 +123,8 @@ lower_steps-lower_expression-requires-in-Give t c =
 pub lower_steps-returns-in_ok-second-in-Do : goal.lower_steps-returns-in_ok-second-in-Do
 lower_steps-returns-in_ok-second-in-Do t c =
     on_ok c.one_after_another.result
-    (λ l h. subst (λ (steps : List TypedStep). AreLoweredSteps c.args.design.now c.args.functions c.args.depth c.args.names.now steps l)
-    (sym (c.in-Some.ensures.cases.0 ∙ ap (λ (s : TypedStep). s ∷ c.in-Some.rest.now) c.in-Do.is))
+    (λ l h. subst (λ (steps : List BlockStep). AreLoweredSteps c.args.design.now c.args.functions c.args.depth c.args.names.now steps l)
+    (sym (c.in-Some.ensures.cases.0 ∙ ap (λ (s : BlockStep). s ∷ c.in-Some.rest.now) c.in-Do.is))
     (do-lowered c.args.design.now c.args.functions c.args.depth c.args.names.now c.in-Do.value c.in-Some.rest.now c.in_ok-first-in-Do.first c.in_ok-second-in-Do.second l
     c.in_ok-first-in-Do.ensures c.in_ok-second-in-Do.ensures h))
     c.one_after_another.ensures
@@ -132,8 +132,8 @@ lower_steps-returns-in_ok-second-in-Do t c =
 pub lower_steps-returns-in-Give : goal.lower_steps-returns-in-Give
 lower_steps-returns-in-Give t c =
     on_ok c.lower_expression-in-Give.result
-    (λ l h. subst (λ (steps : List TypedStep). AreLoweredSteps c.args.design.now c.args.functions c.args.depth c.args.names.now steps l)
-    (sym (c.in-Some.ensures.cases.0 ∙ ap (λ (s : TypedStep). s ∷ c.in-Some.rest.now) c.in-Give.is))
+    (λ l h. subst (λ (steps : List BlockStep). AreLoweredSteps c.args.design.now c.args.functions c.args.depth c.args.names.now steps l)
+    (sym (c.in-Some.ensures.cases.0 ∙ ap (λ (s : BlockStep). s ∷ c.in-Some.rest.now) c.in-Give.is))
     (give-lowered c.args.design.now c.args.functions c.args.depth c.args.names.now c.in-Give.value c.in-Some.rest.now l h))
     c.lower_expression-in-Give.ensures
 

@@ -17,7 +17,7 @@ use Rattle.koika_check.specs.Scopes.{called, register}
 use Rattle.koika_check.specs.inner.Shapes.{part_of}
 use Rattle.koika_check.specs.inner.TypedParts.{AreSteps, In, IsChained, IsStep, bound_step}
 use Rattle.koika_check.specs.Types.{struct_named, type_of}
-use Rattle.koika_check.specs.declared.typed.TypedStep.TheVariants as step
+use Rattle.koika_check.specs.declared.typed.BlockStep.TheVariants as step
 use Rattle.koika_check.proofs.BlockParts.{block-parts, expression-If, statement-Do, statement-Let}
 use Rattle.koika_check.proofs.Blocks.{block-ends, block-gives, block-within, closed-gives, closed-none, done-gives, run-of, running, steps-end, steps-more, steps-start}
 use Rattle.koika_check.proofs.Chains.{chain-ends, chain-ends-joined, chain-gives, chain-more, chain-start, chain-stops, joining, started}
