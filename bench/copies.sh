@@ -6,7 +6,8 @@ set -eu
 cd "$(dirname "$0")/.."
 
 cmp docs/FAULTS.md crates/source_runs/data/FAULTS.md
-diff -r --exclude=riscv --exclude=systolic --exclude=testbench --exclude=certified examples crates/source_runs/data/examples
+diff -r --exclude=blink --exclude=riscv --exclude=systolic --exclude=testbench --exclude=certified \
+    examples crates/source_runs/data/examples
 diff -r examples/riscv/designs crates/source_runs/data/examples/riscv/designs
 cmp examples/hosts.koika crates/koika_cli/stdin
 tail -n +2 examples/hosts.txt | cmp - crates/koika_cli/stdout

@@ -19,6 +19,7 @@ import textwrap
 # Listings that are files: the page, how its first line begins, and the file's name. A file is there from its place on.
 FILES = [
     ("AIGER.md", "input go : bits 1;", "design.koika"),
+    ("CIRCUITS.md", "module bench;", "bench.v"),
     ("GENERATING.md", "//@ parameter n 4", "delay.koika.in"),
     ("GENERATING.md", "//@ table text bits 8", "send.koika.in"),
     ("JOURNAL.md", "reg x : bits 8 = 8'd0;", "clash.koika"),
@@ -185,10 +186,11 @@ END
 # Messages on faults are those that a user gets.
 ENVIRONMENT = {name: value for name, value in os.environ.items() if name not in ("KOIKA", "KOIKA_EXPLAIN")}
 
-# What isn't installed everywhere: a word of a command, and the program that it needs.
+# What isn't installed everywhere: a word of a command, and the program that it needs. The file `answer` is z3's.
 TOOLS = {
-    "yosys": "yosys", "berkeley-abc": "berkeley-abc", "iverilog": "iverilog", "z3": "z3", "cvc5": "cvc5",
-    "nextpnr-ice40": "nextpnr-ice40", "icepack": "icepack", "parallel": "parallel",
+    "yosys": "yosys", "berkeley-abc": "berkeley-abc", "iverilog": "iverilog", "vvp": "iverilog", "z3": "z3",
+    "answer": "z3", "cvc5": "cvc5", "nextpnr-ice40": "nextpnr-ice40", "icepack": "icepack", "parallel": "parallel",
+    "verilator": "verilator", "obj_dir/run": "verilator",
     "qemu-riscv32": "qemu-riscv32", "examples/riscv/build": "riscv64-unknown-elf-gcc", "pytest": "pytest",
 }
 

@@ -26,9 +26,10 @@ take_lab "$lab_cli"
 koika_cli=$program lab_cli=$lab
 if [ $# = 0 ]; then
     set -- README.md docs/LANGUAGE.md docs/FROM-BLUESPEC.md docs/FAULTS.md docs/LIMITS.md docs/FORMATS.md \
-        docs/GENERATING.md docs/SWEEPS.md docs/LAB.md docs/TESTBENCH.md docs/BTOR2.md docs/AIGER.md docs/CIRCUITS.md \
-        docs/JOURNAL.md docs/THREADS.md docs/GLOSSARY.md docs/PERFORMANCE.md docs/ARCHITECTURE.md docs/CONTRIBUTING.md \
-        docs/GATE.md docs/PROOFS.md docs/DEFINITIONS.md docs/DECISIONS.md editors/README.md CHANGELOG.md
+        docs/GENERATING.md docs/SWEEPS.md docs/LAB.md docs/TESTBENCH.md docs/CIRCUITS.md docs/VERILOG.md docs/BTOR2.md \
+        docs/AIGER.md docs/JOURNAL.md docs/THREADS.md docs/GLOSSARY.md docs/PERFORMANCE.md docs/ARCHITECTURE.md \
+        docs/CONTRIBUTING.md docs/GATE.md docs/PROOFS.md docs/DEFINITIONS.md docs/DECISIONS.md editors/README.md \
+        CHANGELOG.md
 fi
 room=$(mktemp -d)
 trap 'rm -rf "$room"' EXIT
