@@ -227,7 +227,7 @@ if is_asked equal && has yosys; then
         equal "$name" "$file"
     done <"$room/designs"
     for width in 1 2 3 5; do
-        [ -z "$asked" ] || break
+        case $asked in "" | *" forms_$width "*) ;; *) continue ;; esac
         python3 bench/verilog.py forms "$width" >"$room/forms_$width"
         equal "forms_$width" "$room/forms_$width"
     done
@@ -243,6 +243,8 @@ reason_of() {
         four_stages) echo "what isn't forwarded is chosen all the same, and no tool sees that nothing looks at it" ;;
         token_ring) echo "the twin uses that there is one token; each rule here looks at those that fired before it" ;;
         try_arbiter) echo "each grant is at four places of the schedule" ;;
+        load_arbiter) echo "each grant is at four places, with four choices of the total and an adder of its own" ;;
+        credit_arbiter) echo "each grant is at four places, with a subtraction of its own" ;;
         *) echo ;;
     esac
 }
@@ -261,8 +263,19 @@ cells_of() {
         END { print tables + 0, carries + 0, flops + 0, products + 0 }' "$room/stat"
 }
 
+# How many times the tables of the second the first has, the fewer of two each.
+ratio_of() {
+    awk -v ours="$1 $2" -v theirs="$3 $4" 'BEGIN {
+        split(ours, a, " ")
+        split(theirs, b, " ")
+        least = a[1] < a[5] ? a[1] : a[5]
+        twin = b[1] < b[5] ? b[1] : b[5]
+        printf "%.2f", twin ? least / twin : least ? 99 : 1
+    }'
+}
+
 cells() {
-    local name=$1 file twin=bench/twins/$1.v ours better theirs ours5 theirs5 ratio
+    local name=$1 file twin=bench/twins/$1.v ours better bits theirs theirs_better ours5 theirs5 ratio
     file=$(awk -v name="$name" '$1 == name || $1 == "twins/" name { print $2 }' "$room/designs")
     # The twin has the run of the design.
     prepare "$file"
@@ -275,24 +288,29 @@ cells() {
     fi
     cp "$twin" "$room/twin.v"
     python3 bench/verilog.py registers "$room/koika.v" >"$room/top.v"
+    "$program" aiger <"$file" | bin/latches >"$room/bits.aag"
     ours=$(cells_of "read_verilog koika.v top.v; synth_ice40 -dsp -top top")
     better=$(cells_of "read_verilog koika.v top.v; prep -flatten -top top; opt -full; synth_ice40 -dsp -top top")
+    bits=$(cells_of "read_aiger -module_name bits -clk_name clk bits.aag; synth_ice40 -dsp -top bits")
     theirs=$(cells_of "read_verilog twin.v; synth_ice40 -dsp -top $name")
+    theirs_better=$(cells_of "read_verilog twin.v; prep -top $name; opt -full; synth_ice40 -dsp -top $name")
     ours5=$(cells_of "read_verilog koika.v top.v; prep -flatten -top top; opt -full; synth_ecp5 -top top")
     theirs5=$(cells_of "read_verilog twin.v; synth_ecp5 -top $name")
-    ratio=$(awk -v a="${better%% *}" -v b="${theirs%% *}" 'BEGIN { printf "%.2f", b ? a / b : a ? 99 : 1 }')
+    ratio=$(ratio_of "$ours" "$better" "$theirs" "$theirs_better")
     awk -v ratio="$ratio" 'BEGIN { exit !(ratio > 1.1) }' && [ -z "$(reason_of "$name")" ] &&
         complain "$name takes $ratio times its twin's tables, and no reason is known"
-    echo "| \`$name\` | $ours | $better | $theirs | $ratio | $ours5 | $theirs5 | $(reason_of "$name") |"
+    echo "| \`$name\` | $ours | $better | ${bits%% *} | $theirs | $theirs_better | $ratio | $ours5 | $theirs5 |" \
+        "$(reason_of "$name") |"
 }
 
 if is_asked cells && has yosys; then
-    echo "Tables of four inputs, carries, flip-flops and multipliers by \`synth_ice40 -dsp\` and by \`synth_ecp5\`. The"
-    echo "ratio is that of tables of an iCE40, after \`prep; opt -full\`."
+    echo "Tables of four inputs, carries, flip-flops and multipliers by \`synth_ice40 -dsp\` and by \`synth_ecp5\`; of"
+    echo "the AIGER file the tables alone. The ratio is that of the fewer tables of an iCE40 each."
     echo
-    echo "| design | iCE40, as written | after \`prep; opt -full\` | its twin | ratio |" \
-        "ECP5, after \`prep; opt -full\` | its twin | why the ratio is above 1.1 |"
-    echo "|---|---|---|---|---|---|---|---|"
+    echo "| design | iCE40, as written | after \`prep; opt -full\` | of its AIGER file | its twin |" \
+        "the twin after \`prep; opt -full\` | ratio | ECP5, after \`prep; opt -full\` | its twin |" \
+        "why the ratio is above 1.1 |"
+    echo "|---|---|---|---|---|---|---|---|---|---|"
     for twin in bench/twins/*.v; do
         name=$(basename "$twin" .v)
         if grep -q -e "^$name " -e "^twins/$name " "$room/designs"; then cells "$name"; fi
