@@ -5,17 +5,20 @@
 # design's stimulus, and each cycle has the rules and registers that `sim` writes. ABC, which reads the binary form that
 # yosys makes, proves by `pdr` that the assertion of `traffic` is never violated, and finds by `bmc3` how soon other
 # rules can fire: on the inputs that it found `sim` shows the same. Then come the numbers of gates, beside those that
-# yosys makes of the BTOR2 file of the same design, what `aiger` takes on a pipeline of 100 stages, and what `aigsim`
-# costs. The status is 1 unless all tools agree.
+# yosys makes of the module that `verilog` writes of the same design, what `aiger` takes on a pipeline of 100 stages, and
+# what `aigsim` costs. The status is 1 unless all tools agree.
 #
-# It takes another program than the built one as its argument, and is run by hand. It needs yosys, berkeley-abc and
-# iverilog of Debian.
+#     bench/aiger.sh [PROGRAM LAB_PROGRAM]
+#
+# Other programs than the built ones may be named. It is run by hand. It needs yosys, berkeley-abc and iverilog of
+# Debian.
 set -eu
 cd "$(dirname "$0")/.."
 . bench/cost.sh
 . bench/programs.sh
 
 take_program "${1-}"
+take_lab "${2-}"
 cycles=20
 failed=0
 
@@ -151,40 +154,6 @@ header() {
     awk -v column="$1" 'NR == 1 { print $column }' "$room/design.aag"
 }
 
-# The Verilog of a BTOR2 file that `compile` wrote, a line for a line, with all its states as outputs.
-verilog_of_btor2() {
-    awk '
-        function value(id) { return "n" id }
-        BEGIN {
-            split("and & or | xor ^ add + sub - mul * sll << srl >> eq == neq != ult < ulte <= ugt > ugte >=", words, " ")
-            for (k = 1; k in words; k += 2) operator[words[k]] = words[k + 1]
-            split("slt < slte <= sgt > sgte >=", words, " ")
-            for (k = 1; k in words; k += 2) signed[words[k]] = words[k + 1]
-        }
-        $2 == "sort" { wide[$1] = $4; next }
-        $2 == "next" { steps = steps "    " value($4) " <= " value($5) ";\n"; next }
-        $2 == "init" { print "  initial " value($4) " = " first[$5] ";"; next }
-        $2 == "output" || $2 == "bad" { ports = ports ", output p" $1; print "  assign p" $1 " = " value($3) ";"; next }
-        { range = "[" wide[$3] - 1 ":0] " }
-        $2 == "input" { ports = ports ", input " range value($1); next }
-        $2 == "state" { ports = ports ", output " range "s" $1; print "  reg " range value($1) "; assign s" $1 " = " value($1) ";"; next }
-        $2 == "constd" { made = first[$1] = wide[$3] "'\''d" $4 }
-        $2 == "not" { made = "~" value($4) }
-        $2 in operator { made = value($4) " " operator[$2] " " value($5) }
-        $2 in signed { made = "$signed(" value($4) ") " signed[$2] " $signed(" value($5) ")" }
-        $2 == "sra" { made = "$signed(" value($4) ") >>> " value($5) }
-        $2 == "concat" { made = "{" value($4) ", " value($5) "}" }
-        $2 == "slice" { made = value($4) " >> " $6 }
-        $2 == "uext" { made = value($4) }
-        $2 == "sext" { made = "$signed(" value($4) ")" }
-        $2 == "ite" { made = value($4) " ? " value($5) " : " value($6) }
-        { print "  wire " range value($1) " = " made ";" }
-        END { print "  always @(posedge clk) begin\n" steps "  end"; print ports ");" >"/dev/stderr" }' 2>"$room/ports" >"$room/body"
-    printf 'module made(input clk'
-    cat "$room/ports" "$room/body"
-    echo endmodule
-}
-
 # The gates that yosys counts after commands.
 gates_after() {
     yosys -q -p "$1; tee -o $room/stat stat" >/dev/null
@@ -192,13 +161,14 @@ gates_after() {
 }
 
 echo
-echo "| design | inputs | latches | gates | yosys's gates for the BTOR2 file | gates after ABC | yosys's after ABC |"
+echo "| design | inputs | latches | gates | yosys's gates for the module | gates after ABC | yosys's after ABC |"
 echo "|---|---|---|---|---|---|---|"
 row() {
     "$program" aiger <"$2" >"$room/design.aag"
     bin/latches <"$room/design.aag" >"$room/shown.aag"
-    "$program" compile <"$2" | verilog_of_btor2 >"$room/words.v"
-    local of_aag="read_aiger $room/shown.aag" of_words="read_verilog $room/words.v; synth -flatten -noabc -top made; aigmap; opt -full"
+    "$lab" verilog --registers <"$2" >"$room/words.v"
+    local of_aag="read_aiger $room/shown.aag"
+    local of_words="read_verilog $room/words.v; synth -flatten -noabc -top koika; aigmap; opt -full"
     echo "| \`$1\` | $(header 3) | $(header 4) | $(header 6) | $(gates_after "$of_words") |" \
         "$(gates_after "$of_aag; abc -g AND; opt_clean") | $(gates_after "$of_words; abc -g AND; opt_clean") |"
 }
