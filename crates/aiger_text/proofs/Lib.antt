@@ -17,3 +17,7 @@ pub mod Symbols
 pub mod Rebuilding
 pub mod PrintedText
 pub mod ReadBack
+pub mod Placements
+pub mod Agreeing
+pub mod Accepting
+pub mod TextRuns

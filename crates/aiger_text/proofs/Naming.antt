@@ -106,7 +106,7 @@ begun-width : (kind index : ℕ) (symbol : Option (List ℕ)) → (begun kind in
 begun-width kind index None = refl
 begun-width kind index (Some symbol) = begun_by-width symbol
 
-widths-cons : (word : InputWord) (words : List InputWord) → sum (input_word_widths (word ∷ words)) ≡ word.width + sum (input_word_widths words)
+pub widths-cons : (word : InputWord) (words : List InputWord) → sum (input_word_widths (word ∷ words)) ≡ word.width + sum (input_word_widths words)
 widths-cons word words = sum_by-cons (λ (n : ℕ). n) word.width (input_word_widths words)
 
 words_from-width : (kind index : ℕ) (run : WordRun) (symbols : List (Option (List ℕ))) → sum (input_word_widths (words_from kind index run symbols)) ≡ run.word.width + length symbols
@@ -129,7 +129,7 @@ words_of_bits-width kind (symbol ∷ symbols) = omega (arith, words_from-width k
 latch_widths-cons : (word : LatchWord) (words : List LatchWord) → sum (latch_widths (word ∷ words)) ≡ word.first.width + sum (latch_widths words)
 latch_widths-cons word words = sum_by-cons (λ (n : ℕ). n) word.first.width (latch_widths words)
 
-rest-length : {X : Type 0} (n m : ℕ) (xs : List X) → length xs ≡ n + m → length (drop n xs) ≡ m
+pub rest-length : {X : Type 0} (n m : ℕ) (xs : List X) → length xs ≡ n + m → length (drop n xs) ≡ m
 rest-length n m xs all = omega (arith, ap length (take-append-drop n xs), length-append (take n xs) (drop n xs), length-take-le n xs (omega (arith, all)))
 
 pub latch_words-width : (words : List InputWord) (nexts : List ℕ) (resets : List Bool) → length resets ≡ sum (input_word_widths words) → sum (latch_widths (latch_words words nexts resets)) ≡ sum (input_word_widths words)

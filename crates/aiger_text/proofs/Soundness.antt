@@ -1,7 +1,8 @@
 -- What holds of what the lines of an AIGER text say.
-use Rattle.std.proofs.Common.{◌≡◌, ℕ, zero, suc, ◌/◌, Bool, true, false, cond, List, [], ◌∷◌, ◌++◌, length, Option, None, Some, Result, Ok, Err, refl, sym, ap, subst, ◌∙◌, arith}
+use Rattle.std.proofs.Common.{◌≡◌, ℕ, zero, suc, ◌/◌, ◌%◌, ◌≤◌, Bool, true, false, ◌||◌, cond, List, [], ◌∷◌, ◌++◌, length, Option, None, Some, Result, Ok, Err, refl, sym, ap, subst, ◌∙◌, arith}
 use Rattle.std.specs.Prelude.{◌≢◌, nat_eq, nat_lt}
 use Rattle.std.specs.List.{AllByRecursion}
+use Rattle.std.proofs.lemmas.Bool.{eqb-false, ltb-false, ne_eqb, or_from, or_parts}
 use Rattle.std.proofs.lemmas.List.{length_push}
 use Rattle.kw_base.specs.declared.fault.Fault.{Fault}
 use Rattle.aig_blast.specs.Aigs.{IsSymbol}
@@ -9,7 +10,8 @@ use Rattle.stim_report.specs.Stimuli.{after, next_line}
 use Rattle.aiger_text.specs.Cuts.{lines_of, decimal_number, words_of}
 use Rattle.aiger_text.specs.Drafts.{Draft, defined, draft_by, draft_from, draft_in, draft_of, ended, flaw_of, has_above, in_line, is_end, more_gates, more_inputs, more_latches, more_outputs, name_after, named_at, no_lines, output_by, put_symbol, section_of, symbol_at, symbol_by, symbol_of, unless, with_gate, with_input, with_latch, with_line, with_line_in, with_output, word_before}
 use Rattle.aiger_text.specs.Headers.{header_of, line_numbers}
-use Rattle.aiger_text.specs.inner.Sound.{AreSymbols, IsDraft}
+use Rattle.aiger_text.specs.Places.{is_defined}
+use Rattle.aiger_text.specs.inner.Sound.{AreApart, AreSymbols, IsDraft}
 use Rattle.aiger_text.specs.declared.header.Header.{Header}
 use Rattle.aiger_text.specs.declared.header.Section.{Section}
 use Rattle.aiger_text.specs.declared.header.Section.TheVariants as sections
@@ -27,8 +29,45 @@ unless-ok : (found : Option ℕ) (d new : Draft) → unless found d ≡ Ok new �
 unless-ok None d new is = cc
 unless-ok (Some fault) d new is = absurd (cc)
 
-input-sound : (d : Draft) (lit : ℕ) → IsDraft d → IsDraft (more_inputs (defined d lit))
-input-sound d lit draft = record {
+-- a literal defines a variable that no line defines so far
+record IsFresh (variables : List ℕ) (lit : ℕ) : Type 0 where
+  some : lit / 2 ≢ 0
+  other : is_defined variables (lit / 2) ≡ false
+
+-- a line without a fault defines such a one
+flaw-fresh : (h : Header) (variables : List ℕ) (lit : ℕ) (lits : List ℕ) (reset : ℕ) (d new : Draft) → unless (flaw_of h variables lit lits reset) d ≡ Ok new → IsFresh variables lit
+flaw-fresh h variables lit lits reset d new is =
+    by (has_above h.most lits) (is_defined variables (lit / 2)) (nat_lt lit 2) (nat_eq (lit % 2) 1) (nat_lt 1 reset) refl refl is
+  where
+    by : (a b c e f : Bool) → is_defined variables (lit / 2) ≡ b → nat_lt lit 2 ≡ c
+        → unless (cond {A = Option ℕ} a (Some 71) (cond {A = Option ℕ} b (Some 72) (cond {A = Option ℕ} (c || e) (Some 73) (cond {A = Option ℕ} f (Some 75) None)))) d ≡ Ok new
+        → IsFresh variables lit
+    by true b c e f twice low is = absurd (cc)
+    by false true c e f twice low is = absurd (cc)
+    by false false true e f twice low is = absurd (cc)
+    by false false false e f twice low is =
+        let above : 2 ≤ lit = ltb-false lit 2 low in
+        record { some = λ none. absurd (omega (arith, above, none)); other = twice }
+
+-- a variable more that is apart from all
+defined-push : (variables : List ℕ) (v w : ℕ) → is_defined variables v ≡ false → nat_eq v w ≡ false → is_defined (variables ++ w ∷ []) v ≡ false
+defined-push [] v w fresh other = or_from (nat_eq v w) false other refl
+defined-push (x ∷ variables) v w fresh other =
+    let parts = or_parts (nat_eq v x) (is_defined variables v) fresh in
+    or_from (nat_eq v x) (is_defined (variables ++ w ∷ []) v) parts.0 (defined-push variables v w parts.1 other)
+
+apart-push : (variables : List ℕ) (w : ℕ) → AreApart variables → w ≢ 0 → is_defined variables w ≡ false → AreApart (variables ++ w ∷ [])
+apart-push [] w all some fresh = (some, (refl, tt))
+apart-push (v ∷ variables) w all some fresh =
+    let parts = or_parts (nat_eq w v) (is_defined variables w) fresh in
+    let other : nat_eq v w ≡ false = ne_eqb v w (λ same. eqb-false w v parts.0 (sym same)) in
+    (all.0, (defined-push variables v w all.1.0 other, apart-push variables w all.1.1 some parts.1))
+
+fresh-push : (d : Draft) (lit : ℕ) → IsDraft d → IsFresh d.variables lit → AreApart (d.variables ++ lit / 2 ∷ [])
+fresh-push d lit draft fresh = apart-push d.variables (lit / 2) draft.apart fresh.some fresh.other
+
+input-sound : (d : Draft) (lit : ℕ) → IsFresh d.variables lit → IsDraft d → IsDraft (more_inputs (defined d lit))
+input-sound d lit fresh draft = record {
   inputs = unnamed-more d.inputs draft.inputs;
   latches = draft.latches;
   outputs = draft.outputs;
@@ -36,10 +75,11 @@ input-sound d lit draft = record {
   resets = draft.resets;
   lits = draft.lits;
   variables = omega (arith, draft.variables, length_push d.variables (lit / 2), length_push d.inputs None);
+  apart = fresh-push d lit draft fresh;
 }
 
-latch-sound : (d : Draft) (lit next reset : ℕ) → IsDraft d → IsDraft (more_latches next reset (defined d lit))
-latch-sound d lit next reset draft = record {
+latch-sound : (d : Draft) (lit next reset : ℕ) → IsFresh d.variables lit → IsDraft d → IsDraft (more_latches next reset (defined d lit))
+latch-sound d lit next reset fresh draft = record {
   inputs = draft.inputs;
   latches = unnamed-more d.latches draft.latches;
   outputs = draft.outputs;
@@ -47,6 +87,7 @@ latch-sound d lit next reset draft = record {
   resets = omega (arith, draft.resets, length_push d.resets (nat_eq reset 1), length_push d.latches None);
   lits = draft.lits;
   variables = omega (arith, draft.variables, length_push d.variables (lit / 2), length_push d.latches None);
+  apart = fresh-push d lit draft fresh;
 }
 
 output-sound : (d : Draft) (lit : ℕ) → IsDraft d → IsDraft (more_outputs lit d)
@@ -58,10 +99,11 @@ output-sound d lit draft = record {
   resets = draft.resets;
   lits = omega (arith, draft.lits, length_push d.lits lit, length_push d.outputs None);
   variables = draft.variables;
+  apart = draft.apart;
 }
 
-gate-sound : (d : Draft) (lit left right : ℕ) → IsDraft d → IsDraft (more_gates left right (defined d lit))
-gate-sound d lit left right draft = record {
+gate-sound : (d : Draft) (lit left right : ℕ) → IsFresh d.variables lit → IsDraft d → IsDraft (more_gates left right (defined d lit))
+gate-sound d lit left right fresh draft = record {
   inputs = draft.inputs;
   latches = draft.latches;
   outputs = draft.outputs;
@@ -69,6 +111,7 @@ gate-sound d lit left right draft = record {
   resets = draft.resets;
   lits = draft.lits;
   variables = omega (arith, draft.variables, length_push d.variables (lit / 2), length_push d.gates (record { left = left; right = right }));
+  apart = fresh-push d lit draft fresh;
 }
 
 -- a symbol more
@@ -100,6 +143,7 @@ inputs-named d k name is draft = record {
   resets = draft.resets;
   lits = draft.lits;
   variables = omega (arith, draft.variables, length-named_at d.inputs k name);
+  apart = draft.apart;
 }
 
 latches-named : (d : Draft) (k : ℕ) (name : List ℕ) → IsSymbol name → IsDraft d → IsDraft (record d { latches = named_at d.latches k name })
@@ -111,6 +155,7 @@ latches-named d k name is draft = record {
   resets = omega (arith, draft.resets, length-named_at d.latches k name);
   lits = draft.lits;
   variables = omega (arith, draft.variables, length-named_at d.latches k name);
+  apart = draft.apart;
 }
 
 outputs-named : (d : Draft) (k : ℕ) (name : List ℕ) → IsSymbol name → IsDraft d → IsDraft (record d { outputs = named_at d.outputs k name })
@@ -122,6 +167,7 @@ outputs-named d k name is draft = record {
   resets = draft.resets;
   lits = omega (arith, draft.lits, length-named_at d.outputs k name);
   variables = draft.variables;
+  apart = draft.apart;
 }
 
 symbol_by-sound : (d new : Draft) (kind k : ℕ) (name : List ℕ) → IsSymbol name → IsDraft d → symbol_by d kind k name ≡ Ok new → IsDraft new
@@ -147,7 +193,7 @@ symbol_of-sound d new (kind ∷ digits) name is draft reads = symbol_at-sound d 
 
 -- a line more
 with_input-sound : (h : Header) (d new : Draft) (line : LineNumbers) → IsDraft d → with_input h d line ≡ Ok new → IsDraft new
-with_input-sound h d new (numbers.One lit) draft reads = subst IsDraft (unless-ok (flaw_of h d.variables lit (lit ∷ []) 0) (more_inputs (defined d lit)) new reads) (input-sound d lit draft)
+with_input-sound h d new (numbers.One lit) draft reads = subst IsDraft (unless-ok (flaw_of h d.variables lit (lit ∷ []) 0) (more_inputs (defined d lit)) new reads) (input-sound d lit (flaw-fresh h d.variables lit (lit ∷ []) 0 (more_inputs (defined d lit)) new reads) draft)
 with_input-sound h d new (numbers.Two a b) draft reads = absurd (cc)
 with_input-sound h d new (numbers.Three a b c) draft reads = absurd (cc)
 with_input-sound h d new numbers.Other draft reads = absurd (cc)
@@ -155,9 +201,9 @@ with_input-sound h d new numbers.Other draft reads = absurd (cc)
 with_latch-sound : (h : Header) (d new : Draft) (line : LineNumbers) → IsDraft d → with_latch h d line ≡ Ok new → IsDraft new
 with_latch-sound h d new (numbers.One a) draft reads = absurd (cc)
 with_latch-sound h d new (numbers.Two lit next) draft reads =
-    subst IsDraft (unless-ok (flaw_of h d.variables lit (lit ∷ next ∷ []) 0) (more_latches next 0 (defined d lit)) new reads) (latch-sound d lit next 0 draft)
+    subst IsDraft (unless-ok (flaw_of h d.variables lit (lit ∷ next ∷ []) 0) (more_latches next 0 (defined d lit)) new reads) (latch-sound d lit next 0 (flaw-fresh h d.variables lit (lit ∷ next ∷ []) 0 (more_latches next 0 (defined d lit)) new reads) draft)
 with_latch-sound h d new (numbers.Three lit next reset) draft reads =
-    subst IsDraft (unless-ok (flaw_of h d.variables lit (lit ∷ next ∷ []) reset) (more_latches next reset (defined d lit)) new reads) (latch-sound d lit next reset draft)
+    subst IsDraft (unless-ok (flaw_of h d.variables lit (lit ∷ next ∷ []) reset) (more_latches next reset (defined d lit)) new reads) (latch-sound d lit next reset (flaw-fresh h d.variables lit (lit ∷ next ∷ []) reset (more_latches next reset (defined d lit)) new reads) draft)
 with_latch-sound h d new numbers.Other draft reads = absurd (cc)
 
 output_by-sound : (h : Header) (d new : Draft) (lit : ℕ) → IsDraft d → output_by h d lit ≡ Ok new → IsDraft new
@@ -177,7 +223,7 @@ with_gate-sound : (h : Header) (d new : Draft) (line : LineNumbers) → IsDraft 
 with_gate-sound h d new (numbers.One a) draft reads = absurd (cc)
 with_gate-sound h d new (numbers.Two a b) draft reads = absurd (cc)
 with_gate-sound h d new (numbers.Three lit left right) draft reads =
-    subst IsDraft (unless-ok (flaw_of h d.variables lit (lit ∷ left ∷ right ∷ []) 0) (more_gates left right (defined d lit)) new reads) (gate-sound d lit left right draft)
+    subst IsDraft (unless-ok (flaw_of h d.variables lit (lit ∷ left ∷ right ∷ []) 0) (more_gates left right (defined d lit)) new reads) (gate-sound d lit left right (flaw-fresh h d.variables lit (lit ∷ left ∷ right ∷ []) 0 (more_gates left right (defined d lit)) new reads) draft)
 with_gate-sound h d new numbers.Other draft reads = absurd (cc)
 
 with_line_in-sound : (s : Section) (h : Header) (d new : Draft) (line : List ℕ) → IsLine line → IsDraft d → with_line_in s h d line ≡ Ok new → IsDraft new
@@ -210,7 +256,7 @@ draft_from-sound h d new number (line ∷ lines) all draft is =
     by goes false (Err fault) reads is = absurd (cc)
 
 no_lines-sound : IsDraft no_lines
-no_lines-sound = record { inputs = tt; latches = tt; outputs = tt; nexts = refl; resets = refl; lits = refl; variables = refl }
+no_lines-sound = record { inputs = tt; latches = tt; outputs = tt; nexts = refl; resets = refl; lits = refl; variables = refl; apart = tt }
 
 pub draft_of-sound : (text : List ℕ) (d : Draft) → draft_of text ≡ Ok d → IsDraft d
 unfolding draft_of

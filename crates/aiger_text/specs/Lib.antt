@@ -1,7 +1,9 @@
+pub mod Acceptance
 pub mod AigShapes
 pub mod Cuts
 pub mod Drafts
 pub mod Headers
+pub mod Meaning
 pub mod Places
 pub mod Printing
 pub mod Reading

@@ -3,6 +3,7 @@
 ghost use Rattle.std.specs.Prelude.{◌≡◌, ◌+◌, ◌<◌, ◌≤◌, ◌^◌, ◌++◌, ◌∷◌, [], decimal, IfOk, Ok, OnOk, length, sum, All};
 ghost use Rattle.std.specs.List.{flat_map};
 ghost use Rattle.aig_blast.specs.Aigs.{input_word_widths, latch_widths};
+ghost use Rattle.aiger_text.specs.Meaning.{HasGraph};
 ghost use Rattle.aiger_text.specs.Reading.{aig_of};
 ghost use Rattle.aiger_text.specs.Printing.{bit_name, gate_text, input_lines, input_symbols, input_word_text, laid, latch_lines, latch_symbols, latch_width_of, latch_word_text, numbers_text, one_of, output_symbol, output_text, reset_text, rest_text, spaced, symbol_text, text_of, input_line_count, word_symbols};
 ghost use Rattle.aiger_text.specs.inner.Printing.{HasNexts};
@@ -13,9 +14,10 @@ use kw_bits::{Bits, NoMemory, Text};
 use std::alloc::Global;
 
 /// The AIGER text of a bit-level circuit, in AIGER ASCII. Bit k of the word `x` has the symbol `x[k]`. The text is
-/// accepted, and read back as the same circuit.
+/// accepted, means the circuit, and is read back as the same circuit.
 pub fn print_aiger(alloc: Global, aig: &Aig) -> Result<Text, NoMemory>
     ensures text { IfOk result (λ text. text ≡ text_of aig.now) }
+    ensures meaning { IfOk result (λ text. HasGraph text aig.now) }
     ensures read_back { IfOk result (λ text. aig_of text ≡ Ok aig.now) }
 {
     let inputs = aig.inputs.as_slice();

@@ -2,9 +2,11 @@
 
 ghost use Rattle.std.specs.Prelude.{◌≡◌, ◌≤◌, ◌^◌, length, IfOk, OnOk, Ok, Err};
 ghost use Rattle.kw_base.specs.Fault.{IfFault};
+ghost use Rattle.aiger_text.specs.Acceptance.{accepted_text};
 ghost use Rattle.aiger_text.specs.Cuts.{lines_of};
 ghost use Rattle.aiger_text.specs.Drafts as drafts;
 ghost use Rattle.aiger_text.specs.Drafts.{draft_from, draft_of, in_line, no_lines, with_line};
+ghost use Rattle.aiger_text.specs.Meaning.{HasGraph};
 ghost use Rattle.aiger_text.specs.Reading.{aig_by, aig_of, gates_of, lits_of, nexts_of, parts_by};
 ghost use Rattle.aiger_text.specs.inner.Steps.{parts_of};
 ghost use Rattle.aiger_text.specs.inner.Sound.{IsDraft};
@@ -27,8 +29,11 @@ const MOST_VARIABLES: usize = 1 << 60;
 /// The bit-level circuit of an AIGER text, or the fault of its first line with one, each at the first column: 70 where
 /// a line isn't of its form or is missing, 71 where a variable is above the greatest, 72 where it is defined already,
 /// 73 where a defined literal is odd or a constant, 75 where a reset is neither 0 nor 1. If there is none of these,
-/// then the first line by 74, where a variable is defined nowhere, or for a gate not before it.
+/// then the first line by 74, where a variable is defined nowhere, or for a gate not before it. The circuit's run is that
+/// of the text by its own literals.
 pub fn read_aiger(alloc: Global, bytes: &[u8]) -> Result<Aig, Refusal>
+    ensures text { IfOk result (HasGraph bytes.now) }
+    ensures refused { IfFault result (λ fault. accepted_text bytes.now ≡ Err fault) }
     ensures aig { IfOk result (λ aig. aig_of bytes.now ≡ Ok aig) }
     ensures fault { IfFault result (λ fault. aig_of bytes.now ≡ Err fault) }
 {

@@ -9,6 +9,7 @@ use Rattle.aig_blast.specs.declared.gate.Gate.{Gate}
 use Rattle.aiger_text.specs.Printing.{gate_text, input_symbols, input_word_text, laid, latch_symbols, latch_width_of, latch_word_text, one_of, output_symbol, output_text, rest_text, input_line_count}
 use Rattle.aiger_text.specs.Reading.{aig_of}
 use Rattle.aiger_text.proofs.ReadBack.{read_back}
+use Rattle.aiger_text.proofs.TextRuns.{graph-of}
 use Rattle.aiger_text.proofs.print.print_aiger.Goals as goal
 
 pub returns : goal.returns
@@ -32,4 +33,5 @@ returns c =
     let written = c.in_ok-push_output_symbols.ensures ∙ ap₂ (λ (t : List ℕ) (os : List OutputBit). t ++ laid one_of output_symbol 0 os) t7 outputs in
     let valid : IsAig a = subst IsAig c.aig.view_is c.aig.invariant in
     let few : length a.outputs < 2 ^ 63 = subst (λ (os : List OutputBit). length os < 2 ^ 63) outputs c.count_outputs-written.ensures.few in
-    record { text = written; read_back = ap aig_of written ∙ read_back a valid few }
+    let back = ap aig_of written ∙ read_back a valid few in
+    record { text = written; meaning = graph-of _ a back; read_back = back }
