@@ -12,7 +12,7 @@ use Rattle.board_core.specs.Candidates.{Chooses}
 use Rattle.board_core.specs.Kept.{Kept, StandsFor}
 use Rattle.attempt_log.specs.Seats.{Grown, SeesLast, SeesMore, has_finished, is_finished, one_more_if}
 use Rattle.board_lock.specs.Histories.{IsPast, Leaves, StartsWith}
-use Rattle.board_core.specs.History.{GoesOn, board_after}
+use Rattle.board_core.specs.History.{GoesOn, IsLegal, board_after}
 use Rattle.board_lock.specs.Plays.{Asked, Extends, OwnSince}
 use Rattle.board_lock.specs.declared.view.Part.{Part}
 use Rattle.board_lock.specs.declared.view.View.{View}
@@ -26,6 +26,10 @@ stays_seen v w s same past = subst (λ (k : Opening). IsPast k w.seen) (sym same
 
 pub extends_begins : (v w : View) (e : Entry) → Extends v e w → StartsWith w.seen v.seen
 extends_begins v w e x = (x.0 ++ e ∷ [], x.1 ∙ append_assoc v.seen x.0 (e ∷ []))
+
+-- what is then seen is legal
+pub extends_legal : (v w : View) (e : Entry) → Extends v e w → IsLegal w.opened w.seen
+extends_legal v w e x = subst (λ (k : Opening). IsLegal k w.seen) (sym x.4) x.2
 
 pub extends_since : (v w : View) (e : Entry) → Extends v e w → OwnSince v.part v.seen → OwnSince w.part w.seen
 extends_since v w e x since = since_more v.part w.part v.seen w.seen since (extends_begins v w e x) (ap (λ (p : Part). p.base) x.3) x.5

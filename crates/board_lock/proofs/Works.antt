@@ -57,7 +57,7 @@ join_more turns n count v w x r rs j number base reports worker = let out = j.ou
 -- what a report says of a seat that was taken back, whose counts say what it has seen
 pub reports_of : (turns : ℕ) (table : TableId) (base : List Entry) (start : Opening) (n of ended : ℕ) (at : TableId) (w x : View) (r : Report) → HasWorked turns table base start n of ended at w r → (0 < ended → IsPast w.opened w.seen) → x ≡ w → Reports turns start r (done_of x)
 reports_of turns table base start n of ended at w x r h finished same = subst (λ (y : View). Reports turns start r (done_of y)) (sym same)
-    (h.own, h.all_turns, λ fin. subst (λ (s : Opening). IsPast s w.seen) h.from (finished (h.finished fin)), (let c = h.own in let submits = c.3 in let settles = c.2 in let made = h.made in omega (arith, all_kinds w.part.own, submits, settles, made)))
+    (h.own, h.all_turns, λ fin. subst (λ (s : Opening). IsPast s w.seen) h.from (finished (h.finished fin)), (let c = h.own in let submits = c.3 in let settles = c.2 in let made = h.made in omega (arith, all_kinds w.part.own, submits, settles, made)), h.made)
 
 has_risen : (a b : ℕ) → Rose a b → 0 < b
 has_risen a b h = ⊎_elim (λ (l : a < b). omega (arith, l)) (λ (e : b ≡ 2 ^ 64 - 1). omega (arith, e)) h
@@ -125,6 +125,7 @@ told turns count v old w reports was j s =
           record {
             worker = omega (arith, by_it);
             counted = subst (λ (l : List Entry). Counted l r.submitted r.settled r.turns) (sym own) reports'.0;
+            made = reports'.4;
             all_turns = reports'.1;
             finished = λ fin. past_stays w.opened w.seen d.seen stands.0 (subst (λ (x : Opening). IsPast x d.seen) (sym start) (reports'.2 fin));
             few = subst (λ (l : List Entry). length l ≤ 2 * turns) (sym own) reports'.3;

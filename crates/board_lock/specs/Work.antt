@@ -11,12 +11,13 @@ use Rattle.board_lock.specs.Histories.{IsPast, StartsWith, by}
 use Rattle.board_lock.specs.declared.view.Done.{Done}
 use Rattle.board_lock.specs.declared.view.View.{View}
 
--- what is added of a worker has as many entries of each kind as its report says. With Turns it made all turns, and with
--- Finished the board that the history leaves is past its last cycle. Its seat was split off where `base` had been
--- seen, its last history begins this one, and its own entries are the added ones of its number
+-- what is added of a worker has as many entries of each kind as its report says. It made no more turns than it was given,
+-- with Turns all of them, and with Finished the board that the history leaves is past its last cycle. Its seat was split
+-- off where `base` had been seen, its last history begins this one, and its own entries are the added ones of its number
 pub record ReportFits (turns i : ℕ) (base added : List Entry) (w : View) (r : Report) : Type 0 where
   pub worker : r.worker ≡ i
   pub counted : Counted (by i added) r.submitted r.settled r.turns
+  pub made : r.turns ≤ turns
   pub all_turns : r.ending ≡ ending.Turns → r.turns ≡ turns
   pub finished : r.ending ≡ ending.Finished → IsPast w.opened w.seen
   pub few : length (by i added) ≤ 2 * turns

@@ -131,7 +131,7 @@ pub(crate) fn work_seats<S: BoardSeat + Send, G: Gate + Sync, R: Threads + Wait 
 }
 
 // A seat for each worker, in order of their numbers.
-pub(crate) fn split_all<'a, R: Wait>(
+pub(crate) fn split_all<'a, R>(
     rt: &'a R,
     alloc: Global,
     lock: &'a Lock,
@@ -165,7 +165,7 @@ pub(crate) fn split_all<'a, R: Wait>(
 }
 
 // Takes the seats back, and gives their reports in order.
-fn join_all<R: Wait>(
+fn join_all<R>(
     lock: &Lock,
     place: &mut Place,
     mut seats: Vec<Working<LockSeat<'_, R>>>,

@@ -1,13 +1,15 @@
 //! Workers that note their entries, so that the whole history comes out of them.
-ghost use Rattle.std.specs.Prelude.{◌≡◌, ◌⊎◌, ◌∷◌, ◌++◌, ◌≤◌, ◌<◌, ◌^◌, ℕ, true, [], None, Some, IfOk, OnOk, OnErr, length, slice_index_or};
+ghost use Rattle.std.specs.Prelude.{◌≡◌, ◌⊎◌, ◌∷◌, ◌++◌, ◌≤◌, ◌<◌, ◌^◌, ℕ, List, true, [], None, Some, IfOk, IfSome, OnOk, OnErr, length, slice_index_or};
 ghost use Rattle.std.specs.Vec.{vec_capacity};
+ghost use Rattle.atomic_table.specs.Seated.{TableId};
 ghost use Rattle.kw_bits.specs.Faults.{one_more};
 ghost use Rattle.attempt_log.specs.Attempt.{Attempted};
 ghost use Rattle.attempt_log.specs.Entries.{settle_entry, submit_entry, taken_of, worker_of};
-ghost use Rattle.attempt_log.specs.Seats.{IfJob, gives_job, has_finished, last_task, one_more_if};
+ghost use Rattle.attempt_log.specs.Seats.{IfJob, SeesMore, gives_job, has_finished, last_task, one_more_if};
 ghost use Rattle.attempt_log.specs.Setting.{FitsItself, IsFor, attempt_of};
+ghost use Rattle.attempt_log.specs.declared.entry.Entry.{Entry};
 ghost use Rattle.attempt_log.specs.declared.seat.Task.{Task};
-ghost use Rattle.board_core.specs.Board.{setting_of};
+ghost use Rattle.board_core.specs.Board.{Opening, setting_of};
 ghost use Rattle.board_core.specs.Candidates.{Chooses};
 ghost use Rattle.board_core.specs.History.{board_after};
 ghost use Rattle.board_lock.specs.Histories.{Each, InRun, IsCycle, StartsWith};
@@ -43,7 +45,7 @@ pub struct NotingSeat<'a, R> {
     ghost in_run: { Each (InRun seat.place.me.0.opened) seat.place.me.0.part.own },
 }
 
-impl<'a, R: Wait> NotingSeat<'a, R> {
+impl<'a, R> NotingSeat<'a, R> {
     // A seat that has seen nothing.
     fn new(alloc: Global, seat: LockSeat<'a, R>) -> NotingSeat<'a, R>
         requires seen { seat.place.me.0.seen ≡ [] }
@@ -58,7 +60,9 @@ impl<'a, R: Wait> NotingSeat<'a, R> {
             whole: true,
         }
     }
+}
 
+impl<'a, R: Wait> NotingSeat<'a, R> {
     // A job of the board, where there is memory for the notes of a turn.
     fn ask(&mut self, pick: u64) -> Result<JobAnswer, NoMemory>
         ensures number { self.new.seat.number ≡ self.old.seat.number }
@@ -111,7 +115,24 @@ impl<'a, R: Wait> BoardSeat for NotingSeat<'a, R> {
 
     ghost own = { λ s. Some s.seat.place.me.0.part.own };
 
-    fn job(&mut self, pick: u64) -> Result<JobAnswer, NoMemory> {
+    // Besides what the trait says: the answer is the choice of candidates on the board that what is then seen leaves.
+    fn job(&mut self, pick: u64) -> Result<JobAnswer, NoMemory>
+        ensures fits { IfOk result (λ told. IfJob told FitsItself) }
+        ensures is_for { IfSome (Some (setting_of self.old.seat.place.me.0.opened)) (λ s. IfOk result (λ told. IfJob told (λ job. IsFor s (attempt_of job)))) }
+        ensures number { self.new.seat.number ≡ self.old.seat.number }
+        ensures origin { ◌≡◌ {A = TableId × List Entry × Opening} (self.new.seat.place.table_id, self.new.seat.place.me.0.part.base, self.new.seat.place.me.0.opened) (self.old.seat.place.table_id, self.old.seat.place.me.0.part.base, self.old.seat.place.me.0.opened) }
+        ensures setting { Some (setting_of self.new.seat.place.me.0.opened) ≡ Some (setting_of self.old.seat.place.me.0.opened) }
+        ensures task { IfOk result (λ told. self.new.seat.counts.task ≡ last_task self.old.seat.counts.task told) }
+        ensures same_task { OnErr result (self.new.seat.counts.task ≡ self.old.seat.counts.task) }
+        ensures asked { self.new.seat.counts.asked ≡ one_more self.old.seat.counts.asked }
+        ensures given { IfOk result (λ told. self.new.seat.counts.given ≡ one_more_if (gives_job told) self.old.seat.counts.given) }
+        ensures none_given { OnErr result (self.new.seat.counts.given ≡ self.old.seat.counts.given) }
+        ensures ended { IfOk result (λ told. self.new.seat.counts.ended ≡ one_more_if (has_finished told) self.old.seat.counts.ended) }
+        ensures none_ended { OnErr result (self.new.seat.counts.ended ≡ self.old.seat.counts.ended) }
+        ensures seen { SeesMore (Some self.old.seat.place.me.0.seen) (Some self.new.seat.place.me.0.seen) }
+        ensures own { Some self.new.seat.place.me.0.part.own ≡ Some self.old.seat.place.me.0.part.own }
+        ensures answer { let v = self.new.seat.place.me.0 in IfOk result (Chooses v.opened (board_after v.opened v.seen) pick) }
+    {
         self.ask(pick)
     }
 
@@ -266,7 +287,7 @@ impl LockBoard {
 }
 
 // A seat for each worker, in order of their numbers.
-pub(crate) fn split_noting<'a, R: Wait>(
+pub(crate) fn split_noting<'a, R>(
     rt: &'a R,
     alloc: Global,
     lock: &'a Lock,
@@ -301,7 +322,7 @@ pub(crate) fn split_noting<'a, R: Wait>(
 }
 
 // Takes the seats back, puts their reports and notes in order, and returns whether the notes are whole.
-fn join_noting<R: Wait>(
+fn join_noting<R>(
     lock: &Lock,
     place: &mut Place,
     mut seats: Vec<Working<NotingSeat<'_, R>>>,

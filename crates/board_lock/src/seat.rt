@@ -4,8 +4,8 @@ ghost use Rattle.kw_bits.specs.Faults.{one_more};
 ghost use Rattle.atomic_table.specs.Seated.{TableId};
 ghost use Rattle.attempt_log.specs.declared.entry.Entry.{Entry};
 ghost use Rattle.attempt_log.specs.Entries.{settle_entry, submit_entry};
-ghost use Rattle.attempt_log.specs.Seats.{Grown, HandsBack, IfJob, SeesMore, gives_job, has_finished, is_finished, last_task, one_more_if};
-ghost use Rattle.attempt_log.specs.Setting.{FitsItself, IsFor, attempt_of};
+ghost use Rattle.attempt_log.specs.Seats.{Grown, HandsBack, IfJob, SeesLast, SeesMore, gives_job, has_finished, is_finished, last_task, one_more_if};
+ghost use Rattle.attempt_log.specs.Setting.{FitsItself, IsFor, attempt_of, task_of};
 ghost use Rattle.board_core.specs.Board.{Opening, setting_of};
 ghost use Rattle.board_core.specs.Candidates.{Chooses};
 ghost use Rattle.board_core.specs.History.{IsLegal, board_after};
@@ -39,7 +39,7 @@ pub struct LockSeat<'a, R> {
     ghost finished: { 0 < counts.ended → IsPast place.me.0.opened place.me.0.seen },
 }
 
-impl<'a, R: Wait> LockSeat<'a, R> {
+impl<'a, R> LockSeat<'a, R> {
     pub(crate) fn new(rt: &'a R, lock: &'a Lock, place: Place, number: u32) -> LockSeat<'a, R>
         requires table { place.table_id ≡ lock.now.table.shared.table_id }
         requires outside { IsOutside place.me }
@@ -71,6 +71,20 @@ impl<'a, R: Wait> LockSeat<'a, R> {
         self.place
     }
 
+    // Counts a job that it had no memory to ask for.
+    pub(crate) fn count_none(&mut self)
+        ensures place { self.new.place ≡ self.old.place }
+        ensures number { self.new.number ≡ self.old.number }
+        ensures task { self.new.counts.task ≡ self.old.counts.task }
+        ensures asked { self.new.counts.asked ≡ one_more self.old.counts.asked }
+        ensures given { self.new.counts.given ≡ self.old.counts.given }
+        ensures ended { self.new.counts.ended ≡ self.old.counts.ended }
+    {
+        self.counts.count(&Err(NoMemory));
+    }
+}
+
+impl<'a, R: Wait> LockSeat<'a, R> {
     // A job of the board. What is then seen begins with what was seen, is legal, and leaves the board that gave the
     // answer. No entry is added.
     pub(crate) fn ask(&mut self, pick: u64) -> Result<JobAnswer, NoMemory>
@@ -96,18 +110,6 @@ impl<'a, R: Wait> LockSeat<'a, R> {
         self.lock.leave_seen(&mut self.place, board);
         self.counts.count(&answer);
         answer
-    }
-
-    // Counts a job that it had no memory to ask for.
-    pub(crate) fn count_none(&mut self)
-        ensures place { self.new.place ≡ self.old.place }
-        ensures number { self.new.number ≡ self.old.number }
-        ensures task { self.new.counts.task ≡ self.old.counts.task }
-        ensures asked { self.new.counts.asked ≡ one_more self.old.counts.asked }
-        ensures given { self.new.counts.given ≡ self.old.counts.given }
-        ensures ended { self.new.counts.ended ≡ self.old.counts.ended }
-    {
-        self.counts.count(&Err(NoMemory));
     }
 
     /// Submits an attempt for the board's design and the stimulus's inputs. The history that is then seen is what was
@@ -207,11 +209,38 @@ impl<'a, R: Wait> BoardSeat for LockSeat<'a, R> {
         self.ask(pick)
     }
 
-    fn submit(&mut self, attempt: Attempt) -> Submitted {
+    // Besides what the trait says: what is then seen is legal.
+    fn submit(&mut self, attempt: Attempt) -> Submitted
+        requires task { self.old.counts.task ≡ Some (task_of attempt) }
+        requires is_for { IfSome (Some (setting_of self.old.place.me.0.opened)) (λ s. IsFor s attempt) }
+        ensures number { self.new.number ≡ self.old.number }
+        ensures origin { ◌≡◌ {A = TableId × List Entry × Opening} (self.new.place.table_id, self.new.place.me.0.part.base, self.new.place.me.0.opened) (self.old.place.table_id, self.old.place.me.0.part.base, self.old.place.me.0.opened) }
+        ensures setting { Some (setting_of self.new.place.me.0.opened) ≡ Some (setting_of self.old.place.me.0.opened) }
+        ensures task { self.new.counts.task ≡ self.old.counts.task }
+        ensures asked { self.new.counts.asked ≡ self.old.counts.asked }
+        ensures given { self.new.counts.given ≡ self.old.counts.given }
+        ensures ended { self.new.counts.ended ≡ self.old.counts.ended }
+        ensures handed_back { HandsBack attempt result }
+        ensures seen { SeesLast (Some self.old.place.me.0.seen) (submit_entry self.old.number attempt result) (Some self.new.place.me.0.seen) }
+        ensures own { Grown (Some self.old.place.me.0.part.own) (submit_entry self.old.number attempt result ∷ []) (Some self.new.place.me.0.part.own) }
+        ensures legal { IsLegal self.new.place.me.0.opened self.new.place.me.0.seen }
+    {
         LockSeat::submit(self, attempt).0
     }
 
-    fn settle(&mut self) -> Settled {
+    // As for `submit`.
+    fn settle(&mut self) -> Settled
+        ensures number { self.new.number ≡ self.old.number }
+        ensures origin { ◌≡◌ {A = TableId × List Entry × Opening} (self.new.place.table_id, self.new.place.me.0.part.base, self.new.place.me.0.opened) (self.old.place.table_id, self.old.place.me.0.part.base, self.old.place.me.0.opened) }
+        ensures setting { Some (setting_of self.new.place.me.0.opened) ≡ Some (setting_of self.old.place.me.0.opened) }
+        ensures task { self.new.counts.task ≡ self.old.counts.task }
+        ensures asked { self.new.counts.asked ≡ self.old.counts.asked }
+        ensures given { self.new.counts.given ≡ self.old.counts.given }
+        ensures ended { self.new.counts.ended ≡ one_more_if (is_finished result) self.old.counts.ended }
+        ensures seen { SeesLast (Some self.old.place.me.0.seen) (settle_entry self.old.number result) (Some self.new.place.me.0.seen) }
+        ensures own { Grown (Some self.old.place.me.0.part.own) (settle_entry self.old.number result ∷ []) (Some self.new.place.me.0.part.own) }
+        ensures legal { IsLegal self.new.place.me.0.opened self.new.place.me.0.seen }
+    {
         LockSeat::settle(self).0
     }
 

@@ -43,10 +43,10 @@ pub record SplitBy (count : ℕ) (v w : View) : Type 0 where
   pub out : w.part.out ≡ count
   pub first : (count ≡ 0) ⊎ ((w.part.top ≡ count) × (w.part.was ≡ v.seen) × (w.part.dones ≡ []))
 
--- the report counts the seat's own entries of each kind. With Turns all turns were made, and with Finished the board
--- that the seat's last history leaves is past its last cycle
+-- the report counts the seat's own entries of each kind. No more turns were made than given, with Turns all of them, and
+-- with Finished the board that the seat's last history leaves is past its last cycle
 abbrev pub Reports : ℕ → Opening → Report → Done → Type 0
-Reports turns start r d = Counted d.own r.submitted r.settled r.turns × (r.ending ≡ ending.Turns → r.turns ≡ turns) × (r.ending ≡ ending.Finished → IsPast start d.seen) × (length d.own ≤ 2 * turns)
+Reports turns start r d = Counted d.own r.submitted r.settled r.turns × (r.ending ≡ ending.Turns → r.turns ≡ turns) × (r.ending ≡ ending.Finished → IsPast start d.seen) × (length d.own ≤ 2 * turns) × (r.turns ≤ turns)
 
 -- the reports are those of joined seats, the first of this number
 abbrev pub Matches : ℕ → Opening → List Entry → ℕ → List Report → List Done → Type 0
