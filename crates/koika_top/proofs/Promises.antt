@@ -33,6 +33,7 @@ use Rattle.front_end.specs.Aigs.{most_bits}
 use Rattle.koika_top.specs.Aiger.{AnswersAiger}
 use Rattle.koika_top.specs.Aigsim as aigsim
 use Rattle.koika_top.specs.Aigsim.{AnswersAigsim}
+use Rattle.koika_top.specs.inner.AigTexts.{HoldsGraphRun, shown_graph}
 use Rattle.koika_top.specs.Answer.{Answers, IsAnswer, is_of_source, koika}
 use Rattle.koika_top.specs.inner.Answer.{longest_of, reads_source}
 use Rattle.koika_top.specs.Btorsim as circuit
@@ -41,7 +42,7 @@ use Rattle.koika_top.specs.Calls.{Call, IsKept}
 use Rattle.koika_top.specs.Compile.{AnswersCompile}
 use Rattle.koika_top.specs.Journal.{AnswersJournal, HasJournal, IsJournalOf}
 use Rattle.koika_top.specs.inner.Journaling.{WritesJournal}
-use Rattle.koika_top.specs.Sim.{AnswersSim, text_of_run}
+use Rattle.koika_top.specs.Sim.{AnswersSim, rows_text, text_of_run}
 use Rattle.koika_top.specs.inner.Steps.{Tells, TellsOne, TellsRead}
 use Rattle.koika_top.specs.Words.{command_of}
 use Rattle.koika_top.specs.declared.shown.Shown.{Shown}
@@ -249,12 +250,21 @@ tells-circuit-run cycles n shown kind source lines stimulus holds within same li
     )
 
 -- and of the AIGER text that it holds
-pub tells-aig-run : (cycles n : ℕ) (shown kind : Shown) (source : List ℕ) (aig : AigParts) (stimulus : InputVectors) → aigsim.HoldsRun source aig stimulus → aigsim.is_too_long cycles aig ≡ false → n ≡ cycles → kind ≡ shown
-    → (s : Stream) (r : Result (Unit {0}) Untold) → Told (aigsim.shown_run kind aig stimulus n) s r → Tells (AnswersAigsim cycles shown source) s (status_by r status.Done)
-tells-aig-run cycles n shown kind source aig stimulus holds within same like s r told =
-    let mine = aigsim.shown_run kind aig stimulus n in
+pub tells-aig-run : (cycles n : ℕ) (shown kind : Shown) (source : List ℕ) (aig : AigParts) (stimulus : InputVectors) → HoldsGraphRun cycles source aig stimulus → n ≡ cycles → kind ≡ shown
+    → (s : Stream) (r : Result (Unit {0}) Untold) → Told (shown_graph kind aig stimulus n) s r → Tells (AnswersAigsim cycles shown source) s (status_by r status.Done)
+tells-aig-run cycles n shown kind source aig stimulus held same like s r told =
+    let said = held.text.said in
+    let graph = held.text.graph in
+    let mine = aigsim.shown_run kind said stimulus n in
+    let own : shown_graph kind aig stimulus n ≡ mine = λ i. rows_text kind (graph.shape i) (graph.run (inputs_of stimulus) n i) in
     inl (
       Written mine,
-      record { aig = aig; stimulus = stimulus; holds = holds; within = within; told = λ i. aigsim.shown_run (like i) aig stimulus (same i) },
-      told-one (Written mine) s r told,
+      record {
+        said = said;
+        stimulus = stimulus;
+        holds = record { holds = held.text.holds; given = held.given };
+        within = held.within;
+        told = λ i. aigsim.shown_run (like i) said stimulus (same i);
+      },
+      told-one (Written mine) s r (subst (λ (text : List ℕ). Told text s r) own told),
     )

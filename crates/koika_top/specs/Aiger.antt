@@ -2,6 +2,7 @@
 -- whose run is that of the source's design, for every stimulus. Which one is left open: any that is so.
 use Rattle.std.specs.Prelude.{◌≡◌, ℕ, ◌<◌, ◌≤◌, ◌⊎◌, false, List, length, Ok}
 use Rattle.aig_blast.specs.Aigs.{AigParts}
+use Rattle.aiger_text.specs.Meaning.{HasGraph}
 use Rattle.aiger_text.specs.Printing.{text_of}
 use Rattle.aiger_text.specs.Reading.{aig_of}
 use Rattle.kw_base.specs.declared.fault.Fault.{Fault}
@@ -20,14 +21,15 @@ use Rattle.front_end.specs.declared.answer.Answer.{Answer}
 use Rattle.front_end.specs.declared.answer.Answer.TheVariants.{Usage, Refused, Written}
 use Rattle.koika_top.specs.declared.shown.Shown.{Shown}
 
--- The text is accepted and read as a circuit of the source's design, whose bit i of the word `x` has the symbol `x[i]`; the
--- source spells a stimulus for the design too, which isn't too heavy.
+-- The text is accepted and means a circuit of the source's design by its own lines and literals, and is read as that circuit,
+-- whose bit i of the word `x` has the symbol `x[i]`; the source spells a stimulus for the design too, which isn't too heavy.
 pub record ShowsAig (hosts : List HostSpec) (source text : List ℕ) : Type 0 where
   pub design : Checked
   pub stimulus : InputVectors
   pub spelled : Spells hosts source design stimulus
   pub light : bit_weight design ≤ most_bits
   pub aig : AigParts
+  pub means : HasGraph text aig
   pub read : aig_of text ≡ Ok aig
   pub printed : text ≡ text_of aig
   pub circuit : IsAigOf design aig

@@ -1,4 +1,5 @@
 -- What only contracts of private functions cite.
+pub mod AigTexts
 pub mod Answer
 pub mod CircuitRuns
 pub mod Engines

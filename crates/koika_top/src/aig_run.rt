@@ -1,15 +1,16 @@
 //! Engines: the run of an AIGER text that `aigsim` asks for.
 
-ghost use Rattle.std.specs.Prelude.{◌≡◌, ◌≤◌, ◌<◌, ◌^◌, ◌⊎◌, [], IfOk, OnOk, false, true, length};
+ghost use Rattle.std.specs.Prelude.{◌≡◌, ◌≤◌, ◌<◌, ◌^◌, ◌⊎◌, [], IfOk, OnOk, true, length};
 ghost use Rattle.kw_base.specs.Fault.{IfFault};
 ghost use Rattle.aig_blast.specs.AigRun as bits;
 ghost use Rattle.aig_blast.specs.Aigs.{input_word_widths};
 ghost use Rattle.aiger_text.specs.AigShapes as shapes;
 ghost use Rattle.one_rule.specs.Stimulus.{inputs_of};
 ghost use Rattle.stim_report.specs.Cuts.{parts_of};
-ghost use Rattle.koika_top.specs.Aigsim.{HasNoAig, HasNoStimulus, HoldsAig, HoldsRun, IsRefusal, RunsTooLong, is_too_long, shown_run};
+ghost use Rattle.koika_top.specs.Aigsim.{HasNoStimulus, IsRefusal, RunsTooLong};
 ghost use Rattle.koika_top.specs.Btorsim.{longest_circuit};
 ghost use Rattle.front_end.specs.Streams.{stream};
+ghost use Rattle.koika_top.specs.inner.AigTexts.{HoldsGraph, HoldsGraphRun, shown_graph};
 ghost use Rattle.koika_top.specs.inner.Telling.{HasRows, all_told, marks_in, shown_by};
 ghost use Rattle.front_end.specs.Told.{Told};
 
@@ -54,8 +55,7 @@ impl AigRun {
         source: &[u8],
     ) -> Result<AigRun, Refusal>
         requires { length source.now ≤ longest_circuit }
-        ensures run { IfOk result (λ run. HoldsRun source.now run.aig run.stimulus) }
-        ensures within { IfOk result (λ run. is_too_long cycles run.aig ≡ false) }
+        ensures run { IfOk result (λ run. HoldsGraphRun cycles source.now run.aig run.stimulus) }
         ensures cycles { IfOk result (λ run. run.cycles ≡ cycles) }
         ensures shown { IfOk result (λ run. run.shown ≡ shown) }
         ensures refused { IfFault result (IsRefusal cycles source.now) }
@@ -67,7 +67,7 @@ impl AigRun {
 
     /// Runs the circuit and writes what is shown of its rows, batch by batch.
     pub(crate) fn write<K: Sink>(&self, alloc: Global, sink: &mut K) -> Result<(), Untold>
-        ensures { Told (shown_run self.now.shown self.now.aig self.now.stimulus self.now.cycles)
+        ensures { Told (shown_graph self.now.shown self.now.aig self.now.stimulus self.now.cycles)
             (stream K.written K.faults sink.old sink.new) result }
     {
         let none = Watch::new(alloc, Sequence::new(alloc), Sequence::new(alloc))?;
@@ -118,10 +118,9 @@ fn run_of(
 ) -> Result<AigRun, Refusal>
     requires stimulus { parts.stimulus.now ≡ (parts_of source.now).stimulus }
     requires first_line { parts.first_line ≡ (parts_of source.now).first_line }
-    requires aig { HoldsAig source.now aig }
+    requires aig { HoldsGraph source.now aig }
     requires few { length aig.inputs < 2 ^ 32 }
-    ensures run { IfOk result (λ run. HoldsRun source.now run.aig run.stimulus) }
-    ensures within { IfOk result (λ run. is_too_long cycles run.aig ≡ false) }
+    ensures run { IfOk result (λ run. HoldsGraphRun cycles source.now run.aig run.stimulus) }
     ensures cycles { IfOk result (λ run. run.cycles ≡ cycles) }
     ensures shown { IfOk result (λ run. run.shown ≡ shown) }
     ensures refused { IfFault result (λ fault.

@@ -26,7 +26,7 @@ use typed_core::Design;
 
 /// A design that workers run rule by rule on a stimulus. Each batch has a board and threads of its own.
 #[derive(Drop)]
-pub(crate) struct WorkersEngine<'r, R: Threads + Wait + Sync> {
+pub(crate) struct WorkersEngine<'r, R> {
     rt: &'r R,
     design: &'r Arc<Design>,
     externs: &'r Arc<Externs>,
@@ -41,8 +41,8 @@ pub(crate) struct WorkersEngine<'r, R: Threads + Wait + Sync> {
     ghost most: { workers ≤ 64 },
 }
 
-impl<'r, R: Threads + Wait + Sync> WorkersEngine<'r, R> {
-    /// Before all cycles.
+impl<'r, R> WorkersEngine<'r, R> {
+    /// Before all cycles. It waits for nobody.
     pub(crate) fn begin(
         rt: &'r R,
         alloc: Global,

@@ -15,6 +15,7 @@ returns-clause-text g c =
       spelled = spelled.ensures.spelled;
       light = c.in_ok-has_few_bits.ensures.light;
       aig = aig.aig;
+      means = c.in_ok-text.ensures.meaning;
       read = c.in_ok-text.ensures.read_back;
       printed = c.in_ok-text.ensures.text;
       circuit = subst (λ (d : Checked). IsAigOf d aig.aig) c.in_ok-lowered.ensures.checked aig.ensures;

@@ -8,7 +8,7 @@ returns-in-Ok g c =
     let run = c.in-Ok.run' in
     let is = c.in-Ok.ensures in
     rw c.status_by.ensures
-    (tells-aig-run c.args.cycles run.cycles c.args.shown run.shown c.args.source.now run.aig run.stimulus is.run is.within is.cycles is.shown _ c.write.result c.write.ensures)
+    (tells-aig-run c.args.cycles run.cycles c.args.shown run.shown c.args.source.now run.aig run.stimulus is.run is.cycles is.shown _ c.write.result c.write.ensures)
 
 pub returns-in-Err : goal.returns-in-Err
 returns-in-Err g c =

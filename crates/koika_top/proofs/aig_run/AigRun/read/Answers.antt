@@ -6,10 +6,10 @@ pub returns-in_err-aig-clause-refused : goal.returns-in_err-aig-clause-refused
 returns-in_err-aig-clause-refused c =
     let p = err_from_is_err_and c.from_residual.result c.from_residual.ensures.1 in
     rw (p.1, p.2)
-    (aig-refused c.args.cycles c.args.source.now _ c.in_err-aig.field-0.0 c.requires c.source_parts-parts.ensures.design c.in_err-aig.ensures.fault)
+    (aig-refused c.args.cycles c.args.source.now _ c.in_err-aig.field-0.0 c.requires c.source_parts-parts.ensures.design c.in_err-aig.ensures.refused)
 
 pub run_of-requires-clause-aig : goal.run_of-requires-clause-aig
-run_of-requires-clause-aig c = aig-held c.args.source.now _ c.in_ok-aig.aig c.requires c.source_parts-parts.ensures.design c.in_ok-aig.ensures.aig
+run_of-requires-clause-aig c = aig-held c.args.source.now _ c.in_ok-aig.aig c.requires c.source_parts-parts.ensures.design c.in_ok-aig.ensures.text
 
 pub run_of-requires-clause-few : goal.run_of-requires-clause-few
 run_of-requires-clause-few c = few-inputs-read c.args.source.now _ c.in_ok-aig.aig c.requires c.source_parts-parts.ensures.within c.in_ok-aig.ensures.aig

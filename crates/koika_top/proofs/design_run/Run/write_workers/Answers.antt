@@ -10,7 +10,7 @@ use Rattle.koika_top.proofs.TypedRows.{same-rows}
 use Rattle.koika_top.proofs.design_run.Run.write_workers.Goals as goal
 
 pub begin-requires-clause-stimulus : goal.begin-requires-clause-stimulus
-begin-requires-clause-stimulus g c κs within =
+begin-requires-clause-stimulus g c =
     let it = c.args.self.now.lowered in
     it.stimulus_fits ∙ sym (inputs-wide it.checked (arc_value it.design) it.lowered)
 
