@@ -1,6 +1,7 @@
 -- Each node of a circuit is an operand that has its value, or the expression of a wire that has.
-use Rattle.std.proofs.Common.{◌≡◌, ◌^◌, ℕ, zero, suc, ◌+◌, ◌-◌, ◌<◌, ◌≤◌, Bool, true, false, cond, eqb, Some, arith, refl, sym, ap, ap₂, subst, ◌∙◌}
+use Rattle.std.proofs.Common.{◌≡◌, ◌^◌, ℕ, zero, suc, ◌+◌, ◌-◌, ◌<◌, ◌≤◌, Bool, true, false, cond, eqb, Some, ⊎_elim, arith, refl, sym, ap, ap₂, subst, ◌∙◌}
 use Rattle.std.specs.Prelude.{slice_get}
+use Rattle.std.proofs.Math.Nat.{eq-or-lt_of_le}
 use Rattle.std.proofs.lemmas.Bool.{eqb-false, eqb-true}
 use Rattle.std.proofs.lemmas.Nat.{pow_pos}
 use Rattle.std.proofs.lemmas.Option.{get_or_from_slice_get}
@@ -14,7 +15,7 @@ use Rattle.net_graph.specs.declared.node.NetOne.{NetOne}
 use Rattle.net_graph.specs.declared.node.NetOne.TheVariants as net_ones
 use Rattle.net_graph.specs.declared.node.NetTwo.{NetTwo}
 use Rattle.net_graph.specs.declared.node.NetTwo.TheVariants as net_twos
-use Rattle.verilog_text.specs.Modules.{FormFits, HasOperand, InfixFits, IsSignal, PrefixFits, Widths}
+use Rattle.verilog_text.specs.Modules.{AmountFits, FormFits, HasOperand, InfixFits, IsSignal, PrefixFits, Widths}
 use Rattle.verilog_text.specs.Runs.{Signals, chosen, extended, form_value, infix_value, operand_value, prefix_value}
 use Rattle.verilog_text.specs.declared.module.Form.{Form}
 use Rattle.verilog_text.specs.declared.module.Form.TheVariants.{One, Two, Choice, Slice, Extension}
@@ -26,7 +27,7 @@ use Rattle.verilog_text.specs.declared.module.Prefix.{Prefix}
 use Rattle.verilog_text.specs.declared.module.Prefix.TheVariants as ones
 use Rattle.verilog_text.specs.declared.nodes.Piece.{Piece}
 use Rattle.verilog_text.specs.declared.nodes.Piece.TheVariants.{Same, Made}
-use Rattle.verilog_text.specs.inner.Making.{amount, one_form, sext_of, sext_piece, slice_of, slice_piece, two_form, zext_of}
+use Rattle.verilog_text.specs.inner.Making.{amount, least, one_form, sext_of, sext_piece, slice_of, slice_piece, two_form, zext_of}
 use Rattle.verilog_text.proofs.Constants.{from-false, not-none}
 use Rattle.verilog_text.proofs.FormValues.{chosen-ite, clipped, clipped-IsBits, implied, joined-zeros, slice-all, sll-clipped, sra-clipped, srl-clipped, uext-none}
 use Rattle.verilog_text.proofs.SignBits.{extended-sext, sext-none}
@@ -77,9 +78,10 @@ module _ (ws : Widths) (s : Signals) where
   one operator a w own v shows fits = ((w, shows.has, fits), ap (prefix_value operator) (shown a w v shows))
 
   two : (operator : Infix) (a b : Operand) (w u own : ℕ) (v x : BitVector) → Shows ws s a w v → Shows ws s b u x
-      → InfixFits operator w u own → Fits own (Two operator a b) (infix_value operator v x)
-  two operator a b w u own v x left right fits =
-      ((w, (u, left.has, right.has, fits)), ap₂ (infix_value operator) (shown a w v left) (shown b u x right))
+      → InfixFits operator w u own → AmountFits operator b w
+      → Fits own (Two operator a b) (infix_value operator v x)
+  two operator a b w u own v x left right fits small =
+      ((w, (u, left.has, right.has, fits, small)), ap₂ (infix_value operator) (shown a w v left) (shown b u x right))
 
   one-constant : (w : ℕ) (v : BitVector) → HasWidth v w → Shows ws s (Constant (one_at w)) w (one_at v.width)
   one-constant w v fits =
@@ -100,20 +102,31 @@ module _ (ws : Widths) (s : Signals) where
   one-shows net_ones.Neg a w v shows = one ones.Neg a w w v shows refl
   one-shows net_ones.Inc a w v shows =
       two twos.Add a (Constant (one_at w)) w w w v (one_at v.width) shows (one-constant w v shows.fits) (refl, refl)
+      tt
   one-shows net_ones.Dec a w v shows =
       two twos.Sub a (Constant (one_at w)) w w w v (one_at v.width) shows (one-constant w v shows.fits) (refl, refl)
+      tt
   one-shows net_ones.RedAnd a w v shows = one ones.RedAnd a w 1 v shows refl
   one-shows net_ones.RedOr a w v shows = one ones.RedOr a w 1 v shows refl
   one-shows net_ones.RedXor a w v shows = one ones.RedXor a w 1 v shows refl
 
   -- ---- two operands
 
-  -- an amount of a shift has the width of the operand, and a value that shifts as the operand's
+  -- an amount of a shift has the width of the operand, is at most that where it is a constant, and shifts as the operand
   amount-has : (b : Operand) (w : ℕ) → HasOperand ws b w → HasOperand ws (amount b) w
   amount-has (Constant value) w has = (clipped-IsBits value has.0, has.1)
   amount-has (Input number) w has = has
   amount-has (Held number) w has = has
   amount-has (Inner number) w has = has
+
+  amount-fits : (b : Operand) (w u : ℕ) → HasOperand ws b u → w ≡ u
+      → AmountFits twos.ShiftLeft (amount b) w × AmountFits twos.ShiftRight (amount b) w
+      × AmountFits twos.ShiftSigned (amount b) w
+  amount-fits (Constant value) w u has same =
+      let small : least value ≤ w = omega (arith, has.1, same) in (small, small, small)
+  amount-fits (Input number) w u has same = (tt, tt, tt)
+  amount-fits (Held number) w u has same = (tt, tt, tt)
+  amount-fits (Inner number) w u has same = (tt, tt, tt)
 
   amount-value : (shift : BitVector → BitVector) (b : Operand) (x : BitVector) → Gives s b x
       → shift (clipped x) ≡ shift x → shift (operand_value s (amount b)) ≡ shift x
@@ -123,11 +136,11 @@ module _ (ws : Widths) (s : Signals) where
   amount-value shift (Inner number) x gives same = ap shift (value-is s (Inner number) x gives)
 
   shifted : (operator : Infix) (a b : Operand) (w u : ℕ) (v x : BitVector) → Shows ws s a w v → Shows ws s b u x
-      → InfixFits operator w u w
+      → InfixFits operator w u w → AmountFits operator (amount b) w
       → infix_value operator v (clipped x) ≡ infix_value operator v x
       → Fits w (Two operator a (amount b)) (infix_value operator v x)
-  shifted operator a b w u v x left right fits same = (
-    (w, (u, left.has, amount-has b u right.has, fits)),
+  shifted operator a b w u v x left right fits small same = (
+    (w, (u, left.has, amount-has b u right.has, fits, small)),
     ap (λ (y : BitVector). infix_value operator y (operand_value s (amount b))) (shown a w v left)
         ∙ amount-value (infix_value operator v) b x right.gives same,
   )
@@ -136,36 +149,39 @@ module _ (ws : Widths) (s : Signals) where
       → TakesTwo operator w u
       → Fits (two_width operator w u) (two_form operator a b) (two_value operator v x)
   unfolding two_form two_value two_width infix_value InfixFits TakesTwo
-  two-shows net_twos.And a b w u v x p q t = two twos.And a b w u w v x p q (refl, sym t)
-  two-shows net_twos.Or a b w u v x p q t = two twos.Or a b w u w v x p q (refl, sym t)
-  two-shows net_twos.Xor a b w u v x p q t = two twos.Xor a b w u w v x p q (refl, sym t)
-  two-shows net_twos.Nand a b w u v x p q t = two twos.Nand a b w u w v x p q (refl, sym t)
-  two-shows net_twos.Nor a b w u v x p q t = two twos.Nor a b w u w v x p q (refl, sym t)
-  two-shows net_twos.Xnor a b w u v x p q t = two twos.Xnor a b w u w v x p q (refl, sym t)
-  two-shows net_twos.Add a b w u v x p q t = two twos.Add a b w u w v x p q (refl, sym t)
-  two-shows net_twos.Sub a b w u v x p q t = two twos.Sub a b w u w v x p q (refl, sym t)
-  two-shows net_twos.Mul a b w u v x p q t = two twos.Mul a b w u w v x p q (refl, sym t)
+  two-shows net_twos.And a b w u v x p q t = two twos.And a b w u w v x p q (refl, sym t) tt
+  two-shows net_twos.Or a b w u v x p q t = two twos.Or a b w u w v x p q (refl, sym t) tt
+  two-shows net_twos.Xor a b w u v x p q t = two twos.Xor a b w u w v x p q (refl, sym t) tt
+  two-shows net_twos.Nand a b w u v x p q t = two twos.Nand a b w u w v x p q (refl, sym t) tt
+  two-shows net_twos.Nor a b w u v x p q t = two twos.Nor a b w u w v x p q (refl, sym t) tt
+  two-shows net_twos.Xnor a b w u v x p q t = two twos.Xnor a b w u w v x p q (refl, sym t) tt
+  two-shows net_twos.Add a b w u v x p q t = two twos.Add a b w u w v x p q (refl, sym t) tt
+  two-shows net_twos.Sub a b w u v x p q t = two twos.Sub a b w u w v x p q (refl, sym t) tt
+  two-shows net_twos.Mul a b w u v x p q t = two twos.Mul a b w u w v x p q (refl, sym t) tt
   two-shows net_twos.Sll a b w u v x p q t =
-      shifted twos.ShiftLeft a b w u v x p q refl (sll-clipped v x (p.fits.1 ∙ t ∙ sym q.fits.1))
+      shifted twos.ShiftLeft a b w u v x p q refl (amount-fits b w u q.has t).0
+      (sll-clipped v x (p.fits.1 ∙ t ∙ sym q.fits.1))
   two-shows net_twos.Srl a b w u v x p q t =
-      shifted twos.ShiftRight a b w u v x p q refl (srl-clipped v x p.fits.0 (p.fits.1 ∙ t ∙ sym q.fits.1))
+      shifted twos.ShiftRight a b w u v x p q refl (amount-fits b w u q.has t).1
+      (srl-clipped v x p.fits.0 (p.fits.1 ∙ t ∙ sym q.fits.1))
   two-shows net_twos.Sra a b w u v x p q t =
-      shifted twos.ShiftSigned a b w u v x p q refl (sra-clipped v x (p.fits.1 ∙ t ∙ sym q.fits.1))
-  two-shows net_twos.EqBits a b w u v x p q t = two twos.Equal a b w u 1 v x p q (t, refl)
-  two-shows net_twos.Neq a b w u v x p q t = two twos.Unequal a b w u 1 v x p q (t, refl)
-  two-shows net_twos.Ult a b w u v x p q t = two twos.Below a b w u 1 v x p q (t, refl)
-  two-shows net_twos.Ulte a b w u v x p q t = two twos.AtMost a b w u 1 v x p q (t, refl)
-  two-shows net_twos.Ugt a b w u v x p q t = two twos.Below b a u w 1 x v q p (sym t, refl)
-  two-shows net_twos.Ugte a b w u v x p q t = two twos.AtMost b a u w 1 x v q p (sym t, refl)
-  two-shows net_twos.Slt a b w u v x p q t = two twos.SignedBelow a b w u 1 v x p q (t, refl)
-  two-shows net_twos.Slte a b w u v x p q t = two twos.SignedAtMost a b w u 1 v x p q (t, refl)
-  two-shows net_twos.Sgt a b w u v x p q t = two twos.SignedBelow b a u w 1 x v q p (sym t, refl)
-  two-shows net_twos.Sgte a b w u v x p q t = two twos.SignedAtMost b a u w 1 x v q p (sym t, refl)
-  two-shows net_twos.Iff a b w u v x p q t = two twos.Equal a b w u 1 v x p q (t.0 ∙ sym t.1, refl)
+      shifted twos.ShiftSigned a b w u v x p q refl (amount-fits b w u q.has t).2
+      (sra-clipped v x (p.fits.1 ∙ t ∙ sym q.fits.1))
+  two-shows net_twos.EqBits a b w u v x p q t = two twos.Equal a b w u 1 v x p q (t, refl) tt
+  two-shows net_twos.Neq a b w u v x p q t = two twos.Unequal a b w u 1 v x p q (t, refl) tt
+  two-shows net_twos.Ult a b w u v x p q t = two twos.Below a b w u 1 v x p q (t, refl) tt
+  two-shows net_twos.Ulte a b w u v x p q t = two twos.AtMost a b w u 1 v x p q (t, refl) tt
+  two-shows net_twos.Ugt a b w u v x p q t = two twos.Below b a u w 1 x v q p (sym t, refl) tt
+  two-shows net_twos.Ugte a b w u v x p q t = two twos.AtMost b a u w 1 x v q p (sym t, refl) tt
+  two-shows net_twos.Slt a b w u v x p q t = two twos.SignedBelow a b w u 1 v x p q (t, refl) tt
+  two-shows net_twos.Slte a b w u v x p q t = two twos.SignedAtMost a b w u 1 v x p q (t, refl) tt
+  two-shows net_twos.Sgt a b w u v x p q t = two twos.SignedBelow b a u w 1 x v q p (sym t, refl) tt
+  two-shows net_twos.Sgte a b w u v x p q t = two twos.SignedAtMost b a u w 1 x v q p (sym t, refl) tt
+  two-shows net_twos.Iff a b w u v x p q t = two twos.Equal a b w u 1 v x p q (t.0 ∙ sym t.1, refl) tt
   two-shows net_twos.Implies a b w u v x p q t =
-      let made = two twos.AtMost a b w u 1 v x p q (t.0 ∙ sym t.1, refl) in
+      let made = two twos.AtMost a b w u 1 v x p q (t.0 ∙ sym t.1, refl) tt in
       (made.0, made.1 ∙ implied v x p.fits.0 q.fits.0 (p.fits.1 ∙ t.0) (q.fits.1 ∙ t.1))
-  two-shows net_twos.Concat a b w u v x p q t = two twos.Join a b w u (w + u) v x p q refl
+  two-shows net_twos.Concat a b w u v x p q t = two twos.Join a b w u (w + u) v x p q refl tt
 
   -- ---- selections and extensions
 
@@ -181,16 +197,12 @@ module _ (ws : Widths) (s : Signals) where
       → (upper - lower + 1 ≡ w → ⊥) → IsSignal a
       → Fits (upper - lower + 1) (Slice a upper lower) (op.slice v upper lower)
   slice-made a w upper lower v shows order within some is =
-      let many : 2 ≤ w = more w within order some in (
-        (is, (w, shows.has, order, within, many, refl)),
+      let fewer : upper - lower + 1 < w =
+      ⊎_elim (λ all. absurd (some all)) (λ less. less) (eq-or-lt_of_le (omega (arith, within, order))) in (
+        (is, (w, shows.has, order, within, fewer, refl)),
         ap (λ (y : BitVector). op.slice y upper lower)
             (shown a w v shows),
       )
-    where
-      more : (w : ℕ) → upper < w → lower ≤ upper → (upper - lower + 1 ≡ w → ⊥) → 2 ≤ w
-      more zero below order some = absurd (omega (arith, below))
-      more (suc zero) below order some = absurd (some (omega (arith, below, order)))
-      more (suc (suc n)) below order some = omega arith
 
   slice-some : (a : Operand) (w upper lower : ℕ) (v : BitVector) → Shows ws s a w v → lower ≤ upper → upper < w
       → (upper - lower + 1 ≡ w → ⊥)
@@ -241,7 +253,7 @@ module _ (ws : Widths) (s : Signals) where
       (record { some_bit = omega arith; no_wider = omega (arith, most); in_range = range }, refl) in
       let made =
       two twos.Join (Constant (zero_at added)) a added w (w + added) (zero_at added) v
-      (constant-shows ws s (zero_at added) added zeros) shows (join-width added w) in
+      (constant-shows ws s (zero_at added) added zeros) shows (join-width added w) tt in
       from-false (λ p. PieceShows ws s p (w + added) (uext_value v added)) (eqb added 0) (Same a)
       (Made (Two twos.Join (Constant (zero_at added)) a)) (not-none more)
       (made.0, made.1 ∙ joined-value added v)

@@ -292,9 +292,9 @@ module _ (m : Module) (ports : All (λ (port : Port). IsWidth port.width) m.inpu
 
     form-there : (own : ℕ) (f : Form) → IsWidth own → FormFits ws own f → AreThere m f
     form-there own (One operator a) wide (k, has, fits) = operand-there a k has
-    form-there own (Two operator a b) wide (k, (l, has, has', fits)) = (operand-there a k has, operand-there b l has')
+    form-there own (Two operator a b) wide (k, (l, has, has', fits, small)) = (operand-there a k has, operand-there b l has')
     form-there own (Choice c a b) wide fits = (operand-there c 1 fits.0, operand-there a own fits.1, operand-there b own fits.2)
-    form-there own (Slice a upper lower) wide (signal, (k, has, order, within, some, is)) =
+    form-there own (Slice a upper lower) wide (signal, (k, has, order, within, fewer, is)) =
         let narrow = operand-narrow a k has in
         (operand-there a k has, omega (arith, within, narrow), omega (arith, order, within, narrow))
     form-there own (Extension a top count) wide fits =

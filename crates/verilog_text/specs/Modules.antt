@@ -1,5 +1,6 @@
 -- Which modules are legal (IEEE 1364-2005): names that differ and are no reserved words, and expressions whose operands
 -- are declared before them and have the widths that they ask for (5.4), so that no operand is extended or truncated.
+-- The standard has no bound for a constant amount of a shift, but tools have one, so there is one here.
 use Rattle.std.specs.Prelude.{◌≡◌, ◌≢◌, ◌⊎◌, ℕ, ◌+◌, ◌-◌, ◌<◌, ◌≤◌, ◌==◌, ◌||◌, IsTrue, ◌^◌, Bool, false, Some, List, [], ◌∷◌, ◌++◌, length, All, AllPairs, map, slice_get}
 use Rattle.std.specs.Char.{is_ascii_alphabetic, is_ascii_alphanumeric}
 use Rattle.std.specs.List.{list_all}
@@ -95,14 +96,23 @@ InfixFits twos.SignedAtMost a b own = (a ≡ b) × (own ≡ 1)
 InfixFits twos.Join a b own = a + b ≡ own
 InfixFits bitwise a b own = (a ≡ own) × (b ≡ own)
 
--- an expression of this width over signals of these. Of a signal of one bit no bit is selected
+-- a constant amount of a shift is at most the width of what is shifted (5.1.12)
+abbrev pub AmountFits : Infix → Operand → ℕ → Type 0
+AmountFits twos.ShiftLeft (Constant value) width = value.number ≤ width
+AmountFits twos.ShiftRight (Constant value) width = value.number ≤ width
+AmountFits twos.ShiftSigned (Constant value) width = value.number ≤ width
+AmountFits other b width = Unit {0}
+
+-- an expression of this width over signals of these. A selection leaves out some bits of its signal (5.2.1), so of a
+-- signal of one bit no bit is selected
 abbrev pub FormFits : Widths → ℕ → Form → Type 0
 FormFits ws own (One operator a) = (k : ℕ) × HasOperand ws a k × PrefixFits operator k own
 FormFits ws own (Two operator a b) =
-    (k : ℕ) × ((l : ℕ) × HasOperand ws a k × HasOperand ws b l × InfixFits operator k l own)
+    (k : ℕ)
+    × ((l : ℕ) × HasOperand ws a k × HasOperand ws b l × InfixFits operator k l own × AmountFits operator b k)
 FormFits ws own (Choice condition a b) = HasOperand ws condition 1 × HasOperand ws a own × HasOperand ws b own
 FormFits ws own (Slice a upper lower) =
-    IsSignal a × ((k : ℕ) × HasOperand ws a k × (lower ≤ upper) × (upper < k) × (2 ≤ k) × (own ≡ upper - lower + 1))
+    IsSignal a × ((k : ℕ) × HasOperand ws a k × (lower ≤ upper) × (upper < k) × (own < k) × (own ≡ upper - lower + 1))
 FormFits ws own (Extension a top count) =
     IsSignal a × HasOperand ws a (top + 1) × (1 ≤ count) × (own ≡ count + (top + 1))
 
