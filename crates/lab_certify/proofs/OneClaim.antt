@@ -120,7 +120,7 @@ module _ (hosts : List HostSpec) (bytes : List ℕ) where
       pub refuted_or_not : (f : Fault) (text : List ℕ) → IsUncertified circuit hosts name bytes f
           → ShowsCertified circuit hosts name bytes text → ⊥
       refuted_or_not f text (inl none) h = claims_or_not (third_part bytes) f h.claim none h.claims
-      refuted_or_not f text (inr (claim, claims, is, wrong)) h =
+      refuted_or_not f text (inr (claim, claims, is, is_of, wrong)) h =
           let same = claims-same (third_part bytes) h.claim claim h.claims claims in
           none_or_some f (fault_in bytes (obligation_in circuit claim))
           (sym (ap (λ (x : Claim). fault_in bytes (obligation_in circuit x)) same) ∙ h.taken) wrong
@@ -128,11 +128,11 @@ module _ (hosts : List HostSpec) (bytes : List ℕ) where
       pub uncertified-same : (f g : Fault) → IsUncertified circuit hosts name bytes f
           → IsUncertified circuit hosts name bytes g → f ≡ g
       uncertified-same f g (inl a) (inl b) = no_claim-same (third_part bytes) f g a b
-      uncertified-same f g (inl a) (inr (claim, claims, is, wrong)) =
+      uncertified-same f g (inl a) (inr (claim, claims, is, is_of, wrong)) =
           absurd (claims_or_not (third_part bytes) f claim a claims)
-      uncertified-same f g (inr (claim, claims, is, wrong)) (inl b) =
+      uncertified-same f g (inr (claim, claims, is, is_of, wrong)) (inl b) =
           absurd (claims_or_not (third_part bytes) g claim b claims)
-      uncertified-same f g (inr (claim, claims, is, wrong)) (inr (other, claims', is', wrong')) =
+      uncertified-same f g (inr (claim, claims, is, is_of, wrong)) (inr (other, claims', is', is_of', wrong')) =
           let same = claims-same (third_part bytes) claim other claims claims' in
           some-same f g (fault_in bytes (obligation_in circuit other))
           (sym (ap (λ (x : Claim). fault_in bytes (obligation_in circuit x)) same) ∙ wrong) wrong'

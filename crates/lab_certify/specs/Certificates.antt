@@ -12,7 +12,7 @@ use Rattle.front_end.specs.Marks.{marked_name}
 use Rattle.front_end.specs.Systems.{run_of}
 use Rattle.front_end.specs.Aigs.{IsAigOf}
 use Rattle.front_end.specs.Circuits.{IsStimulusFor}
-use Rattle.aig_blast.specs.Aigs.{AigParts, sources}
+use Rattle.aig_blast.specs.Aigs.{AigParts, IsAig, sources}
 use Rattle.clause_check.specs.Clauses.{Cnf, IsLiteral}
 use Rattle.clause_check.specs.Refutations.{fault_of, is_empty}
 use Rattle.invariant_check.specs.Kept.{IsIdle, IsKept, SaysWhatBreaks}
@@ -42,6 +42,7 @@ pub record ShowsObligation (circuit : AigParts) (hosts : List HostSpec) (name : 
     : Type 0 where
   pub claim : Claim
   pub claims : Claims hosts name (last_part source) source claim
+  pub is : IsAig circuit
   pub is_of : IsAigOf claim.design circuit
   pub told : text ≡ text_of circuit (obligation_in circuit claim)
   pub promise : KeepsPromise circuit claim (obligation_in circuit claim)
@@ -73,6 +74,7 @@ pub record ShowsCertified (circuit : AigParts) (hosts : List HostSpec) (name : O
     : Type 0 where
   pub claim : Claim
   pub claims : Claims hosts name (third_part source) source claim
+  pub is : IsAig circuit
   pub is_of : IsAigOf claim.design circuit
   pub taken : fault_in source (obligation_in circuit claim) ≡ None
   pub holds : HoldsInEveryRun claim
@@ -81,8 +83,8 @@ pub record ShowsCertified (circuit : AigParts) (hosts : List HostSpec) (name : O
 -- the source claims something, and its refutation has a fault: the first line with 93 or 94, or else 95 past the last line
 abbrev pub IsUnrefuted : AigParts → List HostSpec → Option (List ℕ) → List ℕ → Fault → Type 0
 IsUnrefuted circuit hosts name source fault =
-    (claim : Claim) × Claims hosts name (third_part source) source claim × IsAigOf claim.design circuit
-    × (fault_in source (obligation_in circuit claim) ≡ Some fault)
+    (claim : Claim) × Claims hosts name (third_part source) source claim × IsAig circuit
+    × IsAigOf claim.design circuit × (fault_in source (obligation_in circuit claim) ≡ Some fault)
 
 -- the source is no certificate, and this is why
 abbrev pub IsUncertified : AigParts → List HostSpec → Option (List ℕ) → List ℕ → Fault → Type 0

@@ -12,4 +12,4 @@ pub mod fault_number;
 mod laws;
 
 pub use certificate::{certified_text, obligation_text};
-pub use laws::{claimed_or_refused, some_claim};
+pub use laws::{claimed_or_refused, one_claim, some_claim};

@@ -3,7 +3,7 @@ use Rattle.std.specs.Prelude.{◌≡◌, ℕ, ◌<◌, IsTrue, List, All, length
 use Rattle.front_end.specs.Aigs.{IsAigOf}
 use Rattle.koika_check.specs.Typing.{IsTypedDesign}
 use Rattle.aig_blast.specs.AigRun.{first_words}
-use Rattle.aig_blast.specs.Aigs.{latch_widths}
+use Rattle.aig_blast.specs.Aigs.{IsAig, latch_widths}
 use Rattle.invariant_check.specs.Kept.{HaveLiterals, is_true_of}
 use Rattle.lab_certify.specs.Claims.{Claim, InvariantPart}
 use Rattle.lab_certify.specs.declared.claimed.Claimed.{Claimed}
@@ -16,10 +16,11 @@ part_of text first_line = record { text = text; first_line = first_line }
 abbrev pub claim_of : Claimed → Claim
 claim_of it = record { design = it.design; invariant = it.invariant.clauses; rules = it.rules.items }
 
--- the circuit is the design's, the rules are there, and the invariant is over the bits of its registers and true of the
--- first values
+-- the circuit is valid and the design's, the rules are there, and the invariant is over the bits of its registers and
+-- true of the first values
 pub record IsReady (it : Claimed) : Type 0 where
   pub typed : IsTypedDesign it.design
+  pub valid : IsAig it.aig
   pub circuit : IsAigOf it.design it.aig
   pub rules : All (λ rule. rule < length it.design.rules) it.rules.items
   pub bits : it.invariant.variables ≡ sum (latch_widths it.aig.latches)

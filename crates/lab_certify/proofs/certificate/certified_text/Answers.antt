@@ -17,6 +17,7 @@ returns-clause-text g c =
       record {
         claim = claim_of it.claimed;
         claims = rw (parts.invariant, parts.invariant_line) at it.ensures.claims;
+        is = it.ensures.ready.valid;
         is_of = it.ensures.ready.circuit;
         taken = rw (parts.refutation, parts.refutation_line) at c.in_ok-check.ensures.taken;
         holds = c.in_ok-check.ensures.holds;
@@ -44,6 +45,7 @@ returns-in_err-check-clause-refused g c =
       inr (
         claim_of it.claimed,
         rw (parts.invariant, parts.invariant_line) at it.ensures.claims,
+        it.ensures.ready.valid,
         it.ensures.ready.circuit,
         rw (parts.refutation, parts.refutation_line) at h,
       ),

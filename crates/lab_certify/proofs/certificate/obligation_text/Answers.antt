@@ -11,6 +11,7 @@ returns-clause-text g c =
       record {
         claim = claim_of it.claimed;
         claims = rw (parts.certificate, parts.certificate_line) at it.ensures.claims;
+        is = it.ensures.ready.valid;
         is_of = it.ensures.ready.circuit;
         told = c.in_ok-text.ensures.text;
         promise = c.in_ok-text.ensures.promise;
