@@ -58,10 +58,11 @@ RunsLines hosts bytes reply =
 abbrev pub Answers : List HostSpec → List ℕ → Reply → Type 0
 Answers hosts bytes reply = RefusesHead hosts bytes reply ⊎ RunsLines hosts bytes reply
 
--- the status of a call that wrote a reply
+-- the status of a call that wrote a reply with this fault, or with none
 abbrev pub status_for : Option Fault → Status
 status_for None = statuses.Done
 status_for (Some fault) = statuses.Refused
 
+-- the status of a call that wrote this reply
 abbrev pub status_of : Reply → Status
 status_of reply = status_for reply.fault

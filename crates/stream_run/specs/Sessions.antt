@@ -17,6 +17,7 @@ pub record Session : Type 0 where
   pub sink : Stream
   pub status : Status
 
+-- the session with these host functions and streams, and with this status
 abbrev pub session : List HostSpec → Stream → Stream → Status → Session
 session hosts source sink status = record { hosts = hosts; source = source; sink = sink; status = status }
 
@@ -65,10 +66,11 @@ WritesSomeFront s =
 abbrev pub HasNoWords : Session → Type 0
 HasNoWords s = s.status ≢ Usage
 
--- With status 3 the source's count of faults rose; with status 4 the sink's count rose.
+-- With status 3 the source's count of faults rose.
 abbrev pub CountsReadFault : Session → Type 0
 CountsReadFault s = s.status ≡ ReadFault → Rose s.source.faults_before s.source.faults_after
 
+-- With status 4 the sink's count of faults rose.
 abbrev pub CountsWriteFault : Session → Type 0
 CountsWriteFault s = s.status ≡ WriteFault → Rose s.sink.faults_before s.sink.faults_after
 

@@ -8,12 +8,10 @@
 
 mod head;
 mod laws;
+mod line_run;
 mod reader;
 mod session;
-mod stand;
 mod stop;
-#[cfg(test)]
-mod tests;
 
 pub use laws::{one_reply, some_reply};
 pub use session::step;

@@ -17,8 +17,8 @@ ghost use Rattle.stream_run.specs.inner.Reading.{to_come};
 ghost use Rattle.stream_run.specs.inner.Telling.{Finishes, FinishesDesign, FinishesSession, place_of};
 
 use crate::head::{Head, LONGEST};
+use crate::line_run::LineRun;
 use crate::reader::Reader;
-use crate::stand::Stand;
 use crate::stop::Stop;
 use front_end::{Lowered, Status, read_source, status_by, write_fault};
 use host_fn::HostFn;
@@ -148,12 +148,12 @@ fn answer_design<S: Source, K: Sink>(
     ensures source_never_falls { S.faults source.old ≤ S.faults source.new }
     ensures never_falls { K.faults sink.old ≤ K.faults sink.new }
 {
-    let mut stand = Stand::first(alloc, lowered, line)?;
-    stand.write_opening(alloc, lowered, sink)?;
+    let mut line_run = LineRun::first(alloc, lowered, line)?;
+    line_run.write_opening(alloc, lowered, sink)?;
     if is_open {
-        answer_lines(alloc, lowered, &mut stand, reader, source, sink)
+        answer_lines(alloc, lowered, &mut line_run, reader, source, sink)
     } else {
-        stand.finish(alloc, lowered, &[], sink)
+        line_run.finish(alloc, lowered, &[], sink)
     }
 }
 
@@ -161,14 +161,14 @@ fn answer_design<S: Source, K: Sink>(
 fn answer_lines<S: Source, K: Sink>(
     alloc: Global,
     lowered: &Lowered,
-    stand: &mut Stand,
+    line_run: &mut LineRun,
     reader: &mut Reader,
     source: &mut S,
     sink: &mut K,
 ) -> Result<(), Stop>
     requires typed { IsTypedDesign lowered.now.checked }
-    requires fits { HaveWidths (register_widths (arc_value lowered.now.design)) stand.old.regs }
-    ensures finishes { Finishes lowered.now.checked (place_of stand.old) (to_come reader.old (S.left source.old))
+    requires fits { HaveWidths (register_widths (arc_value lowered.now.design)) line_run.old.regs }
+    ensures finishes { Finishes lowered.now.checked (place_of line_run.old) (to_come reader.old (S.left source.old))
         (K.written sink.old) (K.written sink.new) result }
     ensures whole { OnOk result (IfSome (to_come reader.old (S.left source.old)) (λ _. S.left source.new ≡ Some [])) }
     ensures read_fault { IsErrOf result Stop.ReadFault → Rose (S.faults source.old) (S.faults source.new) }
@@ -179,8 +179,8 @@ fn answer_lines<S: Source, K: Sink>(
     'lines: loop {
         let line = reader.read_line(alloc, source, LONGEST)?;
         if !line.is_whole {
-            return stand.finish(alloc, lowered, &line.bytes, sink);
+            return line_run.finish(alloc, lowered, &line.bytes, sink);
         }
-        stand.answer(alloc, lowered, &line.bytes, sink)?;
+        line_run.answer(alloc, lowered, &line.bytes, sink)?;
     }
 }

@@ -1,5 +1,5 @@
--- What is left to write of a session, by where its run stands and the lines that are left. This serves private
--- functions alone.
+-- What is left to write of a session, by where its run is and the lines that are left. This serves private functions
+-- alone.
 use Rattle.std.specs.Prelude.{◌≡◌, ◌⊎◌, ℕ, ◌+◌, Bool, true, false, List, [], ◌∷◌, ◌++◌, Option, None, Some, Result, Ok}
 use Rattle.std.specs.Prelude.{Err}
 use Rattle.std.specs.Io.KnownBytes.{Appends, Keeps}
@@ -24,7 +24,7 @@ use Rattle.front_end.specs.Systems.{first_values, system_of}
 use Rattle.stream_run.specs.Lines.{inputs_on, lines_in}
 use Rattle.stream_run.specs.Replies.{Answers, Reply, refusal}
 use Rattle.stream_run.specs.Sessions.{MayGive}
-use Rattle.stream_run.specs.declared.stand.Stand.{Stand}
+use Rattle.stream_run.specs.declared.line_run.LineRun.{LineRun}
 use Rattle.stream_run.specs.declared.stop.Stop.{Stop}
 use Rattle.stream_run.specs.declared.stop.Stop.TheVariants as stops
 
@@ -36,9 +36,9 @@ pub record Place : Type 0 where
   pub regs : List BitVector
   pub known : Watched
 
--- the same of what keeps it
-abbrev pub place_of : Stand → Place
-place_of stand = record { cycle = stand.cycle; line = stand.line; regs = stand.regs; known = stand.watch }
+-- where a kept run is
+abbrev pub place_of : LineRun → Place
+place_of line_run = record { cycle = line_run.cycle; line = line_run.line; regs = line_run.regs; known = line_run.watch }
 
 -- before the first cycle
 abbrev pub first_place : Checked → ℕ → Place
@@ -49,7 +49,7 @@ first_place d line =
 abbrev pub next_row : Checked → Place → List BitVector → Row
 next_row d place values = cycle (system_of d) values place.regs
 
--- and where the run is after it
+-- where the run is after that cycle
 abbrev pub next_place : Checked → Place → List BitVector → Place
 next_place d place values =
     let row : Row = next_row d place values in
@@ -102,12 +102,13 @@ abbrev pub Finishes : Checked → Place → Option (List ℕ) → Option (List �
 Finishes d place coming old new result =
     (rest : List ℕ) × MayGive coming rest × Writes (told_from d place (lines_in rest)) old new result
 
--- the same from the row that a design begins with, where no lines are left unless some may come
+-- what is to be written of a design, from its first row on, and of the lines in these bytes
 abbrev pub whole_reply : Checked → ℕ → List ℕ → Reply
 whole_reply d line rest =
     after_text (line_of (shape_of d) 0 (opening (system_of d).rules (first_values d)))
     (told_from d (first_place d line) (lines_in rest))
 
+-- the session went on from a design's first row; lines are left only where the head's line `%%` came
 pub record FinishesDesign (d : Checked) (line : ℕ) (is_open : Bool) (coming old new : Option (List ℕ))
     (result : Result (Unit {0}) Stop) : Type 0 where
   pub rest : List ℕ

@@ -33,7 +33,7 @@ returns-in_err-answer-clause-finishes g c =
     let is : line.is_whole ≡ true = first_of (cc, grind (arith, common_steps)) in
     let p = err_from_is_err_and c.from_residual-in_err-answer.result c.from_residual-in_err-answer.ensures.1 in
     rw (p.1, p.2)
-    (stops-line _ _ _ _ _ _ _ _ _ line.bytes.items c.deref-in-lines.result.now line.is_whole c.deref-in-lines.ensures.value c.lines.invariant.reached c.in_ok-line.ensures.takes (place_of c.lines.stand) _ is c.in_err-answer.ensures.answers)
+    (stops-line _ _ _ _ _ _ _ _ _ line.bytes.items c.deref-in-lines.result.now line.is_whole c.deref-in-lines.ensures.value c.lines.invariant.reached c.in_ok-line.ensures.takes (place_of c.lines.line_run) _ is c.in_err-answer.ensures.answers)
 
 pub lines-preserved : goal.lines-preserved
 lines-preserved g c =

@@ -12,7 +12,7 @@ use Rattle.one_rule.specs.declared.rows.Row.{Row}
 use Rattle.stim_report.specs.Shapes.{RowsFit}
 use Rattle.front_end.specs.Sources.{shape_of}
 use Rattle.stream_run.proofs.Cycles.{one-cycle, rows-shown, stimulus-wide}
-use Rattle.stream_run.proofs.stand.Stand.next_rows.Goals as goal
+use Rattle.stream_run.proofs.line_run.LineRun.next_rows.Goals as goal
 
 pub run_from-requires-clause-stimulus : goal.run_from-requires-clause-stimulus
 run_from-requires-clause-stimulus c =

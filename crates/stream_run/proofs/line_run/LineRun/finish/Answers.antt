@@ -3,7 +3,7 @@ use Rattle.std.proofs.lemmas.Bool.{eqb-false}
 use Rattle.std.proofs.lemmas.Result.{err_from_is_err_and}
 use Rattle.stream_run.specs.inner.Telling.{place_of}
 use Rattle.stream_run.proofs.Answering.{ends-line, ends-line-cut, ends-stop}
-use Rattle.stream_run.proofs.stand.Stand.finish.Goals as goal
+use Rattle.stream_run.proofs.line_run.LineRun.finish.Goals as goal
 
 pub returns-in_err-answer-clause-writes : goal.returns-in_err-answer-clause-writes
 returns-in_err-answer-clause-writes g c =

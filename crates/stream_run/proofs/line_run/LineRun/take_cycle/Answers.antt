@@ -13,7 +13,7 @@ use Rattle.stim_report.specs.declared.shape.Shape.{Shape}
 use Rattle.front_end.specs.Systems.{system_of}
 use Rattle.stream_run.specs.inner.Telling.{next_row, place_of}
 use Rattle.stream_run.proofs.Places.{cycles-more}
-use Rattle.stream_run.proofs.stand.Stand.take_cycle.Goals as goal
+use Rattle.stream_run.proofs.line_run.LineRun.take_cycle.Goals as goal
 
 on_ok : {X E : Type 0} (r : Result X E) (P : Type 0) → P → OnOk r P
 on_ok (Ok x) P p = p

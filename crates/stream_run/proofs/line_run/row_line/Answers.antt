@@ -2,7 +2,7 @@ use Rattle.std.proofs.Common.{◌≡◌, ℕ, List, drop, ap, ◌∙◌, arith}
 use Rattle.std.proofs.lemmas.Result.{IfOk-weaker}
 use Rattle.stim_report.specs.Report.{report}
 use Rattle.stream_run.proofs.RowLines.{first-line}
-use Rattle.stream_run.proofs.stand.row_line.Goals as goal
+use Rattle.stream_run.proofs.line_run.row_line.Goals as goal
 
 pub returns : goal.returns
 returns c =

@@ -11,7 +11,7 @@ use Rattle.stim_report.specs.declared.shape.Shape.{Shape}
 use Rattle.front_end.specs.Sources.{shape_of}
 use Rattle.front_end.proofs.LoweredRuns.{rules-count}
 use Rattle.stream_run.proofs.Cycles.{rows-shown}
-use Rattle.stream_run.proofs.stand.Stand.opening_text.Goals as goal
+use Rattle.stream_run.proofs.line_run.LineRun.opening_text.Goals as goal
 
 pub report-requires : goal.report-requires
 report-requires c =

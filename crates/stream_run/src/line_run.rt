@@ -1,4 +1,4 @@
-//! Sessions: where a run stands between two lines of its stimulus, and its next cycle.
+//! Sessions: a run that goes on line by line of its stimulus, and its next cycle.
 
 ghost use Rattle.std.specs.Prelude.{◌≡◌, ◌+◌, ◌<◌, ◌≤◌, [], ◌∷◌, IfOk, OnOk, IsErrOf, Ok, length, ℕ};
 ghost use Rattle.std.specs.Arc.{arc_value};
@@ -39,9 +39,9 @@ use typed_core::Design;
 /// How many cycles a session may have.
 pub(crate) const MOST_CYCLES: u32 = 16_777_216;
 
-/// Where a run stands between two lines of its stimulus.
+/// A run between two lines of its stimulus.
 #[derive(Debug, Drop)]
-pub(crate) struct Stand {
+pub(crate) struct LineRun {
     /// How many cycles it had.
     pub(crate) cycle: u32,
     /// The number of the next line in the source, as far as 32 bits count.
@@ -52,23 +52,23 @@ pub(crate) struct Stand {
     ghost few: { cycle ≤ 16777216 },
 }
 
-impl Stand {
+impl LineRun {
     ghost use Rattle.stream_run.specs.inner.Telling.{AnswersLine, Writes, first_place, next_place, next_row};
     ghost use Rattle.stream_run.specs.inner.Telling.{place_of, told_from};
 
     /// Before the first cycle of a design.
-    pub(crate) fn first(alloc: Global, lowered: &Lowered, line: u32) -> Result<Stand, NoMemory>
+    pub(crate) fn first(alloc: Global, lowered: &Lowered, line: u32) -> Result<LineRun, NoMemory>
         requires { IsTypedDesign lowered.now.checked }
-        ensures place { IfOk result (λ stand. place_of stand ≡ first_place lowered.now.checked line) }
-        ensures fits { IfOk result (λ stand.
-            HaveWidths (register_widths (arc_value lowered.now.design)) stand.regs) }
+        ensures place { IfOk result (λ line_run. place_of line_run ≡ first_place lowered.now.checked line) }
+        ensures fits { IfOk result (λ line_run.
+            HaveWidths (register_widths (arc_value lowered.now.design)) line_run.regs) }
     {
         let design: &Design = &lowered.design;
         let names = marked_names(alloc, &lowered.checked)?;
         let marks = Sequence::from_slice(alloc, lowered.checked.asserts())?;
         let watch = Watch::new(alloc, names, marks)?;
         let regs = first_values(alloc, design)?;
-        Ok(Stand {
+        Ok(LineRun {
             cycle: 0,
             line,
             regs,

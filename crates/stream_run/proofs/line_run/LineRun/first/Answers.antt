@@ -5,7 +5,7 @@ use Rattle.koika_assert.specs.Violations.{watched}
 use Rattle.koika_assert.proofs.FirstsJoined.{cycles_known}
 use Rattle.front_end.proofs.LoweredRuns.{first-same}
 use Rattle.stream_run.proofs.Places.{place-first}
-use Rattle.stream_run.proofs.stand.Stand.first.Goals as goal
+use Rattle.stream_run.proofs.line_run.LineRun.first.Goals as goal
 
 pub invariant_of-result : goal.invariant_of-result
 invariant_of-result c = record { cycles = cycles_known _ _ [] _ c.in_ok-watch.ensures; few = omega arith }

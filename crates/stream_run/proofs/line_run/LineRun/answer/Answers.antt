@@ -3,7 +3,7 @@ use Rattle.std.proofs.lemmas.Result.{err_from_is_err_and}
 use Rattle.one_rule.specs.Stimulus.{inputs_of}
 use Rattle.stream_run.specs.inner.Telling.{place_of}
 use Rattle.stream_run.proofs.Answering.{answers-cut}
-use Rattle.stream_run.proofs.stand.Stand.answer.Goals as goal
+use Rattle.stream_run.proofs.line_run.LineRun.answer.Goals as goal
 
 pub returns-in_err-write_text-clause-answers : goal.returns-in_err-write_text-clause-answers
 returns-in_err-write_text-clause-answers g c =
