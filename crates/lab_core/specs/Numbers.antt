@@ -153,6 +153,6 @@ abbrev pub is_in_doubt : Option RuleNumbers → Bool
 is_in_doubt None = false
 is_in_doubt (Some n) = nat_lt 0 n.fired || nat_lt 0 (unwatched_count n)
 
--- so it is with the assertion of one of these rules
+-- the assertion of one of these rules was violated, or a cycle says nothing of it
 abbrev pub fails_strictly : List ℕ → RunNumbers → Bool
 fails_strictly marks numbers = list_any (λ mark. is_in_doubt (slice_get numbers.rules mark)) marks

@@ -2,4 +2,3 @@ pub mod Counting
 pub mod Lines
 pub mod Steps
 pub mod Tops
-pub mod Profiles

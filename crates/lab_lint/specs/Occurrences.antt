@@ -28,9 +28,11 @@ pub record Part : Type 0 where
   pub all : List Occurrence
   pub pairs : List Pair
 
+-- a part without occurrences
 abbrev pub nothing : Part
 nothing = record { all = []; pairs = [] }
 
+-- a part that is one occurrence
 abbrev pub one : Occurrence → Part
 one o = record { all = o ∷ []; pairs = [] }
 
@@ -85,6 +87,7 @@ typed_step bodies (typed.Apply o operands) = in_order (in_turn operands) (own bo
 typed_step bodies (typed.If conditions bodies') = choice conditions bodies'
 typed_step bodies (typed.Block steps) = in_turn steps
 
+-- a step is the expression in it
 abbrev pub step_step : BlockStep-F Part Part → Part
 step_step (typed.Let value) = value
 step_step (typed.Do value) = value
@@ -110,5 +113,6 @@ abbrev pub body_if : Checked → Option CheckedRule → Part
 body_if d None = nothing
 body_if d (Some r) = part_of (bodies_before d (length d.functions)) r.body
 
+-- the body of the rule of a number, without occurrences where there is none
 unfoldable pub rule_part : Checked → (rule : ℕ) → Part
 rule_part d rule = body_if d (slice_get d.rules rule)

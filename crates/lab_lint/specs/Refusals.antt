@@ -55,12 +55,12 @@ own_writes d rule register =
 
 -- ---- refusals by an earlier rule
 
--- the accesses of a register that cannot follow some access of another rule, and those of the other rule that some of
--- them cannot follow
+-- the accesses of a register by a rule that cannot follow some access of it by this earlier rule
 abbrev pub clashing : Checked → (rule earlier register : ℕ) → List Access
 clashing d rule earlier register =
     filter (λ (a : Access). list_any (λ (e : Access). clashes a e) (made d earlier register)) (made d rule register)
 
+-- the accesses of the register by the earlier rule that some access of it by the rule cannot follow
 abbrev pub clashed : Checked → (rule earlier register : ℕ) → List Access
 clashed d rule earlier register =
     filter (λ (e : Access). list_any (λ (a : Access). clashes a e) (made d rule register)) (made d earlier register)

@@ -19,14 +19,15 @@ abbrev pub may_refuse_itself : Checked → (rule : ℕ) → Bool
 may_refuse_itself d rule =
     is_scheduled d.nodes rule && list_any (λ register. has_any (own_writes d rule register)) (numbers d.registers)
 
--- a rule has an access that cannot follow some access of this other rule
+-- the rule has an access that cannot follow some access of this earlier rule
 abbrev pub may_clash : Checked → (rule earlier : ℕ) → Bool
 may_clash d rule earlier = list_any (λ register. has_any (clashing d rule earlier register)) (numbers d.registers)
 
--- and of some rule that may fire before it
+-- the rule has an access that cannot follow some access of a rule that may precede it
 abbrev pub may_be_clashed : Order → Checked → (rule : ℕ) → Bool
 may_be_clashed order d rule =
     list_any (λ earlier. order.may_precede earlier rule && may_clash d rule earlier) (numbers d.rules)
 
+-- the rule's own accesses, or those of a rule that may precede it, may refuse it
 abbrev pub may_be_refused : Order → Checked → (rule : ℕ) → Bool
 may_be_refused order d rule = may_refuse_itself d rule || may_be_clashed order d rule

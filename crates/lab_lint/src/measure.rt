@@ -20,7 +20,7 @@ pub fn rule_measures(alloc: Global, design: &Checked) -> Result<Sequence<Measure
     rules_over(alloc, design, bodies.as_slice())
 }
 
-// So heavy, and so deep.
+// The measure of this weight and depth.
 fn measure(weight: usize, depth: usize) -> Measure
     ensures { result ≡ counts.capped (sizes.size weight depth) }
 {
@@ -40,7 +40,7 @@ fn both(a: Measure, b: Measure) -> Measure
     }
 }
 
-// The same, so much deeper.
+// The same weight, at a depth that is greater by this.
 fn deeper(a: Measure, depth: usize) -> Measure
     ensures { result ≡ inner_counts.deeper depth a }
 {
@@ -51,7 +51,7 @@ fn deeper(a: Measure, depth: usize) -> Measure
     }
 }
 
-// The same, so much heavier.
+// The same depth, with a weight that is greater by this.
 fn heavier(a: Measure, weight: usize) -> Measure
     ensures { result ≡ inner_counts.heavier weight a }
 {
@@ -102,7 +102,7 @@ fn inputs(width: u32) -> usize
     }
 }
 
-// The weight and the depth of an expression, where the bodies of the design's functions are so heavy and so deep.
+// The weight and the depth of an expression, where the bodies of the design's functions have these measures.
 #[cycle(measure)]
 #[tactic(auto, using(koika_check::proofs::Equations::equations, koika_check::proofs::Caps::capping))]
 fn weigh(design: &Checked, bodies: &[Measure], of: &Typed) -> Measure
@@ -238,8 +238,8 @@ fn weigh_chain(
     all
 }
 
-// Steps of a block: each is one deeper than the statement before, the first by one. Where no last expression stands,
-// its place is as deep.
+// Steps of a block: each is one deeper than the statement before, the first by one. A block without a last expression
+// is as deep as one with it.
 #[cycle(measure)]
 fn weigh_steps(design: &Checked, bodies: &[Measure], steps: &[BlockStep]) -> Measure
     ensures { (parts : List sizes.Size) → bodies.now ≡ map counts.capped parts → result ≡ counts.capped (sizes.steps_size (map (inner_sizes.size_of_step (record { design = design.now; bodies = parts })) steps.now)) }

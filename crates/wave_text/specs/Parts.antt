@@ -32,6 +32,7 @@ pub record Progress : Type 0 where
   pub levels : List Level
   pub registers : List BitVector
 
+-- what is known of these rows
 unfoldable pub progress : Shape → InputsByCycle → List Row → Progress
 progress shape inputs rows = record {
   cycle = last_cycle rows;

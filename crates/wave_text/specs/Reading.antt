@@ -47,6 +47,7 @@ said_by_first first bytes =
     else (if first == 98 then vector_said (slice_split (λ b. b == 32) bytes)
     else (if is_bit first then gives bytes (bit_level first) else neither))
 
+-- what a line says
 unfoldable pub said_by : List ℕ → Said
 said_by [] = neither
 said_by (first ∷ bytes) = said_by_first first bytes
@@ -90,7 +91,7 @@ ReadsBack = (shape : Shape) (inputs : InputsByCycle) (rows : List Row) → IsRun
     → slice_get (moments shape inputs 0 rows) cycle ≡ Some now → slice_get (variables shape) number ≡ Some v → slice_get now number ≡ Some level
     → value_at (body shape inputs rows) (code v) (10 * cycle + after) ≡ Some level
 
--- and the clock is 1 from the edge on, and 0 from the middle of the cycle on
+-- by the changes of its dump the clock is 1 from a rising edge on, and 0 from the middle of the cycle on
 abbrev pub ClockReadsBack : Type 0
 ClockReadsBack = (shape : Shape) (inputs : InputsByCycle) (rows : List Row) → IsRun shape inputs rows
     → (cycle after : ℕ) → after < 10 → cycle < length rows

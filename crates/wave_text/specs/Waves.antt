@@ -28,12 +28,13 @@ numbered kind number (one ∷ more) = record { kind = kind; number = number; wid
 abbrev pub variables : Shape → List Variable
 variables shape = numbered Input 0 shape.inputs ++ numbered Register 0 shape.registers ++ numbered Rule 0 (map of_rule shape.rules)
 
--- the identifier code of a variable: a letter for its kind, and its number
+-- the letter of a variable that shows this
 abbrev pub letter : VariableKind → ℕ
 letter Input = 105
 letter Register = 114
 letter Rule = 102
 
+-- the identifier code of a variable: the letter for what it shows, and its number
 abbrev pub code : Variable → List ℕ
 code v = letter v.kind ∷ decimal v.number
 
@@ -89,11 +90,12 @@ without_leading_zeros (digit ∷ next ∷ digits) = if digit == 48 then without_
 unfoldable pub binary : ℕ → List ℕ
 binary number = without_leading_zeros (binary_digits 128 number)
 
--- the value of one bit, and of a vector
+-- the digit of a value of one bit, `x` where it isn't known
 abbrev pub bit_text : Level → ℕ
 bit_text Unknown = 120
 bit_text (Known number) = 48 + number % 2
 
+-- the binary digits of a vector's value, `x` where it isn't known
 abbrev pub vector_text : Level → List ℕ
 vector_text Unknown = codes "x"
 vector_text (Known number) = binary number
@@ -108,10 +110,11 @@ is_same Unknown now = false
 is_same (Known before) Unknown = false
 is_same (Known before) (Known now) = before == now
 
--- the line of a variable whose value differs from the one before, and those of all such variables
+-- the line of a variable, where its value differs from the one before
 abbrev pub change_if : Variable → Level → Level → List ℕ
 change_if v before now = if is_same before now then [] else change v now
 
+-- the lines of the variables whose values differ
 abbrev pub changes : List Variable → List Level → List Level → List ℕ
 changes [] before now = []
 changes (v ∷ vs) [] now = []
@@ -144,10 +147,11 @@ edges vs cycle before (now ∷ later) = edge vs cycle before now ++ edges vs (cy
 
 -- ---- runs
 
--- the values of bit vectors, and of a rule: whether it fires
+-- the value of a bit vector
 abbrev pub known : BitVector → Level
 known value = Known value.number
 
+-- the value of a rule: 1 where it fires, else 0
 abbrev pub flag : Bool → Level
 flag false = Known 0
 flag true = Known 1

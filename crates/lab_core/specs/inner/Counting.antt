@@ -16,21 +16,26 @@ use Rattle.lab_core.specs.declared.trial.TrialVerdict.TheVariants as verdict
 
 -- ---- refusals as keys
 
+-- the access that a key has
 abbrev pub access_at : Place → Access
 access_at p = record { write = p.write; port = p.port; register = p.register }
 
+-- the key of an access
 abbrev pub place_at : Access → Place
 place_at a = record { write = a.write; port = a.port; register = a.register }
 
+-- the cause that a key has
 abbrev pub cause_at : Refusal → Cause
 cause_at (refusal.Own p) = cause.OwnClash (access_at p)
 cause_at (refusal.Clash p rule earlier) = cause.Clash (access_at p) rule (access_at earlier)
 
+-- the key of a cause, if it is a refusal
 abbrev pub refusal_if : Cause → Option Refusal
 refusal_if cause.Abort = None
 refusal_if (cause.OwnClash a) = Some (refusal.Own (place_at a))
 refusal_if (cause.Clash a rule earlier) = Some (refusal.Clash (place_at a) rule (place_at earlier))
 
+-- a refusal with its numbers, by an entry of the table
 abbrev pub counted_of : Refusal × Seen → Counted
 counted_of e = record { cause = cause_at e.0; count = e.1.count; first = e.1.first }
 

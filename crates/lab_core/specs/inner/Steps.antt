@@ -8,8 +8,10 @@ use Rattle.one_rule.specs.declared.cycle.State.{State}
 use Rattle.lab_core.specs.declared.trial.Trial.{Trial}
 use Rattle.lab_core.specs.inner.Tops.{fired_in}
 
+-- the state of the walk after these trials
 abbrev pub state_of : List BitVector → List Trial → State
 state_of regs tried = record { regs = regs; past = fired_in tried }
 
+-- the walk at this place after these trials
 abbrev pub walk_at : List BitVector → List Trial → Next → Walk State
 walk_at regs tried at = record { state = state_of regs tried; at = at }

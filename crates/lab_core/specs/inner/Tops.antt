@@ -1,5 +1,5 @@
--- Which rules trials say fired, and how a table of the highest ports tells that an access clashes with none of them, for
--- private functions.
+-- Which rules fired in trials, and how a table of the highest ports shows that an access clashes with none of them. This
+-- serves private functions alone.
 use Rattle.std.specs.Prelude.{◌≡◌, ℕ, ◌<◌, ◌≤◌, Bool, true, false, ◌&&◌, ◌||◌, nat_lt, List, [], ◌∷◌, ◌++◌, Option, Some, None, slice_get}
 use Rattle.std.specs.List.{AllByRecursion}
 use Rattle.typed_core.specs.declared.access.Access.{Access}
@@ -13,6 +13,7 @@ use Rattle.lab_core.specs.declared.tried.Top.{Top}
 
 -- ---- the rules that fired
 
+-- a rule with its events, where this verdict says that it fired
 abbrev pub fired_by : TrialVerdict → ℕ → List Event → List Fired
 fired_by verdict.Fired rule events = record { rule = rule; events = events } ∷ []
 fired_by (verdict.Refused c) rule events = []
@@ -27,6 +28,7 @@ abbrev pub clash_by : Access → TrialVerdict → List Event → Option Access
 clash_by access verdict.Fired events = first_clash access events
 clash_by access (verdict.Refused c) events = None
 
+-- the first access of a trial's rule with which an access clashes, if the rule fired
 abbrev pub clash_with : Access → Trial → Option Access
 clash_with access t = clash_by access t.verdict t.events
 
@@ -41,7 +43,7 @@ IsUnder top false port = port ≤ top.read
 abbrev pub IsCovered : List Top → Access → Type 0
 IsCovered tops a = (top : Top) → slice_get tops a.register ≡ Some top → IsUnder top a.write a.port
 
--- so are all accesses of the rules that fired
+-- all accesses of the rules that fired are under the tops
 abbrev pub Covers : List Top → List Fired → Type 0
 Covers tops fired = AllByRecursion (λ (f : Fired). AllByRecursion (λ (e : Event). IsCovered tops e.access) f.events) fired
 
@@ -54,5 +56,6 @@ abbrev pub may_meet : Option Top → Bool → ℕ → Bool
 may_meet None write port = true
 may_meet (Some top) write port = nat_lt port top.write || (write && nat_lt port top.read)
 
+-- an access may clash with one that is under these tops
 abbrev pub may_clash : List Top → Access → Bool
 may_clash tops a = may_meet (slice_get tops a.register) a.write a.port

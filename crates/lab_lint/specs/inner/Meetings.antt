@@ -6,6 +6,8 @@ use Rattle.lab_lint.specs.Occurrences.{Part}
 use Rattle.lab_lint.specs.Refusals.{cannot_follow, is_access, is_refused_in, occurs_in}
 use Rattle.lab_lint.specs.declared.meeting.Meeting.{Meeting}
 
+-- what a part has to do with an access: whether it occurs, whether an occurrence is one that it cannot follow, and
+-- whether the part itself may refuse it
 abbrev pub meeting_of : Access → Part → Meeting
 meeting_of a part = record {
   occurs = occurs_in part a;
@@ -13,9 +15,11 @@ meeting_of a part = record {
   is_refused = is_refused_in part a;
 }
 
+-- what a part without occurrences has to do with an access
 abbrev pub none : Meeting
 none = record { occurs = false; hinders = false; is_refused = false }
 
+-- what one of two parts has to do with it
 abbrev pub either : Meeting → Meeting → Meeting
 either a b = record {
   occurs = a.occurs || b.occurs;
@@ -23,6 +27,7 @@ either a b = record {
   is_refused = a.is_refused || b.is_refused;
 }
 
+-- what one part and then another have to do with it
 abbrev pub in_order : Meeting → Meeting → Meeting
 in_order a b = record {
   occurs = a.occurs || b.occurs;

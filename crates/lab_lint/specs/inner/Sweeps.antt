@@ -7,11 +7,12 @@ use Rattle.typed_core.specs.declared.design.Node.{Node}
 use Rattle.lab_lint.specs.declared.order.Sweep.{Sweep}
 use Rattle.lab_lint.specs.declared.order.Sweep.TheVariants.{After, Past}
 
--- whether the `yes` and the `no` of a node are marked, where the node may be marked and may be one of the rule
+-- whether the `yes` of a node is marked, by whether the node is, and whether it tries the rule
 abbrev pub marks_yes : Sweep → (is_marked is_of_rule : Bool) → Bool
 marks_yes After is_marked is_of_rule = is_marked || is_of_rule
 marks_yes Past is_marked is_of_rule = is_marked && not is_of_rule
 
+-- whether the `no` of a node is marked, by whether the node is, and whether it tries the rule
 abbrev pub marks_no : Sweep → (is_marked is_of_rule : Bool) → Bool
 marks_no After is_marked is_of_rule = is_marked
 marks_no Past is_marked is_of_rule = is_marked && not is_of_rule
@@ -21,6 +22,7 @@ abbrev pub place_of : Next → (end : ℕ) → ℕ
 place_of (next.Node number) end = number
 place_of next.End end = end
 
+-- the marks with this place marked, where it is to be
 abbrev pub marked_if : Bool → (place : ℕ) → List Bool → List Bool
 marked_if is_so place marks = if is_so then slice_set marks place true else marks
 
