@@ -1,10 +1,21 @@
 //! Runs the lab on small sources. A line of standard input has the lab's words and, after `: `, a source, in which `/`
 //! ends a line. The line is written, then what the lab writes, with its status where the text doesn't say it. After `failing`
-//! each read fails in turn, and then each write.
+//! each read fails in turn, and then each write. After `watching N` a read gives at most N bytes, and it is said after which
+//! line the source is read on, where the lab's own lines show what was written before.
+//!
+//! `slow` and a source write the trials of its first cycle as `slow_trials` finds them, and whether `trials` finds the same.
+//! `journal N` and, after ` < `, a file say whether `why` has on N cycles the verdicts of the journal in the file.
 //!
 //! It has no definition of its own. The merge gate compares what it writes with `stdout`.
 #![tactic(auto)]
 
+mod journals;
+mod slow;
+mod watched;
+
+use crate::journals::run_journal;
+use crate::slow::run_slow;
+use crate::watched::run_watching;
 use host_fn::offered::BITS_OF_ONE;
 use host_fn::{HostFn, offered};
 use kw_bits::{HostKind, NoMemory};
@@ -17,14 +28,14 @@ use std::io::{ErrorKind, Write};
 // Reads and writes are short, so that none has a whole line.
 const PIECE: usize = 7;
 
-// How many bytes an answer may have.
-const ROOM: usize = 65_536;
+// How many bytes a source and an answer may have.
+pub(crate) const ROOM: usize = 65_536;
 
 // The exit status of a call, and what it wrote.
 #[derive(Debug, Drop)]
-struct Ended {
-    status: u8,
-    written: Vec<u8>,
+pub(crate) struct Ended {
+    pub(crate) status: u8,
+    pub(crate) written: Vec<u8>,
 }
 
 fn main(rt: HostRuntime) -> io::Result<()> {
@@ -38,8 +49,19 @@ fn main(rt: HostRuntime) -> io::Result<()> {
 
 // Runs the case of a line.
 fn run_line(rt: &HostRuntime, case: &str) -> io::Result<()> {
+    if let Some(journal) = case.strip_prefix("journal ") {
+        let (cycles, file) = journal.split_once(" < ").unwrap_or(("", ""));
+        return run_journal(rt, cycles, file);
+    }
     let (words, source) = case.split_once(": ").unwrap_or((case, ""));
     let source = source.replace(rt.alloc(), '/', "\n")?;
+    if words == "slow" {
+        return run_slow(rt, source.as_bytes());
+    }
+    if let Some(watching) = words.strip_prefix("watching ") {
+        let (piece, words) = watching.split_once(' ').unwrap_or(("", ""));
+        return run_watching(rt, words, source.as_bytes(), piece.parse().unwrap_or(PIECE));
+    }
     match words.strip_prefix("failing ") {
         Some(words) => run_failing(rt, words, source.as_bytes()),
         None => run_case(rt, words, source.as_bytes()),
@@ -51,14 +73,14 @@ fn run_case(rt: &HostRuntime, words: &str, source: &[u8]) -> io::Result<()> {
     let ended = run(rt.alloc(), words, source, &[], &[])?;
     let written = ended.written.as_slice();
     rt.stdout().write_all(written)?;
-    if ended.status != status_told(written) {
+    if ended.status != status_shown(written) {
         println!(rt; "status {}", ended.status)?;
     }
     Ok(())
 }
 
 // The status that goes with an answer.
-fn status_told(answer: &[u8]) -> u8 {
+fn status_shown(answer: &[u8]) -> u8 {
     if answer.starts_with(b"usage: ") {
         1
     } else if answer.starts_with(b"fault ") {
@@ -75,7 +97,7 @@ fn run_failing(rt: &HostRuntime, words: &str, source: &[u8]) -> io::Result<()> {
     for call in 1..u64::MAX {
         let ended = run(alloc, words, source, &[call], &[])?;
         print!(rt; "read {call}: ")?;
-        tell(rt, &ended, whole.written.as_slice())?;
+        write_ended(rt, &ended, whole.written.as_slice())?;
         if ended.status == whole.status {
             break;
         }
@@ -83,7 +105,7 @@ fn run_failing(rt: &HostRuntime, words: &str, source: &[u8]) -> io::Result<()> {
     for call in 1..u64::MAX {
         let ended = run(alloc, words, source, &[], &[call])?;
         print!(rt; "write {call}: ")?;
-        tell(rt, &ended, whole.written.as_slice())?;
+        write_ended(rt, &ended, whole.written.as_slice())?;
         if ended.status == whole.status {
             break;
         }
@@ -91,8 +113,8 @@ fn run_failing(rt: &HostRuntime, words: &str, source: &[u8]) -> io::Result<()> {
     Ok(())
 }
 
-// Tells the status of a run, and how many bytes of a whole answer it wrote.
-fn tell(rt: &HostRuntime, ended: &Ended, whole: &[u8]) -> io::Result<()> {
+// Writes the status of a run, and how many bytes of a whole answer it wrote.
+fn write_ended(rt: &HostRuntime, ended: &Ended, whole: &[u8]) -> io::Result<()> {
     let status = ended.status;
     let written = ended.written.as_slice();
     if whole.starts_with(written) {
@@ -108,7 +130,7 @@ fn tell(rt: &HostRuntime, ended: &Ended, whole: &[u8]) -> io::Result<()> {
 
 // Runs the lab over memory, where these calls of the source and of the sink fail.
 #[tactic(auto, unfolding(kw_bits::specs::Host::arity))]
-fn run(
+pub(crate) fn run(
     alloc: Global,
     words: &str,
     source: &[u8],
@@ -133,7 +155,7 @@ fn out_of_memory(_: NoMemory) -> io::Error {
 }
 
 // The words of a line, one space apart.
-fn words_of(alloc: Global, words: &str) -> io::Result<Vec<String>> {
+pub(crate) fn words_of(alloc: Global, words: &str) -> io::Result<Vec<String>> {
     let mut all = Vec::new(alloc);
     if !words.is_empty() {
         for word in words.split(' ') {

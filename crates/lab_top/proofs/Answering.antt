@@ -1,14 +1,17 @@
 -- The lab is a program whose answers and statuses agree, and each call has one answer.
-use Rattle.std.proofs.Common.{◌≡◌, ℕ, Bool, true, false, List, refl, ap}
+use Rattle.std.proofs.Common.{◌≡◌, ℕ, Bool, true, false, List, Option, refl, ap, subst}
 use Rattle.kw_base.specs.declared.fault.Fault.{Fault}
 use Rattle.kw_bits.specs.declared.host.HostSpec.{HostSpec}
+use Rattle.kw_io.specs.Portions.{TakesAll}
+use Rattle.aig_blast.specs.Aigs.{AigParts}
 use Rattle.front_end.specs.Program.{Agrees, status_of, text_in}
 use Rattle.front_end.specs.declared.answer.Answer.{Answer}
 use Rattle.front_end.specs.declared.answer.Answer.TheVariants as plain_answers
 use Rattle.front_end.specs.declared.status.Status.{Status}
 use Rattle.front_end.specs.declared.status.Status.TheVariants as plain_statuses
-use Rattle.front_end.specs.inner.Steps.{IsReply}
-use Rattle.front_end.proofs.Promises.{IsDefinite}
+use Rattle.front_end.specs.Streams.{Stream}
+use Rattle.front_end.specs.inner.Steps.{IsReply, Tells, TellsRead}
+use Rattle.front_end.proofs.Promises.{IsDefinite, tells-read}
 use Rattle.front_end.proofs.Told.{Embeds}
 use Rattle.lab_top.specs.Answer.{Answers, answered, ends, lab, plain, written}
 use Rattle.lab_top.specs.Words.{command_of}
@@ -18,7 +21,7 @@ use Rattle.lab_top.specs.declared.answer.LabAnswer.TheVariants.{Usage, Refused, 
 use Rattle.lab_top.specs.declared.status.LabStatus.{LabStatus}
 use Rattle.lab_top.specs.declared.status.LabStatus.TheVariants as statuses
 use Rattle.lab_top.specs.declared.words.Command.{Command}
-use Rattle.lab_top.specs.declared.words.Command.TheVariants.{Why, Profile, Waves, Verilog}
+use Rattle.lab_top.specs.declared.words.Command.TheVariants.{Why, Profile, Waves, Verilog, Lint, Obligation, Certify}
 use Rattle.lab_top.proofs.OneAnswer.{asked-like, asked-same}
 
 ends-agree : (a : LabAnswer) → ends (answered a) ≡ status_of (plain a)
@@ -48,24 +51,41 @@ is-written statuses.WriteFault text = refl
 is-written statuses.NoMemory text = refl
 is-written statuses.Failed text = refl
 
-pub agrees : Agrees lab
-agrees = record { ends = ends-agree; written = written-agree; is_written = is-written; refused = refused-agree; is_refused = λ fault. refl }
+pub agrees : (circuit : AigParts) → Agrees (lab circuit)
+agrees circuit = record { ends = ends-agree; written = written-agree; is_written = is-written; refused = refused-agree; is_refused = λ fault. refl }
 
-replies : (hosts : List HostSpec) (command : Command) (bytes : List ℕ) (a : LabAnswer) → Answers hosts command bytes a → IsReply (plain a)
-replies hosts (Why cycle cycles name) bytes Usage h = h
-replies hosts (Profile cycles is_strict) bytes Usage h = h
-replies hosts (Waves cycles) bytes Usage h = h
-replies hosts (Verilog ports) bytes Usage h = h
-replies hosts command bytes (Refused fault) h = tt
-replies hosts command bytes (Written text) h = tt
-replies hosts command bytes (Failed text) h = tt
+replies : (circuit : AigParts) (hosts : List HostSpec) (command : Command) (bytes : List ℕ) (a : LabAnswer)
+    → Answers circuit hosts command bytes a → IsReply (plain a)
+replies circuit hosts (Why cycle cycles name) bytes Usage h = h
+replies circuit hosts (Profile cycles is_strict) bytes Usage h = h
+replies circuit hosts (Waves cycles) bytes Usage h = h
+replies circuit hosts (Verilog ports) bytes Usage h = h
+replies circuit hosts Lint bytes Usage h = h
+replies circuit hosts (Obligation name) bytes Usage h = h
+replies circuit hosts (Certify name) bytes Usage h = h
+replies circuit hosts command bytes (Refused fault) h = tt
+replies circuit hosts command bytes (Written text) h = tt
+replies circuit hosts command bytes (Failed text) h = tt
 
-pub definite : IsDefinite lab
-definite = record {
-  status = λ hosts words bytes a b h k. (asked-like hosts (command_of words) bytes a b h k).status;
-  text = λ hosts words bytes a b one h k. ap (text_in lab) (asked-same hosts (command_of words) bytes a b one h k);
-  reply = replies;
+pub definite : (circuit : AigParts) → IsDefinite (lab circuit)
+definite circuit = record {
+  status = λ hosts words bytes a b h k. (asked-like circuit hosts (command_of words) bytes a b h k).status;
+  text = λ hosts words bytes a b one h k.
+      ap (text_in (lab circuit)) (asked-same circuit hosts (command_of words) bytes a b one h k);
+  reply = replies circuit;
 }
+
+-- what was told of all bytes of a source is told of the source
+pub read-told : (hosts : List HostSpec) (command : Command) (left new : Option (List ℕ)) (bytes seen : List ℕ)
+    (sink : Stream) (result : LabStatus) → TakesAll left new bytes → seen ≡ bytes
+    → ((circuit : AigParts) × Tells (lab circuit) (Answers circuit hosts command seen) sink result)
+    → (circuit : AigParts)
+    × TellsRead (lab circuit) (λ answer. IsReply (plain answer)) left (Answers circuit hosts command) sink result
+read-told hosts command left new bytes seen sink result took is (circuit, told) = (
+  circuit,
+  tells-read (lab circuit) (definite circuit) hosts command left new bytes sink result took
+      (subst (λ (all : List ℕ). Tells (lab circuit) (Answers circuit hosts command all) sink result) is told),
+)
 
 -- ---- what is shared by programs, in the lab
 
@@ -91,5 +111,5 @@ answered-if false (plain_answers.Written text) = refl
 answered-if true (plain_answers.Written text) = refl
 
 -- a text is a failure's, or isn't
-abbrev pub embeds : Bool → Embeds lab
-embeds fails = record { of = status_if fails; answer = answer_if fails; ends = ends-if fails; plain = plain-if fails; answered = answered-if fails }
+abbrev pub embeds : (circuit : AigParts) → Bool → Embeds (lab circuit)
+embeds circuit fails = record { of = status_if fails; answer = answer_if fails; ends = ends-if fails; plain = plain-if fails; answered = answered-if fails }

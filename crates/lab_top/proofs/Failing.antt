@@ -1,5 +1,6 @@
 -- Which calls of the lab fail, and that all is kept that is promised of a call.
 use Rattle.std.proofs.Common.{◌≡◌, ◌&&◌, ℕ, Bool, true, false, Option, Some, refl, sym, ap, ◌∙◌}
+use Rattle.aig_blast.specs.Aigs.{AigParts}
 use Rattle.front_end.specs.Calls as calls
 use Rattle.front_end.specs.declared.status.Status.{Status}
 use Rattle.front_end.specs.declared.status.Status.TheVariants as plain_statuses
@@ -45,5 +46,7 @@ fails-asked command asked result is fails failed =
     (found.0, is ∙ ap (λ (one : Command). Some one) found.1)
 
 -- a call that keeps what any program promises, and fails only so, keeps all that the lab promises
-pub kept-all : (untouched : Type 0) (c : Call) → calls.IsKept lab untouched c → FailsIfStrict c → IsKept untouched c
-kept-all untouched c any fails = record { any = any; fails = fails; takes = takes-spelled untouched c any }
+pub kept-all : (circuit : AigParts) (untouched : Type 0) (c : Call) → calls.IsKept (lab circuit) untouched c
+    → FailsIfStrict c → IsKept untouched c
+kept-all circuit untouched c any fails =
+    record { circuit = circuit; any = any; fails = fails; takes = takes-spelled circuit untouched c any }

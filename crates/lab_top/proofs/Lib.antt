@@ -6,9 +6,11 @@ pub mod NamedAlike
 pub mod LabRuns
 pub mod OneAnswer
 pub mod SomeAnswer
+pub mod Claiming
 pub mod Answering
+pub mod LintNotes
 pub mod Reading
-pub mod WhyTexts
+pub mod ByNumber
 pub mod Counts
 pub mod Telling
 pub mod Taking
@@ -16,4 +18,6 @@ pub mod Modules
 pub mod Failing
 pub mod WaveRuns
 pub mod WavesOfSources
+pub mod ThreeParts
 pub mod WaveTexts
+pub mod LintTexts

@@ -4,13 +4,18 @@ use Rattle.std.specs.Prelude.{MatchOption}
 use Rattle.std.proofs.lemmas.Bool.{false≢true}
 use Rattle.kw_base.specs.declared.fault.Fault.{Fault}
 use Rattle.kw_bits.specs.declared.host.HostSpec.{HostSpec}
+use Rattle.aig_blast.specs.Aigs.{AigParts}
 use Rattle.koika_check.specs.declared.checked.Checked.{Checked}
 use Rattle.one_rule.specs.Stimulus.{InputVectors, inputs_of}
 use Rattle.front_end.specs.Lengths.{HasNoRun, is_too_long_for}
 use Rattle.front_end.specs.Sources.{IsTooLong, IsUnspelled, Spells}
 use Rattle.front_end.specs.declared.answer.Answer.TheVariants as plain_answers
 use Rattle.front_end.proofs.OneSource.{long_or_no_run, long_or_spelled, long_or_unspelled, no_run-same, run_or_long, same_design, same_stimulus, spelled_or_not, unspelled-same}
+use Rattle.lab_certify.specs.Claims.{last_part}
+use Rattle.lab_certify.proofs.OneClaim.{certified-same, no_claim-same, obligation_or_not, obligations-same, refuted_or_not, uncertified-same}
 use Rattle.lab_top.specs.Answer.{Answers, IsLikeAnswer, answered, has_one_text, plain}
+use Rattle.lab_top.specs.Certify.{AnswersCertify, AnswersObligation}
+use Rattle.lab_top.specs.Lint.{NotesDesign}
 use Rattle.lab_top.specs.OfDesigns.{AnswersOf}
 use Rattle.lab_top.specs.Profile.{AnswersProfile, ShowsProfile}
 use Rattle.lab_top.specs.Runs.{asked_of, is_in_doubt, profile_in, waves_in, why_text}
@@ -21,7 +26,7 @@ use Rattle.lab_top.specs.declared.answer.LabAnswer.{LabAnswer}
 use Rattle.lab_top.specs.declared.answer.LabAnswer.TheVariants.{Usage, Refused, Written, Failed}
 use Rattle.lab_top.specs.declared.status.LabStatus.TheVariants as statuses
 use Rattle.lab_top.specs.declared.words.Command.{Command}
-use Rattle.lab_top.specs.declared.words.Command.TheVariants.{Why, Profile, Waves, Verilog}
+use Rattle.lab_top.specs.declared.words.Command.TheVariants.{Why, Profile, Waves, Verilog, Lint, Obligation, Certify}
 
 module _ (hosts : List HostSpec) (source : List ℕ) where
   -- two sources' designs and stimuli are one
@@ -164,6 +169,39 @@ module _ (hosts : List HostSpec) (source : List ℕ) where
       refusal = λ e. let bad : statuses.Done ≡ statuses.Refused = e in absurd cc;
     }
 
+  -- ---- obligation and certify
+
+  module _ (circuit : AigParts) (name : Option (List ℕ)) where
+    obligation-same : (a b : LabAnswer) → AnswersObligation circuit hosts name source a
+        → AnswersObligation circuit hosts name source b → a ≡ b
+    obligation-same Usage b h k = absurd h
+    obligation-same (Failed text) b h k = absurd h
+    obligation-same (Refused f) Usage h k = absurd k
+    obligation-same (Refused f) (Failed text) h k = absurd k
+    obligation-same (Refused f) (Refused g) h k =
+        ap (λ x. Refused x) (no_claim-same hosts source name (last_part source) f g h k)
+    obligation-same (Refused f) (Written text) h k = absurd (obligation_or_not hosts source name circuit f text h k)
+    obligation-same (Written text) Usage h k = absurd k
+    obligation-same (Written text) (Failed other) h k = absurd k
+    obligation-same (Written text) (Refused g) h k = absurd (obligation_or_not hosts source name circuit g text k h)
+    obligation-same (Written text) (Written other) h k =
+        ap (λ x. Written x) (obligations-same hosts source name circuit text other h k)
+
+    certify-same : (a b : LabAnswer) → AnswersCertify circuit hosts name source a
+        → AnswersCertify circuit hosts name source b → a ≡ b
+    certify-same Usage b h k = absurd h
+    certify-same (Failed text) b h k = absurd h
+    certify-same (Refused f) Usage h k = absurd k
+    certify-same (Refused f) (Failed text) h k = absurd k
+    certify-same (Refused f) (Refused g) h k =
+        ap (λ x. Refused x) (uncertified-same hosts source name circuit f g h k)
+    certify-same (Refused f) (Written text) h k = absurd (refuted_or_not hosts source name circuit f text h k)
+    certify-same (Written text) Usage h k = absurd k
+    certify-same (Written text) (Failed other) h k = absurd k
+    certify-same (Written text) (Refused g) h k = absurd (refuted_or_not hosts source name circuit g text k h)
+    certify-same (Written text) (Written other) h k =
+        ap (λ x. Written x) (certified-same hosts source name circuit text other h k)
+
 -- ---- words
 
 -- only how to use the lab is written as such
@@ -177,26 +215,41 @@ plain-usage (Failed text) e = let bad : plain_answers.Written text ≡ plain_ans
 same-like : (a b : LabAnswer) → a ≡ b → IsLikeAnswer a b
 same-like a b same = record { status = ap answered same; refusal = λ _. same }
 
-command-same : (hosts : List HostSpec) (command : Command) (source : List ℕ) (a b : LabAnswer) → has_one_text (Some command) ≡ true → Answers hosts command source a → Answers hosts command source b → a ≡ b
-command-same hosts (Why cycle cycles name) source a b one h k = why-same hosts source cycle cycles name a b h k
-command-same hosts (Profile cycles is_strict) source a b one h k = profile-same hosts source cycles is_strict a b h k
-command-same hosts (Waves cycles) source a b one h k = waves-same hosts source cycles a b h k
-command-same hosts (Verilog ports) source a b one h k = absurd (false≢true one)
+module _ (circuit : AigParts) (hosts : List HostSpec) where
+  command-same : (command : Command) (source : List ℕ) (a b : LabAnswer) → has_one_text (Some command) ≡ true
+      → Answers circuit hosts command source a → Answers circuit hosts command source b → a ≡ b
+  command-same (Why cycle cycles name) source a b one h k = why-same hosts source cycle cycles name a b h k
+  command-same (Profile cycles is_strict) source a b one h k = profile-same hosts source cycles is_strict a b h k
+  command-same (Waves cycles) source a b one h k = waves-same hosts source cycles a b h k
+  command-same (Verilog ports) source a b one h k = absurd (false≢true one)
+  command-same Lint source a b one h k = absurd (false≢true one)
+  command-same (Obligation name) source a b one h k = obligation-same hosts source circuit name a b h k
+  command-same (Certify name) source a b one h k = certify-same hosts source circuit name a b h k
 
-command-like : (hosts : List HostSpec) (command : Command) (source : List ℕ) (a b : LabAnswer) → Answers hosts command source a → Answers hosts command source b → IsLikeAnswer a b
-command-like hosts (Why cycle cycles name) source a b h k = same-like a b (why-same hosts source cycle cycles name a b h k)
-command-like hosts (Profile cycles is_strict) source a b h k = same-like a b (profile-same hosts source cycles is_strict a b h k)
-command-like hosts (Waves cycles) source a b h k = same-like a b (waves-same hosts source cycles a b h k)
-command-like hosts (Verilog ports) source a b h k = of-like hosts source (IsModuleOf ports) a b h k
+  command-like : (command : Command) (source : List ℕ) (a b : LabAnswer) → Answers circuit hosts command source a
+      → Answers circuit hosts command source b → IsLikeAnswer a b
+  command-like (Why cycle cycles name) source a b h k = same-like a b (why-same hosts source cycle cycles name a b h k)
+  command-like (Profile cycles is_strict) source a b h k =
+      same-like a b (profile-same hosts source cycles is_strict a b h k)
+  command-like (Waves cycles) source a b h k = same-like a b (waves-same hosts source cycles a b h k)
+  command-like (Verilog ports) source a b h k = of-like hosts source (IsModuleOf ports) a b h k
+  command-like Lint source a b h k = of-like hosts source (NotesDesign hosts source) a b h k
+  command-like (Obligation name) source a b h k = same-like a b (obligation-same hosts source circuit name a b h k)
+  command-like (Certify name) source a b h k = same-like a b (certify-same hosts source circuit name a b h k)
 
--- all answers are one, where there is one text
-pub asked-same : (hosts : List HostSpec) (command : Option Command) (source : List ℕ) (a b : LabAnswer) → has_one_text command ≡ true → MatchOption command (plain a ≡ plain_answers.Usage) (λ asked. Answers hosts asked source a)
-    → MatchOption command (plain b ≡ plain_answers.Usage) (λ asked. Answers hosts asked source b) → a ≡ b
-asked-same hosts None source a b one h k = plain-usage a h ∙ sym (plain-usage b k)
-asked-same hosts (Some command) source a b one h k = command-same hosts command source a b one h k
+  -- the answer is one to words that ask for this
+  abbrev Is : Option Command → List ℕ → LabAnswer → Type 0
+  Is command source answer =
+      MatchOption command (plain answer ≡ plain_answers.Usage) (λ asked. Answers circuit hosts asked source answer)
 
--- and all answers are alike
-pub asked-like : (hosts : List HostSpec) (command : Option Command) (source : List ℕ) (a b : LabAnswer) → MatchOption command (plain a ≡ plain_answers.Usage) (λ asked. Answers hosts asked source a)
-    → MatchOption command (plain b ≡ plain_answers.Usage) (λ asked. Answers hosts asked source b) → IsLikeAnswer a b
-asked-like hosts None source a b h k = same-like a b (plain-usage a h ∙ sym (plain-usage b k))
-asked-like hosts (Some command) source a b h k = command-like hosts command source a b h k
+  -- all answers are one, where there is one text
+  pub asked-same : (command : Option Command) (source : List ℕ) (a b : LabAnswer) → has_one_text command ≡ true
+      → Is command source a → Is command source b → a ≡ b
+  asked-same None source a b one h k = plain-usage a h ∙ sym (plain-usage b k)
+  asked-same (Some command) source a b one h k = command-same command source a b one h k
+
+  -- and all answers are alike
+  pub asked-like : (command : Option Command) (source : List ℕ) (a b : LabAnswer) → Is command source a
+      → Is command source b → IsLikeAnswer a b
+  asked-like None source a b h k = same-like a b (plain-usage a h ∙ sym (plain-usage b k))
+  asked-like (Some command) source a b h k = command-like command source a b h k

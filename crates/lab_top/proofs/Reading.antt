@@ -1,33 +1,53 @@
 -- What was read of a source is what the lab answers of it.
-use Rattle.std.proofs.Common.{◌≡◌, ◌<◌, ◌&&◌, ℕ, Bool, true, false, List, length, Option, Some, Result, Ok, Err, sym, ◌∙◌, inl, inr}
+use Rattle.std.proofs.Common.{◌≡◌, ◌<◌, ◌&&◌, ℕ, Bool, true, false, List, length, Option, Some, Result, Ok, Err, sym, ap, ◌∙◌, inl, inr}
 use Rattle.std.specs.Prelude.{IfOk}
 use Rattle.kw_base.specs.Fault.{IfFault}
 use Rattle.kw_base.specs.declared.fault.Refusal.{Refusal}
 use Rattle.kw_base.specs.declared.fault.Refusal.TheVariants as refusals
 use Rattle.kw_base.specs.declared.fault.Fault.{Fault}
 use Rattle.kw_bits.specs.declared.host.HostSpec.{HostSpec}
+use Rattle.aig_blast.specs.Aigs.{AigParts}
+use Rattle.typed_core.specs.Valid.{IsValid}
+use Rattle.typed_core.specs.declared.design.Parts.{Parts}
 use Rattle.koika_check.specs.declared.checked.Checked.{Checked}
+use Rattle.koika_lower.specs.Lowering.{IsLowered}
 use Rattle.one_rule.specs.Stimulus.{InputVectors, inputs_of}
 use Rattle.front_end.specs.Lengths.{is_too_long_for}
 use Rattle.front_end.specs.Sources.{IsUnspelled, Spells, fault_of_source}
 use Rattle.front_end.specs.inner.Steps.{Makes}
+use Rattle.front_end.proofs.OneSource.{same_outcome}
+use Rattle.lint_text.specs.Findings.{is_set, order_of}
+use Rattle.lint_text.specs.Notes.{notes}
+use Rattle.lint_text.specs.Text.{notes_text}
+use Rattle.lint_text.specs.declared.findings.Findings.{Findings}
+use Rattle.lint_text.specs.declared.places.Places.{Places}
+use Rattle.lab_certify.specs.Certificates.{IsUncertified, ShowsCertified, ShowsObligation}
+use Rattle.lab_certify.specs.Claims.{HasNoClaim, last_part}
 use Rattle.lab_top.specs.Answer.{Answers}
+use Rattle.lab_top.specs.Certify.{AnswersCertify, AnswersObligation}
+use Rattle.lab_top.specs.Lint.{AnswersLint}
 use Rattle.lab_top.specs.OfDesigns.{AnswersOf, TellsOf}
 use Rattle.lab_top.specs.Profile.{AnswersProfile, CountsRun}
 use Rattle.lab_top.specs.Runs.{asked_of, waves_in, why_text}
 use Rattle.lab_top.specs.Waves.{AnswersWaves}
 use Rattle.lab_top.specs.Why.{AnswersWhy, last_of}
-use Rattle.lab_top.specs.inner.Steps.{answer_if, longest_of, text_if}
+use Rattle.lab_top.specs.inner.Lint.{AreNoted, lint_text}
+use Rattle.lab_top.specs.inner.Steps.{answer_if, longest_of, no_circuit, text_if}
 use Rattle.lab_top.specs.declared.answer.LabAnswer.TheVariants.{Refused, Written}
 use Rattle.lab_top.specs.declared.words.Command.{Command}
-use Rattle.lab_top.specs.declared.words.Command.TheVariants.{Why, Profile, Waves, Verilog}
+use Rattle.lab_top.specs.declared.words.Command.TheVariants.{Why, Profile, Waves, Verilog, Lint, Obligation, Certify}
+use Rattle.lab_top.proofs.LintNotes.{complete}
 
 -- a source that is too long is refused by each command
-pub refuses-long : (hosts : List HostSpec) (command : Command) (fault : Fault) → fault ≡ fault_of_source 40 → (bytes : List ℕ) → longest_of command < length bytes → Answers hosts command bytes (Refused fault)
-refuses-long hosts (Why cycle cycles name) fault is bytes long = inl (inl (is, long))
-refuses-long hosts (Profile cycles is_strict) fault is bytes long = inl (is, long)
-refuses-long hosts (Waves cycles) fault is bytes long = inl (is, long)
-refuses-long hosts (Verilog ports) fault is bytes long = inl (is, long)
+pub refuses-long : (circuit : AigParts) (hosts : List HostSpec) (command : Command) (fault : Fault) → fault ≡ fault_of_source 40
+    → (bytes : List ℕ) → longest_of command < length bytes → Answers circuit hosts command bytes (Refused fault)
+refuses-long circuit hosts (Why cycle cycles name) fault is bytes long = inl (inl (is, long))
+refuses-long circuit hosts (Profile cycles is_strict) fault is bytes long = inl (is, long)
+refuses-long circuit hosts (Waves cycles) fault is bytes long = inl (is, long)
+refuses-long circuit hosts (Verilog ports) fault is bytes long = inl (is, long)
+refuses-long circuit hosts Lint fault is bytes long = inl (is, long)
+refuses-long circuit hosts (Obligation name) fault is bytes long = inl (inl (is, inl long))
+refuses-long circuit hosts (Certify name) fault is bytes long = inl (inl (inl (is, inl long)))
 
 -- the text of a run that was read
 pub shows-why : (hosts : List HostSpec) (cycle cycles : ℕ) (name : Option (List ℕ)) (source : List ℕ) (d : Checked) (s : InputVectors) (c n : ℕ) (only : Option ℕ) → Spells hosts source d s → c ≡ cycle → n ≡ cycles
@@ -65,3 +85,46 @@ pub makes-of : (IsTextOf : Checked → List ℕ → Type 0) (hosts : List HostSp
 makes-of IsTextOf hosts source (Ok text) told refused = told
 makes-of IsTextOf hosts source (Err (refusals.Fault fault)) told refused = inr refused
 makes-of IsTextOf hosts source (Err refusals.NoMemory) told refused = tt
+
+-- the notes of a design that was read
+pub shows-lint : (hosts : List HostSpec) (source : List ℕ) (d : Checked) (s : InputVectors) (design : Parts) (places : Places) (findings : Findings) → Spells hosts source d s → IsLowered d design → IsValid design
+    → AreNoted source d places findings → AnswersLint hosts source (Written (lint_text d places findings))
+shows-lint hosts source d s design places findings spelled lowered valid noted = record {
+  design = d;
+  stimulus = s;
+  spelled = spelled;
+  told = record {
+    spelled = record {
+      tree = noted.tree;
+      spelled = noted.spelled;
+      typed = same_outcome hosts source noted.tree spelled.spelled.tree noted.spelled spelled.spelled.spelled ∙ spelled.spelled.typed;
+    };
+    noted = record {
+      order = order_of findings;
+      is_order = noted.found.order;
+      is_never = is_set findings.never;
+      never = noted.never;
+      told = ap (λ (names : Places). notes_text d names (notes (order_of findings) (is_set findings.never) d)) noted.at;
+      complete = complete d (order_of findings) (is_set findings.never) design (record { typed = noted.found.typed; lowered = lowered; valid = valid }) noted.found.order;
+    };
+  };
+}
+
+module _ (hosts : List HostSpec) (name : Option (List ℕ)) (source : List ℕ) where
+  -- the clauses that were made for a source's claim, by some circuit
+  pub makes-obligation : (made : Result (List ℕ) Refusal)
+      → IfOk made (λ text. (circuit : AigParts) × ShowsObligation circuit hosts name source text)
+      → IfFault made (HasNoClaim hosts name (last_part source) source) → (circuit : AigParts)
+      × Makes (λ answer. AnswersObligation circuit hosts name source (answer_if false answer)) made
+  makes-obligation (Ok text) shows refused = shows
+  makes-obligation (Err (refusals.Fault fault)) shows refused = (no_circuit, refused)
+  makes-obligation (Err refusals.NoMemory) shows refused = (no_circuit, tt)
+
+  -- what was certified of it
+  pub makes-certified : (made : Result (List ℕ) Refusal)
+      → IfOk made (λ text. (circuit : AigParts) × ShowsCertified circuit hosts name source text)
+      → IfFault made (λ fault. (circuit : AigParts) × IsUncertified circuit hosts name source fault)
+      → (circuit : AigParts) × Makes (λ answer. AnswersCertify circuit hosts name source (answer_if false answer)) made
+  makes-certified (Ok text) shows refused = shows
+  makes-certified (Err (refusals.Fault fault)) shows refused = refused
+  makes-certified (Err refusals.NoMemory) shows refused = (no_circuit, tt)

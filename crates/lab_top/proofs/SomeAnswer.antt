@@ -4,6 +4,7 @@ use Rattle.std.specs.Prelude.{MatchOption}
 use Rattle.std.proofs.lemmas.Bool.{cases_lt, false≢true}
 use Rattle.kw_base.specs.declared.fault.Fault.{Fault}
 use Rattle.kw_bits.specs.declared.host.HostSpec.{HostSpec}
+use Rattle.aig_blast.specs.Aigs.{AigParts}
 use Rattle.koika_check.specs.declared.checked.Checked.{Checked}
 use Rattle.one_rule.specs.Stimulus.{InputVectors, inputs_of}
 use Rattle.front_end.specs.Lengths.{HasNoRun, is_too_long_for}
@@ -13,6 +14,7 @@ use Rattle.front_end.specs.declared.answer.Answer.TheVariants as plain_answers
 use Rattle.front_end.proofs.SomeSource.{spelled_or_fault}
 use Rattle.lab_top.specs.Answer.{Answers, is_answered, lab, plain}
 use Rattle.lab_top.specs.Calls.{takes_spelled}
+use Rattle.lab_top.specs.Lint.{NotesDesign}
 use Rattle.lab_top.specs.OfDesigns.{AnswersOf}
 use Rattle.lab_top.specs.Profile.{AnswersProfile, CountsRun}
 use Rattle.lab_top.specs.Runs.{asked_of, is_in_doubt, profile_in, waves_in, why_text}
@@ -23,7 +25,7 @@ use Rattle.lab_top.specs.Words.{command_of}
 use Rattle.lab_top.specs.declared.answer.LabAnswer.{LabAnswer}
 use Rattle.lab_top.specs.declared.answer.LabAnswer.TheVariants.{Usage, Refused, Written, Failed}
 use Rattle.lab_top.specs.declared.words.Command.{Command}
-use Rattle.lab_top.specs.declared.words.Command.TheVariants.{Why, Profile, Waves, Verilog}
+use Rattle.lab_top.specs.declared.words.Command.TheVariants.{Why, Profile, Waves, Verilog, Lint, Obligation, Certify}
 
 module _ (hosts : List HostSpec) (source : List ℕ) where
   -- the source has a run of that many cycles, or is refused
@@ -91,22 +93,34 @@ module _ (hosts : List HostSpec) (source : List ℕ) where
       (λ short. ⊎_elim (λ found. inr found) (λ wrong. inl (wrong.0, inr wrong.1)) (spelled_or_fault hosts source short))
       (cases_lt longest_source (length source))
 
-command_answer : (hosts : List HostSpec) (command : Command) (source : List ℕ) → is_answered (Some command) ≡ true → (answer : LabAnswer) × Answers hosts command source answer
-command_answer hosts (Why cycle cycles name) source one = why_answer hosts source cycle cycles name
-command_answer hosts (Profile cycles is_strict) source one = profile_answer hosts source cycles is_strict
-command_answer hosts (Waves cycles) source one = waves_answer hosts source cycles
-command_answer hosts (Verilog ports) source one = absurd (false≢true one)
+module _ (circuit : AigParts) (hosts : List HostSpec) where
+  command_answer : (command : Command) (source : List ℕ) → is_answered (Some command) ≡ true
+      → (answer : LabAnswer) × Answers circuit hosts command source answer
+  command_answer (Why cycle cycles name) source one = why_answer hosts source cycle cycles name
+  command_answer (Profile cycles is_strict) source one = profile_answer hosts source cycles is_strict
+  command_answer (Waves cycles) source one = waves_answer hosts source cycles
+  command_answer (Verilog ports) source one = absurd (false≢true one)
+  command_answer Lint source one = absurd (false≢true one)
+  command_answer (Obligation name) source one = absurd (false≢true one)
+  command_answer (Certify name) source one = absurd (false≢true one)
 
-asked_answer : (hosts : List HostSpec) (command : Option Command) (source : List ℕ) → is_answered command ≡ true → (answer : LabAnswer) × MatchOption command (plain answer ≡ plain_answers.Usage) (λ asked. Answers hosts asked source answer)
-asked_answer hosts None source one = (Usage, refl)
-asked_answer hosts (Some command) source one = command_answer hosts command source one
+  asked_answer : (command : Option Command) (source : List ℕ) → is_answered command ≡ true
+      → (answer : LabAnswer) × MatchOption command (plain answer ≡ plain_answers.Usage)
+      (λ asked. Answers circuit hosts asked source answer)
+  asked_answer None source one = (Usage, refl)
+  asked_answer (Some command) source one = command_answer command source one
 
-pub some_answer : (hosts : List HostSpec) (words : List (List ℕ)) (source : List ℕ) → is_answered (command_of words) ≡ true → (answer : LabAnswer) × IsAnswer lab hosts words source answer
-some_answer hosts words source one = asked_answer hosts (command_of words) source one
+  pub some_answer : (words : List (List ℕ)) (source : List ℕ) → is_answered (command_of words) ≡ true
+      → (answer : LabAnswer) × IsAnswer (lab circuit) hosts words source answer
+  some_answer words source one = asked_answer (command_of words) source one
 
--- a command that takes what spells a design and a stimulus refuses a source, or the source spells them
-pub refused_or_spelled : (hosts : List HostSpec) (command : Command) (source : List ℕ) → takes_spelled command ≡ true → ((f : Fault) × Answers hosts command source (Refused f)) ⊎ IsSpelled hosts source
-refused_or_spelled hosts (Why cycle cycles name) source takes = absurd (false≢true takes)
-refused_or_spelled hosts (Profile cycles is_strict) source takes = absurd (false≢true takes)
-refused_or_spelled hosts (Waves cycles) source takes = absurd (false≢true takes)
-refused_or_spelled hosts (Verilog ports) source takes = refused_or_told hosts source (IsModuleOf ports)
+  -- a command that takes what spells a design and a stimulus refuses a source, or the source spells them
+  pub refused_or_spelled : (command : Command) (source : List ℕ) → takes_spelled command ≡ true
+      → ((f : Fault) × Answers circuit hosts command source (Refused f)) ⊎ IsSpelled hosts source
+  refused_or_spelled (Why cycle cycles name) source takes = absurd (false≢true takes)
+  refused_or_spelled (Profile cycles is_strict) source takes = absurd (false≢true takes)
+  refused_or_spelled (Waves cycles) source takes = absurd (false≢true takes)
+  refused_or_spelled (Verilog ports) source takes = refused_or_told hosts source (IsModuleOf ports)
+  refused_or_spelled Lint source takes = refused_or_told hosts source (NotesDesign hosts source)
+  refused_or_spelled (Obligation name) source takes = absurd (false≢true takes)
+  refused_or_spelled (Certify name) source takes = absurd (false≢true takes)

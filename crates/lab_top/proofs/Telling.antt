@@ -2,6 +2,7 @@
 use Rattle.std.proofs.Common.{◌≡◌, List, ℕ, Bool, false, Result, sym, ap, subst, ◌∙◌}
 use Rattle.kw_base.specs.FaultLine.{line_of_fault}
 use Rattle.kw_base.specs.declared.fault.Fault.{Fault}
+use Rattle.aig_blast.specs.Aigs.{AigParts}
 use Rattle.front_end.specs.Streams.{Stream}
 use Rattle.front_end.specs.Told.{Told, status_by}
 use Rattle.front_end.specs.declared.answer.Answer.TheVariants as plain_answers
@@ -16,18 +17,18 @@ use Rattle.lab_top.specs.declared.answer.LabAnswer.TheVariants.{Usage, Refused}
 use Rattle.lab_top.specs.declared.status.LabStatus.{LabStatus}
 use Rattle.lab_top.proofs.Answering.{embeds}
 
-module _ (s : Stream) (r : Result (Unit {0}) Untold) (ended : Status) (result : LabStatus) where
+module _ (circuit : AigParts) (s : Stream) (r : Result (Unit {0}) Untold) (ended : Status) (result : LabStatus) where
   -- how to use the lab
-  pub usage-told : Told usage_line s r → ended ≡ status_by r plain_statuses.Usage → result ≡ status_if false ended → TellsOne lab Usage s result
+  pub usage-told : Told usage_line s r → ended ≡ status_by r plain_statuses.Usage → result ≡ status_if false ended → TellsOne (lab circuit) Usage s result
   usage-told told by of =
-      subst (TellsOne lab Usage s) (sym (of ∙ ap (status_if false) by)) (tells-one lab (embeds false) plain_answers.Usage s (status_by r plain_statuses.Usage) (told-usage usage_line s r told))
+      subst (TellsOne (lab circuit) Usage s) (sym (of ∙ ap (status_if false) by)) (tells-one (lab circuit) (embeds circuit false) plain_answers.Usage s (status_by r plain_statuses.Usage) (told-usage usage_line s r told))
 
   -- a fault
-  pub fault-told : (fault : Fault) → Told (line_of_fault fault) s r → ended ≡ status_by r plain_statuses.Refused → result ≡ status_if false ended → TellsOne lab (Refused fault) s result
+  pub fault-told : (fault : Fault) → Told (line_of_fault fault) s r → ended ≡ status_by r plain_statuses.Refused → result ≡ status_if false ended → TellsOne (lab circuit) (Refused fault) s result
   fault-told fault told by of =
-      subst (TellsOne lab (Refused fault) s) (sym (of ∙ ap (status_if false) by)) (tells-one lab (embeds false) (plain_answers.Refused fault) s (status_by r plain_statuses.Refused) (told-refused (line_of_fault fault) s r told))
+      subst (TellsOne (lab circuit) (Refused fault) s) (sym (of ∙ ap (status_if false) by)) (tells-one (lab circuit) (embeds circuit false) (plain_answers.Refused fault) s (status_by r plain_statuses.Refused) (told-refused (line_of_fault fault) s r told))
 
   -- a text, of a failure or not
-  pub text-told : (fails : Bool) (text : List ℕ) → Told text s r → ended ≡ status_by r plain_statuses.Done → result ≡ status_if fails ended → TellsOne lab (text_if fails text) s result
+  pub text-told : (fails : Bool) (text : List ℕ) → Told text s r → ended ≡ status_by r plain_statuses.Done → result ≡ status_if fails ended → TellsOne (lab circuit) (text_if fails text) s result
   text-told fails text told by of =
-      subst (TellsOne lab (text_if fails text) s) (sym (of ∙ ap (status_if fails) by)) (tells-one lab (embeds fails) (plain_answers.Written text) s (status_by r plain_statuses.Done) (told-done text s r told))
+      subst (TellsOne (lab circuit) (text_if fails text) s) (sym (of ∙ ap (status_if fails) by)) (tells-one (lab circuit) (embeds circuit fails) (plain_answers.Written text) s (status_by r plain_statuses.Done) (told-done text s r told))

@@ -6,6 +6,8 @@ pub mod Profile
 pub mod Waves
 pub mod OfDesigns
 pub mod Verilog
+pub mod Lint
+pub mod Certify
 pub mod Answer
 pub mod Step
 pub mod Calls

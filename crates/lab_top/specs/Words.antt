@@ -8,7 +8,7 @@ use Rattle.std.specs.Str.{bytes_eq}
 use Rattle.front_end.specs.NumberWords.{number_of_word}
 use Rattle.verilog_text.specs.declared.verilog.Options.{Options as Ports}
 use Rattle.lab_top.specs.declared.words.Command.{Command}
-use Rattle.lab_top.specs.declared.words.Command.TheVariants.{Why, Profile, Waves, Verilog}
+use Rattle.lab_top.specs.declared.words.Command.TheVariants.{Why, Profile, Waves, Verilog, Lint, Obligation, Certify}
 use Rattle.lab_top.specs.declared.words.Options.{Options}
 
 -- a name begins with an ASCII letter or `_`, and goes on with these and digits
@@ -149,6 +149,31 @@ verilog_by (Some ports) = Some (Verilog ports)
 abbrev pub verilog_of : List (List ℕ) → Option Command
 verilog_of words = verilog_by (fold with_port (Some no_ports) words)
 
+-- `lint`, which has no options
+abbrev pub lint_of : List (List ℕ) → Option Command
+lint_of [] = Some Lint
+lint_of words = None
+
+-- `obligation` with options: a rule may be named, and nothing else is given
+abbrev pub obligation_by : Option ℕ → Option ℕ → Option (List ℕ) → Bool → Option Command
+obligation_by None None rule false = Some (Obligation rule)
+obligation_by cycle cycles rule is_strict = None
+
+-- `obligation` with options
+abbrev pub obligation_of : Option Options → Option Command
+obligation_of None = None
+obligation_of (Some options) = obligation_by options.cycle options.cycles options.rule options.is_strict
+
+-- `certify` with options: a rule may be named, and nothing else is given
+abbrev pub certify_by : Option ℕ → Option ℕ → Option (List ℕ) → Bool → Option Command
+certify_by None None rule false = Some (Certify rule)
+certify_by cycle cycles rule is_strict = None
+
+-- `certify` with options
+abbrev pub certify_of : Option Options → Option Command
+certify_of None = None
+certify_of (Some options) = certify_by options.cycle options.cycles options.rule options.is_strict
+
 -- the command that words ask for; no other words are valid
 abbrev pub command_of : List (List ℕ) → Option Command
 command_of [] = None
@@ -157,4 +182,7 @@ command_of (word ∷ rest) =
     else if bytes_eq word (codes "profile") then profile_of (options_of rest)
     else if bytes_eq word (codes "waves") then waves_of (options_of rest)
     else if bytes_eq word (codes "verilog") then verilog_of rest
+    else if bytes_eq word (codes "lint") then lint_of rest
+    else if bytes_eq word (codes "obligation") then obligation_of (options_of rest)
+    else if bytes_eq word (codes "certify") then certify_of (options_of rest)
     else None

@@ -3,19 +3,24 @@
 ghost use Rattle.std.specs.Prelude.{◌≡◌, ◌≢◌, ◌≤◌, Some, [], false, true, IfSome, map, string_bytes, length};
 ghost use Rattle.kw_bits.specs.Faults.{Rose};
 ghost use Rattle.one_rule.specs.Hosts.{host_specs};
+ghost use Rattle.aig_blast.specs.Aigs.{AigParts};
 ghost use Rattle.front_end.specs.Calls.{call};
+ghost use Rattle.front_end.specs.Certified.{longest_certified};
 ghost use Rattle.front_end.specs.Sources.{longest_source};
 ghost use Rattle.front_end.specs.Streams.{stream};
 ghost use Rattle.front_end.specs.inner.Steps.{IsReply, Tells, TellsRead};
 ghost use Rattle.lab_top.specs.Answer.{Answers, ends, lab, plain};
 ghost use Rattle.lab_top.specs.Calls.{IsKept};
+ghost use Rattle.lab_top.specs.Certify.{AnswersCertify, AnswersObligation};
+ghost use Rattle.lab_top.specs.Lint.{AnswersLint};
 ghost use Rattle.lab_top.specs.Profile.{AnswersProfile};
 ghost use Rattle.lab_top.specs.Step.{IsSession, asks_step};
 ghost use Rattle.lab_top.specs.Verilog.{AnswersVerilog};
 ghost use Rattle.lab_top.specs.Waves.{AnswersWaves};
 ghost use Rattle.lab_top.specs.Why.{AnswersWhy};
-ghost use Rattle.lab_top.specs.inner.Steps.{FailsBy, HasSomeCycles, longest_of};
+ghost use Rattle.lab_top.specs.inner.Steps.{FailsBy, HasSomeCycles, longest_of, no_circuit};
 
+use crate::lint::LintRun;
 use crate::profile::count_source;
 use crate::status::LabStatus;
 use crate::verilog::verilog_source;
@@ -29,6 +34,7 @@ use host_fn::HostFn;
 use kw_base::fault_number;
 use kw_bits::{NoMemory, Text};
 use kw_io::{ReadAll, Sink, Source, read_all};
+use lab_certify::{certified_text, obligation_text};
 use std::alloc::Global;
 use stream_run::step;
 use verilog_text::Options as Ports;
@@ -101,8 +107,9 @@ fn answer_source<S: Source, K: Sink>(
     sink: &mut K,
 ) -> LabStatus
     requires { HasSomeCycles command }
-    ensures tells { TellsRead lab (λ answer. IsReply (plain answer)) (S.left source.old)
-        (Answers (host_specs hosts.now) command) (stream K.written K.faults sink.old sink.new) result }
+    ensures tells { (circuit : AigParts) × TellsRead (lab circuit) (λ answer. IsReply (plain answer))
+        (S.left source.old) (Answers circuit (host_specs hosts.now) command)
+        (stream K.written K.faults sink.old sink.new) result }
     ensures whole { ends result ≡ Status.Done → IfSome (S.left source.old) (λ _. S.left source.new ≡ Some []) }
     ensures read_fault { ends result ≡ Status.ReadFault → Rose (S.faults source.old) (S.faults source.new) }
     ensures fails { FailsBy command result }
@@ -129,7 +136,7 @@ fn answer_bytes<K: Sink>(
 ) -> LabStatus
     requires short { length source.now ≤ longest_of command }
     requires some { HasSomeCycles command }
-    ensures tells { Tells lab (Answers (host_specs hosts.now) command source.now)
+    ensures tells { (circuit : AigParts) × Tells (lab circuit) (Answers circuit (host_specs hosts.now) command source.now)
         (stream K.written K.faults sink.old sink.new) result }
     ensures fails { FailsBy command result }
 {
@@ -144,6 +151,9 @@ fn answer_bytes<K: Sink>(
         }
         Command::Waves { cycles } => draw(alloc, cycles, hosts, source, sink),
         Command::Verilog(ports) => translate(alloc, ports, hosts, source, sink),
+        Command::Lint => remark(alloc, hosts, source, sink),
+        Command::Obligation { rule } => write_obligation(alloc, rule, hosts, source, sink),
+        Command::Certify { rule } => write_certified(alloc, rule, hosts, source, sink),
     }
 }
 
@@ -160,7 +170,7 @@ fn explain<K: Sink>(
     requires short { length source.now ≤ longest_source }
     requires first { 1 ≤ cycle }
     requires some { 1 ≤ cycles }
-    ensures tells { Tells lab (AnswersWhy (host_specs hosts.now) cycle cycles name source.now)
+    ensures tells { Tells (lab no_circuit) (AnswersWhy (host_specs hosts.now) cycle cycles name source.now)
         (stream K.written K.faults sink.old sink.new) result }
     ensures fails { result ≢ LabStatus.Failed }
 {
@@ -180,7 +190,7 @@ fn profile<K: Sink>(
     sink: &mut K,
 ) -> LabStatus
     requires { length source.now ≤ longest_source }
-    ensures tells { Tells lab (AnswersProfile (host_specs hosts.now) cycles is_strict source.now)
+    ensures tells { Tells (lab no_circuit) (AnswersProfile (host_specs hosts.now) cycles is_strict source.now)
         (stream K.written K.faults sink.old sink.new) result }
     ensures fails { result ≡ LabStatus.Failed → is_strict ≡ true }
 {
@@ -202,7 +212,7 @@ fn draw<K: Sink>(
     sink: &mut K,
 ) -> LabStatus
     requires { length source.now ≤ longest_source }
-    ensures tells { Tells lab (AnswersWaves (host_specs hosts.now) cycles source.now)
+    ensures tells { Tells (lab no_circuit) (AnswersWaves (host_specs hosts.now) cycles source.now)
         (stream K.written K.faults sink.old sink.new) result }
     ensures fails { result ≢ LabStatus.Failed }
 {
@@ -221,10 +231,59 @@ fn translate<K: Sink>(
     sink: &mut K,
 ) -> LabStatus
     requires { length source.now ≤ longest_source }
-    ensures tells { Tells lab (AnswersVerilog (host_specs hosts.now) ports source.now)
+    ensures tells { Tells (lab no_circuit) (AnswersVerilog (host_specs hosts.now) ports source.now)
         (stream K.written K.faults sink.old sink.new) result }
     ensures fails { result ≢ LabStatus.Failed }
 {
     let made = verilog_source(alloc, ports, hosts, source);
     LabStatus::of(write_made(alloc, made, sink), false)
+}
+
+// Writes the clauses to be refuted for the source's claim, or the line of the source's fault.
+fn write_obligation<K: Sink>(
+    alloc: Global,
+    name: Option<Text>,
+    hosts: &[HostFn],
+    source: &[u8],
+    sink: &mut K,
+) -> LabStatus
+    requires { length source.now ≤ longest_certified }
+    ensures tells { (circuit : AigParts) × Tells (lab circuit)
+        (AnswersObligation circuit (host_specs hosts.now) name source.now)
+        (stream K.written K.faults sink.old sink.new) result }
+    ensures fails { result ≢ LabStatus.Failed }
+{
+    let made = obligation_text(alloc, hosts, name, source);
+    LabStatus::of(write_made(alloc, made, sink), false)
+}
+
+// Writes what is certified of the source's claim, or the line of the source's fault.
+fn write_certified<K: Sink>(
+    alloc: Global,
+    name: Option<Text>,
+    hosts: &[HostFn],
+    source: &[u8],
+    sink: &mut K,
+) -> LabStatus
+    requires { length source.now ≤ longest_certified }
+    ensures tells { (circuit : AigParts) × Tells (lab circuit)
+        (AnswersCertify circuit (host_specs hosts.now) name source.now)
+        (stream K.written K.faults sink.old sink.new) result }
+    ensures fails { result ≢ LabStatus.Failed }
+{
+    let made = certified_text(alloc, hosts, name, source);
+    LabStatus::of(write_made(alloc, made, sink), false)
+}
+
+// Writes what is noted of the source's design, or the line of the source's fault.
+fn remark<K: Sink>(alloc: Global, hosts: &[HostFn], source: &[u8], sink: &mut K) -> LabStatus
+    requires { length source.now ≤ longest_source }
+    ensures tells { Tells (lab no_circuit) (AnswersLint (host_specs hosts.now) source.now)
+        (stream K.written K.faults sink.old sink.new) result }
+    ensures fails { result ≢ LabStatus.Failed }
+{
+    match LintRun::read(alloc, hosts, source) {
+        Ok(run) => LabStatus::of(status_by(run.write(alloc, sink), Status::Done), false),
+        Err(refusal) => LabStatus::of(write_refusal(alloc, refusal, sink), false),
+    }
 }

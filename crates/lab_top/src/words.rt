@@ -4,6 +4,7 @@ ghost use Rattle.std.specs.Prelude.{◌≡◌, Some, fold, map, string_bytes, If
 ghost use Rattle.std.specs.List.{list_all};
 ghost use Rattle.lab_top.specs.inner.Steps.{HasSomeCycles, longest_of};
 ghost use Rattle.lab_top.specs.Words.{begins_name, command_of, continues_name, is_name, name_of, options_of};
+ghost use Rattle.lab_top.specs.Words.{certify_of, lint_of, obligation_of};
 ghost use Rattle.lab_top.specs.Words.{profile_of, verilog_by, verilog_of, waves_of, why_from, why_of};
 ghost use Rattle.lab_top.specs.Words.{with_cycle, with_cycles, with_name, with_rule, with_strict, with_word};
 ghost use Rattle.lab_top.specs.Words.{no_ports, with_port, with_registers, with_reset};
@@ -34,17 +35,33 @@ pub enum Command {
     },
     /// The Verilog module of a design, with these ports beside its inputs and rules.
     Verilog(Ports),
+    /// What is noted of a design before its first run.
+    Lint,
+    /// The clauses to be refuted for a claim: that each cycle keeps the source's invariant, and that under it no asserted
+    /// rule fires, or not the one that is named.
+    Obligation {
+        rule: Option<Text>,
+    },
+    /// What is certified of such a claim, by the source's refutation of these clauses.
+    Certify {
+        rule: Option<Text>,
+    },
 }
 
-// A source may have this many bytes.
+// A source may have this many bytes, and one with a certificate this many.
 const LONGEST_SOURCE: usize = 1_048_576;
+
+const LONGEST_CERTIFIED: usize = 268_435_456;
 
 impl Command {
     /// How many bytes the source of the command may have.
     pub(crate) fn longest_source(&self) -> usize
         ensures { result ≡ longest_of self.now }
     {
-        LONGEST_SOURCE
+        match self {
+            Command::Obligation { .. } | Command::Certify { .. } => LONGEST_CERTIFIED,
+            _ => LONGEST_SOURCE,
+        }
     }
 }
 
@@ -76,6 +93,13 @@ pub(crate) fn command_of(alloc: Global, words: &[String]) -> Result<Option<Comma
             Ok(waves_of(given(alloc, "waves", options)?))
         }
         [command, options @ ..] if command.as_str() == "verilog" => Ok(verilog_of(options)),
+        [command, options @ ..] if command.as_str() == "lint" => Ok(lint_of(options)),
+        [command, options @ ..] if command.as_str() == "obligation" => {
+            Ok(obligation_of(given(alloc, "obligation", options)?))
+        }
+        [command, options @ ..] if command.as_str() == "certify" => {
+            Ok(certify_of(given(alloc, "certify", options)?))
+        }
         _ => Ok(None),
     }
 }
@@ -157,6 +181,30 @@ fn waves_of(options: Option<Options>) -> Option<Command>
     })
 }
 
+// `obligation` with options, if they are valid: it takes a rule, and nothing else.
+fn obligation_of(options: Option<Options>) -> Option<Command>
+    ensures command { result ≡ obligation_of options }
+    ensures some { IfSome result HasSomeCycles }
+{
+    let options = options?;
+    if options.cycle.is_some() || options.cycles.is_some() || options.is_strict {
+        return None;
+    }
+    Some(Command::Obligation { rule: options.rule })
+}
+
+// `certify` with options, if they are valid: it takes a rule, and nothing else.
+fn certify_of(options: Option<Options>) -> Option<Command>
+    ensures command { result ≡ certify_of options }
+    ensures some { IfSome result HasSomeCycles }
+{
+    let options = options?;
+    if options.cycle.is_some() || options.cycles.is_some() || options.is_strict {
+        return None;
+    }
+    Some(Command::Certify { rule: options.rule })
+}
+
 // `verilog` with the ports that words ask for, if they are valid.
 fn verilog_of(words: &[String]) -> Option<Command>
     ensures command { result ≡ verilog_of (map string_bytes words.now) }
@@ -164,6 +212,17 @@ fn verilog_of(words: &[String]) -> Option<Command>
 {
     let ports = ports_of(words)?;
     Some(Command::Verilog(ports))
+}
+
+// `lint`, if no options are given.
+fn lint_of(words: &[String]) -> Option<Command>
+    ensures command { result ≡ lint_of (map string_bytes words.now) }
+    ensures some { IfSome result HasSomeCycles }
+{
+    match words {
+        [] => Some(Command::Lint),
+        _ => None,
+    }
 }
 
 // The ports that words ask for, each at most once.

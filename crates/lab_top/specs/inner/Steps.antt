@@ -1,5 +1,7 @@
 -- How the lab ends and answers where what is shared by programs ended and answered so.
-use Rattle.std.specs.Prelude.{◌≡◌, ℕ, ◌≤◌, ⊤, List, Bool, true, false}
+use Rattle.std.specs.Prelude.{◌≡◌, ℕ, ◌≤◌, ⊤, List, [], Bool, true, false}
+use Rattle.aig_blast.specs.Aigs.{AigParts}
+use Rattle.front_end.specs.Certified.{longest_certified}
 use Rattle.front_end.specs.Sources.{longest_source}
 use Rattle.front_end.specs.declared.answer.Answer.{Answer}
 use Rattle.front_end.specs.declared.answer.Answer.TheVariants as plain_answers
@@ -10,7 +12,7 @@ use Rattle.lab_top.specs.declared.answer.LabAnswer.TheVariants.{Usage, Refused, 
 use Rattle.lab_top.specs.declared.status.LabStatus.{LabStatus}
 use Rattle.lab_top.specs.declared.status.LabStatus.TheVariants as statuses
 use Rattle.lab_top.specs.declared.words.Command.{Command}
-use Rattle.lab_top.specs.declared.words.Command.TheVariants.{Why, Profile}
+use Rattle.lab_top.specs.declared.words.Command.TheVariants.{Why, Profile, Obligation, Certify}
 
 -- done, or a failure
 abbrev pub done_if : Bool → LabStatus
@@ -44,7 +46,13 @@ HasSomeCycles other = ⊤
 
 -- how many bytes the source of a command may have
 abbrev pub longest_of : Command → ℕ
-longest_of command = longest_source
+longest_of (Obligation name) = longest_certified
+longest_of (Certify name) = longest_certified
+longest_of other = longest_source
+
+-- a circuit of nothing, for commands whose answers rest on none
+abbrev pub no_circuit : AigParts
+no_circuit = record { inputs = []; latches = []; outputs = []; gates = [] }
 
 -- a call fails only by a strict profile
 abbrev pub FailsBy : Command → LabStatus → Type 0

@@ -7,6 +7,7 @@ use Rattle.front_end.proofs.Told.{tells-refusal}
 use Rattle.lab_top.specs.Answer.{lab}
 use Rattle.lab_top.specs.Runs.{waves_in}
 use Rattle.lab_top.specs.Waves.{AnswersWaves}
+use Rattle.lab_top.specs.inner.Steps.{no_circuit}
 use Rattle.lab_top.specs.declared.answer.LabAnswer.TheVariants.{Written}
 use Rattle.lab_top.proofs.Answering.{embeds}
 use Rattle.lab_top.proofs.Failing.{never-failed}
@@ -25,7 +26,7 @@ returns-in-Ok-clause-tells g c =
       Written text,
       shows-waves (host_specs c.args.hosts.now) c.args.cycles c.args.source.now d stimulus run.cycles is.run is.cycles
           run.within,
-      text-told _ c.write.result c.status_by.result _ false text c.write.ensures c.status_by.ensures c.of.ensures,
+      text-told no_circuit _ c.write.result c.status_by.result _ false text c.write.ensures c.status_by.ensures c.of.ensures,
     )
 
 pub returns-in-Ok-clause-fails : goal.returns-in-Ok-clause-fails
@@ -34,7 +35,7 @@ returns-in-Ok-clause-fails g c failed = never-failed c.status_by.result _ c.of.e
 pub returns-in-Err-clause-tells : goal.returns-in-Err-clause-tells
 returns-in-Err-clause-tells g c =
     rw c.of-in-Err.ensures
-    (tells-refusal lab (embeds false) (AnswersWaves (host_specs c.args.hosts.now) c.args.cycles c.args.source.now) _ _
+    (tells-refusal (lab no_circuit) (embeds no_circuit false) (AnswersWaves (host_specs c.args.hosts.now) c.args.cycles c.args.source.now) _ _
     c.in-Err.refusal (fault-of-part _ _ c.in-Err.refusal (λ fault h. inr h) c.in-Err.ensures.refused) c.write_refusal.ensures)
 
 pub returns-in-Err-clause-fails : goal.returns-in-Err-clause-fails

@@ -6,6 +6,7 @@ use Rattle.front_end.proofs.Told.{tells-refusal}
 use Rattle.lab_top.specs.Answer.{lab}
 use Rattle.lab_top.specs.Runs.{why_text}
 use Rattle.lab_top.specs.Why.{AnswersWhy}
+use Rattle.lab_top.specs.inner.Steps.{no_circuit}
 use Rattle.lab_top.specs.declared.answer.LabAnswer.TheVariants.{Written}
 use Rattle.lab_top.proofs.Answering.{embeds}
 use Rattle.lab_top.proofs.Failing.{never-failed}
@@ -21,7 +22,7 @@ returns-in-Ok-clause-tells g c =
     inl (
       Written text,
       shows-why (host_specs c.args.hosts.now) c.args.cycle c.args.cycles c.args.name c.args.source.now run.lowered.checked (arc_value run.lowered.stimulus) run.cycle run.cycles run.only is.run is.cycle is.cycles run.within is.asked,
-      text-told _ c.write.result c.status_by.result _ false text c.write.ensures c.status_by.ensures c.of.ensures,
+      text-told no_circuit _ c.write.result c.status_by.result _ false text c.write.ensures c.status_by.ensures c.of.ensures,
     )
 
 pub returns-in-Ok-clause-fails : goal.returns-in-Ok-clause-fails
@@ -30,7 +31,7 @@ returns-in-Ok-clause-fails g c failed = never-failed c.status_by.result _ c.of.e
 pub returns-in-Err-clause-tells : goal.returns-in-Err-clause-tells
 returns-in-Err-clause-tells g c =
     rw c.of-in-Err.ensures
-    (tells-refusal lab (embeds false) (AnswersWhy (host_specs c.args.hosts.now) c.args.cycle c.args.cycles c.args.name c.args.source.now) _ _ c.in-Err.refusal c.in-Err.ensures.refused c.write_refusal.ensures)
+    (tells-refusal (lab no_circuit) (embeds no_circuit false) (AnswersWhy (host_specs c.args.hosts.now) c.args.cycle c.args.cycles c.args.name c.args.source.now) _ _ c.in-Err.refusal c.in-Err.ensures.refused c.write_refusal.ensures)
 
 pub returns-in-Err-clause-fails : goal.returns-in-Err-clause-fails
 returns-in-Err-clause-fails g c failed = never-failed c.write_refusal.result _ c.of-in-Err.ensures failed

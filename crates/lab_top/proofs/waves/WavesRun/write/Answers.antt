@@ -6,7 +6,8 @@ use Rattle.wave_text.specs.Parts.{ending}
 use Rattle.wave_text.specs.Waves.{head}
 use Rattle.lab_top.proofs.WaveRuns.{taken-cycle}
 use Rattle.lab_top.proofs.WavesOfSources.{given, levels-of, registers-of}
-use Rattle.lab_top.proofs.WaveTexts.{told-dump, told-edges, told-head, told-no_ending}
+use Rattle.lab_top.proofs.ThreeParts.{told-first, told-last, told-middle, told-no_last}
+use Rattle.lab_top.proofs.WaveTexts.{whole}
 use Rattle.lab_top.proofs.waves.WavesRun.write.Goals as goal
 
 pub returns-in_err-head : goal.returns-in_err-head
@@ -26,7 +27,7 @@ returns-in_err-write_text g c =
     let p = err_from_is_err_and residual.result residual.ensures.1 in
     let text = c.as_slice.ensures ∙ c.in_ok-head.ensures ∙ ap head it.shape_fits in
     let one = told-as _ _ _ _ text c.in_err-write_text.ensures in
-    rw (p.1, p.2) (told-head it.checked (given it) c.args.self.now.cycles _ _ one)
+    rw (p.1, p.2) (told-first _ _ _ _ (whole it.checked (given it) c.args.self.now.cycles) _ _ one)
 
 pub returns-in_err-write_edges : goal.returns-in_err-write_edges
 returns-in_err-write_edges g c =
@@ -36,7 +37,7 @@ returns-in_err-write_edges g c =
     let text = c.as_slice.ensures ∙ c.in_ok-head.ensures ∙ ap head it.shape_fits in
     let one = told-as _ _ _ _ text c.in_ok-write_text.ensures in
     let two = c.in_err-write_edges.ensures.told in
-    rw (p.1, p.2) (told-edges it.checked (given it) c.args.self.now.cycles _ _ _ _ _ _ _ one _ two)
+    rw (p.1, p.2) (told-middle _ _ _ _ (whole it.checked (given it) c.args.self.now.cycles) _ _ _ _ _ _ _ one _ two)
 
 pub ending-requires-clause-fits : goal.ending-requires-clause-fits
 ending-requires-clause-fits g c =
@@ -62,7 +63,7 @@ returns-in_err-ending g c =
     let text = c.as_slice.ensures ∙ c.in_ok-head.ensures ∙ ap head it.shape_fits in
     let one = told-as _ _ _ _ text c.in_ok-write_text.ensures in
     let two = c.in_ok-write_edges.ensures.told in
-    rw (p.1, p.2) (told-no_ending it.checked (given it) c.args.self.now.cycles _ _ _ _ _ _ _ one _ two)
+    rw (p.1, p.2) (told-no_last _ _ _ _ (whole it.checked (given it) c.args.self.now.cycles) _ _ _ _ _ _ _ one _ two)
 
 pub returns : goal.returns
 returns g c =
@@ -75,4 +76,4 @@ returns g c =
     ∙ (λ i. ending (it.shape_fits i) (c.in_ok-write_edges.ensures.taken.rows i))
     in
     let three = told-as _ _ _ _ left c.write_text-2.ensures in
-    told-dump it.checked (given it) c.args.self.now.cycles _ _ _ _ _ _ _ one _ two _ _ _ three
+    told-last _ _ _ _ (whole it.checked (given it) c.args.self.now.cycles) _ _ _ _ _ _ _ one _ two _ _ _ three
