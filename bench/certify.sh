@@ -10,7 +10,6 @@
 # programs than the built ones may be named. It is run by hand. The status is 1 where a design isn't certified, a
 # literal or a hint takes more than 300 instructions, or `certify` takes longer than the solver on a refutation of 10 MB
 # or more.
-# It waits for the lab's commands `obligation` and `certify`, which aren't built yet.
 set -eu
 cd "$(dirname "$0")/.."
 . bench/cost.sh

@@ -5,7 +5,6 @@
 #     bench/conflicts.sh [LAB_PROGRAM]
 #
 # Graphviz's `dot` is needed for the picture itself; without it this part is left out, and it says so.
-# It waits for the lab's command `lint`, which isn't built yet.
 set -eu
 cd "$(dirname "$0")/.."
 

@@ -1,6 +1,6 @@
 #!/usr/bin/env bash
-# Tries what bin/explain says: for each row of docs/FAULTS.md, docs/AIGER.md, docs/JOURNAL.md and docs/LAB.md and each
-# example of docs/BTOR2.md, through a file and a pipe, standard output and the status are those of the program, and
+# Tries what bin/explain says: for each row of docs/FAULTS.md, docs/AIGER.md, docs/JOURNAL.md, docs/LAB.md and
+# docs/CERTIFICATES.md and each example of docs/BTOR2.md, through a file and a pipe, standard output and the status are those of the program, and
 # standard error has the fault, its meaning, its line with a caret, and advice. What hands write from habit has a hint. The
 # examples of `./koika --help` are run, and the stored designs with their stimulus in a file of its own. It takes other
 # programs than the built ones as its arguments, and is run by hand:
@@ -94,6 +94,22 @@ try_rows() {
 }
 try_rows "$program" docs/FAULTS.md docs/AIGER.md docs/JOURNAL.md
 try_rows "$lab" docs/LAB.md
+
+# The rows of faults of certificates: D stands for the design that is above the table, and ` / ` ends a line.
+try_certificates() {
+    local program=$lab design number place source
+    design=$(awk '/^sources `\/` ends a line, and D is$/ { on = 1; next } on && /^    / { print substr($0, 5) } on && /^\|/ { exit }' docs/CERTIFICATES.md)
+    while IFS=$'\t' read -r number place source; do
+        printf '%s\n%s\n' "$design" "${source#D / }" | sed 's| / |\n|g' >"$room/source"
+        try "fault $number at $place" certify
+    done < <(awk '
+        /^\| 9[1-5] \|/ {
+            split(substr($0, 3), cells, / \| /)
+            gsub(/`/, "", cells[4])
+            print cells[1] "\t" cells[5] "\t" cells[4]
+        }' docs/CERTIFICATES.md)
+}
+try_certificates
 
 # The examples of BTOR2.md, after the lines that the page has before its table.
 lines=$(awk '/^Each example follows|Each example follows the lines/ { on = 1; next } on && /^    / { print substr($0, 5) } on && /^and is refused/ { exit }' docs/BTOR2.md)

@@ -280,7 +280,8 @@ has "status 8" "$status $said" "8 koika: an assertion was violated"
 for words in "why:--cycle C" "why --cycle 0:counted from 1" "why --cycle 1 --rule 1a:no name" "profile:--cycles N" \
     "profile --cycles 1 --strict --strict:given twice" "profile --cycles 1 --summary:no option" "waves:--cycles N" \
     "waves --cycles 1 --strict:no option" "step --cycles 1:no option" \
-    "verilog --reset --reset:given twice" "verilog --cycles 1:no option" "lint:no command"; do
+    "verilog --reset --reset:given twice" "verilog --cycles 1:no option" "obligation --rule 1:no name" \
+    "certify --rule a --rule b:given twice" "certify --cycles 1:no option" "lint --cycles 1:no option"; do
     # shellcheck disable=SC2086
     said=$(KOIKA_EXPLAIN=1 WITH=1 "$tree/koika" ${words%:*} 2>&1 >/dev/null <"$room/empty" || true)
     has "${words%:*}" "$said" "${words#*:}"

@@ -8,7 +8,6 @@
 #
 # RUNS is the number of random designs, 2000 if it isn't given. The status is 1 if a note is missing or wrong, or where the
 # large design takes more than a second or 64 MB.
-# It waits for the lab's command `lint`, which isn't built yet.
 set -eu
 cd "$(dirname "$0")/.."
 export LC_ALL=C

@@ -30,6 +30,7 @@ if [ $# = 0 ]; then
         docs/AIGER.md docs/JOURNAL.md docs/THREADS.md docs/GLOSSARY.md docs/PERFORMANCE.md docs/ARCHITECTURE.md \
         docs/CONTRIBUTING.md docs/GATE.md docs/PROOFS.md docs/DEFINITIONS.md docs/DECISIONS.md editors/README.md \
         CHANGELOG.md
+    if command -v cadical >/dev/null; then set -- "$@" docs/CERTIFICATES.md; fi
 fi
 room=$(mktemp -d)
 trap 'rm -rf "$room"' EXIT

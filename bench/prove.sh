@@ -9,7 +9,6 @@
 # clauses, so another text by `obligation` asks for others. It needs ABC and cadical, and says where one is missing;
 # without them only the stored certificates are tried. Other programs than the built ones may be named. It is run by
 # hand.
-# It waits for the lab's commands `obligation` and `certify`, which aren't built yet.
 set -eu
 cd "$(dirname "$0")/.."
 

@@ -20,12 +20,12 @@ try() {
         echo "wrong: $* is completed by ${COMPREPLY[*]}, and not by $wanted"
     }
 }
-try "check print sim compile btorsim gen aiger aigsim recheck why profile waves step verilog help --help --version --unproved" koika ""
-try "check compile" koika c
+try "check print sim compile btorsim gen aiger aigsim recheck why profile waves step verilog lint obligation certify help --help --version --unproved" koika ""
+try "check compile certify" koika c
 try "aiger aigsim" koika a
 try "recheck" koika r
 try "--help --version --unproved" koika "--"
-try "check print sim compile btorsim gen aiger aigsim recheck why profile waves step verilog" koika help ""
+try "check print sim compile btorsim gen aiger aigsim recheck why profile waves step verilog lint obligation certify" koika help ""
 try "--cycles --summary --engine --workers --journal" koika sim "--"
 try "--summary --engine --workers --journal" koika sim --cycles 4 "--"
 try "--summary --engine --workers" koika sim --cycles 4 a.koika --journal "--"
@@ -44,6 +44,10 @@ try "a.koika b.koika parts" koika waves --cycles 4 ""
 try "waves" koika wa
 try "--reset --registers" koika verilog "--"
 try "--registers" koika verilog --reset "--"
+try "obligation" koika o
+try "--rule" koika obligation "--"
+try "--rule" koika certify a.koika "--"
+try "" koika certify --rule ""
 try "step" koika st
 try "" koika step "--"
 try "a.koika b.koika parts" koika step ""

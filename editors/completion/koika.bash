@@ -9,6 +9,7 @@ _koika_options() {
         why) echo "--cycle --cycles --rule" ;;
         profile) echo "--cycles --strict" ;;
         verilog) echo "--reset --registers" ;;
+        obligation | certify) echo "--rule" ;;
     esac
 }
 
@@ -33,7 +34,7 @@ _koika() {
     local word=${COMP_WORDS[COMP_CWORD]} before=${COMP_WORDS[COMP_CWORD - 1]} command=${COMP_WORDS[1]-} words='' given
     COMPREPLY=()
     if [ "$COMP_CWORD" = 1 ]; then
-        words="check print sim compile btorsim gen aiger aigsim recheck why profile waves step verilog help --help --version --unproved"
+        words="check print sim compile btorsim gen aiger aigsim recheck why profile waves step verilog lint obligation certify help --help --version --unproved"
     else
         case $command:$before in
             *:"<")
@@ -42,7 +43,7 @@ _koika() {
             *:--engine) words="plain circuit" ;;
             *:--cycle | *:--cycles | *:--workers | *:--rule) return ;;
             gen:*) words="1 10 100" ;;
-            help:*) words="check print sim compile btorsim gen aiger aigsim recheck why profile waves step verilog" ;;
+            help:*) words="check print sim compile btorsim gen aiger aigsim recheck why profile waves step verilog lint obligation certify" ;;
             *)
                 # each option is given once
                 words=" $(_koika_options "$command") "
