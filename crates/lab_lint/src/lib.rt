@@ -1,5 +1,5 @@
 //! Lint: which accesses of a rule's body may be refused, and which rules may fire before which, before the first run.
-//! No command uses it yet.
+//! The lab's command `lint` writes what is found, by `lint_text`.
 //!
 //! `specs/Occurrences.antt` says what occurs in the body of a rule and in which order, `specs/Refusals.antt` which accesses
 //! may be refused, `specs/Order.antt` which rules may fire before which, and `specs/Rules.antt` which rules may be refused at

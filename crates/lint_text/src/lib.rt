@@ -2,7 +2,7 @@
 //!
 //! `specs/Notes.antt` says which notes there are, `specs/Text.antt` how they are written, and `specs/Never.antt` which
 //! outputs of a circuit are never 1. `specs/Findings.antt` says what is found of a design first; the lists of accesses are
-//! those of `lab_lint`. No command uses it yet.
+//! those of `lab_lint`. The lab's command `lint` writes it.
 #![tactic(auto)]
 
 mod findings;
