@@ -1,11 +1,11 @@
 -- What a search finds in a list, and in one that goes on.
-use Rattle.std.proofs.Common.{◌≡◌, ℕ, zero, suc, ◌+◌, ◌<◌, ◌≤◌, ◌%◌, Bool, false, List, [], ◌∷◌, ◌++◌, length, Option, Some, None, refl, sym, ap, ◌∙◌, subst, arith, append-nil, append_assoc, take, filter, map, flat_map, not, ap₂, is_some}
+use Rattle.std.proofs.Common.{◌≡◌, ℕ, zero, suc, ◌+◌, ◌<◌, ◌≤◌, ◌%◌, Bool, false, List, [], ◌∷◌, ◌++◌, length, Option, Some, None, refl, sym, ap, ◌∙◌, subst, arith, append-nil, append_assoc, take, drop, filter, map, flat_map, not, ap₂, is_some}
 use Rattle.std.specs.Prelude.{slice_get, if◌then◌else◌}
 use Rattle.std.proofs.Math.Nat.{mod-eq_of_lt, mod-lt}
 use Rattle.std.proofs.lemmas.Option.{slice_get_within}
 use Rattle.std.specs.List.{enumerate_from, range_with_len}
 use Rattle.std.specs.Prelude.{◌==◌, ◌&&◌, slice_index_or}
-use Rattle.std.proofs.lemmas.List.{length-map}
+use Rattle.std.proofs.lemmas.List.{length-map, take-append-drop}
 use Rattle.std.proofs.lemmas.List.FromFn.{length-enumerate_from}
 use Rattle.std.proofs.Math.Seq.{take-suc}
 use Rattle.std.proofs.lemmas.Grind.{flat_map-append}
@@ -34,6 +34,13 @@ found_more (x ∷ xs) ys (suc n) c is = found_more xs ys n c is
 found_last : (xs : List Candidate) (c : Candidate) → slice_get (xs ++ c ∷ []) (length xs) ≡ Some c
 found_last [] c = refl
 found_last (x ∷ xs) c = found_last xs c
+
+-- what stands among the first pairs stands among all
+pub found_so_far : (p : Candidate → Bool) (all xs : List Candidate) (n number : ℕ) (c : Candidate) → slice_get (all ++ filter p (take n xs)) number ≡ Some c → slice_get (all ++ filter p xs) number ≡ Some c
+found_so_far p all xs n number c is =
+    subst (λ (ys : List Candidate). slice_get ys number ≡ Some c)
+    (append_assoc all (filter p (take n xs)) (filter p (drop n xs)) ∙ ap (λ (ys : List Candidate). all ++ ys) (sym (filter-append p (take n xs) (drop n xs)) ∙ ap (filter p) (take-append-drop n xs)))
+    (found_more (all ++ filter p (take n xs)) (filter p (drop n xs)) number c is)
 
 -- none is left to go past: the next one is it
 pub found_here : (xs : List Candidate) (n : ℕ) (c : Candidate) → length xs ≡ n → slice_get (xs ++ c ∷ []) n ≡ Some c

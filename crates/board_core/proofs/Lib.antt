@@ -7,6 +7,7 @@ pub mod Slots
 pub mod Sound
 pub mod Runs
 pub mod Finds
+pub mod Counts
 pub mod Left
 pub mod Heads
 pub mod Histories

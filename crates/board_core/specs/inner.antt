@@ -1,3 +1,4 @@
 -- What only contracts of private functions cite.
+pub mod Counts
 pub mod Kept
 pub mod Search

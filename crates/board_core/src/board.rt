@@ -20,8 +20,9 @@ ghost use Rattle.board_core.specs.Laws.{TellsFiring};
 ghost use Rattle.board_core.specs.Position.{IsPlain};
 ghost use Rattle.board_core.specs.declared.event.BoardAnswer.TheVariants as answer;
 
+use crate::counted::CountedBoard;
 use crate::event::{BoardAnswer, BoardEvent};
-use crate::kept::{KeptBoard, MAX_CYCLES, MAX_WINDOW};
+use crate::kept::{MAX_CYCLES, MAX_WINDOW};
 use attempt_log::{Attempt, JobAnswer, Settled, Submitted};
 use kw_bits::NoMemory;
 use one_rule::{Externs, Regs, Row, Rows, Stimulus};
@@ -33,7 +34,7 @@ use typed_core::Design;
 /// A board, to which one event is made at a time. It is at a plain position of its current cycle, whatever came.
 #[derive(Drop)]
 pub struct Core {
-    pub(crate) board: KeptBoard,
+    pub(crate) board: CountedBoard,
     pub(crate) externs: Arc<Externs>,
 }
 
@@ -78,7 +79,7 @@ impl Core {
         ensures opened { IfOk result (λ core. StandsFor core (opened core.opening)) }
         ensures plain { IfOk result (λ core. AtPlain core) }
     {
-        let board = KeptBoard::begin(alloc, design, stimulus, regs, from, to, window)?;
+        let board = CountedBoard::begin(alloc, design, stimulus, regs, from, to, window)?;
         board.is_plain();
         Ok(Core { board, externs })
     }
@@ -151,8 +152,8 @@ impl Core {
         Ok(answers)
     }
 
-    /// The job of candidate number `pick`, counted round; it looks at each node of the window's cycles at most twice,
-    /// and takes memory for a copy of the inputs and the registers alone.
+    /// The job of candidate number `pick`, counted round; it looks at each node of the current cycle and of the
+    /// candidate's cycle at most twice, and takes memory for a copy of the inputs and the registers alone.
     pub fn job(&self, pick: u64) -> Result<JobAnswer, NoMemory>
         ensures chooses { IfOk result (λ answer. (board : Board) → StandsFor self.now board → Chooses self.now.opening board pick answer) }
         ensures fits { IfOk result (λ told. IfJob told FitsItself) }

@@ -14,6 +14,7 @@ ghost use Rattle.typed_core.specs.Valid.{externs_of};
 ghost use Rattle.attempt_log.specs.declared.entry.Submitted.TheVariants as submitted;
 ghost use Rattle.board_core.specs.Board.{Board, judged, node_at, opened, setting_of, settle, stored, submit};
 ghost use Rattle.board_core.specs.Kept.{AtPlain, Does, StandsFor, is_still, slots_from};
+ghost use Rattle.board_core.specs.inner.Counts.{HasCounts};
 ghost use Rattle.board_core.specs.inner.Kept.{IsBlank, IsNear, comes_ahead, comes_late};
 ghost use Rattle.board_core.specs.Candidates.{IsJobOf, Picks, candidates, first, further, pair_at, pairs};
 ghost use Rattle.board_core.specs.inner.Search.{FindsIn, HasRule, comes_further};
@@ -201,6 +202,12 @@ impl KeptBoard {
         self.last
     }
 
+    pub(crate) fn cycle(&self) -> u32
+        ensures { result ≡ self.now.cycle }
+    {
+        self.cycle
+    }
+
     // Whether the attempt's cycle is closed, or its rule settled in it.
     fn is_late(&self, attempt: &Attempt) -> bool
         requires { attempt.now.rule < length self.now.opening.design.rules }
@@ -228,20 +235,21 @@ impl KeptBoard {
         self.slots[ahead].stands(attempt.rule() as usize)
     }
 
-    // The candidate of number `pick`, counted round.
-    pub(crate) fn choose(&self, pick: u64) -> Option<Candidate>
-        requires { self.now.cycle ≤ self.now.opening.to }
+    // The candidate of number `pick`, counted round, where the counts of later cycles are these.
+    pub(crate) fn choose(&self, pick: u64, counts: &[u64]) -> Option<Candidate>
+        requires within { self.now.cycle ≤ self.now.opening.to }
+        requires counts { HasCounts self.now counts.now }
         ensures picks { (board : Board) → StandsFor self.now board → Picks (candidates self.now.opening board) pick result }
         ensures rule { IfSome result (λ c. c.rule < length self.now.opening.design.rules) }
     {
         self.is_plain();
-        match self.search(pick) {
+        match self.search(pick, counts) {
             Search::Found(candidate) => Some(candidate),
             Search::Left(left) => {
                 if left == pick {
                     return None;
                 }
-                match self.search(pick % (pick - left)) {
+                match self.search(pick % (pick - left), counts) {
                     Search::Found(candidate) => Some(candidate),
                     Search::Left(_) => None,
                 }
@@ -276,15 +284,16 @@ impl KeptBoard {
     }
 
     // Searches for the candidate of a number.
-    fn search(&self, number: u64) -> Search
-        requires { self.now.cycle ≤ self.now.opening.to }
+    fn search(&self, number: u64, counts: &[u64]) -> Search
+        requires within { self.now.cycle ≤ self.now.opening.to }
+        requires counts { HasCounts self.now counts.now }
         ensures finds { FindsIn self.now (candidates self.now.opening) number result }
         ensures rule { HasRule self.now.opening.design.rules result }
     {
         let mut search = self.search_head(number);
         let cycles = self.window.min(self.last + 1 - self.cycle);
         for ahead in 0..cycles {
-            search = self.search_cycle(search, self.cycle + ahead);
+            search = self.pass_cycle(search, self.cycle + ahead, counts);
         }
         search
     }
@@ -303,7 +312,27 @@ impl KeptBoard {
         }
     }
 
-    // Goes past the further candidates of a cycle.
+    // Goes past the further candidates of a cycle: by their count, where it is kept and the candidate isn't among them.
+    fn pass_cycle(&self, search: Search, cycle: u32, counts: &[u64]) -> Search
+        requires counts { HasCounts self.now counts.now }
+        requires from { self.now.cycle ≤ cycle }
+        requires within { cycle < self.now.cycle + self.now.opening.window }
+        requires rule { HasRule self.now.opening.design.rules search }
+        ensures finds { (all : Board → List Candidate) (number : ℕ) → FindsIn self.now all number search → FindsIn self.now (λ board. all board ++ further self.now.opening board cycle) number result }
+        ensures rule { HasRule self.now.opening.design.rules result }
+    {
+        if let Search::Left(left) = search {
+            if self.cycle < cycle {
+                let count = counts[(cycle - self.cycle) as usize];
+                if count <= left {
+                    return Search::Left(left - count);
+                }
+            }
+        }
+        self.search_cycle(search, cycle)
+    }
+
+    // Goes past the further candidates of a cycle, node by node.
     fn search_cycle(&self, search: Search, cycle: u32) -> Search
         requires from { self.now.cycle ≤ cycle }
         requires within { cycle < self.now.cycle + self.now.opening.window }
@@ -311,11 +340,11 @@ impl KeptBoard {
         ensures finds { (all : Board → List Candidate) (number : ℕ) → FindsIn self.now all number search → FindsIn self.now (λ board. all board ++ further self.now.opening board cycle) number result }
         ensures rule { HasRule self.now.opening.design.rules result }
     {
-        if let Search::Found(found) = search {
-            return Search::Found(found);
-        }
         let mut search = search;
         for number in 0..self.design.nodes.len() {
+            if let Search::Found(found) = search {
+                return Search::Found(found);
+            }
             let pair = self.pair(cycle, number);
             search = search.past(pair, self.is_further(pair));
         }
@@ -453,7 +482,7 @@ fn always_fits(alloc: Global, stimulus: &Stimulus)
 }
 
 // What any attempt is: a trace of a rule that its design has.
-fn is_attempt(attempt: &Attempt)
+pub(crate) fn is_attempt(attempt: &Attempt)
     ensures { IsAttempt attempt.now }
 {
     let _rule = attempt.rule();

@@ -9,6 +9,7 @@ mod blank;
 mod board;
 mod boards;
 mod candidate;
+mod counted;
 mod event;
 mod kept;
 mod laws;

@@ -5,18 +5,16 @@ use Rattle.kw_bits.specs.BitVector.{BitVector}
 use Rattle.typed_core.specs.Same.{SameDesign}
 use Rattle.typed_core.specs.Widths.{HaveWidths, register_widths}
 use Rattle.typed_core.specs.declared.design.Parts.{Parts}
-use Rattle.one_rule.specs.Cycle.{flags}
 use Rattle.one_rule.specs.Stimulus.{InputVectors}
 use Rattle.one_rule.specs.declared.rows.Row.{Row}
 use Rattle.attempt_log.specs.Attempt.{Attempted}
 use Rattle.attempt_log.specs.Past as past
-use Rattle.attempt_log.specs.declared.entry.Settled.TheVariants as settled
 use Rattle.board_core.specs.Board.{Board}
 use Rattle.board_core.specs.Position.{IsOpening, IsPlain}
 use Rattle.board_core.specs.declared.blank.Blank.{Blank}
 use Rattle.board_core.specs.declared.kept.TheConstants.{MAX_CYCLES, MAX_WINDOW}
 use Rattle.board_core.specs.declared.place.Place.{Place}
-use Rattle.board_core.specs.Kept.{Kept, StandsFor, left}
+use Rattle.board_core.specs.Kept.{Kept, StandsFor}
 
 -- the registers that rows begin with
 abbrev pub opened_on : List Row → List BitVector

@@ -16,8 +16,8 @@ loop-ahead-preserved c =
           let f = further o board in
           let more : n + 1 ≡ suc n = omega arith in
           let cycle = ap (λ (k : ℕ). k + n) (ap (λ (k : Kept). k.cycle) c.self.view_is ∙ st.cycle) in
-          subst (λ (ys : List Candidate). Finds ys c.args.number c.search_cycle-search.result)
+          subst (λ (ys : List Candidate). Finds ys c.args.number c.pass_cycle-search.result)
           (cycles_on f (first o board) board.cycle n (n + 1) (c.self.inside.cycle + n) more cycle)
-          (c.search_cycle-search.ensures.finds (λ b. first o b ++ flat_map (further o b) (range_with_len b.cycle n)) c.args.number c.loop-ahead.invariant.finds board st);
-      rule = c.search_cycle-search.ensures.rule;
+          (c.pass_cycle-search.ensures.finds (λ b. first o b ++ flat_map (further o b) (range_with_len b.cycle n)) c.args.number c.loop-ahead.invariant.finds board st);
+      rule = c.pass_cycle-search.ensures.rule;
     }

@@ -1,11 +1,11 @@
 use Rattle.std.proofs.Common.{◌≡◌, ◌+◌, ◌≤◌, suc, Bool, List, [], ◌∷◌, ◌++◌, filter, length, take, ap, ◌∙◌, subst, arith}
 use Rattle.std.specs.Prelude.{if◌then◌else◌}
 use Rattle.typed_core.specs.declared.design.Parts.{Parts}
-use Rattle.board_core.specs.Candidates.{further, is_further, pairs}
+use Rattle.board_core.specs.Candidates.{is_further, pairs}
 use Rattle.board_core.specs.Kept.{Kept}
 use Rattle.board_core.specs.inner.Search.{Finds}
 use Rattle.board_core.specs.declared.candidate.Candidate.{Candidate}
-use Rattle.board_core.proofs.Finds.{all_pairs, found_more, further_on, further_same}
+use Rattle.board_core.proofs.Finds.{all_pairs, found_so_far, further_on, further_same}
 use Rattle.board_core.proofs.kept.KeptBoard.search_cycle.Goals as goal
 
 pub loop-number-preserved : goal.loop-number-preserved
@@ -36,4 +36,7 @@ returns-clause-finds c all number f board st =
     subst (λ (xs : List Candidate). Finds (all board ++ filter (is_further board) xs) number c.loop-number.search) (all_pairs c.args.cycle nodes n end) (c.loop-number.invariant.finds all number f board st)
 
 pub returns-in-Found-clause-finds : goal.returns-in-Found-clause-finds
-returns-in-Found-clause-finds c all number f board st = found_more (all board) (further c.args.self.now.opening board c.args.cycle) number c.in-Found.found (subst (Finds (all board) number) c.in-Found.is (f board st))
+returns-in-Found-clause-finds c all number f board st =
+    let xs = pairs c.args.self.now.opening.design.nodes c.args.cycle in
+    found_so_far (is_further board) (all board) xs c.loop-number.number number c.in-Found.found
+    (subst (Finds (all board ++ filter (is_further board) (take c.loop-number.number xs)) number) c.in-Found.is (c.loop-number.invariant.finds all number f board st))
