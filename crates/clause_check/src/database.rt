@@ -1,8 +1,9 @@
 //! Refutations: the clauses that are there, found by their numbers.
 //!
 //! Numbers ascend, so they are found by halving, however they are chosen. Most are found at the first look: a table has an
-//! index for each remainder of numbers, which may be that of another one. The literals of all clauses are one list. Once
-//! most of it is of dropped clauses, it is made anew without them.
+//! index for each remainder of numbers, which may be that of another one, and at least twice as many remainders as there
+//! are numbers. The literals of all clauses are one list. Once most of it is of dropped clauses, it is made anew without
+//! them.
 
 ghost use Rattle.std.specs.Prelude.{◌≡◌, ◌≢◌, ℕ, ◌+◌, ◌<◌, ◌≤◌, ◌||◌, [], length, slice_index, is_some, option_copied, IsTrue, IfOk, OnOk, IfSome, IfNone};
 ghost use Rattle.clause_check.specs.Refutations.{begin, is_empty, with_clause, without_clause};
@@ -44,7 +45,7 @@ impl Database {
         ensures progress { IfOk result (λ database. progress_of database ≡ begin []) }
         ensures variables { IfOk result (λ database. database.variables ≡ variables) }
     {
-        let guesses = vec![in alloc; 0; count.saturating_mul(2)]?;
+        let guesses = vec![in alloc; 0; count.saturating_mul(4)]?;
         Ok(Database {
             variables,
             numbers: Vec::new(alloc),
@@ -164,7 +165,7 @@ impl Database {
         ensures variables { self.new.variables ≡ self.old.variables }
     {
         let is_wasteful = self.dropped > self.literals.len() / 2 + self.numbers.len() / 2;
-        if is_wasteful || self.numbers.len() > self.guesses.len() {
+        if is_wasteful || self.numbers.len() > self.guesses.len() / 2 {
             let kept = self.kept(alloc)?;
             *self = kept;
         }

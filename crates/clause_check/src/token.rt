@@ -13,6 +13,9 @@ use crate::literal::Literal;
 /// The least number that is too great for a clause.
 const TOO_GREAT: u64 = 1 << 63;
 
+/// Ten times a number below this one is far from the greatest `u64`. Numbers in refutations are mostly below it.
+const SMALL: u64 = 1 << 31;
+
 /// What the first token is: a number and the bytes after it, the token that closes a list, or neither.
 #[derive(Clone, Copy)]
 pub(crate) enum NumberToken<'a> {
@@ -213,7 +216,11 @@ fn end_here(value: u64, rest: &[u8], byte: u8) -> Option<Digits<'_>>
 fn with_digit(value: u64, digit: u32) -> Option<u64>
     ensures { result ≡ tokens.if_small (value * 10 + digit) }
 {
-    let more = value.checked_mul(10)?.checked_add(u64::from(digit))?;
+    let more = if value < SMALL {
+        value * 10 + u64::from(digit)
+    } else {
+        value.checked_mul(10)?.checked_add(u64::from(digit))?
+    };
     if more < TOO_GREAT { Some(more) } else { None }
 }
 
