@@ -12,6 +12,7 @@ use Rattle.board_core.specs.contracts.board.Core as core
 use Rattle.board_lock.specs.contracts.journal.NotingSeat as noting
 use Rattle.board_lock.specs.contracts.lock.Lock as lock
 use Rattle.board_lock.specs.contracts.notes.Note as note
+use Rattle.board_lock.specs.contracts.room.Room as room
 use Rattle.board_lock.specs.contracts.seat.LockSeat as lock_seat
 use Rattle.board_lock.specs.contracts.view.View as view
 
@@ -27,6 +28,9 @@ seat_send l T s = search (lock_sync, place_send, sendable, crosses) depth 40 fit
 note_send : IsSend note.the_row
 note_send = search (sendable, crosses) depth 40 fits 8000
 
+room_send : IsSend room.the_row
+room_send = search (sendable, crosses) depth 40 fits 8000
+
 -- field by field, since the search for the whole of it breaks off
 pub noting_send : (l : _) (T : _) → IsSync T → IsSend (noting.the_row l T)
-noting_send l T s = declared_send (noting.the_type l T) (seat_send l T s, (Vec-send _ note_send, (search (sendable, crosses) depth 20, tt)))
+noting_send l T s = declared_send (noting.the_type l T) (seat_send l T s, (Vec-send _ note_send, (search (room_send, sendable, crosses) depth 20, (search (sendable, crosses) depth 20, tt))))

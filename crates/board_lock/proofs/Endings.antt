@@ -1,5 +1,5 @@
 -- What a job of a board tells its seat, and a board that a seat has seen past its last cycle.
-use Rattle.std.proofs.Common.{◌≡◌, ℕ, ◌<◌, Bool, true, false, refl, List, [], ◌∷◌, ◌++◌, Some, sym, ap, ◌∙◌, subst, arith, append_assoc}
+use Rattle.std.proofs.Common.{◌≡◌, ℕ, ◌<◌, Bool, true, false, true≢false, refl, List, [], ◌∷◌, ◌++◌, Some, sym, ap, ◌∙◌, subst, arith, append_assoc}
 use Rattle.std.specs.Prelude.{IfOk, OnErr, Ok, Err, Result}
 use Rattle.attempt_log.specs.declared.entry.Entry.{Entry}
 use Rattle.attempt_log.specs.declared.entry.Settled.{Settled}
@@ -52,17 +52,19 @@ sees_last v w e x = (x.0, ap (λ (l : List Entry). Some l) (x.1 ∙ append_assoc
 pub own_grown : (v w : View) (e : Entry) → Extends v e w → Grown (Some v.part.own) (e ∷ []) (Some w.part.own)
 own_grown v w e x = ap (λ (p : Part). Some p.own) x.3
 
--- a seat that counts that it was answered so has seen the board past its last cycle
-pub ended_so : (r : Result JobAnswer NoMemory) (start : Opening) (log : List Entry) (pick old new : ℕ) → (0 < old → IsPast start log) → IfOk r (Chooses start (board_after start log) pick) → IfOk r (λ a. new ≡ one_more_if (has_finished a) old) → OnErr r (new ≡ old)
-    → 0 < new → IsPast start log
-ended_so (Err e) start log pick old new was is up none pos = was (omega (arith, none, pos))
-ended_so (Ok (answer.Job j)) start log pick old new was is up none pos = was (omega (arith, up, pos))
-ended_so (Ok answer.Idle) start log pick old new was is up none pos = was (omega (arith, up, pos))
-ended_so (Ok answer.Finished) start log pick old new was is up none pos = is
+-- a board that is answered so is past its last cycle
+pub past_told : (r : Result JobAnswer NoMemory) (start : Opening) (log : List Entry) (pick : ℕ) → IfOk r (Chooses start (board_after start log) pick) → IfOk r (λ a. has_finished a ≡ true → IsPast start log)
+past_told (Err e) start log pick is = tt
+past_told (Ok (answer.Job j)) start log pick is = λ no. absurd (true≢false (sym no))
+past_told (Ok answer.Idle) start log pick is = λ no. absurd (true≢false (sym no))
+past_told (Ok answer.Finished) start log pick is = λ _. is
 
-pub asked_ended : (m q : Sat) (board : Kept) (pick old new : ℕ) (r : Result JobAnswer NoMemory) → Asked m board q → (0 < old → IsPast (o m) m.0.seen) → IfOk r (Chooses (o q) (board_after (o q) q.0.seen) pick) → IfOk r (λ a. new ≡ one_more_if (has_finished a) old) → OnErr r (new ≡ old)
-    → 0 < new → IsPast (o q) q.0.seen
-asked_ended m q board pick old new r a was is up none pos = ended_so r (o q) q.0.seen pick old new (λ some. stays_seen m.0 q.0 a.1 a.5 (was some)) is up none pos
+-- a seat that counts that it was answered so has seen the board past its last cycle
+pub ended_told : (r : Result JobAnswer NoMemory) (Past : Type 0) (old new : ℕ) → (0 < old → Past) → IfOk r (λ a. has_finished a ≡ true → Past) → IfOk r (λ a. new ≡ one_more_if (has_finished a) old) → OnErr r (new ≡ old) → 0 < new → Past
+ended_told (Err e) Past old new was is up none pos = was (omega (arith, none, pos))
+ended_told (Ok (answer.Job j)) Past old new was is up none pos = was (omega (arith, up, pos))
+ended_told (Ok answer.Idle) Past old new was is up none pos = was (omega (arith, up, pos))
+ended_told (Ok answer.Finished) Past old new was is up none pos = is refl
 
 pub settled_ended : (m q : Sat) (log : List Entry) (worker old new : ℕ) (r : Settled) → GoesOn (o m) log (settle_entry worker r) → q.0.seen ≡ log ++ settle_entry worker r ∷ [] → StartsWith q.0.seen m.0.seen → o q ≡ o m → (0 < old → IsPast (o m) m.0.seen) → new ≡ one_more_if (is_finished r) old
     → 0 < new → IsPast (o q) q.0.seen

@@ -13,3 +13,4 @@ pub mod Works
 pub mod Ranges
 pub mod Nexts
 pub mod Noting
+pub mod Rooms

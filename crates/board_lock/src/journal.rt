@@ -1,20 +1,25 @@
 //! Workers that note their entries, so that the whole history comes out of them.
-ghost use Rattle.std.specs.Prelude.{◌≡◌, ◌⊎◌, ◌∷◌, ◌++◌, ◌≤◌, ◌<◌, ◌^◌, ℕ, List, true, [], None, Some, IfOk, IfSome, OnOk, OnErr, length, slice_index_or};
+ghost use Rattle.std.specs.Prelude.{◌≡◌, ◌⊎◌, ◌∷◌, ◌++◌, ◌+◌, ◌≤◌, ◌<◌, ◌^◌, ℕ, List, true, [], None, Some, Ok, IfOk, IfSome, IsSome, OnOk, OnErr, length, slice_index_or};
+ghost use Rattle.std.specs.Arc.{arc_value};
 ghost use Rattle.std.specs.Vec.{vec_capacity};
 ghost use Rattle.atomic_table.specs.Seated.{TableId};
 ghost use Rattle.kw_bits.specs.Faults.{one_more};
 ghost use Rattle.attempt_log.specs.Attempt.{Attempted};
 ghost use Rattle.attempt_log.specs.Entries.{settle_entry, submit_entry, taken_of, worker_of};
-ghost use Rattle.attempt_log.specs.Seats.{IfJob, SeesMore, gives_job, has_finished, last_task, one_more_if};
-ghost use Rattle.attempt_log.specs.Setting.{FitsItself, IsFor, attempt_of};
+ghost use Rattle.attempt_log.specs.Seats.{Grown, HandsBack, IfJob, SeesLast, SeesMore, gives_job, has_finished, is_finished, last_task, one_more_if};
+ghost use Rattle.attempt_log.specs.Setting.{FitsItself, IsFor, attempt_of, task_of};
 ghost use Rattle.attempt_log.specs.declared.entry.Entry.{Entry};
 ghost use Rattle.attempt_log.specs.declared.seat.Task.{Task};
+ghost use Rattle.typed_core.specs.Same.{SameDesign};
+ghost use Rattle.typed_core.specs.declared.design.Parts.{Parts};
+ghost use Rattle.board_lock.specs.declared.room.Room.{Room};
 ghost use Rattle.board_core.specs.Board.{Opening, setting_of};
 ghost use Rattle.board_core.specs.Candidates.{Chooses};
 ghost use Rattle.board_core.specs.History.{board_after};
 ghost use Rattle.board_lock.specs.Histories.{Each, InRun, IsCycle, StartsWith};
 ghost use Rattle.board_lock.specs.Plays.{IsOutside, IsOwner};
 ghost use Rattle.board_lock.specs.inner.Receipts.{IsCopy, Noting, receipts};
+ghost use Rattle.board_lock.specs.inner.Rooms.{FitsTask, HasRoom, IsRoom, RoomOf};
 ghost use Rattle.board_lock.specs.Work.{HaveWorked, Worked};
 ghost use Rattle.board_lock.specs.inner.Work.{HasWorked, IsReady, JoinedFrom, SplitBy};
 
@@ -22,27 +27,29 @@ use crate::board::{LockBoard, work_seats};
 use crate::call::Receipt;
 use crate::lock::{Lock, Place};
 use crate::notes::{Note, Notes, merged};
+use crate::room::{Copied, Room};
 use crate::seat::LockSeat;
 use attempt_log::{Attempt, BoardSeat, Entry, Gate, JobAnswer, Report, Settled, Submitted};
 use kw_bits::{NoMemory, Sequence};
-use one_rule::Inputs;
 use spec_worker::Working;
 use std::alloc::Global;
 use std::marker::Brand;
 use std::sync::Wait;
 use std::thread::Threads;
-use typed_core::{Events, Outcome};
 
 /// A worker's seat that notes its entries.
 #[derive(Drop)]
 pub struct NotingSeat<'a, R> {
     seat: LockSeat<'a, R>,
     pub(crate) notes: Vec<Note>,
+    // Room for the attempt at the last job, until that is submitted.
+    room: Option<Room>,
     // Whether there was memory for each note.
     whole: bool,
     ghost noted: { whole ≡ true → notes.items ≡ receipts seat.number seat.place.me.0.seen },
     ghost tasked: { (t : Task) → seat.counts.task ≡ Some t → IsCycle seat.place.me.0.opened t.cycle },
     ghost in_run: { Each (InRun seat.place.me.0.opened) seat.place.me.0.part.own },
+    ghost roomy: { FitsTask (setting_of seat.place.me.0.opened) seat.counts.task room },
 }
 
 impl<'a, R> NotingSeat<'a, R> {
@@ -57,13 +64,14 @@ impl<'a, R> NotingSeat<'a, R> {
         NotingSeat {
             seat,
             notes: Vec::new(alloc),
+            room: None,
             whole: true,
         }
     }
 }
 
 impl<'a, R: Wait> NotingSeat<'a, R> {
-    // A job of the board, where there is memory for the notes of a turn.
+    // A job of the board, where there is memory for the notes of a turn: also for what the attempt at it does.
     fn ask(&mut self, pick: u64) -> Result<JobAnswer, NoMemory>
         ensures number { self.new.seat.number ≡ self.old.seat.number }
         ensures same { self.new.seat.place.table_id ≡ self.old.seat.place.table_id }
@@ -80,12 +88,19 @@ impl<'a, R: Wait> NotingSeat<'a, R> {
         ensures fits { IfOk result (λ told. IfJob told FitsItself) }
         ensures is_for { IfOk result (λ told. IfJob told (λ job. IsFor (setting_of self.old.seat.place.me.0.opened) (attempt_of job))) }
         ensures seen { StartsWith self.new.seat.place.me.0.seen self.old.seat.place.me.0.seen }
+        ensures room { IfOk result (λ told. IfJob told (λ job. HasRoom self.new.room (arc_value job.design) job.rule job.inputs)) }
+        ensures notes { OnOk result (length self.new.notes.items + 2 ≤ vec_capacity self.new.notes) }
+        ensures whole { self.new.whole ≡ self.old.whole }
     {
         if self.notes.reserve(2).is_err() {
             self.seat.count_none();
             return Err(NoMemory);
         }
-        self.seat.ask(pick)
+        let answer = self.seat.look(pick);
+        let (answer, room) = with_room(*self.notes.allocator(), answer);
+        self.room = room;
+        self.seat.count(&answer);
+        answer
     }
 }
 
@@ -132,18 +147,50 @@ impl<'a, R: Wait> BoardSeat for NotingSeat<'a, R> {
         ensures seen { SeesMore (Some self.old.seat.place.me.0.seen) (Some self.new.seat.place.me.0.seen) }
         ensures own { Some self.new.seat.place.me.0.part.own ≡ Some self.old.seat.place.me.0.part.own }
         ensures answer { let v = self.new.seat.place.me.0 in IfOk result (Chooses v.opened (board_after v.opened v.seen) pick) }
+        ensures room { IfOk result (λ told. IfJob told (λ job. HasRoom self.new.room (arc_value job.design) job.rule job.inputs)) }
+        ensures notes { OnOk result (length self.new.notes.items + 2 ≤ vec_capacity self.new.notes) }
+        ensures whole { self.new.whole ≡ self.old.whole }
     {
         self.ask(pick)
     }
 
-    fn submit(&mut self, attempt: Attempt) -> Submitted {
-        let copy = Copied::of(*self.notes.allocator(), &attempt);
+    // Besides what the trait says: where `job` left room for it, the attempt is noted, and there is memory for one note
+    // more.
+    fn submit(&mut self, attempt: Attempt) -> Submitted
+        requires task { self.old.seat.counts.task ≡ Some (task_of attempt) }
+        requires is_for { IfSome (Some (setting_of self.old.seat.place.me.0.opened)) (λ s. IsFor s attempt) }
+        ensures number { self.new.seat.number ≡ self.old.seat.number }
+        ensures origin { ◌≡◌ {A = TableId × List Entry × Opening} (self.new.seat.place.table_id, self.new.seat.place.me.0.part.base, self.new.seat.place.me.0.opened) (self.old.seat.place.table_id, self.old.seat.place.me.0.part.base, self.old.seat.place.me.0.opened) }
+        ensures setting { Some (setting_of self.new.seat.place.me.0.opened) ≡ Some (setting_of self.old.seat.place.me.0.opened) }
+        ensures task { self.new.seat.counts.task ≡ self.old.seat.counts.task }
+        ensures asked { self.new.seat.counts.asked ≡ self.old.seat.counts.asked }
+        ensures given { self.new.seat.counts.given ≡ self.old.seat.counts.given }
+        ensures ended { self.new.seat.counts.ended ≡ self.old.seat.counts.ended }
+        ensures handed_back { HandsBack attempt result }
+        ensures seen { SeesLast (Some self.old.seat.place.me.0.seen) (submit_entry self.old.seat.number attempt result) (Some self.new.seat.place.me.0.seen) }
+        ensures own { Grown (Some self.old.seat.place.me.0.part.own) (submit_entry self.old.seat.number attempt result ∷ []) (Some self.new.seat.place.me.0.part.own) }
+        ensures kept { IsSome self.old.room → length self.old.notes.items + 2 ≤ vec_capacity self.old.notes → (self.new.whole ≡ self.old.whole) × (length self.new.notes.items + 1 ≤ vec_capacity self.new.notes) }
+    {
+        let room = self.room.take();
+        let copy = copied(room, &attempt);
         let (answer, receipt) = self.seat.submit(attempt);
         self.whole = note_submit(&mut self.notes, self.whole, receipt, copy, &answer);
         answer
     }
 
-    fn settle(&mut self) -> Settled {
+    // Besides what the trait says: where there is memory for it, it is noted.
+    fn settle(&mut self) -> Settled
+        ensures number { self.new.seat.number ≡ self.old.seat.number }
+        ensures origin { ◌≡◌ {A = TableId × List Entry × Opening} (self.new.seat.place.table_id, self.new.seat.place.me.0.part.base, self.new.seat.place.me.0.opened) (self.old.seat.place.table_id, self.old.seat.place.me.0.part.base, self.old.seat.place.me.0.opened) }
+        ensures setting { Some (setting_of self.new.seat.place.me.0.opened) ≡ Some (setting_of self.old.seat.place.me.0.opened) }
+        ensures task { self.new.seat.counts.task ≡ self.old.seat.counts.task }
+        ensures asked { self.new.seat.counts.asked ≡ self.old.seat.counts.asked }
+        ensures given { self.new.seat.counts.given ≡ self.old.seat.counts.given }
+        ensures ended { self.new.seat.counts.ended ≡ one_more_if (is_finished result) self.old.seat.counts.ended }
+        ensures seen { SeesLast (Some self.old.seat.place.me.0.seen) (settle_entry self.old.seat.number result) (Some self.new.seat.place.me.0.seen) }
+        ensures own { Grown (Some self.old.seat.place.me.0.part.own) (settle_entry self.old.seat.number result ∷ []) (Some self.new.seat.place.me.0.part.own) }
+        ensures kept { length self.old.notes.items + 1 ≤ vec_capacity self.old.notes → self.new.whole ≡ self.old.whole }
+    {
         let (answer, receipt) = self.seat.settle();
         self.whole = note_settle(&mut self.notes, self.whole, receipt, &answer);
         answer
@@ -154,27 +201,35 @@ impl<'a, R: Wait> BoardSeat for NotingSeat<'a, R> {
     }
 }
 
-// What an entry keeps of an attempt.
-#[derive(Drop)]
-pub(crate) struct Copied {
-    pub(crate) cycle: u32,
-    pub(crate) rule: u32,
-    pub(crate) inputs: Inputs,
-    pub(crate) events: Events,
-    pub(crate) outcome: Outcome,
+// An answer with room for the attempt at its job. Where there is no memory for that, the answer is lost.
+fn with_room(
+    alloc: Global,
+    answer: Result<JobAnswer, NoMemory>,
+) -> (Result<JobAnswer, NoMemory>, Option<Room>)
+    requires { IfOk answer (λ told. IfJob told FitsItself) }
+    ensures same { IfOk result.0 (λ told. answer ≡ Ok told) }
+    ensures room { RoomOf result.0 result.1 }
+{
+    match answer {
+        Ok(JobAnswer::Job(job)) => match Room::new(alloc, &job) {
+            Ok(room) => (Ok(JobAnswer::Job(job)), Some(room)),
+            Err(NoMemory) => (Err(NoMemory), None),
+        },
+        Ok(JobAnswer::Idle) => (Ok(JobAnswer::Idle), None),
+        Ok(JobAnswer::Finished) => (Ok(JobAnswer::Finished), None),
+        Err(NoMemory) => (Err(NoMemory), None),
+    }
 }
 
-impl Copied {
-    fn of(alloc: Global, attempt: &Attempt) -> Result<Copied, NoMemory>
-        ensures { IfOk result (IsCopy attempt.now) }
-    {
-        Ok(Copied {
-            cycle: attempt.cycle(),
-            rule: attempt.rule(),
-            inputs: Sequence::from_slice(alloc, attempt.inputs().as_slice())?,
-            events: Sequence::from_slice(alloc, attempt.events().as_slice())?,
-            outcome: *attempt.outcome(),
-        })
+// What an entry keeps of an attempt, where there is room for it.
+fn copied(room: Option<Room>, attempt: &Attempt) -> Option<Copied>
+    requires { (r : Room) → room ≡ Some r → (d : Parts) × SameDesign attempt.now.design d × IsRoom d attempt.now.rule attempt.now.inputs r }
+    ensures copy { IfSome result (IsCopy attempt.now) }
+    ensures some { IsSome room → IsSome result }
+{
+    match room {
+        Some(room) => Some(room.filled(attempt)),
+        None => None,
     }
 }
 
@@ -183,14 +238,15 @@ fn note_submit(
     notes: &mut Vec<Note>,
     whole: bool,
     receipt: Receipt,
-    copy: Result<Copied, NoMemory>,
+    copy: Option<Copied>,
     answer: &Submitted,
 ) -> bool
-    ensures { (a : Attempted) → IfOk copy (IsCopy a) → result ≡ true → (whole ≡ true) × (notes.new.items ≡ notes.old.items ++ record { place = receipt.place; entry = submit_entry receipt.worker a answer.now } ∷ []) }
+    ensures noted { (a : Attempted) → IfSome copy (IsCopy a) → result ≡ true → (whole ≡ true) × (notes.new.items ≡ notes.old.items ++ record { place = receipt.place; entry = submit_entry receipt.worker a answer.now } ∷ []) }
+    ensures kept { IsSome copy → length notes.old.items + 2 ≤ vec_capacity notes.old → (result ≡ whole) × (length notes.new.items + 1 ≤ vec_capacity notes.new) }
 {
     match copy {
-        Err(NoMemory) => false,
-        Ok(
+        None => false,
+        Some(
             Copied {
                 cycle,
                 rule,
@@ -215,7 +271,8 @@ fn note_submit(
 
 // Notes a settle after the others, and returns whether all were noted.
 fn note_settle(notes: &mut Vec<Note>, whole: bool, receipt: Receipt, answer: &Settled) -> bool
-    ensures { result ≡ true → (whole ≡ true) × (notes.new.items ≡ notes.old.items ++ record { place = receipt.place; entry = settle_entry receipt.worker answer.now } ∷ []) }
+    ensures noted { result ≡ true → (whole ≡ true) × (notes.new.items ≡ notes.old.items ++ record { place = receipt.place; entry = settle_entry receipt.worker answer.now } ∷ []) }
+    ensures kept { length notes.old.items + 1 ≤ vec_capacity notes.old → result ≡ whole }
 {
     let entry = Entry::Settle {
         worker: receipt.worker,
@@ -226,7 +283,10 @@ fn note_settle(notes: &mut Vec<Note>, whole: bool, receipt: Receipt, answer: &Se
 
 // Notes an entry after the others, and returns whether all were noted.
 fn note(notes: &mut Vec<Note>, whole: bool, place: u64, entry: Entry) -> bool
-    ensures { result ≡ true → (whole ≡ true) × (notes.new.items ≡ notes.old.items ++ record { place = place; entry = entry } ∷ []) }
+    ensures noted { result ≡ true → (whole ≡ true) × (notes.new.items ≡ notes.old.items ++ record { place = place; entry = entry } ∷ []) }
+    ensures kept { length notes.old.items + 1 ≤ vec_capacity notes.old → result ≡ whole }
+    ensures longer { length notes.new.items ≤ length notes.old.items + 1 }
+    ensures room { vec_capacity notes.old ≤ vec_capacity notes.new }
 {
     notes.push(Note { place, entry }).is_ok() && whole
 }
@@ -361,8 +421,10 @@ fn join_noting<R>(
         let NotingSeat {
             seat,
             notes,
+            room,
             whole: noted,
         } = noting;
+        drop(room);
         whole = is_whole(whole, noted);
         lock.join::<Brand>(place, seat.into_place());
         reports.push_reserved(report);

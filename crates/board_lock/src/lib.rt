@@ -1,9 +1,10 @@
 //! A board behind a lock of atomic words, with a receipt for each event.
 //!
 //! The lock has three words, the ticket, the number that is served and the count, and one slot with the board.
-//! `specs/Rule.antt` says what always holds of it: there is one legal history, and the board that is at home is the one
-//! that it leaves. `specs/Plays.antt` says what each step shows, `specs/Work.antt` what is known after workers have
-//! worked. `specs/Notes.antt` and `specs/Receipts.antt` say what workers note of a history.
+//! `specs/inner/Rule.antt` says what always holds of it: there is one legal history, and the board that is at home is
+//! the one that it leaves. `specs/Plays.antt` says what each step shows, `specs/Work.antt` what is known after workers
+//! have worked. `specs/inner/Notes.antt` and `specs/inner/Receipts.antt` say what workers note of a history, and
+//! `specs/inner/Rooms.antt` which memory they take for that before they act.
 #![tactic(auto)]
 
 mod board;
@@ -12,6 +13,7 @@ mod journal;
 mod lock;
 mod notes;
 mod plays;
+mod room;
 mod seat;
 mod view;
 

@@ -1,5 +1,5 @@
 //! A worker's seat at a board behind the lock.
-ghost use Rattle.std.specs.Prelude.{◌≡◌, ◌<◌, ◌-◌, ◌%◌, ◌^◌, [], ◌∷◌, None, Some, List, length, IfOk, IfSome, OnErr};
+ghost use Rattle.std.specs.Prelude.{◌≡◌, ◌<◌, ◌-◌, ◌%◌, ◌^◌, true, [], ◌∷◌, None, Some, List, length, IfOk, IfSome, OnErr};
 ghost use Rattle.kw_bits.specs.Faults.{one_more};
 ghost use Rattle.atomic_table.specs.Seated.{TableId};
 ghost use Rattle.attempt_log.specs.declared.entry.Entry.{Entry};
@@ -71,6 +71,22 @@ impl<'a, R> LockSeat<'a, R> {
         self.place
     }
 
+    // Counts a job with this answer.
+    pub(crate) fn count(&mut self, answer: &Result<JobAnswer, NoMemory>)
+        requires { IfOk answer.now (λ told. has_finished told ≡ true → IsPast self.old.place.me.0.opened self.old.place.me.0.seen) }
+        ensures place { self.new.place ≡ self.old.place }
+        ensures number { self.new.number ≡ self.old.number }
+        ensures task { IfOk answer.now (λ told. self.new.counts.task ≡ last_task self.old.counts.task told) }
+        ensures same_task { OnErr answer.now (self.new.counts.task ≡ self.old.counts.task) }
+        ensures asked { self.new.counts.asked ≡ one_more self.old.counts.asked }
+        ensures given { IfOk answer.now (λ told. self.new.counts.given ≡ one_more_if (gives_job told) self.old.counts.given) }
+        ensures none_given { OnErr answer.now (self.new.counts.given ≡ self.old.counts.given) }
+        ensures ended { IfOk answer.now (λ told. self.new.counts.ended ≡ one_more_if (has_finished told) self.old.counts.ended) }
+        ensures none_ended { OnErr answer.now (self.new.counts.ended ≡ self.old.counts.ended) }
+    {
+        self.counts.count(answer);
+    }
+
     // Counts a job that it had no memory to ask for.
     pub(crate) fn count_none(&mut self)
         ensures place { self.new.place ≡ self.old.place }
@@ -80,7 +96,7 @@ impl<'a, R> LockSeat<'a, R> {
         ensures given { self.new.counts.given ≡ self.old.counts.given }
         ensures ended { self.new.counts.ended ≡ self.old.counts.ended }
     {
-        self.counts.count(&Err(NoMemory));
+        self.count(&Err(NoMemory));
     }
 }
 
@@ -105,10 +121,27 @@ impl<'a, R: Wait> LockSeat<'a, R> {
         ensures part { self.new.place.me.0.part ≡ self.old.place.me.0.part }
         ensures opened { self.new.place.me.0.opened ≡ self.old.place.me.0.opened }
     {
+        let answer = self.look(pick);
+        self.count(&answer);
+        answer
+    }
+
+    // The same without a count.
+    pub(crate) fn look(&mut self, pick: u64) -> Result<JobAnswer, NoMemory>
+        ensures answer { let v = self.new.place.me.0 in IfOk result (Chooses v.opened (board_after v.opened v.seen) pick) }
+        ensures prefix { StartsWith self.new.place.me.0.seen self.old.place.me.0.seen }
+        ensures legal { IsLegal self.new.place.me.0.opened self.new.place.me.0.seen }
+        ensures fits { IfOk result (λ told. IfJob told FitsItself) }
+        ensures is_for { IfOk result (λ told. IfJob told (λ job. IsFor (setting_of self.old.place.me.0.opened) (attempt_of job))) }
+        ensures kept { self.new.counts ≡ self.old.counts }
+        ensures same { self.new.place.table_id ≡ self.old.place.table_id }
+        ensures number { self.new.number ≡ self.old.number }
+        ensures part { self.new.place.me.0.part ≡ self.old.place.me.0.part }
+        ensures opened { self.new.place.me.0.opened ≡ self.old.place.me.0.opened }
+    {
         let board = self.lock.enter(self.rt, &mut self.place);
         let answer = board.job(pick);
         self.lock.leave_seen(&mut self.place, board);
-        self.counts.count(&answer);
         answer
     }
 

@@ -12,7 +12,8 @@ use crate::board::{LockBoard, split_all, work_seats};
 use crate::journal::{Noted, NotingSeat, split_noting};
 use crate::seat::LockSeat;
 use attempt_log::{
-    Attempt, Ending, Entry, Gate, JobAnswer, NoGate, Report, Settled, Submitted, Taken, attempt,
+    Attempt, BoardSeat, Ending, Entry, Gate, JobAnswer, NoGate, Report, Settled, Submitted, Taken,
+    attempt,
 };
 use board_core::{Board, Core};
 use kw_bits::{Bits, NoMemory, Sequence, Text};
@@ -235,6 +236,15 @@ fn hand_in<R: Wait>(
     assert_eq!(rt; (receipt.worker, receipt.place), (0, place));
 }
 
+// Each seat has its place's number.
+fn expect_numbers<S: BoardSeat>(rt: &impl Abort, seats: &[Working<S>]) {
+    let mut number = 0u32;
+    for working in seats {
+        assert_eq!(rt; working.seat.worker(), number);
+        number = number.wrapping_add(1);
+    }
+}
+
 // The second rule's attempt is stored, another is one too many, and the first rule is waited for.
 fn submit_twice_and_settle<R: Wait>(
     rt: &impl Abort,
@@ -261,6 +271,7 @@ fn receipts_count_up(rt: HostRuntime) -> Result<(), Fail> {
         workers,
     } = LockBoard::begin(rt.alloc(), core, 1)?;
     let mut seats = split_all(&rt, rt.alloc(), &lock, &mut place, workers)?;
+    expect_numbers(&rt, seats.as_slice());
     submit_twice_and_settle(&rt, rt.alloc(), &mut seats[0].seat)?;
     Ok(())
 }
@@ -468,6 +479,7 @@ fn four_workers_receive<R: Abort + Threads + Wait + Sync>(
         workers,
     } = LockBoard::begin(alloc, core, 4)?;
     let mut seats = split_noting(rt, alloc, &lock, &mut place, workers)?;
+    expect_numbers(rt, seats.as_slice());
     let gate = Holding {
         turned: AtomicU64::new(0),
     };

@@ -2,7 +2,7 @@
 use Rattle.std.specs.Prelude.{◌≡◌, ℕ, ◌%◌, ◌^◌, ◌≤◌, ◌+◌, List, [], ◌∷◌, ◌++◌, map, length}
 use Rattle.attempt_log.specs.Attempt.{Attempted}
 use Rattle.attempt_log.specs.declared.entry.Entry.{Entry}
-use Rattle.board_lock.specs.declared.journal.Copied.{Copied}
+use Rattle.board_lock.specs.declared.room.Copied.{Copied}
 use Rattle.board_lock.specs.declared.notes.Note.{Note}
 use Rattle.board_lock.specs.inner.Notes.{noted}
 use Rattle.board_core.specs.Board.{Opening}
