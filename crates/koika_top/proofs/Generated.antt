@@ -25,11 +25,11 @@ use Rattle.koika_top.proofs.SamePrinted.{printed-of, terminals_text}
 -- ---- tokens
 
 -- tokens in a row, each with its blank after it
-abbrev text_of : List Terminal → List ℕ
+abbrev pub text_of : List Terminal → List ℕ
 text_of [] = []
 text_of (t ∷ ts) = written t ++ (blank_after t ∷ text_of ts)
 
-text-append : (ts us : List Terminal) → text_of (ts ++ us) ≡ text_of ts ++ text_of us
+pub text-append : (ts us : List Terminal) → text_of (ts ++ us) ≡ text_of ts ++ text_of us
 text-append [] us = refl
 text-append (t ∷ ts) us = ap (λ (rest : List ℕ). written t ++ (blank_after t ∷ rest)) (text-append ts us) ∙ sym (append_assoc (written t) (blank_after t ∷ text_of ts) (text_of us))
 
@@ -78,15 +78,15 @@ text-is : (ts : List Terminal) → text_shown ts ≡ text_of ts
 text-is [] = refl
 text-is (t ∷ ts) = ap₂ (λ (a b : List ℕ). a ++ (blank_after t ∷ b)) (shown-is t) (text-is ts)
 
-abbrev leaves_of : List Terminal → List Leaf
+abbrev pub leaves_of : List Terminal → List Leaf
 leaves_of [] = []
 leaves_of (t ∷ ts) = record { terminal = t; place = None } ∷ leaves_of ts
 
-printed-so : (ts : List Terminal) → printed (leaves_of ts) ≡ text_of ts
+pub printed-so : (ts : List Terminal) → printed (leaves_of ts) ≡ text_of ts
 printed-so [] = refl
 printed-so (t ∷ ts) = append_assoc (written t) (blank_after t ∷ []) (printed (leaves_of ts)) ∙ ap (λ (rest : List ℕ). written t ++ (blank_after t ∷ rest)) (printed-so ts)
 
-terminals-so : (ts : List Terminal) → map (λ (leaf : Leaf). leaf.terminal) (leaves_of ts) ≡ ts
+pub terminals-so : (ts : List Terminal) → map (λ (leaf : Leaf). leaf.terminal) (leaves_of ts) ≡ ts
 terminals-so [] = refl
 terminals-so (t ∷ ts) = ap (λ (rest : List Terminal). t ∷ rest) (terminals-so ts)
 
@@ -123,12 +123,12 @@ bits width value = literal (record { width = width; number = value })
 
 -- ---- what each template is filled to
 
-registers_at : ℕ → List Terminal
+unfoldable pub registers_at : ℕ → List Terminal
 registers_at k =
     keyword keywords.Reg ∷ v k ∷ symbol symbols.Colon ∷ keyword keywords.Bits ∷ number 1 ∷ symbol symbols.Equals ∷ bits 1 0 ∷ symbol symbols.Semicolon
     ∷ keyword keywords.Reg ∷ d k ∷ symbol symbols.Colon ∷ keyword keywords.Bits ∷ number 32 ∷ symbol symbols.Equals ∷ bits 32 0 ∷ symbol symbols.Semicolon ∷ []
 
-others : List Terminal
+unfoldable pub others : List Terminal
 others =
     keyword keywords.Reg ∷ total ∷ symbol symbols.Colon ∷ keyword keywords.Bits ∷ number 32 ∷ symbol symbols.Equals ∷ bits 32 0 ∷ symbol symbols.Semicolon
     ∷ keyword keywords.Reg ∷ feed ∷ symbol symbols.Colon ∷ keyword keywords.Bits ∷ number 32 ∷ symbol symbols.Equals ∷ bits 32 0 ∷ symbol symbols.Semicolon ∷ []
@@ -148,7 +148,7 @@ otherwise =
 abbrev begun : Terminal → List Terminal → List Terminal
 begun of rest = keyword keywords.Rule ∷ of ∷ symbol symbols.LeftBrace ∷ keyword keywords.If ∷ rest
 
-drain_at : ℕ → List Terminal
+unfoldable pub drain_at : ℕ → List Terminal
 drain_at k =
     begun (name (codes "drain"))
     (call keywords.Read0 (v k)
@@ -156,7 +156,7 @@ drain_at k =
     (bits 1 0 ∷ symbol symbols.RightParenthesis ∷ symbol symbols.Semicolon ∷ put keywords.Write0 total
     (call keywords.Read0 total (symbol symbols.Plus ∷ call keywords.Read0 (d k) otherwise)))))
 
-move_at : ℕ → List Terminal
+unfoldable pub move_at : ℕ → List Terminal
 move_at k =
     begun (move k)
     (call keywords.Read0 (v k)
@@ -166,7 +166,7 @@ move_at k =
     (bits 1 1 ∷ symbol symbols.RightParenthesis ∷ symbol symbols.Semicolon ∷ put keywords.Write1 (d (k + 1))
     (call keywords.Read0 (d k) (symbol symbols.Plus ∷ bits 32 1 ∷ otherwise)))))))
 
-fill_rule : List Terminal
+unfoldable pub fill_rule : List Terminal
 fill_rule =
     begun (name (codes "fill"))
     (symbol symbols.Tilde ∷ call keywords.Read1 v0
@@ -175,13 +175,13 @@ fill_rule =
     (call keywords.Read0 feed (symbol symbols.RightParenthesis ∷ symbol symbols.Semicolon ∷ put keywords.Write0 feed
     (call keywords.Read0 feed (symbol symbols.Plus ∷ bits 32 1 ∷ otherwise)))))))
 
-schedule_begin : List Terminal
+unfoldable pub schedule_begin : List Terminal
 schedule_begin = keyword keywords.Schedule ∷ symbol symbols.LeftBrace ∷ name (codes "drain") ∷ symbol symbols.Semicolon ∷ []
 
-scheduled_at : ℕ → List Terminal
+unfoldable pub scheduled_at : ℕ → List Terminal
 scheduled_at k = move k ∷ symbol symbols.Semicolon ∷ []
 
-schedule_end : List Terminal
+unfoldable pub schedule_end : List Terminal
 schedule_end = name (codes "fill") ∷ symbol symbols.Semicolon ∷ symbol symbols.RightBrace ∷ []
 
 registers-text : (k : ℕ) → filled stage_registers k ≡ text_of (registers_at k)
@@ -218,11 +218,11 @@ end-text k = text-is schedule_end
 
 -- ---- the whole text
 
-ascending_of : (ℕ → List Terminal) → ℕ → List Terminal
+unfoldable pub ascending_of : (ℕ → List Terminal) → ℕ → List Terminal
 ascending_of f zero = []
 ascending_of f (suc stage) = ascending_of f stage ++ f stage
 
-descending_of : (ℕ → List Terminal) → ℕ → List Terminal
+unfoldable pub descending_of : (ℕ → List Terminal) → ℕ → List Terminal
 descending_of f zero = []
 descending_of f (suc stage) = f stage ++ descending_of f stage
 
@@ -239,11 +239,11 @@ unfolding descending_of
 descending-text template f each zero = refl
 descending-text template f each (suc n) = both (filled template n) (descending template n) (f n) (descending_of f n) (each n) (descending-text template f each n)
 
-tokens_at : ℕ → List Terminal
+unfoldable pub tokens_at : ℕ → List Terminal
 tokens_at k =
     ascending_of registers_at (k + 1) ++ others ++ drain_at k ++ descending_of move_at k ++ fill_rule ++ schedule_begin ++ descending_of scheduled_at k ++ schedule_end
 
-pipeline-text : (k : ℕ) → pipeline k ≡ text_of (tokens_at k)
+pub pipeline-text : (k : ℕ) → pipeline k ≡ text_of (tokens_at k)
 unfolding pipeline tokens_at
 pipeline-text k =
     let a = ascending-text stage_registers registers_at registers-text (k + 1) in
@@ -257,7 +257,7 @@ pipeline-text k =
 
 -- ---- the tokens can be written
 
-abbrev AreFine : List Terminal → Type 0
+abbrev pub AreFine : List Terminal → Type 0
 AreFine ts = AreWritable (leaves_of ts)
 
 -- keywords and symbols always can
@@ -290,11 +290,12 @@ few-go-on : all_go_on 102 ≡ true
 unfolding all_go_on digits
 few-go-on = refl
 
-left : (a b : Bool) → (a && b) ≡ true → a ≡ true
+-- each side of an `and`
+pub left : (a b : Bool) → (a && b) ≡ true → a ≡ true
 left true b is = refl
 left false b is = is
 
-right : (a b : Bool) → (a && b) ≡ true → b ≡ true
+pub right : (a b : Bool) → (a && b) ≡ true → b ≡ true
 right true b is = is
 right false b is = absurd (false≢true is)
 
@@ -345,43 +346,43 @@ no-fi keywords.Reg = refl
 no-fi other = refl
 
 module _ (k : ℕ) (most : k < 102) where
-  digits-go : list_all continues_word (decimal k) ≡ true
+  pub digits-go : list_all continues_word (decimal k) ≡ true
   digits-go = left (list_all continues_word (decimal k)) (nat_le (length (decimal k)) 3) (one-goes-on 102 k few-go-on most)
 
-  short : length (decimal k) ≤ 3
+  pub short : length (decimal k) ≤ 3
   short = leb-true (length (decimal k)) 3 (right (list_all continues_word (decimal k)) (nat_le (length (decimal k)) 3) (one-goes-on 102 k few-go-on most))
 
-  v-fine : IsToken kinds.Name (118 ∷ decimal k)
+  pub v-fine : IsToken kinds.Name (118 ∷ decimal k)
   v-fine = ((refl, digits-go), omega (arith, short), λ other. apart-first 118 (decimal k) other (no-v other))
 
-  d-fine : IsToken kinds.Name (100 ∷ decimal k)
+  pub d-fine : IsToken kinds.Name (100 ∷ decimal k)
   d-fine = ((refl, digits-go), omega (arith, short), λ other. apart-first 100 (decimal k) other (no-d other))
 
-  move-fine : IsToken kinds.Name (109 ∷ 111 ∷ 118 ∷ 101 ∷ decimal k)
+  pub move-fine : IsToken kinds.Name (109 ∷ 111 ∷ 118 ∷ 101 ∷ decimal k)
   move-fine = ((refl, digits-go), omega (arith, short), λ other. apart-first 109 (111 ∷ 118 ∷ 101 ∷ decimal k) other (no-m other))
 
-v0-fine : IsToken kinds.Name (codes "v0")
+pub v0-fine : IsToken kinds.Name (codes "v0")
 v0-fine = ((refl, refl), lit≤ tt, λ other. apart-first 118 (codes "0") other (no-v other))
 
-d0-fine : IsToken kinds.Name (codes "d0")
+pub d0-fine : IsToken kinds.Name (codes "d0")
 d0-fine = ((refl, refl), lit≤ tt, λ other. apart-first 100 (codes "0") other (no-d other))
 
-total-fine : IsToken kinds.Name (codes "total")
+pub total-fine : IsToken kinds.Name (codes "total")
 total-fine = ((refl, refl), lit≤ tt, λ other. apart-second 116 111 (codes "tal") other (no-to other))
 
-feed-fine : IsToken kinds.Name (codes "feed")
+pub feed-fine : IsToken kinds.Name (codes "feed")
 feed-fine = ((refl, refl), lit≤ tt, λ other. apart-second 102 101 (codes "ed") other (no-fe other))
 
-drain-fine : IsToken kinds.Name (codes "drain")
+pub drain-fine : IsToken kinds.Name (codes "drain")
 drain-fine = ((refl, refl), lit≤ tt, λ other. apart-first 100 (codes "rain") other (no-d other))
 
-fill-fine : IsToken kinds.Name (codes "fill")
+pub fill-fine : IsToken kinds.Name (codes "fill")
 fill-fine = ((refl, refl), lit≤ tt, λ other. apart-second 102 105 (codes "ll") other (no-fi other))
 
-flag : (b : ℕ) → b < 2 ^ 1 → IsBitVector 1 b
+pub flag : (b : ℕ) → b < 2 ^ 1 → IsBitVector 1 b
 flag b small = record { some_bit = lit≤ tt; no_wider = lit≤ tt; in_range = small }
 
-word_of : (n : ℕ) → n < 2 ^ 32 → IsBitVector 32 n
+pub word_of : (n : ℕ) → n < 2 ^ 32 → IsBitVector 32 n
 word_of n small = record { some_bit = lit≤ tt; no_wider = lit≤ tt; in_range = small }
 
 registers-fine : (k : ℕ) → k < 102 → AreFine (registers_at k)
@@ -430,7 +431,7 @@ unfolding descending_of
 descending-fine f zero each = tt
 descending-fine f (suc n) each = fine-both (f n) (descending_of f n) (each n (omega arith)) (descending-fine f n (λ k below. each k (omega (arith, below))))
 
-tokens-fine : (k : ℕ) → k ≤ 100 → AreFine (tokens_at k)
+pub tokens-fine : (k : ℕ) → k ≤ 100 → AreFine (tokens_at k)
 unfolding tokens_at
 tokens-fine k most =
     let a = ascending-fine registers_at (k + 1) (λ j below. registers-fine j (omega (arith, below, most))) in
@@ -442,13 +443,19 @@ tokens-fine k most =
     let h = fine-both _ _ g (descending-fine scheduled_at k (λ j below. scheduled-fine j (omega (arith, below, most)))) in
     fine-both _ _ h end-fine
 
+-- the text is cut into these tokens
+pub pipeline-lexed : (stages : ℕ) → stages ≤ 100 → IsLexedAs (pipeline stages) (leaves_of (tokens_at stages))
+pipeline-lexed stages most =
+    let ts : List Terminal = tokens_at stages in
+    lexed_text (pipeline stages) (leaves_of ts) (pipeline-text stages ∙ sym (printed-so ts)) (tokens-fine stages most)
+
 -- ---- trees
 
 pub generated : (stages : ℕ) (tokens : List Token) (tree : Tree) → stages ≤ 100 → AreTokensOf tokens (pipeline stages) → Derives (pipeline stages) tree tokens → pipeline stages ≡ printed (tree_leaves tree)
 generated stages tokens tree most are derived =
     let ts : List Terminal = tokens_at stages in
     let text : pipeline stages ≡ text_of ts = pipeline-text stages in
-    let lexed : IsLexedAs (pipeline stages) (leaves_of ts) = lexed_text (pipeline stages) (leaves_of ts) (text ∙ sym (printed-so ts)) (tokens-fine stages most) in
+    let lexed : IsLexedAs (pipeline stages) (leaves_of ts) = pipeline-lexed stages most in
     let same : map (terminal_of (pipeline stages)) tokens ≡ ts =
     ap (map (terminal_of (pipeline stages))) (one_list (pipeline stages) tokens lexed.tokens are lexed.are) ∙ lexed.same ∙ terminals-so ts in
     text ∙ sym (printed-of (pipeline stages) (tree_leaves tree) tokens derived.leaves ∙ ap terminals_text same ∙ text-so ts)

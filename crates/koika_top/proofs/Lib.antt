@@ -1,5 +1,8 @@
 pub mod SamePrinted
 pub mod Generated
+pub mod GeneratedTree
+pub mod GeneratedText
+pub mod GeneratedSource
 pub mod OneAnswer
 pub mod OneRecheck
 pub mod OneOfWords

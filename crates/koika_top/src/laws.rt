@@ -13,7 +13,7 @@ ghost use Rattle.koika_syntax.specs.declared.token.Token.{Token};
 ghost use Rattle.koika_syntax.specs.declared.tree.Tree.{Tree};
 ghost use Rattle.one_rule.specs.Stimulus.{InputVectors};
 ghost use Rattle.front_end.specs.declared.answer.Answer.{Answer};
-ghost use Rattle.front_end.specs.declared.answer.Answer.TheVariants.{Refused};
+ghost use Rattle.front_end.specs.declared.answer.Answer.TheVariants.{Refused, Written};
 ghost use Rattle.koika_top.specs.declared.shown.Shown.{Shown};
 ghost use Rattle.koika_top.specs.declared.shown.Shown.TheVariants.{Report};
 ghost use Rattle.koika_top.specs.Answer.{IsAnswer, IsLikeAnswer, IsSameAnswer, has_one_text, is_answered};
@@ -25,10 +25,11 @@ ghost use Rattle.koika_top.specs.Compile.{AnswersCompile, IsCompiledOf};
 ghost use Rattle.koika_top.specs.Generator.{pipeline};
 ghost use Rattle.koika_top.specs.Journal.{AnswersJournal, HasJournal};
 ghost use Rattle.koika_top.specs.Numbers.{AreFaultNumbers, AreLimits};
+ghost use Rattle.koika_top.specs.Reads.{AnswersPrint};
 ghost use Rattle.koika_top.specs.Recheck.{AnswersRecheck, HasPartsOf, IsJournaledOf, IsRefusedBefore, MayHaveJournal, SpellsSame};
 ghost use Rattle.koika_top.specs.RoundTrip.{PrintedIsReadAgain};
 ghost use Rattle.koika_top.specs.Sim.{AnswersSim};
-ghost use Rattle.front_end.specs.Sources.{Spells};
+ghost use Rattle.front_end.specs.Sources.{Spells, design_part};
 ghost use Rattle.koika_top.specs.Words.{command_of};
 
 /// Arguments and a source have one answer at most, where the same host functions are handed in, but for `compile`,
@@ -131,9 +132,12 @@ pub fn journaled_runs_the_same()
         AnswersSim hosts cycles Report source answer → AnswersRecheck hosts cycles other answer }
 {}
 
-/// The text of `gen` is the printed text of each tree that derives its tokens.
+/// The text of `gen` is a source without a line `%%`. It lexes and parses, and is its own printed text: `print` writes it
+/// again. It is the printed text of each tree that derives its tokens.
 pub fn generated_as_printed()
-    ensures { (stages : ℕ) (tokens : List Token) (tree : Tree) →
+    ensures whole { (stages : ℕ) → stages ≤ 100 → design_part (pipeline stages) ≡ pipeline stages }
+    ensures shown { (stages : ℕ) → stages ≤ 100 → AnswersPrint (pipeline stages) (Written (pipeline stages)) }
+    ensures each { (stages : ℕ) (tokens : List Token) (tree : Tree) →
         stages ≤ 100 → AreTokensOf tokens (pipeline stages) → Derives (pipeline stages) tree tokens →
         pipeline stages ≡ printed (tree_leaves tree) }
 {}
