@@ -76,13 +76,24 @@ pub(crate) fn journal_shows_the_same_run(
     source: &str,
 ) -> io::Result<bool> {
     let report = answer(rt, threads, "sim", options, source.as_bytes())?;
-    let mut more = String::from_str(rt.alloc(), options)?;
-    more.push_str(" --journal --workers ")?;
-    more.push_str(count)?;
-    let journal = answer(rt, threads, "sim", more.as_str(), source.as_bytes())?;
+    let journal = journal_of(rt, threads, count, options, source)?;
     let whole = with_journal(rt.alloc(), source, journal.as_slice())?;
     let rechecked = answer(rt, threads, "recheck", options, whole.as_slice())?;
     Ok(report.as_slice() == rechecked.as_slice())
+}
+
+/// The journal of that many workers, of a run of a source's design with these options.
+pub(crate) fn journal_of(
+    rt: &HostRuntime,
+    threads: &(impl Threads + Wait + Sync),
+    count: &str,
+    options: &str,
+    source: &str,
+) -> io::Result<Vec<u8>> {
+    let mut more = String::from_str(rt.alloc(), options)?;
+    more.push_str(" --journal --workers ")?;
+    more.push_str(count)?;
+    answer(rt, threads, "sim", more.as_str(), source.as_bytes())
 }
 
 /// A source with a journal after its design and its stimulus.

@@ -5,17 +5,23 @@
 //! words with ` | ` between them each reads what the ones before wrote. After `changed N => LINE in` the file's line N is
 //! LINE. After `failing N` each read fails in turn, and then each write, where a call takes at most N bytes.
 //! After `seeing` each of two workers looks for the other before its first job, and whether both saw it is said; what
-//! they write is a journal where ` | ` and a command that reads it follow.
+//! they write is a journal where ` | ` and a command that reads it follow. After `counting` it says how often workers
+//! began a batch, and how many did.
 //!
 //! With `circuit` for a command it says whether the circuit of a design, compiled and read back, shows the same run
 //! with these options as the design, with `bits` whether its bit-level circuit does, with `workers K` whether K workers
-//! show it, and with `journal K` whether their journal does, rechecked. With ` is ` between commands without a source
-//! it says whether both write the same bytes. `transcript` and a file say whether the file has what the command in its
-//! first line writes.
+//! show it, and with `journal K` whether their journal does, rechecked. With `threaded K N` it says whether K workers give
+//! the run of N cycles in one batch, with `gates N` whether the bit-level circuit does that isn't written, and with
+//! `printed K` whether the journal of K workers is printed as it was, once it is read. With ` is ` between commands without
+//! a source it says whether both write the same bytes, and with `generated N` how many of the texts of `gen` up to that
+//! number are printed as they are. `transcript` and a file say whether the file has what the command in its first line
+//! writes.
 //!
 //! It has no definition of its own. The merge gate compares what it writes with `stdout`.
 #![tactic(auto)]
 
+mod begins;
+mod called;
 mod circuits;
 mod flags;
 mod runs;
@@ -23,6 +29,8 @@ mod spelled;
 mod tables;
 mod transcripts;
 
+use crate::begins::Begins;
+use crate::called::{gates_give_the_run, journal_is_printed_again, threads_give_the_run};
 use crate::circuits::{
     bits_show_the_same_run, journal_shows_the_same_run, shows_the_same_run, with_journal,
     workers_show_the_same_run,
@@ -70,6 +78,9 @@ fn run_line(
     }
     if let Some((commands, others)) = case.split_once(" is ") {
         return compare(rt, threads, commands, others);
+    }
+    if let Some(last) = case.strip_prefix("generated ") {
+        return run_generated(rt, threads, last.parse().unwrap_or(0));
     }
     match case.strip_prefix("transcript ") {
         Some(file) => run_transcript(rt, threads, file),
@@ -140,8 +151,22 @@ fn run_case(
         let same = journal_shows_the_same_run(rt, threads, count, options, text)?;
         return say_whether(rt, same);
     }
+    if let Some(words) = commands.strip_prefix("threaded ") {
+        return say_whether(rt, threads_give_the_run(rt, threads, words, source)?);
+    }
+    if let Some(cycles) = commands.strip_prefix("gates ") {
+        return say_whether(rt, gates_give_the_run(rt, cycles, source)?);
+    }
+    if let Some(counted) = commands.strip_prefix("printed ") {
+        let (count, options) = counted.split_once(' ').unwrap_or(("", ""));
+        let same = journal_is_printed_again(rt, threads, count, options, text)?;
+        return say_whether(rt, same);
+    }
     if let Some(command) = commands.strip_prefix("seeing ") {
         return run_seeing(rt, threads, command, text);
+    }
+    if let Some(command) = commands.strip_prefix("counting ") {
+        return run_counting(rt, threads, command, source);
     }
     if let Some(failing) = commands.strip_prefix("failing ") {
         let (piece, command) = failing.split_once(' ').unwrap_or(("", ""));
@@ -263,6 +288,59 @@ fn run_seeing(
     } else {
         println!(rt; "a worker saw no other")
     }
+}
+
+// Runs the program where each worker's beginnings are counted, and says how it ended and how many they were.
+fn run_counting(
+    rt: &HostRuntime,
+    threads: &(impl Threads + Wait + Sync),
+    command: &str,
+    source: &[u8],
+) -> io::Result<()> {
+    let words = words_of(rt.alloc(), command)?;
+    let begins = Begins::new(rt.alloc())?;
+    let ended = run_at_gate(
+        rt,
+        threads,
+        &begins,
+        words.as_slice(),
+        source,
+        PIECE,
+        &[],
+        &[],
+    )?;
+    let status = ended.status.number();
+    let calls = begins.calls();
+    let workers = begins.workers();
+    println!(rt; "status {status}, {calls} calls by {workers} workers")
+}
+
+// Says how many of the texts of `gen`, from 1 to a last number of stages, are printed as they are.
+fn run_generated(
+    rt: &HostRuntime,
+    threads: &(impl Threads + Wait + Sync),
+    last: u32,
+) -> io::Result<()> {
+    let mut same: u32 = 0;
+    for stages in 0..last {
+        if is_printed(rt, threads, stages.wrapping_add(1))? {
+            same = same.wrapping_add(1);
+        }
+    }
+    println!(rt; "{same} texts as they are")
+}
+
+// Whether the text of `gen` with that many stages is printed as it is.
+fn is_printed(
+    rt: &HostRuntime,
+    threads: &(impl Threads + Wait + Sync),
+    stages: u32,
+) -> io::Result<bool> {
+    let mut command = String::from_str(rt.alloc(), "gen ")?;
+    command.push_str(stages.to_string(rt.alloc())?.as_str())?;
+    let text = last_of(rt, threads, command.as_str(), &[])?;
+    let printed = last_of(rt, threads, "print", text.written.as_slice())?;
+    Ok(text.written.as_slice() == printed.written.as_slice())
 }
 
 // Runs the program with each read failing in turn, and then with each write, until none fails.
