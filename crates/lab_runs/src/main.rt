@@ -4,16 +4,19 @@
 //! line the source is read on, where the lab's own lines show what was written before.
 //!
 //! `slow` and a source write the trials of its first cycle as `slow_trials` finds them, and whether `trials` finds the same.
+//! `occurring` and a source write what occurs in the body of each rule, as `all_occurrences` lists it.
 //! `journal N` and, after ` < `, a file say whether `why` has on N cycles the verdicts of the journal in the file.
 //!
 //! It has no definition of its own. The merge gate compares what it writes with `stdout`.
 #![tactic(auto)]
 
 mod journals;
+mod occurring;
 mod slow;
 mod watched;
 
 use crate::journals::run_journal;
+use crate::occurring::run_occurring;
 use crate::slow::run_slow;
 use crate::watched::run_watching;
 use host_fn::offered::BITS_OF_ONE;
@@ -57,6 +60,9 @@ fn run_line(rt: &HostRuntime, case: &str) -> io::Result<()> {
     let source = source.replace(rt.alloc(), '/', "\n")?;
     if words == "slow" {
         return run_slow(rt, source.as_bytes());
+    }
+    if words == "occurring" {
+        return run_occurring(rt, source.as_bytes());
     }
     if let Some(watching) = words.strip_prefix("watching ") {
         let (piece, words) = watching.split_once(' ').unwrap_or(("", ""));
