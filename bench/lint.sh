@@ -1,20 +1,24 @@
 #!/usr/bin/env bash
 # Tries the lab's command `lint` beside `profile`, on the designs of examples/ and on random ones with random stimuli:
 # each refusal that `profile` shows is in the lists of `lint`, each assertion that was unwatched in some cycle has a note,
-# and no rule that `lint` notes as `never` or `unscheduled` fired. At last it measures `lint` on a design that is as large
-# as designs may be. It is run by hand. Other programs than the built one may be named:
+# and no rule that `lint` notes as `never` or `unscheduled` fired. At last it measures `lint` on designs that are as large
+# as designs may be. It is run by hand. Another program than the built one and further sources may be named:
 #
-#     bench/lint.sh [RUNS [LAB_PROGRAM]]
+#     bench/lint.sh [RUNS [LAB_PROGRAM [SOURCE..]]]
 #
-# RUNS is the number of random designs, 2000 if it isn't given. The status is 1 if a note is missing or wrong, or where the
-# large design takes more than a second or 64 MB.
+# RUNS is the number of random designs, 2000 if it isn't given; a source is a design, with its stimulus if it has one.
+# $FIRST is the first seed, 1 if it isn't set, and $PARTS some of the words `stored random large`, all if it isn't set.
+# The status is 1 if a note is missing or wrong, or where a large design takes more than a second of a processor or 64 MB.
 set -eu
 cd "$(dirname "$0")/.."
 export LC_ALL=C
 
+. bench/programs.sh
 runs=${1:-2000}
-lab=${2:-$PWD/crates/lab_cli/out/lab_cli}
-[ $# = 2 ] || ./koika profile --cycles 0 <examples/counter.koika >/dev/null # builds the program if need be
+first=${FIRST:-1}
+parts=${PARTS:-stored random large}
+[ $# -lt 3 ] || mapfile -t others < <(realpath -e "${@:3}")
+take_lab "${2-}"
 room=$(mktemp -d)
 trap 'rm -rf "$room"' EXIT
 wrong=0 refusals=0 tried=0
@@ -104,10 +108,13 @@ compare() {
         END { print count + 0 }' "$room/notes" "$room/profile"
 }
 
-# Tries the source in $room/source for some cycles.
+# Tries the source in $room/source for some cycles. A source that is no design tries nothing.
 try_source() {
+    if ! "$lab" profile --cycles "$2" <"$room/source" >"$room/profile"; then
+        refused=$((refused + 1))
+        return
+    fi
     "$lab" lint <"$room/source" >"$room/notes"
-    "$lab" profile --cycles "$2" <"$room/source" >"$room/profile"
     compare "$2" >"$room/found"
     refusals=$((refusals + $(tail -n 1 "$room/found")))
     tried=$((tried + 1))
@@ -118,49 +125,95 @@ try_source() {
     }
 }
 
-while read -r design; do
-    cp "$design" "$room/source"
-    try_source "$design" 300
-done < <(find examples -name '*.koika' | sort)
-echo "$tried stored designs, $refusals different refusals in 300 cycles"
-
-tried=0 refusals=0 refused=0
-for ((seed = 1; seed <= runs; seed++)); do
-    make_source "$seed" >"$room/source"
-    if ! "$lab" lint <"$room/source" >/dev/null; then # a design that isn't valid tries nothing
-        refused=$((refused + 1))
-        continue
-    fi
-    try_source "seed $seed" 60
-done
-echo "$tried random designs, $refusals different refusals in 60 cycles; $refused of the sources are no designs"
-
-# The largest design: 256 registers, 256 rules, 1,024 nodes, and a weight of up to 32,768.
-awk 'BEGIN {
-    for (n = 0; n < 256; n++) print "reg r" n " : bits 8 = 8'"'"'d0;"
-    for (n = 0; n < 256; n++) {
-        text = ""
-        for (k = 0; k < 11; k++) text = text (k ? "; " : "") "write" k % 4 "(r" (n * 7 + k * 23) % 256 ", read" (k + 1) % 4 "(r" (n + k * 5) % 256 "))"
-        print "rule a" n " { " text " }"
-    }
-    print "schedule {"
-    print make(0, 3)
-    print "}"
+# Tries sources that are read line by line from standard input.
+try_sources() {
+    tried=0 refusals=0 refused=0
+    while read -r source; do
+        cp "$source" "$room/source"
+        try_source "$source" 300
+    done
+    echo "$tried $1, $refusals different refusals in 300 cycles; $refused of the sources are no designs"
 }
-function make(from, deep,    text, n) {
-    for (n = from; n < from + 64 && n < 256; n++) text = text "a" n "; "
-    if (n >= 256 || deep == 0) return text
-    return text "try a" n " then { " make(n + 1, deep - 1) " } else { " make(n + 1, deep - 1) " }"
-}' >"$room/source"
-"$lab" profile --cycles 0 <"$room/source" >/dev/null
-start=$(date +%s%N)
-"$lab" lint <"$room/source" >"$room/notes"
-end=$(date +%s%N)
-taken=$(((end - start) / 1000000))
-memory=$(command -v /usr/bin/time >/dev/null && /usr/bin/time -f %M "$lab" lint <"$room/source" 2>&1 >/dev/null || echo 0)
-echo "the large design: $(wc -l <"$room/notes") notes, $taken ms, $((memory / 1024)) MB"
-if [ "$taken" -gt 1000 ] || [ "$memory" -gt 65536 ]; then
-    wrong=$((wrong + 1))
-    echo "that is too much"
-fi
+
+# Tries random designs.
+try_random() {
+    tried=0 refusals=0 refused=0
+    for ((seed = first; seed < first + runs; seed++)); do
+        make_source "$seed" >"$room/source"
+        try_source "seed $seed" 60
+    done
+    echo "$tried random designs, $refusals different refusals in 60 cycles; $refused of the sources are no designs"
+}
+
+# The largest designs: 256 registers, 256 rules, 1,024 nodes and a weight of 32,760. Each rule has eight or nine writes of
+# values that it reads: all registers in turn, with an assertion of each rule, or two registers alone, so that there is a
+# line for half the pairs of rules.
+make_large() {
+    awk -v kind="$1" '
+        function body(n,    text, k) {
+            for (k = 0; k < (n < 137 ? 9 : 8); k++)
+                text = text (k ? "; " : "") "write" k % 4 "(r" (kind == "wide" ? (n * 7 + k * 23) % 256 : n % 2) \
+                    ", read" (k + 1) % 4 "(r" (kind == "wide" ? (n + k * 5) % 256 : n % 2) "))"
+            return text
+        }
+        function chain(from, to,    text, n) {
+            for (n = from; n <= to; n++) text = text "a" n "; "
+            return text
+        }
+        function branch(n, yes, no) { return "try a" n " then { " yes " } else { " no " }" }
+        BEGIN {
+            for (n = 0; n < 256; n++) print "reg r" n " : bits 8 = 8'"'"'d0;"
+            for (n = 0; n < 256; n++) print "rule a" n " { " body(n) " }"
+            if (kind == "wide") for (n = 0; n < 256; n++) print "assert a" n ";"
+            rest = chain(2, 255)
+            last = chain(2, 249) branch(250, chain(251, 255), chain(251, 255))
+            print "schedule { " branch(0, branch(1, rest, rest), branch(1, rest, last)) " }"
+        }'
+}
+
+# One rule with all writes that there are, each of them some times, and a weight of 16,251.
+make_long() {
+    awk 'BEGIN {
+        print "input k : bits 8;"
+        for (n = 0; n < 256; n++) print "reg r" n " : bits 8 = 8'"'"'d0;"
+        print "rule a {"
+        for (n = 0; n < 25 * 215; n++) {
+            if (n % 215 == 0) print (n ? " };" : "") "if k == 8'"'"'d" n / 215 " {"
+            print (n % 215 ? "; " : "") "write" int(n / 256) % 4 "(r" n % 256 ", read" n % 3 "(r" n % 255 "))"
+        }
+        print "} }"
+        print "schedule { a; }"
+    }'
+}
+
+# Tries the source in $room/source, and measures `lint` on it: milliseconds of processor time, and memory.
+measure() {
+    refused=0
+    try_source "$1" 20
+    [ "$refused" = 0 ] || { echo "$1: no design"; exit 1; }
+    TIMEFORMAT='%U %S'
+    taken=$({ time "$lab" lint <"$room/source" >"$room/notes"; } 2>&1 | awk '{ printf "%d", ($1 + $2) * 1000 }')
+    memory=$(command -v /usr/bin/time >/dev/null && /usr/bin/time -f %M "$lab" lint <"$room/source" 2>&1 >/dev/null || echo 0)
+    echo "| $1 | $(wc -l <"$room/notes") | $taken | $((memory / 1024)) |"
+    if [ "$taken" -gt 1000 ] || [ "$memory" -gt 65536 ]; then
+        wrong=$((wrong + 1))
+        echo "that is too much"
+    fi
+}
+
+measure_all() {
+    echo "| a design of | lines | milliseconds of processor time | MB |"
+    echo "|---|---|---|---|"
+    make_large wide >"$room/source"
+    measure "256 rules over all registers"
+    make_large narrow >"$room/source"
+    measure "256 rules over two registers"
+    make_long >"$room/source"
+    measure "a rule with 5,375 writes"
+}
+
+[[ " $parts " != *" stored "* ]] || try_sources "stored designs" < <(find examples -name '*.koika' | sort)
+[ $# -lt 3 ] || try_sources "sources that were named" < <(printf '%s\n' "${others[@]}")
+[[ " $parts " != *" random "* ]] || try_random
+[[ " $parts " != *" large "* ]] || measure_all
 [ "$wrong" = 0 ]

@@ -1,9 +1,11 @@
 #!/usr/bin/env bash
-# Measures Verilator and Icarus Verilog beside the program's engines. Each design is compiled to BTOR2, and that is
-# written as Verilog line by line; both build a simulator of it. Their reports of a run are compared with the program's:
-# the rules and the registers of each cycle. Then it measures what a cycle costs by each, with a report and without, and
-# how long each takes to build. It takes another program than the built one as its argument, and is run by hand. It
-# needs verilator, iverilog and g++ of Debian.
+# Measures Verilator and Icarus Verilog beside the program's engines. `verilog` writes each design's module, and both
+# build a simulator of it, with a module around it that writes rows. Their reports of a run are compared with the
+# program's: the rules and the registers of each cycle. Then it measures what a cycle costs by each, with a report and
+# without, and how long each takes to build. Other programs than the built ones may be named. It is run by hand. It
+# needs verilator, iverilog, g++ and python3 of Debian.
+#
+#     bench/peers.sh [PROGRAM LAB_PROGRAM]
 set -eu
 cd "$(dirname "$0")/.."
 . bench/cost.sh
@@ -21,54 +23,12 @@ iverilog iverilog
 vvp iverilog
 g++ g++
 make make
+python3 python3
 COMMANDS
 
 . bench/programs.sh
 take_program "${1-}"
-
-# The Verilog of a BTOR2 file that `compile` wrote of a design without inputs: a wire for each value, a register for
-# each state. At an edge of `clk` each state takes its next value; where `show` is 1, the row of that cycle is written:
-# the rules' flags as bits, and the next values.
-verilog_of_btor2() {
-    awk '
-        function is(text) { print "  wire " range "n" $1 " = " text ";" }
-        BEGIN {
-            split("and & or | xor ^ add + sub - mul * sll << srl >> eq == neq != ult < ulte <= ugt > ugte >=", words, " ")
-            for (k = 1; k in words; k += 2) operator[words[k]] = words[k + 1]
-            split("slt < slte <= sgt > sgte >=", words, " ")
-            for (k = 1; k in words; k += 2) signed[words[k]] = words[k + 1]
-            print "module made(input clk, input show);\n  integer cycle = 0;"
-        }
-        $2 == "sort" { wide[$1] = $4; next }
-        $2 == "output" { flags = flags (flags ? ", " : "") "n" $3; next }
-        $2 == "bad" { next } # its value is an output, too
-        $2 == "init" { print "  initial n" $4 " = " first[$5] ";"; next }
-        $2 == "next" {
-            steps = steps "    n" $4 " <= n" $5 ";\n"
-            format = format " " name[$4] "=%h"
-            values = values ", n" $5
-            next
-        }
-        { range = "[" wide[$3] - 1 ":0] " }
-        $2 == "state" { name[$1] = $4; print "  reg " range "n" $1 ";"; next }
-        $2 == "constd" { is(first[$1] = wide[$3] "'\''d" $4); next }
-        $2 == "not" { is("~n" $4); next }
-        $2 in operator { is("n" $4 " " operator[$2] " n" $5); next }
-        $2 in signed { is("$signed(n" $4 ") " signed[$2] " $signed(n" $5 ")"); next }
-        $2 == "sra" { is("$signed(n" $4 ") >>> n" $5); next }
-        $2 == "concat" { is("{n" $4 ", n" $5 "}"); next }
-        $2 == "slice" { is("n" $4 "[" $5 ":" $6 "]"); next }
-        $2 == "uext" { is("n" $4); next }
-        $2 == "sext" { is("$signed(n" $4 ")"); next }
-        $2 == "ite" { is("n" $4 " ? n" $5 " : n" $6); next }
-        { print "peers.sh: no Verilog for the line: " $0 >"/dev/stderr"; failed = 1; exit 1 }
-        END {
-            if (failed) exit 1
-            print "  always @(posedge clk) begin\n" steps "    cycle <= cycle + 1;"
-            print "    if (show) $display(\"@%0d %b" format "\", cycle + 1, {" flags "}" values ");"
-            print "  end\nendmodule"
-        }'
-}
+take_lab "${2-}"
 
 # Both are told the number of cycles, and whether each is shown or only the last one.
 cat >"$room/test.v" <<'VERILOG'
@@ -111,19 +71,6 @@ int main(int, char **words) {
 }
 CPP
 
-# A report of the program from its first cycle on, with the rules' flags as bits, in the order of a circuit's outputs.
-with_flags() {
-    awk '
-        NR == FNR { if ($2 == "output") rules[++count] = $4; next }
-        $1 == "@0" || $1 == "violated" { next }
-        {
-            bits = ""
-            for (k = 1; k <= count; k++) bits = bits (index("," $2 ",", "," rules[k] ",") ? 1 : 0)
-            $2 = bits
-            print
-        }' "$room/circuit" -
-}
-
 # The processor time of a command in seconds, its children's included.
 seconds() {
     local TIMEFORMAT='%3U %3S'
@@ -137,7 +84,7 @@ seconds() {
 build_by_verilator() {
     rm -rf "$room/built"
     verilator --cc --exe --build -O3 -MAKEFLAGS "OPT_FAST=-O2 OPT_SLOW=-O2 OPT_GLOBAL=-O2" -Wno-lint --Mdir "$room/built" \
-        --top-module made -o made "$room/made.v" "$room/main.cpp"
+        --top-module made -o made "$room/made.v" "$room/koika.v" "$room/main.cpp"
 }
 
 # The command that runs the design in a way for that many cycles, with all rows shown or only what there is at the end.
@@ -157,7 +104,7 @@ ways="plain circuit verilator icarus"
 # By each peer the rows are those of the program, and so is the last one by itself.
 compare() {
     local way
-    "$program" sim --cycles "$last" <"$room/design" | with_flags >"$room/all"
+    "$program" sim --cycles "$last" <"$room/design" | python3 bench/verilog.py rows "$room/koika.v" | sed 1d >"$room/all"
     tail -n 1 "$room/all" >"$room/end"
     [ "$(wc -l <"$room/all")" = "$last" ] || stop "$name: there aren't $last rows"
     for way in verilator icarus; do
@@ -183,15 +130,15 @@ per_cycle() {
 # Makes the design ready for each way, and adds a row of what that takes.
 build() {
     local row way
-    "$program" compile <"$room/design" >"$room/circuit"
-    verilog_of_btor2 <"$room/circuit" >"$room/made.v"
-    row="| \`$name\` | $(wc -l <"$room/circuit")"
+    "$lab" verilog --registers <"$room/design" >"$room/koika.v"
+    python3 bench/verilog.py made "$room/koika.v" >"$room/made.v"
+    row="| \`$name\` | $(wc -l <"$room/koika.v")"
     for way in plain circuit; do
         command_of "$way" 0 end
         row="$row | $(seconds "${words[@]}" <"$room/design")"
     done
     row="$row | $(seconds build_by_verilator </dev/null)"
-    row="$row | $(seconds iverilog -g2012 -o "$room/run" "$room/made.v" "$room/test.v" </dev/null) |"
+    row="$row | $(seconds iverilog -g2005 -o "$room/run" "$room/made.v" "$room/koika.v" "$room/test.v" </dev/null) |"
     echo "$row" >>"$room/builds"
 }
 
@@ -225,7 +172,7 @@ DESIGNS
 echo
 echo "Seconds of processor time before the first cycle:"
 echo
-echo "| design | lines of BTOR2 | $heading"
+echo "| design | lines of Verilog | $heading"
 echo "|---|---|---|---|---|---|"
 cat "$room/builds"
 

@@ -14,8 +14,11 @@
     verilog.py made MODULE                        a module `made` around MODULE that writes a row after each cycle in
                                                   which `show` is 1, if the design has no inputs
     verilog.py registers MODULE                   a module `top` around MODULE whose outputs are its registers
+    verilog.py cases CRATE FOLDER                 the cases that a program is run on, a folder for each with koika.v, its
+                                                  stimulus, the stored rows as `wanted` and the first remark as `title`
 """
 
+import os
 import random
 import re
 import sys
@@ -118,6 +121,26 @@ def rows_of(report: str, module: Module, is_twin: bool) -> list[str]:
                 fired = "".join(str(int(rule.known() in fired.split(","))) for rule in module.rules)
             rows.append(" ".join([cycle, fired, *rest]))
     return rows
+
+
+def write_cases(crate: str, folder: str) -> None:
+    """A remark in the rows begins a case, and each case has one."""
+    with open(f"{crate}/stdin", encoding="ascii") as file:
+        cases = file.read().split("====\n")[:-1]
+    with open(f"{crate}/stdout", encoding="ascii") as file:
+        answers = re.split(r"^// (.*)\n", file.read(), flags=re.M)[1:]
+    assert len(answers) == 2 * len(cases), "cases without rows"
+    for number, (case, title, rows) in enumerate(zip(cases, answers[::2], answers[1::2])):
+        place = f"{folder}/{number:02}"
+        os.makedirs(place)
+        text, stimulus = case.split("%%\n")
+        assert text.startswith(f"// {title}\n"), f"{title}: other cases"
+        parts = {"koika.v": text.split("\n", 1)[1], "stimulus": stimulus, "title": f"{title}\n"}
+        for name, part in parts.items():
+            with open(f"{place}/{name}", "w", encoding="ascii") as file:
+                file.write(part)
+        with open(f"{place}/wanted", "w", encoding="ascii") as file:
+            file.write("\n".join([*rows_of(rows, Module(f"{place}/koika.v"), False), ""]))
 
 
 # ---- modules around modules ---------------------------------------------------------------------------------------
@@ -244,6 +267,8 @@ def main(words: list[str]) -> None:
         print(gate_of(Module(rest[0])))
     elif command == "made":
         print(made_of(Module(rest[0])))
+    elif command == "cases":
+        write_cases(rest[0], rest[1])
     elif command == "registers":
         print(top_of(Module(rest[0])))
     else:

@@ -10,6 +10,7 @@
 # | lint   | `verilator --lint-only -Wall` has no errors, and warnings of known kinds alone | verilator  |
 # | equal  | yosys proves it equal to the AIGER file that `aiger` writes, on small designs  | yosys      |
 # | cells  | cells of an iCE40 and an ECP5 beside twins written by hand (bench/twins/)      | yosys      |
+# | plain  | the stored rows of the plain program (crates/verilog_runs) are those by Icarus | iverilog   |
 #
 # Without --part it does all of them, on all designs without --design, and names each tool that isn't there. Other
 # programs than the built ones may be named. It is run by hand. The status is 1 if anything differs, or a design that
@@ -27,7 +28,7 @@ while :; do
     esac
     shift 2
 done
-parts=${parts:- rows built lint equal cells}
+parts=${parts:- rows built lint equal cells plain}
 . bench/programs.sh
 take_program "${1-}"
 take_lab "${2-}"
@@ -151,7 +152,7 @@ if is_asked built && has verilator && has g++; then
     echo
 fi
 
-# The kinds of warnings that are known: docs/CIRCUITS.md says why each is there.
+# The kinds of warnings that are known: docs/VERILOG.md says why each is there.
 known=" SYMRSVDWORD UNUSEDSIGNAL "
 
 if is_asked lint && has verilator; then
@@ -315,6 +316,40 @@ if is_asked cells && has yosys; then
         name=$(basename "$twin" .v)
         if grep -q -e "^$name " -e "^twins/$name " "$room/designs"; then cells "$name"; fi
     done
+    echo
+fi
+
+# ---- the plain program --------------------------------------------------------------------------------------------
+
+# The stored rows of a case are those by Icarus Verilog. A title that begins with `verilog` is how the module was
+# written: it still is, and where the stimulus has no reset, the rows are those of `sim`.
+plain() {
+    local title words file
+    title=$(cat "$1/title")
+    cp "$1/koika.v" "$1/stimulus" "$1/wanted" "$room/"
+    python3 bench/verilog.py bench "$room/koika.v" "$room/stimulus" "$room"
+    by_icarus "$room/found" koika.v
+    are_rows "$title" || return 0
+    if [ "${title%% *}" = verilog ]; then
+        file=${title##* }
+        words=${title% *}
+        # shellcheck disable=SC2086 # words
+        "$lab" $words <"$file" | cmp -s - "$1/koika.v" || complain "$title: another module"
+        if ! grep -q rst= "$1/stimulus"; then
+            { sed '/^%%/,$d' "$file"; echo '%%'; cat "$1/stimulus"; } >"$room/source"
+            "$program" sim --cycles "$(wc -l <"$1/stimulus")" <"$room/source" |
+                python3 bench/verilog.py rows "$room/koika.v" >"$room/found"
+            are_rows "$title beside sim" || return 0
+        fi
+    fi
+    echo "| $title | $(wc -l <"$room/wanted") |"
+}
+
+if is_asked plain && has iverilog; then
+    echo "| case of the plain program | rows that are those by Icarus Verilog |"
+    echo "|---|---|"
+    python3 bench/verilog.py cases crates/verilog_runs "$room/cases"
+    for case in "$room/cases"/*; do plain "$case"; done
     echo
 fi
 
