@@ -1,11 +1,11 @@
 -- What a search finds in a list, and in one that goes on.
-use Rattle.std.proofs.Common.{◌≡◌, ℕ, zero, suc, ◌+◌, ◌<◌, ◌≤◌, ◌%◌, Bool, false, List, [], ◌∷◌, ◌++◌, length, Option, Some, None, refl, sym, ap, ◌∙◌, subst, arith, append-nil, append_assoc, take, drop, filter, map, flat_map, not, ap₂, is_some}
+use Rattle.std.proofs.Common.{◌≡◌, ℕ, zero, suc, ◌+◌, ◌-◌, ◌<◌, ◌≤◌, ◌%◌, Bool, true, false, List, [], ◌∷◌, ◌++◌, length, Option, Some, None, refl, sym, ap, ◌∙◌, subst, arith, append-nil, append_assoc, take, drop, filter, map, flat_map, not, ap₂, is_some}
 use Rattle.std.specs.Prelude.{slice_get, if◌then◌else◌}
 use Rattle.std.proofs.Math.Nat.{mod-eq_of_lt, mod-lt}
 use Rattle.std.proofs.lemmas.Option.{slice_get_within}
 use Rattle.std.specs.List.{enumerate_from, range_with_len}
 use Rattle.std.specs.Prelude.{◌==◌, ◌&&◌, slice_index_or}
-use Rattle.std.proofs.lemmas.List.{length-map, take-append-drop}
+use Rattle.std.proofs.lemmas.List.{length-map, length_push, take-append-drop}
 use Rattle.std.proofs.lemmas.List.FromFn.{length-enumerate_from}
 use Rattle.std.proofs.Math.Seq.{take-suc}
 use Rattle.std.proofs.lemmas.Grind.{flat_map-append}
@@ -106,6 +106,22 @@ further_on p all xs n m pair more is =
     let next : take m xs ≡ take n xs ++ pair ∷ [] = ap (λ (k : ℕ). take k xs) more ∙ take-suc xs n pair (slice_get_within xs n pair is) ∙ ap (λ (x : Candidate). take n xs ++ x ∷ []) (get_or_from_slice_get xs n pair pair is) in
     append_assoc all (filter p (take n xs)) (if p pair then pair ∷ [] else [])
     ∙ ap (λ (ys : List Candidate). all ++ ys) (sym (ap (filter p) next ∙ filter-append p (take n xs) (pair ∷ [])))
+
+-- one pair more is gone past, or is the one
+module _ (p : Candidate → Bool) (all xs : List Candidate) (n m number left : ℕ) (pair : Candidate) (more : m ≡ suc n) (is : slice_get xs n ≡ Some pair) (so_far : left + length (all ++ filter p (take n xs)) ≡ number) where
+  grown : (b : Bool) → p pair ≡ b → all ++ filter p (take m xs) ≡ (all ++ filter p (take n xs)) ++ (if b then pair ∷ [] else [])
+  grown b e = sym (further_on p all xs n m pair more is) ∙ ap (λ (b : Bool). (all ++ filter p (take n xs)) ++ (if b then pair ∷ [] else [])) e
+
+  pub past_other : p pair ≡ false → left + length (all ++ filter p (take m xs)) ≡ number
+  past_other e = omega (arith, so_far, ap (λ (ys : List Candidate). length ys) (grown false e ∙ append-nil (all ++ filter p (take n xs))))
+
+  pub past_candidate : p pair ≡ true → 0 < left → (left - 1) + length (all ++ filter p (take m xs)) ≡ number
+  past_candidate e some = omega (arith, so_far, some, ap (λ (ys : List Candidate). length ys) (grown true e), length_push (all ++ filter p (take n xs)) pair)
+
+  pub is_next : p pair ≡ true → left ≡ 0 → slice_get (all ++ filter p xs) number ≡ Some pair
+  is_next e none =
+      found_so_far p all xs m number pair
+      (ap (λ (ys : List Candidate). slice_get ys number) (grown true e) ∙ found_here (all ++ filter p (take n xs)) number pair (omega (arith, so_far, none)))
 
 range_next : (a n : ℕ) → range_with_len a (suc n) ≡ range_with_len a n ++ (a + n) ∷ []
 range_next a zero = let same : a ≡ a + 0 = omega arith in ap (λ (m : ℕ). m ∷ []) same

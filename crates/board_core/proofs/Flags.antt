@@ -20,7 +20,7 @@ flags_none rules =
     let within : k < rules = omega (arith, inside, length-replicate rules false) in
     get_or-replicate rules k false d within ∙ sym (get_or-map-range_with_len (is_among []) 0 rules k k d within (omega arith)))
 
-or_no : (b : Bool) → (b || false) ≡ b
+pub or_no : (b : Bool) → (b || false) ≡ b
 or_no true = refl
 or_no false = refl
 

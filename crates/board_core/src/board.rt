@@ -152,8 +152,8 @@ impl Core {
         Ok(answers)
     }
 
-    /// The job of candidate number `pick`, counted round; it looks at each node of the current cycle and of the
-    /// candidate's cycle at most twice, and takes memory for a copy of the inputs and the registers alone.
+    /// The job of candidate number `pick`, counted round; it looks at each node of the candidate's cycle at most once,
+    /// and takes memory for a copy of the inputs and the registers alone.
     pub fn job(&self, pick: u64) -> Result<JobAnswer, NoMemory>
         ensures chooses { IfOk result (λ answer. (board : Board) → StandsFor self.now board → Chooses self.now.opening board pick answer) }
         ensures fits { IfOk result (λ told. IfJob told FitsItself) }

@@ -1,4 +1,4 @@
-//! Engines: a board that counts the candidates of the cycles after the current one, as they change.
+//! Engines: a board that counts the open nodes of each cycle, as they change.
 
 ghost use Rattle.std.specs.Prelude.{◌≡◌, ◌<◌, ◌≤◌, ◌⊎◌, IfOk, IfSome, true, nat_lt, length};
 ghost use Rattle.std.specs.Arc.{arc_value};
@@ -13,7 +13,7 @@ ghost use Rattle.board_core.specs.Board.{Board, opened, setting_of, settle, subm
 ghost use Rattle.board_core.specs.Candidates.{IsJobOf, Picks, candidates};
 ghost use Rattle.board_core.specs.Kept.{AtPlain, Does, StandsFor, is_still};
 ghost use Rattle.board_core.specs.declared.event.BoardAnswer.TheVariants as answer;
-ghost use Rattle.board_core.specs.inner.Counts.{HasWeights, is_closing, is_stored};
+ghost use Rattle.board_core.specs.inner.Counts.{HasWeights, is_closing, is_stored, stale_rule};
 
 use crate::candidate::Candidate;
 use crate::kept::{KeptBoard, MAX_CYCLES, MAX_WINDOW, is_attempt};
@@ -31,8 +31,7 @@ pub(crate) struct CountedBoard {
     kept: KeptBoard,
     // At how many nodes each rule is.
     weights: Vec<u64>,
-    // For each cycle of the window, from the current one on, the number of nodes at whose rules no attempt stands. It
-    // isn't kept for the current cycle.
+    // For each cycle of the window, from the current one on, the number of nodes whose rules are open in it.
     counts: Vec<u64>,
 }
 
@@ -75,6 +74,7 @@ impl CountedBoard {
         let weights = weights_of(alloc, &design)?;
         let counts = Vec::from_elem(alloc, design.nodes.len() as u64, window as usize)?;
         let kept = KeptBoard::begin(alloc, design, stimulus, regs, from, to, window)?;
+        kept.is_plain();
         Ok(CountedBoard {
             kept,
             weights,
@@ -95,7 +95,7 @@ impl CountedBoard {
         let (cycle, rule) = (attempt.cycle(), attempt.rule());
         let now = self.kept.cycle();
         let answer = self.kept.submit(attempt);
-        if is_stored(&answer) && now < cycle {
+        if is_stored(&answer) {
             self.counts[(cycle - now) as usize] -= self.weights[rule as usize];
         }
         answer
@@ -114,6 +114,8 @@ impl CountedBoard {
             self.counts.rotate_left(1);
             let last = self.counts.len() - 1;
             self.counts[last] = nodes;
+        } else if let Some(rule) = stale_rule(&answer) {
+            self.counts[0] += self.weights[rule as usize];
         }
         answer
     }
@@ -223,5 +225,20 @@ fn is_closing(answer: &Settled) -> bool
         Settled::CycleClosed { cycle: _ } => true,
         Settled::Committed { .. } | Settled::Skipped { .. } | Settled::Stale { .. } => false,
         Settled::Waiting { .. } | Settled::Finished => false,
+    }
+}
+
+// The rule that is open again, since its attempt was stale.
+fn stale_rule(answer: &Settled) -> Option<u32>
+    ensures { result ≡ stale_rule answer.now }
+{
+    match answer {
+        Settled::Stale {
+            cycle: _,
+            rule,
+            read: _,
+        } => Some(*rule),
+        Settled::Committed { .. } | Settled::Skipped { .. } | Settled::CycleClosed { .. } => None,
+        Settled::Waiting { .. } | Settled::Finished => None,
     }
 }

@@ -18,6 +18,7 @@ ghost use Rattle.board_core.specs.inner.Counts.{HasCounts};
 ghost use Rattle.board_core.specs.inner.Kept.{IsBlank, IsNear, comes_ahead, comes_late};
 ghost use Rattle.board_core.specs.Candidates.{IsJobOf, Picks, candidates, first, further, pair_at, pairs};
 ghost use Rattle.board_core.specs.inner.Search.{FindsIn, HasRule, comes_further};
+ghost use Rattle.board_core.specs.declared.candidate.Search.TheVariants as searched;
 ghost use Rattle.board_core.specs.declared.candidate.Candidate.{Candidate};
 ghost use Rattle.one_rule.specs.Walk.{is_at};
 ghost use Rattle.board_core.specs.declared.event.BoardAnswer.TheVariants as answer;
@@ -235,7 +236,7 @@ impl KeptBoard {
         self.slots[ahead].stands(attempt.rule() as usize)
     }
 
-    // The candidate of number `pick`, counted round, where the counts of later cycles are these.
+    // The candidate of number `pick`, counted round, where the counts of the window's cycles are these.
     pub(crate) fn choose(&self, pick: u64, counts: &[u64]) -> Option<Candidate>
         requires within { self.now.cycle ≤ self.now.opening.to }
         requires counts { HasCounts self.now counts.now }
@@ -312,7 +313,7 @@ impl KeptBoard {
         }
     }
 
-    // Goes past the further candidates of a cycle: by their count, where it is kept and the candidate isn't among them.
+    // Goes past the further candidates of a cycle: by their number, where the candidate isn't among them.
     fn pass_cycle(&self, search: Search, cycle: u32, counts: &[u64]) -> Search
         requires counts { HasCounts self.now counts.now }
         requires from { self.now.cycle ≤ cycle }
@@ -321,34 +322,65 @@ impl KeptBoard {
         ensures finds { (all : Board → List Candidate) (number : ℕ) → FindsIn self.now all number search → FindsIn self.now (λ board. all board ++ further self.now.opening board cycle) number result }
         ensures rule { HasRule self.now.opening.design.rules result }
     {
-        if let Search::Left(left) = search {
-            if self.cycle < cycle {
-                let count = counts[(cycle - self.cycle) as usize];
+        match search {
+            Search::Found(found) => Search::Found(found),
+            Search::Left(left) => {
+                let count = self.count_further(cycle, counts);
                 if count <= left {
-                    return Search::Left(left - count);
+                    Search::Left(left - count)
+                } else {
+                    self.search_cycle(left, cycle)
                 }
             }
         }
-        self.search_cycle(search, cycle)
     }
 
-    // Goes past the further candidates of a cycle, node by node.
-    fn search_cycle(&self, search: Search, cycle: u32) -> Search
+    // The number of further candidates of a cycle.
+    fn count_further(&self, cycle: u32, counts: &[u64]) -> u64
+        requires counts { HasCounts self.now counts.now }
         requires from { self.now.cycle ≤ cycle }
         requires within { cycle < self.now.cycle + self.now.opening.window }
-        requires rule { HasRule self.now.opening.design.rules search }
-        ensures finds { (all : Board → List Candidate) (number : ℕ) → FindsIn self.now all number search → FindsIn self.now (λ board. all board ++ further self.now.opening board cycle) number result }
+        ensures { (board : Board) → StandsFor self.now board → result ≡ length (further self.now.opening board cycle) }
+    {
+        self.is_plain();
+        let count = counts[(cycle - self.cycle) as usize];
+        if self.cycle < cycle {
+            count
+        } else {
+            count - self.count_head()
+        }
+    }
+
+    // 1 where the head is a candidate, else 0.
+    fn count_head(&self) -> u64
+        ensures { (board : Board) → StandsFor self.now board → result ≡ length (first self.now.opening board) }
+    {
+        match self.search_head(0) {
+            Search::Found(_) => 1,
+            Search::Left(_) => 0,
+        }
+    }
+
+    // Searches the further candidates of a cycle, node by node, for the one that comes after `left` others.
+    fn search_cycle(&self, left: u64, cycle: u32) -> Search
+        requires from { self.now.cycle ≤ cycle }
+        requires within { cycle < self.now.cycle + self.now.opening.window }
+        ensures finds { (all : Board → List Candidate) (number : ℕ) → FindsIn self.now all number (searched.Left left) → FindsIn self.now (λ board. all board ++ further self.now.opening board cycle) number result }
         ensures rule { HasRule self.now.opening.design.rules result }
     {
-        let mut search = search;
+        let slots = &self.slots[(cycle - self.cycle) as usize];
+        let mut left = left;
         for number in 0..self.design.nodes.len() {
-            if let Search::Found(found) = search {
-                return Search::Found(found);
-            }
             let pair = self.pair(cycle, number);
-            search = search.past(pair, self.is_further(pair));
+            let stands = slots.stands(pair.rule as usize);
+            if self.is_further(pair, stands) {
+                if left == 0 {
+                    return Search::Found(pair);
+                }
+                left -= 1;
+            }
         }
-        search
+        Search::Left(left)
     }
 
     // The pair of a cycle and a node.
@@ -367,17 +399,18 @@ impl KeptBoard {
         }
     }
 
-    // Whether the pair isn't the head, and its rule is open in its cycle.
-    fn is_further(&self, pair: Candidate) -> bool
+    // Whether the pair isn't the head, and its rule is open in its cycle, where an attempt `stands` for it or not.
+    fn is_further(&self, pair: Candidate, stands: bool) -> bool
         requires from { self.now.cycle ≤ pair.cycle }
         requires within { pair.cycle < self.now.cycle + self.now.opening.window }
+        requires stands { stands ≡ is_some (slots_from self.now.cycle self.now.slots pair.cycle pair.rule) }
         requires rule { pair.rule < length self.now.opening.design.rules }
         ensures { result ≡ comes_further self.now pair }
     {
         let is_current = pair.cycle == self.cycle;
         !(is_current && is_at(pair.node, self.place.at))
             && !(is_current && self.place.settled[pair.rule as usize])
-            && !self.stands_at(pair.cycle, pair.rule)
+            && !stands
     }
 
     // Whether an attempt stands for the cycle and the rule.

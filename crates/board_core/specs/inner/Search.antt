@@ -1,10 +1,11 @@
 -- A search for the candidate of a number, for private functions alone: over the candidates so far, it has found it,
 -- or that many are left to go past.
-use Rattle.std.specs.Prelude.{◌≡◌, ℕ, ◌+◌, ◌<◌, Bool, not, ◌==◌, ◌&&◌, false, List, length, Some, slice_get, slice_index_or, is_some}
+use Rattle.std.specs.Prelude.{◌≡◌, ℕ, ◌+◌, ◌<◌, Bool, not, ◌==◌, ◌&&◌, List, length, Some, slice_get}
 use Rattle.typed_core.specs.declared.design.Rule.{Rule}
 use Rattle.one_rule.specs.Walk.{is_at}
 use Rattle.board_core.specs.Board.{Board}
-use Rattle.board_core.specs.Kept.{Kept, StandsFor, slots_from}
+use Rattle.board_core.specs.Kept.{Kept, StandsFor}
+use Rattle.board_core.specs.inner.Counts.{comes_open}
 use Rattle.board_core.specs.declared.candidate.Candidate.{Candidate}
 use Rattle.board_core.specs.declared.candidate.Search.{Search}
 use Rattle.board_core.specs.declared.candidate.Search.TheVariants as search
@@ -25,6 +26,4 @@ HasRule rules (search.Left left) = Unit {0}
 
 -- the pair is a further candidate
 abbrev pub comes_further : Kept → Candidate → Bool
-comes_further kept c =
-    not ((c.cycle == kept.cycle) && is_at c.node kept.place.at)
-    && (not ((c.cycle == kept.cycle) && slice_index_or kept.place.settled.items c.rule false) && not (is_some (slots_from kept.cycle kept.slots c.cycle c.rule)))
+comes_further kept c = not ((c.cycle == kept.cycle) && is_at c.node kept.place.at) && comes_open kept c.cycle c.rule

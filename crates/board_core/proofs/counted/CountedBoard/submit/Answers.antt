@@ -5,7 +5,7 @@ use Rattle.one_rule.proofs.Alike.{length-same}
 use Rattle.board_core.specs.Board.{Opening}
 use Rattle.board_core.specs.Kept.{Kept}
 use Rattle.board_core.specs.inner.Counts.{HasCounts, HasWeights, weight}
-use Rattle.board_core.proofs.Counts.{counts_kept, counts_taken, enough, taken_at}
+use Rattle.board_core.proofs.Counts.{counts_taken, enough, taken_at}
 use Rattle.board_core.proofs.counted.CountedBoard.submit.Goals as goal
 
 pub index-requires : goal.index-requires
@@ -29,12 +29,12 @@ overflow_sub-index_mut c =
     let p = c.is_plain.ensures in
     let step = c.submit-answer.ensures.step p.board p.stands in
     let t = taken_at kept c.submit-answer.new.self p.board a c.submit-answer.result p.stands (sym c.is_stored.ensures ∙ c.if-is_stored.true) step.0 step.1 in
-    let later : kept.cycle < a.cycle = omega (arith, c.if-now-cycle.true, c.cycle-now.ensures, c.cycle-cycle.ensures) in
-    let place : c.cycle-cycle.result - c.cycle-now.result ≡ a.cycle - kept.cycle = ap₂ (λ (n m : ℕ). n - m) c.cycle-cycle.ensures c.cycle-now.ensures in
-    let count : c.index_mut.result.now ≡ slice_index_or c.self.inside.counts.items (a.cycle - kept.cycle) 0 =
-    c.index_mut.ensures.value ∙ get_or_default c.self.inside.counts.items (c.cycle-cycle.result - c.cycle-now.result) c.index_mut.result.now 0 (omega (arith, place, later, t.within, c.self.invariant.1.count))
-    ∙ ap (λ (n : ℕ). slice_index_or c.self.inside.counts.items n 0) place in
-    omega (arith, count, enough kept c.submit-answer.new.self c.submit-answer.ensures.opening p.board a p.stands t.after c.self.inside.counts.items c.self.invariant.1 t.free later t.within c.index.result.now weight')
+    let k = c.cycle-cycle.result - c.cycle-now.result in
+    let place : k ≡ a.cycle - kept.cycle = ap₂ (λ (n m : ℕ). n - m) c.cycle-cycle.ensures c.cycle-now.ensures in
+    let items = c.self.inside.counts.items in
+    let count : c.index_mut.result.now ≡ slice_index_or items k 0 =
+    c.index_mut.ensures.value ∙ get_or_default items k c.index_mut.result.now 0 (omega (arith, place, t.from, t.within, c.self.invariant.1.count)) in
+    omega (arith, count, enough kept c.submit-answer.new.self c.submit-answer.ensures.opening p.opening p.board a p.stands t items c.self.invariant.1 c.index.result.now k weight' place)
 
 pub invariant_of-self : goal.invariant_of-self
 invariant_of-self c =
@@ -51,26 +51,12 @@ invariant_of-self c =
     let p = c.is_plain.ensures in
     let step = c.submit-answer.ensures.step p.board p.stands in
     let t = taken_at kept new p.board a c.submit-answer.result p.stands (sym c.is_stored.ensures ∙ c.if-is_stored.true) step.0 step.1 in
-    let later : kept.cycle < a.cycle = omega (arith, c.if-now-cycle.true, c.cycle-now.ensures, c.cycle-cycle.ensures) in
     let k = c.cycle-cycle.result - c.cycle-now.result in
     let place : k ≡ a.cycle - kept.cycle = ap₂ (λ (n m : ℕ). n - m) c.cycle-cycle.ensures c.cycle-now.ensures in
     let items = c.self.inside.counts.items in
     let count : c.index_mut.result.now ≡ slice_index_or items k 0 =
-    c.index_mut.ensures.value ∙ get_or_default items k c.index_mut.result.now 0 (omega (arith, place, later, t.within, c.self.invariant.1.count)) in (
+    c.index_mut.ensures.value ∙ get_or_default items k c.index_mut.result.now 0 (omega (arith, place, t.from, t.within, c.self.invariant.1.count)) in (
       subst (λ (o : Opening). HasWeights o.design.nodes (length o.design.rules) c.self.inside.weights.items) (sym c.submit-answer.ensures.opening) c.self.invariant.0,
       subst (λ (n : ℕ). HasCounts new (slice_set items k (n - c.index.result.now))) (sym count)
-          (counts_taken kept new c.submit-answer.ensures.opening p.board a p.stands t.after items c.self.invariant.1 t.free later t.within c.index.result.now k weight' place),
-    )
-
-pub invariant_of-self-else-now-cycle : goal.invariant_of-self-else-now-cycle
-invariant_of-self-else-now-cycle c =
-    let a = c.args.attempt in
-    let kept = c.self.inside.kept in
-    let new = c.submit-answer.new.self in
-    let p = c.is_plain.ensures in
-    let step = c.submit-answer.ensures.step p.board p.stands in
-    let t = taken_at kept new p.board a c.submit-answer.result p.stands (sym c.is_stored.ensures ∙ c.if-is_stored.true) step.0 step.1 in (
-      subst (λ (o : Opening). HasWeights o.design.nodes (length o.design.rules) c.self.inside.weights.items) (sym c.submit-answer.ensures.opening) c.self.invariant.0,
-      counts_kept kept new c.submit-answer.ensures.opening p.board a p.stands t.after c.self.inside.counts.items c.self.invariant.1 t.free
-          (omega (arith, t.from, c.if-now-cycle.false, c.cycle-now.ensures, c.cycle-cycle.ensures)),
+          (counts_taken kept new c.submit-answer.ensures.opening p.opening p.board a p.stands t items c.self.invariant.1 c.index.result.now k weight' place),
     )
