@@ -16,13 +16,17 @@ use attempt_log::{Attempt, Settled, Submitted};
 use board_core::Core;
 use kw_bits::NoMemory;
 use std::alloc::Global;
+use std::hint;
 use std::snapshot::Snapshot;
 use std::sync::Wait;
-use std::thread;
 
 pub(crate) type Slot = Option<Core>;
 
 pub(crate) type Place = Seat<Slot, View>;
+
+// How often a seat looks before it sleeps: these looks take less than a sleep and a wake. Between them it keeps its
+// processor: where other programs run, one that is yielded often comes back only long after the turn has come.
+const LOOKS: u32 = 100;
 
 /// A board behind a lock of three words: the ticket, the number that is served, and the count.
 #[derive(Drop)]
@@ -43,19 +47,40 @@ impl Lock {
     }
 
     // Waits until the ticket is served. The slot with the board is out with the seat then.
+    //
+    // A seat that sleeps is woken on its turn. Who gives it the turn first adds to the number that is served, and then
+    // looks whether the ticket is drawn. If not, the seat's own loads come after its draw, and so after the addition:
+    // it doesn't sleep. If so, all are woken who sleep by then, and no one falls asleep any more who has found an older
+    // number: the low 32 bits of the two differ, since there are fewer than 2^32 seats.
     fn wait_turn<R: Wait>(&self, rt: &R, place: &mut Place, ticket: u64)
         requires table { place.old.table_id ≡ self.now.table.shared.table_id }
         requires waits { Waits place.old.me ticket place.old.me }
         ensures same { (place.new.table_id ≡ place.old.table_id) × (place.new.id ≡ place.old.id) }
         ensures served { Served place.old.me place.new.me }
     {
+        let mut looks = LOOKS;
         for _ in rt.forever() {
-            if self.table.shared.load::<Look>(place, 1) == ticket {
+            let serving = self.table.shared.load::<Look>(place, 1);
+            if serving == ticket {
                 return;
             }
-            thread::yield_now();
+            if looks == 0 {
+                self.table
+                    .shared
+                    .park(rt, 1, (serving & 0xffff_ffff) as u32);
+            } else {
+                looks -= 1;
+                hint::spin_loop();
+            }
         }
         unreachable!()
+    }
+
+    // Wakes those that wait, where the ticket that is now served is drawn.
+    fn wake(&self) {
+        if self.table.shared.peek(0) != self.table.shared.peek(1) {
+            self.table.shared.wake_all(1);
+        }
     }
 
     // Waits until it is this seat's turn, and takes the board.
@@ -108,6 +133,7 @@ impl Lock {
         let empty = self.table.shared.exchange(place, 0, Some(board));
         drop(empty);
         self.table.shared.fetch_add::<Give>(place, 1, 1);
+        self.wake();
     }
 
     // Puts the board back, and notes its history as seen.
@@ -119,6 +145,7 @@ impl Lock {
     {
         drop(self.table.shared.exchange(place, 0, Some(board)));
         self.table.shared.fetch_add::<GiveSeen>(place, 1, 1);
+        self.wake();
     }
 
     // A lock with the board at home, and the board's own seat.

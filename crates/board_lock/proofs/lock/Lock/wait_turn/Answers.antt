@@ -6,11 +6,11 @@ use Rattle.board_lock.proofs.Keeps.{looks}
 use Rattle.board_lock.proofs.Turns.{Sat, served}
 use Rattle.board_lock.proofs.lock.Lock.wait_turn.Goals as goal
 
-pub load-requires : goal.load-requires
-load-requires g c = let w = c.requires.waits in
+pub load-serving-requires : goal.load-serving-requires
+load-serving-requires g c = let w = c.requires.waits in
     (search rules, search rules, looks _ _ _ _ w.0 (ap (λ m. m.0.stage) (c.loop.invariant.2 ∙ w.2)))
 
-pub returns-then-load-ticket-clause-served : goal.returns-then-load-ticket-clause-served
-returns-then-load-ticket-clause-served g c =
-    served c.args.place.now.me c.load.new.seat.me c.args.ticket c.load.result c.requires.waits
-    (subst (λ (x : Sat). looked (step 1 1 0 0 none) x c.load.result c.load.new.seat.me) c.loop.invariant.2 c.load.ensures.2) c.if-load-ticket.true
+pub returns-then-serving-ticket-clause-served : goal.returns-then-serving-ticket-clause-served
+returns-then-serving-ticket-clause-served g c =
+    served c.args.place.now.me c.load-serving.new.seat.me c.args.ticket c.load-serving.result c.requires.waits
+    (subst (λ (x : Sat). looked (step 1 1 0 0 none) x c.load-serving.result c.load-serving.new.seat.me) c.loop.invariant.2 c.load-serving.ensures.2) c.if-serving-ticket.true
