@@ -1,6 +1,7 @@
 -- A bit-level circuit at a moment between two steps, and its rows from there on.
-use Rattle.std.specs.Prelude.{◌≡◌, ℕ, zero, suc, ◌+◌, ◌-◌, ◌≤◌, List, ◌∷◌, [], Bool, map}
+use Rattle.std.specs.Prelude.{ℕ, ◌-◌, List, ◌∷◌, [], Bool, map}
 use Rattle.kw_bits.specs.BitVector.{BitVector, zero_at}
+use Rattle.circuit_eval.specs.Machines as machines
 use Rattle.circuit_eval.specs.Run.{is_one}
 use Rattle.aig_blast.specs.AigRun.{first_words, next_words, rows_after, values_in}
 use Rattle.aig_blast.specs.Aigs.{AigParts}
@@ -38,12 +39,11 @@ after_step s inputs =
 
 -- after that many steps more, the last cycle so far being this one
 unfoldable pub after_steps : InputsByCycle → (count last : ℕ) → Simulation → Simulation
-after_steps inputs zero last s = s
-after_steps inputs (suc count) last s = after_steps inputs count (last + 1) (after_step s (inputs (last + 1)))
+after_steps inputs count last s = machines.after_steps after_step inputs count last s
 
 -- some of that many steps were made, from the first on
 abbrev pub MadeSome : InputsByCycle → (count last : ℕ) → Simulation → Simulation → Type 0
-MadeSome inputs count last old new = (made : ℕ) × (made ≤ count) × (new ≡ after_steps inputs made last old)
+MadeSome inputs count last old new = machines.MadeSome after_step inputs count last old new
 
 -- the row of a moment, and those of the cycles from one to another after it
 abbrev pub row_at : Simulation → Row

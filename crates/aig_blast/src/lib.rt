@@ -12,6 +12,7 @@ mod bitwise;
 mod circuit;
 mod gate;
 mod graph;
+mod machine;
 mod nodes;
 mod operators;
 mod parts;

@@ -1,17 +1,17 @@
 //! Runs of a graph: one row a cycle.
 
-ghost use Rattle.std.specs.Prelude.{◌≡◌, ◌≤◌, ◌-◌, IfOk, OnErr, OnOk, map};
+ghost use Rattle.std.specs.Prelude.{◌≡◌, ◌≤◌, ◌-◌, IfOk, OnErr, OnOk};
 ghost use Rattle.one_rule.specs.Stimulus.{inputs_of};
-ghost use Rattle.circuit_eval.specs.Run.{is_one};
 ghost use Rattle.aig_blast.specs.Aigs.{input_word_widths};
 ghost use Rattle.aig_blast.specs.AigRun.{run_of};
-ghost use Rattle.aig_blast.specs.AigSims.{MadeSome, after_steps, row_at, rows_from};
+ghost use Rattle.aig_blast.specs.AigSims.{MadeSome, after_steps, rows_from};
 
 use crate::aig::Aig;
 use crate::sim::AigSim;
-use kw_bits::{Bits, NoMemory};
-use one_rule::{FiredSet, Regs, Row, Rows, Stimulus};
-use std::alloc::{AllocError, Global};
+use circuit_eval::run_machine;
+use kw_bits::NoMemory;
+use one_rule::{Rows, Stimulus};
+use std::alloc::Global;
 
 /// The rows of a bit-level circuit's run of n cycles, whose flags are the outputs. The stimulus is for its words of inputs.
 pub fn run_aig(alloc: Global, aig: &Aig, stimulus: &Stimulus, n: u32) -> Result<Rows, NoMemory>
@@ -39,31 +39,5 @@ pub fn run_on(
     ensures sim { OnOk result (sim.new ≡ after_steps (inputs_of stimulus.now) (to - from) from sim.old) }
     ensures short { OnErr result (MadeSome (inputs_of stimulus.now) (to - from) from sim.old sim.new) }
 {
-    let mut rows = Rows::new(alloc);
-    rows.push(row_of(alloc, sim)?)?;
-    for last in from..to {
-        sim.step(&stimulus.inputs(last + 1)?);
-        rows.push(row_of(alloc, sim)?)?;
-    }
-    Ok(rows)
-}
-
-// The row of a moment: the states now and the flags of the last step.
-fn row_of(alloc: Global, sim: &AigSim) -> Result<Row, NoMemory>
-    ensures { IfOk result (λ row. row ≡ row_at sim.now) }
-{
-    Ok(Row {
-        regs: Regs::from_slice(alloc, sim.states().as_slice())?,
-        fired: FiredSet::from_vec(flags(alloc, sim.outputs())?),
-    })
-}
-
-// Whether each output is 1.
-fn flags(alloc: Global, outputs: &[Bits]) -> Result<Vec<bool>, AllocError>
-    ensures { IfOk result (λ fired. fired.items ≡ map is_one outputs.now) }
-{
-    outputs
-        .iter()
-        .map(|output| output.number() == 1)
-        .collect(alloc)
+    run_machine(alloc, sim, stimulus, from, to)
 }

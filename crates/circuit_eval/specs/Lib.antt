@@ -1,4 +1,5 @@
 pub mod Circuits
+pub mod Machines
 pub mod Programs
 pub mod Run
 pub mod Simulations

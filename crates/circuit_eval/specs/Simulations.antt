@@ -1,8 +1,9 @@
 -- A circuit at a moment between two steps, and its rows from there on.
-use Rattle.std.specs.Prelude.{◌≡◌, ◌≤◌, ℕ, zero, suc, ◌+◌, ◌-◌, List, ◌∷◌}
+use Rattle.std.specs.Prelude.{ℕ, ◌-◌, List, ◌∷◌}
 use Rattle.kw_bits.specs.BitVector.{BitVector}
 use Rattle.net_graph.specs.Nets.{widths_of}
 use Rattle.circuit_eval.specs.declared.circuit.Wires.{Wires}
+use Rattle.circuit_eval.specs.Machines as machines
 use Rattle.circuit_eval.specs.Run.{first_states, flags, next_states, outputs_in, rows_after, values_in, zero_outputs}
 use Rattle.one_rule.specs.Run.{InputsByCycle}
 use Rattle.one_rule.specs.declared.rows.Row.{Row}
@@ -25,12 +26,11 @@ after_step s inputs =
 
 -- after that many steps more, after the last cycle so far
 unfoldable pub after_steps : InputsByCycle → (count last : ℕ) → Simulation → Simulation
-after_steps inputs zero last s = s
-after_steps inputs (suc count) last s = after_steps inputs count (last + 1) (after_step s (inputs (last + 1)))
+after_steps inputs count last s = machines.after_steps after_step inputs count last s
 
 -- some of that many steps were made, from the first on
 abbrev pub MadeSome : InputsByCycle → (count last : ℕ) → Simulation → Simulation → Type 0
-MadeSome inputs count last old new = (made : ℕ) × (made ≤ count) × (new ≡ after_steps inputs made last old)
+MadeSome inputs count last old new = machines.MadeSome after_step inputs count last old new
 
 -- the row of a moment, and those of the cycles from one to another after it
 abbrev pub row_at : Simulation → Row

@@ -3,10 +3,12 @@
 //! Contracts see a `Circuit` as its wires and cite `specs/Circuits.antt`, which says which wires make a circuit, and
 //! `specs/Run.antt`, which says what its run is. `specs/Simulations.antt` is what a `Sim` is seen as, and `specs/Tidy.antt`
 //! says when a circuit is tidy. A `Sim` lays its net out once, as steps on machine words (`specs/Programs.antt`).
+//! `run_machine` makes the rows of a `Sim`, or of another `Machine` (`specs/Machines.antt`).
 //! `net_sched`, `net_simplify` and `btor2_net` make circuits, and `koika_top` runs them.
 #![tactic(auto)]
 
 mod circuit;
+mod machine;
 mod program;
 mod rows;
 mod sim;
@@ -15,5 +17,6 @@ mod validity;
 mod words;
 
 pub use circuit::{Circuit, InputWire, OutputWire, StateWire, Wires};
-pub use rows::{run_circuit, run_on};
+pub use machine::Machine;
+pub use rows::{run_circuit, run_machine, run_on};
 pub use sim::Sim;

@@ -1,6 +1,5 @@
 use Rattle.std.proofs.Common.{length, ap, ◌∙◌}
 use Rattle.aig_blast.specs.BitLists.{as_bits}
-use Rattle.aig_blast.specs.Steps as step
 use Rattle.aig_blast.specs.inner.Steps as inner_step
 use Rattle.aig_blast.proofs.ShortShifts.{srl_short-formula}
 use Rattle.aig_blast.proofs.Gates.{value-false}

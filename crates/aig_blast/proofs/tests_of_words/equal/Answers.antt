@@ -1,6 +1,5 @@
 use Rattle.std.proofs.Common.{◌≡◌, ◌<◌, Bool, ◌&&◌, List, [], ◌∷◌, length, ap, ◌∙◌, arith}
 use Rattle.aig_blast.specs.BitLists.{as_bits, xor}
-use Rattle.aig_blast.specs.Steps as step
 use Rattle.aig_blast.specs.inner.Steps as inner_step
 use Rattle.aig_blast.proofs.Formulas.{eq_bits-formula}
 use Rattle.aig_blast.proofs.Values.{Keeps-refl}

@@ -1,7 +1,7 @@
 use Rattle.std.proofs.Common.{◌≡◌, ◌≤◌, length, take}
 use Rattle.std.specs.Prelude.{vec_capacity}
 use Rattle.circuit_eval.specs.Run.{flags}
-use Rattle.circuit_eval.proofs.rows.flags.Given as goal
+use Rattle.circuit_eval.proofs.machine.flags.Given as goal
 
 -- the flags of the outputs so far, with room for all
 abbrev pub invariant-loop-output : goal.invariant-loop-output
