@@ -1,11 +1,11 @@
 //! The simulator of a graph: the value of each literal, cycle by cycle.
 
-ghost use Rattle.std.specs.Prelude.{◌≡◌, ◌+◌, ◌*◌, ◌/◌, ◌^◌, ◌<◌, ◌≤◌, ◌++◌, ◌∷◌, [], false, IfOk, OnOk, length, map, replicate, sum, take, All};
+ghost use Rattle.std.specs.Prelude.{◌≡◌, ◌+◌, ◌*◌, ◌^◌, ◌<◌, ◌≤◌, ◌++◌, ◌∷◌, [], false, IfOk, OnOk, length, map, replicate, sum, take, All};
 ghost use Rattle.circuit_eval.specs.Circuits.{AreBits};
 ghost use Rattle.aig_blast.specs.Aigs.{input_word_widths, latch_widths, variables};
 ghost use Rattle.aig_blast.specs.AigRun.{bits_of, first_words as first_words_lem, next_words, values_in};
 ghost use Rattle.aig_blast.specs.AigSims.{flags_in, no_flags as no_flags_lem};
-ghost use Rattle.aig_blast.specs.inner.AigSims.{IsReadable};
+ghost use Rattle.aig_blast.specs.inner.AigSims.{AreBoth, IsReadable, both, variable_values};
 ghost use Rattle.aig_blast.specs.BitLists.{as_bits, bit};
 ghost use Rattle.aig_blast.specs.Graphs.{AllStand, gate_value as gate_value_lem, lit_value as lit_value_lem, values_after};
 ghost use Rattle.aig_blast.specs.Steps.{digits};
@@ -23,21 +23,22 @@ pub struct AigSim<'a> {
     aig: &'a Aig,
     states: Regs,
     outputs: Vec<Bits>,
-    // The values of the variables, written anew in each step.
+    // The values of the literals, written anew in each step.
     values: Vec<bool>,
 }
 
 impl<'a> Model for AigSim<'a> {
-    ghost use Rattle.std.specs.Prelude.{◌≡◌, ◌+◌, length, take, ◌∷◌, [], false};
+    ghost use Rattle.std.specs.Prelude.{◌≡◌, ◌+◌, ◌*◌, length, take, ◌∷◌, [], false};
     ghost use Rattle.circuit_eval.specs.Circuits.{AreBits};
     ghost use Rattle.aig_blast.specs.Aigs.{latch_widths, variables};
     ghost use Rattle.aig_blast.specs.AigSims.{Simulation};
+    ghost use Rattle.aig_blast.specs.inner.AigSims.{both};
 
     ghost Value = { Simulation };
 
     ghost view = { λ s. record { aig = s.aig.now; states = s.states; outputs = s.outputs.items } };
 
-    ghost invariant = { λ s. AreBits s.states (latch_widths s.aig.now.latches) × (length s.outputs.items ≡ length s.aig.now.outputs) × (length s.values.items ≡ 1 + variables s.aig.now) × (take 1 s.values.items ≡ false ∷ []) };
+    ghost invariant = { λ s. AreBits s.states (latch_widths s.aig.now.latches) × (length s.outputs.items ≡ length s.aig.now.outputs) × (length s.values.items ≡ 2 * (1 + variables s.aig.now)) × (take 2 s.values.items ≡ both (false ∷ [])) };
 }
 
 impl<'a> AigSim<'a> {
@@ -95,10 +96,10 @@ fn no_flags(alloc: Global, outputs: &[OutputBit]) -> Result<Vec<Bits>, AllocErro
     outputs.iter().map(|_output| Bits::zero(1)).collect(alloc)
 }
 
-// A value for each variable. That of variable 0 is false, the others are written in a step.
+// The values of the two literals of each variable. Variable 0 is false, the values of the others are written in a step.
 fn room_for(alloc: Global, aig: &Aig) -> Result<Vec<bool>, NoMemory>
-    ensures len { IfOk result (λ values. length values.items ≡ 1 + variables aig.now) }
-    ensures first { IfOk result (λ values. take 1 values.items ≡ false ∷ []) }
+    ensures len { IfOk result (λ values. length values.items ≡ 2 * (1 + variables aig.now)) }
+    ensures first { IfOk result (λ values. take 2 values.items ≡ both (false ∷ [])) }
 {
     let mut values = Vec::new(alloc);
     add_room(&mut values, 1)?;
@@ -109,7 +110,7 @@ fn room_for(alloc: Global, aig: &Aig) -> Result<Vec<bool>, NoMemory>
 }
 
 fn add_input_room(values: &mut Vec<bool>, words: &[InputWord]) -> Result<(), NoMemory>
-    ensures { OnOk result (values.new.items ≡ values.old.items ++ replicate (sum (input_word_widths words.now)) false) }
+    ensures { OnOk result (values.new.items ≡ values.old.items ++ both (replicate (sum (input_word_widths words.now)) false)) }
 {
     for word in words {
         add_room(values, word.width as usize)?;
@@ -118,7 +119,7 @@ fn add_input_room(values: &mut Vec<bool>, words: &[InputWord]) -> Result<(), NoM
 }
 
 fn add_latch_room(values: &mut Vec<bool>, words: &[LatchWord]) -> Result<(), NoMemory>
-    ensures { OnOk result (values.new.items ≡ values.old.items ++ replicate (sum (latch_widths words.now)) false) }
+    ensures { OnOk result (values.new.items ≡ values.old.items ++ both (replicate (sum (latch_widths words.now)) false)) }
 {
     for word in words {
         add_room(values, word.first.width() as usize)?;
@@ -127,21 +128,22 @@ fn add_latch_room(values: &mut Vec<bool>, words: &[LatchWord]) -> Result<(), NoM
 }
 
 fn add_room(values: &mut Vec<bool>, count: usize) -> Result<(), NoMemory>
-    ensures { OnOk result (values.new.items ≡ values.old.items ++ replicate count false) }
+    ensures { OnOk result (values.new.items ≡ values.old.items ++ both (replicate count false)) }
 {
     for _place in 0..count {
         values.push(false)?;
+        values.push(true)?;
     }
     Ok(())
 }
 
-// Writes the values of the variables in a step that begins with these words in the latches.
+// Writes the values of the literals in a step that begins with these words in the latches.
 fn put_values(aig: &Aig, inputs: &[Bits], states: &[Bits], values: &mut [bool])
     requires inputs { AreBits inputs.now (input_word_widths aig.now.inputs) }
     requires states { AreBits states.now (latch_widths aig.now.latches) }
-    requires room { length values.old ≡ 1 + variables aig.now }
-    requires first { take 1 values.old ≡ false ∷ [] }
-    ensures { values.new ≡ values_in aig.now inputs.now states.now }
+    requires room { length values.old ≡ 2 * (1 + variables aig.now) }
+    requires first { take 2 values.old ≡ both (false ∷ []) }
+    ensures { values.new ≡ both (values_in aig.now inputs.now states.now) }
 {
     let before = put_words(inputs, 0, values);
     let sources = put_words(states, before, values);
@@ -150,9 +152,9 @@ fn put_values(aig: &Aig, inputs: &[Bits], states: &[Bits], values: &mut [bool])
 
 // Writes the bits of words after those of other sources, and gives how many sources are written then.
 fn put_words(words: &[Bits], before: usize, values: &mut [bool]) -> usize
-    requires { 1 + before + length (bits_of words.now) ≤ length values.old }
+    requires { 2 * (1 + before + length (bits_of words.now)) ≤ length values.old }
     ensures count { result ≡ before + length (bits_of words.now) }
-    ensures values { take (1 + result) values.new ≡ take (1 + before) values.old ++ bits_of words.now }
+    ensures values { take (2 * (1 + result)) values.new ≡ take (2 * (1 + before)) values.old ++ both (bits_of words.now) }
 {
     let mut count = before;
     for word in words {
@@ -163,73 +165,90 @@ fn put_words(words: &[Bits], before: usize, values: &mut [bool]) -> usize
 }
 
 fn put_word(word: Bits, before: usize, values: &mut [bool])
-    requires { 1 + before + word.width ≤ length values.old }
-    ensures { take (1 + (before + word.width)) values.new ≡ take (1 + before) values.old ++ digits word.number word.width }
+    requires { 2 * (1 + before + word.width) ≤ length values.old }
+    ensures { take (2 * (1 + (before + word.width))) values.new ≡ take (2 * (1 + before)) values.old ++ both (digits word.number word.width) }
 {
-    let number = word.number();
+    let mut rest = word.number();
     for k in 0..word.width() {
-        values[1 + before + k as usize] = (number >> k) % 2 == 1;
+        put_value(1 + before + k as usize, rest % 2 == 1, values);
+        rest /= 2;
     }
 }
 
 // Writes the values of gates after this many sources.
 fn put_gates(gates: &[Gate], sources: usize, values: &mut [bool])
-    requires room { length values.old ≡ 1 + sources + length gates.now }
+    requires room { length values.old ≡ 2 * (1 + sources + length gates.now) }
     requires stand { AllStand sources gates.now }
-    ensures { values.new ≡ values_after (take (1 + sources) values.old) gates.now }
+    requires both { AreBoth (take (2 * (1 + sources)) values.old) }
+    ensures { values.new ≡ both (values_after (variable_values (take (2 * (1 + sources)) values.old)) gates.now) }
 {
     for (k, gate) in gates.iter().enumerate() {
-        let value = gate_value(&values[..1 + sources + k], gate);
-        values[1 + sources + k] = value;
+        let variable = 1 + sources + k;
+        let value = gate_value(&values[..2 * variable], gate);
+        put_value(variable, value, values);
     }
 }
 
+// Writes the values of a variable's two literals.
+#[inline]
+fn put_value(variable: usize, value: bool, values: &mut [bool])
+    requires { 2 * (1 + variable) ≤ length values.old }
+    ensures { take (2 * (1 + variable)) values.new ≡ take (2 * variable) values.old ++ both (value ∷ []) }
+{
+    values[2 * variable] = value;
+    values[2 * variable + 1] = !value;
+}
+
+// Both literals are read, since a branch costs more than a read.
 #[inline]
 fn gate_value(values: &[bool], gate: &Gate) -> bool
-    requires left { gate.now.left / 2 < length values.now }
-    requires right { gate.now.right / 2 < length values.now }
-    ensures { result ≡ gate_value_lem values.now gate.now }
+    requires left { gate.now.left < length values.now }
+    requires right { gate.now.right < length values.now }
+    requires both { AreBoth values.now }
+    ensures { result ≡ gate_value_lem (variable_values values.now) gate.now }
 {
-    lit_value(values, gate.left) && lit_value(values, gate.right)
+    lit_value(values, gate.left) & lit_value(values, gate.right)
 }
 
 #[inline]
 fn lit_value(values: &[bool], lit: Lit) -> bool
-    requires { lit / 2 < length values.now }
-    ensures { result ≡ lit_value_lem values.now lit }
+    requires below { lit < length values.now }
+    requires both { AreBoth values.now }
+    ensures { result ≡ lit_value_lem (variable_values values.now) lit }
 {
-    values[(lit / 2) as usize] != (lit % 2 == 1)
+    values[lit as usize]
 }
 
 // The word of the values of literals.
 fn word_value(values: &[bool], lits: &[Lit]) -> Bits
     requires some { 1 ≤ length lits.now }
     requires most { length lits.now ≤ 128 }
-    requires below { All (λ lit. lit / 2 < length values.now) lits.now }
-    ensures { result ≡ as_bits (map (lit_value_lem values.now) lits.now) }
+    requires below { All (λ lit. lit < length values.now) lits.now }
+    requires both { AreBoth values.now }
+    ensures { result ≡ as_bits (map (lit_value_lem (variable_values values.now)) lits.now) }
 {
-    let mut number: u128 = 0;
-    for (k, lit) in lits.iter().enumerate() {
-        number = with_bit(number, k as u32, lit_value(values, *lit));
+    let mut number = 0;
+    for k in (0..lits.len()).rev() {
+        number = with_bit(lit_value(values, lits[k]), number);
     }
     Bits::new(lits.len() as u32, number).unwrap()
 }
 
-// A number of this many bits with one bit more above.
+// A number with one bit more below.
 #[inline]
-fn with_bit(number: u128, width: u32, top: bool) -> u128
-    requires width { width < 128 }
-    requires number { number < 2 ^ width }
-    ensures { result ≡ number + 2 ^ width * bit top }
+fn with_bit(low: bool, number: u128) -> u128
+    requires { number < 2 ^ 127 }
+    ensures { result ≡ bit low + 2 * number }
 {
-    if top { number + (1 << width) } else { number }
+    u128::from(low) + 2 * number
 }
 
 // Each word of latches takes its next value.
 fn take_next(latches: &[LatchWord], values: &[bool], states: &mut Regs)
     requires stand { All (λ word. IsReadable values.now word) latches.now }
+    requires both { AreBoth values.now }
     requires room { length states.old ≡ length latches.now }
-    ensures { states.new ≡ next_words latches.now values.now }
+    ensures { states.new ≡ next_words latches.now (variable_values values.now) }
 {
     for (state, word) in latches.iter().enumerate() {
         states.set(state, word_value(values, word.nexts.as_slice()));
@@ -238,9 +257,10 @@ fn take_next(latches: &[LatchWord], values: &[bool], states: &mut Regs)
 
 // Each output takes the value of its literal.
 fn take_outputs(wires: &[OutputBit], values: &[bool], outputs: &mut [Bits])
-    requires stand { All (λ wire. wire.lit / 2 < length values.now) wires.now }
+    requires stand { All (λ wire. wire.lit < length values.now) wires.now }
+    requires both { AreBoth values.now }
     requires room { length outputs.old ≡ length wires.now }
-    ensures { outputs.new ≡ flags_in wires.now values.now }
+    ensures { outputs.new ≡ flags_in wires.now (variable_values values.now) }
 {
     for (output, wire) in wires.iter().enumerate() {
         outputs[output] = word_value(values, &[wire.lit]);

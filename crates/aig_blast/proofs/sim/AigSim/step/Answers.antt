@@ -1,4 +1,4 @@
-use Rattle.std.proofs.Common.{◌≡◌, ◌+◌, ◌/◌, ◌<◌, ◌++◌, List, Bool, length, get_or, take, sym, ◌∙◌, ap, subst, arith}
+use Rattle.std.proofs.Common.{◌≡◌, ◌+◌, ◌*◌, ◌<◌, ◌++◌, List, Bool, length, get_or, take, sym, ◌∙◌, ap, subst, arith}
 use Rattle.std.specs.List.{All}
 use Rattle.std.specs.Vec.{with_items}
 use Rattle.std.proofs.lemmas.List.{length-map, with_items_is}
@@ -7,10 +7,10 @@ use Rattle.circuit_eval.specs.Circuits.{AreBits}
 use Rattle.aig_blast.specs.Aigs.{AigParts, input_word_widths, IsAig, latch_widths, variables}
 use Rattle.aig_blast.specs.AigRun.{bits_of, next_words, values_in}
 use Rattle.aig_blast.specs.AigSims.{after_step, flags_in, Simulation}
-use Rattle.aig_blast.specs.inner.AigSims.{IsReadable}
+use Rattle.aig_blast.specs.inner.AigSims.{IsReadable, both, variable_values}
 use Rattle.aig_blast.specs.declared.aig.LatchWord.{LatchWord}
 use Rattle.aig_blast.specs.declared.aig.OutputBit.{OutputBit}
-use Rattle.aig_blast.proofs.SimValues.{half-below, IsReadable-latch, next_words-AreBits, take-first}
+use Rattle.aig_blast.proofs.SimValues.{Below-length, both-AreBoth, IsReadable-latch, next_words-AreBits, take-first, values-both}
 use Rattle.aig_blast.proofs.sim.AigSim.step.Goals as goal
 
 pub put_values-requires-clause-inputs : goal.put_values-requires-clause-inputs
@@ -26,14 +26,14 @@ pub put_values-requires-clause-room : goal.put_values-requires-clause-room
 put_values-requires-clause-room c = ap length c.deref_mut.ensures.value ∙ c.self.invariant.2
 
 pub put_values-requires-clause-first : goal.put_values-requires-clause-first
-put_values-requires-clause-first c = ap (take 1) c.deref_mut.ensures.value ∙ c.self.invariant.3
+put_values-requires-clause-first c = ap (take 2) c.deref_mut.ensures.value ∙ c.self.invariant.3
 
 pub take_next-requires-clause-stand : goal.take_next-requires-clause-stand
 take_next-requires-clause-stand c =
     let a : AigParts = c.self.inside.aig.now in
     let valid : IsAig a = subst IsAig c.aig.view_is c.aig.invariant in
     let values : List Bool = c.deref.result.now in
-    let len : length values ≡ 1 + variables a =
+    let len : length values ≡ 2 * (1 + variables a) =
     ap length (c.deref.ensures.value ∙ with_items_is c.self.inside.values c.put_values.new.values (omega (arith, c.put_values.auto.values, c.deref_mut.ensures.len, c.self.inside.values.ok.0))) ∙ c.put_values.auto.values ∙ ap length c.deref_mut.ensures.value ∙ c.self.invariant.2 in
     subst (All (IsReadable values)) (sym (c.as_slice-2.ensures ∙ ap (λ (w : AigParts). w.latches) c.aig.view_is)) (λ k d h. IsReadable-latch (variables a) values (get_or a.latches k d) len (valid.latches k d h))
 
@@ -42,24 +42,32 @@ take_outputs-requires-clause-stand c =
     let a : AigParts = c.self.inside.aig.now in
     let valid : IsAig a = subst IsAig c.aig.view_is c.aig.invariant in
     let values : List Bool = c.deref-2.result.now in
-    let len : length values ≡ 1 + variables a =
+    let len : length values ≡ 2 * (1 + variables a) =
     ap length (c.deref-2.ensures.value ∙ with_items_is c.self.inside.values c.put_values.new.values (omega (arith, c.put_values.auto.values, c.deref_mut.ensures.len, c.self.inside.values.ok.0))) ∙ c.put_values.auto.values ∙ ap length c.deref_mut.ensures.value ∙ c.self.invariant.2 in
-    subst (All (λ (wire : OutputBit). wire.lit / 2 < length values)) (sym (c.as_slice-3.ensures ∙ ap (λ (w : AigParts). w.outputs) c.aig.view_is)) (λ k d h. half-below (variables a) (get_or a.outputs k d).lit (length values) (valid.outputs k d h).lit len)
+    subst (All (λ (wire : OutputBit). wire.lit < length values)) (sym (c.as_slice-3.ensures ∙ ap (λ (w : AigParts). w.outputs) c.aig.view_is)) (λ k d h. Below-length (variables a) (get_or a.outputs k d).lit (length values) (valid.outputs k d h).lit len)
 
--- the values of the variables, as they are stored
-stored : (c : goal.After-self-2-1) → (with_items c.self.inside.values c.put_values.new.values).items ≡ values_in c.self.inside.aig.now c.args.inputs.now c.self.inside.states
+pub take_next-requires-clause-both : goal.take_next-requires-clause-both
+take_next-requires-clause-both c =
+    both-AreBoth c.deref.result.now _ (c.deref.ensures.value ∙ with_items_is c.self.inside.values c.put_values.new.values (omega (arith, c.put_values.auto.values, c.deref_mut.ensures.len, c.self.inside.values.ok.0)) ∙ c.put_values.ensures)
+
+pub take_outputs-requires-clause-both : goal.take_outputs-requires-clause-both
+take_outputs-requires-clause-both c =
+    both-AreBoth c.deref-2.result.now _ (c.deref-2.ensures.value ∙ with_items_is c.self.inside.values c.put_values.new.values (omega (arith, c.put_values.auto.values, c.deref_mut.ensures.len, c.self.inside.values.ok.0)) ∙ c.put_values.ensures)
+
+-- the values of the literals, as they are stored
+stored : (c : goal.After-self-2-1) → (with_items c.self.inside.values c.put_values.new.values).items ≡ both (values_in c.self.inside.aig.now c.args.inputs.now c.self.inside.states)
 stored c =
     with_items_is c.self.inside.values c.put_values.new.values (omega (arith, c.put_values.auto.values, c.deref_mut.ensures.len, c.self.inside.values.ok.0)) ∙ c.put_values.ensures
-    ∙ ap (λ (inputs : List BitVector). values_in c.self.inside.aig.now inputs c.as_slice-states.result.now) c.as_slice.ensures ∙ ap (values_in c.self.inside.aig.now c.args.inputs.now) c.as_slice-states.ensures
+    ∙ ap (λ (inputs : List BitVector). both (values_in c.self.inside.aig.now inputs c.as_slice-states.result.now)) c.as_slice.ensures ∙ ap (λ (states : List BitVector). both (values_in c.self.inside.aig.now c.args.inputs.now states)) c.as_slice-states.ensures
 
 states : (c : goal.After-self-2-1) → c.take_next.new.states ≡ next_words c.self.inside.aig.now.latches (values_in c.self.inside.aig.now c.args.inputs.now c.self.inside.states)
 states c =
-    c.take_next.ensures ∙ ap (λ (latches : List LatchWord). next_words latches c.deref.result.now) (c.as_slice-2.ensures ∙ ap (λ (w : AigParts). w.latches) c.aig.view_is) ∙ ap (next_words c.self.inside.aig.now.latches) (c.deref.ensures.value ∙ stored c)
+    c.take_next.ensures ∙ ap (λ (latches : List LatchWord). next_words latches (variable_values c.deref.result.now)) (c.as_slice-2.ensures ∙ ap (λ (w : AigParts). w.latches) c.aig.view_is) ∙ ap (next_words c.self.inside.aig.now.latches) (ap variable_values (c.deref.ensures.value ∙ stored c) ∙ values-both _)
 
 outputs : (c : goal.After-self-2-1) → (with_items c.self.inside.outputs c.take_outputs.new.outputs).items ≡ flags_in c.self.inside.aig.now.outputs (values_in c.self.inside.aig.now c.args.inputs.now c.self.inside.states)
 outputs c =
     with_items_is c.self.inside.outputs c.take_outputs.new.outputs (omega (arith, c.take_outputs.auto.outputs, c.deref_mut-2.ensures.len, c.self.inside.outputs.ok.0)) ∙ c.take_outputs.ensures
-    ∙ ap (λ (wires : List OutputBit). flags_in wires c.deref-2.result.now) (c.as_slice-3.ensures ∙ ap (λ (w : AigParts). w.outputs) c.aig.view_is) ∙ ap (flags_in c.self.inside.aig.now.outputs) (c.deref-2.ensures.value ∙ stored c)
+    ∙ ap (λ (wires : List OutputBit). flags_in wires (variable_values c.deref-2.result.now)) (c.as_slice-3.ensures ∙ ap (λ (w : AigParts). w.outputs) c.aig.view_is) ∙ ap (flags_in c.self.inside.aig.now.outputs) (ap variable_values (c.deref-2.ensures.value ∙ stored c) ∙ values-both _)
 
 pub invariant_of-self : goal.invariant_of-self
 invariant_of-self c =
@@ -69,7 +77,7 @@ invariant_of-self c =
       subst (λ (values : List BitVector). AreBits values (latch_widths a.latches)) (sym (states c)) fit,
       ap length (outputs c) ∙ length-map a.outputs _,
       ap length (with_items_is c.self.inside.values c.put_values.new.values (omega (arith, c.put_values.auto.values, c.deref_mut.ensures.len, c.self.inside.values.ok.0))) ∙ c.put_values.auto.values ∙ ap length c.deref_mut.ensures.value ∙ c.self.invariant.2,
-      ap (take 1) (stored c) ∙ take-first _ (bits_of c.args.inputs.now ++ bits_of c.self.inside.states) a.gates,
+      ap (take 2) (stored c) ∙ take-first _ (bits_of c.args.inputs.now ++ bits_of c.self.inside.states) a.gates,
     )
 
 pub returns : goal.returns
