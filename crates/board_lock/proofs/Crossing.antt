@@ -8,7 +8,7 @@ use Rattle.atomic_table.proofs.send_lease.SendLease.TheSendSync.{the_sync as lea
 use Rattle.atomic_table.proofs.shared.Seat.TheSendSync.{the_send}
 use Rattle.atomic_table.specs.contracts.shared.Seat as seat
 use Rattle.board_core.proofs.Crossing.{core_send}
-use Rattle.board_core.specs.contracts.board.Core as core
+use Rattle.board_lock.specs.contracts.home.Home as home
 use Rattle.board_lock.specs.contracts.journal.NotingSeat as noting
 use Rattle.board_lock.specs.contracts.lock.Lock as lock
 use Rattle.board_lock.specs.contracts.notes.Note as note
@@ -19,7 +19,7 @@ use Rattle.board_lock.specs.contracts.view.View as view
 pub lock_sync : IsSync lock.the_row
 lock_sync = search (the_sync, lease_sync, core_send, sendable, crosses) depth 40 fits 8000
 
-pub place_send : IsSend (seat.the_row (option.the_row core.the_row) view.the_row)
+pub place_send : IsSend (seat.the_row (option.the_row home.the_row) view.the_row)
 place_send = search (the_send, core_send, sendable, crosses) depth 40 fits 8000
 
 pub seat_send : (l : _) (T : _) → IsSync T → IsSend (lock_seat.the_row l T)

@@ -9,6 +9,7 @@
 
 mod board;
 mod call;
+mod home;
 mod journal;
 mod lock;
 mod notes;

@@ -9,6 +9,7 @@ ghost use Rattle.attempt_log.specs.Entries.{settle_entry, submit_entry};
 ghost use Rattle.board_lock.specs.Plays.{Adds, CanAdd, CanGive, CanJoin, CanSplit, HoldsBoard, IsOutside, IsOwner, KnowsAll, Served, Waits, at_stage, having_seen, joined, left, newcomer, owning};
 ghost use Rattle.board_lock.specs.declared.view.Stage.TheVariants.{Outside};
 
+use crate::home::Home;
 use crate::plays::{Add, Back, Begun, Draw, Entered, Give, GiveSeen, Law, Learn, Look, Part};
 use crate::view::View;
 use atomic_table::{Refused, Seat, Table};
@@ -20,7 +21,7 @@ use std::hint;
 use std::snapshot::Snapshot;
 use std::sync::Wait;
 
-pub(crate) type Slot = Option<Core>;
+pub(crate) type Slot = Option<Home>;
 
 pub(crate) type Place = Seat<Slot, View>;
 
@@ -84,16 +85,20 @@ impl Lock {
     }
 
     // Waits until it is this seat's turn, and takes the board.
-    pub(crate) fn enter<R: Wait>(&self, rt: &R, place: &mut Place) -> Core
+    pub(crate) fn enter<R: Wait>(&self, rt: &R, place: &mut Place) -> Box<Core>
         requires table { place.old.table_id ≡ self.now.table.shared.table_id }
         requires outside { IsOutside place.old.me }
         requires working { place.old.me.0.part.works ≡ true }
         ensures same { (place.new.table_id ≡ place.old.table_id) × (place.new.id ≡ place.old.id) }
-        ensures holds { HoldsBoard place.old.me result place.new.me }
+        ensures holds { HoldsBoard place.old.me result.value place.new.me }
     {
         let ticket = self.draw(place);
         self.wait_turn(rt, place, ticket);
-        self.table.shared.exchange(place, 0, None).unwrap()
+        self.table
+            .shared
+            .exchange(place, 0, None)
+            .unwrap()
+            .into_core()
     }
 
     // Adds the submit that E names, and returns its place.
@@ -124,26 +129,26 @@ impl Lock {
     }
 
     // Puts the board back.
-    pub(crate) fn leave(&self, place: &mut Place, board: Core)
+    pub(crate) fn leave(&self, place: &mut Place, board: Box<Core>)
         requires table { place.old.table_id ≡ self.now.table.shared.table_id }
-        requires can { CanGive place.old.me board }
+        requires can { CanGive place.old.me board.value }
         ensures same { (place.new.table_id ≡ place.old.table_id) × (place.new.id ≡ place.old.id) }
         ensures gave { place.new.me ≡ (at_stage place.old.me.0 Outside, []) }
     {
-        let empty = self.table.shared.exchange(place, 0, Some(board));
+        let empty = self.table.shared.exchange(place, 0, Some(Home::new(board)));
         drop(empty);
         self.table.shared.fetch_add::<Give>(place, 1, 1);
         self.wake();
     }
 
     // Puts the board back, and notes its history as seen.
-    pub(crate) fn leave_seen(&self, place: &mut Place, board: Core)
+    pub(crate) fn leave_seen(&self, place: &mut Place, board: Box<Core>)
         requires table { place.old.table_id ≡ self.now.table.shared.table_id }
-        requires can { CanGive place.old.me board }
+        requires can { CanGive place.old.me board.value }
         ensures same { (place.new.table_id ≡ place.old.table_id) × (place.new.id ≡ place.old.id) }
         ensures gave { place.new.me ≡ (having_seen place.old.me.0, []) }
     {
-        drop(self.table.shared.exchange(place, 0, Some(board)));
+        drop(self.table.shared.exchange(place, 0, Some(Home::new(board))));
         self.table.shared.fetch_add::<GiveSeen>(place, 1, 1);
         self.wake();
     }
@@ -155,7 +160,8 @@ impl Lock {
     {
         let mut slots = Vec::with_capacity(alloc, 1)?;
         let begun = Snapshot::of(&board);
-        slots.push_reserved(Some(board));
+        let home = Home::boxed(alloc, board)?;
+        slots.push_reserved(Some(home));
         match Table::new(alloc, &[0, 0, 0], slots, &begun) {
             Ok((table, place)) => Ok((Lock { table }, place)),
             Err(Refused { slots: _ }) => Err(NoMemory),
@@ -209,6 +215,6 @@ impl Lock {
         let mut closed = table.close_with(place);
         let board = closed.take(0).unwrap();
         closed.free();
-        board
+        Box::into_inner(board.into_core())
     }
 }

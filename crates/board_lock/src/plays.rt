@@ -1,5 +1,6 @@
 //! The rule of the lock's words, and the steps that keep it.
 
+use crate::lock::Slot;
 use crate::view::View;
 use atomic_table::{Join, Play, Split, TableRule};
 use board_core::Core;
@@ -23,7 +24,7 @@ impl Entered for Brand {
 /// What holds of the words, the slot and all views between any two steps.
 pub struct Law;
 
-impl TableRule<Option<Core>, View, Snapshot<Core>> for Law {
+impl TableRule<Slot, View, Snapshot<Core>> for Law {
     ghost use Rattle.board_lock.specs.inner.Rule.{Rule};
     ghost use Rattle.board_lock.specs.Plays.{owning};
 
@@ -35,7 +36,7 @@ impl TableRule<Option<Core>, View, Snapshot<Core>> for Law {
 /// A seat takes a ticket, and notes it.
 pub struct Draw;
 
-impl Play<Option<Core>, View> for Draw {
+impl Play<Slot, View> for Draw {
     ghost use Rattle.board_lock.specs.Plays.{drew};
 
     ghost then = { drew };
@@ -44,7 +45,7 @@ impl Play<Option<Core>, View> for Draw {
 /// A load of the number that is served: on its turn a seat has the slot and knows the history.
 pub struct Look;
 
-impl Play<Option<Core>, View> for Look {
+impl Play<Slot, View> for Look {
     ghost use Rattle.board_lock.specs.Plays.{looked};
 
     ghost then = { looked };
@@ -55,7 +56,7 @@ pub struct Add<E> {
     of: PhantomData<E>,
 }
 
-impl<E: Entered> Play<Option<Core>, View> for Add<E> {
+impl<E: Entered> Play<Slot, View> for Add<E> {
     ghost use Rattle.board_lock.specs.Plays.{added};
 
     ghost then = { added E.entry };
@@ -64,7 +65,7 @@ impl<E: Entered> Play<Option<Core>, View> for Add<E> {
 /// A seat ends its turn: it drops its ticket and the slot.
 pub struct Give;
 
-impl Play<Option<Core>, View> for Give {
+impl Play<Slot, View> for Give {
     ghost use Rattle.board_lock.specs.Plays.{gave};
 
     ghost then = { gave };
@@ -73,7 +74,7 @@ impl Play<Option<Core>, View> for Give {
 /// As `Give`, and the history that was held is noted as seen.
 pub struct GiveSeen;
 
-impl Play<Option<Core>, View> for GiveSeen {
+impl Play<Slot, View> for GiveSeen {
     ghost use Rattle.board_lock.specs.Plays.{gave_seen};
 
     ghost then = { gave_seen };
@@ -82,7 +83,7 @@ impl Play<Option<Core>, View> for GiveSeen {
 /// A load by the board's own seat, which learns what the joined seats made.
 pub struct Learn;
 
-impl Play<Option<Core>, View> for Learn {
+impl Play<Slot, View> for Learn {
     ghost use Rattle.board_lock.specs.Plays.{learned};
 
     ghost then = { learned };

@@ -16,4 +16,4 @@ returns c =
     let m = c.args.place.me in
     let e = closes _ _ m.0 _ _ c.requires.own c.requires.none c.requires.outside.0 c.close_with-closed.ensures.values.2 in
     let is = some_is _ _ (sym c.unwrap-board.ensures ∙ taken_is _ _ _ c.take.ensures.value e.1) in
-    record { board = subst (λ (k : Kept). Leaves m.0.opened m.0.seen k) (sym is) e.2; legal = e.3 }
+    record { board = subst (λ (k : Kept). Leaves m.0.opened m.0.seen k) (sym (c.into_inner.ensures ∙ c.into_core.ensures ∙ is)) e.2; legal = e.3 }

@@ -1,7 +1,8 @@
 use Rattle.std.proofs.Common.{rules, ap, sym, subst, ◌∙◌}
 use Rattle.attempt_log.specs.declared.entry.Entry.{Entry}
 use Rattle.attempt_log.specs.Entries.{settle_entry}
-use Rattle.board_lock.specs.Plays.{Made, IsWorker}
+use Rattle.board_core.specs.Kept.{Kept}
+use Rattle.board_lock.specs.Plays.{HoldsBoard, Made, IsWorker}
 use Rattle.board_lock.specs.declared.view.Part.{Part}
 use Rattle.board_lock.proofs.Calls.{can_add, can_give, made, receipt, seen_by, worker_kept}
 use Rattle.board_lock.proofs.Endings.{extends_begins, extends_since, settled_ended}
@@ -12,42 +13,45 @@ pub add_settle-place-requires-clause-can : goal.add_settle-place-requires-clause
 add_settle-place-requires-clause-can g c =
     let m = c.args.self.now.place.me in
     let n = c.enter-board.new.place.me in
-    let h = c.enter-board.ensures.holds in
-    let t = took_settle m.0.opened h.0 c.enter-board.result c.settle-answer.new.self n.0.part.worker c.settle-answer.result h.1 h.2.2 c.settle-answer.ensures.step c.settle-answer.ensures.opening in
-    can_add m n c.enter-board.result _ h t.0 c.args.self.now.working (worker_kept m n c.enter-board.result h)
+    let h = subst (λ (k : Kept). HoldsBoard m k n) (sym c.deref_mut.ensures.value) c.enter-board.ensures.holds in
+    let t = took_settle m.0.opened h.0 c.deref_mut.result.now c.settle-answer.new.self n.0.part.worker c.settle-answer.result h.1 h.2.2 c.settle-answer.ensures.step c.settle-answer.ensures.opening in
+    can_add m n c.deref_mut.result.now _ h t.0 c.args.self.now.working (worker_kept m n c.deref_mut.result.now h)
 
 pub leave-requires-clause-can : goal.leave-requires-clause-can
 leave-requires-clause-can g c =
     let m = c.args.self.now.place.me in
     let n = c.enter-board.new.place.me in
-    let h = c.enter-board.ensures.holds in
-    let t = took_settle m.0.opened h.0 c.enter-board.result c.settle-answer.new.self n.0.part.worker c.settle-answer.result h.1 h.2.2 c.settle-answer.ensures.step c.settle-answer.ensures.opening in
-    can_give m n c.add_settle-place.new.place.me c.enter-board.result c.add_settle-place.result c.settle-answer.new.self _ h c.add_settle-place.ensures.added t.1
+    let h = subst (λ (k : Kept). HoldsBoard m k n) (sym c.deref_mut.ensures.value) c.enter-board.ensures.holds in
+    let t = took_settle m.0.opened h.0 c.deref_mut.result.now c.settle-answer.new.self n.0.part.worker c.settle-answer.result h.1 h.2.2 c.settle-answer.ensures.step c.settle-answer.ensures.opening in
+    can_give m n c.add_settle-place.new.place.me c.deref_mut.result.now c.add_settle-place.result c.settle-answer.new.self _ h c.add_settle-place.ensures.added t.1
 
 pub returns-clause-made : goal.returns-clause-made
 returns-clause-made g c =
     let m = c.args.self.now.place.me in
     let n = c.enter-board.new.place.me in
-    let h = c.enter-board.ensures.holds in
-    let t = took_settle m.0.opened h.0 c.enter-board.result c.settle-answer.new.self n.0.part.worker c.settle-answer.result h.1 h.2.2 c.settle-answer.ensures.step c.settle-answer.ensures.opening in
-    let of = worker_kept m n c.enter-board.result h in
+    let h = subst (λ (k : Kept). HoldsBoard m k n) (sym c.deref_mut.ensures.value) c.enter-board.ensures.holds in
+    let t = took_settle m.0.opened h.0 c.deref_mut.result.now c.settle-answer.new.self n.0.part.worker c.settle-answer.result h.1 h.2.2 c.settle-answer.ensures.step c.settle-answer.ensures.opening in
+    let of = worker_kept m n c.deref_mut.result.now h in
     let q = c.leave.new.place.me in
     subst (λ (e : Entry). Made m e q) (λ i. settle_entry ((of ∙ c.args.self.now.numbered) i) c.settle-answer.result)
-    (made m n c.add_settle-place.new.place.me q c.enter-board.result c.add_settle-place.result _ h t.0 c.add_settle-place.ensures.added c.leave.ensures.gave c.args.self.now.working.0 of)
+    (made m n c.add_settle-place.new.place.me q c.deref_mut.result.now c.add_settle-place.result _ h t.0 c.add_settle-place.ensures.added c.leave.ensures.gave c.args.self.now.working.0 of)
 
 pub returns-clause-place : goal.returns-clause-place
 returns-clause-place g c =
-    receipt c.args.self.now.place.me c.enter-board.new.place.me c.add_settle-place.new.place.me c.leave.new.place.me c.enter-board.result c.add_settle-place.result _ c.enter-board.ensures.holds c.add_settle-place.ensures.added c.leave.ensures.gave
+    let m = c.args.self.now.place.me in
+    let n = c.enter-board.new.place.me in
+    let h = subst (λ (k : Kept). HoldsBoard m k n) (sym c.deref_mut.ensures.value) c.enter-board.ensures.holds in
+    receipt m n c.add_settle-place.new.place.me c.leave.new.place.me c.deref_mut.result.now c.add_settle-place.result _ h c.add_settle-place.ensures.added c.leave.ensures.gave
 
 pub invariant_of-self : goal.invariant_of-self
 invariant_of-self g c =
     let m = c.args.self.now.place.me in
     let n = c.enter-board.new.place.me in
-    let h = c.enter-board.ensures.holds in
-    let t = took_settle m.0.opened h.0 c.enter-board.result c.settle-answer.new.self n.0.part.worker c.settle-answer.result h.1 h.2.2 c.settle-answer.ensures.step c.settle-answer.ensures.opening in
-    let of = worker_kept m n c.enter-board.result h in
+    let h = subst (λ (k : Kept). HoldsBoard m k n) (sym c.deref_mut.ensures.value) c.enter-board.ensures.holds in
+    let t = took_settle m.0.opened h.0 c.deref_mut.result.now c.settle-answer.new.self n.0.part.worker c.settle-answer.result h.1 h.2.2 c.settle-answer.ensures.step c.settle-answer.ensures.opening in
+    let of = worker_kept m n c.deref_mut.result.now h in
     let q = c.leave.new.place.me in
-    let done = made m n c.add_settle-place.new.place.me q c.enter-board.result c.add_settle-place.result _ h t.0 c.add_settle-place.ensures.added c.leave.ensures.gave c.args.self.now.working.0 of in
+    let done = made m n c.add_settle-place.new.place.me q c.deref_mut.result.now c.add_settle-place.result _ h t.0 c.add_settle-place.ensures.added c.leave.ensures.gave c.args.self.now.working.0 of in
     record {
       same = search rules;
       outside = done.0;
@@ -55,6 +59,6 @@ invariant_of-self g c =
       working = subst IsWorker (sym done.1.3) c.args.self.now.working;
       mine = done.1.5;
       since = extends_since m.0 q.0 _ done.1 c.args.self.now.since;
-      finished = settled_ended m q h.0 n.0.part.worker c.args.self.now.counts.ended c.count_settle.new.self.ended c.settle-answer.result t.0 (seen_by m n c.add_settle-place.new.place.me q c.enter-board.result c.add_settle-place.result _ h c.add_settle-place.ensures.added c.leave.ensures.gave)
+      finished = settled_ended m q h.0 n.0.part.worker c.args.self.now.counts.ended c.count_settle.new.self.ended c.settle-answer.result t.0 (seen_by m n c.add_settle-place.new.place.me q c.deref_mut.result.now c.add_settle-place.result _ h c.add_settle-place.ensures.added c.leave.ensures.gave)
           (extends_begins m.0 q.0 _ done.1) done.1.4 c.args.self.now.finished c.count_settle.ensures.ended;
     }
