@@ -22,7 +22,7 @@ use Rattle.koika_top.specs.declared.teller.Form.TheVariants.{OfReport, OfSummary
 use Rattle.koika_top.specs.declared.teller.Teller.{Teller}
 use Rattle.front_end.specs.declared.untold.Untold.{Untold}
 use Rattle.front_end.specs.declared.untold.Untold.TheVariants as untold
-use Rattle.koika_top.proofs.CircuitRows.{drop-none}
+use Rattle.koika_top.proofs.MachineRows.{drop-none}
 use Rattle.front_end.proofs.Told.{at, told-as, told-cut, told-so-far, told-then}
 
 -- ---- rows in two parts

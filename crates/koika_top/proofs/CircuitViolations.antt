@@ -22,7 +22,7 @@ use Rattle.koika_top.specs.Btorsim.{violations}
 use Rattle.koika_top.specs.Btorsim as text
 use Rattle.koika_top.specs.inner.CircuitRuns.{AreBadsOf, ShowsBads, violations_by}
 use Rattle.koika_top.specs.declared.bad_flags.BadFlags.{BadFlags}
-use Rattle.koika_top.proofs.CircuitRows.{drop-none}
+use Rattle.koika_top.proofs.MachineRows.{drop-none}
 
 -- the first that passes among images is the first whose image passes
 position_from-map : {X Y : Type 0} (f : X → Y) (p : Y → Bool) (q : X → Bool) → ((x : X) → p (f x) ≡ q x) → (from : ℕ) (xs : List X) → position_from p from (map f xs) ≡ position_from q from xs

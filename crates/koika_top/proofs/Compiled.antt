@@ -40,7 +40,7 @@ use Rattle.front_end.specs.declared.answer.Answer.{Answer}
 use Rattle.front_end.specs.declared.answer.Answer.TheVariants.{Usage, Refused, Written}
 use Rattle.koika_top.specs.declared.shown.Shown.{Shown}
 use Rattle.koika_top.proofs.BadLines.{flags-all}
-use Rattle.koika_top.proofs.CircuitRows.{drop-none}
+use Rattle.koika_top.proofs.MachineRows.{drop-none}
 use Rattle.front_end.proofs.OneSource.{long_or_spelled, same_design, spelled_or_not}
 use Rattle.front_end.proofs.Reading.{stimulus-fits, widths-valid}
 use Rattle.koika_top.proofs.Shapes.{both-agree}

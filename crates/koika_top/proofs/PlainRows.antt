@@ -13,7 +13,7 @@ use Rattle.one_rule.specs.Stimulus.{InputVectors, inputs_of}
 use Rattle.one_rule.specs.declared.rows.Row.{Row}
 use Rattle.one_rule.proofs.Runs.{rows_are_cycles, runs_in_parts}
 use Rattle.koika_top.specs.inner.Engines.{AreRows, HasRun}
-use Rattle.koika_top.proofs.CircuitRows.{drop-none}
+use Rattle.koika_top.proofs.MachineRows.{drop-none}
 
 -- ---- the rows of a run
 

@@ -1,8 +1,7 @@
 //! Engines: the run of an AIGER text that `aigsim` asks for.
 
-ghost use Rattle.std.specs.Prelude.{◌≡◌, ◌≤◌, ◌<◌, ◌^◌, ◌⊎◌, [], IfOk, OnOk, true, length};
+ghost use Rattle.std.specs.Prelude.{◌≡◌, ◌≤◌, ◌<◌, ◌^◌, ◌⊎◌, IfOk, OnOk, true, length};
 ghost use Rattle.kw_base.specs.Fault.{IfFault};
-ghost use Rattle.aig_blast.specs.AigRun as bits;
 ghost use Rattle.aig_blast.specs.Aigs.{input_word_widths};
 ghost use Rattle.aiger_text.specs.AigShapes as shapes;
 ghost use Rattle.one_rule.specs.Stimulus.{inputs_of};
@@ -11,22 +10,16 @@ ghost use Rattle.koika_top.specs.Aigsim.{HasNoStimulus, IsRefusal, RunsTooLong};
 ghost use Rattle.koika_top.specs.Btorsim.{longest_circuit};
 ghost use Rattle.front_end.specs.Streams.{stream};
 ghost use Rattle.koika_top.specs.inner.AigTexts.{HoldsGraph, HoldsGraphRun, shown_graph};
-ghost use Rattle.koika_top.specs.inner.Telling.{HasRows, all_told, marks_in, shown_by};
 ghost use Rattle.front_end.specs.Told.{Told};
 
-use crate::aig_engine::AigEngine;
 use crate::circuit_run::fits;
+use crate::machine_run::tell_shown;
 use crate::recall::has_valid_parts;
 use crate::shown::Shown;
-use crate::tell::tell;
-use crate::teller::Teller;
-use aig_blast::Aig;
+use aig_blast::{Aig, AigSim};
 use aiger_text::{aig_shape, read_aiger};
-use attempt_log::NoGate;
 use front_end::Untold;
-use koika_assert::Watch;
 use kw_base::Refusal;
-use kw_bits::Sequence;
 use kw_io::Sink;
 use one_rule::Stimulus;
 use std::alloc::Global;
@@ -70,41 +63,18 @@ impl AigRun {
         ensures { Told (shown_graph self.now.shown self.now.aig self.now.stimulus self.now.cycles)
             (stream K.written K.faults sink.old sink.new) result }
     {
-        let none = Watch::new(alloc, Sequence::new(alloc), Sequence::new(alloc))?;
-        let teller = Teller::new(alloc, &self.shape, Some(self.shown), none)?;
-        tell_aig(
+        has_valid_parts(&self.aig);
+        let sim = AigSim::begin(alloc, &self.aig)?;
+        tell_shown(
             alloc,
-            &self.aig,
+            sim,
             &self.stimulus,
             self.cycles,
             &self.shape,
-            teller,
+            self.shown,
             sink,
         )
     }
-}
-
-// Runs a bit-level circuit for these cycles, and writes what a teller that has no rows yet tells of its rows.
-fn tell_aig<K: Sink>(
-    alloc: Global,
-    aig: &Aig,
-    stimulus: &Stimulus,
-    cycles: u32,
-    shape: &Shape,
-    teller: Teller,
-    sink: &mut K,
-) -> Result<(), Untold>
-    requires few { cycles ≤ 16777216 }
-    requires widths { stimulus.now.widths ≡ input_word_widths aig.now.inputs }
-    requires shape { shape.now ≡ shapes.shape_of aig.now }
-    requires none { HasRows teller shape.now (marks_in teller) [] }
-    ensures { Told (all_told (shown_by teller) shape.now (marks_in teller)
-        (bits.run_of aig.now (inputs_of stimulus.now) cycles))
-        (stream K.written K.faults sink.old sink.new) result }
-{
-    has_valid_parts(aig);
-    let mut engine = AigEngine::begin(alloc, aig, stimulus)?;
-    tell(alloc, &NoGate, &mut engine, cycles, shape, teller, sink)
 }
 
 // The run of a source's circuit, or the fault of its stimulus or of its length.

@@ -1,6 +1,6 @@
 //! Engines: the run of a BTOR2 text that `btorsim` asks for.
 
-ghost use Rattle.std.specs.Prelude.{◌≡◌, ◌≤◌, ◌<◌, ◌^◌, ◌⊎◌, [], IfOk, IfSome, OnOk, List, false, true, length};
+ghost use Rattle.std.specs.Prelude.{◌≡◌, ◌≤◌, ◌<◌, ◌^◌, ◌⊎◌, IfOk, IfSome, OnOk, List, false, true, length};
 ghost use Rattle.std.specs.List.{range_with_len};
 ghost use Rattle.std.proofs.Props.{props};
 ghost use Rattle.kw_base.specs.Fault.{IfFault};
@@ -17,25 +17,20 @@ ghost use Rattle.front_end.specs.Lengths as lengths;
 ghost use Rattle.koika_top.specs.Sim.{rows_text};
 ghost use Rattle.front_end.specs.Sources.{fault_of_source};
 ghost use Rattle.front_end.specs.Streams.{stream};
-ghost use Rattle.koika_top.specs.inner.Telling.{HasRows, all_told, marks_in, shown_by};
 ghost use Rattle.front_end.specs.Told.{Told};
 
 use crate::bad_flags::{BadFlags, bad_watch};
-use crate::circuit_engine::CircuitEngine;
 use crate::circuit_shapes::circuit_shape;
+use crate::machine_run::{tell_machine, tell_shown};
 use crate::recall::has_valid_wires;
 use crate::shown::Shown;
-use crate::tell::tell;
 use crate::teller::Teller;
-use attempt_log::NoGate;
 use btor2_model::{Btor, accept};
 use btor2_net::to_circuit;
 use btor2_text::read_lines;
-use circuit_eval::Circuit;
+use circuit_eval::{Circuit, Sim};
 use front_end::{Untold, always_fits, fault_of_source, is_too_long};
-use koika_assert::Watch;
 use kw_base::{Refusal, fault_number};
-use kw_bits::Sequence;
 use kw_io::Sink;
 use one_rule::Stimulus;
 use std::alloc::Global;
@@ -95,15 +90,16 @@ impl CircuitRun {
             (wired.run_of self.now.circuit (inputs_of self.now.stimulus) self.now.cycles))
             (stream K.written K.faults sink.old sink.new) result }
     {
-        let none = Watch::new(alloc, Sequence::new(alloc), Sequence::new(alloc))?;
-        let teller = Teller::new(alloc, &self.shape, Some(self.shown), none)?;
-        tell_circuit(
+        has_valid_wires(&self.circuit);
+        always_fits(alloc, &self.stimulus);
+        let sim = Sim::begin(alloc, &self.circuit)?;
+        tell_shown(
             alloc,
-            &self.circuit,
+            sim,
             &self.stimulus,
             self.cycles,
             &self.shape,
-            teller,
+            self.shown,
             sink,
         )
     }
@@ -132,12 +128,15 @@ impl CircuitRun {
             (wired.run_of bads.now.circuit (inputs_of self.now.stimulus) self.now.cycles))
             (stream K.written K.faults sink.old sink.new) result }
     {
+        has_valid_wires(&bads.circuit);
+        always_fits(alloc, &self.stimulus);
         let shape = circuit_shape(alloc, &bads.circuit)?;
         let watch = bad_watch(alloc, bads.names.as_slice())?;
         let teller = Teller::new(alloc, &shape, None, watch)?;
-        tell_circuit(
+        let sim = Sim::begin(alloc, &bads.circuit)?;
+        tell_machine(
             alloc,
-            &bads.circuit,
+            sim,
             &self.stimulus,
             self.cycles,
             &shape,
@@ -145,30 +144,6 @@ impl CircuitRun {
             sink,
         )
     }
-}
-
-// Runs a circuit for these cycles, and writes what a teller that has no rows yet tells of its rows.
-fn tell_circuit<K: Sink>(
-    alloc: Global,
-    circuit: &Circuit,
-    stimulus: &Stimulus,
-    cycles: u32,
-    shape: &Shape,
-    teller: Teller,
-    sink: &mut K,
-) -> Result<(), Untold>
-    requires few { cycles ≤ 16777216 }
-    requires widths { stimulus.now.widths ≡ input_widths circuit.now.inputs }
-    requires shape { shape.now ≡ circuits.shape_of circuit.now }
-    requires none { HasRows teller shape.now (marks_in teller) [] }
-    ensures { Told (all_told (shown_by teller) shape.now (marks_in teller)
-        (wired.run_of circuit.now (inputs_of stimulus.now) cycles))
-        (stream K.written K.faults sink.old sink.new) result }
-{
-    has_valid_wires(circuit);
-    always_fits(alloc, stimulus);
-    let mut engine = CircuitEngine::begin(alloc, circuit, stimulus)?;
-    tell(alloc, &NoGate, &mut engine, cycles, shape, teller, sink)
 }
 
 // The run of a source's text, or the fault of its stimulus or of its length. The text isn't kept.

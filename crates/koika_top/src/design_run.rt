@@ -13,11 +13,11 @@ ghost use Rattle.front_end.specs.Streams.{stream};
 ghost use Rattle.front_end.specs.Systems.{run_of};
 ghost use Rattle.front_end.specs.Told.{Told};
 
-use crate::circuit_engine::CircuitEngine;
 use crate::circuit_read::read_again;
 use crate::circuits::lines_of;
 use crate::engine::Engine;
 use crate::engine_kind::EngineKind;
+use crate::machine_engine::MachineEngine;
 use crate::plain_engine::PlainEngine;
 use crate::shown::Shown;
 use crate::tell::tell;
@@ -25,6 +25,7 @@ use crate::teller::Teller;
 use crate::watch::watch_of;
 use crate::workers_engine::WorkersEngine;
 use attempt_log::{Gate, NoGate};
+use circuit_eval::Sim;
 use front_end::{
     Lowered, Untold, always_fits, fault_of_source, is_too_long_for, is_valid, read_source,
 };
@@ -106,7 +107,8 @@ impl Run {
         always_fits(alloc, stimulus);
         let lines = lines_of(alloc, &self.lowered)?;
         let circuit = read_again(alloc, &lines)?;
-        let mut engine = CircuitEngine::begin(alloc, &circuit, stimulus)?;
+        let sim = Sim::begin(alloc, &circuit)?;
+        let mut engine = MachineEngine::begin(sim, stimulus);
         self.write_by(alloc, &NoGate, &mut engine, sink)
     }
 

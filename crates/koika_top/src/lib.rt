@@ -5,11 +5,9 @@
 //! The program's `main` calls `run`.
 #![tactic(auto)]
 
-mod aig_engine;
 mod aig_run;
 mod aiger;
 mod bad_flags;
-mod circuit_engine;
 mod circuit_read;
 mod circuit_run;
 mod circuit_shapes;
@@ -25,6 +23,8 @@ mod journal_run;
 mod journaled;
 mod last_row;
 mod laws;
+mod machine_engine;
+mod machine_run;
 mod plain_engine;
 mod program;
 mod reads;

@@ -1,34 +1,34 @@
-use Rattle.std.proofs.Common.{ap, ◌∙◌}
+use Rattle.std.proofs.Common.{refl, sym, subst}
 use Rattle.std.proofs.lemmas.Result.{err_from_is_err_and}
 use Rattle.aig_blast.specs.AigRun.{run_of}
 use Rattle.one_rule.specs.Stimulus.{inputs_of}
+use Rattle.stim_report.specs.Shapes.{RowsFit}
 use Rattle.stim_report.specs.declared.shape.Shape.{Shape}
-use Rattle.front_end.specs.Marks.{Marks}
 use Rattle.koika_top.specs.Sim.{rows_text}
-use Rattle.koika_top.proofs.CircuitTold.{has-own, nothing-after}
+use Rattle.koika_top.proofs.AigFits.{aig-rows-fit}
+use Rattle.koika_top.proofs.MachineRuns.{aig-rows}
 use Rattle.front_end.proofs.Told.{told-as, told-none}
 use Rattle.koika_top.proofs.aig_run.AigRun.write.Goals as goal
 
-pub returns-in_err-none : goal.returns-in_err-none
-returns-in_err-none g c =
+pub returns-in_err-sim : goal.returns-in_err-sim
+returns-in_err-sim g c =
     let p = err_from_is_err_and c.from_residual.result c.from_residual.ensures.1 in
     rw (p.1, p.2) (told-none _ _ _)
 
-pub returns-in_err-teller : goal.returns-in_err-teller
-returns-in_err-teller g c =
-    let p = err_from_is_err_and c.from_residual-in_err-teller.result c.from_residual-in_err-teller.ensures.1 in
-    rw (p.1, p.2) (told-none _ _ _)
+pub tell_shown-requires-clause-first : goal.tell_shown-requires-clause-first
+tell_shown-requires-clause-first g c = rw c.in_ok-sim.ensures refl
 
-pub tell_aig-requires-clause-none : goal.tell_aig-requires-clause-none
-tell_aig-requires-clause-none g c =
-    let marks : Marks = record { names = c.new.result; rules = c.new-2.result } in
-    has-own c.in_ok-teller.teller c.args.self.now.shape marks (c.in_ok-teller.ensures.rows marks c.in_ok-none.ensures)
+pub tell_shown-requires-clause-widths : goal.tell_shown-requires-clause-widths
+tell_shown-requires-clause-widths g c = rw c.in_ok-sim.ensures c.args.self.now.stimulus_fits
+
+pub tell_shown-requires-clause-fit : goal.tell_shown-requires-clause-fit
+tell_shown-requires-clause-fit g c n =
+    let run = c.args.self.now in
+    subst (RowsFit run.shape) (sym (aig-rows run.aig c.in_ok-sim.sim (inputs_of run.stimulus) n c.in_ok-sim.ensures))
+    (subst (λ (s : Shape). RowsFit s (run_of run.aig (inputs_of run.stimulus) n)) (sym run.shape_fits) (aig-rows-fit run.aig c.has_valid_parts.ensures (inputs_of run.stimulus) n))
 
 pub returns : goal.returns
 returns g c =
     let run = c.args.self.now in
-    let marks : Marks = record { names = c.new.result; rules = c.new-2.result } in
-    told-as _ _ _ c.tell_aig.result
-    (nothing-after c.in_ok-teller.teller run.shape marks run.shown _ c.new.ensures (c.in_ok-teller.ensures.rows marks c.in_ok-none.ensures) c.in_ok-teller.ensures.shown
-    ∙ ap (λ (s : Shape). rows_text run.shown s (run_of run.aig (inputs_of run.stimulus) run.cycles)) run.shape_fits)
-    c.tell_aig.ensures
+    let rows = aig-rows run.aig c.in_ok-sim.sim (inputs_of run.stimulus) run.cycles c.in_ok-sim.ensures in
+    told-as _ _ _ c.tell_shown.result (λ i. rows_text run.shown (run.shape_fits i) (rows i)) c.tell_shown.ensures

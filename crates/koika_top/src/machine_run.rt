@@ -1,0 +1,69 @@
+//! Engines: the run of a machine, told from its beginning.
+
+ghost use Rattle.std.specs.Prelude.{◌≡◌, ◌≤◌, ℕ, []};
+ghost use Rattle.front_end.specs.Streams.{stream};
+ghost use Rattle.front_end.specs.Told.{Told};
+ghost use Rattle.one_rule.specs.Stimulus.{inputs_of};
+ghost use Rattle.stim_report.specs.Shapes.{RowsFit};
+ghost use Rattle.koika_top.specs.Sim.{rows_text};
+ghost use Rattle.koika_top.specs.inner.Engines.{rows_of};
+ghost use Rattle.koika_top.specs.inner.Telling.{HasRows, all_told, marks_in, shown_by};
+
+use crate::machine_engine::{Begun, MachineEngine};
+use crate::shown::Shown;
+use crate::tell::tell;
+use crate::teller::Teller;
+use attempt_log::NoGate;
+use front_end::Untold;
+use koika_assert::Watch;
+use kw_bits::Sequence;
+use kw_io::Sink;
+use one_rule::Stimulus;
+use std::alloc::Global;
+use stim_report::Shape;
+
+/// Runs a machine for these cycles, and writes what is shown of its rows.
+pub(crate) fn tell_shown<M: Begun + Drop, K: Sink>(
+    alloc: Global,
+    machine: M,
+    stimulus: &Stimulus,
+    cycles: u32,
+    shape: &Shape,
+    shown: Shown,
+    sink: &mut K,
+) -> Result<(), Untold>
+    requires few { cycles ≤ 16777216 }
+    requires first { machine ≡ M.beginning machine }
+    requires widths { stimulus.now.widths ≡ M.input_widths machine }
+    requires fit { (n : ℕ) → RowsFit shape.now (rows_of M.after_step M.row_at (inputs_of stimulus.now) machine n) }
+    ensures { Told (rows_text shown shape.now
+        (rows_of M.after_step M.row_at (inputs_of stimulus.now) machine cycles))
+        (stream K.written K.faults sink.old sink.new) result }
+{
+    let none = Watch::new(alloc, Sequence::new(alloc), Sequence::new(alloc))?;
+    let teller = Teller::new(alloc, shape, Some(shown), none)?;
+    tell_machine(alloc, machine, stimulus, cycles, shape, teller, sink)
+}
+
+/// Runs a machine for these cycles, and writes what a teller that has no rows yet tells of its rows.
+pub(crate) fn tell_machine<M: Begun + Drop, K: Sink>(
+    alloc: Global,
+    machine: M,
+    stimulus: &Stimulus,
+    cycles: u32,
+    shape: &Shape,
+    teller: Teller,
+    sink: &mut K,
+) -> Result<(), Untold>
+    requires few { cycles ≤ 16777216 }
+    requires first { machine ≡ M.beginning machine }
+    requires widths { stimulus.now.widths ≡ M.input_widths machine }
+    requires fit { (n : ℕ) → RowsFit shape.now (rows_of M.after_step M.row_at (inputs_of stimulus.now) machine n) }
+    requires none { HasRows teller shape.now (marks_in teller) [] }
+    ensures { Told (all_told (shown_by teller) shape.now (marks_in teller)
+        (rows_of M.after_step M.row_at (inputs_of stimulus.now) machine cycles))
+        (stream K.written K.faults sink.old sink.new) result }
+{
+    let mut engine = MachineEngine::begin(machine, stimulus);
+    tell(alloc, &NoGate, &mut engine, cycles, shape, teller, sink)
+}
