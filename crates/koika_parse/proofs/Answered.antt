@@ -23,7 +23,9 @@ use Rattle.koika_parse.specs.declared.cursor.Cursor.{Cursor}
 use Rattle.koika_parse.specs.declared.source.Source.{Source}
 use Rattle.koika_parse.specs.declared.stop.Stop.{Stop}
 use Rattle.koika_parse.specs.declared.stop.Stop.TheVariants as stops
-use Rattle.koika_parse.proofs.Expected.{Apart, Empty, Goes, finish, free, free_last, last, last_stopped, never_none, one_takes, refused_one, same_of_some, step, stopped, too_deep, within}
+use Rattle.koika_parse.proofs.Expected.{Language, Lookahead, Apart, Empty, Goes, finish, free, free_last, last}
+use Rattle.koika_parse.proofs.Expected.{last_stopped, never_none, one_takes, refused_one, same_of_some, step, stopped}
+use Rattle.koika_parse.proofs.Expected.{too_deep, within}
 use Rattle.koika_parse.proofs.Reading.{one_token, open_behind_next}
 
 -- it is so, or it isn't
@@ -90,7 +92,9 @@ unfolding name_or number_or literal_or keyword_or
 decide_terminal (name a) (name b) = decide_as (decide_bytes a b) (ap name) (ap name_or)
 decide_terminal (number a) (number b) = decide_as (decide_number a b) (ap number) (ap number_or)
 decide_terminal (literal a) (literal b) =
-    decide_both (decide_number a.width b.width) (decide_number a.number b.number) (λ p q i. literal (record { width = p i; number = q i })) (λ e. (ap (λ t. (literal_or t).width) e, ap (λ t. (literal_or t).number) e))
+    decide_both (decide_number a.width b.width) (decide_number a.number b.number)
+    (λ p q i. literal (record { width = p i; number = q i }))
+    (λ e. (ap (λ t. (literal_or t).width) e, ap (λ t. (literal_or t).number) e))
 decide_terminal (keyword a) (keyword b) = decide_as (decide_bytes (keyword_text a) (keyword_text b)) (λ e. ap keyword (same_keyword a b e)) (λ e. ap (λ t. keyword_text (keyword_or t)) e)
 decide_terminal (symbol a) (symbol b) = decide_as (decide_bytes (symbol_text a) (symbol_text b)) (λ e. ap symbol (same_symbol a b e)) (λ e. ap (λ t. symbol_text (symbol_or t)) e)
 decide_terminal a b = inr (λ e. cc e)
@@ -121,12 +125,28 @@ abbrev pub IsRefusal : Stop → Type 0
 IsRefusal stops.NoMemory = ⊥
 IsRefusal _ = ⊤
 
-abbrev pub Answered : Source → Cursor → (List Leaf → Type 0) → (Option Terminal → Type 0) → Type 0
-Answered source old Word Follow = (new : Cursor) × (Takes {X = ⊤} source old new Word Follow (Ok tt) ⊎ ((stop : Stop) × IsRefusal stop × Takes {X = ⊤} source old new Word Follow (Err stop)))
+-- no word is read up to this cursor, since the text has none
+abbrev pub Refused : Source → (old new : Cursor) → Language → Lookahead → Type 0
+Refused source old new Word Follow = (stop : Stop) × IsRefusal stop × Takes {X = ⊤} source old new Word Follow (Err stop)
+
+-- reading comes to an end at this cursor, and at some cursor
+abbrev pub Ended : Source → (old new : Cursor) → Language → Lookahead → Type 0
+Ended source old new Word Follow = Takes {X = ⊤} source old new Word Follow (Ok tt) ⊎ Refused source old new Word Follow
+
+abbrev pub Answered : Source → Cursor → Language → Lookahead → Type 0
+Answered source old Word Follow = (new : Cursor) × Ended source old new Word Follow
 
 -- at a cursor with fewer tokens left than at this one
 abbrev pub Fewer : Source → Cursor → (Cursor → Type 0) → Type 0
 Fewer source old At = (mid : Cursor) → tokens_left source mid < tokens_left source old → At mid
+
+-- at each cursor from this one on
+abbrev pub Further : Cursor → (Cursor → Type 0) → Type 0
+Further old At = (mid : Cursor) → old.at ≤ mid.at → At mid
+
+-- where this is left of a word, reading that word comes to an end
+abbrev pub Ends : Source → Cursor → Language → Lookahead → Language → Cursor → Type 0
+Ends source old Word Follow Rest new = Goes source old new Word Follow Rest → Answered source old Word Follow
 
 -- what follows for a cursor from all cursors with fewer tokens left holds for each
 pub by_tokens : (source : Source) (At : Cursor → Type 0) → ((old : Cursor) → Fewer source old At → At old) → (old : Cursor) → At old
@@ -137,38 +157,43 @@ by_tokens source At each old = up_to (suc (tokens_left source old)) old (omega a
     up_to (suc n) mid less = each mid (λ beyond fewer. up_to n beyond (omega (arith, less, fewer)))
 
 -- a part, and then what is left
-pub part_then : {source : Source} {old mid : Cursor} {Word : List Leaf → Type 0} {Follow Mid : Option Terminal → Type 0} {P Q : List Leaf → Type 0} →
-    Goes source old mid Word Follow (Then P Q) → Answered source mid P Mid → Apart Q Follow Mid → ((new : Cursor) → mid.at ≤ new.at → Goes source old new Word Follow Q → Answered source old Word Follow) → Answered source old Word Follow
+pub part_then : {source : Source} {old mid : Cursor} {Word : Language} {Follow Mid : Lookahead} {P Q : Language} →
+    Goes source old mid Word Follow (Then P Q) → Answered source mid P Mid → Apart Q Follow Mid → Further mid (Ends source old Word Follow Q) → Answered source old Word Follow
 part_then {source} {old} {mid} {Word} {Follow} {Mid} {P} {Q} goes part apart more = of part.1
   where
-    of : (Takes {X = ⊤} source mid part.0 P Mid (Ok tt) ⊎ ((stop : Stop) × IsRefusal stop × Takes {X = ⊤} source mid part.0 P Mid (Err stop))) → Answered source old Word Follow
+    of : Ended source mid part.0 P Mid → Answered source old Word Follow
     of (inl takes) = more part.0 takes.forward (step goes takes apart)
     of (inr refused) = (part.0, inr (refused.0, refused.1, stopped goes refused.2 apart))
 
-pub any_then : {source : Source} {old mid : Cursor} {Word : List Leaf → Type 0} {Follow : Option Terminal → Type 0} {P Q : List Leaf → Type 0} →
-    Goes source old mid Word Follow (Then P Q) → Answered source mid P Any → ((new : Cursor) → mid.at ≤ new.at → Goes source old new Word Follow Q → Answered source old Word Follow) → Answered source old Word Follow
+pub any_then : {source : Source} {old mid : Cursor} {Word : Language} {Follow : Lookahead} {P Q : Language} →
+    Goes source old mid Word Follow (Then P Q) → Answered source mid P Any → Further mid (Ends source old Word Follow Q) → Answered source old Word Follow
 any_then {Follow = Follow} {Q = Q} goes part more = part_then goes part (free Q Follow) more
 
 -- the last part
-pub part_last : {source : Source} {old mid : Cursor} {Word : List Leaf → Type 0} {Follow Mid : Option Terminal → Type 0} {P : List Leaf → Type 0} →
+pub part_last : {source : Source} {old mid : Cursor} {Word : Language} {Follow Mid : Lookahead} {P : Language} →
     Goes source old mid Word Follow P → Answered source mid P Mid → ((v : List Leaf) → Behind Follow v → Behind Mid v) → Answered source old Word Follow
 part_last {source} {old} {mid} {Word} {Follow} {Mid} {P} goes part apart = of part.1
   where
-    of : (Takes {X = ⊤} source mid part.0 P Mid (Ok tt) ⊎ ((stop : Stop) × IsRefusal stop × Takes {X = ⊤} source mid part.0 P Mid (Err stop))) → Answered source old Word Follow
+    of : Ended source mid part.0 P Mid → Answered source old Word Follow
     of (inl takes) = (part.0, inl (last tt goes takes apart))
     of (inr refused) = (part.0, inr (refused.0, refused.1, last_stopped goes refused.2 apart))
 
-pub any_last : {source : Source} {old mid : Cursor} {Word : List Leaf → Type 0} {Follow : Option Terminal → Type 0} {P : List Leaf → Type 0} → Goes source old mid Word Follow P → Answered source mid P Any → Answered source old Word Follow
+pub any_last :
+    {source : Source} {old mid : Cursor} {Word : Language} {Follow : Lookahead} {P : Language} →
+    Goes source old mid Word Follow P → Answered source mid P Any → Answered source old Word Follow
 any_last {Follow = Follow} goes part = part_last goes part (free_last Follow)
 
 -- nothing is left
-pub none_left : {source : Source} {old new : Cursor} {Word : List Leaf → Type 0} {Follow : Option Terminal → Type 0} → Goes source old new Word Follow Empty → Answered source old Word Follow
+pub none_left : {source : Source} {old new : Cursor} {Word : Language} {Follow : Lookahead} → Goes source old new Word Follow Empty → Answered source old Word Follow
 none_left {new = new} goes = (new, inl (finish tt goes))
 
--- one token, and the next one behind it
+-- one token is read, and the next one is behind it; or none is
+abbrev SteppedTo : Source → (old new : Cursor) → Terminal → Type 0
+SteppedTo source old new terminal =
+    ((new.at ≡ old.at + 1) × (old.at < length source.tokens.now) × Takes {X = ⊤} source old new (One terminal) Any (Ok tt)) ⊎ Refused source old new (One terminal) Any
+
 abbrev Stepped : Source → Cursor → Terminal → Type 0
-Stepped source old terminal =
-    (new : Cursor) × (((new.at ≡ old.at + 1) × (old.at < length source.tokens.now) × Takes {X = ⊤} source old new (One terminal) Any (Ok tt)) ⊎ ((stop : Stop) × IsRefusal stop × Takes {X = ⊤} source old new (One terminal) Any (Err stop)))
+Stepped source old terminal = (new : Cursor) × SteppedTo source old new terminal
 
 few_or_deep : (n : ℕ) → (n ≤ 64) ⊎ (64 < n)
 few_or_deep n = grind arith
@@ -190,14 +215,14 @@ stepped source old terminal = of (decide_next (next source old) terminal)
     of (inl at) = at_token at (few_or_deep (open_behind old.depth terminal))
     of (inr other) = (old, inr (stops.Unexpected, tt, refused_one terminal other))
 
-pub one_then : {source : Source} {old mid : Cursor} {Word : List Leaf → Type 0} {Follow : Option Terminal → Type 0} {terminal : Terminal} {Q : List Leaf → Type 0} →
-    Goes source old mid Word Follow (Then (One terminal) Q) → ((new : Cursor) → tokens_left source new < tokens_left source mid → Goes source old new Word Follow Q → Answered source old Word Follow) → Answered source old Word Follow
+pub one_then : {source : Source} {old mid : Cursor} {Word : Language} {Follow : Lookahead} {terminal : Terminal} {Q : Language} →
+    Goes source old mid Word Follow (Then (One terminal) Q) → Fewer source mid (Ends source old Word Follow Q) → Answered source old Word Follow
 one_then {source} {old} {mid} {Word} {Follow} {terminal} {Q} goes more = of (stepped source mid terminal).1
   where
     new : Cursor
     new = (stepped source mid terminal).0
 
-    of : (((new.at ≡ mid.at + 1) × (mid.at < length source.tokens.now) × Takes {X = ⊤} source mid new (One terminal) Any (Ok tt)) ⊎ ((stop : Stop) × IsRefusal stop × Takes {X = ⊤} source mid new (One terminal) Any (Err stop))) → Answered source old Word Follow
+    of : SteppedTo source mid new terminal → Answered source old Word Follow
     of (inl one) = more new (omega (arith, one.0, one.1)) (step goes one.2 (free Q Follow))
     of (inr refused) = (new, inr (refused.0, refused.1, stopped goes refused.2 (free Q Follow)))
 
@@ -207,15 +232,15 @@ one_answered source old terminal = of (stepped source old terminal).1
     new : Cursor
     new = (stepped source old terminal).0
 
-    of : (((new.at ≡ old.at + 1) × (old.at < length source.tokens.now) × Takes {X = ⊤} source old new (One terminal) Any (Ok tt)) ⊎ ((stop : Stop) × IsRefusal stop × Takes {X = ⊤} source old new (One terminal) Any (Err stop))) → Answered source old (One terminal) Any
+    of : SteppedTo source old new terminal → Answered source old (One terminal) Any
     of (inl one) = (new, inl one.2)
     of (inr refused) = (new, inr refused)
 
-pub one_last : {source : Source} {old mid : Cursor} {Word : List Leaf → Type 0} {Follow : Option Terminal → Type 0} {terminal : Terminal} → Goes source old mid Word Follow (One terminal) → Answered source old Word Follow
+pub one_last : {source : Source} {old mid : Cursor} {Word : Language} {Follow : Lookahead} {terminal : Terminal} → Goes source old mid Word Follow (One terminal) → Answered source old Word Follow
 one_last {source} {old} {mid} {Word} {Follow} {terminal} goes = any_last goes (one_answered source mid terminal)
 
 -- each word has a token
-abbrev pub HasToken : (List Leaf → Type 0) → Type 0
+abbrev pub HasToken : Language → Type 0
 HasToken P = (q : List Leaf) → P q → (terminal : Terminal) × (first (q ++ []) ≡ Some terminal)
 
 some_length : (q : List Leaf) {terminal : Terminal} → first (q ++ []) ≡ Some terminal → 0 < length q
@@ -235,16 +260,19 @@ stand_length text (leaf ∷ leaves) [] stand = absurd stand
 stand_length text (leaf ∷ leaves) (token ∷ tokens) stand = ap suc (stand_length text leaves tokens stand.1)
 
 -- a word with a token leaves fewer tokens
-leaves_fewer : {source : Source} {old new : Cursor} {P : List Leaf → Type 0} {Follow : Option Terminal → Type 0} → HasToken P → Takes {X = ⊤} source old new P Follow (Ok tt) → tokens_left source new < tokens_left source old
+leaves_fewer : {source : Source} {old new : Cursor} {P : Language} {Follow : Lookahead} → HasToken P → Takes {X = ⊤} source old new P Follow (Ok tt) → tokens_left source new < tokens_left source old
 leaves_fewer {source} some takes =
     let front = takes.leads in
     let text = source.text.now in
-    omega (arith, front.reads.left, zip_length text front.read front.reads.tokens front.reads.each, stand_length text front.whole front.reads.tokens front.stands, some_length front.whole (some front.whole front.word).1)
+    let tokens = front.reads.tokens in
+    let read = zip_length text front.read tokens front.reads.each in
+    let whole = stand_length text front.whole tokens front.stands in
+    omega (arith, front.reads.left, read, whole, some_length front.whole (some front.whole front.word).1)
 
-pub part_more : {source : Source} {old mid : Cursor} {Word : List Leaf → Type 0} {Follow Mid : Option Terminal → Type 0} {P Q : List Leaf → Type 0} → HasToken P →
-    Goes source old mid Word Follow (Then P Q) → Answered source mid P Mid → Apart Q Follow Mid → ((new : Cursor) → tokens_left source new < tokens_left source mid → Goes source old new Word Follow Q → Answered source old Word Follow) → Answered source old Word Follow
+pub part_more : {source : Source} {old mid : Cursor} {Word : Language} {Follow Mid : Lookahead} {P Q : Language} → HasToken P →
+    Goes source old mid Word Follow (Then P Q) → Answered source mid P Mid → Apart Q Follow Mid → Fewer source mid (Ends source old Word Follow Q) → Answered source old Word Follow
 part_more {source} {old} {mid} {Word} {Follow} {Mid} {P} {Q} some goes part apart more = of part.1
   where
-    of : (Takes {X = ⊤} source mid part.0 P Mid (Ok tt) ⊎ ((stop : Stop) × IsRefusal stop × Takes {X = ⊤} source mid part.0 P Mid (Err stop))) → Answered source old Word Follow
+    of : Ended source mid part.0 P Mid → Answered source old Word Follow
     of (inl takes) = more part.0 (leaves_fewer some takes) (step goes takes apart)
     of (inr refused) = (part.0, inr (refused.0, refused.1, stopped goes refused.2 apart))

@@ -4,7 +4,9 @@ use Rattle.koika_parse.proofs.MadeExpressions.{chain_within, operand_within, pos
 use Rattle.koika_parse.proofs.Witnesses.{some_level, some_name, some_number, some_suffix}
 use Rattle.std.proofs.lemmas.List.Elements.{All-cons, All-head, All-nil, All-tail}
 use Rattle.koika_syntax.specs.declared.tree.Operand.{Operand}
-use Rattle.std.proofs.Common.{◌≡◌, ℕ, zero, suc, ◌+◌, ◌-◌, ◌<◌, ◌≤◌, Option, None, Some, IfSome, Err, List, [], ◌∷◌, ◌++◌, append_assoc, append-nil, inl, inr, refl, ap, sym, subst, ◌∙◌, arith, Ok, length, lit<, ◌^◌}
+use Rattle.std.proofs.Common.{◌≢◌, ◌≡◌, ℕ, zero, suc, ◌+◌, ◌-◌, ◌<◌, ◌≤◌, Option, None, Some, IfSome, Err, List, []}
+use Rattle.std.proofs.Common.{◌∷◌, ◌++◌, append_assoc, append-nil, inl, inr, refl, ap, sym, subst, ◌∙◌, arith, Ok}
+use Rattle.std.proofs.Common.{length, lit<, ◌^◌}
 use Rattle.std.specs.Prelude.{◌⊎◌, ⊤}
 use Rattle.koika_syntax.specs.Grammar.{IsSuffix, IsName, NumberFits, level_of, prefix_leaves, suffix_leaves}
 use Rattle.koika_syntax.specs.inner.Grammar.{expression_leaves, operand_leaves}
@@ -19,16 +21,31 @@ use Rattle.koika_syntax.specs.declared.tree.Suffix.{Suffix}
 use Rattle.koika_syntax.specs.declared.tree.Suffix.TheVariants as suffixes
 use Rattle.koika_syntax.specs.declared.tree.Prefix.{Prefix}
 use Rattle.koika_parse.specs.inner.Expected.{One, Part, Then, first, Behind, Takes, InVector}
-use Rattle.koika_parse.specs.inner.ExpressionWords.{holds, Free, LevelWord, OperandsWord, OperatorWord, SomeOperandsWord, IsAtOperator, PrefixWord, PrefixesWord, SuffixesWord, IsAtPrefix, IsAtSuffix, no_prefix}
+use Rattle.koika_parse.specs.inner.ExpressionWords.{OneSuffix, holds, Free, LevelWord, OperandsWord, OperatorWord}
+use Rattle.koika_parse.specs.inner.ExpressionWords.{SomeOperandsWord, IsAtOperator, PrefixWord, PrefixesWord}
+use Rattle.koika_parse.specs.inner.ExpressionWords.{SuffixesWord, IsAtPrefix, IsAtSuffix, no_prefix}
 use Rattle.koika_parse.specs.inner.Parts.{IsOperandIn}
 use Rattle.koika_parse.specs.inner.Reading.{next, tokens_left}
 use Rattle.koika_parse.specs.declared.cursor.Cursor.{Cursor}
 use Rattle.koika_parse.specs.declared.source.Source.{Source}
 use Rattle.koika_parse.specs.declared.stop.Stop.TheVariants as stops
-use Rattle.koika_parse.proofs.Expected.{Empty, Apart, Goes, start, starts, goes_as, narrow, narrow_part, refused, same_of_some, kind_of, Has, Kept, Within, begin, has_within, kept, like_one, like_part, like_then, made, made_at, place_one, room_at, same_of, some_one, some_then, step}
+use Rattle.koika_parse.proofs.Expected.{Language, Lookahead, same_first, ◌⨾◌, a_part, a_sign, word_as, Empty, Apart}
+use Rattle.koika_parse.proofs.Expected.{Goes, start, starts, goes_as, narrow, narrow_part, refused, same_of_some}
+use Rattle.koika_parse.proofs.Expected.{kind_of, Has, Kept, Within, begin, has_within, kept, like_one, like_part}
+use Rattle.koika_parse.proofs.Expected.{like_then, made, made_at, place_one, room_at, same_of, some_one, some_then}
+use Rattle.koika_parse.proofs.Expected.{step}
 use Rattle.koika_parse.proofs.Rows.{Rows, the_first, the_second, rows_cases, rows_made, rows_none, first_one, rows_split}
 use Rattle.koika_parse.proofs.Words.{sign_word}
 use Rattle.koika_parse.proofs.ExpressionWords.{OperandWord, PrimaryWord, primary_word, chain_split, unary_split, postfix_split, operand_word}
+
+abbrev pub OneName : Language
+OneName = Part IsName name_leaves
+
+abbrev pub OneNumber : Language
+OneNumber = Part NumberFits number_leaves
+
+abbrev pub OneOperand : ℕ → Language
+OneOperand k = Part (IsOperandIn k) operand_leaves
 
 -- how tightly what begins with a token may hold together: 2 for a primary, 1 for operators in front of one
 abbrev pub begins : Terminal → ℕ
@@ -60,7 +77,7 @@ begins (keyword keywords.Write3) = 2
 begins _ = 0
 
 -- a word that begins so
-abbrev pub Begins : ℕ → List Leaf → Type 0
+abbrev pub Begins : ℕ → Language
 Begins n u = (leaf : Leaf) × (rest : List Leaf) × (u ≡ leaf ∷ rest) × (n ≤ begins leaf.terminal)
 
 begins_then : {n : ℕ} {a : List Leaf} (b u : List Leaf) → Begins n a → u ≡ a ++ b → Begins n u
@@ -68,7 +85,7 @@ begins_then b u word same = (word.0, word.1 ++ b, same ∙ ap (λ l. l ++ b) wor
 
 -- a word that begins so doesn't begin with this token
 pub other_token : {n : ℕ} {u : List Leaf} (v : List Leaf) (terminal : Terminal) → Begins n u → first (u ++ v) ≡ Some terminal → begins terminal < n → ⊥
-other_token {n} {u} v terminal word at low = omega (arith, low, word.3, ap begins (same_of_some (sym (ap (λ l. first (l ++ v)) word.2) ∙ at)))
+other_token {n} {u} v terminal word at low = omega (arith, low, word.3, ap begins (same_of_some (sym (same_first v word.2) ∙ at)))
 
 primary_begins : (t : Terminal) (u : List Leaf) → PrimaryWord (kind_of t) u → 2 ≤ begins t
 primary_begins (literal bits) u word = omega arith
@@ -138,21 +155,7 @@ chain_begins k low high u word = level_begins (10 - k) k (omega (arith, high)) l
 
 pub holds_operator : (operator : BinaryOperator) → holds (binary_symbol operator) ≡ Some (level_of operator)
 holds_operator binary.Or = refl
-holds_operator binary.Xor = refl
-holds_operator binary.And = refl
-holds_operator binary.Equal = refl
-holds_operator binary.NotEqual = refl
-holds_operator binary.Less = refl
-holds_operator binary.LessOrEqual = refl
-holds_operator binary.Greater = refl
-holds_operator binary.GreaterOrEqual = refl
-holds_operator binary.Concat = refl
-holds_operator binary.ShiftLeft = refl
-holds_operator binary.ShiftRight = refl
-holds_operator binary.ShiftRightSigned = refl
-holds_operator binary.Add = refl
-holds_operator binary.Subtract = refl
-holds_operator binary.Multiply = refl
+holds_operator _ = refl
 
 -- an operator goes on with the expressions of its level and looser ones alone
 free_operator : (k : ℕ) (operator : BinaryOperator) → level_of operator < k → Free k (Some (symbol (binary_symbol operator)))
@@ -170,42 +173,53 @@ free_more k l less (Some (symbol s)) free = of (holds s) free
     of None low = tt
     of (Some n) low = omega (arith, low, less)
 free_more k l less (Some (keyword keywords.Else)) free = omega (arith, free, less)
-free_more k l less (Some (keyword _)) free = tt
-free_more k l less (Some (name bytes)) free = tt
-free_more k l less (Some (number n)) free = tt
-free_more k l less (Some (literal bits)) free = tt
+free_more k l less _ free = tt
+
+-- an operand, and others where there is room for so many more
+abbrev pub MoreOperands : ℕ → ℕ → Language
+MoreOperands n k = Then (OneOperand k) (OperandsWord (n + 1) k)
+
+-- an operator of this level is the first token
+abbrev BeginsWithOperator : ℕ → List Leaf → Type 0
+BeginsWithOperator k u = (operator : BinaryOperator) × (level_of operator ≡ k) × (first u ≡ Some (symbol (binary_symbol operator)))
 
 -- an operand begins with its operator
-pub operand_first : (k : ℕ) (r v : List Leaf) → Part (IsOperandIn k) operand_leaves r → (operator : BinaryOperator) × (level_of operator ≡ k) × (first (r ++ v) ≡ Some (symbol (binary_symbol operator)))
+pub operand_first : (k : ℕ) (r v : List Leaf) → OneOperand k r → BeginsWithOperator k (r ++ v)
 operand_first k r v part =
     let word = operand_word k part.0 part.1 in
-    (word.2.0, word.2.1, ap (λ l. first (l ++ v)) (part.2 ∙ word.4 ∙ ap (λ l. l ++ word.1) word.2.2.2) ∙ ap Some word.2.2.1)
+    (word.2.0, word.2.1, same_first v (part.2 ∙ word.4 ∙ ap (λ l. l ++ word.1) word.2.2.2) ∙ ap Some word.2.2.1)
 
-operands_first : (n k : ℕ) (r v : List Leaf) → Then (Part (IsOperandIn k) operand_leaves) (OperandsWord (n + 1) k) r → (operator : BinaryOperator) × (level_of operator ≡ k) × (first (r ++ v) ≡ Some (symbol (binary_symbol operator)))
+operands_first : (n k : ℕ) (r v : List Leaf) → MoreOperands n k r → BeginsWithOperator k (r ++ v)
 operands_first n k r v both =
     let head = operand_first k both.0 (both.1 ++ v) both.2 in
-    (head.0, head.1, ap (λ l. first (l ++ v)) both.4 ∙ ap first (append_assoc both.0 both.1 v) ∙ head.2)
+    (head.0, head.1, same_first v both.4 ∙ ap first (append_assoc both.0 both.1 v) ∙ head.2)
 
 -- operands where there is room for so many more, and what is left of them
-operands_cases : (n k : ℕ) (r : List Leaf) → OperandsWord n k r → Empty r ⊎ Then (Part (IsOperandIn k) operand_leaves) (OperandsWord (n + 1) k) r
-operands_cases n k r word = subst (λ r. Empty r ⊎ Then (Part (IsOperandIn k) operand_leaves) (OperandsWord (n + 1) k) r) (sym word.2) (of word.0 word.1)
+operands_cases : (n k : ℕ) (r : List Leaf) → OperandsWord n k r → Empty r ⊎ MoreOperands n k r
+operands_cases n k r word = subst (λ r. Empty r ⊎ MoreOperands n k r) (sym word.2) (of word.0 word.1)
   where
     of : (xs : List Operand) → All (IsOperandIn k) xs × InVector (length xs + n) →
-        Empty (flat_map operand_leaves xs) ⊎ Then (Part (IsOperandIn k) operand_leaves) (OperandsWord (n + 1) k) (flat_map operand_leaves xs)
+        Empty (flat_map operand_leaves xs) ⊎ MoreOperands n k (flat_map operand_leaves xs)
     of [] all = inl refl
     of (x ∷ xs) all =
         inr (operand_leaves x, flat_map operand_leaves xs, (x, All-head (IsOperandIn k) x xs all.0, refl), (xs, (All-tail (IsOperandIn k) x xs all.0, omega (arith, all.1)), refl), refl)
 
-operands_within : (n k : ℕ) → InVector n → Within (λ r. Empty r ⊎ Then (Part (IsOperandIn k) operand_leaves) (OperandsWord (n + 1) k) r) (OperandsWord n k)
+operands_made : (n k : ℕ) (r : List Leaf) → MoreOperands n k r → OperandsWord n k r
+operands_made n k r both =
+    let o = both.2 in
+    let os = both.3 in
+    let are = All-cons (IsOperandIn k) o.0 os.0 o.1 os.1.0 in
+    (o.0 ∷ os.0, (are, omega (arith, os.1.1)), both.4 ∙ ap (λ l. l ++ both.1) o.2 ∙ ap (λ l. operand_leaves o.0 ++ l) os.2)
+
+operands_within : (n k : ℕ) → InVector n → Within (λ r. Empty r ⊎ MoreOperands n k r) (OperandsWord n k)
 operands_within n k fits q (inl empty) = kept q [] ([], (All-nil (IsOperandIn k), omega (arith, fits)), refl) (same_of (sym empty))
-operands_within n k fits q (inr both) =
-    kept q q (both.2.0 ∷ both.3.0, (All-cons (IsOperandIn k) both.2.0 both.3.0 both.2.1 both.3.1.0, omega (arith, both.3.1.1)), both.4 ∙ ap (λ l. l ++ both.1) both.2.2 ∙ ap (λ l. operand_leaves both.2.0 ++ l) both.3.2) (same_of refl)
+operands_within n k fits q (inr both) = kept q q (operands_made n k q both) (same_of refl)
 
 abbrev no_operands : (n k : ℕ) → InVector n → Has (OperandsWord n k)
 no_operands n k fits = ([], ([], (All-nil (IsOperandIn k), omega (arith, fits)), refl))
 
 -- so many operands have been read, no more than tokens
-pub record OperandsGo (source : Source) (old new : Cursor) (k : ℕ) (Word : List Leaf → Type 0) : Type 0 where
+pub record OperandsGo (source : Source) (old new : Cursor) (k : ℕ) (Word : Language) : Type 0 where
   pub count : ℕ
   pub low : count ≤ new.at + 1
   pub fits : count < 2 ^ 63
@@ -215,7 +229,7 @@ pub record OperandsGo (source : Source) (old new : Cursor) (k : ℕ) (Word : Lis
 pub operands_apart : (n k : ℕ) → Apart (OperandsWord n k) (Free k) (Free (k + 1))
 operands_apart n k q v word behind = of (operands_cases n k q word)
   where
-    of : Empty q ⊎ Then (Part (IsOperandIn k) operand_leaves) (OperandsWord (n + 1) k) q → Behind (Free (k + 1)) (q ++ v)
+    of : Empty q ⊎ MoreOperands n k q → Behind (Free (k + 1)) (q ++ v)
     of (inl empty) = subst (λ l. Behind (Free (k + 1)) (l ++ v)) (sym empty) (free_more k (k + 1) (omega arith) (first v) behind)
     of (inr some) =
         let head = operands_first n k q v some in
@@ -244,64 +258,73 @@ some_operator k low high = found (of k low high)
 some_operand_word : (k : ℕ) → 0 < k → k ≤ 9 → Has (OperandWord k)
 some_operand_word k low high = some_then (some_operator k low high) (some_level (k + 1) (omega (arith, high)))
 
-some_operand : (k : ℕ) → 0 < k → k ≤ 9 → Has (Part (IsOperandIn k) operand_leaves)
+some_operand : (k : ℕ) → 0 < k → k ≤ 9 → Has (OneOperand k)
 some_operand k low high = has_within (operand_within k) (some_operand_word k low high)
 
 -- at an operator of the level, one operand more; elsewhere none
-pub operands_at : {source : Source} {old new : Cursor} {Word : List Leaf → Type 0} (k : ℕ) → 0 < k → k ≤ 9 → IsAtOperator source new k → (go : OperandsGo source old new k Word) →
-    Goes source old new Word (Free k) (Then (Part (IsOperandIn k) operand_leaves) (OperandsWord (go.count + 1) k))
+pub operands_at : {source : Source} {old new : Cursor} {Word : Language} (k : ℕ) → 0 < k → k ≤ 9 → IsAtOperator source new k → (go : OperandsGo source old new k Word) →
+    Goes source old new Word (Free k) (MoreOperands go.count k)
 operands_at {source} {old} {new} k low high at go = the_second (goes_as go.goes (operands_cases go.count k) ([], inl refl) (operands_within go.count k go.fits))
-    (λ r v empty behind same. omega (arith, at.1, taken_operator k at.0 (subst (Free k) (ap (λ l. first (l ++ v)) (sym empty) ∙ same ∙ at.2) behind)))
+    (λ r v empty behind same. omega (arith, at.1, taken_operator k at.0 (subst (Free k) (same_first v (sym empty) ∙ same ∙ at.2) behind)))
     (some_then (some_operand k low high) (no_operands (go.count + 1) k (room_at source new go.count at.2 go.low)))
 
-pub operands_next : {X : Type 0} {source : Source} {old mid new : Cursor} {Word : List Leaf → Type 0} {x : X} (k : ℕ) → 0 < k → k ≤ 9 → IsAtOperator source mid k → OperandsGo source old mid k Word →
-    Takes source mid new (Part (IsOperandIn k) operand_leaves) (Free (k + 1)) (Ok x) → tokens_left source new < tokens_left source mid → OperandsGo source old new k Word
-operands_next {source = source} {mid = mid} k low high at go takes fewer = record {
-  count = go.count + 1;
-  low = omega (arith, go.low, fewer);
-  fits = room_at source mid go.count at.2 go.low;
-  goes = step (operands_at k low high at go) takes (operands_apart (go.count + 1) k);
-}
+-- one operand more has been read
+pub operands_again : {source : Source} {old mid new : Cursor} {Word : Language} (k : ℕ) → IsAtOperator source mid k → (go : OperandsGo source old mid k Word) →
+    mid.at < new.at → Goes source old new Word (Free k) (OperandsWord (go.count + 1) k) → OperandsGo source old new k Word
+operands_again {source = source} {mid = mid} k at go further goes =
+    record { count = go.count + 1; low = omega (arith, go.low, further); fits = room_at source mid go.count at.2 go.low; goes = goes }
 
-pub operands_end : {source : Source} {old new : Cursor} {Word : List Leaf → Type 0} (k : ℕ) → (IsAtOperator source new k → ⊥) → OperandsGo source old new k Word → Goes source old new Word (Free k) Empty
+pub operands_next : {X : Type 0} {source : Source} {old mid new : Cursor} {Word : Language} {x : X} (k : ℕ) → 0 < k → k ≤ 9 → IsAtOperator source mid k → OperandsGo source old mid k Word →
+    Takes source mid new (OneOperand k) (Free (k + 1)) (Ok x) → tokens_left source new < tokens_left source mid → OperandsGo source old new k Word
+operands_next k low high at go takes fewer =
+    operands_again k at go (omega (arith, fewer)) (step (operands_at k low high at go) takes (operands_apart (go.count + 1) k))
+
+pub operands_end : {source : Source} {old new : Cursor} {Word : Language} (k : ℕ) → (IsAtOperator source new k → ⊥) → OperandsGo source old new k Word → Goes source old new Word (Free k) Empty
 operands_end k other go = the_first (goes_as go.goes (operands_cases go.count k) ([], inl refl) (operands_within go.count k go.fits))
     (λ r v some behind same. let head = operands_first go.count k r v some in other (head.0, head.1, sym same ∙ head.2)) ([], refl)
 
 -- a chain is an operand and those behind it
-pub chain_start : {source : Source} {cursor : Cursor} {Follow : Option Terminal → Type 0} (k : ℕ) → 0 < k → k ≤ 9 → Goes source cursor cursor (LevelWord k) Follow (Then (LevelWord (k + 1)) (OperandsWord 0 k))
+pub chain_start : {source : Source} {cursor : Cursor} {Follow : Lookahead} (k : ℕ) → 0 < k → k ≤ 9 → Goes source cursor cursor (LevelWord k) Follow (Then (LevelWord (k + 1)) (OperandsWord 0 k))
 chain_start k low high = start (λ u word. of u (chain_split k low high u word)) (some_then (some_level (k + 1) (omega (arith, high))) (no_operands 0 k (lit< tt))) (chain_within k)
   where
     of : (u : List Leaf) → LevelWord (k + 1) u ⊎ Then (LevelWord (k + 1)) (SomeOperandsWord k) u → Then (LevelWord (k + 1)) (OperandsWord 0 k) u
     of u (inl tighter) = (u, [], tighter, (no_operands 0 k (lit< tt)).1, sym (append-nil u))
-    of u (inr both) = (both.0, both.1, both.2, again both.1 both.3, both.4)
-      where
-        again : (r : List Leaf) → SomeOperandsWord k r → OperandsWord 0 k r
-        again r some = (some.2.0 ∷ some.3.0, (All-cons (IsOperandIn k) some.2.0 some.3.0 some.2.1 some.3.1.0, omega (arith, some.3.1.1)), some.4 ∙ ap (λ l. l ++ some.1) some.2.2 ∙ ap (λ l. operand_leaves some.2.0 ++ l) some.3.2)
+    of u (inr both) = (both.0, both.1, both.2, operands_made 0 k both.1 both.3, both.4)
 
 -- behind the first operand of a chain
-abbrev pub chain_go : {X : Type 0} {source : Source} {old new : Cursor} {x : X} (k : ℕ) → 0 < k → k ≤ 9 → Takes source old new (LevelWord (k + 1)) (Free (k + 1)) (Ok x) → OperandsGo source old new k (LevelWord k)
+abbrev pub chain_go :
+    {X : Type 0} {source : Source} {old new : Cursor} {x : X} (k : ℕ) → 0 < k → k ≤ 9 →
+    Takes source old new (LevelWord (k + 1)) (Free (k + 1)) (Ok x) → OperandsGo source old new k (LevelWord k)
 chain_go k low high takes = record { count = 0; low = omega arith; fits = lit< tt; goes = step (chain_start k low high) takes (operands_apart 0 k) }
 
-pub operands_start : {source : Source} {cursor : Cursor} {Follow : Option Terminal → Type 0} (k : ℕ) → 0 < k → k ≤ 9 → Goes source cursor cursor (SomeOperandsWord k) Follow (SomeOperandsWord k)
+pub operands_start : {source : Source} {cursor : Cursor} {Follow : Lookahead} (k : ℕ) → 0 < k → k ≤ 9 → Goes source cursor cursor (SomeOperandsWord k) Follow (SomeOperandsWord k)
 operands_start k low high = begin (SomeOperandsWord k) (some_then (some_operand k low high) (no_operands 1 k (lit< tt)))
 
-pub operands_first_go : {X : Type 0} {source : Source} {old new : Cursor} {x : X} (k : ℕ) → 0 < k → k ≤ 9 → Takes source old new (Part (IsOperandIn k) operand_leaves) (Free (k + 1)) (Ok x) → OperandsGo source old new k (SomeOperandsWord k)
+pub operands_first_go :
+    {X : Type 0} {source : Source} {old new : Cursor} {x : X} (k : ℕ) → 0 < k → k ≤ 9 →
+    Takes source old new (OneOperand k) (Free (k + 1)) (Ok x) → OperandsGo source old new k (SomeOperandsWord k)
 operands_first_go k low high takes = record { count = 1; low = omega arith; fits = lit< tt; goes = step (operands_start k low high) takes (operands_apart 1 k) }
 
-pub operand_start : {source : Source} {cursor : Cursor} {Follow : Option Terminal → Type 0} (k : ℕ) → 0 < k → k ≤ 9 → Goes source cursor cursor (Part (IsOperandIn k) operand_leaves) Follow (OperandWord k)
+pub operand_start : {source : Source} {cursor : Cursor} {Follow : Lookahead} (k : ℕ) → 0 < k → k ≤ 9 → Goes source cursor cursor (OneOperand k) Follow (OperandWord k)
 operand_start k low high = starts (OperandWord k) (operand_word k) (some_operand_word k low high) (operand_within k)
 
-pub operator_start : {source : Source} {cursor : Cursor} {Follow : Option Terminal → Type 0} (k : ℕ) → 0 < k → k ≤ 9 → Goes source cursor cursor (OperatorWord k) Follow (OperatorWord k)
+pub operator_start : {source : Source} {cursor : Cursor} {Follow : Lookahead} (k : ℕ) → 0 < k → k ≤ 9 → Goes source cursor cursor (OperatorWord k) Follow (OperatorWord k)
 operator_start k low high = begin (OperatorWord k) (some_operator k low high)
 
 -- an operator by the next token
-pub operator_at : {source : Source} {cursor : Cursor} {Follow : Option Terminal → Type 0} (k : ℕ) → 0 < k → k ≤ 9 → (operator : BinaryOperator) → level_of operator ≡ k → next source cursor ≡ Some (symbol (binary_symbol operator)) →
+pub operator_at :
+    {source : Source} {cursor : Cursor} {Follow : Lookahead} (k : ℕ) → 0 < k → k ≤ 9 → (operator : BinaryOperator) →
+    level_of operator ≡ k → next source cursor ≡ Some (symbol (binary_symbol operator)) →
     Goes source cursor cursor (OperatorWord k) Follow (One (symbol (binary_symbol operator)))
 operator_at k low high operator level at =
-    narrow (operator_start k low high) (λ r v word behind same. (word.2.0, same_of_some (sym (ap (λ l. first (l ++ v)) word.2.2) ∙ same ∙ at), word.2.2)) (some_one (symbol (binary_symbol operator))) (λ q one. kept q q (operator, level, one) (same_of refl))
+    narrow (operator_start k low high) (λ r v word behind same. (word.2.0, same_of_some (sym (same_first v word.2.2) ∙ same ∙ at), word.2.2))
+    (some_one (symbol (binary_symbol operator))) (λ q one. kept q q (operator, level, one) (same_of refl))
 
-pub operator_refused : {Y : Type 0} {source : Source} {cursor : Cursor} {Follow : Option Terminal → Type 0} (k : ℕ) → 0 < k → k ≤ 9 → (IsAtOperator source cursor k → ⊥) → Takes {X = Y} source cursor cursor (OperatorWord k) Follow (Err stops.Unexpected)
-operator_refused k low high other = refused (operator_start k low high) (λ r v word behind same. other (word.0, word.1, sym same ∙ ap (λ l. first (l ++ v)) word.2.2 ∙ ap Some word.2.1))
+pub operator_refused :
+    {Y : Type 0} {source : Source} {cursor : Cursor} {Follow : Lookahead} (k : ℕ) → 0 < k → k ≤ 9 →
+    (IsAtOperator source cursor k → ⊥) →
+    Takes {X = Y} source cursor cursor (OperatorWord k) Follow (Err stops.Unexpected)
+operator_refused k low high other = refused (operator_start k low high) (λ r v word behind same. other (word.0, word.1, sym same ∙ same_first v word.2.2 ∙ ap Some word.2.1))
 
 prefix_low : (operator : UnaryOperator) → begins (symbol (unary_symbol operator)) < 2
 prefix_low unary.Not = omega arith
@@ -314,64 +337,71 @@ some_prefix = (prefix_leaves (record { operator = unary.Not; place = 0 }), (reco
 some_prefixes : Has PrefixesWord
 some_prefixes = some_then some_prefix ([], rows_none (λ prefix. ⊤) prefix_leaves)
 
-pub unary_start : {source : Source} {cursor : Cursor} {Follow : Option Terminal → Type 0} → Goes source cursor cursor (LevelWord 10) Follow (λ u. LevelWord 11 u ⊎ Then PrefixesWord (LevelWord 11) u)
+pub unary_start : {source : Source} {cursor : Cursor} {Follow : Lookahead} → Goes source cursor cursor (LevelWord 10) Follow (λ u. LevelWord 11 u ⊎ Then PrefixesWord (LevelWord 11) u)
 unary_start = start unary_split (let e = some_level 11 (omega arith) in (e.0, inl e.1)) unary_within
 
 prefixes_first : (r v : List Leaf) → PrefixesWord r → (operator : UnaryOperator) × (first (r ++ v) ≡ Some (symbol (unary_symbol operator)))
-prefixes_first r v word = (word.2.0.operator, ap (λ l. first (l ++ v)) (word.4 ∙ ap (λ l. l ++ word.1) word.2.2))
+prefixes_first r v word = (word.2.0.operator, same_first v (word.4 ∙ ap (λ l. l ++ word.1) word.2.2))
 
-pub unary_at : {source : Source} {cursor : Cursor} {Follow : Option Terminal → Type 0} → IsAtPrefix source cursor → Goes source cursor cursor (LevelWord 10) Follow (Then PrefixesWord (LevelWord 11))
-unary_at at = the_second unary_start (λ r v postfix behind same. other_token v (symbol (unary_symbol at.0)) (postfix_begins r postfix) (same ∙ at.1) (prefix_low at.0)) (some_then some_prefixes (some_level 11 (omega arith)))
+pub unary_at : {source : Source} {cursor : Cursor} {Follow : Lookahead} → IsAtPrefix source cursor → Goes source cursor cursor (LevelWord 10) Follow (Then PrefixesWord (LevelWord 11))
+unary_at at =
+    the_second unary_start
+    (λ r v postfix behind same. other_token v (symbol (unary_symbol at.0)) (postfix_begins r postfix) (same ∙ at.1) (prefix_low at.0))
+    (some_then some_prefixes (some_level 11 (omega arith)))
 
-pub unary_end : {source : Source} {cursor : Cursor} {Follow : Option Terminal → Type 0} → (IsAtPrefix source cursor → ⊥) → Goes source cursor cursor (LevelWord 10) Follow (LevelWord 11)
+pub unary_end : {source : Source} {cursor : Cursor} {Follow : Lookahead} → (IsAtPrefix source cursor → ⊥) → Goes source cursor cursor (LevelWord 10) Follow (LevelWord 11)
 unary_end other = the_first unary_start (λ r v both behind same.
     let head = prefixes_first both.0 (both.1 ++ v) both.2 in
-    other (head.0, sym same ∙ ap (λ l. first (l ++ v)) both.4 ∙ ap first (append_assoc both.0 both.1 v) ∙ head.1)) (some_level 11 (omega arith))
+    other (head.0, sym same ∙ same_first v both.4 ∙ ap first (append_assoc both.0 both.1 v) ∙ head.1)) (some_level 11 (omega arith))
 
 no_prefix_of : (t : Terminal) → 2 ≤ begins t → no_prefix (Some t)
 no_prefix_of (symbol symbols.Tilde) high = omega (arith, high)
 no_prefix_of (symbol symbols.Minus) high = omega (arith, high)
 no_prefix_of (symbol _) high = tt
-no_prefix_of (name bytes) high = tt
-no_prefix_of (number n) high = tt
-no_prefix_of (literal bits) high = tt
-no_prefix_of (keyword k) high = tt
+no_prefix_of _ high = tt
 
 -- a postfix begins with no operator
-pub prefixes_apart : (Follow : Option Terminal → Type 0) → Apart (LevelWord 11) Follow no_prefix
+pub prefixes_apart : (Follow : Lookahead) → Apart (LevelWord 11) Follow no_prefix
 prefixes_apart Follow q v word behind =
     let head = postfix_begins q word in
-    subst no_prefix (sym (ap (λ l. first (l ++ v)) head.2)) (no_prefix_of head.0.terminal head.3)
+    subst no_prefix (sym (same_first v head.2)) (no_prefix_of head.0.terminal head.3)
 
-abbrev pub MorePrefixes : List Leaf → Type 0
+abbrev pub MorePrefixes : Language
 MorePrefixes = Rows (λ (prefix : Prefix). ⊤) prefix_leaves
 
-pub prefixes_start : {source : Source} {cursor : Cursor} {Follow : Option Terminal → Type 0} → Goes source cursor cursor PrefixesWord Follow PrefixesWord
+pub prefixes_start : {source : Source} {cursor : Cursor} {Follow : Lookahead} → Goes source cursor cursor PrefixesWord Follow PrefixesWord
 prefixes_start = begin PrefixesWord some_prefixes
 
 no_prefix_next : (operator : UnaryOperator) → no_prefix (Some (symbol (unary_symbol operator))) → ⊥
 no_prefix_next unary.Not free = free
 no_prefix_next unary.Negate free = free
 
-pub prefixes_at : {source : Source} {old new : Cursor} {Word : List Leaf → Type 0} → IsAtPrefix source new → Goes source old new Word no_prefix MorePrefixes → Goes source old new Word no_prefix PrefixesWord
+pub prefixes_at : {source : Source} {old new : Cursor} {Word : Language} → IsAtPrefix source new → Goes source old new Word no_prefix MorePrefixes → Goes source old new Word no_prefix PrefixesWord
 prefixes_at at goes = the_second (rows_split (λ prefix. ⊤) prefix_leaves goes)
-    (λ r v empty behind same. no_prefix_next at.0 (subst no_prefix (ap (λ l. first (l ++ v)) (sym empty) ∙ same ∙ at.1) behind)) some_prefixes
+    (λ r v empty behind same. no_prefix_next at.0 (subst no_prefix (same_first v (sym empty) ∙ same ∙ at.1) behind)) some_prefixes
 
-pub prefixes_end : {source : Source} {old new : Cursor} {Word : List Leaf → Type 0} {Follow : Option Terminal → Type 0} → (IsAtPrefix source new → ⊥) → Goes source old new Word Follow MorePrefixes → Goes source old new Word Follow Empty
+pub prefixes_end :
+    {source : Source} {old new : Cursor} {Word : Language} {Follow : Lookahead} → (IsAtPrefix source new → ⊥) →
+    Goes source old new Word Follow MorePrefixes → Goes source old new Word Follow Empty
 prefixes_end other goes = the_first (rows_split (λ prefix. ⊤) prefix_leaves goes)
     (λ r v some behind same. let head = prefixes_first r v some in other (head.0, sym same ∙ head.1)) ([], refl)
 
-pub prefix_start : {source : Source} {cursor : Cursor} {Follow : Option Terminal → Type 0} → Goes source cursor cursor PrefixWord Follow PrefixWord
+pub prefix_start : {source : Source} {cursor : Cursor} {Follow : Lookahead} → Goes source cursor cursor PrefixWord Follow PrefixWord
 prefix_start = begin PrefixWord some_prefix
 
-pub prefix_at_sign : {source : Source} {cursor : Cursor} {Follow : Option Terminal → Type 0} (operator : UnaryOperator) → next source cursor ≡ Some (symbol (unary_symbol operator)) → Goes source cursor cursor PrefixWord Follow (One (symbol (unary_symbol operator)))
-prefix_at_sign operator at = narrow prefix_start (λ r v word behind same. (record { terminal = symbol (unary_symbol word.0.operator); place = Some word.0.place }, same_of_some (sym (ap (λ l. first (l ++ v)) word.2) ∙ same ∙ at), word.2))
+pub prefix_at_sign :
+    {source : Source} {cursor : Cursor} {Follow : Lookahead} (operator : UnaryOperator) →
+    next source cursor ≡ Some (symbol (unary_symbol operator)) →
+    Goes source cursor cursor PrefixWord Follow (One (symbol (unary_symbol operator)))
+prefix_at_sign operator at = narrow prefix_start (λ r v word behind same. (_, same_of_some (sym (same_first v word.2) ∙ same ∙ at), word.2))
     (some_one (symbol (unary_symbol operator))) (λ q one. made_at q (λ place. place_one place one) (λ place. record { operator = operator; place = place }) (λ place. tt) (λ place. refl))
 
-pub prefix_refused : {Y : Type 0} {source : Source} {cursor : Cursor} {Follow : Option Terminal → Type 0} → (IsAtPrefix source cursor → ⊥) → Takes {X = Y} source cursor cursor PrefixWord Follow (Err stops.Unexpected)
-prefix_refused other = refused prefix_start (λ r v word behind same. other (word.0.operator, sym same ∙ ap (λ l. first (l ++ v)) word.2))
+pub prefix_refused :
+    {Y : Type 0} {source : Source} {cursor : Cursor} {Follow : Lookahead} → (IsAtPrefix source cursor → ⊥) →
+    Takes {X = Y} source cursor cursor PrefixWord Follow (Err stops.Unexpected)
+prefix_refused other = refused prefix_start (λ r v word behind same. other (word.0.operator, sym same ∙ same_first v word.2))
 
-abbrev pub MoreSuffixes : List Leaf → Type 0
+abbrev pub MoreSuffixes : Language
 MoreSuffixes = Rows IsSuffix suffix_leaves
 
 bracket_or_dot : Some (symbol symbols.LeftBracket) ≡ Some (symbol symbols.Dot) → ⊥
@@ -384,14 +414,14 @@ bracket_or_colon e = cc e
 some_suffixes : Has SuffixesWord
 some_suffixes = some_then some_suffix ([], rows_none IsSuffix suffix_leaves)
 
-pub postfix_start : {source : Source} {cursor : Cursor} {Follow : Option Terminal → Type 0} → Goes source cursor cursor (LevelWord 11) Follow (Then (LevelWord 12) MoreSuffixes)
+pub postfix_start : {source : Source} {cursor : Cursor} {Follow : Lookahead} → Goes source cursor cursor (LevelWord 11) Follow (Then (LevelWord 12) MoreSuffixes)
 postfix_start = start (λ u word. of u (postfix_split u word)) (some_then (some_level 12 (omega arith)) ([], rows_none IsSuffix suffix_leaves)) postfix_within
   where
     of : (u : List Leaf) → LevelWord 12 u ⊎ Then (LevelWord 12) SuffixesWord u → Then (LevelWord 12) MoreSuffixes u
     of u (inl primary) = (u, [], primary, rows_none IsSuffix suffix_leaves, sym (append-nil u))
     of u (inr both) = (both.0, both.1, both.2, rows_made IsSuffix suffix_leaves both.1 both.3, both.4)
 
-pub suffixes_start : {source : Source} {cursor : Cursor} {Follow : Option Terminal → Type 0} → Goes source cursor cursor SuffixesWord Follow SuffixesWord
+pub suffixes_start : {source : Source} {cursor : Cursor} {Follow : Lookahead} → Goes source cursor cursor SuffixesWord Follow SuffixesWord
 suffixes_start = begin SuffixesWord some_suffixes
 
 -- a suffix begins with a dot or a bracket
@@ -402,7 +432,7 @@ suffix_first (suffixes.Slice high low) v next at = inr (sym at)
 
 suffixes_first : (r v : List Leaf) (next : Option Terminal) → SuffixesWord r → first (r ++ v) ≡ next → (next ≡ Some (symbol symbols.Dot)) ⊎ (next ≡ Some (symbol symbols.LeftBracket))
 suffixes_first r v next word at = suffix_first word.2.0 (word.1 ++ v) next
-    (ap first (sym (append_assoc (suffix_leaves word.2.0) word.1 v)) ∙ ap (λ l. first (l ++ v)) (sym (word.4 ∙ ap (λ l. l ++ word.1) word.2.2)) ∙ at)
+    (ap first (sym (append_assoc (suffix_leaves word.2.0) word.1 v)) ∙ same_first v (sym (word.4 ∙ ap (λ l. l ++ word.1) word.2.2)) ∙ at)
 
 free_suffix : (k : ℕ) → k ≤ 11 → (next : Option Terminal) → Free k next → (next ≡ Some (symbol symbols.Dot)) ⊎ (next ≡ Some (symbol symbols.LeftBracket)) → ⊥
 free_suffix k low next free (inl dot) = let less : 11 < k = subst (Free k) dot free in omega (arith, low, less)
@@ -419,25 +449,31 @@ suffixes_apart q v word behind = of (rows_cases IsSuffix suffix_leaves q word)
     of (inl empty) = subst (λ l. Behind (Free 12) (l ++ v)) (sym empty) (free_more 11 12 (omega arith) (first v) behind)
     of (inr some) = begun (first (q ++ v)) (suffixes_first q v (first (q ++ v)) some refl)
 
-pub suffixes_at : {source : Source} {old new : Cursor} {Word : List Leaf → Type 0} → IsAtSuffix source new → Goes source old new Word (Free 11) MoreSuffixes → Goes source old new Word (Free 11) SuffixesWord
+pub suffixes_at : {source : Source} {old new : Cursor} {Word : Language} → IsAtSuffix source new → Goes source old new Word (Free 11) MoreSuffixes → Goes source old new Word (Free 11) SuffixesWord
 suffixes_at {source} {old} {new} at goes = the_second (rows_split IsSuffix suffix_leaves goes)
-    (λ r v empty behind same. free_suffix 11 (omega arith) (next source new) (subst (Free 11) (ap (λ l. first (l ++ v)) (sym empty) ∙ same) behind) at) some_suffixes
+    (λ r v empty behind same. free_suffix 11 (omega arith) (next source new) (subst (Free 11) (same_first v (sym empty) ∙ same) behind) at) some_suffixes
 
-pub suffixes_end : {source : Source} {old new : Cursor} {Word : List Leaf → Type 0} {Follow : Option Terminal → Type 0} → (IsAtSuffix source new → ⊥) → Goes source old new Word Follow MoreSuffixes → Goes source old new Word Follow Empty
+pub suffixes_end :
+    {source : Source} {old new : Cursor} {Word : Language} {Follow : Lookahead} → (IsAtSuffix source new → ⊥) →
+    Goes source old new Word Follow MoreSuffixes → Goes source old new Word Follow Empty
 suffixes_end {source} {old} {new} other goes = the_first (rows_split IsSuffix suffix_leaves goes)
     (λ r v some behind same. other (suffixes_first r v (next source new) some same)) ([], refl)
 
+-- a colon, the lower number and the closing bracket
+abbrev pub SliceTail : Language
+SliceTail = Then (One (symbol symbols.Colon)) (Then OneNumber (One (symbol symbols.RightBracket)))
+
 -- a suffix by the next token
-abbrev pub AfterNumber : List Leaf → Type 0
-AfterNumber u = One (symbol symbols.RightBracket) u ⊎ Then (One (symbol symbols.Colon)) (Then (Part NumberFits number_leaves) (One (symbol symbols.RightBracket))) u
+abbrev pub AfterNumber : Language
+AfterNumber u = One (symbol symbols.RightBracket) u ⊎ SliceTail u
 
-abbrev pub IndexWord : List Leaf → Type 0
-IndexWord = Then (One (symbol symbols.LeftBracket)) (Then (Part NumberFits number_leaves) (λ u. One (symbol symbols.RightBracket) u ⊎ Then (One (symbol symbols.Colon)) (Then (Part NumberFits number_leaves) (One (symbol symbols.RightBracket))) u))
+abbrev pub IndexWord : Language
+IndexWord = Then (One (symbol symbols.LeftBracket)) (Then OneNumber AfterNumber)
 
-index_within : Within IndexWord (Part IsSuffix suffix_leaves)
+index_within : Within IndexWord OneSuffix
 index_within q both = of both.3.3
   where
-    of : AfterNumber both.3.1 → Kept (Part IsSuffix suffix_leaves) q
+    of : AfterNumber both.3.1 → Kept OneSuffix q
     of (inl close) = made q (like_then both (like_one both.2) (like_then both.3 (like_part both.3.2) (like_one close))) (suffixes.Index both.3.2.0) both.3.2.1 refl
     of (inr slice) =
         made q (like_then both (like_one both.2) (like_then both.3 (like_part both.3.2) (like_then slice (like_one slice.2) (like_then slice.3 (like_part slice.3.2) (like_one slice.3.3)))))
@@ -446,25 +482,42 @@ index_within q both = of both.3.3
 some_index : Has IndexWord
 some_index = let close = some_one (symbol symbols.RightBracket) in some_then (some_one (symbol symbols.LeftBracket)) (some_then some_number (close.0, inl close.1))
 
-pub suffix_dot : {source : Source} {cursor : Cursor} {Follow : Option Terminal → Type 0} → next source cursor ≡ Some (symbol symbols.Dot) → Goes source cursor cursor (Part IsSuffix suffix_leaves) Follow (Then (One (symbol symbols.Dot)) (Part IsName name_leaves))
-suffix_dot {source} {cursor} dot = narrow_part (Then (One (symbol symbols.Dot)) (Part IsName name_leaves)) (λ x is v at. of x is v (at ∙ dot)) (some_then (some_one (symbol symbols.Dot)) some_name)
+abbrev pub DotWord : Language
+DotWord = Then (One (symbol symbols.Dot)) OneName
+
+pub suffix_dot : {source : Source} {cursor : Cursor} {Follow : Lookahead} → next source cursor ≡ Some (symbol symbols.Dot) →
+    Goes source cursor cursor OneSuffix Follow DotWord
+suffix_dot {source} {cursor} dot = narrow_part DotWord (λ x is v at. of x is v (at ∙ dot)) (some_then (some_one (symbol symbols.Dot)) some_name)
     (λ q both. made q (like_then both (like_one both.2) (like_part both.3)) (suffixes.Field both.3.0) both.3.1 refl)
   where
-    of : (x : Suffix) → IsSuffix x → (v : List Leaf) → first (suffix_leaves x ++ v) ≡ Some (symbol symbols.Dot) → Then (One (symbol symbols.Dot)) (Part IsName name_leaves) (suffix_leaves x)
+    of : (x : Suffix) → IsSuffix x → (v : List Leaf) → first (suffix_leaves x ++ v) ≡ Some (symbol symbols.Dot) → DotWord (suffix_leaves x)
     of (suffixes.Field n) is v at = (sign symbols.Dot, name_leaves n, sign_word symbols.Dot, (n, is, refl), refl)
     of (suffixes.Index index) is v at = absurd (bracket_or_dot at)
     of (suffixes.Slice high low) is v at = absurd (bracket_or_dot at)
 
-pub suffix_bracket : {source : Source} {cursor : Cursor} {Follow : Option Terminal → Type 0} → (next source cursor ≡ Some (symbol symbols.Dot) → ⊥) → Goes source cursor cursor (Part IsSuffix suffix_leaves) Follow IndexWord
+pub suffix_bracket : {source : Source} {cursor : Cursor} {Follow : Lookahead} → next source cursor ≢ Some (symbol symbols.Dot) → Goes source cursor cursor OneSuffix Follow IndexWord
 suffix_bracket {source} {cursor} other = narrow_part IndexWord (λ x is v at. of x is v at) some_index index_within
   where
     of : (x : Suffix) → IsSuffix x → (v : List Leaf) → first (suffix_leaves x ++ v) ≡ next source cursor → IndexWord (suffix_leaves x)
     of (suffixes.Field n) is v at = absurd (other (sym at))
-    of (suffixes.Index index) is v at = (sign symbols.LeftBracket, number_leaves index ++ sign symbols.RightBracket, sign_word symbols.LeftBracket, (number_leaves index, sign symbols.RightBracket, (index, is, refl), inl (sign_word symbols.RightBracket), refl), refl)
-    of (suffixes.Slice high low) is v at = (sign symbols.LeftBracket, number_leaves high ++ sign symbols.Colon ++ number_leaves low ++ sign symbols.RightBracket, sign_word symbols.LeftBracket, (number_leaves high, sign symbols.Colon ++ number_leaves low ++ sign symbols.RightBracket, (high, is.0, refl), inr (sign symbols.Colon, number_leaves low ++ sign symbols.RightBracket, sign_word symbols.Colon, (number_leaves low, sign symbols.RightBracket, (low, is.1, refl), sign_word symbols.RightBracket, refl), refl), refl), refl)
+    of (suffixes.Index index) is v at =
+        let tail : Has AfterNumber = (sign symbols.RightBracket, inl (sign_word symbols.RightBracket)) in
+        word_as IndexWord (a_sign symbols.LeftBracket ⨾ a_part index is ⨾ tail) refl
+    of (suffixes.Slice high low) is v at =
+        let slice : Has SliceTail = a_sign symbols.Colon ⨾ a_part low is.1 ⨾ a_sign symbols.RightBracket in
+        let tail : Has AfterNumber = (slice.0, inr slice.1) in
+        word_as IndexWord (a_sign symbols.LeftBracket ⨾ a_part high is.0 ⨾ tail) refl
 
-pub slice_at : {source : Source} {old new : Cursor} {Word : List Leaf → Type 0} {Follow : Option Terminal → Type 0} → next source new ≡ Some (symbol symbols.Colon) → Goes source old new Word Follow AfterNumber → Goes source old new Word Follow (Then (One (symbol symbols.Colon)) (Then (Part NumberFits number_leaves) (One (symbol symbols.RightBracket))))
-slice_at colon goes = the_second goes (λ r v one behind at. bracket_or_colon (sym (ap (λ l. first (l ++ v)) one.2 ∙ ap Some one.1) ∙ at ∙ colon)) (some_then (some_one (symbol symbols.Colon)) (some_then some_number (some_one (symbol symbols.RightBracket))))
+pub slice_at :
+    {source : Source} {old new : Cursor} {Word : Language} {Follow : Lookahead} →
+    next source new ≡ Some (symbol symbols.Colon) → Goes source old new Word Follow AfterNumber →
+    Goes source old new Word Follow SliceTail
+slice_at colon goes =
+    the_second goes (λ r v one behind at. bracket_or_colon (sym (same_first v one.2 ∙ ap Some one.1) ∙ at ∙ colon))
+    (some_then (some_one (symbol symbols.Colon)) (some_then some_number (some_one (symbol symbols.RightBracket))))
 
-pub index_at : {source : Source} {old new : Cursor} {Word : List Leaf → Type 0} {Follow : Option Terminal → Type 0} → (next source new ≡ Some (symbol symbols.Colon) → ⊥) → Goes source old new Word Follow AfterNumber → Goes source old new Word Follow (One (symbol symbols.RightBracket))
+pub index_at :
+    {source : Source} {old new : Cursor} {Word : Language} {Follow : Lookahead} →
+    next source new ≢ Some (symbol symbols.Colon) → Goes source old new Word Follow AfterNumber →
+    Goes source old new Word Follow (One (symbol symbols.RightBracket))
 index_at other goes = the_first goes (λ r v both behind at. other (sym at ∙ first_one (symbol symbols.Colon) _ r v both)) (some_one (symbol symbols.RightBracket))

@@ -2,12 +2,12 @@
 use Rattle.std.proofs.Common.{◌≡◌, Option, Some, List, [], ◌∷◌, ◌++◌, length, map, inl, inr, refl, ap, sym, subst, ◌∙◌, Vec, Global, arith}
 use Rattle.std.specs.List.{All}
 use lib.ListN.{length-map}
-use Rattle.koika_syntax.specs.Grammar.{IsName, LiteralFits, constant_leaves, IsConstant, IsConstantLayer, IsConstantFieldLayer, constant_step, constant_field_step}
+use Rattle.koika_syntax.specs.Grammar.{IsName, IsNonempty, LiteralFits, constant_leaves, IsConstant, IsConstantLayer, IsConstantFieldLayer, constant_step, constant_field_step}
 use Rattle.koika_syntax.specs.inner.Grammar.{constant_field_leaves}
-use Rattle.koika_syntax.specs.Tree.{Leaf, Terminal, symbol, name_leaves, literal_leaves, sign, placed, commas}
+use Rattle.koika_syntax.specs.Tree.{Leaf, Terminal, symbol, name_leaves, literal_leaves, sign}
 use Rattle.koika_syntax.specs.declared.symbol.Symbol.TheVariants as symbols
 use Rattle.koika_parse.specs.inner.Expected.{Commas, InVector, One, Part, Then, first}
-use Rattle.koika_parse.specs.inner.Words.{ConstantArrayWord, ConstantColonsWord, NamedConstantWord}
+use Rattle.koika_parse.specs.inner.Words.{ConstantArrayWord, ConstantColonsWord, ConstantTailWord, NamedConstantWord}
 use Rattle.koika_parse.specs.inner.Reading.{kind_at, next}
 use Rattle.koika_parse.specs.declared.cursor.Cursor.{Cursor}
 use Rattle.koika_parse.specs.declared.source.Source.{Source}
@@ -17,15 +17,21 @@ use Rattle.koika_parse.proofs.Parts.{is_constant_array, is_constant_field, is_co
 use Rattle.koika_parse.proofs.Calls.{leaves_constant_field, leaves_constant_literal, leaves_constant_member}
 use Rattle.std.specs.Option.{option_map}
 use Rattle.koika_syntax.specs.declared.token.TokenKind.TheVariants as kinds
-use Rattle.koika_parse.proofs.Expected.{Goes, Has, Kept, Within, begin, has_within, starts, narrow_part, like_one, like_part, like_then, made, made_at, place_one, place_then, then_place, some_one, some_then, kind_of_next, kind_of, sign_or_name, literal_or_sign, name_or_sign, literal_or_name}
+use Rattle.koika_parse.proofs.Expected.{Goes, Has, Kept, Within, begin, has_within, starts, narrow_part, like_one}
+use Rattle.koika_parse.proofs.Expected.{like_part, like_then, made, made_at, place_one, place_then, then_place}
+use Rattle.koika_parse.proofs.Expected.{some_one, some_then, kind_of_next, kind_of, sign_or_name, literal_or_sign}
+use Rattle.koika_parse.proofs.Expected.{name_or_sign, literal_or_name}
 use Rattle.std.proofs.lemmas.List.Elements.{All-cons, All-nil}
 use Rattle.koika_syntax.specs.declared.tree.Constant.{Constant, Constant-F, map-Constant, out-Constant, every_held-Constant, every_here-Constant, fold_out-Constant}
 use Rattle.koika_syntax.specs.declared.tree.Constant.TheOpen as constant
-use Rattle.koika_syntax.specs.declared.tree.ConstantField.{ConstantField, ConstantField-F, roll-ConstantField, map-ConstantField, out-ConstantField, every_held-ConstantField, every_here-ConstantField}
+use Rattle.koika_syntax.specs.declared.tree.Name.{Name}
+use Rattle.koika_syntax.specs.declared.tree.ConstantField.{ConstantField, ConstantField-F, roll-ConstantField}
+use Rattle.koika_syntax.specs.declared.tree.ConstantField.{map-ConstantField, out-ConstantField}
+use Rattle.koika_syntax.specs.declared.tree.ConstantField.{every_held-ConstantField, every_here-ConstantField}
 use Rattle.koika_syntax.proofs.Leaves.{array_constant, constant_field, struct_constant}
 use Rattle.koika_syntax.specs.declared.tree.Constant.TheViews as constant_views
 use Rattle.koika_parse.specs.inner.Parts.{IsConstantField}
-use Rattle.koika_parse.proofs.Words.{sign_word, placed_word}
+use Rattle.koika_parse.proofs.Words.{Known, one, one_at, part, this, ◌then◌, sign_word}
 
 abbrev pub ConstantFieldWord : List Leaf → Type 0
 ConstantFieldWord = Then (Part IsName name_leaves) (Then (One (symbol symbols.Colon)) (Part IsConstant constant_leaves))
@@ -40,6 +46,10 @@ firsts_are P (x ∷ xs) = All-cons P x.0 (map (λ e. e.0) xs) x.1 (firsts_are P 
 -- a vector holds what it holds
 pub held_fit : {X : Type 0} (P : X → Type 0) (v : Vec (Such P) Global) → InVector (length (map (λ e. e.0) v.items))
 held_fit P v = omega (arith, length-map v.items (λ (e : Such P). e.0), v.ok.0, v.ok.1, v.small)
+
+abbrev held_in : {X : Type 0} {Is : X → Type 0} (leaves : X → List Leaf) (v : Vec (Such Is) Global) →
+    IsNonempty (map (λ e. e.0) v.items) → Has (Commas InVector Is leaves)
+held_in {Is = Is} leaves v some = this (map (λ e. e.0) v.items) (some, firsts_are Is v.items, held_fit Is v)
 
 abbrev OpenConstant : Type 0
 OpenConstant = Constant-F (Such IsConstant) (Such IsConstantField)
@@ -62,40 +72,63 @@ constant_out : (t : Constant) → constant_leaves t ≡ constant_layer_leaves (o
 unfolding constant_leaves constant_field_leaves
 constant_out t = fold_out-Constant (List Leaf) (List Leaf) constant_step constant_field_step t
 
-constant_case : (P : List Leaf → Type 0) → ((y : OpenConstant) → IsConstantLayer (closed_constant y) → P (constant_layer_leaves (closed_constant y))) → (t : Constant) → IsConstant t → P (constant_leaves t)
-constant_case P each t is =
+-- each constant, where its first token is the next one, has a word of this language
+abbrev EachConstant : (List Leaf → Type 0) → List Leaf → Option Terminal → Type 0
+EachConstant W v next =
+    (y : OpenConstant) → IsConstantLayer (closed_constant y) → first (constant_layer_leaves (closed_constant y) ++ v) ≡ next → W (constant_layer_leaves (closed_constant y))
+
+constant_case : (W : List Leaf → Type 0) {v : List Leaf} {next : Option Terminal} → EachConstant W v next →
+    (t : Constant) → IsConstant t → first (constant_leaves t ++ v) ≡ next → W (constant_leaves t)
+constant_case W {v} {next} each t is =
     let held = constant_held t is in
-    subst P (sym (constant_out t ∙ ap constant_layer_leaves (sym held.1))) (each held.0 (subst IsConstantLayer (sym held.1) (constant_here t is)))
+    subst (λ u. first (u ++ v) ≡ next → W u) (sym (constant_out t ∙ ap constant_layer_leaves (sym held.1)))
+    (each held.0 (subst IsConstantLayer (sym held.1) (constant_here t is)))
 
 -- a constant by its next token
-pub constant_named : (t : Constant) → IsConstant t → (v : List Leaf) (next : Option Terminal) → first (constant_leaves t ++ v) ≡ next → option_map kind_of next ≡ Some kinds.Name → NamedConstantWord (constant_leaves t)
-constant_named t is v next at named = constant_case (λ u. first (u ++ v) ≡ next → NamedConstantWord u) each t is at
+colons_word : (n : Name) → IsName n → (u : List Leaf) → ConstantColonsWord u → NamedConstantWord (name_leaves n ++ (sign symbols.ColonColon ++ u))
+colons_word n is u word = (name_leaves n, sign symbols.ColonColon ++ u, (n, is, refl), (sign symbols.ColonColon, u, sign_word symbols.ColonColon, word, refl), refl)
+
+pub constant_named : (t : Constant) → IsConstant t → (v : List Leaf) (next : Option Terminal) → first (constant_leaves t ++ v) ≡ next →
+    option_map kind_of next ≡ Some kinds.Name → NamedConstantWord (constant_leaves t)
+constant_named t is v next at named = constant_case NamedConstantWord each t is at
   where
-    each : (y : OpenConstant) → IsConstantLayer (closed_constant y) → first (constant_layer_leaves (closed_constant y) ++ v) ≡ next → NamedConstantWord (constant_layer_leaves (closed_constant y))
+    each : EachConstant NamedConstantWord v next
     each (constant.Literal l) is at = absurd (literal_or_name (ap (option_map kind_of) at ∙ named))
-    each (constant.Member of member) is at = (name_leaves of, sign symbols.ColonColon ++ name_leaves member, (of, is.0, refl), (sign symbols.ColonColon, name_leaves member, sign_word symbols.ColonColon, inl (member, is.1, refl), refl), refl)
-    each (constant.Struct of fields close) is at = (name_leaves of, sign symbols.ColonColon ++ sign symbols.LeftBrace ++ commas (map constant_field_leaves (map (λ e. e.0) fields.items)) ++ placed (symbol symbols.RightBrace) close, (of, is.0, refl), (sign symbols.ColonColon, sign symbols.LeftBrace ++ commas (map constant_field_leaves (map (λ e. e.0) fields.items)) ++ placed (symbol symbols.RightBrace) close, sign_word symbols.ColonColon, inr (sign symbols.LeftBrace, commas (map constant_field_leaves (map (λ e. e.0) fields.items)) ++ placed (symbol symbols.RightBrace) close, sign_word symbols.LeftBrace, (commas (map constant_field_leaves (map (λ e. e.0) fields.items)), placed (symbol symbols.RightBrace) close, (map (λ e. e.0) fields.items, (is.1, firsts_are IsConstantField fields.items, held_fit IsConstantField fields), refl), placed_word (symbol symbols.RightBrace) close, refl), refl), refl), refl)
+    each (constant.Member of member) is at = colons_word of is.0 (name_leaves member) (inl (member, is.1, refl))
+    each (constant.Struct of fields close) is at =
+        let words : Known ConstantTailWord = one (symbol symbols.LeftBrace) then part (held_in constant_field_leaves fields is.1) then one_at (symbol symbols.RightBrace) close in
+        colons_word of is.0 words.some.0 (inr words.some.1)
     each (constant.Array place elements) is at = absurd (sign_or_name (ap (option_map kind_of) at ∙ named))
 
-pub constant_bracket : (t : Constant) → IsConstant t → (v : List Leaf) (next : Option Terminal) → first (constant_leaves t ++ v) ≡ next → next ≡ Some (symbol symbols.LeftBracket) → ConstantArrayWord (constant_leaves t)
-constant_bracket t is v next at here = constant_case (λ u. first (u ++ v) ≡ next → ConstantArrayWord u) each t is at
+pub constant_bracket : (t : Constant) → IsConstant t → (v : List Leaf) (next : Option Terminal) → first (constant_leaves t ++ v) ≡ next →
+    next ≡ Some (symbol symbols.LeftBracket) → ConstantArrayWord (constant_leaves t)
+constant_bracket t is v next at here = constant_case ConstantArrayWord each t is at
   where
-    each : (y : OpenConstant) → IsConstantLayer (closed_constant y) → first (constant_layer_leaves (closed_constant y) ++ v) ≡ next → ConstantArrayWord (constant_layer_leaves (closed_constant y))
+    each : EachConstant ConstantArrayWord v next
     each (constant.Literal l) is at = absurd (literal_or_sign (at ∙ here))
     each (constant.Member of member) is at = absurd (name_or_sign (at ∙ here))
     each (constant.Struct of fields close) is at = absurd (name_or_sign (at ∙ here))
-    each (constant.Array place elements) is at = (placed (symbol symbols.LeftBracket) place, commas (map constant_leaves (map (λ e. e.0) elements.items)) ++ sign symbols.RightBracket, placed_word (symbol symbols.LeftBracket) place, (commas (map constant_leaves (map (λ e. e.0) elements.items)), sign symbols.RightBracket, (map (λ e. e.0) elements.items, (is, firsts_are IsConstant elements.items, held_fit IsConstant elements), refl), sign_word symbols.RightBracket, refl), refl)
+    each (constant.Array place elements) is at =
+        let words : Known ConstantArrayWord = one_at (symbol symbols.LeftBracket) place then part (held_in constant_leaves elements is) then one (symbol symbols.RightBracket) in
+        words.some.1
 
-pub constant_literal : (t : Constant) → IsConstant t → (v : List Leaf) (next : Option Terminal) → first (constant_leaves t ++ v) ≡ next → (option_map kind_of next ≡ Some kinds.Name → ⊥) → (next ≡ Some (symbol symbols.LeftBracket) → ⊥) → Part LiteralFits literal_leaves (constant_leaves t)
-constant_literal t is v next at named here = constant_case (λ u. first (u ++ v) ≡ next → Part LiteralFits literal_leaves u) each t is at
+pub constant_literal : (t : Constant) → IsConstant t → (v : List Leaf) (next : Option Terminal) → first (constant_leaves t ++ v) ≡ next →
+    (option_map kind_of next ≡ Some kinds.Name → ⊥) → (next ≡ Some (symbol symbols.LeftBracket) → ⊥) → Part LiteralFits literal_leaves (constant_leaves t)
+constant_literal t is v next at named here = constant_case (Part LiteralFits literal_leaves) each t is at
   where
-    each : (y : OpenConstant) → IsConstantLayer (closed_constant y) → first (constant_layer_leaves (closed_constant y) ++ v) ≡ next → Part LiteralFits literal_leaves (constant_layer_leaves (closed_constant y))
+    each : EachConstant (Part LiteralFits literal_leaves) v next
     each (constant.Literal l) is at = (l, is, refl)
     each (constant.Member of member) is at = absurd (named (sym (ap (option_map kind_of) at)))
     each (constant.Struct of fields close) is at = absurd (named (sym (ap (option_map kind_of) at)))
     each (constant.Array place elements) is at = absurd (here (sym at))
 
-constant_field_held : (t : ConstantField) → IsConstantField t → (y : ConstantField-F (Such IsConstant) (Such IsConstantField)) × (map-ConstantField (Such IsConstant) (Such IsConstantField) Constant ConstantField (λ e. e.0) (λ e. e.0) y ≡ out-ConstantField t)
+abbrev OpenField : Type 0
+OpenField = ConstantField-F (Such IsConstant) (Such IsConstantField)
+
+abbrev closed_field : OpenField → ConstantField-F Constant ConstantField
+closed_field y = map-ConstantField (Such IsConstant) (Such IsConstantField) Constant ConstantField (λ e. e.0) (λ e. e.0) y
+
+constant_field_held : (t : ConstantField) → IsConstantField t → (y : OpenField) × (closed_field y ≡ out-ConstantField t)
 unfolding IsConstant IsConstantField
 constant_field_held t is = every_held-ConstantField IsConstantLayer IsConstantFieldLayer t is
 
@@ -103,30 +136,34 @@ constant_field_here : (t : ConstantField) → IsConstantField t → IsConstantFi
 unfolding IsConstant IsConstantField
 constant_field_here t is = every_here-ConstantField IsConstantLayer IsConstantFieldLayer t is
 
-constant_field_layer_word : (field : ConstantField-F (Such IsConstant) (Such IsConstantField)) → IsName field.name → ConstantFieldWord (name_leaves field.name ++ sign symbols.Colon ++ constant_leaves field.value.0)
-constant_field_layer_word field here = (name_leaves field.name, sign symbols.Colon ++ constant_leaves field.value.0, (field.name, here, refl), (sign symbols.Colon, constant_leaves field.value.0, sign_word symbols.Colon, (field.value.0, field.value.1, refl), refl), refl)
+abbrev constant_field_words : Has (Part IsName name_leaves) → Has (Part IsConstant constant_leaves) → Known ConstantFieldWord
+constant_field_words n value = part n then one (symbol symbols.Colon) then part value
 
 pub constant_field_word : (t : ConstantField) → IsConstantField t → ConstantFieldWord (constant_field_leaves t)
 constant_field_word t is =
     let held = constant_field_held t is in
-    subst ConstantFieldWord (sym (constant_field t ∙ ap (λ d. name_leaves d.name ++ sign symbols.Colon ++ constant_leaves d.value) (sym held.1))) (constant_field_layer_word held.0 (subst IsConstantFieldLayer (sym held.1) (constant_field_here t is)))
+    let field = held.0 in
+    let named : IsName field.name = subst IsConstantFieldLayer (sym held.1) (constant_field_here t is) in
+    subst ConstantFieldWord (sym (constant_field t ∙ ap (λ d. name_leaves d.name ++ sign symbols.Colon ++ constant_leaves d.value) (sym held.1)))
+    (constant_field_words (this field.name named) (this field.value.0 field.value.1)).some.1
+
+abbrev known_constant_field : Known ConstantFieldWord
+known_constant_field = constant_field_words some_name some_constant
 
 constant_field_within : Within ConstantFieldWord (Part IsConstantField constant_field_leaves)
 constant_field_within q both =
-    made q (like_then both (like_part both.2) (like_then both.3 (like_one both.3.2) (like_part both.3.3))) (roll-ConstantField (record { name = both.2.0; value = both.3.3.0 }))
+    made q (known_constant_field.like q both) (roll-ConstantField (record { name = both.2.0; value = both.3.3.0 }))
     (is_constant_field both.2.0 both.3.3.0 both.2.1 both.3.3.1) (leaves_constant_field both.2.0 both.3.3.0)
 
-some_constant_field_word : Has ConstantFieldWord
-some_constant_field_word = some_then some_name (some_then (some_one (symbol symbols.Colon)) some_constant)
-
-pub constant_field_start : {source : Source} {cursor : Cursor} {Follow : Option Terminal → Type 0} → Goes source cursor cursor (Part IsConstantField constant_field_leaves) Follow ConstantFieldWord
-constant_field_start = starts ConstantFieldWord constant_field_word some_constant_field_word constant_field_within
+pub constant_field_start : {source : Source} {cursor : Cursor} {Follow : Option Terminal → Type 0} →
+    Goes source cursor cursor (Part IsConstantField constant_field_leaves) Follow ConstantFieldWord
+constant_field_start = starts ConstantFieldWord constant_field_word known_constant_field.some constant_field_within
 
 pub constants_listed : Listed InVector IsConstant constant_leaves
 constants_listed = in_vector some_constant
 
 pub constant_fields_listed : Listed InVector IsConstantField constant_field_leaves
-constant_fields_listed = in_vector (has_within constant_field_within some_constant_field_word)
+constant_fields_listed = in_vector (has_within constant_field_within known_constant_field.some)
 
 -- what stands behind `::` of a constant, and what is a constant
 abbrev pub FieldsTail : List Leaf → Type 0
@@ -149,9 +186,13 @@ named_constant_within q both = of both.3.3
         made q (like_then both (like_part both.2) (like_then both.3 (like_one both.3.2) (like_part member))) (constant_views.made-Member both.2.0 member.0)
         (is_constant_member both.2.0 member.0 (both.2.1, member.1)) (leaves_constant_member both.2.0 member.0)
     of (inr tail) =
-        let fields = vector tail.3.2.0 tail.3.2.1.2 in
-        made_at q (λ place. then_place both (like_part both.2) (then_place both.3 (like_one both.3.2) (then_place tail (like_one tail.2) (then_place tail.3 (like_part tail.3.2) (place_one place tail.3.3)))))
-        (λ place. constant_views.Struct both.2.0 fields place) (λ place. is_constant_struct both.2.0 fields place tail.3.2.1.1 (both.2.1, tail.3.2.1.0)) (λ place. struct_constant both.2.0 fields place)
+        let n = both.2 in
+        let listed = tail.3.2 in
+        let fields = vector listed.0 listed.1.2 in
+        made_at q
+        (λ place. then_place both (like_part n) (then_place both.3 (like_one both.3.2) (then_place tail (like_one tail.2) (then_place tail.3 (like_part listed) (place_one place tail.3.3)))))
+        (λ place. constant_views.Struct n.0 fields place) (λ place. is_constant_struct n.0 fields place listed.1.1 (n.1, listed.1.0))
+        (λ place. struct_constant n.0 fields place)
 
 some_constant_array : Has ConstantArrayWord
 some_constant_array = some_then (some_one (symbol symbols.LeftBracket)) (some_then (some_commas constants_listed) (some_one (symbol symbols.RightBracket)))
@@ -169,14 +210,18 @@ literal_constant_within : Within (Part LiteralFits literal_leaves) (Part IsConst
 literal_constant_within q part = made q (like_part part) (constant_views.made-Literal part.0) (is_constant_literal part.0 part.1) (leaves_constant_literal part.0)
 
 -- a constant by the next token
-pub constant_at_name : {source : Source} {cursor : Cursor} {Follow : Option Terminal → Type 0} → kind_at source cursor ≡ Some kinds.Name → Goes source cursor cursor (Part IsConstant constant_leaves) Follow NamedConstantWord
+pub constant_at_name : {source : Source} {cursor : Cursor} {Follow : Option Terminal → Type 0} → kind_at source cursor ≡ Some kinds.Name →
+    Goes source cursor cursor (Part IsConstant constant_leaves) Follow NamedConstantWord
 constant_at_name {source} {cursor} named =
     narrow_part NamedConstantWord (λ x is v at. constant_named x is v (next source cursor) at (kind_of_next source cursor ∙ named)) some_named_constant named_constant_within
 
-pub constant_at_bracket : {source : Source} {cursor : Cursor} {Follow : Option Terminal → Type 0} → next source cursor ≡ Some (symbol symbols.LeftBracket) → Goes source cursor cursor (Part IsConstant constant_leaves) Follow ConstantArrayWord
+pub constant_at_bracket : {source : Source} {cursor : Cursor} {Follow : Option Terminal → Type 0} → next source cursor ≡ Some (symbol symbols.LeftBracket) →
+    Goes source cursor cursor (Part IsConstant constant_leaves) Follow ConstantArrayWord
 constant_at_bracket {source} {cursor} here = narrow_part ConstantArrayWord (λ x is v at. constant_bracket x is v (next source cursor) at here) some_constant_array constant_array_within
 
-pub constant_elsewhere : {source : Source} {cursor : Cursor} {Follow : Option Terminal → Type 0} → (kind_at source cursor ≡ Some kinds.Name → ⊥) → (next source cursor ≡ Some (symbol symbols.LeftBracket) → ⊥) →
+pub constant_elsewhere : {source : Source} {cursor : Cursor} {Follow : Option Terminal → Type 0} →
+    (kind_at source cursor ≡ Some kinds.Name → ⊥) → (next source cursor ≡ Some (symbol symbols.LeftBracket) → ⊥) →
     Goes source cursor cursor (Part IsConstant constant_leaves) Follow (Part LiteralFits literal_leaves)
 constant_elsewhere {source} {cursor} named here =
-    narrow_part (Part LiteralFits literal_leaves) (λ x is v at. constant_literal x is v (next source cursor) at (λ e. named (sym (kind_of_next source cursor) ∙ e)) here) some_literal literal_constant_within
+    narrow_part (Part LiteralFits literal_leaves)
+    (λ x is v at. constant_literal x is v (next source cursor) at (λ e. named (sym (kind_of_next source cursor) ∙ e)) here) some_literal literal_constant_within

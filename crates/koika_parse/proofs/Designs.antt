@@ -1,5 +1,7 @@
 -- What the readers say of whole designs.
-use Rattle.std.proofs.Common.{◌≡◌, ℕ, zero, suc, ◌+◌, ◌<◌, ◌≤◌, Some, Result, Ok, Err, List, [], ◌∷◌, ◌++◌, map, drop, length, get_or, length-append, append-nil, append_assoc, drop-cons, inl, inr, refl, sym, ap, ◌∙◌, subst, arith}
+use Rattle.std.proofs.Common.{◌≡◌, ℕ, zero, suc, ◌+◌, ◌<◌, ◌≤◌, Some, Result, Ok, Err, List, [], ◌∷◌, ◌++◌, map, drop}
+use Rattle.std.proofs.Common.{length, get_or, length-append, append-nil, append_assoc, drop-cons, inl, inr, refl, sym}
+use Rattle.std.proofs.Common.{ap, ◌∙◌, subst, arith}
 use Rattle.std.specs.Prelude.{slice_get, ⊤}
 use Rattle.std.specs.Option.{option_map}
 use Rattle.std.proofs.lemmas.List.{drop_all, length-drop, map-append}
@@ -34,14 +36,16 @@ fault_as (Err (refusals.Fault fault)) is as_this = as_this fault is
 fault_as (Err refusals.NoMemory) is as_this = tt
 
 -- a design whose terminals are the tokens', up to some token
-agrees_front : (text : List ℕ) (w : List Leaf) (before behind : List Token) (rest : List Terminal) (i : ℕ) → map (λ leaf. leaf.terminal) w ≡ map (terminal_of text) before ++ rest → i < length before →
+agrees_front : (text : List ℕ) (w : List Leaf) (before behind : List Token) (rest : List Terminal) (i : ℕ) →
+    map (λ leaf. leaf.terminal) w ≡ map (terminal_of text) before ++ rest → i < length before →
     first (drop i w) ≡ option_map (terminal_of text) (slice_get (before ++ behind) i)
 agrees_front text w [] behind rest i same low = absurd (omega (arith, low))
 agrees_front text [] (token ∷ before) behind rest i same low = absurd (omega (arith, ap length same))
 agrees_front text (leaf ∷ w) (token ∷ before) behind rest zero same low = ap Some (same_head same)
 agrees_front text (leaf ∷ w) (token ∷ before) behind rest (suc i) same low = agrees_front text w before behind rest i (same_tail same) (omega (arith, low))
 
-agrees_whole : (text : List ℕ) (w : List Leaf) (tokens : List Token) (i : ℕ) → map (λ leaf. leaf.terminal) w ≡ map (terminal_of text) tokens → first (drop i w) ≡ option_map (terminal_of text) (slice_get tokens i)
+agrees_whole : (text : List ℕ) (w : List Leaf) (tokens : List Token) (i : ℕ) → map (λ leaf. leaf.terminal) w ≡ map (terminal_of text) tokens →
+    first (drop i w) ≡ option_map (terminal_of text) (slice_get tokens i)
 agrees_whole text [] [] zero same = refl
 agrees_whole text [] [] (suc i) same = refl
 agrees_whole text [] (token ∷ tokens) i same = absurd (omega (arith, ap length same))
@@ -55,8 +59,12 @@ Refuses stops.Unexpected tree = ⊤
 Refuses stops.TooDeep tree = AreFewOpen 0 (tree_leaves tree)
 Refuses stops.NoMemory tree = ⊥
 
+-- reading a whole text stops so
+abbrev pub Stopped : Source → (old new : Cursor) → Stop → Type 0
+Stopped source old new stop = Takes {X = Tree} source old new DesignWord end_follows (Err stop)
+
 -- where reading stops, no such design agrees with the tokens
-never : {source : Source} {old new : Cursor} {stop : Stop} → old.at ≡ 0 → old.depth ≡ 0 → Takes {X = Tree} source old new DesignWord end_follows (Err stop) →
+never : {source : Source} {old new : Cursor} {stop : Stop} → old.at ≡ 0 → old.depth ≡ 0 → Stopped source old new stop →
     (tree : Tree) → Refuses stop tree → IsDesign tree → AgreesUpTo source new (tree_leaves tree) → ⊥
 never {source} {old} {new} {stop} at depth takes tree such design agrees =
     let w = tree_leaves tree in
@@ -67,18 +75,23 @@ never {source} {old} {new} {stop} at depth takes tree such design agrees =
     ended stops.TooDeep left such ends = ends (subst (λ d. AreFewOpen d (tree_leaves tree ++ [])) (sym depth) (subst (AreFewOpen 0) (sym (append-nil (tree_leaves tree))) such))
     ended stops.NoMemory left such ends = such
 
-none_goes_on : {source : Source} {old new : Cursor} → old.at ≡ 0 → old.depth ≡ 0 → Takes {X = Tree} source old new DesignWord end_follows (Err stops.Unexpected) →
+none_goes_on : {source : Source} {old new : Cursor} → old.at ≡ 0 → old.depth ≡ 0 → Stopped source old new stops.Unexpected →
     (before behind : List Token) → source.tokens.now ≡ before ++ behind → drop new.at source.tokens.now ≡ behind → NoneGoesOn source.text.now before behind
 none_goes_on {source} {old} {new} at depth takes before [] split ends = λ tree design same.
+    let text = source.text.now in
     let whole : before ≡ source.tokens.now = sym (split ∙ append-nil before) in
-    never {stop = stops.Unexpected} at depth takes tree tt design (λ cursor low. agrees_whole source.text.now (tree_leaves tree) source.tokens.now cursor.at (same ∙ ap (map (terminal_of source.text.now)) whole))
+    never {stop = stops.Unexpected} at depth takes tree tt design
+    (λ cursor low. agrees_whole text (tree_leaves tree) source.tokens.now cursor.at (same ∙ ap (map (terminal_of text)) whole))
 none_goes_on {source} {old} {new} at depth takes before (token ∷ behind) split ends = λ tree begins.
+    let text = source.text.now in
     let all = source.tokens.now in
-    let front : all ≡ (before ++ token ∷ []) ++ behind = split ∙ sym (append_assoc before (token ∷ []) behind) in
-    let long : length (before ++ token ∷ []) ≡ new.at + 1 = omega (arith, length-append before (token ∷ []), length-append before (token ∷ behind), ap length split, length-drop new.at all, ap length ends) in
+    let read = before ++ token ∷ [] in
+    let front : all ≡ read ++ behind = split ∙ sym (append_assoc before (token ∷ []) behind) in
+    let lengths = length-append before (token ∷ behind) in
+    let long : length read ≡ new.at + 1 = omega (arith, length-append before (token ∷ []), lengths, ap length split, length-drop new.at all, ap length ends) in
     never {stop = stops.Unexpected} at depth takes tree tt begins.design (λ cursor low.
-    agrees_front source.text.now (tree_leaves tree) (before ++ token ∷ []) behind begins.rest cursor.at begins.terminals (omega (arith, long, low))
-    ∙ ap (λ ts. option_map (terminal_of source.text.now) (slice_get ts cursor.at)) (sym front))
+    agrees_front text (tree_leaves tree) read behind begins.rest cursor.at begins.terminals (omega (arith, long, low))
+    ∙ ap (λ ts. option_map (terminal_of text) (slice_get ts cursor.at)) (sym front))
 
 -- the next token is the first one behind
 next_is : (source : Source) (cursor : Cursor) (behind : List Token) → drop cursor.at source.tokens.now ≡ behind → next source cursor ≡ option_map (terminal_of source.text.now) (slice_get behind 0)
@@ -90,7 +103,8 @@ next_is source cursor behind ends = ap (option_map (terminal_of source.text.now)
     at_drop (token ∷ tokens) zero = refl
     at_drop (token ∷ tokens) (suc i) = at_drop tokens i
 
-opens : (source : Source) (new : Cursor) (before behind : List Token) (terminal : Terminal) → drop new.at source.tokens.now ≡ behind → new.depth ≡ open_behind_all 0 (seen source.text.now before) → next source new ≡ Some terminal → 64 < open_behind new.depth terminal →
+opens : (source : Source) (new : Cursor) (before behind : List Token) (terminal : Terminal) → drop new.at source.tokens.now ≡ behind →
+    new.depth ≡ open_behind_all 0 (seen source.text.now before) → next source new ≡ Some terminal → 64 < open_behind new.depth terminal →
     OpensTooMany source.text.now before behind
 opens source new before [] terminal ends depth at deep = never_none (sym (next_is source new [] ends) ∙ at)
 opens source new before (token ∷ behind) terminal ends depth at deep =
@@ -126,8 +140,8 @@ begun {source} rest front = record {
 }
 
 -- and some design goes on with the token that opens a bracket too many
-goes_on : {source : Source} {old new : Cursor} (spot : Spot) (rest : List Spot) (front : Front source old new DesignWord (spot ∷ rest)) → next source new ≡ Some spot.terminal → (behind : List Token) → drop new.at source.tokens.now ≡ behind →
-    GoesOn source.text.now front.reads.tokens behind
+goes_on : {source : Source} {old new : Cursor} (spot : Spot) (rest : List Spot) (front : Front source old new DesignWord (spot ∷ rest)) →
+    next source new ≡ Some spot.terminal → (behind : List Token) → drop new.at source.tokens.now ≡ behind → GoesOn source.text.now front.reads.tokens behind
 goes_on {source} {old} {new} spot rest front at [] ends = never_none (sym (next_is source new [] ends) ∙ at)
 goes_on {source} {old} {new} spot rest front at (token ∷ behind) ends =
     let text = source.text.now in
@@ -145,7 +159,7 @@ goes_on {source} {old} {new} spot rest front at (token ∷ behind) ends =
     )
 
 -- the fault stands where reading stops
-pub stands_between : {source : Source} {old new : Cursor} (stop : Stop) (fault : Fault) → old.at ≡ 0 → old.depth ≡ 0 → Takes {X = Tree} source old new DesignWord end_follows (Err stop) → IsFaultOf source new stop fault →
+pub stands_between : {source : Source} {old new : Cursor} (stop : Stop) (fault : Fault) → old.at ≡ 0 → old.depth ≡ 0 → Stopped source old new stop → IsFaultOf source new stop fault →
     StandsBetween source.text.now source.tokens.now fault
 stands_between {source} {old} {new} stops.Unexpected fault at depth takes is =
     let front = takes.leads.1 in
@@ -164,7 +178,8 @@ stands_between {source} {old} {new} stops.TooDeep fault at depth takes is =
     let front = takes.leads.2 in
     let tokens = front.reads.tokens in
     let behind = drop new.at source.tokens.now in
-    let depths : new.depth ≡ open_behind_all 0 (seen source.text.now tokens) = front.reads.depth ∙ ap (λ n. open_behind_all n front.read) depth ∙ open_seen source.text.now 0 front.read tokens front.reads.each in
+    let depths : new.depth ≡ open_behind_all 0 (seen source.text.now tokens) =
+    front.reads.depth ∙ ap (λ n. open_behind_all n front.read) depth ∙ open_seen source.text.now 0 front.read tokens front.reads.each in
     record {
       before = tokens;
       behind = behind;
@@ -176,7 +191,7 @@ stands_between {source} {old} {new} stops.TooDeep fault at depth takes is =
 stands_between {source} {old} {new} stops.NoMemory fault at depth takes is = absurd is
 
 -- where reading stops, no tree with few open brackets has these tokens
-none_has : {source : Source} {old new : Cursor} {stop : Stop} → old.at ≡ 0 → old.depth ≡ 0 → Takes {X = Tree} source old new DesignWord end_follows (Err stop) → (fault : Fault) → IsFaultOf source new stop fault →
+none_has : {source : Source} {old new : Cursor} {stop : Stop} → old.at ≡ 0 → old.depth ≡ 0 → Stopped source old new stop → (fault : Fault) → IsFaultOf source new stop fault →
     (tree : Tree) → IsDesign tree → AreFewOpen 0 (tree_leaves tree) → map (λ leaf. leaf.terminal) (tree_leaves tree) ≡ map (terminal_of source.text.now) source.tokens.now → ⊥
 none_has {source} {old} {new} {stop} at depth takes fault is tree design few same =
     never at depth takes tree (such stop is) design (λ cursor low. agrees_whole source.text.now (tree_leaves tree) source.tokens.now cursor.at same)
@@ -190,8 +205,8 @@ none_has {source} {old} {new} {stop} at depth takes fault is tree design few sam
 pub reads_back_found : (text : List ℕ) (tokens : List Token) (found : Tree) → Derives text found tokens → ReadsBack text tokens (Ok found)
 reads_back_found text tokens found derives tree is same few = read_again text tokens tree found is same derives
 
-pub reads_back_refused : {source : Source} {old new : Cursor} {stop : Stop} (refusal : Refusal) → old.at ≡ 0 → old.depth ≡ 0 → Takes {X = Tree} source old new DesignWord end_follows (Err stop) → IfFault {X = Tree} (Err refusal) (IsFaultOf source new stop) →
-    ReadsBack source.text.now source.tokens.now (Err refusal)
+pub reads_back_refused : {source : Source} {old new : Cursor} {stop : Stop} (refusal : Refusal) → old.at ≡ 0 → old.depth ≡ 0 →
+    Stopped source old new stop → IfFault {X = Tree} (Err refusal) (IsFaultOf source new stop) → ReadsBack source.text.now source.tokens.now (Err refusal)
 reads_back_refused (refusals.Fault fault) at depth takes is tree design same few = none_has at depth takes fault is tree design few (sym same)
 reads_back_refused refusals.NoMemory at depth takes is tree design same few = tt
 

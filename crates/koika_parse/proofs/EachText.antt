@@ -1,6 +1,6 @@
 -- The tokens of each text are a tree's, or they have a fault of the grammar.
 use Rattle.std.proofs.Common.{◌≡◌, ℕ, ◌≤◌, Option, Some, Ok, Err, List, [], ◌∷◌, ◌++◌, length, length-append, append-nil, drop, inl, inr, refl, sym, ap, ◌∙◌, subst, arith}
-use Rattle.std.specs.Prelude.{◌⊎◌, ⊤}
+use Rattle.std.specs.Prelude.{⊤}
 use Rattle.std.specs.List.{All, AllZip}
 use Rattle.std.proofs.lemmas.List.{drop_all}
 use Rattle.kw_base.specs.Fault.{fault_at}
@@ -15,22 +15,36 @@ use Rattle.koika_syntax.specs.declared.tree.Tree.{Tree}
 use Rattle.koika_syntax.proofs.Cuts.{length-piece}
 use Rattle.koika_syntax.proofs.Spans.{tokens_stand}
 use Rattle.koika_parse.specs.Brackets.{AreFewOpen, open_behind}
-use Rattle.koika_parse.specs.inner.Expected.{Any, Behind, NoComma, One, Part, StandAt, Takes, Then, first, spots_of}
+use Rattle.koika_parse.specs.inner.Expected.{Any, Behind, One, Part, StandAt, Takes, Then, first, spots_of}
 use Rattle.koika_parse.specs.inner.ExpressionWords.{parenthesis_follows}
 use Rattle.koika_parse.specs.Faults.{place_behind, seen}
 use Rattle.koika_parse.specs.Laws.{EachTextIsParsed, IsParsed}
 use Rattle.koika_parse.specs.inner.Reading.{kind_at, next}
-use Rattle.koika_parse.specs.inner.Words.{AssertWord, DeclarationsWord, DesignWord, EnumWord, FunctionWord, HostWord, InputWord, ParametersWord, RegisterWord, ResultWord, RuleWord, StructWord, TableWord, end_follows, schedule_follows}
+use Rattle.koika_parse.specs.inner.Words.{AssertWord, DeclarationsWord, DesignWord, EnumWord, FunctionWord, HostWord}
+use Rattle.koika_parse.specs.inner.Words.{InputWord, ParametersWord, RegisterWord, ResultWord, RuleWord, StructWord}
+use Rattle.koika_parse.specs.inner.Words.{TableWord, end_follows, schedule_follows}
 use Rattle.koika_parse.specs.declared.cursor.Cursor.{Cursor}
 use Rattle.koika_parse.specs.declared.source.Source.{Source}
 use Rattle.koika_parse.specs.declared.stop.Stop.{Stop}
 use Rattle.koika_parse.specs.declared.stop.Stop.TheVariants as stops
-use Rattle.koika_parse.proofs.Answered.{Answered, Fewer, HasToken, IsRefusal, any_last, any_then, by_case, by_tokens, decide_below, decide_named, decide_next, none_left, one_last, one_then, part_last, part_more, part_then}
+use Rattle.koika_parse.proofs.Answered.{Answered, Ended, Fewer, HasToken, IsRefusal, any_last, any_then, by_case}
+use Rattle.koika_parse.proofs.Answered.{by_tokens, decide_below, decide_named, decide_next, none_left, one_last}
+use Rattle.koika_parse.proofs.Answered.{one_then, part_last, part_more, part_then}
 use Rattle.koika_parse.proofs.AnsweredExpressions.{block_answered}
-use Rattle.koika_parse.proofs.AnsweredParts.{commas_answered, constant_answered, field_answered, literal_answered, member_answered, name_answered, scheduler_answered, type_answered, width_answered}
-use Rattle.koika_parse.proofs.DeclarationWords.{assert_within, declaration_at, declaration_none, declaration_refused, declaration_word, declarations_at, declarations_end, declarations_start, enum_within, fields_listed, function_start, function_within, host_within, input_within, literals_listed, members_listed, parameters_at, parameters_end, register_within, result_type, result_unit, rule_within, some_assert, some_design, some_enum, some_function, some_host, some_input, some_register, some_rule, some_struct, some_table, struct_within, table_within, then_nothing, tree_ended, tree_start}
+use Rattle.koika_parse.proofs.AnsweredParts.{closed_answered, commas_answered, constant_answered, field_answered}
+use Rattle.koika_parse.proofs.AnsweredParts.{literal_answered, member_answered, name_answered, scheduler_answered}
+use Rattle.koika_parse.proofs.AnsweredParts.{type_answered, width_answered}
+use Rattle.koika_parse.proofs.DeclarationWords.{assert_within, declaration_at, declaration_none, declaration_refused}
+use Rattle.koika_parse.proofs.DeclarationWords.{declaration_word, declarations_at, declarations_end, declarations_start}
+use Rattle.koika_parse.proofs.DeclarationWords.{enum_within, fields_listed, function_start, function_within}
+use Rattle.koika_parse.proofs.DeclarationWords.{host_within, input_within, literals_listed, members_listed}
+use Rattle.koika_parse.proofs.DeclarationWords.{parameters_at, parameters_end, register_within, result_type}
+use Rattle.koika_parse.proofs.DeclarationWords.{result_unit, rule_within, some_assert, some_design, some_enum}
+use Rattle.koika_parse.proofs.DeclarationWords.{some_function, some_host, some_input, some_register, some_rule}
+use Rattle.koika_parse.proofs.DeclarationWords.{some_struct, some_table, struct_within, table_within, then_nothing}
+use Rattle.koika_parse.proofs.DeclarationWords.{tree_ended, tree_start}
 use Rattle.koika_parse.proofs.Designs.{stands_between}
-use Rattle.koika_parse.proofs.Expected.{Apart, Empty, Goes, begin, before_one, before_one_then, free, last_stopped, step}
+use Rattle.koika_parse.proofs.Expected.{Apart, Empty, Goes, begin, before_one_then, free, last_stopped, step}
 use Rattle.koika_parse.proofs.Names.{names_stand, starts_stand}
 use Rattle.koika_parse.proofs.PrimaryWords.{parenthesis_any}
 use Rattle.koika_parse.proofs.Seen.{few_seen}
@@ -51,14 +65,12 @@ module _ (source : Source) (stands : All (StandsIn source.text.now) source.token
       λ colon forward goes. one_then goes
       λ width fewer goes. any_then goes (width_answered source stands width)
       λ brace further goes. one_then goes
-      λ members less goes. part_then goes (commas_answered source stands members_listed tt members (λ m at. member_answered source stands m)) (before_one Any (NoComma Any) (symbol symbols.RightBrace) (tt, refl))
-      λ close beyond goes. one_last goes
+      λ members less goes. closed_answered source stands members_listed tt (tt, refl) goes (λ m at. member_answered source stands m)
 
   struct_answered : (old : Cursor) → Answered source old StructWord Any
   struct_answered old = any_then (begin StructWord some_struct) (declared keywords.Struct old)
       λ brace forward goes. one_then goes
-      λ fields fewer goes. part_then goes (commas_answered source stands fields_listed tt fields (λ m at. field_answered source stands m)) (before_one Any (NoComma Any) (symbol symbols.RightBrace) (tt, refl))
-      λ close further goes. one_last goes
+      λ fields fewer goes. closed_answered source stands fields_listed tt (tt, refl) goes (λ m at. field_answered source stands m)
 
   register_answered : (old : Cursor) → Answered source old RegisterWord Any
   register_answered old = any_then (begin RegisterWord some_register) (declared keywords.Reg old)
@@ -81,8 +93,7 @@ module _ (source : Source) (stands : All (StandsIn source.text.now) source.token
       λ arrow further goes. one_then goes
       λ output less goes. any_then goes (width_answered source stands output)
       λ brace beyond goes. one_then goes
-      λ entries least goes. part_then goes (commas_answered source stands literals_listed tt entries (λ m at. literal_answered source stands m)) (before_one Any (NoComma Any) (symbol symbols.RightBrace) (tt, refl))
-      λ close last goes. one_last goes
+      λ entries least goes. closed_answered source stands literals_listed tt (tt, refl) goes (λ m at. literal_answered source stands m)
 
   host_answered : (old : Cursor) → Answered source old HostWord Any
   host_answered old = any_then (begin HostWord some_host) (declared keywords.Host old)
@@ -189,9 +200,13 @@ read_design {source} {old} {new} begins depth ends takes =
     )
 
 -- where reading stops, a fault stands
-read_fault : {source : Source} {old new : Cursor} (stop : Stop) → IsRefusal stop → old.at ≡ 0 → old.depth ≡ 0 → Takes {X = Tree} source old new DesignWord end_follows (Err stop) → IsParsed source.text.now source.tokens.now
-read_fault {source} {old} {new} stops.Unexpected is at depth takes = inr (fault_at 11 (place_behind source.text.now (drop new.at source.tokens.now)), stands_between stops.Unexpected _ at depth takes refl)
-read_fault {source} {old} {new} stops.TooDeep is at depth takes = inr (fault_at 12 (place_behind source.text.now (drop new.at source.tokens.now)), stands_between stops.TooDeep _ at depth takes refl)
+read_fault :
+    {source : Source} {old new : Cursor} (stop : Stop) → IsRefusal stop → old.at ≡ 0 → old.depth ≡ 0 →
+    Takes {X = Tree} source old new DesignWord end_follows (Err stop) → IsParsed source.text.now source.tokens.now
+read_fault {source} {old} {new} stops.Unexpected is at depth takes =
+    inr (fault_at 11 (place_behind source.text.now (drop new.at source.tokens.now)), stands_between stops.Unexpected _ at depth takes refl)
+read_fault {source} {old} {new} stops.TooDeep is at depth takes =
+    inr (fault_at 12 (place_behind source.text.now (drop new.at source.tokens.now)), stands_between stops.TooDeep _ at depth takes refl)
 read_fault stops.NoMemory is at depth takes = absurd is
 
 nothing_apart : Apart Empty end_follows end_follows
@@ -206,7 +221,7 @@ read_text source stands = of answered.1
     answered : Answered source old DesignWord end_follows
     answered = design_answered source stands old
 
-    of : (Takes {X = ⊤} source old answered.0 DesignWord end_follows (Ok tt) ⊎ ((stop : Stop) × IsRefusal stop × Takes {X = ⊤} source old answered.0 DesignWord end_follows (Err stop))) → IsParsed source.text.now source.tokens.now
+    of : Ended source old answered.0 DesignWord end_follows → IsParsed source.text.now source.tokens.now
     of (inl takes) = by_case (decide_below answered.0.at (length source.tokens.now))
         (λ within. read_fault {old = old} {new = answered.0} stops.Unexpected tt refl refl (tree_ended {Y = Tree} within (step (then_nothing (begin DesignWord some_design)) takes nothing_apart)))
         (λ past. inl (read_design {old = old} {new = answered.0} refl refl (omega (arith, past)) takes))

@@ -1,11 +1,21 @@
 -- The words of expressions: what each part of an expression is, as the words of its own parts.
-use Rattle.std.proofs.Common.{◌≡◌, ℕ, zero, suc, ◌+◌, ◌<◌, ◌≤◌, Option, None, Some, IfSome, List, [], ◌∷◌, ◌++◌, length, map, append_assoc, append-nil, inl, inr, refl, ap, sym, subst, ◌∙◌, arith, Vec, Box, Global, eq-or-lt_of_le}
+use Rattle.std.proofs.Common.{◌≡◌, ℕ, zero, suc, ◌+◌, ◌<◌, ◌≤◌, Option, None, Some, IfSome, List, [], ◌∷◌, ◌++◌, length}
+use Rattle.std.proofs.Common.{map, append_assoc, append-nil, inl, inr, refl, ap, sym, subst, ◌∙◌, arith, Vec, Box}
+use Rattle.std.proofs.Common.{Global, eq-or-lt_of_le}
 use Rattle.std.specs.Prelude.{◌⊎◌}
-use Rattle.std.specs.List.{All, flat_map}
+use Rattle.std.specs.List.{All}
 use Rattle.std.proofs.lemmas.List.Elements.{All-cons, All-nil, All-head, All-tail}
-use Rattle.koika_syntax.specs.Grammar.{IsSuffix, LiteralFits, IsName, NumberFits, IsNonempty, IsBlock, IsOperandAt, IsExpressionLayer, IsStatementLayer, IsArmLayer, IsBlockLayer, IsFieldValueLayer, IsOperandLayer, level, level_of, call_leaves, last_leaves, type_leaves, part_leaves, prefix_leaves, suffix_leaves, block_leaves, expression_step, statement_step, arm_step, block_step, field_value_step, operand_step}
+use Rattle.koika_syntax.specs.Grammar.{IsSuffix, LiteralFits, IsName, IsNonempty, IsBlock, IsOperandAt}
+use Rattle.koika_syntax.specs.Grammar.{IsExpressionLayer, IsStatementLayer, IsArmLayer, IsBlockLayer, IsFieldValueLayer}
+use Rattle.koika_syntax.specs.Grammar.{IsOperandLayer, Leaves, level, level_of, level_of_chain as chain_level}
+use Rattle.koika_syntax.specs.Grammar.{level_of_layer as layer_level, call_leaves, last_leaves, block_leaves}
+use Rattle.koika_syntax.specs.Grammar.{expression_step, statement_step, arm_step, block_step, field_value_step}
+use Rattle.koika_syntax.specs.Grammar.{operand_step}
 use Rattle.koika_syntax.specs.inner.Grammar.{IsExpression, expression_leaves, statement_leaves, arm_leaves, field_value_leaves, operand_leaves}
-use Rattle.koika_syntax.specs.Tree.{Leaf, keyword, symbol, word, sign, placed, name_leaves, number_leaves, literal_leaves, commas, with_between, all_of, each_after, in_parentheses, binary_symbol, comparison_word, extension_word, read_word, write_word}
+use Rattle.koika_syntax.specs.Tree.{Leaf, keyword, symbol, word, sign, placed, name_leaves, literal_leaves, commas}
+use Rattle.koika_syntax.specs.Tree.{with_between, all_of, each_after, binary_symbol, comparison_word, extension_word}
+use Rattle.koika_syntax.specs.Tree.{read_word, write_word}
+use Rattle.koika_syntax.specs.declared.keyword.Keyword.{Keyword}
 use Rattle.koika_syntax.specs.declared.keyword.Keyword.TheVariants as keywords
 use Rattle.koika_syntax.specs.declared.symbol.Symbol.TheVariants as symbols
 use Rattle.koika_syntax.specs.declared.token.TokenKind.{TokenKind}
@@ -17,15 +27,17 @@ use Rattle.koika_syntax.specs.declared.operator.Extension.TheVariants as extensi
 use Rattle.koika_syntax.specs.declared.operator.SignedComparison.{SignedComparison}
 use Rattle.koika_syntax.specs.declared.operator.SignedComparison.TheVariants as comparisons
 use Rattle.koika_syntax.specs.declared.tree.Expression.TheOpen as expression
-use Rattle.koika_syntax.specs.declared.tree.Name.{Name}
-use Rattle.koika_syntax.specs.declared.tree.Number.{Number}
 use Rattle.koika_parse.specs.inner.Expected.{InVector, One, Part, Then}
-use Rattle.koika_parse.specs.inner.ExpressionWords.{LevelWord, OperatorWord, SomeOperandsWord, PrefixesWord, SuffixesWord, ReadWord, WriteWord, PackWord, UnpackWord, ExtendWord, CompareWord, UpdateWord, NamedWord, KeywordWord, SymbolWord, LetWord, ConditionalWord, InsideWord}
+use Rattle.koika_parse.specs.inner.ExpressionWords.{LevelWord, OperatorWord, SomeOperandsWord, PrefixesWord}
+use Rattle.koika_parse.specs.inner.ExpressionWords.{SuffixesWord, ReadWord, WriteWord, ExtendWord, CompareWord}
+use Rattle.koika_parse.specs.inner.ExpressionWords.{NamedWord, KeywordWord, SymbolWord, LetWord, ArrayWord}
+use Rattle.koika_parse.specs.inner.ExpressionWords.{CallTailWord, ColonsWord, ParenthesesWord, StructTailWord}
+use Rattle.koika_parse.specs.inner.ExpressionWords.{ConditionalWord, InsideWord}
 use Rattle.koika_parse.specs.inner.Parts.{IsArm, IsFieldValue, IsOperand, IsOperandIn, IsStatement}
-use Rattle.koika_parse.proofs.Expected.{kind_of}
+use Rattle.koika_parse.proofs.Expected.{Language, Has, ◌⨾◌, a_part, a_placed, a_sign, a_word, word_as, kind_of}
 use Rattle.koika_parse.proofs.ConstantWords.{Such, firsts_are, held_fit}
 use Rattle.koika_parse.proofs.Calls.{all_of_map}
-use Rattle.koika_parse.proofs.Words.{sign_word, word_word, placed_word, assoc3, assoc5}
+use Rattle.koika_parse.proofs.Words.{sign_word}
 use Rattle.koika_syntax.specs.declared.tree.Expression.{Expression, Expression-F, map-Expression, out-Expression, every_held-Expression, every_here-Expression, fold_out-Expression}
 use Rattle.koika_syntax.specs.declared.tree.Statement.{Statement, Statement-F, map-Statement, out-Statement, every_held-Statement, every_here-Statement, fold_out-Statement}
 use Rattle.koika_syntax.specs.declared.tree.Arm.{Arm, Arm-F, map-Arm, out-Arm, every_held-Arm, every_here-Arm, fold_out-Arm}
@@ -34,7 +46,7 @@ use Rattle.koika_syntax.specs.declared.tree.FieldValue.{FieldValue, FieldValue-F
 use Rattle.koika_syntax.specs.declared.tree.Operand.{Operand, Operand-F, map-Operand, out-Operand, every_held-Operand, every_here-Operand, fold_out-Operand}
 
 -- a primary by the kind of its first token
-abbrev pub PrimaryWord : TokenKind → List Leaf → Type 0
+abbrev pub PrimaryWord : TokenKind → Language
 PrimaryWord (kinds.Literal bits) = Part LiteralFits literal_leaves
 PrimaryWord kinds.Name = NamedWord
 PrimaryWord (kinds.Symbol s) = SymbolWord s
@@ -42,415 +54,464 @@ PrimaryWord (kinds.Keyword k) = KeywordWord k
 PrimaryWord (kinds.Number n) = λ u. ⊥
 
 -- a word by its first token
-abbrev pub Headed : (TokenKind → List Leaf → Type 0) → List Leaf → Type 0
+abbrev pub Headed : (TokenKind → Language) → Language
 Headed P u = (leaf : Leaf) × (rest : List Leaf) × (u ≡ leaf ∷ rest) × P (kind_of leaf.terminal) u
 
+abbrev pub OneExpression : Language
+OneExpression = Part IsExpression expression_leaves
+
+-- the parts of a list, without the proofs that they are the grammar's
+abbrev firsts : {X : Type 0} {Is : X → Type 0} → List (Such Is) → List X
+firsts held = map (λ e. e.0) held
+
+-- a layer of a tree, by what stands for the six kinds of parts
+abbrev Shape : Type 1
+Shape = (E S A B F O : Type 0) → Type 0
+
+-- a function of layers, by one of each of their parts
+abbrev Maps : Shape → Type 1
+Maps Layer = (E S A B F O E' S' A' B' F' O' : Type 0) → (E → E') → (S → S') → (A → A') → (B → B') → (F → F') → (O → O') →
+    Layer E S A B F O → Layer E' S' A' B' F' O'
+
+-- a layer with its parts; with parts that are the grammar's, and without the proofs of that; and its leaves
+abbrev Closed : Shape → Type 0
+Closed Layer = Layer Expression Statement Arm Block FieldValue Operand
+
+abbrev Open : Shape → Type 0
+Open Layer = Layer (Such IsExpression) (Such IsStatement) (Such IsArm) (Such IsBlock) (Such IsFieldValue) (Such IsOperand)
+
+abbrev closed : (Layer : Shape) → Maps Layer → Open Layer → Closed Layer
+closed Layer over y =
+    over (Such IsExpression) (Such IsStatement) (Such IsArm) (Such IsBlock) (Such IsFieldValue) (Such IsOperand)
+    Expression Statement Arm Block FieldValue Operand (λ e. e.0) (λ e. e.0) (λ e. e.0) (λ e. e.0) (λ e. e.0) (λ e. e.0) y
+
+abbrev layer_leaves : (Layer : Shape) → Maps Layer → (Layer Leaves Leaves Leaves Leaves Leaves Leaves → List Leaf) → Closed Layer → List Leaf
+layer_leaves Layer over step d =
+    step (over Expression Statement Arm Block FieldValue Operand Leaves Leaves Leaves Leaves Leaves Leaves
+    expression_leaves statement_leaves arm_leaves block_leaves field_value_leaves operand_leaves d)
+
+-- a layer is one whose parts are the grammar's, and keeps what it has to
+abbrev Held : {O C : Type 0} → (O → C) → (C → Type 0) → C → Type 0
+Held {O} closing Is d = ((y : O) × (closing y ≡ d)) × Is d
+
+-- what holds of each layer whose parts are the grammar's holds of a layer that is one of them
+of_open : {O C : Type 0} (closing : O → C) (Is Claim : C → Type 0) → ((y : O) → Is (closing y) → Claim (closing y)) → {d : C} → Held closing Is d → Claim d
+of_open closing Is Claim each held = subst Claim held.0.1 (each held.0.0 (subst Is (sym held.0.1) held.1))
+
 abbrev OpenExpression : Type 0
-OpenExpression = Expression-F (Such IsExpression) (Such IsStatement) (Such IsArm) (Such IsBlock) (Such IsFieldValue) (Such IsOperand)
+OpenExpression = Open Expression-F
 
-abbrev closed_expression : OpenExpression → Expression-F Expression Statement Arm Block FieldValue Operand
-closed_expression y = map-Expression (Such IsExpression) (Such IsStatement) (Such IsArm) (Such IsBlock) (Such IsFieldValue) (Such IsOperand) Expression Statement Arm Block FieldValue Operand (λ e. e.0) (λ e. e.0) (λ e. e.0) (λ e. e.0) (λ e. e.0) (λ e. e.0) y
+abbrev closed_expression : OpenExpression → Closed Expression-F
+closed_expression y = closed Expression-F map-Expression y
 
-abbrev expression_layer_leaves : Expression-F Expression Statement Arm Block FieldValue Operand → List Leaf
-expression_layer_leaves d = expression_step (map-Expression Expression Statement Arm Block FieldValue Operand (List Leaf) (List Leaf) (List Leaf) (List Leaf) (List Leaf) (List Leaf) expression_leaves statement_leaves arm_leaves block_leaves field_value_leaves operand_leaves d)
+abbrev expression_layer_leaves : Closed Expression-F → List Leaf
+expression_layer_leaves d = layer_leaves Expression-F map-Expression expression_step d
 
-expression_held : (t : Expression) → IsExpression t → (y : OpenExpression) × (closed_expression y ≡ out-Expression t)
+expression_held : (t : Expression) → IsExpression t → Held closed_expression IsExpressionLayer (out-Expression t)
 unfolding IsExpression IsStatement IsArm IsBlock IsFieldValue IsOperand
-expression_held t is = every_held-Expression IsExpressionLayer IsStatementLayer IsArmLayer IsBlockLayer IsFieldValueLayer IsOperandLayer t is
-
-expression_here : (t : Expression) → IsExpression t → IsExpressionLayer (out-Expression t)
-unfolding IsExpression IsStatement IsArm IsBlock IsFieldValue IsOperand
-expression_here t is = every_here-Expression IsExpressionLayer IsStatementLayer IsArmLayer IsBlockLayer IsFieldValueLayer IsOperandLayer t is
+expression_held t is = (
+  every_held-Expression IsExpressionLayer IsStatementLayer IsArmLayer IsBlockLayer IsFieldValueLayer IsOperandLayer t is,
+  every_here-Expression IsExpressionLayer IsStatementLayer IsArmLayer IsBlockLayer IsFieldValueLayer IsOperandLayer t is,
+)
 
 expression_out : (t : Expression) → expression_leaves t ≡ expression_layer_leaves (out-Expression t)
 unfolding expression_leaves statement_leaves arm_leaves block_leaves field_value_leaves operand_leaves
-expression_out t = fold_out-Expression (List Leaf) (List Leaf) (List Leaf) (List Leaf) (List Leaf) (List Leaf) expression_step statement_step arm_step block_step field_value_step operand_step t
+expression_out t =
+    fold_out-Expression Leaves Leaves Leaves Leaves Leaves Leaves expression_step statement_step arm_step block_step field_value_step operand_step t
 
 abbrev OpenStatement : Type 0
-OpenStatement = Statement-F (Such IsExpression) (Such IsStatement) (Such IsArm) (Such IsBlock) (Such IsFieldValue) (Such IsOperand)
+OpenStatement = Open Statement-F
 
-abbrev closed_statement : OpenStatement → Statement-F Expression Statement Arm Block FieldValue Operand
-closed_statement y = map-Statement (Such IsExpression) (Such IsStatement) (Such IsArm) (Such IsBlock) (Such IsFieldValue) (Such IsOperand) Expression Statement Arm Block FieldValue Operand (λ e. e.0) (λ e. e.0) (λ e. e.0) (λ e. e.0) (λ e. e.0) (λ e. e.0) y
+abbrev closed_statement : OpenStatement → Closed Statement-F
+closed_statement y = closed Statement-F map-Statement y
 
-abbrev statement_layer_leaves : Statement-F Expression Statement Arm Block FieldValue Operand → List Leaf
-statement_layer_leaves d = statement_step (map-Statement Expression Statement Arm Block FieldValue Operand (List Leaf) (List Leaf) (List Leaf) (List Leaf) (List Leaf) (List Leaf) expression_leaves statement_leaves arm_leaves block_leaves field_value_leaves operand_leaves d)
+abbrev statement_layer_leaves : Closed Statement-F → List Leaf
+statement_layer_leaves d = layer_leaves Statement-F map-Statement statement_step d
 
-statement_held : (t : Statement) → IsStatement t → (y : OpenStatement) × (closed_statement y ≡ out-Statement t)
+statement_held : (t : Statement) → IsStatement t → Held closed_statement IsStatementLayer (out-Statement t)
 unfolding IsExpression IsStatement IsArm IsBlock IsFieldValue IsOperand
-statement_held t is = every_held-Statement IsExpressionLayer IsStatementLayer IsArmLayer IsBlockLayer IsFieldValueLayer IsOperandLayer t is
-
-statement_here : (t : Statement) → IsStatement t → IsStatementLayer (out-Statement t)
-unfolding IsExpression IsStatement IsArm IsBlock IsFieldValue IsOperand
-statement_here t is = every_here-Statement IsExpressionLayer IsStatementLayer IsArmLayer IsBlockLayer IsFieldValueLayer IsOperandLayer t is
+statement_held t is = (
+  every_held-Statement IsExpressionLayer IsStatementLayer IsArmLayer IsBlockLayer IsFieldValueLayer IsOperandLayer t is,
+  every_here-Statement IsExpressionLayer IsStatementLayer IsArmLayer IsBlockLayer IsFieldValueLayer IsOperandLayer t is,
+)
 
 statement_out : (t : Statement) → statement_leaves t ≡ statement_layer_leaves (out-Statement t)
 unfolding expression_leaves statement_leaves arm_leaves block_leaves field_value_leaves operand_leaves
-statement_out t = fold_out-Statement (List Leaf) (List Leaf) (List Leaf) (List Leaf) (List Leaf) (List Leaf) expression_step statement_step arm_step block_step field_value_step operand_step t
+statement_out t =
+    fold_out-Statement Leaves Leaves Leaves Leaves Leaves Leaves expression_step statement_step arm_step block_step field_value_step operand_step t
 
 abbrev OpenArm : Type 0
-OpenArm = Arm-F (Such IsExpression) (Such IsStatement) (Such IsArm) (Such IsBlock) (Such IsFieldValue) (Such IsOperand)
+OpenArm = Open Arm-F
 
-abbrev closed_arm : OpenArm → Arm-F Expression Statement Arm Block FieldValue Operand
-closed_arm y = map-Arm (Such IsExpression) (Such IsStatement) (Such IsArm) (Such IsBlock) (Such IsFieldValue) (Such IsOperand) Expression Statement Arm Block FieldValue Operand (λ e. e.0) (λ e. e.0) (λ e. e.0) (λ e. e.0) (λ e. e.0) (λ e. e.0) y
+abbrev closed_arm : OpenArm → Closed Arm-F
+closed_arm y = closed Arm-F map-Arm y
 
-abbrev arm_layer_leaves : Arm-F Expression Statement Arm Block FieldValue Operand → List Leaf
-arm_layer_leaves d = arm_step (map-Arm Expression Statement Arm Block FieldValue Operand (List Leaf) (List Leaf) (List Leaf) (List Leaf) (List Leaf) (List Leaf) expression_leaves statement_leaves arm_leaves block_leaves field_value_leaves operand_leaves d)
+abbrev arm_layer_leaves : Closed Arm-F → List Leaf
+arm_layer_leaves d = layer_leaves Arm-F map-Arm arm_step d
 
-arm_held : (t : Arm) → IsArm t → (y : OpenArm) × (closed_arm y ≡ out-Arm t)
+arm_held : (t : Arm) → IsArm t → Held closed_arm IsArmLayer (out-Arm t)
 unfolding IsExpression IsStatement IsArm IsBlock IsFieldValue IsOperand
-arm_held t is = every_held-Arm IsExpressionLayer IsStatementLayer IsArmLayer IsBlockLayer IsFieldValueLayer IsOperandLayer t is
-
-arm_here : (t : Arm) → IsArm t → IsArmLayer (out-Arm t)
-unfolding IsExpression IsStatement IsArm IsBlock IsFieldValue IsOperand
-arm_here t is = every_here-Arm IsExpressionLayer IsStatementLayer IsArmLayer IsBlockLayer IsFieldValueLayer IsOperandLayer t is
+arm_held t is = (
+  every_held-Arm IsExpressionLayer IsStatementLayer IsArmLayer IsBlockLayer IsFieldValueLayer IsOperandLayer t is,
+  every_here-Arm IsExpressionLayer IsStatementLayer IsArmLayer IsBlockLayer IsFieldValueLayer IsOperandLayer t is,
+)
 
 arm_out : (t : Arm) → arm_leaves t ≡ arm_layer_leaves (out-Arm t)
 unfolding expression_leaves statement_leaves arm_leaves block_leaves field_value_leaves operand_leaves
-arm_out t = fold_out-Arm (List Leaf) (List Leaf) (List Leaf) (List Leaf) (List Leaf) (List Leaf) expression_step statement_step arm_step block_step field_value_step operand_step t
+arm_out t =
+    fold_out-Arm Leaves Leaves Leaves Leaves Leaves Leaves expression_step statement_step arm_step block_step field_value_step operand_step t
 
 abbrev OpenBlock : Type 0
-OpenBlock = Block-F (Such IsExpression) (Such IsStatement) (Such IsArm) (Such IsBlock) (Such IsFieldValue) (Such IsOperand)
+OpenBlock = Open Block-F
 
-abbrev closed_block : OpenBlock → Block-F Expression Statement Arm Block FieldValue Operand
-closed_block y = map-Block (Such IsExpression) (Such IsStatement) (Such IsArm) (Such IsBlock) (Such IsFieldValue) (Such IsOperand) Expression Statement Arm Block FieldValue Operand (λ e. e.0) (λ e. e.0) (λ e. e.0) (λ e. e.0) (λ e. e.0) (λ e. e.0) y
+abbrev closed_block : OpenBlock → Closed Block-F
+closed_block y = closed Block-F map-Block y
 
-abbrev block_layer_leaves : Block-F Expression Statement Arm Block FieldValue Operand → List Leaf
-block_layer_leaves d = block_step (map-Block Expression Statement Arm Block FieldValue Operand (List Leaf) (List Leaf) (List Leaf) (List Leaf) (List Leaf) (List Leaf) expression_leaves statement_leaves arm_leaves block_leaves field_value_leaves operand_leaves d)
+abbrev block_layer_leaves : Closed Block-F → List Leaf
+block_layer_leaves d = layer_leaves Block-F map-Block block_step d
 
-block_held : (t : Block) → IsBlock t → (y : OpenBlock) × (closed_block y ≡ out-Block t)
+block_held : (t : Block) → IsBlock t → Held closed_block IsBlockLayer (out-Block t)
 unfolding IsExpression IsStatement IsArm IsBlock IsFieldValue IsOperand
-block_held t is = every_held-Block IsExpressionLayer IsStatementLayer IsArmLayer IsBlockLayer IsFieldValueLayer IsOperandLayer t is
-
-block_here : (t : Block) → IsBlock t → IsBlockLayer (out-Block t)
-unfolding IsExpression IsStatement IsArm IsBlock IsFieldValue IsOperand
-block_here t is = every_here-Block IsExpressionLayer IsStatementLayer IsArmLayer IsBlockLayer IsFieldValueLayer IsOperandLayer t is
+block_held t is = (
+  every_held-Block IsExpressionLayer IsStatementLayer IsArmLayer IsBlockLayer IsFieldValueLayer IsOperandLayer t is,
+  every_here-Block IsExpressionLayer IsStatementLayer IsArmLayer IsBlockLayer IsFieldValueLayer IsOperandLayer t is,
+)
 
 block_out : (t : Block) → block_leaves t ≡ block_layer_leaves (out-Block t)
 unfolding expression_leaves statement_leaves arm_leaves block_leaves field_value_leaves operand_leaves
-block_out t = fold_out-Block (List Leaf) (List Leaf) (List Leaf) (List Leaf) (List Leaf) (List Leaf) expression_step statement_step arm_step block_step field_value_step operand_step t
+block_out t =
+    fold_out-Block Leaves Leaves Leaves Leaves Leaves Leaves expression_step statement_step arm_step block_step field_value_step operand_step t
 
 abbrev OpenFieldValue : Type 0
-OpenFieldValue = FieldValue-F (Such IsExpression) (Such IsStatement) (Such IsArm) (Such IsBlock) (Such IsFieldValue) (Such IsOperand)
+OpenFieldValue = Open FieldValue-F
 
-abbrev closed_field_value : OpenFieldValue → FieldValue-F Expression Statement Arm Block FieldValue Operand
-closed_field_value y = map-FieldValue (Such IsExpression) (Such IsStatement) (Such IsArm) (Such IsBlock) (Such IsFieldValue) (Such IsOperand) Expression Statement Arm Block FieldValue Operand (λ e. e.0) (λ e. e.0) (λ e. e.0) (λ e. e.0) (λ e. e.0) (λ e. e.0) y
+abbrev closed_field_value : OpenFieldValue → Closed FieldValue-F
+closed_field_value y = closed FieldValue-F map-FieldValue y
 
-abbrev field_value_layer_leaves : FieldValue-F Expression Statement Arm Block FieldValue Operand → List Leaf
-field_value_layer_leaves d = field_value_step (map-FieldValue Expression Statement Arm Block FieldValue Operand (List Leaf) (List Leaf) (List Leaf) (List Leaf) (List Leaf) (List Leaf) expression_leaves statement_leaves arm_leaves block_leaves field_value_leaves operand_leaves d)
+abbrev field_value_layer_leaves : Closed FieldValue-F → List Leaf
+field_value_layer_leaves d = layer_leaves FieldValue-F map-FieldValue field_value_step d
 
-field_value_held : (t : FieldValue) → IsFieldValue t → (y : OpenFieldValue) × (closed_field_value y ≡ out-FieldValue t)
+field_value_held : (t : FieldValue) → IsFieldValue t → Held closed_field_value IsFieldValueLayer (out-FieldValue t)
 unfolding IsExpression IsStatement IsArm IsBlock IsFieldValue IsOperand
-field_value_held t is = every_held-FieldValue IsExpressionLayer IsStatementLayer IsArmLayer IsBlockLayer IsFieldValueLayer IsOperandLayer t is
-
-field_value_here : (t : FieldValue) → IsFieldValue t → IsFieldValueLayer (out-FieldValue t)
-unfolding IsExpression IsStatement IsArm IsBlock IsFieldValue IsOperand
-field_value_here t is = every_here-FieldValue IsExpressionLayer IsStatementLayer IsArmLayer IsBlockLayer IsFieldValueLayer IsOperandLayer t is
+field_value_held t is = (
+  every_held-FieldValue IsExpressionLayer IsStatementLayer IsArmLayer IsBlockLayer IsFieldValueLayer IsOperandLayer t is,
+  every_here-FieldValue IsExpressionLayer IsStatementLayer IsArmLayer IsBlockLayer IsFieldValueLayer IsOperandLayer t is,
+)
 
 field_value_out : (t : FieldValue) → field_value_leaves t ≡ field_value_layer_leaves (out-FieldValue t)
 unfolding expression_leaves statement_leaves arm_leaves block_leaves field_value_leaves operand_leaves
-field_value_out t = fold_out-FieldValue (List Leaf) (List Leaf) (List Leaf) (List Leaf) (List Leaf) (List Leaf) expression_step statement_step arm_step block_step field_value_step operand_step t
+field_value_out t =
+    fold_out-FieldValue Leaves Leaves Leaves Leaves Leaves Leaves expression_step statement_step arm_step block_step field_value_step operand_step t
 
 abbrev OpenOperand : Type 0
-OpenOperand = Operand-F (Such IsExpression) (Such IsStatement) (Such IsArm) (Such IsBlock) (Such IsFieldValue) (Such IsOperand)
+OpenOperand = Open Operand-F
 
-abbrev closed_operand : OpenOperand → Operand-F Expression Statement Arm Block FieldValue Operand
-closed_operand y = map-Operand (Such IsExpression) (Such IsStatement) (Such IsArm) (Such IsBlock) (Such IsFieldValue) (Such IsOperand) Expression Statement Arm Block FieldValue Operand (λ e. e.0) (λ e. e.0) (λ e. e.0) (λ e. e.0) (λ e. e.0) (λ e. e.0) y
+abbrev closed_operand : OpenOperand → Closed Operand-F
+closed_operand y = closed Operand-F map-Operand y
 
-abbrev operand_layer_leaves : Operand-F Expression Statement Arm Block FieldValue Operand → List Leaf
-operand_layer_leaves d = operand_step (map-Operand Expression Statement Arm Block FieldValue Operand (List Leaf) (List Leaf) (List Leaf) (List Leaf) (List Leaf) (List Leaf) expression_leaves statement_leaves arm_leaves block_leaves field_value_leaves operand_leaves d)
+abbrev operand_layer_leaves : Closed Operand-F → List Leaf
+operand_layer_leaves d = layer_leaves Operand-F map-Operand operand_step d
 
-operand_held : (t : Operand) → IsOperand t → (y : OpenOperand) × (closed_operand y ≡ out-Operand t)
+operand_held : (t : Operand) → IsOperand t → Held closed_operand IsOperandLayer (out-Operand t)
 unfolding IsExpression IsStatement IsArm IsBlock IsFieldValue IsOperand
-operand_held t is = every_held-Operand IsExpressionLayer IsStatementLayer IsArmLayer IsBlockLayer IsFieldValueLayer IsOperandLayer t is
-
-operand_here : (t : Operand) → IsOperand t → IsOperandLayer (out-Operand t)
-unfolding IsExpression IsStatement IsArm IsBlock IsFieldValue IsOperand
-operand_here t is = every_here-Operand IsExpressionLayer IsStatementLayer IsArmLayer IsBlockLayer IsFieldValueLayer IsOperandLayer t is
+operand_held t is = (
+  every_held-Operand IsExpressionLayer IsStatementLayer IsArmLayer IsBlockLayer IsFieldValueLayer IsOperandLayer t is,
+  every_here-Operand IsExpressionLayer IsStatementLayer IsArmLayer IsBlockLayer IsFieldValueLayer IsOperandLayer t is,
+)
 
 operand_out : (t : Operand) → operand_leaves t ≡ operand_layer_leaves (out-Operand t)
 unfolding expression_leaves statement_leaves arm_leaves block_leaves field_value_leaves operand_leaves
-operand_out t = fold_out-Operand (List Leaf) (List Leaf) (List Leaf) (List Leaf) (List Leaf) (List Leaf) expression_step statement_step arm_step block_step field_value_step operand_step t
-
--- the level of an expression, by its layer
-abbrev chain_level : List Operand → ℕ
-chain_level [] = 0
-chain_level (operand ∷ operands) = level_of (out-Operand operand).operator
-
-abbrev layer_level : Expression-F Expression Statement Arm Block FieldValue Operand → ℕ
-layer_level (expression.If arms otherwise) = 0
-layer_level (expression.Chain first rest) = chain_level rest.items
-layer_level (expression.Unary prefixes operand) = 10
-layer_level (expression.Postfix primary suffixes) = 11
-layer_level _ = 12
-
-level_is : (e : Expression) → level e ≡ layer_level (out-Expression e)
-level_is e = refl
-
-commas_one : (x : List Leaf) → commas (x ∷ []) ≡ x
-unfolding with_between
-commas_one x = append-nil x
-
-commas_two : (x y : List Leaf) → commas (x ∷ y ∷ []) ≡ x ++ sign symbols.Comma ++ y
-unfolding with_between
-commas_two x y = ap (λ t. x ++ t) (append-nil (sign symbols.Comma ++ y)) ∙ sym (append_assoc x (sign symbols.Comma) y)
-
-commas_three : (x y z : List Leaf) → commas (x ∷ y ∷ z ∷ []) ≡ x ++ sign symbols.Comma ++ y ++ sign symbols.Comma ++ z
-unfolding with_between
-commas_three x y z =
-    ap (λ t. x ++ ((sign symbols.Comma ++ y) ++ t)) (append-nil (sign symbols.Comma ++ z)) ∙ sym (append_assoc x (sign symbols.Comma ++ y) (sign symbols.Comma ++ z))
-    ∙ ap (λ t. t ++ (sign symbols.Comma ++ z)) (sym (append_assoc x (sign symbols.Comma) y)) ∙ sym (append_assoc (x ++ sign symbols.Comma ++ y) (sign symbols.Comma) z)
-
--- the word of a call by the commas of its parts
-call_word : (Word : List Leaf → Type 0) (called : List Leaf) (parts : List (List Leaf)) (inside : List Leaf) → commas parts ≡ inside → Word (called ++ in_parentheses inside) → Word (call_leaves called parts)
-call_word Word called parts inside same word = subst (λ t. Word (called ++ in_parentheses t)) (sym same) word
+operand_out t =
+    fold_out-Operand Leaves Leaves Leaves Leaves Leaves Leaves expression_step statement_step arm_step block_step field_value_step operand_step t
 
 -- no operator holds as tightly as a unary run
 low_operator : (operator : BinaryOperator) → level_of operator ≤ 9
 low_operator binary.Or = omega arith
-low_operator binary.Xor = omega arith
-low_operator binary.And = omega arith
-low_operator binary.Equal = omega arith
-low_operator binary.NotEqual = omega arith
-low_operator binary.Less = omega arith
-low_operator binary.LessOrEqual = omega arith
-low_operator binary.Greater = omega arith
-low_operator binary.GreaterOrEqual = omega arith
-low_operator binary.Concat = omega arith
-low_operator binary.ShiftLeft = omega arith
-low_operator binary.ShiftRight = omega arith
-low_operator binary.ShiftRightSigned = omega arith
-low_operator binary.Add = omega arith
-low_operator binary.Subtract = omega arith
-low_operator binary.Multiply = omega arith
+low_operator _ = omega arith
 
 low_chain : (rest : List Operand) → chain_level rest ≤ 9
 low_chain [] = omega arith
 low_chain (o ∷ rest) = low_operator (out-Operand o).operator
 
-abbrev pub ArmWord : List Leaf → Type 0
+abbrev pub ArmWord : Language
 ArmWord = Then (One (keyword keywords.If)) (Then (LevelWord 1) (Part IsBlock block_leaves))
 
-abbrev pub FieldValueWord : List Leaf → Type 0
-FieldValueWord = Then (Part IsName name_leaves) (Then (One (symbol symbols.Colon)) (Part IsExpression expression_leaves))
+abbrev pub FieldValueWord : Language
+FieldValueWord = Then (Part IsName name_leaves) (Then (One (symbol symbols.Colon)) OneExpression)
 
-abbrev pub DoWord : List Leaf → Type 0
-DoWord = Then (Part IsExpression expression_leaves) (One (symbol symbols.Semicolon))
+abbrev pub DoWord : Language
+DoWord = Then OneExpression (One (symbol symbols.Semicolon))
 
-abbrev pub BlockWord : List Leaf → Type 0
+abbrev pub BlockWord : Language
 BlockWord = Then (One (symbol symbols.LeftBrace)) (Then (InsideWord 0) (One (symbol symbols.RightBrace)))
 
+-- a part of a layer is a word of its language
+abbrev part_of : {X : Type 0} {Is : X → Type 0} {leaves : X → List Leaf} → Such Is → Has (Part Is leaves)
+part_of held = a_part held.0 held.1
+
 arm_layer_word : (y : OpenArm) → IsArmLayer (closed_arm y) → ArmWord (arm_layer_leaves (closed_arm y))
-arm_layer_word y is = (placed (keyword keywords.If) y.place, expression_leaves y.condition.0 ++ block_leaves y.body.0, placed_word (keyword keywords.If) y.place, (expression_leaves y.condition.0, block_leaves y.body.0, (y.condition.0, (y.condition.1, omega (arith, is)), refl), (y.body.0, y.body.1, refl), refl), refl)
+arm_layer_word y is =
+    word_as ArmWord (a_placed (keyword keywords.If) y.place ⨾ a_part y.condition.0 (y.condition.1, omega (arith, is)) ⨾ part_of y.body) refl
 
 pub arm_word : (t : Arm) → IsArm t → ArmWord (arm_leaves t)
 arm_word t is =
-    let held = arm_held t is in
-    subst ArmWord (sym (arm_out t ∙ ap arm_layer_leaves (sym held.1))) (arm_layer_word held.0 (subst IsArmLayer (sym held.1) (arm_here t is)))
+    subst ArmWord (sym (arm_out t)) (of_open closed_arm IsArmLayer (λ d. ArmWord (arm_layer_leaves d)) arm_layer_word (arm_held t is))
 
 field_value_layer_word : (y : OpenFieldValue) → IsFieldValueLayer (closed_field_value y) → FieldValueWord (field_value_layer_leaves (closed_field_value y))
-field_value_layer_word y is = (name_leaves y.name, sign symbols.Colon ++ expression_leaves y.value.0, (y.name, is, refl), (sign symbols.Colon, expression_leaves y.value.0, sign_word symbols.Colon, (y.value.0, y.value.1, refl), refl), refl)
+field_value_layer_word y is = word_as FieldValueWord (a_part y.name is ⨾ a_sign symbols.Colon ⨾ part_of y.value) refl
 
 pub field_value_word : (t : FieldValue) → IsFieldValue t → FieldValueWord (field_value_leaves t)
 field_value_word t is =
-    let held = field_value_held t is in
-    subst FieldValueWord (sym (field_value_out t ∙ ap field_value_layer_leaves (sym held.1))) (field_value_layer_word held.0 (subst IsFieldValueLayer (sym held.1) (field_value_here t is)))
+    subst FieldValueWord (sym (field_value_out t))
+    (of_open closed_field_value IsFieldValueLayer (λ d. FieldValueWord (field_value_layer_leaves d)) field_value_layer_word (field_value_held t is))
 
 -- a statement is a binding or an expression
-abbrev pub StatementWord : List Leaf → Type 0
+abbrev pub StatementWord : Language
 StatementWord u = LetWord u ⊎ DoWord u
 
 statement_layer_word : (y : OpenStatement) → IsStatementLayer (closed_statement y) → StatementWord (statement_layer_leaves (closed_statement y))
-statement_layer_word (expression.Let n value) is = inl (word keywords.Let, name_leaves n ++ sign symbols.Equals ++ expression_leaves value.0 ++ sign symbols.Semicolon, word_word keywords.Let, (name_leaves n, sign symbols.Equals ++ expression_leaves value.0 ++ sign symbols.Semicolon, (n, is, refl), (sign symbols.Equals, expression_leaves value.0 ++ sign symbols.Semicolon, sign_word symbols.Equals, (expression_leaves value.0, sign symbols.Semicolon, (value.0, value.1, refl), sign_word symbols.Semicolon, refl), refl), refl), refl)
-statement_layer_word (expression.Do value) is = inr (expression_leaves value.0, sign symbols.Semicolon, (value.0, value.1, refl), sign_word symbols.Semicolon, refl)
+statement_layer_word (expression.Let n value) is =
+    inl (word_as LetWord (a_word keywords.Let ⨾ a_part n is ⨾ a_sign symbols.Equals ⨾ part_of value ⨾ a_sign symbols.Semicolon) refl)
+statement_layer_word (expression.Do value) is = inr (word_as DoWord (part_of value ⨾ a_sign symbols.Semicolon) refl)
 
 pub statement_word : (t : Statement) → IsStatement t → StatementWord (statement_leaves t)
 statement_word t is =
-    let held = statement_held t is in
-    subst StatementWord (sym (statement_out t ∙ ap statement_layer_leaves (sym held.1))) (statement_layer_word held.0 (subst IsStatementLayer (sym held.1) (statement_here t is)))
+    subst StatementWord (sym (statement_out t))
+    (of_open closed_statement IsStatementLayer (λ d. StatementWord (statement_layer_leaves d)) statement_layer_word (statement_held t is))
 
 block_layer_word : (y : OpenBlock) → BlockWord (block_layer_leaves (closed_block y))
 block_layer_word y = of_value y.place y.statements y.value
   where
-    of_value : (place : ℕ) (statements : Vec (Such IsStatement) Global) (value : Option (Box (Such IsExpression) Global)) → BlockWord (block_layer_leaves (closed_block (record { place = place; statements = statements; value = value })))
-    of_value place statements None = (placed (symbol symbols.LeftBrace) place, all_of (map statement_leaves (map (λ e. e.0) statements.items)) ++ [] ++ sign symbols.RightBrace, placed_word (symbol symbols.LeftBrace) place, (all_of (map statement_leaves (map (λ e. e.0) statements.items)) ++ [], sign symbols.RightBrace, (map (λ e. e.0) statements.items, None, (firsts_are IsStatement statements.items, omega (arith, held_fit IsStatement statements)), tt, ap (λ t. t ++ []) (sym (all_of_map statement_leaves (map (λ e. e.0) statements.items)))), sign_word symbols.RightBrace, refl), refl)
-    of_value place statements (Some b) = (placed (symbol symbols.LeftBrace) place, all_of (map statement_leaves (map (λ e. e.0) statements.items)) ++ expression_leaves b.value.0 ++ sign symbols.RightBrace, placed_word (symbol symbols.LeftBrace) place, (all_of (map statement_leaves (map (λ e. e.0) statements.items)) ++ expression_leaves b.value.0, sign symbols.RightBrace, (map (λ e. e.0) statements.items, Some b.value.0, (firsts_are IsStatement statements.items, omega (arith, held_fit IsStatement statements)), b.value.1, ap (λ t. t ++ expression_leaves b.value.0) (sym (all_of_map statement_leaves (map (λ e. e.0) statements.items)))), sign_word symbols.RightBrace, refl), refl)
+    inside : (statements : Vec (Such IsStatement) Global) (value : Option Expression) → IfSome value IsExpression →
+        Has (InsideWord 0)
+    inside statements value is =
+        let leaves = sym (all_of_map statement_leaves (firsts statements.items)) in
+        let are : All IsStatement (firsts statements.items) × InVector (length (firsts statements.items) + 0) =
+        (firsts_are IsStatement statements.items, omega (arith, held_fit IsStatement statements)) in
+        (_, (firsts statements.items, value, are, is, ap (λ t. t ++ last_leaves value expression_leaves) leaves))
+
+    of_value : (place : ℕ) (statements : Vec (Such IsStatement) Global) (value : Option (Box (Such IsExpression) Global)) →
+        BlockWord (block_layer_leaves (closed_block (record { place = place; statements = statements; value = value })))
+    of_value place statements None =
+        word_as BlockWord (a_placed (symbol symbols.LeftBrace) place ⨾ inside statements None tt ⨾ a_sign symbols.RightBrace) refl
+    of_value place statements (Some b) =
+        word_as BlockWord (a_placed (symbol symbols.LeftBrace) place ⨾ inside statements (Some b.value.0) b.value.1 ⨾ a_sign symbols.RightBrace) refl
 
 pub block_word : (t : Block) → IsBlock t → BlockWord (block_leaves t)
 block_word t is =
-    let held = block_held t is in
-    subst BlockWord (sym (block_out t ∙ ap block_layer_leaves (sym held.1))) (block_layer_word held.0)
+    subst BlockWord (sym (block_out t))
+    (of_open closed_block IsBlockLayer (λ d. BlockWord (block_layer_leaves d)) (λ y is. block_layer_word y) (block_held t is))
 
-read_headed : (place port : ℕ) (register : Name) → (port < 4) × IsName register → Headed PrimaryWord (call_leaves (placed (keyword (read_word port)) place) (name_leaves register ∷ []))
-read_headed place zero register is = (_, in_parentheses (commas (name_leaves register ∷ [])), refl, call_word (ReadWord 0) (placed (keyword (read_word 0)) place) ((name_leaves register) ∷ []) (name_leaves register) (commas_one (name_leaves register)) (placed (keyword (read_word 0)) place, sign symbols.LeftParenthesis ++ name_leaves register ++ sign symbols.RightParenthesis, placed_word (keyword (read_word 0)) place, (sign symbols.LeftParenthesis, name_leaves register ++ sign symbols.RightParenthesis, sign_word symbols.LeftParenthesis, (name_leaves register, sign symbols.RightParenthesis, (register, is.1, refl), sign_word symbols.RightParenthesis, refl), refl), refl))
-read_headed place (suc zero) register is = (_, in_parentheses (commas (name_leaves register ∷ [])), refl, call_word (ReadWord 1) (placed (keyword (read_word 1)) place) ((name_leaves register) ∷ []) (name_leaves register) (commas_one (name_leaves register)) (placed (keyword (read_word 1)) place, sign symbols.LeftParenthesis ++ name_leaves register ++ sign symbols.RightParenthesis, placed_word (keyword (read_word 1)) place, (sign symbols.LeftParenthesis, name_leaves register ++ sign symbols.RightParenthesis, sign_word symbols.LeftParenthesis, (name_leaves register, sign symbols.RightParenthesis, (register, is.1, refl), sign_word symbols.RightParenthesis, refl), refl), refl))
-read_headed place (suc (suc zero)) register is = (_, in_parentheses (commas (name_leaves register ∷ [])), refl, call_word (ReadWord 2) (placed (keyword (read_word 2)) place) ((name_leaves register) ∷ []) (name_leaves register) (commas_one (name_leaves register)) (placed (keyword (read_word 2)) place, sign symbols.LeftParenthesis ++ name_leaves register ++ sign symbols.RightParenthesis, placed_word (keyword (read_word 2)) place, (sign symbols.LeftParenthesis, name_leaves register ++ sign symbols.RightParenthesis, sign_word symbols.LeftParenthesis, (name_leaves register, sign symbols.RightParenthesis, (register, is.1, refl), sign_word symbols.RightParenthesis, refl), refl), refl))
-read_headed place (suc (suc (suc zero))) register is = (_, in_parentheses (commas (name_leaves register ∷ [])), refl, call_word (ReadWord 3) (placed (keyword (read_word 3)) place) ((name_leaves register) ∷ []) (name_leaves register) (commas_one (name_leaves register)) (placed (keyword (read_word 3)) place, sign symbols.LeftParenthesis ++ name_leaves register ++ sign symbols.RightParenthesis, placed_word (keyword (read_word 3)) place, (sign symbols.LeftParenthesis, name_leaves register ++ sign symbols.RightParenthesis, sign_word symbols.LeftParenthesis, (name_leaves register, sign symbols.RightParenthesis, (register, is.1, refl), sign_word symbols.RightParenthesis, refl), refl), refl))
-read_headed place (suc (suc (suc (suc port)))) register is = absurd (omega (arith, is.0))
+-- parts with commas between them, up to the parenthesis behind the last
+abbrev up_to_close : List Leaf → List (List Leaf) → List Leaf
+up_to_close part [] = part ++ sign symbols.RightParenthesis
+up_to_close part (next ∷ parts) = part ++ (sign symbols.Comma ++ up_to_close next parts)
 
-write_headed : (place port : ℕ) (register : Name) (value : Expression) → IsExpression value → (port < 4) × IsName register → Headed PrimaryWord (call_leaves (placed (keyword (write_word port)) place) (name_leaves register ∷ expression_leaves value ∷ []))
-write_headed place zero register value value_is is = (_, in_parentheses (commas (name_leaves register ∷ expression_leaves value ∷ [])), refl, call_word (WriteWord 0) (placed (keyword (write_word 0)) place) ((name_leaves register) ∷ (expression_leaves value) ∷ []) (name_leaves register ++ sign symbols.Comma ++ expression_leaves value) (commas_two (name_leaves register) (expression_leaves value)) (placed (keyword (write_word 0)) place, sign symbols.LeftParenthesis ++ name_leaves register ++ sign symbols.Comma ++ expression_leaves value ++ sign symbols.RightParenthesis, placed_word (keyword (write_word 0)) place, (sign symbols.LeftParenthesis, name_leaves register ++ sign symbols.Comma ++ expression_leaves value ++ sign symbols.RightParenthesis, sign_word symbols.LeftParenthesis, (name_leaves register, sign symbols.Comma ++ expression_leaves value ++ sign symbols.RightParenthesis, (register, is.1, refl), (sign symbols.Comma, expression_leaves value ++ sign symbols.RightParenthesis, sign_word symbols.Comma, (expression_leaves value, sign symbols.RightParenthesis, (value, value_is, refl), sign_word symbols.RightParenthesis, refl), refl), refl), refl), refl))
-write_headed place (suc zero) register value value_is is = (_, in_parentheses (commas (name_leaves register ∷ expression_leaves value ∷ [])), refl, call_word (WriteWord 1) (placed (keyword (write_word 1)) place) ((name_leaves register) ∷ (expression_leaves value) ∷ []) (name_leaves register ++ sign symbols.Comma ++ expression_leaves value) (commas_two (name_leaves register) (expression_leaves value)) (placed (keyword (write_word 1)) place, sign symbols.LeftParenthesis ++ name_leaves register ++ sign symbols.Comma ++ expression_leaves value ++ sign symbols.RightParenthesis, placed_word (keyword (write_word 1)) place, (sign symbols.LeftParenthesis, name_leaves register ++ sign symbols.Comma ++ expression_leaves value ++ sign symbols.RightParenthesis, sign_word symbols.LeftParenthesis, (name_leaves register, sign symbols.Comma ++ expression_leaves value ++ sign symbols.RightParenthesis, (register, is.1, refl), (sign symbols.Comma, expression_leaves value ++ sign symbols.RightParenthesis, sign_word symbols.Comma, (expression_leaves value, sign symbols.RightParenthesis, (value, value_is, refl), sign_word symbols.RightParenthesis, refl), refl), refl), refl), refl))
-write_headed place (suc (suc zero)) register value value_is is = (_, in_parentheses (commas (name_leaves register ∷ expression_leaves value ∷ [])), refl, call_word (WriteWord 2) (placed (keyword (write_word 2)) place) ((name_leaves register) ∷ (expression_leaves value) ∷ []) (name_leaves register ++ sign symbols.Comma ++ expression_leaves value) (commas_two (name_leaves register) (expression_leaves value)) (placed (keyword (write_word 2)) place, sign symbols.LeftParenthesis ++ name_leaves register ++ sign symbols.Comma ++ expression_leaves value ++ sign symbols.RightParenthesis, placed_word (keyword (write_word 2)) place, (sign symbols.LeftParenthesis, name_leaves register ++ sign symbols.Comma ++ expression_leaves value ++ sign symbols.RightParenthesis, sign_word symbols.LeftParenthesis, (name_leaves register, sign symbols.Comma ++ expression_leaves value ++ sign symbols.RightParenthesis, (register, is.1, refl), (sign symbols.Comma, expression_leaves value ++ sign symbols.RightParenthesis, sign_word symbols.Comma, (expression_leaves value, sign symbols.RightParenthesis, (value, value_is, refl), sign_word symbols.RightParenthesis, refl), refl), refl), refl), refl))
-write_headed place (suc (suc (suc zero))) register value value_is is = (_, in_parentheses (commas (name_leaves register ∷ expression_leaves value ∷ [])), refl, call_word (WriteWord 3) (placed (keyword (write_word 3)) place) ((name_leaves register) ∷ (expression_leaves value) ∷ []) (name_leaves register ++ sign symbols.Comma ++ expression_leaves value) (commas_two (name_leaves register) (expression_leaves value)) (placed (keyword (write_word 3)) place, sign symbols.LeftParenthesis ++ name_leaves register ++ sign symbols.Comma ++ expression_leaves value ++ sign symbols.RightParenthesis, placed_word (keyword (write_word 3)) place, (sign symbols.LeftParenthesis, name_leaves register ++ sign symbols.Comma ++ expression_leaves value ++ sign symbols.RightParenthesis, sign_word symbols.LeftParenthesis, (name_leaves register, sign symbols.Comma ++ expression_leaves value ++ sign symbols.RightParenthesis, (register, is.1, refl), (sign symbols.Comma, expression_leaves value ++ sign symbols.RightParenthesis, sign_word symbols.Comma, (expression_leaves value, sign symbols.RightParenthesis, (value, value_is, refl), sign_word symbols.RightParenthesis, refl), refl), refl), refl), refl))
-write_headed place (suc (suc (suc (suc port)))) register value value_is is = absurd (omega (arith, is.0))
+close_last : (part : List Leaf) (parts : List (List Leaf)) → commas (part ∷ parts) ++ sign symbols.RightParenthesis ≡ up_to_close part parts
+unfolding with_between
+close_last part [] = ap (λ t. t ++ sign symbols.RightParenthesis) (append-nil part)
+close_last part (next ∷ parts) =
+    append_assoc part (each_after (sign symbols.Comma) (next ∷ parts)) (sign symbols.RightParenthesis)
+    ∙ ap (λ t. part ++ (sign symbols.Comma ++ t)) (close_last next parts)
 
-extend_headed : (place : ℕ) (extension : Extension) (value : Expression) → IsExpression value → (width : Number) → NumberFits width → Headed PrimaryWord (call_leaves (placed (keyword (extension_word extension)) place) (expression_leaves value ∷ number_leaves width ∷ []))
-extend_headed place extensions.Zero value value_is width is = (_, in_parentheses (commas (expression_leaves value ∷ number_leaves width ∷ [])), refl, call_word (ExtendWord extensions.Zero) (placed (keyword (extension_word extensions.Zero)) place) ((expression_leaves value) ∷ (number_leaves width) ∷ []) (expression_leaves value ++ sign symbols.Comma ++ number_leaves width) (commas_two (expression_leaves value) (number_leaves width)) (placed (keyword (extension_word extensions.Zero)) place, sign symbols.LeftParenthesis ++ expression_leaves value ++ sign symbols.Comma ++ number_leaves width ++ sign symbols.RightParenthesis, placed_word (keyword (extension_word extensions.Zero)) place, (sign symbols.LeftParenthesis, expression_leaves value ++ sign symbols.Comma ++ number_leaves width ++ sign symbols.RightParenthesis, sign_word symbols.LeftParenthesis, (expression_leaves value, sign symbols.Comma ++ number_leaves width ++ sign symbols.RightParenthesis, (value, value_is, refl), (sign symbols.Comma, number_leaves width ++ sign symbols.RightParenthesis, sign_word symbols.Comma, (number_leaves width, sign symbols.RightParenthesis, (width, is, refl), sign_word symbols.RightParenthesis, refl), refl), assoc3 (expression_leaves value) (sign symbols.Comma) (number_leaves width) (sign symbols.RightParenthesis)), refl), refl))
-extend_headed place extensions.Sign value value_is width is = (_, in_parentheses (commas (expression_leaves value ∷ number_leaves width ∷ [])), refl, call_word (ExtendWord extensions.Sign) (placed (keyword (extension_word extensions.Sign)) place) ((expression_leaves value) ∷ (number_leaves width) ∷ []) (expression_leaves value ++ sign symbols.Comma ++ number_leaves width) (commas_two (expression_leaves value) (number_leaves width)) (placed (keyword (extension_word extensions.Sign)) place, sign symbols.LeftParenthesis ++ expression_leaves value ++ sign symbols.Comma ++ number_leaves width ++ sign symbols.RightParenthesis, placed_word (keyword (extension_word extensions.Sign)) place, (sign symbols.LeftParenthesis, expression_leaves value ++ sign symbols.Comma ++ number_leaves width ++ sign symbols.RightParenthesis, sign_word symbols.LeftParenthesis, (expression_leaves value, sign symbols.Comma ++ number_leaves width ++ sign symbols.RightParenthesis, (value, value_is, refl), (sign symbols.Comma, number_leaves width ++ sign symbols.RightParenthesis, sign_word symbols.Comma, (number_leaves width, sign symbols.RightParenthesis, (width, is, refl), sign_word symbols.RightParenthesis, refl), refl), assoc3 (expression_leaves value) (sign symbols.Comma) (number_leaves width) (sign symbols.RightParenthesis)), refl), refl))
+-- what stands behind the name of a struct or an enum
+abbrev MemberTailWord : Language
+MemberTailWord = Then (One (symbol symbols.ColonColon)) ColonsWord
 
-compare_headed : (place : ℕ) (comparison : SignedComparison) (left : Expression) → IsExpression left → (right : Expression) → IsExpression right → Headed PrimaryWord (call_leaves (placed (keyword (comparison_word comparison)) place) (expression_leaves left ∷ expression_leaves right ∷ []))
-compare_headed place comparisons.Less left left_is right right_is = (_, in_parentheses (commas (expression_leaves left ∷ expression_leaves right ∷ [])), refl, call_word (CompareWord comparisons.Less) (placed (keyword (comparison_word comparisons.Less)) place) ((expression_leaves left) ∷ (expression_leaves right) ∷ []) (expression_leaves left ++ sign symbols.Comma ++ expression_leaves right) (commas_two (expression_leaves left) (expression_leaves right)) (placed (keyword (comparison_word comparisons.Less)) place, sign symbols.LeftParenthesis ++ expression_leaves left ++ sign symbols.Comma ++ expression_leaves right ++ sign symbols.RightParenthesis, placed_word (keyword (comparison_word comparisons.Less)) place, (sign symbols.LeftParenthesis, expression_leaves left ++ sign symbols.Comma ++ expression_leaves right ++ sign symbols.RightParenthesis, sign_word symbols.LeftParenthesis, (expression_leaves left, sign symbols.Comma ++ expression_leaves right ++ sign symbols.RightParenthesis, (left, left_is, refl), (sign symbols.Comma, expression_leaves right ++ sign symbols.RightParenthesis, sign_word symbols.Comma, (expression_leaves right, sign symbols.RightParenthesis, (right, right_is, refl), sign_word symbols.RightParenthesis, refl), refl), assoc3 (expression_leaves left) (sign symbols.Comma) (expression_leaves right) (sign symbols.RightParenthesis)), refl), refl))
-compare_headed place comparisons.LessOrEqual left left_is right right_is = (_, in_parentheses (commas (expression_leaves left ∷ expression_leaves right ∷ [])), refl, call_word (CompareWord comparisons.LessOrEqual) (placed (keyword (comparison_word comparisons.LessOrEqual)) place) ((expression_leaves left) ∷ (expression_leaves right) ∷ []) (expression_leaves left ++ sign symbols.Comma ++ expression_leaves right) (commas_two (expression_leaves left) (expression_leaves right)) (placed (keyword (comparison_word comparisons.LessOrEqual)) place, sign symbols.LeftParenthesis ++ expression_leaves left ++ sign symbols.Comma ++ expression_leaves right ++ sign symbols.RightParenthesis, placed_word (keyword (comparison_word comparisons.LessOrEqual)) place, (sign symbols.LeftParenthesis, expression_leaves left ++ sign symbols.Comma ++ expression_leaves right ++ sign symbols.RightParenthesis, sign_word symbols.LeftParenthesis, (expression_leaves left, sign symbols.Comma ++ expression_leaves right ++ sign symbols.RightParenthesis, (left, left_is, refl), (sign symbols.Comma, expression_leaves right ++ sign symbols.RightParenthesis, sign_word symbols.Comma, (expression_leaves right, sign symbols.RightParenthesis, (right, right_is, refl), sign_word symbols.RightParenthesis, refl), refl), assoc3 (expression_leaves left) (sign symbols.Comma) (expression_leaves right) (sign symbols.RightParenthesis)), refl), refl))
-compare_headed place comparisons.Greater left left_is right right_is = (_, in_parentheses (commas (expression_leaves left ∷ expression_leaves right ∷ [])), refl, call_word (CompareWord comparisons.Greater) (placed (keyword (comparison_word comparisons.Greater)) place) ((expression_leaves left) ∷ (expression_leaves right) ∷ []) (expression_leaves left ++ sign symbols.Comma ++ expression_leaves right) (commas_two (expression_leaves left) (expression_leaves right)) (placed (keyword (comparison_word comparisons.Greater)) place, sign symbols.LeftParenthesis ++ expression_leaves left ++ sign symbols.Comma ++ expression_leaves right ++ sign symbols.RightParenthesis, placed_word (keyword (comparison_word comparisons.Greater)) place, (sign symbols.LeftParenthesis, expression_leaves left ++ sign symbols.Comma ++ expression_leaves right ++ sign symbols.RightParenthesis, sign_word symbols.LeftParenthesis, (expression_leaves left, sign symbols.Comma ++ expression_leaves right ++ sign symbols.RightParenthesis, (left, left_is, refl), (sign symbols.Comma, expression_leaves right ++ sign symbols.RightParenthesis, sign_word symbols.Comma, (expression_leaves right, sign symbols.RightParenthesis, (right, right_is, refl), sign_word symbols.RightParenthesis, refl), refl), assoc3 (expression_leaves left) (sign symbols.Comma) (expression_leaves right) (sign symbols.RightParenthesis)), refl), refl))
-compare_headed place comparisons.GreaterOrEqual left left_is right right_is = (_, in_parentheses (commas (expression_leaves left ∷ expression_leaves right ∷ [])), refl, call_word (CompareWord comparisons.GreaterOrEqual) (placed (keyword (comparison_word comparisons.GreaterOrEqual)) place) ((expression_leaves left) ∷ (expression_leaves right) ∷ []) (expression_leaves left ++ sign symbols.Comma ++ expression_leaves right) (commas_two (expression_leaves left) (expression_leaves right)) (placed (keyword (comparison_word comparisons.GreaterOrEqual)) place, sign symbols.LeftParenthesis ++ expression_leaves left ++ sign symbols.Comma ++ expression_leaves right ++ sign symbols.RightParenthesis, placed_word (keyword (comparison_word comparisons.GreaterOrEqual)) place, (sign symbols.LeftParenthesis, expression_leaves left ++ sign symbols.Comma ++ expression_leaves right ++ sign symbols.RightParenthesis, sign_word symbols.LeftParenthesis, (expression_leaves left, sign symbols.Comma ++ expression_leaves right ++ sign symbols.RightParenthesis, (left, left_is, refl), (sign symbols.Comma, expression_leaves right ++ sign symbols.RightParenthesis, sign_word symbols.Comma, (expression_leaves right, sign symbols.RightParenthesis, (right, right_is, refl), sign_word symbols.RightParenthesis, refl), refl), assoc3 (expression_leaves left) (sign symbols.Comma) (expression_leaves right) (sign symbols.RightParenthesis)), refl), refl))
+-- a primary by its first token
+headed : (leaf : Leaf) (rest : List Leaf) → PrimaryWord (kind_of leaf.terminal) (leaf ∷ rest) → Headed PrimaryWord (leaf ∷ rest)
+headed leaf rest word = (leaf, rest, refl, word)
+
+-- a call that a keyword begins, by the words of its arguments
+call_headed : {Arguments : Language} (k : Keyword) (place : ℕ) (part : List Leaf) (parts : List (List Leaf)) →
+    ((u : List Leaf) → Then (One (keyword k)) (Then (One (symbol symbols.LeftParenthesis)) Arguments) u → KeywordWord k u) →
+    (arguments : Has Arguments) → arguments.0 ≡ up_to_close part parts → Headed PrimaryWord (call_leaves (placed (keyword k) place) (part ∷ parts))
+call_headed {Arguments} k place part parts into arguments same =
+    let rest : Has Arguments = (_, subst Arguments (same ∙ sym (close_last part parts)) arguments.1) in
+    let word : Has (Then (One (keyword k)) (Then (One (symbol symbols.LeftParenthesis)) Arguments)) =
+    a_placed (keyword k) place ⨾ a_sign symbols.LeftParenthesis ⨾ rest in
+    headed _ _ (into word.0 word.1)
+
+read_keyword : (port : ℕ) → port < 4 → (u : List Leaf) → ReadWord port u → KeywordWord (read_word port) u
+read_keyword zero low u word = word
+read_keyword (suc zero) low u word = word
+read_keyword (suc (suc zero)) low u word = word
+read_keyword (suc (suc (suc zero))) low u word = word
+read_keyword (suc (suc (suc (suc port)))) low u word = absurd (omega (arith, low))
+
+write_keyword : (port : ℕ) → port < 4 → (u : List Leaf) → WriteWord port u → KeywordWord (write_word port) u
+write_keyword zero low u word = word
+write_keyword (suc zero) low u word = word
+write_keyword (suc (suc zero)) low u word = word
+write_keyword (suc (suc (suc zero))) low u word = word
+write_keyword (suc (suc (suc (suc port)))) low u word = absurd (omega (arith, low))
+
+extension_keyword : (extension : Extension) (u : List Leaf) → ExtendWord extension u → KeywordWord (extension_word extension) u
+extension_keyword extensions.Zero u word = word
+extension_keyword extensions.Sign u word = word
+
+comparison_keyword : (comparison : SignedComparison) (u : List Leaf) → CompareWord comparison u → KeywordWord (comparison_word comparison) u
+comparison_keyword comparisons.Less u word = word
+comparison_keyword comparisons.LessOrEqual u word = word
+comparison_keyword comparisons.Greater u word = word
+comparison_keyword comparisons.GreaterOrEqual u word = word
 
 block_headed : (t : Block) → IsBlock t → Headed PrimaryWord (block_leaves t)
 block_headed t is =
     let word = block_word t is in
     (word.2.0, word.1, word.4 ∙ ap (λ l. l ++ word.1) word.2.2, subst (λ s. PrimaryWord (kind_of s) (block_leaves t)) (sym word.2.1) (t, is, refl))
 
-primary_layer_word : (y : OpenExpression) → IsExpressionLayer (closed_expression y) → 12 ≤ layer_level (closed_expression y) → Headed PrimaryWord (expression_layer_leaves (closed_expression y))
-primary_layer_word (expression.If arms otherwise) is high = absurd (omega (arith, high))
-primary_layer_word (expression.Chain first rest) is high = absurd (omega (arith, high, low_chain (map (λ e. e.0) rest.items)))
-primary_layer_word (expression.Unary prefixes operand) is high = absurd (omega (arith, high))
-primary_layer_word (expression.Postfix primary suffixes) is high = absurd (omega (arith, high))
-primary_layer_word (expression.Literal l) is high = (_, [], refl, (l, is, refl))
-primary_layer_word (expression.Name n) is high = (_, [], refl, (name_leaves n, [], (n, is, refl), inl refl, refl))
-primary_layer_word (expression.Call called arguments) is high = (_, sign symbols.LeftParenthesis ++ commas (map expression_leaves (map (λ e. e.0) arguments.items)) ++ sign symbols.RightParenthesis, refl, (name_leaves called, sign symbols.LeftParenthesis ++ commas (map expression_leaves (map (λ e. e.0) arguments.items)) ++ sign symbols.RightParenthesis, (called, is, refl), inr (inl (sign symbols.LeftParenthesis, commas (map expression_leaves (map (λ e. e.0) arguments.items)) ++ sign symbols.RightParenthesis, sign_word symbols.LeftParenthesis, (commas (map expression_leaves (map (λ e. e.0) arguments.items)), sign symbols.RightParenthesis, (map (λ e. e.0) arguments.items, (firsts_are IsExpression arguments.items, held_fit IsExpression arguments), refl), sign_word symbols.RightParenthesis, refl), refl)), refl))
-primary_layer_word (expression.Member of member) is high = (_, sign symbols.ColonColon ++ name_leaves member, refl, (name_leaves of, sign symbols.ColonColon ++ name_leaves member, (of, is.0, refl), inr (inr (sign symbols.ColonColon, name_leaves member, sign_word symbols.ColonColon, inl (member, is.1, refl), refl)), refl))
-primary_layer_word (expression.Struct of fields close) is high = (_, sign symbols.ColonColon ++ (sign symbols.LeftBrace ++ commas (map field_value_leaves (map (λ e. e.0) fields.items)) ++ placed (symbol symbols.RightBrace) close), refl, (name_leaves of, sign symbols.ColonColon ++ (sign symbols.LeftBrace ++ commas (map field_value_leaves (map (λ e. e.0) fields.items)) ++ placed (symbol symbols.RightBrace) close), (of, is.0, refl), inr (inr (sign symbols.ColonColon, sign symbols.LeftBrace ++ commas (map field_value_leaves (map (λ e. e.0) fields.items)) ++ placed (symbol symbols.RightBrace) close, sign_word symbols.ColonColon, inr (sign symbols.LeftBrace, commas (map field_value_leaves (map (λ e. e.0) fields.items)) ++ placed (symbol symbols.RightBrace) close, sign_word symbols.LeftBrace, (commas (map field_value_leaves (map (λ e. e.0) fields.items)), placed (symbol symbols.RightBrace) close, (map (λ e. e.0) fields.items, (is.1, firsts_are IsFieldValue fields.items, held_fit IsFieldValue fields), refl), placed_word (symbol symbols.RightBrace) close, refl), refl), refl)), refl))
-primary_layer_word (expression.Array place elements) is high = (_, commas (map expression_leaves (map (λ e. e.0) elements.items)) ++ sign symbols.RightBracket, refl, (placed (symbol symbols.LeftBracket) place, commas (map expression_leaves (map (λ e. e.0) elements.items)) ++ sign symbols.RightBracket, placed_word (symbol symbols.LeftBracket) place, (commas (map expression_leaves (map (λ e. e.0) elements.items)), sign symbols.RightBracket, (map (λ e. e.0) elements.items, (is, firsts_are IsExpression elements.items, held_fit IsExpression elements), refl), sign_word symbols.RightBracket, refl), refl))
-primary_layer_word (expression.Parentheses place inside) is high = (_, expression_leaves inside.value.0 ++ sign symbols.RightParenthesis, refl, (placed (symbol symbols.LeftParenthesis) place, expression_leaves inside.value.0 ++ sign symbols.RightParenthesis, placed_word (symbol symbols.LeftParenthesis) place, (expression_leaves inside.value.0, sign symbols.RightParenthesis, (inside.value.0, inside.value.1, refl), sign_word symbols.RightParenthesis, refl), refl))
-primary_layer_word (expression.Block block) is high = block_headed block.0 block.1
-primary_layer_word (expression.Read place port register) is high = read_headed place port register is
-primary_layer_word (expression.Write place port register value) is high = write_headed place port register value.value.0 value.value.1 is
-primary_layer_word (expression.Abort place) is high = (_, [], refl, placed_word (keyword keywords.Abort) place)
-primary_layer_word (expression.Pack place value) is high = (_, in_parentheses (commas (expression_leaves value.value.0 ∷ [])), refl, call_word (PackWord) (placed (keyword (keywords.Pack)) place) ((expression_leaves value.value.0) ∷ []) (expression_leaves value.value.0) (commas_one (expression_leaves value.value.0)) (placed (keyword keywords.Pack) place, sign symbols.LeftParenthesis ++ expression_leaves value.value.0 ++ sign symbols.RightParenthesis, placed_word (keyword keywords.Pack) place, (sign symbols.LeftParenthesis, expression_leaves value.value.0 ++ sign symbols.RightParenthesis, sign_word symbols.LeftParenthesis, (expression_leaves value.value.0, sign symbols.RightParenthesis, (value.value.0, value.value.1, refl), sign_word symbols.RightParenthesis, refl), refl), refl))
-primary_layer_word (expression.Unpack place to value) is high = (_, in_parentheses (commas (type_leaves to ∷ expression_leaves value.value.0 ∷ [])), refl, call_word (UnpackWord) (placed (keyword (keywords.Unpack)) place) ((type_leaves to) ∷ (expression_leaves value.value.0) ∷ []) (type_leaves to ++ sign symbols.Comma ++ expression_leaves value.value.0) (commas_two (type_leaves to) (expression_leaves value.value.0)) (placed (keyword keywords.Unpack) place, sign symbols.LeftParenthesis ++ type_leaves to ++ sign symbols.Comma ++ expression_leaves value.value.0 ++ sign symbols.RightParenthesis, placed_word (keyword keywords.Unpack) place, (sign symbols.LeftParenthesis, type_leaves to ++ sign symbols.Comma ++ expression_leaves value.value.0 ++ sign symbols.RightParenthesis, sign_word symbols.LeftParenthesis, (type_leaves to, sign symbols.Comma ++ expression_leaves value.value.0 ++ sign symbols.RightParenthesis, (to, is, refl), (sign symbols.Comma, expression_leaves value.value.0 ++ sign symbols.RightParenthesis, sign_word symbols.Comma, (expression_leaves value.value.0, sign symbols.RightParenthesis, (value.value.0, value.value.1, refl), sign_word symbols.RightParenthesis, refl), refl), assoc3 (type_leaves to) (sign symbols.Comma) (expression_leaves value.value.0) (sign symbols.RightParenthesis)), refl), refl))
-primary_layer_word (expression.Extend place extension value width) is high = extend_headed place extension value.value.0 value.value.1 width is
-primary_layer_word (expression.Compare place comparison left right) is high = compare_headed place comparison left.value.0 left.value.1 right.value.0 right.value.1
-primary_layer_word (expression.Update place whole part value) is high = (_, in_parentheses (commas (expression_leaves whole.value.0 ∷ part_leaves part ∷ expression_leaves value.value.0 ∷ [])), refl, call_word (UpdateWord) (placed (keyword (keywords.Update)) place) ((expression_leaves whole.value.0) ∷ (part_leaves part) ∷ (expression_leaves value.value.0) ∷ []) (expression_leaves whole.value.0 ++ sign symbols.Comma ++ part_leaves part ++ sign symbols.Comma ++ expression_leaves value.value.0) (commas_three (expression_leaves whole.value.0) (part_leaves part) (expression_leaves value.value.0)) (placed (keyword keywords.Update) place, sign symbols.LeftParenthesis ++ expression_leaves whole.value.0 ++ sign symbols.Comma ++ part_leaves part ++ sign symbols.Comma ++ expression_leaves value.value.0 ++ sign symbols.RightParenthesis, placed_word (keyword keywords.Update) place, (sign symbols.LeftParenthesis, expression_leaves whole.value.0 ++ sign symbols.Comma ++ part_leaves part ++ sign symbols.Comma ++ expression_leaves value.value.0 ++ sign symbols.RightParenthesis, sign_word symbols.LeftParenthesis, (expression_leaves whole.value.0, sign symbols.Comma ++ part_leaves part ++ sign symbols.Comma ++ expression_leaves value.value.0 ++ sign symbols.RightParenthesis, (whole.value.0, whole.value.1, refl), (sign symbols.Comma, part_leaves part ++ sign symbols.Comma ++ expression_leaves value.value.0 ++ sign symbols.RightParenthesis, sign_word symbols.Comma, (part_leaves part, sign symbols.Comma ++ expression_leaves value.value.0 ++ sign symbols.RightParenthesis, (part, is, refl), (sign symbols.Comma, expression_leaves value.value.0 ++ sign symbols.RightParenthesis, sign_word symbols.Comma, (expression_leaves value.value.0, sign symbols.RightParenthesis, (value.value.0, value.value.1, refl), sign_word symbols.RightParenthesis, refl), refl), assoc3 (part_leaves part) (sign symbols.Comma) (expression_leaves value.value.0) (sign symbols.RightParenthesis)), refl), assoc5 (expression_leaves whole.value.0) (sign symbols.Comma) (part_leaves part) (sign symbols.Comma) (expression_leaves value.value.0) (sign symbols.RightParenthesis)), refl), refl))
+expressions_held : (v : Vec (Such IsExpression) Global) → All IsExpression (firsts v.items) × InVector (length (firsts v.items))
+expressions_held v = (firsts_are IsExpression v.items, held_fit IsExpression v)
+
+-- a layer of an expression of this level or a tighter one
+abbrev IsOf : ℕ → Closed Expression-F → Type 0
+IsOf k d = IsExpressionLayer d × (k ≤ layer_level d)
+
+primary_layer_word : (y : OpenExpression) → IsOf 12 (closed_expression y) → Headed PrimaryWord (expression_layer_leaves (closed_expression y))
+primary_layer_word (expression.If arms otherwise) is = absurd (omega (arith, is.1))
+primary_layer_word (expression.Chain first rest) is = absurd (omega (arith, is.1, low_chain (firsts rest.items)))
+primary_layer_word (expression.Unary prefixes operand) is = absurd (omega (arith, is.1))
+primary_layer_word (expression.Postfix primary suffixes) is = absurd (omega (arith, is.1))
+primary_layer_word (expression.Literal l) is = headed _ [] (l, is.0, refl)
+primary_layer_word (expression.Name n) is = headed _ [] (word_as NamedWord (a_part n is.0 ⨾ (_, inl refl)) refl)
+primary_layer_word (expression.Call called arguments) is =
+    let tail : Has CallTailWord = a_sign symbols.LeftParenthesis ⨾ a_part _ (expressions_held arguments) ⨾ a_sign symbols.RightParenthesis in
+    headed _ _ (word_as NamedWord (a_part called is.0 ⨾ (tail.0, inr (inl tail.1))) refl)
+primary_layer_word (expression.Member of member) is =
+    let tail : Has MemberTailWord = a_sign symbols.ColonColon ⨾ (name_leaves member, inl (member, is.0.1, refl)) in
+    headed _ _ (word_as NamedWord (a_part of is.0.0 ⨾ (tail.0, inr (inr tail.1))) refl)
+primary_layer_word (expression.Struct of fields close) is =
+    let are : IsNonempty (firsts fields.items) × All IsFieldValue (firsts fields.items) × InVector (length (firsts fields.items)) =
+    (is.0.1, firsts_are IsFieldValue fields.items, held_fit IsFieldValue fields) in
+    let inside : Has StructTailWord = a_sign symbols.LeftBrace ⨾ a_part _ are ⨾ a_placed (symbol symbols.RightBrace) close in
+    let tail : Has MemberTailWord = a_sign symbols.ColonColon ⨾ (inside.0, inr inside.1) in
+    headed _ _ (word_as NamedWord (a_part of is.0.0 ⨾ (tail.0, inr (inr tail.1))) refl)
+primary_layer_word (expression.Array place elements) is =
+    let are = expressions_held elements in
+    headed _ _ (word_as ArrayWord (a_placed (symbol symbols.LeftBracket) place ⨾ a_part (firsts elements.items) (is.0, are.0, are.1) ⨾ a_sign symbols.RightBracket) refl)
+primary_layer_word (expression.Parentheses place inside) is =
+    headed _ _ (word_as ParenthesesWord (a_placed (symbol symbols.LeftParenthesis) place ⨾ part_of inside.value ⨾ a_sign symbols.RightParenthesis) refl)
+primary_layer_word (expression.Block block) is = block_headed block.0 block.1
+primary_layer_word (expression.Read place port register) is =
+    call_headed (read_word port) place _ [] (read_keyword port is.0.0) (a_part register is.0.1 ⨾ a_sign symbols.RightParenthesis) refl
+primary_layer_word (expression.Write place port register value) is =
+    call_headed (write_word port) place _ (_ ∷ []) (write_keyword port is.0.0)
+    (a_part register is.0.1 ⨾ a_sign symbols.Comma ⨾ part_of value.value ⨾ a_sign symbols.RightParenthesis) refl
+primary_layer_word (expression.Abort place) is = headed _ [] (a_placed (keyword keywords.Abort) place).1
+primary_layer_word (expression.Pack place value) is =
+    call_headed keywords.Pack place _ [] (λ u word. word) (part_of value.value ⨾ a_sign symbols.RightParenthesis) refl
+primary_layer_word (expression.Unpack place to value) is =
+    call_headed keywords.Unpack place _ (_ ∷ []) (λ u word. word)
+    (a_part to is.0 ⨾ a_sign symbols.Comma ⨾ part_of value.value ⨾ a_sign symbols.RightParenthesis) refl
+primary_layer_word (expression.Extend place extension value width) is =
+    call_headed (extension_word extension) place _ (_ ∷ []) (extension_keyword extension)
+    (part_of value.value ⨾ a_sign symbols.Comma ⨾ a_part width is.0 ⨾ a_sign symbols.RightParenthesis) refl
+primary_layer_word (expression.Compare place comparison left right) is =
+    call_headed (comparison_word comparison) place _ (_ ∷ []) (comparison_keyword comparison)
+    (part_of left.value ⨾ a_sign symbols.Comma ⨾ part_of right.value ⨾ a_sign symbols.RightParenthesis) refl
+primary_layer_word (expression.Update place whole part value) is =
+    call_headed keywords.Update place _ (_ ∷ _ ∷ []) (λ u word. word)
+    (part_of whole.value ⨾ a_sign symbols.Comma ⨾ a_part part is.0 ⨾ a_sign symbols.Comma ⨾ part_of value.value ⨾ a_sign symbols.RightParenthesis) refl
 
 pub primary_word : (t : Expression) → IsExpression t × (12 ≤ level t) → Headed PrimaryWord (expression_leaves t)
 primary_word t is =
     let held = expression_held t is.0 in
-    subst (Headed PrimaryWord) (sym (expression_out t ∙ ap expression_layer_leaves (sym held.1)))
-    (primary_layer_word held.0 (subst IsExpressionLayer (sym held.1) (expression_here t is.0)) (subst (λ d. 12 ≤ layer_level d) (sym held.1) is.1))
+    let word = of_open closed_expression (IsOf 12) (λ d. Headed PrimaryWord (expression_layer_leaves d)) primary_layer_word (held.0, (held.1, is.1)) in
+    subst (Headed PrimaryWord) (sym (expression_out t)) word
 
 -- an expression of a level is one of a tighter level, or what that level makes of tighter ones
-layered : (k : ℕ) (P : List Leaf → Type 0) → ((y : OpenExpression) → IsExpressionLayer (closed_expression y) → k ≤ layer_level (closed_expression y) → (k + 1 ≤ layer_level (closed_expression y)) ⊎ P (expression_layer_leaves (closed_expression y))) → (u : List Leaf) → LevelWord k u → LevelWord (k + 1) u ⊎ P u
+abbrev SplitsTo : ℕ → Language → Closed Expression-F → Type 0
+SplitsTo k P d = (k + 1 ≤ layer_level d) ⊎ P (expression_layer_leaves d)
+
+layered : (k : ℕ) (P : Language) → ((y : OpenExpression) → IsOf k (closed_expression y) → SplitsTo k P (closed_expression y)) → (u : List Leaf) →
+    LevelWord k u → LevelWord (k + 1) u ⊎ P u
 layered k P each u word =
     let held = expression_held word.0 word.1.0 in
-    let same : expression_leaves word.0 ≡ expression_layer_leaves (closed_expression held.0) = expression_out word.0 ∙ ap expression_layer_leaves (sym held.1) in
-    of (each held.0 (subst IsExpressionLayer (sym held.1) (expression_here word.0 word.1.0)) (subst (λ d. k ≤ layer_level d) (sym held.1) word.1.1)) (λ high. subst (λ d. k + 1 ≤ layer_level d) held.1 high) (λ p. subst P (sym (word.2 ∙ same)) p)
+    of (of_open closed_expression (IsOf k) (SplitsTo k P) each (held.0, (held.1, word.1.1)))
   where
-    of : {High Low : Type 0} → High ⊎ Low → (High → k + 1 ≤ level word.0) → (Low → P u) → LevelWord (k + 1) u ⊎ P u
-    of (inl high) up down = inl (word.0, (word.1.0, up high), word.2)
-    of (inr low) up down = inr (down low)
+    of : SplitsTo k P (out-Expression word.0) → LevelWord (k + 1) u ⊎ P u
+    of (inl high) = inl (word.0, (word.1.0, high), word.2)
+    of (inr low) = inr (subst P (sym (word.2 ∙ expression_out word.0)) low)
 
-operands_of : (k : ℕ) (rest : List (Such IsOperand)) → InVector (length (map (λ e. e.0) rest)) → IsNonempty (map (λ e. e.0) rest) → k ≡ chain_level (map (λ e. e.0) rest) → All (IsOperandAt (chain_level (map (λ e. e.0) rest))) (map (λ e. e.0) rest) → SomeOperandsWord k (all_of (map operand_leaves (map (λ e. e.0) rest)))
-operands_of k [] low some same all = absurd (omega (arith, some))
-operands_of k (o ∷ os) low some same all =
-    let xs = map (λ e. e.0) os in
-    let fit : All (IsOperandIn k) (o.0 ∷ xs) = both (o.0 ∷ xs) (firsts_are IsOperand (o ∷ os)) (subst (λ l. All (IsOperandAt l) (o.0 ∷ xs)) (sym same) all) in
-    (operand_leaves o.0, all_of (map operand_leaves xs), (o.0, All-head (IsOperandIn k) o.0 xs fit, refl), (xs, (All-tail (IsOperandIn k) o.0 xs fit, omega (arith, low)), sym (all_of_map operand_leaves xs)), refl)
+operands_of : (k : ℕ) (rest : List Operand) → All IsOperand rest → InVector (length rest) → IsNonempty rest → k ≡ chain_level rest →
+    All (IsOperandAt (chain_level rest)) rest → SomeOperandsWord k (all_of (map operand_leaves rest))
+operands_of k [] are low some same all = absurd (omega (arith, some))
+operands_of k (o ∷ os) are low some same all =
+    let fit : All (IsOperandIn k) (o ∷ os) = both (o ∷ os) are (subst (λ l. All (IsOperandAt l) (o ∷ os)) (sym same) all) in (
+      operand_leaves o,
+      all_of (map operand_leaves os),
+      (o, All-head (IsOperandIn k) o os fit, refl),
+      (os, (All-tail (IsOperandIn k) o os fit, omega (arith, low)), sym (all_of_map operand_leaves os)),
+      refl,
+    )
   where
     both : (xs : List Operand) → All IsOperand xs → All (IsOperandAt k) xs → All (IsOperandIn k) xs
     both [] a b = All-nil (IsOperandIn k)
-    both (x ∷ xs) a b = All-cons (IsOperandIn k) x xs (All-head IsOperand x xs a, All-head (IsOperandAt k) x xs b) (both xs (All-tail IsOperand x xs a) (All-tail (IsOperandAt k) x xs b))
+    both (x ∷ xs) a b =
+        All-cons (IsOperandIn k) x xs (All-head IsOperand x xs a, All-head (IsOperandAt k) x xs b)
+        (both xs (All-tail IsOperand x xs a) (All-tail (IsOperandAt k) x xs b))
 
 -- a chain is an operand and those behind it, if any
 pub chain_split : (k : ℕ) → 0 < k → k ≤ 9 → (u : List Leaf) → LevelWord k u → LevelWord (k + 1) u ⊎ Then (LevelWord (k + 1)) (SomeOperandsWord k) u
 chain_split k low high u word = layered k (Then (LevelWord (k + 1)) (SomeOperandsWord k)) each u word
   where
-    chained : (first : Box (Such IsExpression) Global) (rest : List (Such IsOperand)) → InVector (length (map (λ e. e.0) rest)) → IsNonempty (map (λ e. e.0) rest) → chain_level (map (λ e. e.0) rest) < level first.value.0 → All (IsOperandAt (chain_level (map (λ e. e.0) rest))) (map (λ e. e.0) rest) →
-        (k ≡ chain_level (map (λ e. e.0) rest)) ⊎ (k < chain_level (map (λ e. e.0) rest)) → (k + 1 ≤ chain_level (map (λ e. e.0) rest)) ⊎ Then (LevelWord (k + 1)) (SomeOperandsWord k) (expression_leaves first.value.0 ++ all_of (map operand_leaves (map (λ e. e.0) rest)))
-    chained first rest fits some loose all (inl same) = inr (expression_leaves first.value.0, all_of (map operand_leaves (map (λ e. e.0) rest)), (first.value.0, (first.value.1, omega (arith, loose, same)), refl), operands_of k rest fits some same all, refl)
-    chained first rest fits some loose all (inr more) = inl (omega (arith, more))
+    chained : (first : Such IsExpression) (rest : List Operand) → All IsOperand rest → InVector (length rest) → IsNonempty rest →
+        chain_level rest < level first.0 → All (IsOperandAt (chain_level rest)) rest → (k ≡ chain_level rest) ⊎ (k < chain_level rest) →
+        (k + 1 ≤ chain_level rest) ⊎ Then (LevelWord (k + 1)) (SomeOperandsWord k) (expression_leaves first.0 ++ all_of (map operand_leaves rest))
+    chained first rest are fits some loose all (inl same) =
+        inr (_, _, (first.0, (first.1, omega (arith, loose, same)), refl), operands_of k rest are fits some same all, refl)
+    chained first rest are fits some loose all (inr more) = inl (omega (arith, more))
 
-    each : (y : OpenExpression) → IsExpressionLayer (closed_expression y) → k ≤ layer_level (closed_expression y) → (k + 1 ≤ layer_level (closed_expression y)) ⊎ Then (LevelWord (k + 1)) (SomeOperandsWord k) (expression_layer_leaves (closed_expression y))
-    each (expression.If arms otherwise) is at = absurd (omega (arith, low, at))
-    each (expression.Chain first rest) is at = chained first rest.items (held_fit IsOperand rest) is.0 is.1 is.2 (eq-or-lt_of_le at)
-    each (expression.Unary prefixes operand) is at = inl (omega (arith, high))
-    each (expression.Postfix primary suffixes) is at = inl (omega (arith, high))
-    each (expression.Literal l) is at = inl (omega (arith, high))
-    each (expression.Name n) is at = inl (omega (arith, high))
-    each (expression.Call called arguments) is at = inl (omega (arith, high))
-    each (expression.Member of member) is at = inl (omega (arith, high))
-    each (expression.Struct of fields close) is at = inl (omega (arith, high))
-    each (expression.Array place elements) is at = inl (omega (arith, high))
-    each (expression.Parentheses place inside) is at = inl (omega (arith, high))
-    each (expression.Block block) is at = inl (omega (arith, high))
-    each (expression.Read place port register) is at = inl (omega (arith, high))
-    each (expression.Write place port register value) is at = inl (omega (arith, high))
-    each (expression.Abort place) is at = inl (omega (arith, high))
-    each (expression.Pack place value) is at = inl (omega (arith, high))
-    each (expression.Unpack place to value) is at = inl (omega (arith, high))
-    each (expression.Extend place extension value width) is at = inl (omega (arith, high))
-    each (expression.Compare place comparison left right) is at = inl (omega (arith, high))
-    each (expression.Update place whole part value) is at = inl (omega (arith, high))
+    each : (y : OpenExpression) → IsOf k (closed_expression y) → SplitsTo k (Then (LevelWord (k + 1)) (SomeOperandsWord k)) (closed_expression y)
+    each (expression.If arms otherwise) is = absurd (omega (arith, low, is.1))
+    each (expression.Chain first rest) is =
+        chained first.value (firsts rest.items) (firsts_are IsOperand rest.items) (held_fit IsOperand rest) is.0.0 is.0.1 is.0.2 (eq-or-lt_of_le is.1)
+    each _ is = inl (omega (arith, high))
 
 -- a unary run is operators in front of an operand, if any, and the operand
 pub unary_split : (u : List Leaf) → LevelWord 10 u → LevelWord 11 u ⊎ Then PrefixesWord (LevelWord 11) u
 unary_split u word = layered 10 (Then PrefixesWord (LevelWord 11)) each u word
   where
-    each : (y : OpenExpression) → IsExpressionLayer (closed_expression y) → 10 ≤ layer_level (closed_expression y) → (11 ≤ layer_level (closed_expression y)) ⊎ Then PrefixesWord (LevelWord 11) (expression_layer_leaves (closed_expression y))
-    each (expression.If arms otherwise) is at = absurd (omega (arith, at))
-    each (expression.Chain first rest) is at = absurd (omega (arith, at, low_chain (map (λ e. e.0) rest.items)))
-    each (expression.Unary [] operand) is at = absurd (omega (arith, is.0))
-    each (expression.Unary (prefix ∷ prefixes) operand) is at = inr (prefix_leaves prefix ++ flat_map prefix_leaves prefixes, expression_leaves operand.value.0, (prefix_leaves prefix, flat_map prefix_leaves prefixes, (prefix, tt, refl), (prefixes, (λ i d lt. tt), refl), refl), (operand.value.0, (operand.value.1, is.1), refl), refl)
-    each (expression.Postfix primary suffixes) is at = inl (omega arith)
-    each (expression.Literal l) is at = inl (omega arith)
-    each (expression.Name n) is at = inl (omega arith)
-    each (expression.Call called arguments) is at = inl (omega arith)
-    each (expression.Member of member) is at = inl (omega arith)
-    each (expression.Struct of fields close) is at = inl (omega arith)
-    each (expression.Array place elements) is at = inl (omega arith)
-    each (expression.Parentheses place inside) is at = inl (omega arith)
-    each (expression.Block block) is at = inl (omega arith)
-    each (expression.Read place port register) is at = inl (omega arith)
-    each (expression.Write place port register value) is at = inl (omega arith)
-    each (expression.Abort place) is at = inl (omega arith)
-    each (expression.Pack place value) is at = inl (omega arith)
-    each (expression.Unpack place to value) is at = inl (omega arith)
-    each (expression.Extend place extension value width) is at = inl (omega arith)
-    each (expression.Compare place comparison left right) is at = inl (omega arith)
-    each (expression.Update place whole part value) is at = inl (omega arith)
+    each : (y : OpenExpression) → IsOf 10 (closed_expression y) → SplitsTo 10 (Then PrefixesWord (LevelWord 11)) (closed_expression y)
+    each (expression.If arms otherwise) is = absurd (omega (arith, is.1))
+    each (expression.Chain first rest) is = absurd (omega (arith, is.1, low_chain (firsts rest.items)))
+    each (expression.Unary [] operand) is = absurd (omega (arith, is.0.0))
+    each (expression.Unary (prefix ∷ prefixes) operand) is =
+        let front : Has PrefixesWord = a_part prefix tt ⨾ a_part prefixes (λ i d lt. tt) in
+        inr (word_as (Then PrefixesWord (LevelWord 11)) (front ⨾ a_part operand.value.0 (operand.value.1, is.0.1)) refl)
+    each _ is = inl (omega arith)
 
 -- a postfix is a primary and suffixes, if any
 pub postfix_split : (u : List Leaf) → LevelWord 11 u → LevelWord 12 u ⊎ Then (LevelWord 12) SuffixesWord u
 postfix_split u word = layered 11 (Then (LevelWord 12) SuffixesWord) each u word
   where
-    each : (y : OpenExpression) → IsExpressionLayer (closed_expression y) → 11 ≤ layer_level (closed_expression y) → (12 ≤ layer_level (closed_expression y)) ⊎ Then (LevelWord 12) SuffixesWord (expression_layer_leaves (closed_expression y))
-    each (expression.If arms otherwise) is at = absurd (omega (arith, at))
-    each (expression.Chain first rest) is at = absurd (omega (arith, at, low_chain (map (λ e. e.0) rest.items)))
-    each (expression.Unary prefixes operand) is at = absurd (omega (arith, at))
-    each (expression.Postfix primary []) is at = absurd (omega (arith, is.1))
-    each (expression.Postfix primary (suffix ∷ suffixes)) is at = inr (expression_leaves primary.value.0, suffix_leaves suffix ++ flat_map suffix_leaves suffixes, (primary.value.0, (primary.value.1, is.0), refl), (suffix_leaves suffix, flat_map suffix_leaves suffixes, (suffix, All-head IsSuffix suffix suffixes is.2, refl), (suffixes, All-tail IsSuffix suffix suffixes is.2, refl), refl), refl)
-    each (expression.Literal l) is at = inl (omega arith)
-    each (expression.Name n) is at = inl (omega arith)
-    each (expression.Call called arguments) is at = inl (omega arith)
-    each (expression.Member of member) is at = inl (omega arith)
-    each (expression.Struct of fields close) is at = inl (omega arith)
-    each (expression.Array place elements) is at = inl (omega arith)
-    each (expression.Parentheses place inside) is at = inl (omega arith)
-    each (expression.Block block) is at = inl (omega arith)
-    each (expression.Read place port register) is at = inl (omega arith)
-    each (expression.Write place port register value) is at = inl (omega arith)
-    each (expression.Abort place) is at = inl (omega arith)
-    each (expression.Pack place value) is at = inl (omega arith)
-    each (expression.Unpack place to value) is at = inl (omega arith)
-    each (expression.Extend place extension value width) is at = inl (omega arith)
-    each (expression.Compare place comparison left right) is at = inl (omega arith)
-    each (expression.Update place whole part value) is at = inl (omega arith)
+    each : (y : OpenExpression) → IsOf 11 (closed_expression y) → SplitsTo 11 (Then (LevelWord 12) SuffixesWord) (closed_expression y)
+    each (expression.If arms otherwise) is = absurd (omega (arith, is.1))
+    each (expression.Chain first rest) is = absurd (omega (arith, is.1, low_chain (firsts rest.items)))
+    each (expression.Unary prefixes operand) is = absurd (omega (arith, is.1))
+    each (expression.Postfix primary []) is = absurd (omega (arith, is.0.1))
+    each (expression.Postfix primary (suffix ∷ suffixes)) is =
+        let behind : Has SuffixesWord = a_part suffix (All-head IsSuffix suffix suffixes is.0.2) ⨾ a_part suffixes (All-tail IsSuffix suffix suffixes is.0.2) in
+        inr (word_as (Then (LevelWord 12) SuffixesWord) (a_part primary.value.0 (primary.value.1, is.0.0) ⨾ behind) refl)
+    each _ is = inl (omega arith)
 
-conditional : (arms : List (Such IsArm)) → InVector (length (map (λ e. e.0) arms)) → (otherwise : Option Block) → IfSome otherwise IsBlock → IsNonempty (map (λ e. e.0) arms) → ConditionalWord (with_between (word keywords.Else) (map arm_leaves (map (λ e. e.0) arms)) ++ last_leaves otherwise (λ block. word keywords.Else ++ block_leaves block))
+conditional : (arms : List Arm) → All IsArm arms → InVector (length arms) → (otherwise : Option Block) → IfSome otherwise IsBlock → IsNonempty arms →
+    ConditionalWord (with_between (word keywords.Else) (map arm_leaves arms) ++ last_leaves otherwise (λ block. word keywords.Else ++ block_leaves block))
 unfolding with_between
-conditional [] low otherwise last some = absurd (omega (arith, some))
-conditional (arm ∷ arms) low otherwise last some = (arm_leaves arm.0, each_after (word keywords.Else) (map arm_leaves (map (λ e. e.0) arms)) ++ last_leaves otherwise (λ block. word keywords.Else ++ block_leaves block), (arm.0, arm.1, refl), (map (λ e. e.0) arms, otherwise, (firsts_are IsArm arms, omega (arith, low)), last, refl), append_assoc (arm_leaves arm.0) (each_after (word keywords.Else) (map arm_leaves (map (λ e. e.0) arms))) (last_leaves otherwise (λ block. word keywords.Else ++ block_leaves block)))
+conditional [] are low otherwise last some = absurd (omega (arith, some))
+conditional (arm ∷ arms) are low otherwise last some =
+    let more = each_after (word keywords.Else) (map arm_leaves arms) in
+    let end = last_leaves otherwise (λ block. word keywords.Else ++ block_leaves block) in (
+      arm_leaves arm,
+      more ++ end,
+      (arm, All-head IsArm arm arms are, refl),
+      (arms, otherwise, (All-tail IsArm arm arms are, omega (arith, low)), last, refl),
+      append_assoc (arm_leaves arm) more end,
+    )
 
 -- an expression is a chain or an `if`
-pub expression_split : (u : List Leaf) → Part IsExpression expression_leaves u → LevelWord 1 u ⊎ ConditionalWord u
+pub expression_split : (u : List Leaf) → OneExpression u → LevelWord 1 u ⊎ ConditionalWord u
 expression_split u word = layered 0 ConditionalWord each u (word.0, (word.1, omega arith), word.2)
   where
     chained : (rest : List Operand) → IsNonempty rest → 1 ≤ chain_level rest
@@ -459,53 +520,27 @@ expression_split u word = layered 0 ConditionalWord each u (word.0, (word.1, ome
       where
         of_operator : (operator : BinaryOperator) → 1 ≤ level_of operator
         of_operator binary.Or = omega arith
-        of_operator binary.Xor = omega arith
-        of_operator binary.And = omega arith
-        of_operator binary.Equal = omega arith
-        of_operator binary.NotEqual = omega arith
-        of_operator binary.Less = omega arith
-        of_operator binary.LessOrEqual = omega arith
-        of_operator binary.Greater = omega arith
-        of_operator binary.GreaterOrEqual = omega arith
-        of_operator binary.Concat = omega arith
-        of_operator binary.ShiftLeft = omega arith
-        of_operator binary.ShiftRight = omega arith
-        of_operator binary.ShiftRightSigned = omega arith
-        of_operator binary.Add = omega arith
-        of_operator binary.Subtract = omega arith
-        of_operator binary.Multiply = omega arith
+        of_operator _ = omega arith
 
-    each : (y : OpenExpression) → IsExpressionLayer (closed_expression y) → 0 ≤ layer_level (closed_expression y) → (1 ≤ layer_level (closed_expression y)) ⊎ ConditionalWord (expression_layer_leaves (closed_expression y))
-    each (expression.If arms None) is at = inr (conditional arms.items (held_fit IsArm arms) None tt is)
-    each (expression.If arms (Some block)) is at = inr (conditional arms.items (held_fit IsArm arms) (Some block.0) block.1 is)
-    each (expression.Chain first rest) is at = inl (chained (map (λ e. e.0) rest.items) is.0)
-    each (expression.Unary prefixes operand) is at = inl (omega arith)
-    each (expression.Postfix primary suffixes) is at = inl (omega arith)
-    each (expression.Literal l) is at = inl (omega arith)
-    each (expression.Name n) is at = inl (omega arith)
-    each (expression.Call called arguments) is at = inl (omega arith)
-    each (expression.Member of member) is at = inl (omega arith)
-    each (expression.Struct of fields close) is at = inl (omega arith)
-    each (expression.Array place elements) is at = inl (omega arith)
-    each (expression.Parentheses place inside) is at = inl (omega arith)
-    each (expression.Block block) is at = inl (omega arith)
-    each (expression.Read place port register) is at = inl (omega arith)
-    each (expression.Write place port register value) is at = inl (omega arith)
-    each (expression.Abort place) is at = inl (omega arith)
-    each (expression.Pack place value) is at = inl (omega arith)
-    each (expression.Unpack place to value) is at = inl (omega arith)
-    each (expression.Extend place extension value width) is at = inl (omega arith)
-    each (expression.Compare place comparison left right) is at = inl (omega arith)
-    each (expression.Update place whole part value) is at = inl (omega arith)
+    each : (y : OpenExpression) → IsOf 0 (closed_expression y) → SplitsTo 0 ConditionalWord (closed_expression y)
+    each (expression.If arms None) is = inr (conditional (firsts arms.items) (firsts_are IsArm arms.items) (held_fit IsArm arms) None tt is.0)
+    each (expression.If arms (Some block)) is =
+        inr (conditional (firsts arms.items) (firsts_are IsArm arms.items) (held_fit IsArm arms) (Some block.0) block.1 is.0)
+    each (expression.Chain first rest) is = inl (chained (firsts rest.items) is.0.0)
+    each _ is = inl (omega arith)
 
 -- an operand is an operator and an expression that holds together more tightly
-abbrev pub OperandWord : ℕ → List Leaf → Type 0
+abbrev pub OperandWord : ℕ → Language
 OperandWord k = Then (OperatorWord k) (LevelWord (k + 1))
 
-operand_layer_word : (k : ℕ) (y : OpenOperand) → level_of (closed_operand y).operator ≡ k → k < level (closed_operand y).operand → OperandWord k (operand_layer_leaves (closed_operand y))
-operand_layer_word k y same above = (sign (binary_symbol y.operator), expression_leaves y.operand.0, (y.operator, same, sign_word (binary_symbol y.operator)), (y.operand.0, (y.operand.1, omega (arith, above)), refl), refl)
+abbrev IsOperandOf : ℕ → Closed Operand-F → Type 0
+IsOperandOf k d = (level_of d.operator ≡ k) × (k < level d.operand)
+
+operand_layer_word : (k : ℕ) (y : OpenOperand) → IsOperandOf k (closed_operand y) → OperandWord k (operand_layer_leaves (closed_operand y))
+operand_layer_word k y is =
+    word_as (OperandWord k) ((_, (y.operator, is.0, sign_word (binary_symbol y.operator))) ⨾ a_part y.operand.0 (y.operand.1, omega (arith, is.1))) refl
 
 pub operand_word : (k : ℕ) (t : Operand) → IsOperandIn k t → OperandWord k (operand_leaves t)
 operand_word k t is =
-    let held = operand_held t is.0 in
-    subst (OperandWord k) (sym (operand_out t ∙ ap operand_layer_leaves (sym held.1))) (operand_layer_word k held.0 (subst (λ d. level_of d.operator ≡ k) (sym held.1) is.1.0) (subst (λ d. k < level d.operand) (sym held.1) is.1.1))
+    subst (OperandWord k) (sym (operand_out t))
+    (of_open closed_operand (IsOperandOf k) (λ d. OperandWord k (operand_layer_leaves d)) (operand_layer_word k) ((operand_held t is.0).0, is.1))

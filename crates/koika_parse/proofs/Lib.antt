@@ -1,5 +1,6 @@
 pub mod Reading
 pub mod Expected
+pub mod Steps
 pub mod Witnesses
 pub mod Words
 pub mod SchedulerWords
@@ -8,6 +9,7 @@ pub mod Commas
 pub mod Rows
 pub mod Names
 pub mod Lists
+pub mod Layers
 pub mod Parts
 pub mod Calls
 pub mod UnambiguousReaders

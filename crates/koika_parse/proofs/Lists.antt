@@ -43,7 +43,8 @@ joined_start source old new between leaves Is x zs ys read one none pushed = sub
     (record { read = subst (λ l. Reads source old new l) (sym (joined_one between (leaves x))) read; is = All-cons Is x [] one (All-nil Is); some = omega arith })
 
 more_of : {X : Type 0} (source : Source) (old mid next new : Cursor) (between : List Leaf) (leaves : X → List Leaf) (xs : List X) (x : X) → IsNonempty xs →
-    Reads source old mid (with_between between (map leaves xs)) → Reads source mid next between → Reads source next new (leaves x) → Reads source old new (with_between between (map leaves (xs ++ x ∷ [])))
+    Reads source old mid (with_between between (map leaves xs)) → Reads source mid next between →
+    Reads source next new (leaves x) → Reads source old new (with_between between (map leaves (xs ++ x ∷ [])))
 more_of source old mid next new between leaves [] x some p q r = absurd (omega (arith, some))
 more_of source old mid next new between leaves (y ∷ ys) x some p q r =
     subst (λ l. Reads source old new (with_between between l)) (sym (map-append leaves (y ∷ ys) (x ∷ [])))

@@ -48,7 +48,9 @@ begins_less text less more begins = (
   record {
     design = begins.1.design;
     rest = map (terminal_of text) more ++ begins.1.rest;
-    terminals = begins.1.terminals ∙ ap (λ ts. ts ++ begins.1.rest) (map-append (terminal_of text) less more) ∙ append_assoc (map (terminal_of text) less) (map (terminal_of text) more) begins.1.rest;
+    terminals =
+        begins.1.terminals ∙ ap (λ ts. ts ++ begins.1.rest) (map-append (terminal_of text) less more)
+        ∙ append_assoc (map (terminal_of text) less) (map (terminal_of text) more) begins.1.rest;
   },
 )
 
@@ -60,7 +62,9 @@ few_at text depth (t ∷ before) token more few = few_at text (open_behind depth
 
 -- why reading ends
 abbrev Why : List ℕ → Fault → (before behind : List Token) → Type 0
-Why text fault before behind = ((fault ≡ fault_at 11 (place_behind text behind)) × NoneGoesOn text before behind) ⊎ ((fault ≡ fault_at 12 (place_behind text behind)) × OpensTooMany text before behind × GoesOn text before behind)
+Why text fault before behind =
+    ((fault ≡ fault_at 11 (place_behind text behind)) × NoneGoesOn text before behind)
+    ⊎ ((fault ≡ fault_at 12 (place_behind text behind)) × OpensTooMany text before behind × GoesOn text before behind)
 
 -- a fault doesn't stand before another one
 not_before : (text : List ℕ) (tokens : List Token) (f g : Fault) (a : StandsBetween text tokens f) (b : StandsBetween text tokens g) → GoesFurther a.before a.behind b.before → ⊥
@@ -97,7 +101,10 @@ one_fault text tokens f g a b = of (fronts a.before a.behind b.before b.behind (
     of (inr (inr goes)) = absurd (not_before text tokens g f b a goes)
 
 -- a fault that is answered is the one that there is
-pub one_refused : (text : List ℕ) (tokens : List Token) (refusal : Refusal) (fault : Fault) → IfFault {X = Tree} (Err refusal) (StandsBetween text tokens) → StandsBetween text tokens fault → IsFaultUnlessNoMemory {X = Tree} (Err refusal) fault
+pub one_refused :
+    (text : List ℕ) (tokens : List Token) (refusal : Refusal) (fault : Fault) →
+    IfFault {X = Tree} (Err refusal) (StandsBetween text tokens) → StandsBetween text tokens fault →
+    IsFaultUnlessNoMemory {X = Tree} (Err refusal) fault
 one_refused text tokens (refusals.Fault other) fault is stands = one_fault text tokens other fault is stands
 one_refused text tokens refusals.NoMemory fault is stands = tt
 

@@ -3,36 +3,36 @@ use Rattle.std.proofs.Common.{◌≡◌, ℕ, ◌<◌, Option, Some, None, IfSom
 use Rattle.std.specs.List.{All, AllByRecursion}
 use Rattle.std.proofs.lemmas.List.Elements.{recursion_from_All, All-head}
 use Rattle.std.specs.formers.vec.Vec.{holding, holding_along, fits, mapped}
-use Rattle.koika_syntax.specs.Grammar.{IsConstant, IsBlock, IsScheduler, IsName, IsNonempty, IsOperandAt, IsConstantLayer, IsConstantFieldLayer, IsExpressionLayer, IsStatementLayer, IsArmLayer, IsBlockLayer, IsFieldValueLayer, IsOperandLayer, IsChoiceLayer, IsSchedulerLayer, level, level_of}
+use Rattle.koika_syntax.specs.Grammar.{IsConstant, IsBlock, IsScheduler, IsName, IsNonempty, IsOperandAt, level, level_of}
+use Rattle.koika_syntax.specs.Grammar.{IsConstantLayer, IsExpressionLayer}
 use Rattle.koika_syntax.specs.inner.Grammar.{IsExpression}
 use Rattle.koika_syntax.specs.declared.operator.BinaryOperator.{BinaryOperator}
 use Rattle.koika_syntax.specs.declared.operator.Extension.{Extension}
 use Rattle.koika_syntax.specs.declared.operator.SignedComparison.{SignedComparison}
-use Rattle.koika_syntax.specs.declared.tree.Arm.{Arm, Arm-F, every_made-Arm, map-Arm, roll-Arm}
-use Rattle.koika_syntax.specs.declared.tree.Block.{Block, Block-F, every_made-Block, map-Block, roll-Block}
-use Rattle.koika_syntax.specs.declared.tree.Choice.{Choice, Choice-F, every_made-Choice, map-Choice, roll-Choice}
-use Rattle.koika_syntax.specs.declared.tree.Constant.{Constant, Constant-F, every_made-Constant, map-Constant, roll-Constant}
+use Rattle.koika_syntax.specs.declared.tree.Arm.{Arm, roll-Arm}
+use Rattle.koika_syntax.specs.declared.tree.Block.{Block, roll-Block}
+use Rattle.koika_syntax.specs.declared.tree.Choice.{Choice, roll-Choice}
+use Rattle.koika_syntax.specs.declared.tree.Constant.{Constant}
 use Rattle.koika_syntax.specs.declared.tree.Constant.TheOpen as constant
 use Rattle.koika_syntax.specs.declared.tree.Constant.TheViews as constant_views
-use Rattle.koika_syntax.specs.declared.tree.ConstantField.{ConstantField, ConstantField-F, every_made-ConstantField, map-ConstantField, roll-ConstantField}
-use Rattle.koika_syntax.specs.declared.tree.Expression.{Expression, Expression-F, every_made-Expression, map-Expression, roll-Expression}
+use Rattle.koika_syntax.specs.declared.tree.ConstantField.{ConstantField, roll-ConstantField}
+use Rattle.koika_syntax.specs.declared.tree.Expression.{Expression}
 use Rattle.koika_syntax.specs.declared.tree.Expression.TheOpen as expression
 use Rattle.koika_syntax.specs.declared.tree.Expression.TheViews as views
-use Rattle.koika_syntax.specs.declared.tree.FieldValue.{FieldValue, FieldValue-F, every_made-FieldValue, map-FieldValue, roll-FieldValue}
+use Rattle.koika_syntax.specs.declared.tree.FieldValue.{FieldValue, roll-FieldValue}
 use Rattle.koika_syntax.specs.declared.tree.Literal.{Literal}
 use Rattle.koika_syntax.specs.declared.tree.Name.{Name}
 use Rattle.koika_syntax.specs.declared.tree.Number.{Number}
-use Rattle.koika_syntax.specs.declared.tree.Operand.{Operand, Operand-F, every_made-Operand, map-Operand, roll-Operand, out-Operand, out-roll-Operand}
+use Rattle.koika_syntax.specs.declared.tree.Operand.{Operand, roll-Operand, out-Operand, out-roll-Operand}
 use Rattle.koika_syntax.specs.declared.tree.UpdatedPart.{UpdatedPart}
 use Rattle.koika_syntax.specs.declared.tree.Prefix.{Prefix}
-use Rattle.koika_syntax.specs.declared.tree.Scheduler.{Scheduler, Scheduler-F, every_made-Scheduler, map-Scheduler, roll-Scheduler}
-use Rattle.koika_syntax.specs.declared.tree.Statement.{Statement, Statement-F, every_made-Statement, map-Statement, roll-Statement}
+use Rattle.koika_syntax.specs.declared.tree.Scheduler.{Scheduler, roll-Scheduler}
+use Rattle.koika_syntax.specs.declared.tree.Statement.{Statement}
 use Rattle.koika_syntax.specs.declared.tree.Suffix.{Suffix}
 use Rattle.koika_syntax.specs.declared.tree.TypeExpression.{TypeExpression}
+use Rattle.koika_parse.proofs.Layers.{Such, Kind, Grown, constant_grown, constant_field_grown, expression_grown, statement_grown, arm_grown}
+use Rattle.koika_parse.proofs.Layers.{block_grown, field_value_grown, operand_grown, choice_grown, scheduler_grown}
 use Rattle.koika_parse.specs.inner.Parts.{IsConstantField, IsStatement, IsArm, IsFieldValue, IsOperand, IsOperandIn, IsChoice}
-
-abbrev Such : {X : Type 0} → (X → Type 0) → Type 0
-Such {X} P = (x : X) × P x
 
 paired : {X : Type 0} (P : X → Type 0) (xs : List X) → AllByRecursion P xs → List (Such P)
 paired P [] all = []
@@ -49,196 +49,259 @@ as_long P [] all = refl
 as_long P (x ∷ xs) all = omega (arith, as_long P xs all.1)
 
 abbrev vec_of : {X : Type 0} (P : X → Type 0) (v : Vec X Global) → All P v.items → Vec (Such P) Global
-vec_of P v all = let rec = recursion_from_All P v.items all in holding v (paired P v.items rec) (fits v (paired P v.items rec) (as_long P v.items rec))
+vec_of P v all =
+    let each = recursion_from_All P v.items all in
+    let pairs = paired P v.items each in
+    holding v pairs (fits v pairs (as_long P v.items each))
 
 vec_of_is : {X : Type 0} (P : X → Type 0) (v : Vec X Global) (all : All P v.items) → mapped (λ e. e.0) (vec_of P v all) ≡ v
-vec_of_is P v all = let rec = recursion_from_All P v.items all in holding_along v (map (λ e. e.0) (paired P v.items rec)) v.items (paired_are P v.items rec) (mapped (λ e. e.0) (vec_of P v all)).ok v.ok
+vec_of_is P v all =
+    let each = recursion_from_All P v.items all in
+    let firsts = map (λ e. e.0) (paired P v.items each) in
+    holding_along v firsts v.items (paired_are P v.items each) (mapped (λ e. e.0) (vec_of P v all)).ok v.ok
 
 abbrev box_of : {X : Type 0} (P : X → Type 0) (b : Box X Global) → P b.value → Box (Such P) Global
 box_of P b p = record { ptr = b.ptr; alloc = b.alloc; value = (b.value, p) }
 
-abbrev option_of : {X : Type 0} (P : X → Type 0) (o : Option X) → IfSome o P → Option (Such P)
-option_of P None p = None
-option_of P (Some x) p = Some (x, p)
+-- a tree is of the grammar by its layer, whose trees are
+made : {k : Kind} → Grown k → {d : k.Layer} {t : k.Tree} (y : k.Open) → k.roll d ≡ t → k.closed y ≡ d → k.IsLayer d → k.Is t
+made {k} grown {d} y rolls closes here = subst k.Is rolls (grown.made d y closes here)
 
-abbrev option_box_of : {X : Type 0} (P : X → Type 0) (o : Option (Box X Global)) → IfSome o (λ b. P b.value) → Option (Box (Such P) Global)
-option_box_of P None p = None
-option_box_of P (Some b) p = Some (box_of P b p)
+pub is_constant_struct :
+    (of : Name) (fields : Vec ConstantField Global) (close : ℕ) → All IsConstantField fields.items →
+    IsConstantLayer (constant.Struct of fields close) → IsConstant (constant_views.Struct of fields close)
+is_constant_struct of fields close fields_is here =
+    made constant_grown (constant.Struct of (vec_of IsConstantField fields fields_is) close)
+    (constant_views.rolls-Struct of fields close)
+    (λ i. constant.Struct of (vec_of_is IsConstantField fields fields_is i) close) here
 
-made_constant : (d : Constant-F Constant ConstantField) (y : Constant-F (Such IsConstant) (Such IsConstantField)) → map-Constant (Such IsConstant) (Such IsConstantField) Constant ConstantField (λ e. e.0) (λ e. e.0) y ≡ d → IsConstantLayer d → IsConstant (roll-Constant d)
-unfolding IsConstant IsConstantField
-made_constant d y e here = every_made-Constant IsConstantLayer IsConstantFieldLayer d y e here
-
-made_constant_field : (d : ConstantField-F Constant ConstantField) (y : ConstantField-F (Such IsConstant) (Such IsConstantField)) → map-ConstantField (Such IsConstant) (Such IsConstantField) Constant ConstantField (λ e. e.0) (λ e. e.0) y ≡ d → IsConstantFieldLayer d → IsConstantField (roll-ConstantField d)
-unfolding IsConstant IsConstantField
-made_constant_field d y e here = every_made-ConstantField IsConstantLayer IsConstantFieldLayer d y e here
-
-made_expression : (d : Expression-F Expression Statement Arm Block FieldValue Operand) (y : Expression-F (Such IsExpression) (Such IsStatement) (Such IsArm) (Such IsBlock) (Such IsFieldValue) (Such IsOperand)) → map-Expression (Such IsExpression) (Such IsStatement) (Such IsArm) (Such IsBlock) (Such IsFieldValue) (Such IsOperand) Expression Statement Arm Block FieldValue Operand (λ e. e.0) (λ e. e.0) (λ e. e.0) (λ e. e.0) (λ e. e.0) (λ e. e.0) y ≡ d → IsExpressionLayer d → IsExpression (roll-Expression d)
-unfolding IsExpression IsStatement IsArm IsBlock IsFieldValue IsOperand
-made_expression d y e here = every_made-Expression IsExpressionLayer IsStatementLayer IsArmLayer IsBlockLayer IsFieldValueLayer IsOperandLayer d y e here
-
-made_statement : (d : Statement-F Expression Statement Arm Block FieldValue Operand) (y : Statement-F (Such IsExpression) (Such IsStatement) (Such IsArm) (Such IsBlock) (Such IsFieldValue) (Such IsOperand)) → map-Statement (Such IsExpression) (Such IsStatement) (Such IsArm) (Such IsBlock) (Such IsFieldValue) (Such IsOperand) Expression Statement Arm Block FieldValue Operand (λ e. e.0) (λ e. e.0) (λ e. e.0) (λ e. e.0) (λ e. e.0) (λ e. e.0) y ≡ d → IsStatementLayer d → IsStatement (roll-Statement d)
-unfolding IsExpression IsStatement IsArm IsBlock IsFieldValue IsOperand
-made_statement d y e here = every_made-Statement IsExpressionLayer IsStatementLayer IsArmLayer IsBlockLayer IsFieldValueLayer IsOperandLayer d y e here
-
-made_arm : (d : Arm-F Expression Statement Arm Block FieldValue Operand) (y : Arm-F (Such IsExpression) (Such IsStatement) (Such IsArm) (Such IsBlock) (Such IsFieldValue) (Such IsOperand)) → map-Arm (Such IsExpression) (Such IsStatement) (Such IsArm) (Such IsBlock) (Such IsFieldValue) (Such IsOperand) Expression Statement Arm Block FieldValue Operand (λ e. e.0) (λ e. e.0) (λ e. e.0) (λ e. e.0) (λ e. e.0) (λ e. e.0) y ≡ d → IsArmLayer d → IsArm (roll-Arm d)
-unfolding IsExpression IsStatement IsArm IsBlock IsFieldValue IsOperand
-made_arm d y e here = every_made-Arm IsExpressionLayer IsStatementLayer IsArmLayer IsBlockLayer IsFieldValueLayer IsOperandLayer d y e here
-
-made_block : (d : Block-F Expression Statement Arm Block FieldValue Operand) (y : Block-F (Such IsExpression) (Such IsStatement) (Such IsArm) (Such IsBlock) (Such IsFieldValue) (Such IsOperand)) → map-Block (Such IsExpression) (Such IsStatement) (Such IsArm) (Such IsBlock) (Such IsFieldValue) (Such IsOperand) Expression Statement Arm Block FieldValue Operand (λ e. e.0) (λ e. e.0) (λ e. e.0) (λ e. e.0) (λ e. e.0) (λ e. e.0) y ≡ d → IsBlockLayer d → IsBlock (roll-Block d)
-unfolding IsExpression IsStatement IsArm IsBlock IsFieldValue IsOperand
-made_block d y e here = every_made-Block IsExpressionLayer IsStatementLayer IsArmLayer IsBlockLayer IsFieldValueLayer IsOperandLayer d y e here
-
-made_field_value : (d : FieldValue-F Expression Statement Arm Block FieldValue Operand) (y : FieldValue-F (Such IsExpression) (Such IsStatement) (Such IsArm) (Such IsBlock) (Such IsFieldValue) (Such IsOperand)) → map-FieldValue (Such IsExpression) (Such IsStatement) (Such IsArm) (Such IsBlock) (Such IsFieldValue) (Such IsOperand) Expression Statement Arm Block FieldValue Operand (λ e. e.0) (λ e. e.0) (λ e. e.0) (λ e. e.0) (λ e. e.0) (λ e. e.0) y ≡ d → IsFieldValueLayer d → IsFieldValue (roll-FieldValue d)
-unfolding IsExpression IsStatement IsArm IsBlock IsFieldValue IsOperand
-made_field_value d y e here = every_made-FieldValue IsExpressionLayer IsStatementLayer IsArmLayer IsBlockLayer IsFieldValueLayer IsOperandLayer d y e here
-
-made_operand : (d : Operand-F Expression Statement Arm Block FieldValue Operand) (y : Operand-F (Such IsExpression) (Such IsStatement) (Such IsArm) (Such IsBlock) (Such IsFieldValue) (Such IsOperand)) → map-Operand (Such IsExpression) (Such IsStatement) (Such IsArm) (Such IsBlock) (Such IsFieldValue) (Such IsOperand) Expression Statement Arm Block FieldValue Operand (λ e. e.0) (λ e. e.0) (λ e. e.0) (λ e. e.0) (λ e. e.0) (λ e. e.0) y ≡ d → IsOperandLayer d → IsOperand (roll-Operand d)
-unfolding IsExpression IsStatement IsArm IsBlock IsFieldValue IsOperand
-made_operand d y e here = every_made-Operand IsExpressionLayer IsStatementLayer IsArmLayer IsBlockLayer IsFieldValueLayer IsOperandLayer d y e here
-
-made_choice : (d : Choice-F Choice Scheduler) (y : Choice-F (Such IsChoice) (Such IsScheduler)) → map-Choice (Such IsChoice) (Such IsScheduler) Choice Scheduler (λ e. e.0) (λ e. e.0) y ≡ d → IsChoiceLayer d → IsChoice (roll-Choice d)
-unfolding IsChoice IsScheduler
-made_choice d y e here = every_made-Choice IsChoiceLayer IsSchedulerLayer d y e here
-
-made_scheduler : (d : Scheduler-F Choice Scheduler) (y : Scheduler-F (Such IsChoice) (Such IsScheduler)) → map-Scheduler (Such IsChoice) (Such IsScheduler) Choice Scheduler (λ e. e.0) (λ e. e.0) y ≡ d → IsSchedulerLayer d → IsScheduler (roll-Scheduler d)
-unfolding IsChoice IsScheduler
-made_scheduler d y e here = every_made-Scheduler IsChoiceLayer IsSchedulerLayer d y e here
-
-pub is_constant_struct : (of : Name) (fields : Vec ConstantField Global) (close : ℕ) → All IsConstantField fields.items → IsConstantLayer (constant.Struct of fields close) → IsConstant (constant_views.Struct of fields close)
-is_constant_struct of fields close fields_is here = subst IsConstant (constant_views.rolls-Struct of fields close) (made_constant (constant.Struct of fields close) (constant.Struct of (vec_of IsConstantField fields fields_is) close) (λ i. constant.Struct of (vec_of_is IsConstantField fields fields_is i) close) here)
-
-pub is_constant_array : (place : ℕ) (elements : Vec Constant Global) → All IsConstant elements.items → IsConstantLayer (constant.Array place elements) → IsConstant (constant_views.Array place elements)
-is_constant_array place elements elements_is here = subst IsConstant (constant_views.rolls-Array place elements) (made_constant (constant.Array place elements) (constant.Array place (vec_of IsConstant elements elements_is)) (λ i. constant.Array place (vec_of_is IsConstant elements elements_is i)) here)
+pub is_constant_array :
+    (place : ℕ) (elements : Vec Constant Global) → All IsConstant elements.items →
+    IsConstantLayer (constant.Array place elements) → IsConstant (constant_views.Array place elements)
+is_constant_array place elements elements_is here =
+    made constant_grown (constant.Array place (vec_of IsConstant elements elements_is))
+    (constant_views.rolls-Array place elements)
+    (λ i. constant.Array place (vec_of_is IsConstant elements elements_is i)) here
 
 pub is_constant_literal : (l : Literal) → IsConstantLayer (constant.Literal l) → IsConstant (constant_views.made-Literal l)
-is_constant_literal l here = subst IsConstant (constant_views.rolls-Literal l) (made_constant (constant.Literal l) (constant.Literal l) (λ i. constant.Literal l) here)
+is_constant_literal l here = made constant_grown (constant.Literal l) (constant_views.rolls-Literal l) refl here
 
 pub is_constant_member : (of : Name) (member : Name) → IsConstantLayer (constant.Member of member) → IsConstant (constant_views.made-Member of member)
-is_constant_member of member here = subst IsConstant (constant_views.rolls-Member of member) (made_constant (constant.Member of member) (constant.Member of member) (λ i. constant.Member of member) here)
+is_constant_member of member here =
+    made constant_grown (constant.Member of member) (constant_views.rolls-Member of member) refl here
 
-pub is_if : (arms : Vec Arm Global) (otherwise : Option Block) → All IsArm arms.items → IfSome otherwise IsBlock → IsExpressionLayer (expression.If arms otherwise) → IsExpression (views.If arms otherwise)
-is_if arms None arms_is last here = subst IsExpression (views.rolls-If arms None) (made_expression (expression.If arms None) (expression.If (vec_of IsArm arms arms_is) None) (λ i. expression.If (vec_of_is IsArm arms arms_is i) None) here)
-is_if arms (Some block) arms_is last here = subst IsExpression (views.rolls-If arms (Some block)) (made_expression (expression.If arms (Some block)) (expression.If (vec_of IsArm arms arms_is) (Some (block, last))) (λ i. expression.If (vec_of_is IsArm arms arms_is i) (Some block)) here)
+pub is_if :
+    (arms : Vec Arm Global) (otherwise : Option Block) → All IsArm arms.items → IfSome otherwise IsBlock →
+    IsExpressionLayer (expression.If arms otherwise) → IsExpression (views.If arms otherwise)
+is_if arms None arms_is last here =
+    made expression_grown (expression.If (vec_of IsArm arms arms_is) None)
+    (views.rolls-If arms None) (λ i. expression.If (vec_of_is IsArm arms arms_is i) None) here
+is_if arms (Some block) arms_is last here =
+    made expression_grown (expression.If (vec_of IsArm arms arms_is) (Some (block, last)))
+    (views.rolls-If arms (Some block)) (λ i. expression.If (vec_of_is IsArm arms arms_is i) (Some block)) here
 
-pub is_chain : (first : Box Expression Global) (rest : Vec Operand Global) → IsExpression first.value → All IsOperand rest.items → IsExpressionLayer (expression.Chain first rest) → IsExpression (views.Chain first rest)
-is_chain first rest first_is rest_is here = subst IsExpression (views.rolls-Chain first rest) (made_expression (expression.Chain first rest) (expression.Chain (box_of IsExpression first first_is) (vec_of IsOperand rest rest_is)) (λ i. expression.Chain first (vec_of_is IsOperand rest rest_is i)) here)
+pub is_chain :
+    (first : Box Expression Global) (rest : Vec Operand Global) → IsExpression first.value → All IsOperand rest.items →
+    IsExpressionLayer (expression.Chain first rest) → IsExpression (views.Chain first rest)
+is_chain first rest first_is rest_is here =
+    made expression_grown (expression.Chain (box_of IsExpression first first_is) (vec_of IsOperand rest rest_is))
+    (views.rolls-Chain first rest) (λ i. expression.Chain first (vec_of_is IsOperand rest rest_is i)) here
 
-pub is_unary : (prefixes : List Prefix) (operand : Box Expression Global) → IsExpression operand.value → IsExpressionLayer (expression.Unary prefixes operand) → IsExpression (views.Unary prefixes operand)
-is_unary prefixes operand operand_is here = subst IsExpression (views.rolls-Unary prefixes operand) (made_expression (expression.Unary prefixes operand) (expression.Unary prefixes (box_of IsExpression operand operand_is)) (λ i. expression.Unary prefixes operand) here)
+pub is_unary :
+    (prefixes : List Prefix) (operand : Box Expression Global) → IsExpression operand.value →
+    IsExpressionLayer (expression.Unary prefixes operand) → IsExpression (views.Unary prefixes operand)
+is_unary prefixes operand operand_is here =
+    made expression_grown (expression.Unary prefixes (box_of IsExpression operand operand_is))
+    (views.rolls-Unary prefixes operand) refl here
 
-pub is_postfix : (primary : Box Expression Global) (suffixes : List Suffix) → IsExpression primary.value → IsExpressionLayer (expression.Postfix primary suffixes) → IsExpression (views.Postfix primary suffixes)
-is_postfix primary suffixes primary_is here = subst IsExpression (views.rolls-Postfix primary suffixes) (made_expression (expression.Postfix primary suffixes) (expression.Postfix (box_of IsExpression primary primary_is) suffixes) (λ i. expression.Postfix primary suffixes) here)
+pub is_postfix :
+    (primary : Box Expression Global) (suffixes : List Suffix) → IsExpression primary.value →
+    IsExpressionLayer (expression.Postfix primary suffixes) → IsExpression (views.Postfix primary suffixes)
+is_postfix primary suffixes primary_is here =
+    made expression_grown (expression.Postfix (box_of IsExpression primary primary_is) suffixes)
+    (views.rolls-Postfix primary suffixes) refl here
 
 pub is_literal : (l : Literal) → IsExpressionLayer (expression.Literal l) → IsExpression (views.made-Literal l)
-is_literal l here = subst IsExpression (views.rolls-Literal l) (made_expression (expression.Literal l) (expression.Literal l) (λ i. expression.Literal l) here)
+is_literal l here = made expression_grown (expression.Literal l) (views.rolls-Literal l) refl here
 
 pub is_name : (n : Name) → IsExpressionLayer (expression.Name n) → IsExpression (views.made-Name n)
-is_name n here = subst IsExpression (views.rolls-Name n) (made_expression (expression.Name n) (expression.Name n) (λ i. expression.Name n) here)
+is_name n here = made expression_grown (expression.Name n) (views.rolls-Name n) refl here
 
-pub is_call : (called : Name) (arguments : Vec Expression Global) → All IsExpression arguments.items → IsExpressionLayer (expression.Call called arguments) → IsExpression (views.Call called arguments)
-is_call called arguments arguments_is here = subst IsExpression (views.rolls-Call called arguments) (made_expression (expression.Call called arguments) (expression.Call called (vec_of IsExpression arguments arguments_is)) (λ i. expression.Call called (vec_of_is IsExpression arguments arguments_is i)) here)
+pub is_call :
+    (called : Name) (arguments : Vec Expression Global) → All IsExpression arguments.items →
+    IsExpressionLayer (expression.Call called arguments) → IsExpression (views.Call called arguments)
+is_call called arguments arguments_is here =
+    made expression_grown (expression.Call called (vec_of IsExpression arguments arguments_is))
+    (views.rolls-Call called arguments)
+    (λ i. expression.Call called (vec_of_is IsExpression arguments arguments_is i)) here
 
 pub is_member : (of : Name) (member : Name) → IsExpressionLayer (expression.Member of member) → IsExpression (views.made-Member of member)
-is_member of member here = subst IsExpression (views.rolls-Member of member) (made_expression (expression.Member of member) (expression.Member of member) (λ i. expression.Member of member) here)
+is_member of member here = made expression_grown (expression.Member of member) (views.rolls-Member of member) refl here
 
-pub is_struct : (of : Name) (fields : Vec FieldValue Global) (close : ℕ) → All IsFieldValue fields.items → IsExpressionLayer (expression.Struct of fields close) → IsExpression (views.Struct of fields close)
-is_struct of fields close fields_is here = subst IsExpression (views.rolls-Struct of fields close) (made_expression (expression.Struct of fields close) (expression.Struct of (vec_of IsFieldValue fields fields_is) close) (λ i. expression.Struct of (vec_of_is IsFieldValue fields fields_is i) close) here)
+pub is_struct :
+    (of : Name) (fields : Vec FieldValue Global) (close : ℕ) → All IsFieldValue fields.items →
+    IsExpressionLayer (expression.Struct of fields close) → IsExpression (views.Struct of fields close)
+is_struct of fields close fields_is here =
+    made expression_grown (expression.Struct of (vec_of IsFieldValue fields fields_is) close)
+    (views.rolls-Struct of fields close)
+    (λ i. expression.Struct of (vec_of_is IsFieldValue fields fields_is i) close) here
 
 pub is_array : (place : ℕ) (elements : Vec Expression Global) → All IsExpression elements.items → IsExpressionLayer (expression.Array place elements) → IsExpression (views.Array place elements)
-is_array place elements elements_is here = subst IsExpression (views.rolls-Array place elements) (made_expression (expression.Array place elements) (expression.Array place (vec_of IsExpression elements elements_is)) (λ i. expression.Array place (vec_of_is IsExpression elements elements_is i)) here)
+is_array place elements elements_is here =
+    made expression_grown (expression.Array place (vec_of IsExpression elements elements_is))
+    (views.rolls-Array place elements)
+    (λ i. expression.Array place (vec_of_is IsExpression elements elements_is i)) here
 
 pub is_parentheses : (place : ℕ) (inside : Box Expression Global) → IsExpression inside.value → IsExpressionLayer (expression.Parentheses place inside) → IsExpression (views.Parentheses place inside)
-is_parentheses place inside inside_is here = subst IsExpression (views.rolls-Parentheses place inside) (made_expression (expression.Parentheses place inside) (expression.Parentheses place (box_of IsExpression inside inside_is)) (λ i. expression.Parentheses place inside) here)
+is_parentheses place inside inside_is here =
+    made expression_grown (expression.Parentheses place (box_of IsExpression inside inside_is))
+    (views.rolls-Parentheses place inside) refl here
 
 pub is_block_expression : (block : Block) → IsBlock block → IsExpressionLayer (expression.Block block) → IsExpression (views.Block block)
-is_block_expression block block_is here = subst IsExpression (views.rolls-Block block) (made_expression (expression.Block block) (expression.Block (block, block_is)) (λ i. expression.Block block) here)
+is_block_expression block block_is here =
+    made expression_grown (expression.Block (block, block_is)) (views.rolls-Block block) refl here
 
 pub is_read : (place : ℕ) (port : ℕ) (register : Name) → IsExpressionLayer (expression.Read place port register) → IsExpression (views.made-Read place port register)
-is_read place port register here = subst IsExpression (views.rolls-Read place port register) (made_expression (expression.Read place port register) (expression.Read place port register) (λ i. expression.Read place port register) here)
+is_read place port register here =
+    made expression_grown (expression.Read place port register) (views.rolls-Read place port register) refl here
 
-pub is_write : (place : ℕ) (port : ℕ) (register : Name) (value : Box Expression Global) → IsExpression value.value → IsExpressionLayer (expression.Write place port register value) → IsExpression (views.Write place port register value)
-is_write place port register value value_is here = subst IsExpression (views.rolls-Write place port register value) (made_expression (expression.Write place port register value) (expression.Write place port register (box_of IsExpression value value_is)) (λ i. expression.Write place port register value) here)
+pub is_write :
+    (place : ℕ) (port : ℕ) (register : Name) (value : Box Expression Global) → IsExpression value.value →
+    IsExpressionLayer (expression.Write place port register value) →
+    IsExpression (views.Write place port register value)
+is_write place port register value value_is here =
+    made expression_grown (expression.Write place port register (box_of IsExpression value value_is))
+    (views.rolls-Write place port register value) refl here
 
 pub is_abort : (place : ℕ) → IsExpressionLayer (expression.Abort place) → IsExpression (views.made-Abort place)
-is_abort place here = subst IsExpression (views.rolls-Abort place) (made_expression (expression.Abort place) (expression.Abort place) (λ i. expression.Abort place) here)
+is_abort place here = made expression_grown (expression.Abort place) (views.rolls-Abort place) refl here
 
 pub is_pack : (place : ℕ) (value : Box Expression Global) → IsExpression value.value → IsExpressionLayer (expression.Pack place value) → IsExpression (views.Pack place value)
-is_pack place value value_is here = subst IsExpression (views.rolls-Pack place value) (made_expression (expression.Pack place value) (expression.Pack place (box_of IsExpression value value_is)) (λ i. expression.Pack place value) here)
+is_pack place value value_is here =
+    made expression_grown (expression.Pack place (box_of IsExpression value value_is))
+    (views.rolls-Pack place value) refl here
 
-pub is_unpack : (place : ℕ) (to : TypeExpression) (value : Box Expression Global) → IsExpression value.value → IsExpressionLayer (expression.Unpack place to value) → IsExpression (views.Unpack place to value)
-is_unpack place to value value_is here = subst IsExpression (views.rolls-Unpack place to value) (made_expression (expression.Unpack place to value) (expression.Unpack place to (box_of IsExpression value value_is)) (λ i. expression.Unpack place to value) here)
+pub is_unpack :
+    (place : ℕ) (to : TypeExpression) (value : Box Expression Global) → IsExpression value.value →
+    IsExpressionLayer (expression.Unpack place to value) → IsExpression (views.Unpack place to value)
+is_unpack place to value value_is here =
+    made expression_grown (expression.Unpack place to (box_of IsExpression value value_is))
+    (views.rolls-Unpack place to value) refl here
 
-pub is_extend : (place : ℕ) (extension : Extension) (value : Box Expression Global) (width : Number) → IsExpression value.value → IsExpressionLayer (expression.Extend place extension value width) → IsExpression (views.Extend place extension value width)
-is_extend place extension value width value_is here = subst IsExpression (views.rolls-Extend place extension value width) (made_expression (expression.Extend place extension value width) (expression.Extend place extension (box_of IsExpression value value_is) width) (λ i. expression.Extend place extension value width) here)
+pub is_extend :
+    (place : ℕ) (extension : Extension) (value : Box Expression Global) (width : Number) → IsExpression value.value →
+    IsExpressionLayer (expression.Extend place extension value width) →
+    IsExpression (views.Extend place extension value width)
+is_extend place extension value width value_is here =
+    made expression_grown (expression.Extend place extension (box_of IsExpression value value_is) width)
+    (views.rolls-Extend place extension value width) refl here
 
-pub is_compare : (place : ℕ) (comparison : SignedComparison) (left : Box Expression Global) (right : Box Expression Global) → IsExpression left.value → IsExpression right.value → IsExpressionLayer (expression.Compare place comparison left right) → IsExpression (views.Compare place comparison left right)
-is_compare place comparison left right left_is right_is here = subst IsExpression (views.rolls-Compare place comparison left right) (made_expression (expression.Compare place comparison left right) (expression.Compare place comparison (box_of IsExpression left left_is) (box_of IsExpression right right_is)) (λ i. expression.Compare place comparison left right) here)
+pub is_compare :
+    (place : ℕ) (comparison : SignedComparison) (left : Box Expression Global) (right : Box Expression Global) →
+    IsExpression left.value → IsExpression right.value →
+    IsExpressionLayer (expression.Compare place comparison left right) →
+    IsExpression (views.Compare place comparison left right)
+is_compare place comparison left right left_is right_is here =
+    made expression_grown (expression.Compare place comparison (box_of IsExpression left left_is) (box_of IsExpression right right_is))
+    (views.rolls-Compare place comparison left right) refl here
 
-pub is_update : (place : ℕ) (whole : Box Expression Global) (part : UpdatedPart) (value : Box Expression Global) → IsExpression whole.value → IsExpression value.value → IsExpressionLayer (expression.Update place whole part value) → IsExpression (views.Update place whole part value)
-is_update place whole part value whole_is value_is here = subst IsExpression (views.rolls-Update place whole part value) (made_expression (expression.Update place whole part value) (expression.Update place (box_of IsExpression whole whole_is) part (box_of IsExpression value value_is)) (λ i. expression.Update place whole part value) here)
+pub is_update :
+    (place : ℕ) (whole : Box Expression Global) (part : UpdatedPart) (value : Box Expression Global) →
+    IsExpression whole.value → IsExpression value.value → IsExpressionLayer (expression.Update place whole part value) →
+    IsExpression (views.Update place whole part value)
+is_update place whole part value whole_is value_is here =
+    made expression_grown (expression.Update place (box_of IsExpression whole whole_is) part (box_of IsExpression value value_is))
+    (views.rolls-Update place whole part value) refl here
 
 pub is_let : (n : Name) (value : Expression) → IsName n → IsExpression value → IsStatement (views.made-Let n value)
-is_let n value named value_is = subst IsStatement (views.rolls-Let n value) (made_statement (expression.Let n value) (expression.Let n (value, value_is)) refl named)
+is_let n value named value_is =
+    made statement_grown (expression.Let n (value, value_is)) (views.rolls-Let n value) refl named
 
 pub is_do : (value : Expression) → IsExpression value → IsStatement (views.made-Do value)
-is_do value value_is = subst IsStatement (views.rolls-Do value) (made_statement (expression.Do value) (expression.Do (value, value_is)) refl tt)
+is_do value value_is = made statement_grown (expression.Do (value, value_is)) (views.rolls-Do value) refl tt
 
-pub is_arm : (place : ℕ) (condition : Expression) (body : Block) → IsExpression condition → 0 < level condition → IsBlock body → IsArm (roll-Arm (record { place = place; condition = condition; body = body }))
+pub is_arm :
+    (place : ℕ) (condition : Expression) (body : Block) → IsExpression condition → 0 < level condition → IsBlock body →
+    IsArm (roll-Arm (record { place = place; condition = condition; body = body }))
 is_arm place condition body condition_is above body_is =
-    made_arm (record { place = place; condition = condition; body = body }) (record { place = place; condition = (condition, condition_is); body = (body, body_is) }) refl above
+    made arm_grown (record { place = place; condition = (condition, condition_is); body = (body, body_is) }) refl refl above
 
 pub is_block : (place : ℕ) (statements : Vec Statement Global) (value : Option (Box Expression Global)) → All IsStatement statements.items → IfSome value (λ v. IsExpression v.value) →
     IsBlock (roll-Block (record { place = place; statements = statements; value = value }))
-is_block place statements None statements_is value_is = made_block (record { place = place; statements = statements; value = None })
-    (record { place = place; statements = vec_of IsStatement statements statements_is; value = None }) (λ i. record { place = place; statements = vec_of_is IsStatement statements statements_is i; value = None }) tt
-is_block place statements (Some v) statements_is value_is = made_block (record { place = place; statements = statements; value = Some v })
-    (record { place = place; statements = vec_of IsStatement statements statements_is; value = Some (box_of IsExpression v value_is) }) (λ i. record { place = place; statements = vec_of_is IsStatement statements statements_is i; value = Some v }) tt
+is_block place statements None statements_is value_is =
+    made block_grown (record { place = place; statements = vec_of IsStatement statements statements_is; value = None }) refl
+    (λ i. record { place = place; statements = vec_of_is IsStatement statements statements_is i; value = None }) tt
+is_block place statements (Some v) statements_is value_is =
+    let last = Some (box_of IsExpression v value_is) in
+    made block_grown (record { place = place; statements = vec_of IsStatement statements statements_is; value = last }) refl
+    (λ i. record { place = place; statements = vec_of_is IsStatement statements statements_is i; value = Some v }) tt
 
 pub is_field_value : (n : Name) (value : Expression) → IsName n → IsExpression value → IsFieldValue (roll-FieldValue (record { name = n; value = value }))
-is_field_value n value named value_is = made_field_value (record { name = n; value = value }) (record { name = n; value = (value, value_is) }) refl named
+is_field_value n value named value_is =
+    made field_value_grown (record { name = n; value = (value, value_is) }) refl refl named
 
 pub is_operand : (operator : BinaryOperator) (operand : Expression) → IsExpression operand → IsOperand (roll-Operand (record { operator = operator; operand = operand }))
-is_operand operator operand operand_is = made_operand (record { operator = operator; operand = operand }) (record { operator = operator; operand = (operand, operand_is) }) refl tt
+is_operand operator operand operand_is =
+    made operand_grown (record { operator = operator; operand = (operand, operand_is) }) refl refl tt
 
 pub is_constant_field : (n : Name) (value : Constant) → IsName n → IsConstant value → IsConstantField (roll-ConstantField (record { name = n; value = value }))
-is_constant_field n value named value_is = made_constant_field (record { name = n; value = value }) (record { name = n; value = (value, value_is) }) refl named
+is_constant_field n value named value_is =
+    made constant_field_grown (record { name = n; value = (value, value_is) }) refl refl named
 
 pub is_choice : (rule : Name) (taken other : Scheduler) → IsName rule → IsScheduler taken → IsScheduler other → IsChoice (roll-Choice (record { rule = rule; then = taken; otherwise = other }))
-is_choice rule taken other named taken_is other_is = made_choice (record { rule = rule; then = taken; otherwise = other }) (record { rule = rule; then = (taken, taken_is); otherwise = (other, other_is) }) refl named
+is_choice rule taken other named taken_is other_is =
+    made choice_grown (record { rule = rule; then = (taken, taken_is); otherwise = (other, other_is) }) refl refl named
 
-pub is_scheduler : (rules : List Name) (last : Option (Box Choice Global)) → All IsName rules → IfSome last (λ choice. IsChoice choice.value) → IsScheduler (roll-Scheduler (record { rules = rules; last = last }))
-is_scheduler rules None named last_is = made_scheduler (record { rules = rules; last = None }) (record { rules = rules; last = None }) refl named
-is_scheduler rules (Some choice) named last_is = made_scheduler (record { rules = rules; last = Some choice }) (record { rules = rules; last = Some (box_of IsChoice choice last_is) }) refl named
+pub is_scheduler :
+    (rules : List Name) (last : Option (Box Choice Global)) → All IsName rules →
+    IfSome last (λ choice. IsChoice choice.value) → IsScheduler (roll-Scheduler (record { rules = rules; last = last }))
+is_scheduler rules None named last_is = made scheduler_grown (record { rules = rules; last = None }) refl refl named
+is_scheduler rules (Some choice) named last_is =
+    made scheduler_grown (record { rules = rules; last = Some (box_of IsChoice choice last_is) }) refl refl named
 
-pub is_chain_at : (k : ℕ) (first : Box Expression Global) (rest : Vec Operand Global) (operand : Operand) (operands : List Operand) → rest.items ≡ operand ∷ operands → All (IsOperandAt k) rest.items → k < level first.value →
+pub is_chain_at :
+    (k : ℕ) (first : Box Expression Global) (rest : Vec Operand Global) (operand : Operand) (operands : List Operand) →
+    rest.items ≡ operand ∷ operands → All (IsOperandAt k) rest.items → k < level first.value →
     IsExpressionLayer (expression.Chain first rest)
 is_chain_at k first rest operand operands e fit above =
     let all : All (IsOperandAt k) (operand ∷ operands) = subst (λ xs. All (IsOperandAt k) xs) e fit in
     let same : level_of (out-Operand operand).operator ≡ k = (All-head (IsOperandAt k) operand operands all).0 in
     rw e (omega arith, subst (λ n. n < level first.value) (sym same) above, subst (λ n. All (IsOperandAt n) (operand ∷ operands)) (sym same) all)
 
-pub level_chain : (k : ℕ) (first : Box Expression Global) (rest : Vec Operand Global) (operand : Operand) (operands : List Operand) → rest.items ≡ operand ∷ operands → All (IsOperandAt k) rest.items → level (views.Chain first rest) ≡ k
+pub level_chain :
+    (k : ℕ) (first : Box Expression Global) (rest : Vec Operand Global) (operand : Operand) (operands : List Operand) →
+    rest.items ≡ operand ∷ operands → All (IsOperandAt k) rest.items → level (views.Chain first rest) ≡ k
 level_chain k first rest operand operands e fit =
     let all : All (IsOperandAt k) (operand ∷ operands) = subst (λ xs. All (IsOperandAt k) xs) e fit in
     let same : level_of (out-Operand operand).operator ≡ k = (All-head (IsOperandAt k) operand operands all).0 in
     rw (views.outs-Chain first rest, e) same
 
 -- an operand stands where its chain is looser
-pub is_operand_at : (k : ℕ) (operator : BinaryOperator) (operand : Expression) → level_of operator ≡ k → k < level operand → IsOperandAt k (roll-Operand (record { operator = operator; operand = operand }))
-is_operand_at k operator operand same above = subst (λ layer. (level_of layer.operator ≡ k) × (k < level layer.operand)) (sym (out-roll-Operand (record { operator = operator; operand = operand }))) (same, above)
+pub is_operand_at :
+    (k : ℕ) (operator : BinaryOperator) (operand : Expression) → level_of operator ≡ k → k < level operand →
+    IsOperandAt k (roll-Operand (record { operator = operator; operand = operand }))
+is_operand_at k operator operand same above =
+    subst (λ layer. (level_of layer.operator ≡ k) × (k < level layer.operand))
+    (sym (out-roll-Operand (record { operator = operator; operand = operand }))) (same, above)
 
 -- the operands of a chain have its level
-chain_layer : (k : ℕ) (first : Box Expression Global) (rest : Vec Operand Global) (operands : List Operand) → rest.items ≡ operands → IsNonempty operands → All (IsOperandAt k) rest.items → k < level first.value →
+chain_layer :
+    (k : ℕ) (first : Box Expression Global) (rest : Vec Operand Global) (operands : List Operand) →
+    rest.items ≡ operands → IsNonempty operands → All (IsOperandAt k) rest.items → k < level first.value →
     IsExpressionLayer (expression.Chain first rest) × (level (views.Chain first rest) ≡ k)
 chain_layer k first rest [] e some fit above = absurd (omega (arith, some))
 chain_layer k first rest (operand ∷ operands) e some fit above = (is_chain_at k first rest operand operands e fit above, level_chain k first rest operand operands e fit)
 
-pub is_chain_of : (k : ℕ) (first : Box Expression Global) (rest : Vec Operand Global) → IsNonempty rest.items → All (IsOperandIn k) rest.items → k < level first.value → IsExpression first.value → IsExpression (views.Chain first rest)
+pub is_chain_of :
+    (k : ℕ) (first : Box Expression Global) (rest : Vec Operand Global) → IsNonempty rest.items →
+    All (IsOperandIn k) rest.items → k < level first.value → IsExpression first.value →
+    IsExpression (views.Chain first rest)
 is_chain_of k first rest some all above is =
     is_chain first rest is (λ i d lt. (all i d lt).0) (chain_layer k first rest rest.items refl some (λ i d lt. (all i d lt).1) above).0
 
-pub level_chain_of : (k : ℕ) (first : Box Expression Global) (rest : Vec Operand Global) → IsNonempty rest.items → All (IsOperandIn k) rest.items → k < level first.value → level (views.Chain first rest) ≡ k
+pub level_chain_of :
+    (k : ℕ) (first : Box Expression Global) (rest : Vec Operand Global) → IsNonempty rest.items →
+    All (IsOperandIn k) rest.items → k < level first.value → level (views.Chain first rest) ≡ k
 level_chain_of k first rest some all above = (chain_layer k first rest rest.items refl some (λ i d lt. (all i d lt).1) above).1
 
 pub level_unary : (prefixes : List Prefix) (operand : Box Expression Global) → level (views.Unary prefixes operand) ≡ 10

@@ -73,7 +73,8 @@ open_behind_next source old d terminal within at_terminal =
 
 -- one token
 pub one_token : (source : Source) (old new : Cursor) (d : Token) (terminal : Terminal) → old.at < length source.tokens.now → next source old ≡ Some terminal → new.at ≡ old.at + 1 →
-    new.depth ≡ open_behind_kind old.depth (get_or source.tokens.now old.at d).kind → (old.depth ≤ 64 → new.depth ≤ 64) → Reads source old new (placed terminal (get_or source.tokens.now old.at d).start)
+    new.depth ≡ open_behind_kind old.depth (get_or source.tokens.now old.at d).kind → (old.depth ≤ 64 → new.depth ≤ 64) →
+    Reads source old new (placed terminal (get_or source.tokens.now old.at d).start)
 one_token source old new d terminal within at_terminal forward depth few =
     let text = source.text.now in
     let all = source.tokens.now in
@@ -104,11 +105,13 @@ pub as_leaves : {source : Source} {old new : Cursor} {xs : List Leaf} (ys : List
 as_leaves {source} {old} {new} ys same r = subst (λ l. Reads source old new l) (sym same) r
 
 -- a token behind it leaves fewer
-pub shorter_behind : {source : Source} {old mid new : Cursor} {leaf : Leaf} {xs leaves : List Leaf} → Reads source old mid xs → Reads source mid new (leaf ∷ leaves) → tokens_left source new < tokens_left source old
+pub shorter_behind : {source : Source} {old mid new : Cursor} {leaf : Leaf} {xs leaves : List Leaf} →
+    Reads source old mid xs → Reads source mid new (leaf ∷ leaves) → tokens_left source new < tokens_left source old
 shorter_behind p q = omega (arith, p.left, q.left)
 
 -- all of the tokens have been read
-pub whole : {source : Source} {old new : Cursor} {leaves : List Leaf} → Reads source old new leaves → old.at ≡ 0 → length source.tokens.now ≤ new.at → AllZip (IsLeafAt source.text.now) leaves source.tokens.now
+pub whole : {source : Source} {old new : Cursor} {leaves : List Leaf} → Reads source old new leaves →
+    old.at ≡ 0 → length source.tokens.now ≤ new.at → AllZip (IsLeafAt source.text.now) leaves source.tokens.now
 whole {source} {old} {new} {leaves} r begins ends =
     let all = source.tokens.now in
     let none : drop new.at all ≡ [] = drop_all new.at all ends in

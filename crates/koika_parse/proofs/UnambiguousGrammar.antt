@@ -278,7 +278,8 @@ rule = taking (λ n. skip (give (n ∷ [])))
 
 abbrev pub last_at : Reader → List Outline → Terminal → ℕ → Reader
 last_at r rules (keyword keywords.Try) p =
-    taking (λ n. skip (skip (then r (λ yes_rules. skip (skip (then r (λ no_rules. skip (give (node (codes "rules") (listed rules ∷ node (codes "last") (node (codes "try") (n ∷ yes_rules ++ no_rules) ∷ []) ∷ []) ∷ [])))))))))
+    taking (λ n. skip (skip (then r (λ yes_rules. skip (skip (then r (λ no_rules.
+    skip (give (node (codes "rules") (listed rules ∷ node (codes "last") (node (codes "try") (n ∷ yes_rules ++ no_rules) ∷ []) ∷ []) ∷ [])))))))))
 last_at r rules _ p = give (node (codes "rules") (listed rules ∷ []) ∷ [])
 
 abbrev pub schedulers : ℕ → Reader

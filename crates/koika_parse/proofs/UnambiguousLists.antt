@@ -1,12 +1,15 @@
 -- Parts with commas between them, and a part with a run behind it, as readers read them.
-use Rattle.std.proofs.Common.{◌≡◌, ℕ, suc, ◌<◌, ◌≤◌, Bool, true, false, Option, Some, None, List, [], ◌∷◌, ◌++◌, length, map, refl, ap, sym, subst, arith, length-append, append-nil, append_assoc, ◌∙◌}
+use Rattle.std.proofs.Common.{◌≡◌, ℕ, suc, ◌<◌, ◌≤◌, Bool, true, false, Option, Some, None, List, [], ◌∷◌, ◌++◌, length}
+use Rattle.std.proofs.Common.{map, refl, ap, sym, subst, arith, length-append, append-nil, append_assoc, ◌∙◌}
 use Rattle.std.specs.List.{flat_map, AllByRecursion}
 use Rattle.std.proofs.lemmas.List.Folds.{flat_map-map}
 use Rattle.std.proofs.lemmas.Bool.{eqb-true, ne_eqb}
 use Rattle.koika_syntax.specs.Tree.{Leaf, Terminal, symbol, sign, commas, with_between}
 use Rattle.koika_syntax.specs.declared.symbol.Symbol.TheVariants as symbols
 use Rattle.koika_parse.specs.Outline.{Outline, node}
-use Rattle.koika_parse.proofs.UnambiguousReaders.{Reader, Reads, Leads, Refuses, run, give, then, many, skip, reads_give, reads_then, reads_map, reads_peek, reads_skip, leads_end, more_leads, reads_many, after}
+use Rattle.koika_parse.proofs.UnambiguousReaders.{Reader, Reads, ReadsEach, Leads, Refuses, run, give, then, many, skip}
+use Rattle.koika_parse.proofs.UnambiguousReaders.{reads_give, reads_then, reads_map, reads_peek, reads_skip, leads_end}
+use Rattle.koika_parse.proofs.UnambiguousReaders.{more_leads, reads_many, after}
 use Rattle.koika_parse.proofs.UnambiguousGrammar.{Free, grip, grips, is_comma, separated, run_on}
 
 -- leaves grouped to the right
@@ -38,15 +41,16 @@ pub freer : (k l : ℕ) → k ≤ l → (next : Option Terminal) → Free k next
 freer k l le next free = omega (arith, le, free)
 
 module _ {at : ℕ → ℕ} {E : Type 0} {r : Reader} (leaves : E → List Leaf) (out : E → Outline) (Is : E → Type 0) (n : ℕ)
-    (claim : (e : E) → Is e → length (leaves e) ≤ n → Reads at r (leaves e) (out e ∷ []) (Free 0)) where
+    (claim : ReadsEach at r Is leaves out n (Free 0)) where
   abbrev comma_leaves : E → List Leaf
   comma_leaves e = record { terminal = symbol symbols.Comma; place = None } ∷ leaves e
 
-  later : (e : E) → Is e → length (comma_leaves e) ≤ n → Reads at (skip r) (comma_leaves e) (out e ∷ []) (Free 0)
+  later : ReadsEach at (skip r) Is comma_leaves out n (Free 0)
   later e is within = reads_skip (claim e is (omega (arith, within)))
 
   -- at least one part
-  pub reads_separated : (m : ℕ) (es : List E) → 0 < length es → AllByRecursion Is es → length (commas (map leaves es)) ≤ n → length (commas (map leaves es)) ≤ m →
+  pub reads_separated : (m : ℕ) (es : List E) → 0 < length es → AllByRecursion Is es →
+      length (commas (map leaves es)) ≤ n → length (commas (map leaves es)) ≤ m →
       Reads at (separated r m) (commas (map leaves es)) (map out es) Closes
   unfolding with_between
   reads_separated m [] some all within short = absurd (omega (arith, some))
@@ -54,12 +58,13 @@ module _ {at : ℕ → ℕ} {E : Type 0} {r : Reader} (leaves : E → List Leaf)
       let same = flat_map-map (λ part. sign symbols.Comma ++ part) leaves es in
       let within' : length (leaves e ++ flat_map comma_leaves es) ≤ n = subst (λ l. length (leaves e ++ l) ≤ n) same within in
       let short' : length (leaves e ++ flat_map comma_leaves es) ≤ m = subst (λ l. length (leaves e ++ l) ≤ m) same short in
+      let len = length-append (leaves e) (flat_map comma_leaves es) in
       subst (λ l. Reads at (separated r m) (leaves e ++ l) (out e ∷ map out es) Closes) (sym same)
-      (reads_then (claim e all.0 (omega (arith, length-append (leaves e) (flat_map comma_leaves es))))
+      (reads_then (claim e all.0 (omega (arith, len)))
       (more_leads {test = is_comma} {r = skip r} comma_leaves out Is (Free 0) Closes n later (λ e is. refl) comma_free (λ next closes. closes.0) (λ next closes. closes.1) es all.1)
       (reads_map {f = λ xs. out e ∷ xs}
       (reads_many {test = is_comma} {r = skip r} comma_leaves out Is (Free 0) Closes n later (λ e is. refl) comma_free (λ next closes. closes.0) (λ next closes. closes.1)
-      m es all.1 (omega (arith, length-append (leaves e) (flat_map comma_leaves es))) (omega (arith, length-append (leaves e) (flat_map comma_leaves es))))))
+      m es all.1 (omega (arith, len)) (omega (arith, len)))))
 
 module _ {at : ℕ → ℕ} where
   -- the same leaves, grouped otherwise
@@ -79,7 +84,8 @@ module _ {at : ℕ → ℕ} where
 
   -- a part with a run behind it
   pub reads_run : {r s : Reader} {ls ms : List Leaf} {x o : Outline} {os : List Outline} {M F : Option Terminal → Type 0} (production : List ℕ) →
-      Reads at r ls (x ∷ []) M → Leads at M ms F → Reads at s ms (o ∷ os) F → Reads at (then r (λ x. then s (λ xs. give (run_on production x xs)))) (ls ++ ms) (node production (x ∷ o ∷ os) ∷ []) F
+      Reads at r ls (x ∷ []) M → Leads at M ms F → Reads at s ms (o ∷ os) F →
+      Reads at (then r (λ x. then s (λ xs. give (run_on production x xs)))) (ls ++ ms) (node production (x ∷ o ∷ os) ∷ []) F
   reads_run {x = x} production h lead k = reads_then h lead (reads_map {f = run_on production (x ∷ [])} k)
 
 -- what begins with a reader that refuses is refused

@@ -1,6 +1,7 @@
 -- Readers of tokens, and what they read: a reader of a part takes the tokens of the part's leaves, whatever follows
 -- that doesn't continue the part, and gives its outline.
-use Rattle.std.proofs.Common.{◌≡◌, ℕ, zero, suc, ◌≤◌, Bool, true, false, cond, Option, Some, None, IfSome, List, [], ◌∷◌, ◌++◌, length, map, refl, ap, sym, subst, ◌∙◌, append_assoc, arith, length-append}
+use Rattle.std.proofs.Common.{◌≡◌, ℕ, zero, suc, ◌≤◌, Bool, true, false, cond, Option, Some, None, IfSome, List, []}
+use Rattle.std.proofs.Common.{◌∷◌, ◌++◌, length, map, refl, ap, sym, subst, ◌∙◌, append_assoc, arith, length-append}
 use Rattle.std.specs.Prelude.{⊤}
 use Rattle.std.specs.List.{flat_map, AllByRecursion}
 use Rattle.koika_syntax.specs.Tree.{Leaf, Terminal}
@@ -76,6 +77,13 @@ pub record Leads (at : ℕ → ℕ) (Mid : Option Terminal → Type 0) (leaves :
 abbrev pub Any : Option Terminal → Type 0
 Any next = ⊤
 
+-- leaves that are read as this outline, if there are at most n; and each of some parts, as its outline
+abbrev pub ReadsUpTo : {D : Type 0} (at : ℕ → ℕ) (r : Reader) (n : ℕ) (Follow : Option Terminal → Type 0) → D → List Leaf → Outline → Type 0
+ReadsUpTo at r n Follow d leaves outline = length leaves ≤ n → Reads at r leaves (outline ∷ []) Follow
+
+abbrev pub ReadsEach : {E : Type 0} (at : ℕ → ℕ) (r : Reader) (Is : E → Type 0) (leaves : E → List Leaf) (out : E → Outline) (n : ℕ) (Follow : Option Terminal → Type 0) → Type 0
+ReadsEach {E} at r Is leaves out n Follow = (e : E) → Is e → length (leaves e) ≤ n → Reads at r (leaves e) (out e ∷ []) Follow
+
 -- leaves that begin so
 abbrev pub Begins : (Option Terminal → Bool) → List Leaf → Type 0
 Begins test [] = ⊥
@@ -133,7 +141,9 @@ module _ {at : ℕ → ℕ} where
       go items rest shows follow =
           let parts = split ls ms items shows in
           let whole = ap (λ s. s ++ rest) parts.2 ∙ append_assoc parts.0 parts.1 rest in
-          ap (λ s. after (λ outlines. run (next outlines)) (run r s)) whole ∙ ap (after (λ outlines. run (next outlines))) (h.reads parts.0 (parts.1 ++ rest) parts.3 (lead.leads parts.1 rest parts.4 follow)) ∙ k.reads parts.1 rest parts.4 follow
+          let behind : Found → Found = after (λ outlines. run (next outlines)) in
+          let part = h.reads parts.0 (parts.1 ++ rest) parts.3 (lead.leads parts.1 rest parts.4 follow) in
+          ap (λ s. behind (run r s)) whole ∙ ap behind part ∙ k.reads parts.1 rest parts.4 follow
 
   pub reads_map : {r : Reader} {f : List Outline → List Outline} {ls : List Leaf} {xs : List Outline} {F : Option Terminal → Type 0} →
       Reads at r ls xs F → Reads at (then r (λ xs. give (f xs))) ls (f xs) F
@@ -142,7 +152,9 @@ module _ {at : ℕ → ℕ} where
   pub reads_peek : {test : Option Terminal → Bool} {r s : Reader} (answer : Bool) {ls : List Leaf} {xs : List Outline} {F : Option Terminal → Type 0} →
       Leads at (λ next. test next ≡ answer) ls F → Reads at (cond answer r s) ls xs F → Reads at (peek test r s) ls xs F
   reads_peek {test = test} {r = r} {s = s} answer {xs = xs} lead h = record {
-    reads = λ items rest shows follow. ap (λ b. cond b (run r (items ++ rest)) (run s (items ++ rest))) (lead.leads items rest shows follow) ∙ each answer (items ++ rest) ∙ h.reads items rest shows follow;
+    reads = λ items rest shows follow.
+        let all = items ++ rest in
+        ap (λ b. cond b (run r all) (run s all)) (lead.leads items rest shows follow) ∙ each answer all ∙ h.reads items rest shows follow;
   }
     where
       each : (b : Bool) (items : List Item) → cond b (run r items) (run s items) ≡ run (cond b r s) items
@@ -174,7 +186,8 @@ module _ {at : ℕ → ℕ} where
   leads_begins test (leaf ∷ ls) ms b = leads_head b
 
   -- the same, where less may follow
-  pub reads_before : {r : Reader} {ls : List Leaf} {xs : List Outline} {F G : Option Terminal → Type 0} → Reads at r ls xs F → ((next : Option Terminal) → G next → F next) → Reads at r ls xs G
+  pub reads_before : {r : Reader} {ls : List Leaf} {xs : List Outline} {F G : Option Terminal → Type 0} →
+      Reads at r ls xs F → ((next : Option Terminal) → G next → F next) → Reads at r ls xs G
   reads_before h less = record { reads = λ items rest shows follow. h.reads items rest shows (less (first rest) follow) }
 
   pub reads_or : {r s : Reader} {ls : List Leaf} {xs : List Outline} {F : Option Terminal → Type 0} → Reads at r ls xs F → Reads at (or r s) ls xs F
@@ -191,6 +204,11 @@ module _ {at : ℕ → ℕ} where
           ∙ k.reads (item t q ∷ items) rest shows follow
 
 module _ {at : ℕ → ℕ} where
+  -- a part, and a token behind it that is skipped
+  pub reads_closed : {r : Reader} {next : List Outline → Reader} {ls ms : List Leaf} (leaf : Leaf) {xs ys : List Outline} {M F : Option Terminal → Type 0} →
+      Reads at r ls xs M → M (Some leaf.terminal) → Reads at (next xs) ms ys F → Reads at (then r (λ xs. skip (next xs))) (ls ++ (leaf ∷ ms)) ys F
+  reads_closed {next = next} leaf h closes k = reads_then {next = λ xs. skip (next xs)} h (leads_head closes) (reads_skip k)
+
   -- the same, where the first token is known and not written out
   pub reads_refused : {r s : Reader} {t : Terminal} {ls : List Leaf} {xs : List Outline} {F : Option Terminal → Type 0} →
       Leads at (λ next. next ≡ Some t) ls F → Refuses r t → Reads at s ls xs F → Reads at (or r s) ls xs F
@@ -210,8 +228,9 @@ no_leaf : (test : Option Terminal → Bool) (ls ms : List Leaf) → Begins test 
 no_leaf test [] ms b le = b
 no_leaf test (leaf ∷ ls) ms b le = omega arith
 
-module _ {at : ℕ → ℕ} {E : Type 0} {test : Option Terminal → Bool} {r : Reader} (leaves : E → List Leaf) (out : E → Outline) (Is : E → Type 0) (M F : Option Terminal → Type 0) (n : ℕ)
-    (claim : (e : E) → Is e → length (leaves e) ≤ n → Reads at r (leaves e) (out e ∷ []) M)
+module _ {at : ℕ → ℕ} {E : Type 0} {test : Option Terminal → Bool} {r : Reader} (leaves : E → List Leaf) (out : E → Outline)
+    (Is : E → Type 0) (M F : Option Terminal → Type 0) (n : ℕ)
+    (claim : ReadsEach at r Is leaves out n M)
     (begins : (e : E) → Is e → Begins test (leaves e))
     (again : (next : Option Terminal) → test next ≡ true → M next)
     (ends : (next : Option Terminal) → F next → M next)
@@ -221,11 +240,15 @@ module _ {at : ℕ → ℕ} {E : Type 0} {test : Option Terminal → Bool} {r : 
   more_leads (e ∷ es) all = leads_as (leads_begins test (leaves e) (flat_map leaves es) (begins e all.0)) again
 
   -- many parts are read
-  pub reads_many : (m : ℕ) (es : List E) → AllByRecursion Is es → length (flat_map leaves es) ≤ n → length (flat_map leaves es) ≤ m → Reads at (many test r m) (flat_map leaves es) (map out es) F
+  pub reads_many : (m : ℕ) (es : List E) → AllByRecursion Is es → length (flat_map leaves es) ≤ n → length (flat_map leaves es) ≤ m →
+      Reads at (many test r m) (flat_map leaves es) (map out es) F
   reads_many zero [] all within short = reads_give
   reads_many (suc m) [] all within short = reads_peek false (leads_end stops) reads_give
   reads_many zero (e ∷ es) all within short = absurd (no_leaf test (leaves e) (flat_map leaves es) (begins e all.0) short)
   reads_many (suc m) (e ∷ es) all within short =
-      reads_peek true (leads_begins test (leaves e) (flat_map leaves es) (begins e all.0))
-      (reads_then (claim e all.0 (omega (arith, length-append (leaves e) (flat_map leaves es)))) (more_leads es all.1)
-      (reads_map {f = λ xs. out e ∷ xs} (reads_many m es all.1 (omega (arith, length-append (leaves e) (flat_map leaves es))) (some_leaf test (leaves e) (flat_map leaves es) m (begins e all.0) short))))
+      let rest = flat_map leaves es in
+      let len = length-append (leaves e) rest in
+      let short' = some_leaf test (leaves e) rest m (begins e all.0) short in
+      reads_peek true (leads_begins test (leaves e) rest (begins e all.0))
+      (reads_then (claim e all.0 (omega (arith, len))) (more_leads es all.1)
+      (reads_map {f = λ xs. out e ∷ xs} (reads_many m es all.1 (omega (arith, len)) short')))

@@ -2,7 +2,9 @@
 use Rattle.std.proofs.Common.{◌≡◌, ℕ, ◌≤◌, None, List, [], ◌∷◌, length, Vec, Box, Global, refl, ap, arith, lit<}
 use Rattle.std.proofs.lemmas.List.Elements.{All-nil}
 use denote.RawPtr.{null_ptr}
-use Rattle.koika_syntax.specs.Grammar.{IsName, NumberFits, LiteralFits, IsWidth, IsType, IsConstant, IsBlock, IsScheduler, IsDeclaration, IsSuffix, type_leaves, constant_leaves, block_leaves, scheduler_leaves, declaration_leaves, suffix_leaves}
+use Rattle.koika_syntax.specs.Grammar.{IsName, NumberFits, LiteralFits, IsWidth, IsType, IsConstant, IsBlock}
+use Rattle.koika_syntax.specs.Grammar.{IsScheduler, IsDeclaration, IsSuffix, type_leaves, constant_leaves, block_leaves}
+use Rattle.koika_syntax.specs.Grammar.{scheduler_leaves, declaration_leaves, suffix_leaves}
 use Rattle.koika_syntax.specs.inner.Grammar.{IsExpression, expression_leaves}
 use Rattle.koika_syntax.specs.Keywords.{keyword_text}
 use Rattle.koika_syntax.specs.Tree.{name_leaves, number_leaves, literal_leaves, width_leaves, in_braces}

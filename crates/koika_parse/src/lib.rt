@@ -1,7 +1,7 @@
 //! From the tokens of a design to its tree.
 //!
 //! What tokens a tree stands for and which trees are the grammar's is in `koika_syntax`;
-//! `specs/Reading.antt` says what a reader of a part has read, and `specs/Laws.antt` what holds of each text.
+//! `specs/inner/Reading.antt` says what a reader of a part has read, and `specs/Laws.antt` what holds of each text.
 //! `koika_top` calls `parse`.
 #![tactic(auto, using(crate::proofs::Reading::reading))]
 

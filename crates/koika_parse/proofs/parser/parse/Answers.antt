@@ -7,7 +7,11 @@ use Rattle.koika_parse.proofs.OneFault.{no_fault, one_refused}
 use Rattle.koika_parse.proofs.parser.parse.Goals as goal
 
 pub invariant_of-source : goal.invariant_of-source
-invariant_of-source c = record { short = search rules; starts = starts_stand c.args.text.now c.args.tokens.now c.requires.stands; names = names_stand c.args.text.now c.args.tokens.now c.requires.stands }
+invariant_of-source c = record {
+  short = search rules;
+  starts = starts_stand c.args.text.now c.args.tokens.now c.requires.stands;
+  names = names_stand c.args.text.now c.args.tokens.now c.requires.stands;
+}
 
 pub returns-in-Ok-clause-derived : goal.returns-in-Ok-clause-derived
 returns-in-Ok-clause-derived c = record { design = c.in-Ok.ensures.is; leaves = whole c.in-Ok.ensures.read refl c.in-Ok.ensures.all }

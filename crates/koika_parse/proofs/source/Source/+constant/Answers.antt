@@ -1,134 +1,222 @@
 use Rattle.koika_syntax.specs.Grammar.{IsConstant, constant_leaves}
 use Rattle.koika_syntax.specs.inner.Grammar.{constant_field_leaves}
-use Rattle.koika_syntax.specs.Tree.{sign, symbol}
+use Rattle.koika_syntax.specs.Tree.{sign}
 use Rattle.koika_syntax.specs.declared.symbol.Symbol.TheVariants as symbols
 use Rattle.koika_syntax.proofs.Leaves.{struct_constant, array_constant}
 use Rattle.koika_parse.specs.inner.Parts.{IsConstantField}
-use Rattle.koika_parse.proofs.Reading.{in_turn, as_leaves}
+use Rattle.koika_parse.proofs.Reading.{as_leaves}
 use Rattle.koika_parse.proofs.Lists.{joined_start, joined_again}
 use Rattle.koika_parse.proofs.Parts.{is_constant_array, is_constant_field, is_constant_member, is_constant_struct}
 use Rattle.koika_parse.proofs.Calls.{leaves_constant_field, leaves_constant_member}
-use Rattle.std.proofs.Common.{refl}
-use Rattle.koika_parse.proofs.Expected.{step, finish, next_part, last_part, fails, fails_before, fails_last, tail, before_one, free_last}
-use Rattle.koika_parse.specs.inner.Expected.{Any, NoComma}
+use Rattle.koika_parse.proofs.Expected.{step, finish, last_part, fails, fails_before, fails_last, tail, free_last, not_so}
+use Rattle.koika_parse.specs.inner.Expected.{Any}
 use Rattle.koika_parse.proofs.Commas.{commas_start, commas_apart, commas_at, commas_end, commas_first, commas_next}
-use Rattle.koika_parse.proofs.ConstantWords.{FieldsTail, constant_array_start, constant_at_bracket, constant_at_name, constant_elsewhere, constant_field_start, constant_fields_listed, constants_listed, named_constant_start, some_fields_tail}
+use Rattle.koika_parse.proofs.ConstantWords.{FieldsTail, constant_array_start, constant_at_bracket, constant_at_name}
+use Rattle.koika_parse.proofs.ConstantWords.{constant_elsewhere, constant_field_start, constant_fields_listed}
+use Rattle.koika_parse.proofs.ConstantWords.{constants_listed, named_constant_start, some_fields_tail}
 use Rattle.koika_parse.proofs.Rows.{name_not_brace, brace_not_name}
+use Rattle.koika_parse.proofs.Words.{before_brace, before_bracket}
+use Rattle.koika_parse.proofs.Steps.{◌past◌, ◌then◌}
 use Rattle.koika_parse.proofs.source.Source.+constant.Goals as goal
 
 pub constants-more-init : goal.constants-more-init
-constants-more-init t c = (joined_start _ _ _ (sign symbols.Comma) constant_leaves IsConstant c.in_ok-first.first _ c.push.new.self.items c.in_ok-first.ensures.read c.in_ok-first.ensures.is c.new-all.ensures.items c.in_ok-push.ensures.items, commas_first constants_listed c.in_ok-first.ensures.takes tt)
+constants-more-init t c = (
+  joined_start _ _ _ (sign symbols.Comma) constant_leaves IsConstant c.in_ok-first.first _ c.push.new.self.items
+      c.in_ok-first.ensures.read c.in_ok-first.ensures.is c.new-all.ensures.items c.in_ok-push.ensures.items,
+  commas_first constants_listed c.in_ok-first.ensures.takes tt,
+)
 
 pub constants-more-preserved : goal.constants-more-preserved
-constants-more-preserved t c = (joined_again c.in_ok-next.next c.push-in-more.new.self.items c.more.invariant.0 c.in_ok-sign.ensures.read c.in_ok-next.ensures.read c.in_ok-next.ensures.is c.in_ok-push-2.ensures.items, commas_next constants_listed (c.is_at_sign.ensures.0 c.more-test.true) c.more.invariant.1 c.in_ok-sign.ensures.read c.in_ok-sign.ensures.takes c.in_ok-next.ensures.takes tt)
+constants-more-preserved t c = (
+  joined_again c.in_ok-next.next c.push-in-more.new.self.items c.more.invariant.0 c.in_ok-sign.ensures.read
+      c.in_ok-next.ensures.read c.in_ok-next.ensures.is c.in_ok-push-2.ensures.items,
+  commas_next constants_listed (c.is_at_sign.ensures.0 c.more-test.true) c.more.invariant.1 c.in_ok-sign.ensures.read
+      c.in_ok-sign.ensures.takes c.in_ok-next.ensures.takes tt,
+)
 
 pub constant_fields-more-init : goal.constant_fields-more-init
-constant_fields-more-init t c = (joined_start _ _ _ (sign symbols.Comma) constant_field_leaves IsConstantField c.in_ok-first.first _ c.push.new.self.items c.in_ok-first.ensures.read c.in_ok-first.ensures.is c.new-all.ensures.items c.in_ok-push.ensures.items, commas_first constant_fields_listed c.in_ok-first.ensures.takes tt)
+constant_fields-more-init t c = (
+  joined_start _ _ _ (sign symbols.Comma) constant_field_leaves IsConstantField c.in_ok-first.first _ c.push.new.self.items
+      c.in_ok-first.ensures.read c.in_ok-first.ensures.is c.new-all.ensures.items c.in_ok-push.ensures.items,
+  commas_first constant_fields_listed c.in_ok-first.ensures.takes tt,
+)
 
 pub constant_fields-more-preserved : goal.constant_fields-more-preserved
-constant_fields-more-preserved t c = (joined_again c.in_ok-next.next c.push-in-more.new.self.items c.more.invariant.0 c.in_ok-sign.ensures.read c.in_ok-next.ensures.read c.in_ok-next.ensures.is c.in_ok-push-2.ensures.items, commas_next constant_fields_listed (c.is_at_sign.ensures.0 c.more-test.true) c.more.invariant.1 c.in_ok-sign.ensures.read c.in_ok-sign.ensures.takes c.in_ok-next.ensures.takes tt)
+constant_fields-more-preserved t c = (
+  joined_again c.in_ok-next.next c.push-in-more.new.self.items c.more.invariant.0 c.in_ok-sign.ensures.read
+      c.in_ok-next.ensures.read c.in_ok-next.ensures.is c.in_ok-push-2.ensures.items,
+  commas_next constant_fields_listed (c.is_at_sign.ensures.0 c.more-test.true) c.more.invariant.1 c.in_ok-sign.ensures.read
+      c.in_ok-sign.ensures.takes c.in_ok-next.ensures.takes tt,
+)
 
 pub constant_array-returns-clause-read : goal.constant_array-returns-clause-read
-constant_array-returns-clause-read t c = as_leaves _ (array_constant c.in_ok-place.place c.in_ok-elements.elements) (in_turn (in_turn c.in_ok-place.ensures.read c.in_ok-elements.ensures.read) c.in_ok-sign.ensures.read)
+constant_array-returns-clause-read t c =
+    as_leaves _ (array_constant c.in_ok-place.place c.in_ok-elements.elements)
+    (c.in_ok-place.ensures.read then c.in_ok-elements.ensures.read then c.in_ok-sign.ensures.read)
 
 pub constant_array-returns-clause-is : goal.constant_array-returns-clause-is
-constant_array-returns-clause-is t c = is_constant_array c.in_ok-place.place c.in_ok-elements.elements c.in_ok-elements.ensures.is c.in_ok-elements.ensures.some
+constant_array-returns-clause-is t c =
+    is_constant_array c.in_ok-place.place c.in_ok-elements.elements c.in_ok-elements.ensures.is c.in_ok-elements.ensures.some
 
 pub constant_field-returns-clause-read : goal.constant_field-returns-clause-read
-constant_field-returns-clause-read t c = as_leaves _ (leaves_constant_field c.in_ok-name.name c.in_ok-value.value) (in_turn (in_turn c.in_ok-name.ensures.read c.in_ok-sign.ensures.read) c.in_ok-value.ensures.read)
+constant_field-returns-clause-read t c =
+    as_leaves _ (leaves_constant_field c.in_ok-name.name c.in_ok-value.value)
+    (c.in_ok-name.ensures.read then c.in_ok-sign.ensures.read then c.in_ok-value.ensures.read)
 
 pub constant_field-returns-clause-is : goal.constant_field-returns-clause-is
-constant_field-returns-clause-is t c = is_constant_field c.in_ok-name.name c.in_ok-value.value c.in_ok-name.ensures.is c.in_ok-value.ensures.is
+constant_field-returns-clause-is t c =
+    is_constant_field c.in_ok-name.name c.in_ok-value.value c.in_ok-name.ensures.is c.in_ok-value.ensures.is
 
 pub named_constant-returns-then-is_at_name-clause-read : goal.named_constant-returns-then-is_at_name-clause-read
-named_constant-returns-then-is_at_name-clause-read t c = as_leaves _ (leaves_constant_member c.in_ok-of.of c.in_ok-member.member) (in_turn (in_turn c.in_ok-of.ensures.read c.in_ok-sign.ensures.read) c.in_ok-member.ensures.read)
+named_constant-returns-then-is_at_name-clause-read t c =
+    as_leaves _ (leaves_constant_member c.in_ok-of.of c.in_ok-member.member)
+    (c.in_ok-of.ensures.read then c.in_ok-sign.ensures.read then c.in_ok-member.ensures.read)
 
 pub named_constant-returns-then-is_at_name-clause-is : goal.named_constant-returns-then-is_at_name-clause-is
-named_constant-returns-then-is_at_name-clause-is t c = is_constant_member c.in_ok-of.of c.in_ok-member.member (c.in_ok-of.ensures.is, c.in_ok-member.ensures.is)
+named_constant-returns-then-is_at_name-clause-is t c =
+    is_constant_member c.in_ok-of.of c.in_ok-member.member (c.in_ok-of.ensures.is, c.in_ok-member.ensures.is)
 
 pub named_constant-returns-clause-read : goal.named_constant-returns-clause-read
-named_constant-returns-clause-read t c = as_leaves _ (struct_constant c.in_ok-of.of c.in_ok-fields.fields c.in_ok-close.close) (in_turn (in_turn (in_turn (in_turn c.in_ok-of.ensures.read c.in_ok-sign.ensures.read) c.in_ok-sign-2.ensures.read) c.in_ok-fields.ensures.read) c.in_ok-close.ensures.read)
+named_constant-returns-clause-read t c =
+    as_leaves _ (struct_constant c.in_ok-of.of c.in_ok-fields.fields c.in_ok-close.close)
+    (c.in_ok-of.ensures.read then c.in_ok-sign.ensures.read then c.in_ok-sign-2.ensures.read then c.in_ok-fields.ensures.read
+    then c.in_ok-close.ensures.read)
 
 pub named_constant-returns-clause-is : goal.named_constant-returns-clause-is
-named_constant-returns-clause-is t c = is_constant_struct c.in_ok-of.of c.in_ok-fields.fields c.in_ok-close.close c.in_ok-fields.ensures.is (c.in_ok-of.ensures.is, c.in_ok-fields.ensures.some)
+named_constant-returns-clause-is t c =
+    is_constant_struct c.in_ok-of.of c.in_ok-fields.fields c.in_ok-close.close c.in_ok-fields.ensures.is
+    (c.in_ok-of.ensures.is, c.in_ok-fields.ensures.some)
 
 pub constant-returns-then-is_at_name-clause-takes : goal.constant-returns-then-is_at_name-clause-takes
-constant-returns-then-is_at_name-clause-takes t c = tail c.named_constant.result (constant_at_name (c.is_at_name.ensures.0 c.if-is_at_name.true)) c.named_constant.ensures.takes (free_last Any)
+constant-returns-then-is_at_name-clause-takes t c =
+    tail c.named_constant.result (constant_at_name (c.is_at_name.ensures.0 c.if-is_at_name.true)) c.named_constant.ensures.takes
+    (free_last Any)
 
 pub constant-returns-then-is_at_sign-clause-takes : goal.constant-returns-then-is_at_sign-clause-takes
-constant-returns-then-is_at_sign-clause-takes t c = tail c.constant_array.result (constant_at_bracket (c.is_at_sign.ensures.0 c.if-is_at_sign.true)) c.constant_array.ensures.takes (free_last Any)
+constant-returns-then-is_at_sign-clause-takes t c =
+    tail c.constant_array.result (constant_at_bracket (c.is_at_sign.ensures.0 c.if-is_at_sign.true))
+    c.constant_array.ensures.takes (free_last Any)
 
 pub constant-returns-clause-takes : goal.constant-returns-clause-takes
-constant-returns-clause-takes t c = tail c.literal_constant.result (constant_elsewhere (λ e. cc (c.if-is_at_name.false, c.is_at_name.ensures.1 e)) (λ e. cc (c.if-is_at_sign.false, c.is_at_sign.ensures.1 e))) c.literal_constant.ensures.takes (free_last Any)
+constant-returns-clause-takes t c =
+    tail c.literal_constant.result
+    (constant_elsewhere (not_so c.is_at_name.ensures c.if-is_at_name.false) (not_so c.is_at_sign.ensures c.if-is_at_sign.false))
+    c.literal_constant.ensures.takes (free_last Any)
 
 pub constant_field-returns-in_err-name-clause-takes : goal.constant_field-returns-in_err-name-clause-takes
-constant_field-returns-in_err-name-clause-takes t c = fails c.from_residual.result c.from_residual.ensures constant_field_start c.in_err-name.ensures.takes
+constant_field-returns-in_err-name-clause-takes t c = fails _ c.from_residual.ensures constant_field_start c.in_err-name.ensures.takes
 
 pub constant_field-returns-in_err-sign-clause-takes : goal.constant_field-returns-in_err-sign-clause-takes
-constant_field-returns-in_err-sign-clause-takes t c = fails c.from_residual-in_err-sign.result c.from_residual-in_err-sign.ensures (next_part constant_field_start c.in_ok-name.ensures.takes) c.in_err-sign.ensures.takes
+constant_field-returns-in_err-sign-clause-takes t c =
+    fails _ c.from_residual-in_err-sign.ensures (constant_field_start past c.in_ok-name.ensures.takes) c.in_err-sign.ensures.takes
 
 pub constant_field-returns-in_err-value-clause-takes : goal.constant_field-returns-in_err-value-clause-takes
-constant_field-returns-in_err-value-clause-takes t c = fails_last c.from_residual-in_err-value.result c.from_residual-in_err-value.ensures (next_part (next_part constant_field_start c.in_ok-name.ensures.takes) c.in_ok-sign.ensures.takes) c.in_err-value.ensures.takes
+constant_field-returns-in_err-value-clause-takes t c =
+    let colon = constant_field_start past c.in_ok-name.ensures.takes past c.in_ok-sign.ensures.takes in
+    fails_last _ c.from_residual-in_err-value.ensures colon c.in_err-value.ensures.takes
 
 pub constant_field-returns-clause-takes : goal.constant_field-returns-clause-takes
-constant_field-returns-clause-takes t c = last_part _ (next_part (next_part constant_field_start c.in_ok-name.ensures.takes) c.in_ok-sign.ensures.takes) c.in_ok-value.ensures.takes
+constant_field-returns-clause-takes t c =
+    last_part _ (constant_field_start past c.in_ok-name.ensures.takes past c.in_ok-sign.ensures.takes) c.in_ok-value.ensures.takes
 
 pub constant_array-returns-in_err-place-clause-takes : goal.constant_array-returns-in_err-place-clause-takes
-constant_array-returns-in_err-place-clause-takes t c = fails c.from_residual.result c.from_residual.ensures constant_array_start c.in_err-place.ensures.takes
+constant_array-returns-in_err-place-clause-takes t c =
+    fails _ c.from_residual.ensures constant_array_start c.in_err-place.ensures.takes
 
 pub constant_array-returns-in_err-elements-clause-takes : goal.constant_array-returns-in_err-elements-clause-takes
-constant_array-returns-in_err-elements-clause-takes t c = fails_before c.from_residual-in_err-elements.result c.from_residual-in_err-elements.ensures (next_part constant_array_start c.in_ok-place.ensures.takes) c.in_err-elements.ensures.takes (before_one Any (NoComma Any) (symbol symbols.RightBracket) (tt, refl))
+constant_array-returns-in_err-elements-clause-takes t c =
+    let bracket = constant_array_start past c.in_ok-place.ensures.takes in
+    fails_before _ c.from_residual-in_err-elements.ensures bracket c.in_err-elements.ensures.takes before_bracket
 
 pub constant_array-returns-in_err-sign-clause-takes : goal.constant_array-returns-in_err-sign-clause-takes
-constant_array-returns-in_err-sign-clause-takes t c = fails_last c.from_residual-in_err-sign.result c.from_residual-in_err-sign.ensures (step (next_part constant_array_start c.in_ok-place.ensures.takes) c.in_ok-elements.ensures.takes (before_one Any (NoComma Any) (symbol symbols.RightBracket) (tt, refl))) c.in_err-sign.ensures.takes
+constant_array-returns-in_err-sign-clause-takes t c =
+    let elements = step (constant_array_start past c.in_ok-place.ensures.takes) c.in_ok-elements.ensures.takes before_bracket in
+    fails_last _ c.from_residual-in_err-sign.ensures elements c.in_err-sign.ensures.takes
 
 pub constant_array-returns-clause-takes : goal.constant_array-returns-clause-takes
-constant_array-returns-clause-takes t c = last_part _ (step (next_part constant_array_start c.in_ok-place.ensures.takes) c.in_ok-elements.ensures.takes (before_one Any (NoComma Any) (symbol symbols.RightBracket) (tt, refl))) c.in_ok-sign.ensures.takes
+constant_array-returns-clause-takes t c =
+    let elements = step (constant_array_start past c.in_ok-place.ensures.takes) c.in_ok-elements.ensures.takes before_bracket in
+    last_part _ elements c.in_ok-sign.ensures.takes
 
 pub constant_fields-returns-in_err-first-clause-takes : goal.constant_fields-returns-in_err-first-clause-takes
-constant_fields-returns-in_err-first-clause-takes t c = fails_before c.from_residual.result c.from_residual.ensures (commas_start constant_fields_listed) c.in_err-first.ensures.takes (commas_apart _ constant_fields_listed Any tt)
+constant_fields-returns-in_err-first-clause-takes t c =
+    fails_before _ c.from_residual.ensures (commas_start constant_fields_listed) c.in_err-first.ensures.takes
+    (commas_apart _ constant_fields_listed Any tt)
 
 pub constant_fields-returns-in_err-sign-clause-takes : goal.constant_fields-returns-in_err-sign-clause-takes
-constant_fields-returns-in_err-sign-clause-takes t c = fails c.from_residual-in_err-sign.result c.from_residual-in_err-sign.ensures (commas_at constant_fields_listed (c.is_at_sign.ensures.0 c.more-test.true) c.more.invariant.1) c.in_err-sign.ensures.takes
+constant_fields-returns-in_err-sign-clause-takes t c =
+    fails _ c.from_residual-in_err-sign.ensures
+    (commas_at constant_fields_listed (c.is_at_sign.ensures.0 c.more-test.true) c.more.invariant.1) c.in_err-sign.ensures.takes
 
 pub constant_fields-returns-in_err-next-clause-takes : goal.constant_fields-returns-in_err-next-clause-takes
-constant_fields-returns-in_err-next-clause-takes t c = fails_before c.from_residual-in_err-next.result c.from_residual-in_err-next.ensures (next_part (commas_at constant_fields_listed (c.is_at_sign.ensures.0 c.more-test.true) c.more.invariant.1) c.in_ok-sign.ensures.takes) c.in_err-next.ensures.takes (commas_apart _ constant_fields_listed Any tt)
+constant_fields-returns-in_err-next-clause-takes t c =
+    let comma = commas_at constant_fields_listed (c.is_at_sign.ensures.0 c.more-test.true) c.more.invariant.1 past c.in_ok-sign.ensures.takes in
+    fails_before _ c.from_residual-in_err-next.ensures comma c.in_err-next.ensures.takes (commas_apart _ constant_fields_listed Any tt)
 
 pub constant_fields-returns-clause-takes : goal.constant_fields-returns-clause-takes
-constant_fields-returns-clause-takes t c = finish _ (commas_end constant_fields_listed (λ e. cc (c.more-test.false, c.is_at_sign.ensures.1 e)) c.more.invariant.1)
+constant_fields-returns-clause-takes t c =
+    finish _ (commas_end constant_fields_listed (not_so c.is_at_sign.ensures c.more-test.false) c.more.invariant.1)
 
 pub constants-returns-in_err-first-clause-takes : goal.constants-returns-in_err-first-clause-takes
-constants-returns-in_err-first-clause-takes t c = fails_before c.from_residual.result c.from_residual.ensures (commas_start constants_listed) c.in_err-first.ensures.takes (commas_apart _ constants_listed Any tt)
+constants-returns-in_err-first-clause-takes t c =
+    fails_before _ c.from_residual.ensures (commas_start constants_listed) c.in_err-first.ensures.takes
+    (commas_apart _ constants_listed Any tt)
 
 pub constants-returns-in_err-sign-clause-takes : goal.constants-returns-in_err-sign-clause-takes
-constants-returns-in_err-sign-clause-takes t c = fails c.from_residual-in_err-sign.result c.from_residual-in_err-sign.ensures (commas_at constants_listed (c.is_at_sign.ensures.0 c.more-test.true) c.more.invariant.1) c.in_err-sign.ensures.takes
+constants-returns-in_err-sign-clause-takes t c =
+    fails _ c.from_residual-in_err-sign.ensures
+    (commas_at constants_listed (c.is_at_sign.ensures.0 c.more-test.true) c.more.invariant.1) c.in_err-sign.ensures.takes
 
 pub constants-returns-in_err-next-clause-takes : goal.constants-returns-in_err-next-clause-takes
-constants-returns-in_err-next-clause-takes t c = fails_before c.from_residual-in_err-next.result c.from_residual-in_err-next.ensures (next_part (commas_at constants_listed (c.is_at_sign.ensures.0 c.more-test.true) c.more.invariant.1) c.in_ok-sign.ensures.takes) c.in_err-next.ensures.takes (commas_apart _ constants_listed Any tt)
+constants-returns-in_err-next-clause-takes t c =
+    let comma = commas_at constants_listed (c.is_at_sign.ensures.0 c.more-test.true) c.more.invariant.1 past c.in_ok-sign.ensures.takes in
+    fails_before _ c.from_residual-in_err-next.ensures comma c.in_err-next.ensures.takes (commas_apart _ constants_listed Any tt)
 
 pub constants-returns-clause-takes : goal.constants-returns-clause-takes
-constants-returns-clause-takes t c = finish _ (commas_end constants_listed (λ e. cc (c.more-test.false, c.is_at_sign.ensures.1 e)) c.more.invariant.1)
+constants-returns-clause-takes t c =
+    finish _ (commas_end constants_listed (not_so c.is_at_sign.ensures c.more-test.false) c.more.invariant.1)
 
 pub named_constant-returns-in_err-of-clause-takes : goal.named_constant-returns-in_err-of-clause-takes
-named_constant-returns-in_err-of-clause-takes t c = fails c.from_residual.result c.from_residual.ensures named_constant_start c.in_err-of.ensures.takes
+named_constant-returns-in_err-of-clause-takes t c = fails _ c.from_residual.ensures named_constant_start c.in_err-of.ensures.takes
 
 pub named_constant-returns-in_err-sign-clause-takes : goal.named_constant-returns-in_err-sign-clause-takes
-named_constant-returns-in_err-sign-clause-takes t c = fails c.from_residual-in_err-sign.result c.from_residual-in_err-sign.ensures (next_part named_constant_start c.in_ok-of.ensures.takes) c.in_err-sign.ensures.takes
+named_constant-returns-in_err-sign-clause-takes t c =
+    fails _ c.from_residual-in_err-sign.ensures (named_constant_start past c.in_ok-of.ensures.takes) c.in_err-sign.ensures.takes
 
 pub named_constant-returns-in_err-member-clause-takes : goal.named_constant-returns-in_err-member-clause-takes
-named_constant-returns-in_err-member-clause-takes t c = fails_last c.from_residual-in_err-member.result c.from_residual-in_err-member.ensures (name_not_brace FieldsTail (c.is_at_name.ensures.0 c.if-is_at_name.true) (next_part (next_part named_constant_start c.in_ok-of.ensures.takes) c.in_ok-sign.ensures.takes)) c.in_err-member.ensures.takes
+named_constant-returns-in_err-member-clause-takes t c =
+    let colons = named_constant_start past c.in_ok-of.ensures.takes past c.in_ok-sign.ensures.takes in
+    let member = name_not_brace FieldsTail (c.is_at_name.ensures.0 c.if-is_at_name.true) colons in
+    fails_last _ c.from_residual-in_err-member.ensures member c.in_err-member.ensures.takes
 
 pub named_constant-returns-then-is_at_name-clause-takes : goal.named_constant-returns-then-is_at_name-clause-takes
-named_constant-returns-then-is_at_name-clause-takes t c = last_part _ (name_not_brace FieldsTail (c.is_at_name.ensures.0 c.if-is_at_name.true) (next_part (next_part named_constant_start c.in_ok-of.ensures.takes) c.in_ok-sign.ensures.takes)) c.in_ok-member.ensures.takes
+named_constant-returns-then-is_at_name-clause-takes t c =
+    let colons = named_constant_start past c.in_ok-of.ensures.takes past c.in_ok-sign.ensures.takes in
+    last_part _ (name_not_brace FieldsTail (c.is_at_name.ensures.0 c.if-is_at_name.true) colons) c.in_ok-member.ensures.takes
 
 pub named_constant-returns-in_err-sign-2-clause-takes : goal.named_constant-returns-in_err-sign-2-clause-takes
-named_constant-returns-in_err-sign-2-clause-takes t c = fails c.from_residual-in_err-sign-2.result c.from_residual-in_err-sign-2.ensures (brace_not_name FieldsTail (λ e. cc (c.if-is_at_name.false, c.is_at_name.ensures.1 e)) some_fields_tail (next_part (next_part named_constant_start c.in_ok-of.ensures.takes) c.in_ok-sign.ensures.takes)) c.in_err-sign-2.ensures.takes
+named_constant-returns-in_err-sign-2-clause-takes t c =
+    let colons = named_constant_start past c.in_ok-of.ensures.takes past c.in_ok-sign.ensures.takes in
+    let braced = brace_not_name FieldsTail (not_so c.is_at_name.ensures c.if-is_at_name.false) some_fields_tail colons in
+    fails _ c.from_residual-in_err-sign-2.ensures braced c.in_err-sign-2.ensures.takes
 
 pub named_constant-returns-in_err-fields-clause-takes : goal.named_constant-returns-in_err-fields-clause-takes
-named_constant-returns-in_err-fields-clause-takes t c = fails_before c.from_residual-in_err-fields.result c.from_residual-in_err-fields.ensures (next_part (brace_not_name FieldsTail (λ e. cc (c.if-is_at_name.false, c.is_at_name.ensures.1 e)) some_fields_tail (next_part (next_part named_constant_start c.in_ok-of.ensures.takes) c.in_ok-sign.ensures.takes)) c.in_ok-sign-2.ensures.takes) c.in_err-fields.ensures.takes (before_one Any (NoComma Any) (symbol symbols.RightBrace) (tt, refl))
+named_constant-returns-in_err-fields-clause-takes t c =
+    let colons = named_constant_start past c.in_ok-of.ensures.takes past c.in_ok-sign.ensures.takes in
+    let braced = brace_not_name FieldsTail (not_so c.is_at_name.ensures c.if-is_at_name.false) some_fields_tail colons in
+    let brace = braced past c.in_ok-sign-2.ensures.takes in
+    fails_before _ c.from_residual-in_err-fields.ensures brace c.in_err-fields.ensures.takes before_brace
 
 pub named_constant-returns-in_err-close-clause-takes : goal.named_constant-returns-in_err-close-clause-takes
-named_constant-returns-in_err-close-clause-takes t c = fails_last c.from_residual-in_err-close.result c.from_residual-in_err-close.ensures (step (next_part (brace_not_name FieldsTail (λ e. cc (c.if-is_at_name.false, c.is_at_name.ensures.1 e)) some_fields_tail (next_part (next_part named_constant_start c.in_ok-of.ensures.takes) c.in_ok-sign.ensures.takes)) c.in_ok-sign-2.ensures.takes) c.in_ok-fields.ensures.takes (before_one Any (NoComma Any) (symbol symbols.RightBrace) (tt, refl))) c.in_err-close.ensures.takes
+named_constant-returns-in_err-close-clause-takes t c =
+    let colons = named_constant_start past c.in_ok-of.ensures.takes past c.in_ok-sign.ensures.takes in
+    let braced = brace_not_name FieldsTail (not_so c.is_at_name.ensures c.if-is_at_name.false) some_fields_tail colons in
+    let fields = step (braced past c.in_ok-sign-2.ensures.takes) c.in_ok-fields.ensures.takes before_brace in
+    fails_last _ c.from_residual-in_err-close.ensures fields c.in_err-close.ensures.takes
 
 pub named_constant-returns-clause-takes : goal.named_constant-returns-clause-takes
-named_constant-returns-clause-takes t c = last_part _ (step (next_part (brace_not_name FieldsTail (λ e. cc (c.if-is_at_name.false, c.is_at_name.ensures.1 e)) some_fields_tail (next_part (next_part named_constant_start c.in_ok-of.ensures.takes) c.in_ok-sign.ensures.takes)) c.in_ok-sign-2.ensures.takes) c.in_ok-fields.ensures.takes (before_one Any (NoComma Any) (symbol symbols.RightBrace) (tt, refl))) c.in_ok-close.ensures.takes
+named_constant-returns-clause-takes t c =
+    let colons = named_constant_start past c.in_ok-of.ensures.takes past c.in_ok-sign.ensures.takes in
+    let braced = brace_not_name FieldsTail (not_so c.is_at_name.ensures c.if-is_at_name.false) some_fields_tail colons in
+    let fields = step (braced past c.in_ok-sign-2.ensures.takes) c.in_ok-fields.ensures.takes before_brace in
+    last_part _ fields c.in_ok-close.ensures.takes

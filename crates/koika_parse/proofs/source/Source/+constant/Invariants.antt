@@ -29,13 +29,17 @@ abbrev pub decreases-named_constant : goal.decreases-named_constant
 decreases-named_constant l = tokens_left l.self.now l.cursor.now * 4
 
 abbrev pub invariant-constant_fields-more : goal.invariant-constant_fields-more
-invariant-constant_fields-more l = Joined l.self l.fn.cursor l.cursor (sign symbols.Comma) constant_field_leaves IsConstantField l.all.items × CommasGo l.self l.fn.cursor l.cursor Any InVector IsConstantField constant_field_leaves
+invariant-constant_fields-more l =
+    Joined l.self l.fn.cursor l.cursor (sign symbols.Comma) constant_field_leaves IsConstantField l.all.items
+    × CommasGo l.self l.fn.cursor l.cursor Any InVector IsConstantField constant_field_leaves
 
 abbrev pub decreases-constant_fields-more : goal.decreases-constant_fields-more
 decreases-constant_fields-more l = tokens_left l.self l.cursor
 
 abbrev pub invariant-constants-more : goal.invariant-constants-more
-invariant-constants-more l = Joined l.self l.fn.cursor l.cursor (sign symbols.Comma) constant_leaves IsConstant l.all.items × CommasGo l.self l.fn.cursor l.cursor Any InVector IsConstant constant_leaves
+invariant-constants-more l =
+    Joined l.self l.fn.cursor l.cursor (sign symbols.Comma) constant_leaves IsConstant l.all.items
+    × CommasGo l.self l.fn.cursor l.cursor Any InVector IsConstant constant_leaves
 
 abbrev pub decreases-constants-more : goal.decreases-constants-more
 decreases-constants-more l = tokens_left l.self l.cursor

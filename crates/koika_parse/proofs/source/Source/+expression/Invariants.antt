@@ -1,7 +1,8 @@
 use Rattle.koika_parse.proofs.ChainWords.{OperandsGo}
 use Rattle.koika_parse.proofs.BlockWords.{ElseGo, InsideGo}
 use Rattle.std.proofs.Common.{◌+◌, ◌-◌, ◌*◌, []}
-use Rattle.koika_syntax.specs.inner.Grammar.{IsExpression, arm_leaves, expression_leaves, field_value_leaves, operand_leaves, statement_leaves}
+use Rattle.koika_syntax.specs.inner.Grammar.{IsExpression, arm_leaves, expression_leaves, field_value_leaves}
+use Rattle.koika_syntax.specs.inner.Grammar.{operand_leaves, statement_leaves}
 use Rattle.koika_syntax.specs.Tree.{sign, word}
 use Rattle.koika_parse.specs.inner.Parts.{IsArm, IsFieldValue, IsOperandIn, IsStatement}
 use Rattle.koika_parse.specs.inner.Reading.{tokens_left}
@@ -98,31 +99,41 @@ abbrev pub decreases-chain : goal.decreases-chain
 decreases-chain l = tokens_left l.self.now l.cursor.now * 32 + (25 - l.loosest)
 
 abbrev pub invariant-conditional-more : goal.invariant-conditional-more
-invariant-conditional-more l = Joined l.self l.fn.cursor l.cursor (word keywords.Else) arm_leaves IsArm l.arms.items × ElseGo l.self l.fn.cursor l.cursor
+invariant-conditional-more l =
+    Joined l.self l.fn.cursor l.cursor (word keywords.Else) arm_leaves IsArm l.arms.items ×
+    ElseGo l.self l.fn.cursor l.cursor
 
 abbrev pub decreases-conditional-more : goal.decreases-conditional-more
 decreases-conditional-more l = tokens_left l.self l.cursor
 
 abbrev pub invariant-inside-more : goal.invariant-inside-more
-invariant-inside-more l = Row l.self l.fn.cursor l.cursor statement_leaves IsStatement l.statements.items × InsideGo l.self l.fn.cursor l.cursor
+invariant-inside-more l =
+    Row l.self l.fn.cursor l.cursor statement_leaves IsStatement l.statements.items ×
+    InsideGo l.self l.fn.cursor l.cursor
 
 abbrev pub decreases-inside-more : goal.decreases-inside-more
 decreases-inside-more l = tokens_left l.self l.cursor
 
 abbrev pub invariant-operands-more : goal.invariant-operands-more
-invariant-operands-more l = Joined l.self l.fn.cursor l.cursor [] operand_leaves (IsOperandIn l.wanted) l.all.items × OperandsGo l.self l.fn.cursor l.cursor l.wanted (SomeOperandsWord l.wanted)
+invariant-operands-more l =
+    Joined l.self l.fn.cursor l.cursor [] operand_leaves (IsOperandIn l.wanted) l.all.items ×
+    OperandsGo l.self l.fn.cursor l.cursor l.wanted (SomeOperandsWord l.wanted)
 
 abbrev pub decreases-operands-more : goal.decreases-operands-more
 decreases-operands-more l = tokens_left l.self l.cursor
 
 abbrev pub invariant-values-more : goal.invariant-values-more
-invariant-values-more l = Joined l.self l.fn.cursor l.cursor (sign symbols.Comma) expression_leaves IsExpression l.all.items × CommasGo l.self l.fn.cursor l.cursor (Free 0) InVector IsExpression expression_leaves
+invariant-values-more l =
+    Joined l.self l.fn.cursor l.cursor (sign symbols.Comma) expression_leaves IsExpression l.all.items ×
+    CommasGo l.self l.fn.cursor l.cursor (Free 0) InVector IsExpression expression_leaves
 
 abbrev pub decreases-values-more : goal.decreases-values-more
 decreases-values-more l = tokens_left l.self l.cursor
 
 abbrev pub invariant-field_values-more : goal.invariant-field_values-more
-invariant-field_values-more l = Joined l.self l.fn.cursor l.cursor (sign symbols.Comma) field_value_leaves IsFieldValue l.all.items × CommasGo l.self l.fn.cursor l.cursor (Free 0) InVector IsFieldValue field_value_leaves
+invariant-field_values-more l =
+    Joined l.self l.fn.cursor l.cursor (sign symbols.Comma) field_value_leaves IsFieldValue l.all.items ×
+    CommasGo l.self l.fn.cursor l.cursor (Free 0) InVector IsFieldValue field_value_leaves
 
 abbrev pub decreases-field_values-more : goal.decreases-field_values-more
 decreases-field_values-more l = tokens_left l.self l.cursor
