@@ -400,3 +400,11 @@ module _ (access : Access) where
 
   pub search_begins : (first : ℕ → Option Commit) → None ≡ earliest_below access first 0
   search_begins first = sym (search_zero first)
+
+  -- a kind with nothing in the way changes nothing
+  pub search_passes : (first : ℕ → Option Commit) (number : ℕ) → in_the_way access first number ≡ None → earliest_below access first number ≡ earliest_below access first (number + 1)
+  search_passes first number none = sym (none_last (earliest_below access first number)) ∙ ap (earlier_of (earliest_below access first number)) (sym none) ∙ search_next first number
+    where
+      none_last : (o : Option Clashing) → earlier_of o None ≡ o
+      none_last None = refl
+      none_last (Some a) = refl

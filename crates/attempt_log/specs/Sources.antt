@@ -20,9 +20,9 @@ pub record IsSource (events : List Event) (after port register source : ℕ) : T
   pub within : source ≤ after
   pub gives : (start : BitVector) → seen port register (take after events) start ≡ value_from events start source
 
--- each event has the source of a read at its own register and port, before it
+-- each event has the source of a read at its own register and port, before it; what is 0 at the list's end may be left out
 pub record AreSources (events : List Event) (sources : List ℕ) : Type 0 where
-  pub count : length sources ≡ length events
+  pub count : length sources ≤ length events
   pub each : (number : ℕ) (e : Event) → slice_get events number ≡ Some e → IsSource events number e.access.port e.access.register (slice_index_or sources number 0)
 
 -- what an attempt keeps

@@ -8,7 +8,7 @@ ghost use Rattle.attempt_log.specs.Verdict.{answer_now, at_end, clash, decision,
 
 use crate::cause::{Cause, StaleRead, Verdict};
 use crate::past::Past;
-use crate::sources::value_at;
+use crate::sources::{source_at, value_at};
 use crate::traced::Attempt;
 use kw_bits::Bits;
 use one_rule::Regs;
@@ -39,7 +39,7 @@ fn value_now(regs: &Regs, attempt: &Attempt, number: usize, event: &Event) -> Bi
     ensures { result ≡ answer_now regs.now (take number attempt.now.run.events) event.now.access }
 {
     let events = attempt.events().as_slice();
-    let source = attempt.sources()[number];
+    let source = source_at(attempt.sources(), number);
     value_at(regs, events, event, source)
 }
 

@@ -1,6 +1,6 @@
 //! Engines: what a cycle has committed.
 
-ghost use Rattle.std.specs.Prelude.{◌≡◌, ◌+◌, ◌*◌, ◌<◌, ℕ, List, [], ◌∷◌, ◌++◌, Option, length, IfOk, All};
+ghost use Rattle.std.specs.Prelude.{◌≡◌, ◌+◌, ◌*◌, ◌<◌, ℕ, List, [], ◌∷◌, ◌++◌, Option, Some, length, IfOk, All};
 ghost use Rattle.typed_core.specs.Widths.{register_widths};
 ghost use Rattle.typed_core.specs.declared.access.Event.{Event};
 ghost use Rattle.attempt_log.specs.inner.Firsts.{access_of, clash_of, earlier_of, in_the_way, noted, noted_all, place_of, row, earliest_below};
@@ -104,7 +104,10 @@ impl Past {
     {
         let mut first = None;
         for kind in 0..KINDS {
-            first = earlier_of(first, self.in_the_way(access, kind));
+            match self.in_the_way(access, kind) {
+                Some(found) => first = Some(earlier_of(first, found)),
+                None => {}
+            }
         }
         first
     }
@@ -116,13 +119,14 @@ impl Past {
         ensures { result ≡ in_the_way access.now (row self.now.firsts access.now.register) kind }
     {
         let earlier = access_of(kind, access.register);
+        // Most registers have few kinds of access, so this is looked at first.
+        let Some(commit) = self.firsts.get(place_of(&earlier)) else {
+            return None;
+        };
         if !access.clashes_after(&earlier) {
             return None;
         }
-        match self.firsts.get(place_of(&earlier)) {
-            Some(commit) => Some(Clashing { commit, earlier }),
-            None => None,
-        }
+        Some(Clashing { commit, earlier })
     }
 }
 
@@ -138,13 +142,18 @@ fn cause_of(access: Access, found: Clashing) -> Cause
 }
 
 // The one with the earlier commit, and of two with the same the first.
-fn earlier_of(a: Option<Clashing>, b: Option<Clashing>) -> Option<Clashing>
-    ensures { result ≡ earlier_of a b }
+fn earlier_of(a: Option<Clashing>, b: Clashing) -> Clashing
+    ensures { Some result ≡ earlier_of a (Some b) }
 {
-    match (a, b) {
-        (Some(one), Some(other)) if other.commit.position < one.commit.position => b,
-        (None, _) => b,
-        _ => a,
+    match a {
+        None => b,
+        Some(one) => {
+            if b.commit.position < one.commit.position {
+                b
+            } else {
+                one
+            }
+        }
     }
 }
 

@@ -1,12 +1,13 @@
 //! Engines: which own write each read of an attempt saw.
 
-ghost use Rattle.std.specs.Prelude.{◌≡◌, ◌+◌, ◌*◌, ◌<◌, ◌≤◌, ◌^◌, ℕ, IfOk, if◌then◌else◌, length, slice_index_or};
+ghost use Rattle.std.specs.Prelude.{◌≡◌, ◌+◌, ◌*◌, ◌<◌, ◌≤◌, ◌^◌, ℕ, Some, false, IfOk, if◌then◌else◌, length, slice_get, slice_index_or};
 ghost use Rattle.kw_bits.specs.BitVector.{BitVector};
 ghost use Rattle.typed_core.specs.Alone.{is_write_below};
 ghost use Rattle.typed_core.specs.Evaluation.{unit};
 ghost use Rattle.typed_core.specs.Fits.{EventsFit};
 ghost use Rattle.typed_core.specs.Valid.{IsPort};
 ghost use Rattle.typed_core.specs.Widths.{register_widths};
+ghost use Rattle.typed_core.specs.declared.access.Event.{Event};
 ghost use Rattle.attempt_log.specs.Sources.{AreSources, IsSource, value_from};
 ghost use Rattle.attempt_log.specs.declared.sources.TheConstants.{PLACES};
 
@@ -38,15 +39,41 @@ pub(crate) fn sources_of(
     }
 }
 
-// The sources of these events, each looked for in those before it.
+// The sources of these events, each looked for in those before it. The list takes no memory where they are all 0.
 fn looked_back(alloc: Global, events: &[Event]) -> Result<Vec<usize>, NoMemory>
     ensures { IfOk result (λ sources. AreSources events.now sources.items) }
 {
+    if !has_source(events) {
+        return Ok(Vec::new(alloc));
+    }
     let mut sources = Vec::with_capacity(alloc, events.len())?;
     for (number, event) in events.iter().enumerate() {
         sources.push_reserved(source_before(events, number, &event.access));
     }
     Ok(sources)
+}
+
+// Whether one of these events gets its value from another.
+fn has_source(events: &[Event]) -> bool
+    ensures { result ≡ false → (number : ℕ) (e : Event) → slice_get events.now number ≡ Some e → IsSource events.now number e.access.port e.access.register 0 }
+{
+    for (number, event) in events.iter().enumerate() {
+        let source = source_before(events, number, &event.access);
+        if source != 0 {
+            return true;
+        }
+    }
+    false
+}
+
+// The source of the event of a number, in a list that may leave out what is 0 at its end.
+pub(crate) fn source_at(sources: &[usize], number: usize) -> usize
+    ensures { result ≡ slice_index_or sources.now number 0 }
+{
+    match sources.get(number) {
+        Some(source) => *source,
+        None => 0,
+    }
 }
 
 // The source of a read after so many events, at the register and the port of an access.

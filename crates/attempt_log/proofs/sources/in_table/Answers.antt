@@ -40,6 +40,6 @@ returns c =
     let all : c.loop-number.number ≡ length events = omega (arith, c.loop-number-test.false, c.loop-number.auto.number-end) in
     subst (λ (list : List Event). AreSources list c.loop-number.sources.items) c.as_slice-list.ensures
     (record {
-      count = h.count ∙ all;
+      count = omega (arith, h.count, all);
       each = λ number e is. h.each number e (omega (arith, all, slice_get_within events number e is)) is;
     })

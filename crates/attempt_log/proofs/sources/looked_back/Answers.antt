@@ -28,6 +28,6 @@ returns c =
     let h = c.loop-number.invariant in
     let all : c.loop-number.number ≡ length events = omega (arith, c.loop-number-test.false, c.loop-number.auto.number-end) in
     record {
-      count = h.count ∙ all;
+      count = omega (arith, h.count, all);
       each = λ number e is. h.each number e (omega (arith, all, slice_get_within events number e is)) is;
     }
