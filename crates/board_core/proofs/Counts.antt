@@ -3,7 +3,8 @@ use Rattle.std.proofs.Common.{◌≡◌, ◌⊎◌, inl, inr, ℕ, zero, suc, �
 use Rattle.std.specs.Prelude.{◌==◌, ◌&&◌, ◌||◌, nat_le, nat_lt, cond, slice_get, slice_index_or, slice_set, if◌then◌else◌}
 use Rattle.std.specs.List.{count_by, enumerate_from}
 use Rattle.std.proofs.lemmas.Bool.{cases_eq, cases_lt, eqb-false, le-leb, leb-false, ltb-false, ne_eqb, or_left, or_right}
-use Rattle.std.proofs.lemmas.List.{get_or-replicate, get_or-set_same, get_or-set_other, get_or_append_left, length-append, length-replicate, length-set}
+use Rattle.std.proofs.lemmas.List.{get_or-replicate, get_or-set_same, get_or-set_other, get_or_append_left, length-append, length-map, length-replicate, length-set}
+use Rattle.std.proofs.lemmas.List.FromFn.{length-enumerate_from}
 use Rattle.std.proofs.lemmas.List.Sums.{count_by-le-length, length-filter, sum_by-cons}
 use Rattle.typed_core.specs.declared.design.Next.{Next}
 use Rattle.typed_core.specs.declared.design.Next.TheVariants as next
@@ -215,6 +216,12 @@ module _ (o : Opening) (board : Board) where
       few next.End held = omega arith
       few (next.Node h) None = omega arith
       few (next.Node h) (Some node) = omega arith
+
+-- the further candidates of a cycle are no more than the nodes
+pub few_further : (o : Opening) (board : Board) (cycle : ℕ) → length (further o board cycle) ≤ length o.design.nodes
+few_further o board cycle =
+    let all = pairs o.design.nodes cycle in
+    omega (arith, length-filter (is_further board) all, count_by-le-length (is_further board) all, length-map (enumerate_from 0 o.design.nodes) (pair_of cycle), length-enumerate_from 0 o.design.nodes)
 
 -- ---- searching
 

@@ -1,7 +1,7 @@
 -- What a search finds in a list, and in one that goes on.
 use Rattle.std.proofs.Common.{◌≡◌, ℕ, zero, suc, ◌+◌, ◌-◌, ◌<◌, ◌≤◌, ◌%◌, Bool, true, false, List, [], ◌∷◌, ◌++◌, length, Option, Some, None, refl, sym, ap, ◌∙◌, subst, arith, append-nil, append_assoc, take, drop, filter, map, flat_map, not, ap₂, is_some}
 use Rattle.std.specs.Prelude.{slice_get, if◌then◌else◌}
-use Rattle.std.proofs.Math.Nat.{mod-eq_of_lt, mod-lt}
+use Rattle.std.proofs.Math.Nat.{mod-lt}
 use Rattle.std.proofs.lemmas.Option.{slice_get_within}
 use Rattle.std.specs.List.{enumerate_from, range_with_len}
 use Rattle.std.specs.Prelude.{◌==◌, ◌&&◌, slice_index_or}
@@ -50,16 +50,10 @@ found_here xs n c is = ap (slice_get (xs ++ c ∷ [])) (sym is) ∙ found_last x
 pub past_none : (all : List Candidate) (n : ℕ) (s : Search) → Finds all n s → Finds (all ++ []) n s
 past_none all n s f = subst (λ (xs : List Candidate). Finds xs n s) (sym (append-nil all)) f
 
--- what is found is the pick
-pub picks_found : (all : List Candidate) (pick : ℕ) (c : Candidate) → slice_get all pick ≡ Some c → Picks all pick (Some c)
-picks_found all pick c is =
-    let within = slice_get_within all pick c is in
-    (omega (arith, within), ap (slice_get all) (mod-eq_of_lt within) ∙ is)
-
--- none was gone past
-pub picks_none : (all : List Candidate) (pick left : ℕ) → left + length all ≡ pick → left ≡ pick → Picks all pick None
-picks_none [] pick left is same = refl
-picks_none (x ∷ all) pick left is same = absurd (omega (arith, is, same))
+-- no candidate, no pick
+pub picks_no : (all : List Candidate) (pick count : ℕ) → count ≡ length all → count ≡ 0 → Picks all pick None
+picks_no [] pick count same is = refl
+picks_no (x ∷ all) pick count same is = absurd (omega (arith, same, is))
 
 -- counted round, it is found
 pub picks_round : (all : List Candidate) (pick count : ℕ) (c : Candidate) → count ≡ length all → slice_get all (pick % count) ≡ Some c → Picks all pick (Some c)

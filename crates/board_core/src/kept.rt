@@ -244,17 +244,13 @@ impl KeptBoard {
         ensures rule { IfSome result (λ c. c.rule < length self.now.opening.design.rules) }
     {
         self.is_plain();
-        match self.search(pick, counts) {
+        let count = self.count(counts);
+        if count == 0 {
+            return None;
+        }
+        match self.search(pick % count, counts) {
             Search::Found(candidate) => Some(candidate),
-            Search::Left(left) => {
-                if left == pick {
-                    return None;
-                }
-                match self.search(pick % (pick - left), counts) {
-                    Search::Found(candidate) => Some(candidate),
-                    Search::Left(_) => None,
-                }
-            }
+            Search::Left(_) => None,
         }
     }
 
@@ -282,6 +278,21 @@ impl KeptBoard {
         ensures { result ≡ nat_lt self.now.opening.to self.now.cycle }
     {
         self.last < self.cycle
+    }
+
+    // How many candidates there are.
+    fn count(&self, counts: &[u64]) -> u64
+        requires within { self.now.cycle ≤ self.now.opening.to }
+        requires counts { HasCounts self.now counts.now }
+        ensures { (board : Board) → StandsFor self.now board → result ≡ length (candidates self.now.opening board) }
+    {
+        self.is_plain();
+        let mut count = self.count_head();
+        let cycles = self.window.min(self.last + 1 - self.cycle);
+        for ahead in 0..cycles {
+            count += self.count_further(self.cycle + ahead, counts);
+        }
+        count
     }
 
     // Searches for the candidate of a number.
