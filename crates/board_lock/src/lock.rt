@@ -20,14 +20,21 @@ use std::alloc::Global;
 use std::hint;
 use std::snapshot::Snapshot;
 use std::sync::Wait;
+use std::time::Duration;
 
 pub(crate) type Slot = Option<Home>;
 
 pub(crate) type Place = Seat<Slot, View>;
 
-// How often a seat looks before it sleeps: these looks take less than a sleep and a wake. Between them it keeps its
-// processor: where other programs run, one that is yielded often comes back only long after the turn has come.
-const LOOKS: u32 = 100;
+// How often a seat with a ticket looks before it sleeps: these looks take about as long as a sleep and a wake. Between
+// them it keeps its processor: where other programs run, one that is yielded often comes back only long after the turn
+// has come.
+const LOOKS: u32 = 1_000;
+
+// How often a seat that finds the lock taken sleeps before it draws a ticket all the same, and how long each time.
+const NAPS: u32 = 50;
+
+const NAP_MICROS: u64 = 100;
 
 /// A board behind a lock of three words: the ticket, the number that is served, and the count.
 #[derive(Drop)]
@@ -37,6 +44,27 @@ pub struct Lock {
 }
 
 impl Lock {
+    // Stands back while the lock is taken, for a bounded number of naps, so that who has a processor may go on: a turn is
+    // shorter than it takes to hand the board to another processor. No seat that stands back has a ticket, so nobody
+    // waits for it. It naps on the count, on which nobody is woken.
+    fn stand_back<R: Wait>(&self, rt: &R) {
+        let nap = Duration::from_micros(NAP_MICROS);
+        for _ in 0..NAPS {
+            if self.is_free() {
+                return;
+            }
+            let count = self.table.shared.peek(2);
+            self.table
+                .shared
+                .park_timeout(rt, 2, (count & 0xffff_ffff) as u32, nap);
+        }
+    }
+
+    // Whether the ticket that is served isn't drawn yet. Another seat may draw it at any time.
+    fn is_free(&self) -> bool {
+        self.table.shared.peek(0) == self.table.shared.peek(1)
+    }
+
     fn draw(&self, place: &mut Place) -> u64
         requires table { place.old.table_id ≡ self.now.table.shared.table_id }
         requires outside { IsOutside place.old.me }
@@ -79,7 +107,7 @@ impl Lock {
 
     // Wakes those that wait, where the ticket that is now served is drawn.
     fn wake(&self) {
-        if self.table.shared.peek(0) != self.table.shared.peek(1) {
+        if !self.is_free() {
             self.table.shared.wake_all(1);
         }
     }
@@ -92,6 +120,7 @@ impl Lock {
         ensures same { (place.new.table_id ≡ place.old.table_id) × (place.new.id ≡ place.old.id) }
         ensures holds { HoldsBoard place.old.me result.value place.new.me }
     {
+        self.stand_back(rt);
         let ticket = self.draw(place);
         self.wait_turn(rt, place, ticket);
         self.table
