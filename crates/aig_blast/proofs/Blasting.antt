@@ -18,7 +18,7 @@ use Rattle.one_rule.specs.declared.rows.Row.{Row}
 use Rattle.circuit_eval.specs.Circuits as circuit
 use Rattle.circuit_eval.specs.Circuits.{AreBits}
 use Rattle.circuit_eval.specs.Run as wired
-use Rattle.circuit_eval.specs.Run.{rows_after as wired_rows_after}
+use Rattle.circuit_eval.specs.Run.{rows_after as wired_rows_after, values_in}
 use Rattle.circuit_eval.specs.declared.circuit.InputWire.{InputWire}
 use Rattle.circuit_eval.specs.declared.circuit.OutputWire.{OutputWire}
 use Rattle.circuit_eval.specs.declared.circuit.StateWire.{StateWire}
@@ -50,13 +50,13 @@ word-over xs g lits all = ap (λ ys. map (lit_value (values_over ys g.gates)) li
 
 module _ (xs : List Bool) (g : Gates) (all : length xs ≡ g.sources) (words : List (List ℕ)) where
   -- the next words are the next states
-  pub next_words-states : (wires : List StateWire) → All (λ (wire : StateWire). wire.next < length words) wires
-      → next_words (map (latch_word words) wires) (values_over xs g.gates) ≡ wired.next_states wires (words_bits xs g words)
-  next_words-states [] within = refl
-  next_words-states (wire ∷ wires) within =
+  pub next_words-states : (wires : List StateWire) (values : List BitVector) → All (λ (wire : StateWire). bits xs g (word_at words wire.next) ≡ value_at values wire.next) wires
+      → next_words (map (latch_word words) wires) (values_over xs g.gates) ≡ wired.next_states wires values
+  next_words-states [] values same = refl
+  next_words-states (wire ∷ wires) values same =
       ap₂ (λ (b : BitVector) (bs : List BitVector). b ∷ bs)
-      (ap as_bits (word-over xs g (word_at words wire.next) all) ∙ sym (bits-word_at xs g words wire.next (within 0 wire (omega arith))))
-      (next_words-states wires (λ k d h. within (suc k) d (omega arith)))
+      (ap as_bits (word-over xs g (word_at words wire.next) all) ∙ same 0 wire (omega arith))
+      (next_words-states wires values (λ k d h. same (suc k) d (omega arith)))
 
   -- the literal of a word of one bit has the bit's value
   flag-word : (lits : List ℕ) → length lits ≡ 1 → lit_value (values_over xs g.gates) (get_or lits 0 0) ≡ wired.is_one (bits xs g lits)
@@ -74,17 +74,17 @@ module _ (xs : List Bool) (g : Gates) (all : length xs ≡ g.sources) (words : L
   pick false true e wire wires one values here rest = absurd cc
 
   -- the outputs are the flags
-  pub outputs-flags : (wires : List OutputWire) → All (λ (wire : OutputWire). wire.id < length words) wires
-      → outputs_in (output_bits words wires) (values_over xs g.gates) ≡ wired.flags (wired.outputs_in wires (words_bits xs g words))
-  outputs-flags [] within = refl
-  outputs-flags (wire ∷ wires) within =
+  pub outputs-flags : (wires : List OutputWire) (values : List BitVector) → All (λ (wire : OutputWire). bits xs g (word_at words wire.id) ≡ value_at values wire.id) wires
+      → outputs_in (output_bits words wires) (values_over xs g.gates) ≡ wired.flags (wired.outputs_in wires values)
+  outputs-flags [] values same = refl
+  outputs-flags (wire ∷ wires) values same =
       let lits : List ℕ = word_at words wire.id in
-      let value : BitVector = value_at (words_bits xs g words) wire.id in
-      let is : value ≡ bits xs g lits = bits-word_at xs g words wire.id (within 0 wire (omega arith)) in
+      let value : BitVector = value_at values wire.id in
+      let is : value ≡ bits xs g lits = sym (same 0 wire (omega arith)) in
       let wide : value.width ≡ length lits = ap (λ (b : BitVector). b.width) is ∙ width xs g lits in
-      pick (has_one_bit words wire) (wired.is_one_bit value) (ap (λ n. eqb n 1) (sym wide)) wire (filter (has_one_bit words) wires) value (filter wired.is_one_bit (wired.outputs_in wires (words_bits xs g words)))
+      pick (has_one_bit words wire) (wired.is_one_bit value) (ap (λ n. eqb n 1) (sym wide)) wire (filter (has_one_bit words) wires) value (filter wired.is_one_bit (wired.outputs_in wires values))
       (λ one. flag-word lits (eqb-true (length lits) 1 one) ∙ ap wired.is_one (sym is))
-      (outputs-flags wires (λ k d h. within (suc k) d (omega arith)))
+      (outputs-flags wires values (λ k d h. same (suc k) d (omega arith)))
 
 none : (p q : Bool) → p ≡ q → (words : List (List ℕ)) (wire : OutputWire) (wires : List OutputWire) (value : BitVector) (values : List BitVector) → wired.is_one value ≡ false
     → map (λ (output : OutputBit). false) (map (output_bit words) wires) ≡ map wired.is_one values
@@ -157,19 +157,21 @@ zeros_fit (wire ∷ wires) valid =
     let rest = zeros_fit wires (λ k d h. valid (suc k) d (omega arith)) in
     record { widths = ap (λ (ws : List ℕ). wire.width ∷ ws) rest.widths; bits = All-cons IsBits (zero_at wire.width) (map (λ (wire : InputWire). zero_at wire.width) wires) (record { some_bit = own.0; no_wider = own.1; in_range = pow_pos wire.width }) rest.bits }
 
--- words are as wide as their nodes
-pub lengths-widths : (c : Wires) (g : Gates) (words : List (List ℕ)) → circuit.IsCircuit c → Made c g words → lengths words ≡ widths_of c.net
-lengths-widths c g words valid made =
+-- words that have the values of all nodes are as wide as they
+lengths-widths : (c : Wires) (g : Gates) (words : List (List ℕ)) → circuit.IsCircuit c
+    → ((inputs states : List BitVector) → AreBits inputs (circuit.input_widths c.inputs) → AreBits states (circuit.state_widths c.states) → words_bits (bits_of inputs ++ bits_of states) g words ≡ values_in c inputs states)
+    → lengths words ≡ widths_of c.net
+lengths-widths c g words valid values =
     let inputs : List BitVector = map (λ (wire : InputWire). zero_at wire.width) c.inputs in
     let states : List BitVector = wired.first_states c.states in
     let given = zeros_fit c.inputs valid.inputs in
     let now = first_states-AreBits c valid in
-    sym (widths-words_bits (bits_of inputs ++ bits_of states) g words) ∙ ap widths (made.values inputs states given now)
+    sym (widths-words_bits (bits_of inputs ++ bits_of states) g words) ∙ ap widths (values inputs states given now)
     ∙ (values-widths (record { inputs = inputs; states = states }) c.net valid.net (step_feeds c inputs states valid given now)).0
 
 module _ (c : Wires) (g : Gates) (words : List (List ℕ)) (valid : circuit.IsCircuit c) (made : Made c g words) where
   within : (id : ℕ) → id < length c.net → id < length words
-  within id h = omega (arith, ap length (lengths-widths c g words valid made), length-map words (λ (word : List ℕ). length word), length-one_by_one op_width [] c.net)
+  within id h = omega (arith, ap length (made.widths), length-map words (λ (word : List ℕ). length word), length-one_by_one op_width [] c.net)
 
   -- the rows after a step are equal
   row-same : (inputs states : List BitVector) → AreBits inputs (circuit.input_widths c.inputs) → AreBits states (circuit.state_widths c.states)
@@ -177,10 +179,9 @@ module _ (c : Wires) (g : Gates) (words : List (List ℕ)) (valid : circuit.IsCi
   row-same inputs states given now =
       let xs : List Bool = bits_of inputs ++ bits_of states in
       let all : length xs ≡ g.sources = length-sources c g words inputs states made given now in
-      let same : words_bits xs g words ≡ wired.values_in c inputs states = made.values inputs states given now in
       ap₂ (λ (regs : List BitVector) (fired : List Bool). record { regs = regs; fired = fired })
-      (next_words-states xs g all words c.states (λ k d h. within (get_or c.states k d).next (valid.states k d h).next) ∙ ap (wired.next_states c.states) same)
-      (outputs-flags xs g all words c.outputs (λ k d h. within (get_or c.outputs k d).id (valid.outputs k d h)) ∙ ap (λ values. wired.flags (wired.outputs_in c.outputs values)) same)
+      (next_words-states xs g all words c.states (wired.values_in c inputs states) (made.nexts inputs states given now))
+      (outputs-flags xs g all words c.outputs (wired.values_in c inputs states) (made.outputs inputs states given now))
 
   rows-same : (inputs : InputsByCycle) → ((cycle : ℕ) → AreBits (inputs cycle) (circuit.input_widths c.inputs)) → (count last : ℕ) (states : List BitVector) → AreBits states (circuit.state_widths c.states)
       → rows_after (parts_of c g words) inputs count last states ≡ wired_rows_after c inputs count last states
@@ -198,7 +199,7 @@ module _ (c : Wires) (g : Gates) (words : List (List ℕ)) (valid : circuit.IsCi
       let given : (cycle : ℕ) → AreBits (inputs_of stimulus cycle) (circuit.input_widths c.inputs) = λ cycle. subst (AreBits (inputs_of stimulus cycle)) same (HaveWidths-AreBits stimulus.widths (inputs_of stimulus cycle) (fits cycle)) in
       let first : List BitVector = wired.first_states c.states in
       ap₂ (λ (row : Row) (rows : List Row). row ∷ rows)
-      (ap₂ (λ (regs : List BitVector) (fired : List Bool). record { regs = regs; fired = fired }) (first_words-states words c.states) (first-flags (widths_of c.net) words c.outputs (lengths-widths c g words valid made)))
+      (ap₂ (λ (regs : List BitVector) (fired : List Bool). record { regs = regs; fired = fired }) (first_words-states words c.states) (first-flags (widths_of c.net) words c.outputs (made.widths)))
       (ap (rows_after (parts_of c g words) (inputs_of stimulus) n 0) (first_words-states words c.states) ∙ rows-same (inputs_of stimulus) given n 0 first (first_states-AreBits c valid))
 
   pub has-wires : HasWires c (parts_of c g words)
@@ -207,7 +208,7 @@ module _ (c : Wires) (g : Gates) (words : List (List ℕ)) (valid : circuit.IsCi
     input_widths = input_word-widths c.inputs;
     states = latch_word-names words c.states;
     state_widths = latch_word-widths c.net words c.states valid.states;
-    outputs = output_bits-names (widths_of c.net) words c.outputs (lengths-widths c g words valid made);
+    outputs = output_bits-names (widths_of c.net) words c.outputs (made.widths);
   }
 
   same_sources : sources (parts_of c g words) ≡ g.sources
@@ -223,7 +224,7 @@ module _ (c : Wires) (g : Gates) (words : List (List ℕ)) (valid : circuit.IsCi
       record {
         name = name;
         first = is.first.0;
-        count = sym (length-word_at words wire.next) ∙ ap (λ ws. width_at ws wire.next) (lengths-widths c g words valid made) ∙ is.next_width ∙ sym is.first.1;
+        count = sym (length-word_at words wire.next) ∙ ap (λ ws. width_at ws wire.next) (made.widths) ∙ is.next_width ∙ sym is.first.1;
         nexts = own.are_lits;
       }
 
@@ -250,17 +251,31 @@ made-from c g0 g words valid count graph nodes = record {
   count = nodes.keeps.same_sources ∙ count;
   graph = graph;
   are_words = nodes.are_words;
-  values = λ inputs states given now.
-      let xs : List Bool = bits_of inputs ++ bits_of states in
-      let all : length xs ≡ g0.sources = omega (arith, length-append (bits_of inputs) (bits_of states), length-bits_of inputs, length-bits_of states, ap sum given.widths, ap sum now.widths) in
-      let ins : words_bits xs g0 (source_words 0 (circuit.input_widths c.inputs)) ≡ inputs =
-      ap (λ ws. words_bits xs g0 (source_words 0 ws)) (sym given.widths) ∙ bits-source_words g0 0 [] (bits_of states) xs inputs given.bits refl refl all in
-      let start : length (bits_of inputs) ≡ sum (circuit.input_widths c.inputs) = length-bits_of inputs ∙ ap sum given.widths in
-      let sts : words_bits xs g0 (source_words (sum (circuit.input_widths c.inputs)) (circuit.state_widths c.states)) ≡ states =
-      ap (λ ws. words_bits xs g0 (source_words (sum (circuit.input_widths c.inputs)) ws)) (sym now.widths)
-      ∙ bits-source_words g0 (sum (circuit.input_widths c.inputs)) (bits_of inputs) [] xs states now.bits start (ap (λ ys. bits_of inputs ++ ys) (append-nil (bits_of states))) all in
-      nodes.have_values xs ∙ ap₂ (λ (i s : List BitVector). values_of (record { inputs = i; states = s }) c.net) ins sts;
+  widths = wide;
+  nexts = λ inputs states given now k d h. node inputs states given now (get_or c.states k d).next (valid.states k d h).next;
+  outputs = λ inputs states given now k d h. node inputs states given now (get_or c.outputs k d).id (valid.outputs k d h);
 }
+  where
+    values : (inputs states : List BitVector) → AreBits inputs (circuit.input_widths c.inputs) → AreBits states (circuit.state_widths c.states) → words_bits (bits_of inputs ++ bits_of states) g words ≡ values_in c inputs states
+    values inputs states given now =
+        let xs : List Bool = bits_of inputs ++ bits_of states in
+        let all : length xs ≡ g0.sources = omega (arith, length-append (bits_of inputs) (bits_of states), length-bits_of inputs, length-bits_of states, ap sum given.widths, ap sum now.widths) in
+        let ins : words_bits xs g0 (source_words 0 (circuit.input_widths c.inputs)) ≡ inputs =
+        ap (λ ws. words_bits xs g0 (source_words 0 ws)) (sym given.widths) ∙ bits-source_words g0 0 [] (bits_of states) xs inputs given.bits refl refl all in
+        let start : length (bits_of inputs) ≡ sum (circuit.input_widths c.inputs) = length-bits_of inputs ∙ ap sum given.widths in
+        let sts : words_bits xs g0 (source_words (sum (circuit.input_widths c.inputs)) (circuit.state_widths c.states)) ≡ states =
+        ap (λ ws. words_bits xs g0 (source_words (sum (circuit.input_widths c.inputs)) ws)) (sym now.widths)
+        ∙ bits-source_words g0 (sum (circuit.input_widths c.inputs)) (bits_of inputs) [] xs states now.bits start (ap (λ ys. bits_of inputs ++ ys) (append-nil (bits_of states))) all in
+        nodes.have_values xs ∙ ap₂ (λ (i s : List BitVector). values_of (record { inputs = i; states = s }) c.net) ins sts
+
+    wide : lengths words ≡ widths_of c.net
+    wide = lengths-widths c g words valid values
+
+    node : (inputs states : List BitVector) → AreBits inputs (circuit.input_widths c.inputs) → AreBits states (circuit.state_widths c.states) → (id : ℕ) → id < length c.net
+        → bits (bits_of inputs ++ bits_of states) g (word_at words id) ≡ value_at (values_in c inputs states) id
+    node inputs states given now id h =
+        let within : id < length words = omega (arith, ap length wide, length-map words (λ (word : List ℕ). length word), length-one_by_one op_width [] c.net) in
+        sym (bits-word_at (bits_of inputs ++ bits_of states) g words id within) ∙ ap (λ vs. value_at vs id) (values inputs states given now)
 
 -- the words of sources stand over as many sources as there are, and the net reads them
 pub AreWords-inputs : (c : Wires) (g : Gates) (words : List (List ℕ)) → circuit.IsCircuit c → g.sources ≡ source_count c → words ≡ input_words_of c → AreWords g words

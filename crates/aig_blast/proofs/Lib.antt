@@ -12,6 +12,7 @@ pub mod Growing
 pub mod Values
 pub mod Sharing
 pub mod Gates
+pub mod PairRules
 pub mod Making
 pub mod StepsMore
 pub mod PartsOfWords
@@ -21,3 +22,4 @@ pub mod NodeWords
 pub mod Blasting
 pub mod SimValues
 pub mod Rooms
+pub mod Trimming

@@ -41,7 +41,7 @@ Keeps-trans a b c p q = record {
 }
 
 -- the literal of a variable has the variable's value
-value-variable : (inputs : List Bool) (g : Gates) (v : ℕ) → value inputs g (2 * v) ≡ get_or (variables_of inputs g) v false
+pub value-variable : (inputs : List Bool) (g : Gates) (v : ℕ) → value inputs g (2 * v) ≡ get_or (variables_of inputs g) v false
 unfolding value
 value-variable inputs g v =
     let even : 2 * v % 2 ≡ 0 = omega arith in

@@ -17,10 +17,12 @@ mod nodes;
 mod operators;
 mod parts;
 mod rows;
+mod rules;
 mod shifts;
 mod sim;
 mod sources;
 mod tests_of_words;
+mod trim;
 
 pub use aig::{Aig, InputWord, LatchWord, OutputBit};
 pub use circuit::blast;

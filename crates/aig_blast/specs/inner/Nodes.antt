@@ -1,7 +1,8 @@
 -- The nodes of a net as words of literals. Contracts of private functions alone cite it.
 use Rattle.std.specs.Prelude.{◌≡◌, ℕ, ◌+◌, ◌≤◌, nat_eq, Bool, List, [], ◌++◌, length, map, filter, sum, slice_index_or, All}
 use Rattle.kw_bits.specs.BitVector.{BitVector}
-use Rattle.net_graph.specs.Values.{Sources}
+use Rattle.net_graph.specs.Nets.{widths_of}
+use Rattle.net_graph.specs.Values.{Sources, value_at}
 use Rattle.circuit_eval.specs.Circuits as circuit
 use Rattle.circuit_eval.specs.Circuits.{AreBits}
 use Rattle.circuit_eval.specs.Run.{values_in}
@@ -58,13 +59,17 @@ state_words_of c = source_words (sum (circuit.input_widths c.inputs)) (circuit.s
 abbrev pub source_count : Wires → ℕ
 source_count c = sum (circuit.input_widths c.inputs) + sum (circuit.state_widths c.states)
 
--- a graph over the bits of a circuit's inputs and states, and words in it that have the values of the circuit's nodes
+-- a graph over the bits of a circuit's inputs and states, and words in it, as wide as the circuit's nodes. Those of next nodes and
+-- of outputs have the nodes' values
 pub record Made (c : Wires) (g : Gates) (words : List (List ℕ)) : Type 0 where
   pub count : g.sources ≡ source_count c
   pub graph : IsGraph g
   pub are_words : AreWords g words
-  pub values : (inputs states : List BitVector) → AreBits inputs (circuit.input_widths c.inputs) → AreBits states (circuit.state_widths c.states)
-      → words_bits (bits_of inputs ++ bits_of states) g words ≡ values_in c inputs states
+  pub widths : lengths words ≡ widths_of c.net
+  pub nexts : (inputs states : List BitVector) → AreBits inputs (circuit.input_widths c.inputs) → AreBits states (circuit.state_widths c.states)
+      → All (λ (wire : StateWire). bits (bits_of inputs ++ bits_of states) g (word_at words wire.next) ≡ value_at (values_in c inputs states) wire.next) c.states
+  pub outputs : (inputs states : List BitVector) → AreBits inputs (circuit.input_widths c.inputs) → AreBits states (circuit.state_widths c.states)
+      → All (λ (wire : OutputWire). bits (bits_of inputs ++ bits_of states) g (word_at words wire.id) ≡ value_at (values_in c inputs states) wire.id) c.outputs
 
 -- the parts of a bit-level circuit by the wires of a circuit and the words of its nodes
 abbrev pub input_word : InputWire → InputWord
