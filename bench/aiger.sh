@@ -161,15 +161,17 @@ gates_after() {
 }
 
 echo
-echo "| design | inputs | latches | gates | yosys's gates for the module | gates after ABC | yosys's after ABC |"
-echo "|---|---|---|---|---|---|---|"
+echo "| design | inputs | latches | gates | yosys's gates for the module | enables as gates | gates after ABC | yosys's after ABC |"
+echo "|---|---|---|---|---|---|---|---|"
 row() {
     "$program" aiger <"$2" >"$room/design.aag"
     bin/latches <"$room/design.aag" >"$room/shown.aag"
     "$lab" verilog --registers <"$2" >"$room/words.v"
     local of_aag="read_aiger $room/shown.aag"
-    local of_words="read_verilog $room/words.v; synth -flatten -noabc -top koika; aigmap; opt -full"
+    local synth="read_verilog $room/words.v; synth -flatten -noabc -top koika"
+    local of_words="$synth; aigmap; opt -full"
     echo "| \`$1\` | $(header 3) | $(header 4) | $(header 6) | $(gates_after "$of_words") |" \
+        "$(gates_after "$synth; dffunmap; aigmap; opt -full") |" \
         "$(gates_after "$of_aag; abc -g AND; opt_clean") | $(gates_after "$of_words; abc -g AND; opt_clean") |"
 }
 for example in counter limit traffic gcd uart core filter; do
