@@ -13,7 +13,7 @@ cut_of_word n w within =
     let e : 128 - w + w ≡ 128 = omega arith in
     subst (λ (k : ℕ). n % 2 ^ k % 2 ^ w ≡ n % 2 ^ w) e (mod-mod-pow n (128 - w) w)
 
-more_of_a_multiple : (a b m k : ℕ) → b ≤ m → a + ((k + 1) * m - b) ≡ a + (m - b) + k * m
+pub more_of_a_multiple : (a b m k : ℕ) → b ≤ m → a + ((k + 1) * m - b) ≡ a + (m - b) + k * m
 more_of_a_multiple a b m k h = omega arith
 
 -- so has a difference, which a word takes from a greater power of 2

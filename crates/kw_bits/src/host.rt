@@ -140,12 +140,21 @@ fn morton(x: Bits) -> Bits
     requires { host.TakesWidth HostKind.Morton x.width }
     ensures { result ≡ host.value HostKind.Morton x }
 {
-    let (first, second) = (high_half(x), low_half(x));
+    let (first, second) = (high_half(x) as u64, low_half(x) as u64);
+    Bits::from_parts(x.width(), u128::from(interleaved(first, second, x.width())))
+}
+
+/// The number of this many bits whose bits are those of two numbers in turn, the lowest of the first below the lowest of
+/// the second.
+pub fn interleaved(x: u64, y: u64, count: u32) -> u64
+    requires { count ≤ 63 }
+    ensures { result ≡ host.number_of_bits count (host.interleaved_bit x y) }
+{
     let mut number = 0;
-    for i in 0..x.width() {
-        number = with_bit(number, interleaved_bit(first, second, i), i);
+    for i in 0..count {
+        number = with_bit(number, interleaved_bit(x, y, i), i);
     }
-    Bits::from_parts(x.width(), number)
+    number
 }
 
 #[tactic(auto, unfolding(crate::specs::Host::arity))]
@@ -190,8 +199,8 @@ fn low_half(x: Bits) -> u128
 
 // Bit i of two numbers that take turns, x before y.
 #[tactic(auto, unfolding(crate::specs::Host::interleaved_bit))]
-fn interleaved_bit(x: u128, y: u128, i: u32) -> u128
-    requires { i < 128 }
+fn interleaved_bit(x: u64, y: u64, i: u32) -> u64
+    requires { i < 64 }
     ensures bit { result ≡ host.interleaved_bit x y i }
     ensures small { result < 2 }
 {
@@ -203,10 +212,10 @@ fn interleaved_bit(x: u128, y: u128, i: u32) -> u128
 }
 
 // The number with one bit more, above its i bits.
-fn with_bit(number: u128, bit: u128, i: u32) -> u128
+fn with_bit(number: u64, bit: u64, i: u32) -> u64
     requires below { number < 2 ^ i }
     requires small { bit < 2 }
-    requires within { i < 127 }
+    requires within { i < 63 }
     ensures { result ≡ bit * 2 ^ i + number }
 {
     bit << i | number

@@ -5,4 +5,4 @@ use Rattle.kw_bits.proofs.host.with_bit.Goals as goal
 pub returns : goal.returns
 returns c =
     let a = c.args in
-    ap (λ n. bit_or n a.number) (shl_whole a.bit 1 a.i 128 c.requires.small (omega arith)) ∙ or_shifted a.bit a.i a.number c.requires.below
+    ap (λ n. bit_or n a.number) (shl_whole a.bit 1 a.i 64 c.requires.small (omega arith)) ∙ or_shifted a.bit a.i a.number c.requires.below
