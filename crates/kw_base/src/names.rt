@@ -1,15 +1,12 @@
 //! Texts: names numbered in order of first sight, found by a hash that the text decides.
 
 ghost use Rattle.std.specs.Prelude.{◌≡◌, ◌↔◌, ◌<◌, ◌^◌, IsTrue, length, [], Some, slice_get, IfOk, OnErr};
-ghost use Rattle.std.specs.Hash.DefaultHasher as sip;
-ghost use Rattle.sha2.specs.Sha256.{sha256};
 ghost use Rattle.kw_base.specs.Names.{AreNumbered, number_of, Adds};
 
+use crate::hash::HashOfText;
 use indexmap::IndexSet;
 use kw_bits::NoMemory;
-use sha2::{Digest, Sha256};
 use std::alloc::Global;
-use std::hash::{BuildHasher, DefaultHasher, Hasher};
 use std::marker::Model;
 
 /// Names, numbered from 0 in order of first sight and seen by contracts as the list of them in that order.
@@ -104,31 +101,5 @@ impl Names {
         ensures { IsTrue result ↔ (self.now ≡ []) }
     {
         self.seen.is_empty()
-    }
-}
-
-// Hashes names by SipHash that was fed with the digest of the text that they are in.
-#[derive(Clone, Copy)]
-struct HashOfText {
-    fed: DefaultHasher,
-}
-
-impl HashOfText {
-    fn new(text: &[u8]) -> HashOfText
-        ensures { result.fed ≡ sip.write sip.initial (sha256 text.now) }
-    {
-        let mut fed = DefaultHasher::new();
-        fed.write(&Sha256::digest(text));
-        HashOfText { fed }
-    }
-}
-
-impl BuildHasher for HashOfText {
-    type Hasher = DefaultHasher;
-
-    ghost build_hasher = { λ of_text. of_text.fed };
-
-    fn build_hasher(&self) -> DefaultHasher {
-        self.fed
     }
 }
