@@ -17,7 +17,8 @@ use Rattle.koika_syntax.specs.declared.token.TokenKind.TheVariants as kinds
 use Rattle.koika_syntax.proofs.Longest.{NoneLonger, IsLongest-from_none_longer, NoneLonger-from_family, NoneLonger-word, only_kind}
 use Rattle.koika_syntax.proofs.LongestNumeral.{NoneLonger-number, NoneLonger-base}
 use Rattle.koika_syntax.proofs.Numerals.{number-lt}
-use Rattle.koika_syntax.proofs.Runs.{and-true, prefix_len-append-cons, list_all-from_digits}
+use Rattle.koika_syntax.proofs.Runs.{prefix_len-append-cons, list_all-from_digits}
+use Rattle.kw_base.proofs.Conjunction.{and-true}
 use Rattle.koika_syntax.proofs.LexemeKinds.{family, family-first, length-lexeme, continues-from_begins}
 
 stops_word : (b : ℕ) → is_blank b ≡ true → continues_word b ≡ false

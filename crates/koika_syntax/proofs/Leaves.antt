@@ -1,5 +1,5 @@
 -- The leaves of a part, by the leaves of its parts.
-use Rattle.std.proofs.Common.{◌≡◌, ℕ, List, [], ◌∷◌, ◌++◌, append_assoc, append-nil, map, Vec, Global, Box, Option, Some, None, ap, sym, ◌∙◌}
+use Rattle.std.proofs.Common.{◌≡◌, ℕ, List, [], ◌∷◌, ◌++◌, append_assoc, append-nil, map, Option, Some, None, ap, sym, ◌∙◌}
 use Rattle.koika_syntax.specs.Grammar.{constant_step, constant_field_step, constant_leaves, struct_leaves, array_leaves, call_leaves, last_leaves, part_leaves, rule_leaves, expression_step, statement_step, arm_step, block_step, field_value_step, operand_step, block_leaves, choice_step, scheduler_step, scheduler_leaves}
 use Rattle.koika_syntax.specs.inner.Grammar.{constant_field_leaves, expression_leaves, statement_leaves, arm_leaves, field_value_leaves, operand_leaves, choice_leaves}
 use Rattle.koika_syntax.specs.Tree.{Leaf, name_leaves, sign, word, placed, symbol, keyword, with_between, all_of, in_braces, in_parentheses, binary_symbol, comparison_word}
@@ -27,14 +27,14 @@ use Rattle.koika_syntax.specs.declared.tree.ConstantField.{ConstantField, out-Co
 abbrev Leaves : Type 0
 Leaves = List Leaf
 
-pub struct_constant : (of : Name) (fields : Vec ConstantField Global) (close : ℕ) →
-    constant_leaves (Struct of fields close) ≡ struct_leaves of (map constant_field_leaves fields.items) close
+pub struct_constant : (of : Name) (fields : List ConstantField) (close : ℕ) →
+    constant_leaves (Struct of fields close) ≡ struct_leaves of (map constant_field_leaves fields) close
 unfolding constant_leaves constant_field_leaves
 struct_constant of fields close =
     ap constant_leaves (sym (rolls-Struct of fields close)) ∙ fold-roll-Constant Leaves Leaves constant_step constant_field_step (constant.Struct of fields close)
 
-pub array_constant : (place : ℕ) (elements : Vec Constant Global) →
-    constant_leaves (Array place elements) ≡ array_leaves place (map constant_leaves elements.items)
+pub array_constant : (place : ℕ) (elements : List Constant) →
+    constant_leaves (Array place elements) ≡ array_leaves place (map constant_leaves elements)
 unfolding constant_leaves
 array_constant place elements =
     ap constant_leaves (sym (rolls-Array place elements)) ∙ fold-roll-Constant Leaves Leaves constant_step constant_field_step (constant.Array place elements)
@@ -44,40 +44,40 @@ pub constant_field : (field : ConstantField) →
 unfolding constant_leaves constant_field_leaves
 constant_field field = fold_out-ConstantField Leaves Leaves constant_step constant_field_step field
 
-pub if_expression : (arms : Vec Arm Global) (otherwise : Option Block) →
-    expression_leaves (views.If arms otherwise) ≡ with_between (word keywords.Else) (map arm_leaves arms.items) ++ last_leaves otherwise (λ block. word keywords.Else ++ block_leaves block)
+pub if_expression : (arms : List Arm) (otherwise : Option Block) →
+    expression_leaves (views.If arms otherwise) ≡ with_between (word keywords.Else) (map arm_leaves arms) ++ last_leaves otherwise (λ block. word keywords.Else ++ block_leaves block)
 unfolding expression_leaves statement_leaves arm_leaves block_leaves field_value_leaves operand_leaves
 if_expression arms None = ap expression_leaves (sym (views.rolls-If arms None)) ∙ fold-roll-Expression Leaves Leaves Leaves Leaves Leaves Leaves expression_step statement_step arm_step block_step field_value_step operand_step (expression.If arms None)
 if_expression arms (Some block) = ap expression_leaves (sym (views.rolls-If arms (Some block))) ∙ fold-roll-Expression Leaves Leaves Leaves Leaves Leaves Leaves expression_step statement_step arm_step block_step field_value_step operand_step (expression.If arms (Some block))
 
-pub chain_expression : (first : Box Expression Global) (rest : Vec Operand Global) →
-    expression_leaves (views.Chain first rest) ≡ expression_leaves first.value ++ all_of (map operand_leaves rest.items)
+pub chain_expression : (first : Expression) (rest : List Operand) →
+    expression_leaves (views.Chain first rest) ≡ expression_leaves first ++ all_of (map operand_leaves rest)
 unfolding expression_leaves statement_leaves arm_leaves block_leaves field_value_leaves operand_leaves
 chain_expression first rest = ap expression_leaves (sym (views.rolls-Chain first rest)) ∙ fold-roll-Expression Leaves Leaves Leaves Leaves Leaves Leaves expression_step statement_step arm_step block_step field_value_step operand_step (expression.Chain first rest)
 
-pub call_expression : (called : Name) (arguments : Vec Expression Global) →
-    expression_leaves (views.Call called arguments) ≡ call_leaves (name_leaves called) (map expression_leaves arguments.items)
+pub call_expression : (called : Name) (arguments : List Expression) →
+    expression_leaves (views.Call called arguments) ≡ call_leaves (name_leaves called) (map expression_leaves arguments)
 unfolding expression_leaves statement_leaves arm_leaves block_leaves field_value_leaves operand_leaves
 call_expression called arguments = ap expression_leaves (sym (views.rolls-Call called arguments)) ∙ fold-roll-Expression Leaves Leaves Leaves Leaves Leaves Leaves expression_step statement_step arm_step block_step field_value_step operand_step (expression.Call called arguments)
 
-pub struct_expression : (of : Name) (fields : Vec FieldValue Global) (close : ℕ) →
-    expression_leaves (views.Struct of fields close) ≡ struct_leaves of (map field_value_leaves fields.items) close
+pub struct_expression : (of : Name) (fields : List FieldValue) (close : ℕ) →
+    expression_leaves (views.Struct of fields close) ≡ struct_leaves of (map field_value_leaves fields) close
 unfolding expression_leaves statement_leaves arm_leaves block_leaves field_value_leaves operand_leaves
 struct_expression of fields close = ap expression_leaves (sym (views.rolls-Struct of fields close)) ∙ fold-roll-Expression Leaves Leaves Leaves Leaves Leaves Leaves expression_step statement_step arm_step block_step field_value_step operand_step (expression.Struct of fields close)
 
-pub array_expression : (place : ℕ) (elements : Vec Expression Global) →
-    expression_leaves (views.Array place elements) ≡ array_leaves place (map expression_leaves elements.items)
+pub array_expression : (place : ℕ) (elements : List Expression) →
+    expression_leaves (views.Array place elements) ≡ array_leaves place (map expression_leaves elements)
 unfolding expression_leaves statement_leaves arm_leaves block_leaves field_value_leaves operand_leaves
 array_expression place elements = ap expression_leaves (sym (views.rolls-Array place elements)) ∙ fold-roll-Expression Leaves Leaves Leaves Leaves Leaves Leaves expression_step statement_step arm_step block_step field_value_step operand_step (expression.Array place elements)
 
-block_at : (place : ℕ) (statements : Vec Statement Global) (value : Option (Box Expression Global)) →
-    block_leaves (roll-Block (record { place = place; statements = statements; value = value })) ≡ placed (symbol symbols.LeftBrace) place ++ all_of (map statement_leaves statements.items) ++ last_leaves value (λ last. expression_leaves last.value) ++ sign symbols.RightBrace
+block_at : (place : ℕ) (statements : List Statement) (value : Option Expression) →
+    block_leaves (roll-Block (record { place = place; statements = statements; value = value })) ≡ placed (symbol symbols.LeftBrace) place ++ all_of (map statement_leaves statements) ++ last_leaves value expression_leaves ++ sign symbols.RightBrace
 unfolding expression_leaves statement_leaves arm_leaves block_leaves field_value_leaves operand_leaves
 block_at place statements None = fold-roll-Block Leaves Leaves Leaves Leaves Leaves Leaves expression_step statement_step arm_step block_step field_value_step operand_step (record { place = place; statements = statements; value = None })
 block_at place statements (Some last) = fold-roll-Block Leaves Leaves Leaves Leaves Leaves Leaves expression_step statement_step arm_step block_step field_value_step operand_step (record { place = place; statements = statements; value = Some last })
 
 pub block : (b : Block) →
-    block_leaves b ≡ placed (symbol symbols.LeftBrace) (out-Block b).place ++ all_of (map statement_leaves (out-Block b).statements.items) ++ last_leaves (out-Block b).value (λ last. expression_leaves last.value) ++ sign symbols.RightBrace
+    block_leaves b ≡ placed (symbol symbols.LeftBrace) (out-Block b).place ++ all_of (map statement_leaves (out-Block b).statements) ++ last_leaves (out-Block b).value expression_leaves ++ sign symbols.RightBrace
 block b = ap block_leaves (sym (roll-out-Block b)) ∙ block_at (out-Block b).place (out-Block b).statements (out-Block b).value
 
 pub arm : (a : Arm) → arm_leaves a ≡ placed (keyword keywords.If) (out-Arm a).place ++ expression_leaves (out-Arm a).condition ++ block_leaves (out-Arm a).body
@@ -92,13 +92,13 @@ pub operand : (o : Operand) → operand_leaves o ≡ sign (binary_symbol (out-Op
 unfolding expression_leaves statement_leaves arm_leaves block_leaves field_value_leaves operand_leaves
 operand o = fold_out-Operand Leaves Leaves Leaves Leaves Leaves Leaves expression_step statement_step arm_step block_step field_value_step operand_step o
 
-scheduler_at : (rules : List Name) (last : Option (Box Choice Global)) →
-    scheduler_leaves (roll-Scheduler (record { rules = rules; last = last })) ≡ flat_map rule_leaves rules ++ last_leaves last (λ choice. choice_leaves choice.value)
+scheduler_at : (rules : List Name) (last : Option Choice) →
+    scheduler_leaves (roll-Scheduler (record { rules = rules; last = last })) ≡ flat_map rule_leaves rules ++ last_leaves last choice_leaves
 unfolding scheduler_leaves choice_leaves
 scheduler_at rules None = fold-roll-Scheduler Leaves Leaves choice_step scheduler_step (record { rules = rules; last = None })
 scheduler_at rules (Some choice) = fold-roll-Scheduler Leaves Leaves choice_step scheduler_step (record { rules = rules; last = Some choice })
 
-pub scheduler : (s : Scheduler) → scheduler_leaves s ≡ flat_map rule_leaves (out-Scheduler s).rules ++ last_leaves (out-Scheduler s).last (λ choice. choice_leaves choice.value)
+pub scheduler : (s : Scheduler) → scheduler_leaves s ≡ flat_map rule_leaves (out-Scheduler s).rules ++ last_leaves (out-Scheduler s).last choice_leaves
 scheduler s = ap scheduler_leaves (sym (roll-out-Scheduler s)) ∙ scheduler_at (out-Scheduler s).rules (out-Scheduler s).last
 
 pub choice : (c : Choice) → choice_leaves c ≡ word keywords.Try ++ name_leaves (out-Choice c).rule ++ word keywords.Then ++ in_braces (scheduler_leaves (out-Choice c).then) ++ word keywords.Else ++ in_braces (scheduler_leaves (out-Choice c).otherwise)
@@ -118,19 +118,19 @@ three : (s x y z : List Leaf) → with_between s (x ∷ y ∷ z ∷ []) ≡ x ++
 unfolding with_between
 three s x y z = ap (λ t. x ++ ((s ++ y) ++ t)) (append-nil (s ++ z)) ∙ sym (append_assoc x (s ++ y) (s ++ z)) ∙ ap (λ t. t ++ (s ++ z)) (sym (append_assoc x s y)) ∙ sym (append_assoc (x ++ s ++ y) s z)
 
-pub compare_expression : (place : ℕ) (comparison : SignedComparison) (left right : Box Expression Global) →
-    expression_leaves (views.Compare place comparison left right) ≡ placed (keyword (comparison_word comparison)) place ++ in_parentheses (expression_leaves left.value ++ sign symbols.Comma ++ expression_leaves right.value)
+pub compare_expression : (place : ℕ) (comparison : SignedComparison) (left right : Expression) →
+    expression_leaves (views.Compare place comparison left right) ≡ placed (keyword (comparison_word comparison)) place ++ in_parentheses (expression_leaves left ++ sign symbols.Comma ++ expression_leaves right)
 unfolding expression_leaves
 compare_expression place comparison left right =
     ap expression_leaves (sym (views.rolls-Compare place comparison left right)) ∙ fold-roll-Expression Leaves Leaves Leaves Leaves Leaves Leaves expression_step statement_step arm_step block_step field_value_step operand_step (expression.Compare place comparison left right) ∙
-    ap (λ inside. placed (keyword (comparison_word comparison)) place ++ in_parentheses inside) (two (sign symbols.Comma) (expression_leaves left.value) (expression_leaves right.value))
+    ap (λ inside. placed (keyword (comparison_word comparison)) place ++ in_parentheses inside) (two (sign symbols.Comma) (expression_leaves left) (expression_leaves right))
 
-pub update_expression : (place : ℕ) (whole : Box Expression Global) (part : UpdatedPart) (value : Box Expression Global) →
-    expression_leaves (views.Update place whole part value) ≡ placed (keyword keywords.Update) place ++ in_parentheses (expression_leaves whole.value ++ sign symbols.Comma ++ part_leaves part ++ sign symbols.Comma ++ expression_leaves value.value)
+pub update_expression : (place : ℕ) (whole : Expression) (part : UpdatedPart) (value : Expression) →
+    expression_leaves (views.Update place whole part value) ≡ placed (keyword keywords.Update) place ++ in_parentheses (expression_leaves whole ++ sign symbols.Comma ++ part_leaves part ++ sign symbols.Comma ++ expression_leaves value)
 unfolding expression_leaves
 update_expression place whole part value =
     ap expression_leaves (sym (views.rolls-Update place whole part value)) ∙ fold-roll-Expression Leaves Leaves Leaves Leaves Leaves Leaves expression_step statement_step arm_step block_step field_value_step operand_step (expression.Update place whole part value) ∙
-    ap (λ inside. placed (keyword keywords.Update) place ++ in_parentheses inside) (three (sign symbols.Comma) (expression_leaves whole.value) (part_leaves part) (expression_leaves value.value))
+    ap (λ inside. placed (keyword keywords.Update) place ++ in_parentheses inside) (three (sign symbols.Comma) (expression_leaves whole) (part_leaves part) (expression_leaves value))
 
 -- the leaves of each part that holds lists
 pub ruleset parts_of_constants = (struct_constant, array_constant, constant_field)

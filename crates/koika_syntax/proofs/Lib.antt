@@ -12,5 +12,6 @@ pub mod Unique
 pub mod UniquePieces
 pub mod Places
 pub mod Leaves
+pub mod TreeParts
 pub mod Blanks
 pub mod Lexing

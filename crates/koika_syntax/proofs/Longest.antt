@@ -7,7 +7,8 @@ use Rattle.koika_syntax.specs.Lexemes.{is_blank, begins_word, continues_word, st
 use Rattle.koika_syntax.specs.Symbols.{symbol_text}
 use Rattle.koika_syntax.specs.inner.Symbols.{BeginsWith}
 use Rattle.koika_syntax.specs.declared.symbol.Symbol.{Symbol}
-use Rattle.koika_syntax.proofs.Runs.{and-true, length-le-prefix_len}
+use Rattle.koika_syntax.proofs.Runs.{length-le-prefix_len}
+use Rattle.kw_base.proofs.Conjunction.{and-true}
 use Rattle.koika_syntax.proofs.LexemeKinds.{family, family_at, family-first, family-word, length-lexeme, continues-from_begins}
 
 -- no lexeme at the front of the text is longer than this

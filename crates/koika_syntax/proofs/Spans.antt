@@ -10,7 +10,7 @@ use Rattle.koika_syntax.specs.declared.token.Token.{Token}
 use Rattle.koika_syntax.specs.declared.token.TokenKind.{TokenKind}
 use Rattle.koika_syntax.proofs.Cuts.{length-piece}
 
-abbrev span : TokenKind → List ℕ → List ℕ → Token
+abbrev pub span : TokenKind → List ℕ → List ℕ → Token
 span kind before bytes = record { kind = kind; start = length before; end = length (before ++ bytes) }
 
 -- one token at its span

@@ -37,7 +37,8 @@ use Rattle.koika_syntax.specs.declared.tree.Statement.{Statement, Statement-F}
 use Rattle.koika_syntax.specs.declared.tree.Suffix.{Suffix}
 use Rattle.koika_syntax.specs.declared.tree.Suffix.TheVariants as suffixes
 use Rattle.koika_syntax.specs.declared.tree.Tree.{Tree}
-use Rattle.koika_syntax.specs.declared.tree.TypeExpression.{TypeExpression, Bits, Named, Array'}
+use Rattle.koika_syntax.specs.declared.tree.TypeExpression.{TypeExpression, TypeExpression-F, fold-TypeExpression, every-TypeExpression}
+use Rattle.koika_syntax.specs.declared.tree.TypeExpression.TheOpen as type_expression
 use Rattle.koika_syntax.specs.declared.tree.Width.{Width}
 
 -- the tokens of a part
@@ -45,11 +46,15 @@ abbrev pub Leaves : Type 0
 Leaves = List Leaf
 
 -- type = "bits" NUM | NAME | "[" type ";" NUM "]"
-abbrev pub type_leaves : TypeExpression → List Leaf
-type_leaves (Bits width) = width_leaves width
-type_leaves (Named n) = name_leaves n
-type_leaves (Array' place _ element size) =
-    placed (symbol symbols.LeftBracket) place ++ type_leaves element ++ sign symbols.Semicolon ++ number_leaves size ++ sign symbols.RightBracket
+abbrev pub type_step : TypeExpression-F Leaves → List Leaf
+type_step (type_expression.Bits width) = width_leaves width
+type_step (type_expression.Named n) = name_leaves n
+type_step (type_expression.Array place element size) =
+    placed (symbol symbols.LeftBracket) place ++ element ++ sign symbols.Semicolon ++ number_leaves size ++ sign symbols.RightBracket
+
+-- the tokens of a type
+unfoldable pub type_leaves : TypeExpression → List Leaf
+type_leaves = fold-TypeExpression Leaves type_step
 
 -- NAME "::" "{" NAME ":" .. { "," NAME ":" .. } "}"
 abbrev pub struct_leaves : Name → List Leaves → ℕ → List Leaf
@@ -64,8 +69,8 @@ array_leaves place elements = placed (symbol symbols.LeftBracket) place ++ comma
 abbrev pub constant_step : Constant-F Leaves Leaves → List Leaf
 constant_step (constant.Literal l) = literal_leaves l
 constant_step (constant.Member of member) = name_leaves of ++ sign symbols.ColonColon ++ name_leaves member
-constant_step (constant.Struct of fields close) = struct_leaves of fields.items close
-constant_step (constant.Array place elements) = array_leaves place elements.items
+constant_step (constant.Struct of fields close) = struct_leaves of fields close
+constant_step (constant.Array place elements) = array_leaves place elements
 
 -- the tokens of a field of a constant
 abbrev pub constant_field_step : ConstantField-F Leaves Leaves → List Leaf
@@ -83,7 +88,7 @@ last_leaves (Some last) leaves = leaves last
 -- the tokens of a block
 abbrev pub block_step : Block-F Leaves Leaves Leaves Leaves Leaves Leaves → List Leaf
 block_step block =
-    placed (symbol symbols.LeftBrace) block.place ++ all_of block.statements.items ++ last_leaves block.value (λ value. value.value) ++ sign symbols.RightBrace
+    placed (symbol symbols.LeftBrace) block.place ++ all_of block.statements ++ last_leaves block.value (λ value. value) ++ sign symbols.RightBrace
 
 -- stmt = "let" NAME "=" expr ";" | expr ";"
 abbrev pub statement_step : Statement-F Leaves Leaves Leaves Leaves Leaves Leaves → List Leaf
@@ -124,32 +129,32 @@ call_leaves called arguments = called ++ in_parentheses (commas arguments)
 
 -- expr = if | chain, and below them unary, postfix and the cases of primary
 abbrev pub expression_step : Expression-F Leaves Leaves Leaves Leaves Leaves Leaves → List Leaf
-expression_step (expression.If arms otherwise) = if_leaves arms.items otherwise
-expression_step (expression.Chain first rest) = first.value ++ all_of rest.items
-expression_step (expression.Unary prefixes operand) = flat_map prefix_leaves prefixes ++ operand.value
-expression_step (expression.Postfix primary suffixes) = primary.value ++ flat_map suffix_leaves suffixes
+expression_step (expression.If arms otherwise) = if_leaves arms otherwise
+expression_step (expression.Chain first rest) = first ++ all_of rest
+expression_step (expression.Unary prefixes operand) = flat_map prefix_leaves prefixes ++ operand
+expression_step (expression.Postfix primary suffixes) = primary ++ flat_map suffix_leaves suffixes
 expression_step (expression.Literal l) = literal_leaves l
 expression_step (expression.Name n) = name_leaves n
-expression_step (expression.Call called arguments) = call_leaves (name_leaves called) arguments.items
+expression_step (expression.Call called arguments) = call_leaves (name_leaves called) arguments
 expression_step (expression.Member of member) = name_leaves of ++ sign symbols.ColonColon ++ name_leaves member
-expression_step (expression.Struct of fields close) = struct_leaves of fields.items close
-expression_step (expression.Array place elements) = array_leaves place elements.items
+expression_step (expression.Struct of fields close) = struct_leaves of fields close
+expression_step (expression.Array place elements) = array_leaves place elements
 expression_step (expression.Parentheses place inside) =
-    placed (symbol symbols.LeftParenthesis) place ++ inside.value ++ sign symbols.RightParenthesis
+    placed (symbol symbols.LeftParenthesis) place ++ inside ++ sign symbols.RightParenthesis
 expression_step (expression.Block block) = block
 expression_step (expression.Read place port register) = call_leaves (placed (keyword (read_word port)) place) (name_leaves register ∷ [])
 expression_step (expression.Write place port register value) =
-    call_leaves (placed (keyword (write_word port)) place) (name_leaves register ∷ value.value ∷ [])
+    call_leaves (placed (keyword (write_word port)) place) (name_leaves register ∷ value ∷ [])
 expression_step (expression.Abort place) = placed (keyword keywords.Abort) place
-expression_step (expression.Pack place value) = call_leaves (placed (keyword keywords.Pack) place) (value.value ∷ [])
+expression_step (expression.Pack place value) = call_leaves (placed (keyword keywords.Pack) place) (value ∷ [])
 expression_step (expression.Unpack place to value) =
-    call_leaves (placed (keyword keywords.Unpack) place) (type_leaves to ∷ value.value ∷ [])
+    call_leaves (placed (keyword keywords.Unpack) place) (type_leaves to ∷ value ∷ [])
 expression_step (expression.Extend place extension value width) =
-    call_leaves (placed (keyword (extension_word extension)) place) (value.value ∷ number_leaves width ∷ [])
+    call_leaves (placed (keyword (extension_word extension)) place) (value ∷ number_leaves width ∷ [])
 expression_step (expression.Compare place comparison left right) =
-    call_leaves (placed (keyword (comparison_word comparison)) place) (left.value ∷ right.value ∷ [])
+    call_leaves (placed (keyword (comparison_word comparison)) place) (left ∷ right ∷ [])
 expression_step (expression.Update place whole part value) =
-    call_leaves (placed (keyword keywords.Update) place) (whole.value ∷ part_leaves part ∷ value.value ∷ [])
+    call_leaves (placed (keyword keywords.Update) place) (whole ∷ part_leaves part ∷ value ∷ [])
 
 -- the tokens of a field and its value
 abbrev pub field_value_step : FieldValue-F Leaves Leaves Leaves Leaves Leaves Leaves → List Leaf
@@ -203,7 +208,7 @@ choice_step choice =
 
 -- the tokens of a scheduler
 abbrev pub scheduler_step : Scheduler-F Leaves Leaves → List Leaf
-scheduler_step scheduler = flat_map rule_leaves scheduler.rules ++ last_leaves scheduler.last (λ choice. choice.value)
+scheduler_step scheduler = flat_map rule_leaves scheduler.rules ++ last_leaves scheduler.last (λ choice. choice)
 
 -- the tokens of a scheduler, by those of its parts
 unfoldable pub scheduler_leaves : Scheduler → List Leaf
@@ -246,7 +251,7 @@ level_of_chain (operand ∷ operands) = level_of (out-Operand operand).operator
 -- 12 a primary
 abbrev pub level_of_layer : ExpressionLayer → ℕ
 level_of_layer (expression.If arms otherwise) = 0
-level_of_layer (expression.Chain first rest) = level_of_chain rest.items
+level_of_layer (expression.Chain first rest) = level_of_chain rest
 level_of_layer (expression.Unary prefixes operand) = 10
 level_of_layer (expression.Postfix primary suffixes) = 11
 level_of_layer _ = 12
@@ -271,11 +276,15 @@ LiteralFits l = IsBitVector l.bits.width l.bits.number
 abbrev pub IsWidth : Width → Type 0
 IsWidth w = NumberFits w.number
 
--- the names and numbers of a type are such
-abbrev pub IsType : TypeExpression → Type 0
-IsType (Bits width) = IsWidth width
-IsType (Named n) = IsName n
-IsType (Array' place _ element size) = IsType element × NumberFits size
+-- what a type's own names and numbers have to be
+abbrev pub IsTypeLayer : TypeExpression-F TypeExpression → Type 0
+IsTypeLayer (type_expression.Bits width) = IsWidth width
+IsTypeLayer (type_expression.Named n) = IsName n
+IsTypeLayer (type_expression.Array place element size) = NumberFits size
+
+-- a type is one of the grammar's
+unfoldable pub IsType : TypeExpression → Type 0
+IsType = every-TypeExpression IsTypeLayer
 
 -- what is repeated with commas is there at least once
 abbrev pub IsNonempty : {X : Type 0} → List X → Type 0
@@ -285,8 +294,8 @@ IsNonempty xs = 0 < length xs
 abbrev pub IsConstantLayer : Constant-F Constant ConstantField → Type 0
 IsConstantLayer (constant.Literal l) = LiteralFits l
 IsConstantLayer (constant.Member of member) = IsName of × IsName member
-IsConstantLayer (constant.Struct of fields close) = IsName of × IsNonempty fields.items
-IsConstantLayer (constant.Array place elements) = IsNonempty elements.items
+IsConstantLayer (constant.Struct of fields close) = IsName of × IsNonempty fields
+IsConstantLayer (constant.Array place elements) = IsNonempty elements
 
 -- a constant's field has a name
 abbrev pub IsConstantFieldLayer : ConstantField-F Constant ConstantField → Type 0
@@ -313,17 +322,17 @@ IsOperandAt k operand = (level_of (out-Operand operand).operator ≡ k) × (k < 
 
 -- what an expression's own names, numbers, lists and levels have to be
 abbrev pub IsExpressionLayer : ExpressionLayer → Type 0
-IsExpressionLayer (expression.If arms otherwise) = IsNonempty arms.items
+IsExpressionLayer (expression.If arms otherwise) = IsNonempty arms
 IsExpressionLayer (expression.Chain first rest) =
-    IsNonempty rest.items × (level_of_chain rest.items < level first.value) × All (IsOperandAt (level_of_chain rest.items)) rest.items
-IsExpressionLayer (expression.Unary prefixes operand) = IsNonempty prefixes × (10 < level operand.value)
-IsExpressionLayer (expression.Postfix primary suffixes) = (11 < level primary.value) × IsNonempty suffixes × All IsSuffix suffixes
+    IsNonempty rest × (level_of_chain rest < level first) × All (IsOperandAt (level_of_chain rest)) rest
+IsExpressionLayer (expression.Unary prefixes operand) = IsNonempty prefixes × (10 < level operand)
+IsExpressionLayer (expression.Postfix primary suffixes) = (11 < level primary) × IsNonempty suffixes × All IsSuffix suffixes
 IsExpressionLayer (expression.Literal l) = LiteralFits l
 IsExpressionLayer (expression.Name n) = IsName n
 IsExpressionLayer (expression.Call called arguments) = IsName called
 IsExpressionLayer (expression.Member of member) = IsName of × IsName member
-IsExpressionLayer (expression.Struct of fields close) = IsName of × IsNonempty fields.items
-IsExpressionLayer (expression.Array place elements) = IsNonempty elements.items
+IsExpressionLayer (expression.Struct of fields close) = IsName of × IsNonempty fields
+IsExpressionLayer (expression.Array place elements) = IsNonempty elements
 IsExpressionLayer (expression.Parentheses place inside) = ⊤
 IsExpressionLayer (expression.Block block) = ⊤
 IsExpressionLayer (expression.Read place port register) = (port < 4) × IsName register

@@ -3,6 +3,7 @@
 ghost use Rattle.std.specs.Prelude.{◌≡◌, ◌≢◌, ◌↔◌, ◌%◌, slice_get, slice_index, IsTrue, IfSome, IfNone};
 ghost use Rattle.koika_syntax.specs.declared.keyword.TheConstants.{KEYWORDS, PLACES};
 ghost use Rattle.koika_syntax.specs.Keywords.{keyword_text};
+ghost use Rattle.koika_syntax.specs.Tree.{read_word, write_word};
 
 /// A word that is no name.
 #[derive(Clone, Copy, Debug, PartialEq, Eq)]
@@ -169,5 +170,29 @@ impl Keyword {
         ensures { IsTrue result ↔ (word.now ≡ keyword_text self) }
     {
         word == self.text()
+    }
+}
+
+/// How a read at a port from 0 to 3 is written.
+pub fn read_word(port: u32) -> Keyword
+    ensures { result ≡ read_word port }
+{
+    match port {
+        1 => Keyword::Read1,
+        2 => Keyword::Read2,
+        3 => Keyword::Read3,
+        _ => Keyword::Read0,
+    }
+}
+
+/// How a write at a port from 0 to 3 is written.
+pub fn write_word(port: u32) -> Keyword
+    ensures { result ≡ write_word port }
+{
+    match port {
+        1 => Keyword::Write1,
+        2 => Keyword::Write2,
+        3 => Keyword::Write3,
+        _ => Keyword::Write0,
     }
 }

@@ -18,7 +18,7 @@ mod token;
 mod tree;
 mod word;
 
-pub use keyword::Keyword;
+pub use keyword::{Keyword, read_word, write_word};
 pub use laws::tokens_or_fault;
 pub use lexer::lex;
 pub use operator::{BinaryOperator, Extension, SignedComparison, UnaryOperator};

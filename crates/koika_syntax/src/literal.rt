@@ -1,7 +1,7 @@
 //! Tokens: numbers and literals, read digit by digit.
 
-ghost use Rattle.std.specs.Prelude.{◌≡◌, ◌≢◌, ◌+◌, ◌*◌, ◌<◌, ◌^◌, ◌∷◌, ◌++◌, length, slice_index, IfSome, IfNone, IsTrue};
-ghost use Rattle.std.specs.Char.{digit_value, is_digit};
+ghost use Rattle.std.specs.Prelude.{◌≡◌, ◌≢◌, ◌<◌, ◌^◌, ◌∷◌, ◌++◌, length, slice_index, IfSome, IfNone, IsTrue};
+ghost use Rattle.std.specs.Char.{is_digit};
 ghost use Rattle.std.specs.List.{prefix_len};
 ghost use Rattle.std.specs.Option.{SomeIff};
 ghost use Rattle.std.specs.Str.Parse.{IsNumeral, digits_value};
@@ -12,6 +12,7 @@ ghost use Rattle.koika_syntax.specs.inner.LexemeAnswers.{IsAnswer};
 
 use crate::TokenKind;
 use crate::lexeme::{Flaw, Lexeme};
+use kw_base::texts;
 use kw_bits::Bits;
 
 /// The base in which digits are written.
@@ -92,30 +93,12 @@ fn literal(width: &[u8], behind: &[u8]) -> Result<Lexeme<TokenKind>, Flaw>
 
 // The number that decimal digits write, if it is below 2^32.
 fn number_of(digits: &[u8]) -> Option<u32>
-    requires { IsNumeral 10 digits.now }
     ensures { SomeIff result (digits_value 10 digits.now < 2 ^ 32) (digits_value 10 digits.now) }
 {
-    let mut number = decimal_digit(digits[0]);
-    let mut len = 1;
-    while len < digits.len() {
-        number = with_decimal_digit(number, decimal_digit(digits[len]))?;
-        len += 1;
+    match texts::decimal(digits) {
+        Some(number) if number <= u64::from(u32::MAX) => Some(number as u32),
+        _ => None,
     }
-    Some(number)
-}
-
-fn decimal_digit(byte: u8) -> u32
-    requires { digit_value byte < 10 }
-    ensures { result ≡ digit_value byte }
-{
-    char::from(byte).to_digit(10).unwrap()
-}
-
-// The number with one more decimal digit after it, if it is below 2^32.
-fn with_decimal_digit(number: u32, digit: u32) -> Option<u32>
-    ensures { SomeIff result (number * 10 + digit < 2 ^ 32) (number * 10 + digit) }
-{
-    number.checked_mul(10)?.checked_add(digit)
 }
 
 // The bits of a literal of these parts, if they are in range.
@@ -125,7 +108,7 @@ fn bits_of(width: &[u8], base: Base, value: &[u8]) -> Option<Bits>
     ensures found { IfSome result (λ bits. IsLiteralOf bits (record { width = width.now; base = base; value = value.now })) }
     ensures absent { IfNone result (¬ IsBitVector (digits_value 10 width.now) (digits_value (radix_of base) value.now)) }
 {
-    Bits::new(number_of(width)?, value_of(value, base)?)
+    Bits::new(number_of(width)?, texts::number_of(base.radix(), value)?)
 }
 
 // How many bytes at the front are decimal digits, of which the first one is.
@@ -151,27 +134,4 @@ fn digits_len(bytes: &[u8], base: Base) -> usize
         len += 1;
     }
     len
-}
-
-// The number that digits write, if it is below 2^128.
-fn value_of(digits: &[u8], base: Base) -> Option<u128>
-    requires { IsNumeral (radix_of base) digits.now }
-    ensures { SomeIff result (digits_value (radix_of base) digits.now < 2 ^ 128) (digits_value (radix_of base) digits.now) }
-{
-    let radix = base.radix();
-    let mut value: u128 = 0;
-    for digit in digits {
-        let digit = char::from(*digit).to_digit(radix).unwrap();
-        value = with_digit(value, radix, digit)?;
-    }
-    Some(value)
-}
-
-// The number with one more digit after it, if it is below 2^128.
-fn with_digit(value: u128, radix: u32, digit: u32) -> Option<u128>
-    ensures { SomeIff result (value * radix + digit < 2 ^ 128) (value * radix + digit) }
-{
-    value
-        .checked_mul(u128::from(radix))?
-        .checked_add(u128::from(digit))
 }

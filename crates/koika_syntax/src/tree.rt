@@ -1,7 +1,7 @@
 //! Trees: the tree of a design, part by part as the grammar has them.
 
 use crate::operator::{BinaryOperator, Extension, SignedComparison, UnaryOperator};
-use kw_bits::{Bits, Sequence, Text};
+use kw_bits::{Bits, Boxed, Sequence, Text};
 
 /// A name, and the offset of its first byte. Every place in a tree is the offset of a token's first byte.
 #[derive(Drop)]
@@ -33,13 +33,14 @@ pub struct Width {
 
 /// A type.
 #[derive(Drop)]
+#[cycle(type_expression)]
 pub enum TypeExpression {
     Bits(Width),
     Named(Name),
     /// `[T; N]`, with the place of its bracket.
     Array {
         place: u32,
-        element: Box<TypeExpression>,
+        element: Boxed<TypeExpression>,
         length: Number,
     },
 }
@@ -57,13 +58,13 @@ pub enum Constant {
     /// `S::{f: c, ..}`, with the place of its closing bracket.
     Struct {
         of: Name,
-        fields: Vec<ConstantField>,
+        fields: Sequence<ConstantField>,
         close: u32,
     },
     /// `[c, ..]`, with the place of its opening bracket.
     Array {
         place: u32,
-        elements: Vec<Constant>,
+        elements: Sequence<Constant>,
     },
 }
 
@@ -106,27 +107,27 @@ pub enum UpdatedPart {
 pub enum Expression {
     /// Conditions with their blocks, and the block after the last `else`.
     If {
-        arms: Vec<Arm>,
+        arms: Sequence<Arm>,
         otherwise: Option<Block>,
     },
     /// Operands that are joined by operators of one level.
     Chain {
-        first: Box<Expression>,
-        rest: Vec<Operand>,
+        first: Boxed<Expression>,
+        rest: Sequence<Operand>,
     },
     Unary {
         prefixes: Sequence<Prefix>,
-        operand: Box<Expression>,
+        operand: Boxed<Expression>,
     },
     Postfix {
-        primary: Box<Expression>,
+        primary: Boxed<Expression>,
         suffixes: Sequence<Suffix>,
     },
     Literal(Literal),
     Name(Name),
     Call {
         called: Name,
-        arguments: Vec<Expression>,
+        arguments: Sequence<Expression>,
     },
     /// `E::M`.
     Member {
@@ -136,18 +137,18 @@ pub enum Expression {
     /// `S::{f: e, ..}`, with the place of its closing bracket.
     Struct {
         of: Name,
-        fields: Vec<FieldValue>,
+        fields: Sequence<FieldValue>,
         close: u32,
     },
     /// `[e, ..]`, with the place of its opening bracket.
     Array {
         place: u32,
-        elements: Vec<Expression>,
+        elements: Sequence<Expression>,
     },
     /// `(e)`, with the place of its opening bracket.
     Parentheses {
         place: u32,
-        inside: Box<Expression>,
+        inside: Boxed<Expression>,
     },
     Block(Block),
     /// A read at a port from 0 to 3.
@@ -161,37 +162,37 @@ pub enum Expression {
         place: u32,
         port: u32,
         register: Name,
-        value: Box<Expression>,
+        value: Boxed<Expression>,
     },
     Abort {
         place: u32,
     },
     Pack {
         place: u32,
-        value: Box<Expression>,
+        value: Boxed<Expression>,
     },
     Unpack {
         place: u32,
         to: TypeExpression,
-        value: Box<Expression>,
+        value: Boxed<Expression>,
     },
     Extend {
         place: u32,
         extension: Extension,
-        value: Box<Expression>,
+        value: Boxed<Expression>,
         width: Number,
     },
     Compare {
         place: u32,
         comparison: SignedComparison,
-        left: Box<Expression>,
-        right: Box<Expression>,
+        left: Boxed<Expression>,
+        right: Boxed<Expression>,
     },
     Update {
         place: u32,
-        whole: Box<Expression>,
+        whole: Boxed<Expression>,
         part: UpdatedPart,
-        value: Box<Expression>,
+        value: Boxed<Expression>,
     },
 }
 
@@ -225,8 +226,8 @@ pub struct Arm {
 #[cycle(expression)]
 pub struct Block {
     pub place: u32,
-    pub statements: Vec<Statement>,
-    pub value: Option<Box<Expression>>,
+    pub statements: Sequence<Statement>,
+    pub value: Option<Boxed<Expression>>,
 }
 
 /// A statement.
@@ -303,7 +304,7 @@ pub enum Declaration {
 #[cycle(scheduler)]
 pub struct Scheduler {
     pub rules: Sequence<Name>,
-    pub last: Option<Box<Choice>>,
+    pub last: Option<Boxed<Choice>>,
 }
 
 /// A rule, and the schedulers where it fires and where it doesn't.

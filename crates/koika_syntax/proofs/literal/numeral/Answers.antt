@@ -14,9 +14,6 @@ split_at-requires c = rw c.decimal_len.ensures (prefix_len-le-length (λ b. is_d
 pub literal-requires : goal.literal-requires
 literal-requires c = rw (c.split_at.ensures.front, c.decimal_len.ensures) (first_digits c.args.text.now c.requires.some_byte c.requires.digit)
 
-pub number_of-requires : goal.number_of-requires
-number_of-requires c = rw (c.split_at.ensures.front, c.decimal_len.ensures) (first_digits c.args.text.now c.requires.some_byte c.requires.digit)
-
 pub returns-in-Some : goal.returns-in-Some
 returns-in-Some c =
     let behind = rw c.in-Some.is at (strip_prefix_is Decides-eqb c.split_at.result.1.now (39 ∷ []) c.strip_prefix.result c.strip_prefix.ensures.cases) in
