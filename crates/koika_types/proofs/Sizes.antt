@@ -52,7 +52,7 @@ parts_of_array d p item n valid = (All-replicate (IsType d) n item valid.0, sum_
 abbrev pub HasSize : BitVector → ℕ → Type 0
 HasSize b w = (b.width ≡ w) × IsSized b
 
-joined_width : (a b : BitVector) → (concat a b).width ≡ a.width + b.width
+pub joined_width : (a b : BitVector) → (concat a b).width ≡ a.width + b.width
 unfolding concat
 joined_width a b = refl
 
