@@ -1,19 +1,29 @@
 -- Events that fit registers of some widths, and what they leave of the registers.
-use Rattle.std.proofs.Common.{◌≡◌, ℕ, Bool, true, false, List, [], ◌∷◌, ◌++◌, Some, refl, sym, subst, eqb-true}
+use Rattle.std.proofs.Common.{◌≡◌, ℕ, ◌<◌, Bool, true, false, List, [], ◌∷◌, ◌++◌, length, Some, refl, sym, subst, eqb-true}
 use Rattle.std.specs.Prelude.{slice_get, slice_set, if◌then◌else◌, ◌==◌, ◌&&◌}
+use Rattle.std.specs.List.{AllByRecursion}
 use Rattle.std.proofs.lemmas.Bool.{and_parts}
+use Rattle.std.proofs.lemmas.List.Elements.{All-from_recursion}
 use Rattle.kw_bits.specs.BitVector.{BitVector}
 use Rattle.kw_bits.specs.Laws.{HasWidth}
 use Rattle.typed_core.specs.Alone.{after, after_one, is_write_below, seen}
-use Rattle.typed_core.specs.Fits.{EventFits, EventsFit}
+use Rattle.typed_core.specs.Fits.{AreOf, EventFits, EventsFit}
 use Rattle.typed_core.specs.Widths.{HaveWidths}
 use Rattle.typed_core.specs.declared.access.Access.{Access}
 use Rattle.typed_core.specs.declared.access.Event.{Event}
-use Rattle.typed_core.proofs.WidthLists.{HaveWidths-set, found-same}
+use Rattle.typed_core.proofs.WidthLists.{HaveWidths-set, found-same, within}
 
 pub EventsFit-append : (widths : List ℕ) (xs ys : List Event) → EventsFit widths xs → EventsFit widths ys → EventsFit widths (xs ++ ys)
 EventsFit-append widths [] ys f g = g
 EventsFit-append widths (x ∷ xs) ys f g = (f.0, EventsFit-append widths xs ys f.1 g)
+
+-- events that fit are of registers that there are
+pub are_of_registers : (widths : List ℕ) (regs : List BitVector) (events : List Event) → EventsFit widths events → HaveWidths widths regs → AreOf (length regs) events
+are_of_registers widths regs events fit have = All-from_recursion (λ e. e.access.register < length regs) events (each events fit)
+  where
+    each : (events : List Event) → EventsFit widths events → AllByRecursion (λ (e : Event). e.access.register < length regs) events
+    each [] f = f
+    each (e ∷ events) f = (within widths regs e.access.register f.0.value.0 have f.0.value.1, each events f.1)
 
 of_register : (port register : ℕ) (a : Access) → is_write_below port register a ≡ true → a.register ≡ register
 of_register port register a h =

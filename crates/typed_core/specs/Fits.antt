@@ -1,6 +1,6 @@
 -- What fits a design's declarations: the environments that its actions can be evaluated in, the values that they come
 -- to, the events that they note, and the ports that keep it so.
-use Rattle.std.specs.Prelude.{◌≡◌, ℕ, ◌≤◌, List, ◌++◌, slice_get, Some, All}
+use Rattle.std.specs.Prelude.{◌≡◌, ℕ, ◌≤◌, ◌<◌, List, ◌++◌, slice_get, Some, All}
 use Rattle.std.specs.List.{AllByRecursion}
 use Rattle.kw_bits.specs.BitVector.{BitVector, IsBits}
 use Rattle.kw_bits.specs.Laws.{HasWidth}
@@ -30,6 +30,10 @@ pub record EventFits (widths : List ℕ) (e : Event) : Type 0 where
 -- each event fits
 abbrev pub EventsFit : List ℕ → List Event → Type 0
 EventsFit widths events = AllByRecursion (EventFits widths) events
+
+-- each event is of one of that many registers
+abbrev pub AreOf : ℕ → List Event → Type 0
+AreOf registers events = All (λ (e : Event). e.access.register < registers) events
 
 -- the value has this width, and no bits where the width is 0
 pub record ValueFits (width : ℕ) (value : BitVector) : Type 0 where

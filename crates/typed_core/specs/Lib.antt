@@ -6,6 +6,7 @@ pub mod Valid
 pub mod Fits
 pub mod Scope
 pub mod Paths
+pub mod Continuations
 pub mod Laws
 pub mod Same
 pub mod inner

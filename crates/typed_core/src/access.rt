@@ -1,7 +1,9 @@
-//! Core: accesses of registers, events, and which access cannot follow which.
+//! Core: accesses of registers, events and what they leave of registers, and which access cannot follow which.
 
-ghost use Rattle.std.specs.Prelude.{◌≡◌};
+ghost use Rattle.std.specs.Prelude.{◌≡◌, length};
+ghost use Rattle.typed_core.specs.Alone.{after};
 ghost use Rattle.typed_core.specs.Clash.{clashes};
+ghost use Rattle.typed_core.specs.Fits.{AreOf};
 
 use kw_bits::{Bits, Sequence};
 
@@ -39,3 +41,15 @@ pub struct Event {
 
 /// The events of a rule, in order.
 pub type Events = Sequence<Event>;
+
+/// Gives each register that was written the value of its last write.
+pub fn apply(regs: &mut Sequence<Bits>, events: &Events)
+    requires { AreOf (length regs.old) events.now }
+    ensures { regs.new ≡ after events.now regs.old }
+{
+    for event in events.as_slice() {
+        if event.access.write {
+            regs.set(event.access.register as usize, event.value);
+        }
+    }
+}

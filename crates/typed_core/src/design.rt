@@ -1,6 +1,7 @@
 //! Core: designs that are valid by their type.
 
 ghost use Rattle.std.specs.Prelude.{◌≡◌, ◌↔◌, IsSome, IfSome, IsTrue};
+ghost use Rattle.typed_core.specs.Continuations.{is_at, root};
 
 use crate::action::Action;
 use crate::equality::are_same_rules;
@@ -37,6 +38,18 @@ pub enum Next {
     Node(u32),
     /// At the end of the cycle.
     End,
+}
+
+impl Next {
+    /// Whether the walk is at the node of this number.
+    pub fn is_at(self, number: usize) -> bool
+        ensures { result ≡ is_at number self }
+    {
+        match self {
+            Next::Node(to) => number == to as usize,
+            Next::End => false,
+        }
+    }
 }
 
 /// A node of the scheduler: the rule that it tries, and where it goes on if the rule fires and if not.
@@ -113,6 +126,24 @@ impl Design {
             rules,
             nodes,
         })
+    }
+
+    /// What each design is by its type: valid. It does nothing, and is called for its contract.
+    pub fn recall(&self)
+        ensures { IsValid self.now }
+    {
+        let _ = &self.regs;
+    }
+
+    /// Where the scheduler's walk begins.
+    pub fn root(&self) -> Next
+        ensures { result ≡ root self.now.nodes }
+    {
+        if self.nodes.is_empty() {
+            Next::End
+        } else {
+            Next::Node(0)
+        }
     }
 
     /// Whether the designs are equal by value.

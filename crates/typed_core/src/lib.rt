@@ -17,7 +17,7 @@ mod scope;
 mod validity;
 mod width;
 
-pub use access::{Access, Event, Events};
+pub use access::{Access, Event, Events, apply};
 pub use action::{Action, OneOp, TwoOp};
 pub use design::{Design, InputDecl, Next, Node, Parts, RegDecl, Rule};
 pub use kw_bits::{HostSpec, TableSpec};

@@ -1,7 +1,6 @@
 -- What private functions alone cite of this crate's `Valid`.
 use Rattle.std.specs.Prelude.{ℕ, ◌≤◌, List}
 use Rattle.typed_core.specs.declared.action.Action.{Action}
-use Rattle.typed_core.specs.declared.action.Action.TheVariants as action
 use Rattle.typed_core.specs.Valid.{Declarations, ActionHasWidth}
 
 -- the action may be an operand: it has a value
