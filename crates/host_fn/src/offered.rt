@@ -4,6 +4,8 @@ ghost use Rattle.std.specs.Prelude.{◌≡◌, ◌+◌, ◌*◌, ◌^◌, ◌<�
 ghost use Rattle.kw_bits.specs.Host as host;
 ghost use Rattle.kw_bits.specs.declared.host.HostKind.TheVariants as kinds;
 
+use kw_bits::interleaved;
+
 /// How many bits the input of a function of one argument has.
 pub const BITS_OF_ONE: u32 = 8;
 
@@ -66,35 +68,7 @@ pub fn morton(x: u64, y: u64) -> u64
     requires second { y < 2 ^ 6 }
     ensures { result ≡ host.answer kinds.Morton 12 (x * 2 ^ 6 + y) }
 {
-    let mut number = 0;
-    for i in 0..BITS_OF_TWO {
-        number = with_bit(number, bit_in_turn(x, y, i), i);
-    }
-    number
-}
-
-// Bit i of two numbers that take turns, x before y.
-#[tactic(auto, unfolding(kw_bits::specs::Host::interleaved_bit))]
-fn bit_in_turn(x: u64, y: u64, i: u32) -> u64
-    requires { i < 64 }
-    ensures bit { result ≡ host.interleaved_bit x y i }
-    ensures small { result < 2 }
-{
-    if i % 2 == 0 {
-        (x >> (i / 2)) % 2
-    } else {
-        (y >> (i / 2)) % 2
-    }
-}
-
-// The number with one bit more, above its i bits.
-fn with_bit(number: u64, bit: u64, i: u32) -> u64
-    requires below { number < 2 ^ i }
-    requires small { bit < 2 }
-    requires within { i < 12 }
-    ensures { result ≡ bit * 2 ^ i + number }
-{
-    bit << i | number
+    interleaved(x, y, BITS_OF_TWO)
 }
 
 /// The sum, or the greatest number of their width where that is less.
@@ -104,4 +78,22 @@ pub fn sat_add(x: u64, y: u64) -> u64
     ensures { result ≡ host.answer kinds.SatAdd 12 (x * 2 ^ 6 + y) }
 {
     (x + y).min(63)
+}
+
+/// The host functions that a program offers: these, one of each kind, in an array. Whoever calls it opens
+/// `kw_bits::specs::Host::arity` for its proof.
+#[macro_export]
+macro_rules! offered_functions {
+    () => {
+        [
+            $crate::HostFn::new(kw_bits::HostKind::Popcount, $crate::offered::BITS_OF_ONE, $crate::offered::popcount).unwrap(),
+            $crate::HostFn::new(kw_bits::HostKind::Parity, $crate::offered::BITS_OF_ONE, $crate::offered::parity).unwrap(),
+            $crate::HostFn::new(kw_bits::HostKind::Reverse, $crate::offered::BITS_OF_ONE, $crate::offered::reverse).unwrap(),
+            $crate::HostFn::new(kw_bits::HostKind::LeadingZeros, $crate::offered::BITS_OF_ONE, $crate::offered::leading_zeros).unwrap(),
+            $crate::HostFn::new(kw_bits::HostKind::Gray, $crate::offered::BITS_OF_ONE, $crate::offered::gray).unwrap(),
+            $crate::HostFn::new_two(kw_bits::HostKind::Hamming, $crate::offered::BITS_OF_TWO, $crate::offered::hamming).unwrap(),
+            $crate::HostFn::new_two(kw_bits::HostKind::Morton, $crate::offered::BITS_OF_TWO, $crate::offered::morton).unwrap(),
+            $crate::HostFn::new_two(kw_bits::HostKind::SatAdd, $crate::offered::BITS_OF_TWO, $crate::offered::sat_add).unwrap(),
+        ]
+    };
 }
