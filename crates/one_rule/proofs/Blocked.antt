@@ -14,7 +14,8 @@ use Rattle.typed_core.specs.declared.outcome.Outcome.{Outcome}
 use Rattle.typed_core.specs.declared.outcome.Outcome.TheVariants.{Done, Abort, OwnClash}
 use Rattle.one_rule.specs.Cycle.{System, begin, clash_with, clash_with_access, clash_with_events, fire, fires, is_among, is_done, join, numbers}
 use Rattle.one_rule.specs.Laws.{FiresUnblocked, FiresUnlessBlocked, HasClash, IsBlocked, VisitFiresUnlessBlocked, walk_to}
-use Rattle.one_rule.specs.Walk.{Walk, goes_on, is_at, pass, start, visit, walk_past}
+use Rattle.one_rule.specs.Walk.{Walk, goes_on, pass, start, visit, walk_past}
+use Rattle.typed_core.specs.Continuations.{is_at}
 use Rattle.one_rule.specs.declared.cycle.Fired.{Fired}
 use Rattle.one_rule.specs.declared.cycle.State.{State}
 

@@ -6,7 +6,8 @@ use Rattle.typed_core.specs.Valid.{AreNodes, IsContinuation, IsNode}
 use Rattle.typed_core.specs.declared.design.Next.{Next}
 use Rattle.typed_core.specs.declared.design.Next.TheVariants as next
 use Rattle.typed_core.specs.declared.design.Node.{Node}
-use Rattle.one_rule.specs.Walk.{Firing, Walk, goes_on, is_at, pass, root, start, visit, walk_from, walk_past}
+use Rattle.one_rule.specs.Walk.{Firing, Walk, goes_on, pass, start, visit, walk_from, walk_past}
+use Rattle.typed_core.specs.Continuations.{is_at, root}
 
 -- ---- two walks through one scheduler
 

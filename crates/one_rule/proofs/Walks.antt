@@ -15,7 +15,8 @@ use Rattle.typed_core.specs.declared.design.Node.{Node}
 use Rattle.typed_core.specs.declared.outcome.Alone.{Alone}
 use Rattle.one_rule.specs.Cycle.{System, begin, cycle, fire, fires, flags, is_among, join, numbers, walk_of}
 use Rattle.one_rule.specs.Laws.{AreOfDifferentRules, FiresOnce, FiresOnPath, IsIdle, IsOnPath, IsScheduled, Tries, WalksEnd}
-use Rattle.one_rule.specs.Walk.{Walk, goes_on, is_at, pass, start, visit, walk_past}
+use Rattle.one_rule.specs.Walk.{Walk, goes_on, pass, start, visit, walk_past}
+use Rattle.typed_core.specs.Continuations.{is_at}
 use Rattle.one_rule.specs.declared.cycle.Fired.{Fired}
 use Rattle.one_rule.specs.declared.cycle.State.{State}
 use Rattle.one_rule.proofs.WalkLaws.{StandFrom, StandFrom-all, StandFrom-first, StandFrom-rest, walk_ends}

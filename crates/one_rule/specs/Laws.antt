@@ -20,7 +20,8 @@ use Rattle.one_rule.specs.PortRun.{port_cycle}
 use Rattle.one_rule.specs.Rows.{RowsFit}
 use Rattle.one_rule.specs.Run.{InputsByCycle, last_registers, run, run_of}
 use Rattle.one_rule.specs.Stimulus.{AlwaysFits, InputVectors, StimulusFits, inputs_of}
-use Rattle.one_rule.specs.Walk.{Walk, is_at, start, walk_past}
+use Rattle.one_rule.specs.Walk.{Walk, start, walk_past}
+use Rattle.typed_core.specs.Continuations.{is_at}
 use Rattle.one_rule.specs.declared.cycle.Fired.{Fired}
 use Rattle.one_rule.specs.declared.cycle.State.{State}
 use Rattle.one_rule.specs.declared.rows.Row.{Row}

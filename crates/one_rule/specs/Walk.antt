@@ -1,9 +1,9 @@
 -- The scheduler's walk through its nodes, given what its rules make of some state: whole rules of registers, runs
 -- against a scheduler log of that log. It says nothing of what a rule is.
-use Rattle.std.specs.Prelude.{ℕ, ◌+◌, Bool, false, ◌==◌, List, [], ◌∷◌, Option, Some, None, if◌then◌else◌}
+use Rattle.std.specs.Prelude.{ℕ, ◌+◌, List, [], ◌∷◌, Option, Some, None, if◌then◌else◌}
+use Rattle.typed_core.specs.Continuations.{is_at, root}
 use Rattle.typed_core.specs.declared.design.Node.{Node}
 use Rattle.typed_core.specs.declared.design.Next.{Next}
-use Rattle.typed_core.specs.declared.design.Next.TheVariants as next
 
 -- what the rule of a number makes of a state where it fires on it, and nothing where it doesn't
 abbrev pub Firing : Type 0 → Type 0
@@ -24,11 +24,6 @@ goes_on node state None = record { state = state; at = node.no }
 abbrev pub visit : {S : Type 0} → Firing S → Node → Walk S → Walk S
 visit fire node walk = goes_on node walk.state (fire node.rule walk.state)
 
--- the walk is at the node of this number
-abbrev pub is_at : ℕ → Next → Bool
-is_at number (next.Node to) = number == to
-is_at number next.End = false
-
 -- the walk past a node: it visits the node where it is at it
 abbrev pub pass : {S : Type 0} → Firing S → ℕ → Node → Walk S → Walk S
 pass fire number node walk = if is_at number walk.at then visit fire node walk else walk
@@ -38,11 +33,6 @@ pass fire number node walk = if is_at number walk.at then visit fire node walk e
 abbrev pub walk_past : {S : Type 0} → Firing S → ℕ → List Node → Walk S → Walk S
 walk_past fire number [] walk = walk
 walk_past fire number (node ∷ nodes) walk = walk_past fire (number + 1) nodes (pass fire number node walk)
-
--- the walk begins at node 0, or at the end where there is no node
-abbrev pub root : List Node → Next
-root [] = next.End
-root (node ∷ nodes) = next.Node 0
 
 -- a walk that has tried no node yet
 abbrev pub start : {S : Type 0} → List Node → S → Walk S

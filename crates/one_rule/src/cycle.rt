@@ -1,21 +1,19 @@
 //! Engines: a cycle of whole rules, one after another, as a plain program.
 
 ghost use Rattle.std.specs.Prelude.{◌≡◌, ◌<◌, [], ◌∷◌, IfOk, length, map};
-ghost use Rattle.typed_core.specs.Alone.{after, after_one};
-ghost use Rattle.typed_core.specs.Fits.{EventsFit};
 ghost use Rattle.typed_core.specs.Valid.{externs_of};
 ghost use Rattle.typed_core.specs.Widths.{HaveWidths, input_widths, register_widths};
 ghost use Rattle.one_rule.specs.Rows.{RowFits};
 ghost use Rattle.one_rule.specs.Externs.{kept};
 ghost use Rattle.one_rule.specs.Cycle.{clash_with, clash_with_access, clash_with_events, cycle, fire, fires, flags, is_among, numbers, system_of, walk_of};
-ghost use Rattle.one_rule.specs.Walk.{goes_on, is_at, pass, root};
+ghost use Rattle.one_rule.specs.Walk.{goes_on, pass};
 
 use crate::externs::Externs;
 use crate::rows::{FiredSet, Inputs, Regs, Row};
 use crate::rule::alone;
 use kw_bits::{NoMemory, Sequence};
 use std::alloc::Global;
-use typed_core::{Access, Alone, Design, Event, Events, Next, Node, Outcome};
+use typed_core::{Access, Alone, Design, Events, Next, Node, Outcome, apply};
 
 /// A rule that fired in a cycle, with the events of its run.
 #[derive(Debug, Drop)]
@@ -77,30 +75,11 @@ fn walk_of(
         regs: Sequence::from_slice(alloc, regs.as_slice())?,
         past: Sequence::new(alloc),
     };
-    let mut at = root(nodes);
+    let mut at = design.root();
     for (number, node) in nodes.iter().enumerate() {
         at = pass(alloc, design, externs, inputs, number, node, at, &mut state)?;
     }
     Ok(state)
-}
-
-fn root(nodes: &[Node]) -> Next
-    ensures { result ≡ root nodes.now }
-{
-    if nodes.is_empty() {
-        Next::End
-    } else {
-        Next::Node(0)
-    }
-}
-
-fn is_at(number: usize, at: Next) -> bool
-    ensures { result ≡ is_at number at }
-{
-    match at {
-        Next::Node(to) => number == to as usize,
-        Next::End => false,
-    }
 }
 
 // Visits the node of this number if the walk is at it, and says where the walk is then.
@@ -121,7 +100,7 @@ fn pass(
     ensures pass { IfOk result (λ next. pass (fire (system_of design.now) inputs.now) number node.now (record { state = state.old; at = at }) ≡ record { state = state.new; at = next }) }
     ensures fits { IfOk result (λ next. HaveWidths (register_widths design.now) state.new.regs) }
 {
-    if is_at(number, at) {
+    if at.is_at(number) {
         visit(alloc, design, externs, inputs, node, state)
     } else {
         Ok(at)
@@ -148,7 +127,7 @@ fn visit(
     if !fires(&state.past, &run) {
         return Ok(node.no);
     }
-    apply(design, &run.events, &mut state.regs);
+    apply(&mut state.regs, &run.events);
     state.past.push(Fired {
         rule: node.rule,
         events: run.events,
@@ -188,26 +167,6 @@ fn clash_with_access(events: &Events, earlier: &Access) -> bool
         .as_slice()
         .iter()
         .any(|event| event.access.clashes_after(earlier))
-}
-
-// Gives each register that was written the value of its last write.
-fn apply(design: &Design, events: &Events, regs: &mut Regs)
-    requires events { EventsFit (register_widths design.now) events.now }
-    requires registers { HaveWidths (register_widths design.now) regs.old }
-    ensures { regs.new ≡ after events.now regs.old }
-{
-    for event in events.as_slice() {
-        apply_one(event, regs);
-    }
-}
-
-fn apply_one(event: &Event, regs: &mut Regs)
-    requires { event.now.access.register < length regs.old }
-    ensures { regs.new ≡ after_one regs.old event.now }
-{
-    if event.access.write {
-        regs.set(event.access.register as usize, event.value);
-    }
 }
 
 #[tactic(auto, using(crate::proofs::Flags::map_range_more))]

@@ -23,6 +23,6 @@ pub use laws::{
     each_row_of_a_run_fits, equal_designs_run_alike, systems_that_do_the_same_run_alike,
 };
 pub use rows::{FiredSet, Inputs, Regs, Row, Rows, first_values, opening};
-pub use rule::alone;
+pub use rule::{alone, note_write, outcome_of};
 pub use stimulus::Stimulus;
 pub use typed_core::{Alone, Outcome};

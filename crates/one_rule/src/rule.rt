@@ -2,8 +2,8 @@
 
 ghost use Rattle.std.specs.Prelude.{◌≡◌, ◌<◌, [], ◌∷◌, IfOk, List, length, map};
 ghost use Rattle.kw_bits.specs.BitVector.{BitVector};
-ghost use Rattle.typed_core.specs.Alone.{alone_ports, is_refused, is_write_below, outcome_of, seen};
-ghost use Rattle.typed_core.specs.Evaluation.{Progress};
+ghost use Rattle.typed_core.specs.Alone.{alone_ports, is_refused, is_write_below, outcome_of, seen, write};
+ghost use Rattle.typed_core.specs.Evaluation.{Progress, unit};
 ghost use Rattle.typed_core.specs.Fits.{EventsFit};
 ghost use Rattle.typed_core.specs.Valid.{externs_of};
 ghost use Rattle.typed_core.specs.Widths.{HaveWidths, input_widths, register_widths};
@@ -54,8 +54,8 @@ pub fn alone(
     })
 }
 
-// How a rule ends that runs alone.
-fn outcome_of(end: Result<Option<Bits>, Interrupt>) -> Result<Outcome, NoMemory>
+/// How a rule ends whose body ends so, at ports that are a rule's own.
+pub fn outcome_of(end: Result<Option<Bits>, Interrupt>) -> Result<Outcome, NoMemory>
     ensures { (events : List Event) (progress : Progress BitVector Stopped) → Answers value_of (λ (noted : List Event). events ≡ noted) end progress
         → IfOk result (λ outcome. (events ≡ progress.events) × (outcome ≡ outcome_of progress.ending)) }
 {
@@ -100,17 +100,29 @@ impl Ports for LonePorts<'_> {
 
     // A write that the rule's own events refuse isn't noted.
     fn write(&mut self, port: u32, register: u32, value: Bits) -> Result<(), Interrupt> {
-        let access = Access {
-            write: true,
-            port,
-            register,
-        };
-        if is_refused(&self.events, &access) {
-            return Err(Interrupt::Stop(Stopped::Refused(access)));
-        }
-        self.events.push(Event { access, value })?;
-        Ok(())
+        note_write(&mut self.events, port, register, value)
     }
+}
+
+/// Notes a write after a rule's own events, unless one of them refuses it.
+pub fn note_write(
+    events: &mut Events,
+    port: u32,
+    register: u32,
+    value: Bits,
+) -> Result<(), Interrupt>
+    ensures { Answers (λ _. unit) (λ (noted : List Event). events.new ≡ noted) result (write port register value events.old) }
+{
+    let access = Access {
+        write: true,
+        port,
+        register,
+    };
+    if is_refused(events, &access) {
+        return Err(Interrupt::Stop(Stopped::Refused(access)));
+    }
+    events.push(Event { access, value })?;
+    Ok(())
 }
 
 // What a read of a register at a port sees of these events, from its start value.

@@ -55,6 +55,14 @@ impl Stimulus {
         Ok(())
     }
 
+    /// What each stimulus has by its type: values of its widths in every cycle. It does nothing, and is called for its
+    /// contract.
+    pub fn recall(&self)
+        ensures { AlwaysFits self.now }
+    {
+        let _ = &self.widths;
+    }
+
     /// The values of the inputs in a cycle: those that its line gives, and 0 for the others.
     pub fn inputs(&self, cycle: u32) -> Result<Inputs, NoMemory>
         ensures inputs { IfOk result (λ inputs. inputs ≡ inputs_of self.now cycle) }
