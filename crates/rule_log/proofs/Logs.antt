@@ -18,7 +18,7 @@ use Rattle.rule_log.proofs.Bits.{clear_of_bit}
 use Rattle.std.proofs.lemmas.Nat.Bits.{bit_at-zero}
 use Rattle.rule_log.specs.inner.OneRegister.{JoinedAt, is_same_place, written_below}
 use Rattle.rule_log.specs.StandsFor.{RegisterLog, StandsFor, WritesFollow, is_access, is_set, registers, written}
-use Rattle.rule_log.proofs.Telling.{NoneSet, access_parts, after_at, length-after, no_reads, no_writes, own_access, refused_by_tests, seen_at_none, seen_more, tells_both, tells_none, tells_one, unrefused}
+use Rattle.rule_log.proofs.Telling.{NoneSet, access_parts, after_at, length-after, no_reads, no_writes, or_none, own_access, refused_by_tests, seen_at_none, seen_more, tells_both, tells_none, tells_one, unrefused}
 
 -- ---- the value of the highest write
 
@@ -58,10 +58,6 @@ below_is_seen widths log events s (suc port) register start most within =
     ∙ sym (seen_more (written log) port register events start s.tells.values s.tells.ascending)
 
 -- ---- what is refused
-
-or_none : (a : Bool) → a ≡ (a || false)
-or_none true = refl
-or_none false = refl
 
 -- a write is refused by two logs where the flags of both, taken together, have a write from its port on or a read above it
 pub write_refused : (widths : List ℕ) (sched rule : RegisterLog) (sched_events rule_events : List Event) → StandsFor widths sched sched_events → StandsFor widths rule rule_events

@@ -337,7 +337,7 @@ after_at widths register (e ∷ events) regs d fit within =
 pub tells_none : (widths : List ℕ) (is_set : Bool → ℕ → ℕ → Bool) (written : ℕ → ℕ → BitVector) → ((write : Bool) (port register : ℕ) → IsPort port → register < length widths → is_set write port register ≡ false) → Tells widths is_set written []
 tells_none widths is_set written none = record { flags = none; values = tt; ascending = tt; fit = tt }
 
-or_none : (a : Bool) → a ≡ (a || false)
+pub or_none : (a : Bool) → a ≡ (a || false)
 or_none true = refl
 or_none false = refl
 

@@ -22,7 +22,7 @@ use smallvec::SmallVec;
 use std::alloc::Global;
 use std::marker::Model;
 use typed_core::limits::PORTS;
-use typed_core::{Access, Design, Event};
+use typed_core::{Design, Event};
 
 /// The accesses of a rule, or of the rules that fired so far in a cycle: which ports of each register were read and
 /// written, and the values written.
@@ -68,15 +68,12 @@ impl Log {
             → (event.access.write ≡ true → is_refused events event.access ≡ false) → StandsFor widths self.new (events ++ event ∷ []) }
         ensures registers { registers self.new ≡ registers self.old }
     {
-        let Access {
-            write,
-            port,
-            register,
-        } = event.access;
-        if write {
-            self.set_value(port, register as usize, event.value);
+        let access = event.access;
+        let register = access.register as usize;
+        if access.write {
+            self.set_value(access.port, register, event.value);
         }
-        self.mark(register as usize, PortFlags::of(write, port));
+        self.mark(register, PortFlags::of(access.write, access.port));
     }
 
     /// Adds the accesses of a rule log for the same registers, of which this log refuses no write.

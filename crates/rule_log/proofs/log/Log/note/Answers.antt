@@ -4,26 +4,26 @@ use Rattle.rule_log.specs.declared.flags.PortFlags.{PortFlags}
 use Rattle.rule_log.specs.StandsFor.{RegisterLog}
 use Rattle.rule_log.proofs.Logs.{Kept, noted_from, stands_noted}
 use Rattle.rule_log.proofs.log.Log.note.Goals as goal
-use Rattle.rule_log.proofs.log.Log.note.Goals.{then-write, else-write}
+use Rattle.rule_log.proofs.log.Log.note.Goals.{then-access, else-access}
 
 pub returns-clause-stands : goal.returns-clause-stands
 returns-clause-stands c widths events s fit follow =
     let old = c.args.self.now in
     let e = c.args.event in
-    let kept : Kept old c.if-write.self e =
-    elim c.if-write.branch [
-      | then-write w ↦ subst (λ (l : RegisterLog). Kept old l e) (sym w.self-is) (record {
+    let kept : Kept old c.if-access.self e =
+    elim c.if-access.branch [
+      | then-access w ↦ subst (λ (l : RegisterLog). Kept old l e) (sym w.self-is) (record {
         flags = w.set_value.ensures.flags;
         value = λ is. w.set_value.ensures.here;
         other_values = λ port register p h. w.set_value.ensures.elsewhere port register p h;
-        no_value = λ h port register. absurd (both_ways e.access.write h w.if-write.true);
+        no_value = λ h port register. absurd (both_ways e.access.write h w.if-access.true);
       })
-      | else-write w ↦ subst (λ (l : RegisterLog). Kept old l e) (sym w.self-is) (record {
+      | else-access w ↦ subst (λ (l : RegisterLog). Kept old l e) (sym w.self-is) (record {
         flags = refl;
-        value = λ is. absurd (both_ways e.access.write w.if-write.false is);
+        value = λ is. absurd (both_ways e.access.write w.if-access.false is);
         other_values = λ port register p h. refl;
         no_value = λ h port register. refl;
       })
     ] in
     stands_noted widths old c.mark.new.self e (c.mark.ensures.registers ∙ ap (λ (fs : List PortFlags). length fs) kept.flags)
-    (noted_from old c.if-write.self c.mark.new.self e c.of.result kept c.mark.ensures.here c.mark.ensures.elsewhere c.mark.ensures.values c.of.ensures) events s fit follow
+    (noted_from old c.if-access.self c.mark.new.self e c.of.result kept c.mark.ensures.here c.mark.ensures.elsewhere c.mark.ensures.values c.of.ensures) events s fit follow
