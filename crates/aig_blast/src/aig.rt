@@ -45,3 +45,14 @@ impl Model for Aig {
 
     ghost invariant = { λ a. IsAig (record { inputs = a.inputs; latches = a.latches; outputs = a.outputs; gates = a.gates }) };
 }
+
+impl Aig {
+    ghost use Rattle.aig_blast.specs.Aigs.{IsAig};
+
+    /// What each bit-level circuit is by its type: made of valid parts. It does nothing, and is called for its contract.
+    pub fn recall(&self)
+        ensures { IsAig self.now }
+    {
+        let _ = &self.gates;
+    }
+}

@@ -1,11 +1,7 @@
 //! The simulator of a graph as a machine, whose flags are the outputs.
 
-ghost use Rattle.std.specs.Prelude.{◌≡◌, IfOk, map};
-ghost use Rattle.circuit_eval.specs.Run.{is_one};
-
 use crate::sim::AigSim;
 use circuit_eval::Machine;
-use kw_bits::Bits;
 use one_rule::{Inputs, Regs};
 use std::alloc::{AllocError, Global};
 
@@ -20,6 +16,8 @@ impl<'a> Machine for AigSim<'a> {
 
     ghost row_at = { row_at };
 
+    ghost keeps_widths = { λ m inputs. refl };
+
     fn step(&mut self, inputs: &Inputs) {
         self.step(inputs)
     }
@@ -29,18 +27,9 @@ impl<'a> Machine for AigSim<'a> {
     }
 
     fn flags(&self, alloc: Global) -> Result<Vec<bool>, AllocError> {
-        flags(alloc, self.outputs())
+        self.outputs()
+            .iter()
+            .map(|output| output.number() == 1)
+            .collect(alloc)
     }
-
-    ghost keeps_widths = { λ m inputs. refl };
-}
-
-// Whether each output is 1.
-fn flags(alloc: Global, outputs: &[Bits]) -> Result<Vec<bool>, AllocError>
-    ensures { IfOk result (λ fired. fired.items ≡ map is_one outputs.now) }
-{
-    outputs
-        .iter()
-        .map(|output| output.number() == 1)
-        .collect(alloc)
 }

@@ -1,4 +1,5 @@
 pub mod Fitting
+pub mod Flags
 pub mod Keeping
 pub mod MachineWords
 pub mod NodeWords

@@ -4,15 +4,13 @@ use Rattle.std.proofs.Math.Nat.{add-mul-mod_self_right}
 use Rattle.std.proofs.Math.Pow.{mod-mod-pow}
 use Rattle.std.proofs.lemmas.Nat.{pow_pos, pow-add, or_shifted, shl_whole}
 use Rattle.kw_bits.proofs.Masks.{and_ones}
+use Rattle.kw_bits.proofs.Words.{more_of_a_multiple}
 
 -- a mask leaves the low bits of what was cut to a word
 pub masked : (n mask w : ℕ) → w ≤ 64 → mask + 1 ≡ 2 ^ w → bit_and (n % 2 ^ 64) mask ≡ n % 2 ^ w
 masked n mask w within ones =
     let e : 64 - w + w ≡ 64 = omega arith in
     and_ones (n % 2 ^ 64) w mask ones ∙ subst (λ (k : ℕ). n % 2 ^ k % 2 ^ w ≡ n % 2 ^ w) e (mod-mod-pow n (64 - w) w)
-
-more_of_a_multiple : (a b m k : ℕ) → b ≤ m → a + ((k + 1) * m - b) ≡ a + (m - b) + k * m
-more_of_a_multiple a b m k h = omega arith
 
 -- and those of a difference, which a word takes from 2 to the 64th power
 pub masked_difference : (a b mask w : ℕ) → b < 2 ^ w → w ≤ 64 → mask + 1 ≡ 2 ^ w → bit_and ((a + (2 ^ 64 - b)) % 2 ^ 64) mask ≡ (a + (2 ^ w - b)) % 2 ^ w

@@ -63,6 +63,13 @@ impl Model for Circuit {
 impl Circuit {
     ghost use Rattle.circuit_eval.specs.Circuits.{IsCircuit};
 
+    /// What each circuit is by its type: made of valid wires. It does nothing, and is called for its contract.
+    pub fn recall(&self)
+        ensures { IsCircuit self.now }
+    {
+        let _ = &self.net;
+    }
+
     /// The circuit of these wires, if they make one.
     pub fn new(wires: Wires) -> Option<Circuit>
         ensures some { IsSome result ↔ IsCircuit wires }

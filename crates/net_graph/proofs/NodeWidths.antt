@@ -1,7 +1,10 @@
--- Each node of a net is 1 to 128 bits wide.
-use Rattle.std.proofs.Common.{ℕ, suc, ◌≤◌, List, [], ◌∷◌, ◌++◌, arith, lit≤}
+-- Each node of a net is 1 to 128 bits wide, and has its operator's width.
+use Rattle.std.proofs.Common.{◌≡◌, ℕ, suc, ◌+◌, ◌<◌, ◌≤◌, List, [], ◌∷◌, ◌++◌, length, get_or, take, refl, sym, ap, ◌∙◌, arith, lit≤}
+use Rattle.std.specs.Prelude.{Some, slice_get}
 use Rattle.std.specs.List.{All}
+use Rattle.std.proofs.lemmas.List.{get_or-take, get_or_at, length-take-le}
 use Rattle.std.proofs.lemmas.List.Elements.{All-push}
+use Rattle.std.proofs.lemmas.Option.{get_or_from_slice_get, slice_get_within}
 use Rattle.net_graph.specs.Operators.{one_width, two_width, TakesTwo}
 use Rattle.net_graph.specs.Nets.{AllStand, HoldsBits, IsNet, one_by_one, op_width, Stands, width_at, widths_of}
 use Rattle.net_graph.specs.declared.node.NetOne.{NetOne}
@@ -10,6 +13,8 @@ use Rattle.net_graph.specs.declared.node.NetTwo.{NetTwo}
 use Rattle.net_graph.specs.declared.node.NetTwo.TheVariants.{And, Or, Xor, Nand, Nor, Xnor, Add, Sub, Mul, Sll, Srl, Sra, EqBits, Neq, Ult, Ulte, Ugt, Ugte, Slt, Slte, Sgt, Sgte, Iff, Implies, Concat}
 use Rattle.net_graph.specs.declared.node.NetOp.{NetOp}
 use Rattle.net_graph.specs.declared.node.NetOp.TheVariants.{Const, Input, State, One, Two, Slice, Uext, Sext, Ite}
+use Rattle.net_graph.proofs.OneByOne.{length-one_by_one, take_more-one_by_one}
+use Rattle.net_graph.proofs.Standing.{stands_at}
 
 abbrev Wide : ℕ → Type 0
 Wide width = (1 ≤ width) × (width ≤ 128)
@@ -79,3 +84,30 @@ grown before (op ∷ ops) p stand constants =
 -- each node has a width of bit vectors
 pub widths_of-Wide : (ops : List NetOp) → IsNet ops → All (λ width. (1 ≤ width) × (width ≤ 128)) (widths_of ops)
 widths_of-Wide ops net = grown [] ops (λ k d h. absurd (omega arith)) net.stand net.constants
+
+-- the width of an operator is that over the nodes before it
+same_width : (ws : List ℕ) (i : ℕ) (op : NetOp) → length (take i ws) ≤ i → Stands (take i ws) op → op_width (take i ws) op ≡ op_width ws op
+same_width ws i (Const value) few stands = refl
+same_width ws i (Input number width) few stands = refl
+same_width ws i (State number width) few stands = refl
+same_width ws i (One operator a) few stands = simp (get_or-take i ws a 0 (omega arith))
+same_width ws i (Two operator a b) few stands = simp (get_or-take i ws a 0 (omega arith), get_or-take i ws b 0 (omega arith))
+same_width ws i (Slice a upper lower) few stands = refl
+same_width ws i (Uext a added) few stands = simp (get_or-take i ws a 0 (omega arith))
+same_width ws i (Sext a added) few stands = simp (get_or-take i ws a 0 (omega arith))
+same_width ws i (Ite condition a b) few stands = simp (get_or-take i ws a 0 (omega arith))
+
+-- a node has its operator's width
+pub node_width : (net : List NetOp) (id : ℕ) (op : NetOp) → IsNet net → slice_get net id ≡ Some op → width_at (widths_of net) id ≡ op_width (widths_of net) op
+node_width ops id op net at =
+    let within : id < length ops = slice_get_within ops id op at in
+    let here : get_or ops id op ≡ op = get_or_from_slice_get ops id op op at in
+    let ws : List ℕ = widths_of ops in
+    let count : length ws ≡ length ops = omega (arith, length-one_by_one op_width [] ops) in
+    let first : List ℕ = take id ws in
+    let few : length first ≡ id = omega (arith, length-take-le id ws (omega arith)) in
+    let stands = stands_at ops id op within net.stand in
+    let last : width_at ws id ≡ op_width first (get_or ops id op) =
+    sym (get_or-take (id + 1) ws id 0 (omega arith)) ∙ ap (λ (xs : List ℕ). get_or xs id 0) (take_more-one_by_one op_width ops id op within)
+    ∙ get_or_at first (op_width first (get_or ops id op)) [] 0 id few in
+    last ∙ same_width ws id (get_or ops id op) (omega arith) stands ∙ ap (op_width ws) here
