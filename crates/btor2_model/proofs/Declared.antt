@@ -92,7 +92,7 @@ pub state-values : (rule : FormRule) (w : ℕ) → is_state rule ≡ true → va
 state-values forms.State w is = refl
 state-values other w is = absurd (cc)
 
-output-rule : (rule : FormRule) → is_output rule ≡ true → rule ≡ forms.Output
+pub output-rule : (rule : FormRule) → is_output rule ≡ true → rule ≡ forms.Output
 output-rule forms.Output is = refl
 output-rule other is = absurd (cc)
 

@@ -8,7 +8,6 @@ pub mod Filling
 pub mod KindsByRule
 pub mod Lasting
 pub mod Narrow
-pub mod Numerals
 pub mod One
 pub mod Places
 pub mod Selections

@@ -77,7 +77,7 @@ all-measured a b c d w x y z first second third fourth =
     ap (λ (o : Option ℕ). measures_from o b c d) first ∙ ap (λ (o : Option ℕ). measures_from (Some w) o c d) second ∙ ap (λ (o : Option ℕ). measures_from (Some w) (Some x) o d) third
     ∙ ap (λ (o : Option ℕ). measures_from (Some w) (Some x) (Some y) o) fourth
 
-all-true : (a b : Bool) → a ≡ true → b ≡ true → (a && b) ≡ true
+pub all-true : (a b : Bool) → a ≡ true → b ≡ true → (a && b) ≡ true
 all-true true b first second = second
 all-true false b first second = absurd (cc)
 

@@ -5,7 +5,8 @@ use Rattle.std.specs.Option.{option_to_list}
 use Rattle.std.proofs.lemmas.List.Filters.{length-filter_both}
 use Rattle.std.proofs.lemmas.List.Splits.{length-slice_split}
 use Rattle.std.proofs.lemmas.List.Sums.{length-filter}
-use Rattle.btor2_text.specs.Cut.{ends_line, lines_of as cut_lines, number_after}
+use Rattle.kw_base.specs.Texts.{ends_line}
+use Rattle.btor2_text.specs.Cut.{lines_of as cut_lines, number_after}
 use Rattle.btor2_text.specs.Reading.{AreLines}
 use Rattle.btor2_text.specs.declared.line.Line.{Line}
 use Rattle.btor2_model.specs.Rules.{rule_of}
@@ -25,11 +26,10 @@ no-more number (text ∷ texts) lines (read, others, parts, gives, rest) =
     let count = ap length parts ∙ length-append (option_to_list read) others in
     omega (arith, count, at-most-one read, no-more (number_after number) texts others rest)
 
-count-fewer : (p : ℕ → Bool) (xs : List ℕ) → count_by p xs ≤ length xs
+pub count-fewer : (p : ℕ → Bool) (xs : List ℕ) → count_by p xs ≤ length xs
 count-fewer p xs = omega (arith, length-filter p xs, filter-fewer p xs)
 
 pub few-lines : HaveFewLines
-unfolding cut_lines
 few-lines test text lines are short =
     let cut = length-slice_split ends_line text in
     omega (arith, cut, count-fewer ends_line text, no-more 1 (cut_lines text) lines are, filter-fewer (λ (line : Line). test (rule_of line.keyword)) lines, short)

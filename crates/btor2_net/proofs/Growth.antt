@@ -1,19 +1,16 @@
 -- A net with one more operator.
-use Rattle.std.proofs.Common.{◌≡◌, ℕ, ◌+◌, ◌<◌, ◌≤◌, ◌⊎◌, inl, inr, true, false, List, [], ◌∷◌, ◌++◌, length, get_or, take, refl, sym, ap, ap₂, subst, ◌∙◌, arith, append-nil, length-append}
+use Rattle.std.proofs.Common.{◌≡◌, ℕ, ◌+◌, ◌<◌, ◌⊎◌, inl, inr, true, false, List, [], ◌∷◌, ◌++◌, length, refl, sym, ap, ap₂, subst, ◌∙◌, arith, append-nil, length-append}
 use Rattle.std.specs.Prelude.{slice_get, Some}
 use Rattle.std.specs.List.{list_any}
 use Rattle.std.proofs.lemmas.Bool.{cases_Bool, both_ways}
-use Rattle.std.proofs.lemmas.List.{get_or-take, get_or_at, length-take-le}
 use Rattle.std.proofs.lemmas.List.Elements.{All-push}
-use Rattle.std.proofs.lemmas.Option.{get_or_from_slice_get, slice_get_within}
 use Rattle.net_graph.specs.Nets.{Adds, IsNet, Stands, op_width, width_at, widths_of}
 use Rattle.net_graph.specs.Operators.{one_width, two_width}
 use Rattle.net_graph.specs.Values.{AllRead, Reads, Sources, node_value, op_value, values_of}
 use Rattle.net_graph.specs.declared.node.NetOp.{NetOp}
 use Rattle.net_graph.specs.declared.node.NetOp.TheVariants.{Const, Input, State, One, Two, Slice, Uext, Sext, Ite}
-use Rattle.net_graph.proofs.OneByOne.{get_or-one_by_one-append, length-one_by_one, take_more-one_by_one}
+use Rattle.net_graph.proofs.OneByOne.{get_or-one_by_one-append, length-one_by_one}
 use Rattle.net_graph.proofs.Sharing.{contains_from_found, equal, found_from_contains}
-use Rattle.net_graph.proofs.Standing.{stands_at}
 use Rattle.net_graph.proofs.Values.{values-by_operators, values-kept}
 
 -- a net begins with another
@@ -46,33 +43,6 @@ width-more old new node b inside = ap (λ (net : List NetOp). width_at (widths_o
 
 pub value-more : (s : Sources) (old new : List NetOp) (node : ℕ) → Begins old new → node < length old → node_value s new node ≡ node_value s old node
 value-more s old new node b inside = ap (λ (net : List NetOp). node_value s net node) b.is ∙ values-kept s old b.more node inside
-
--- the width of an operator is that over the nodes before it
-same_width : (ws : List ℕ) (i : ℕ) (op : NetOp) → length (take i ws) ≤ i → Stands (take i ws) op → op_width (take i ws) op ≡ op_width ws op
-same_width ws i (Const value) few stands = refl
-same_width ws i (Input number width) few stands = refl
-same_width ws i (State number width) few stands = refl
-same_width ws i (One operator a) few stands = simp (get_or-take i ws a 0 (omega arith))
-same_width ws i (Two operator a b) few stands = simp (get_or-take i ws a 0 (omega arith), get_or-take i ws b 0 (omega arith))
-same_width ws i (Slice a upper lower) few stands = refl
-same_width ws i (Uext a added) few stands = simp (get_or-take i ws a 0 (omega arith))
-same_width ws i (Sext a added) few stands = simp (get_or-take i ws a 0 (omega arith))
-same_width ws i (Ite condition a b) few stands = simp (get_or-take i ws a 0 (omega arith))
-
--- a node has its operator's width
-pub node-width : (net : List NetOp) (id : ℕ) (op : NetOp) → IsNet net → slice_get net id ≡ Some op → width_at (widths_of net) id ≡ op_width (widths_of net) op
-node-width ops id op net at =
-    let within : id < length ops = slice_get_within ops id op at in
-    let here : get_or ops id op ≡ op = get_or_from_slice_get ops id op op at in
-    let ws : List ℕ = widths_of ops in
-    let count : length ws ≡ length ops = omega (arith, length-one_by_one op_width [] ops) in
-    let first : List ℕ = take id ws in
-    let few : length first ≡ id = omega (arith, length-take-le id ws (omega arith)) in
-    let stands = stands_at ops id op within net.stand in
-    let last : width_at ws id ≡ op_width first (get_or ops id op) =
-    sym (get_or-take (id + 1) ws id 0 (omega arith)) ∙ ap (λ (xs : List ℕ). get_or xs id 0) (take_more-one_by_one op_width ops id op within)
-    ∙ get_or_at first (op_width first (get_or ops id op)) [] 0 id few in
-    last ∙ same_width ws id (get_or ops id op) (omega arith) stands ∙ ap (op_width ws) here
 
 -- and its operator's value
 pub node-follows : (s : Sources) (net : List NetOp) (id : ℕ) (op : NetOp) → IsNet net → slice_get net id ≡ Some op → node_value s net id ≡ op_value s (values_of s net) op

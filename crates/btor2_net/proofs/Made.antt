@@ -41,7 +41,7 @@ use Rattle.btor2_net.proofs.Runs.{Matches, gives-outputs, runs-as}
 use Rattle.btor2_net.proofs.Tokens.{has-tokens}
 
 -- functions that agree on each line give the same list
-alike : {X : Type 0} (f g : Line → X) (lines : List Line) → All (λ (line : Line). f line ≡ g line) lines → map f lines ≡ map g lines
+pub alike : {X : Type 0} (f g : Line → X) (lines : List Line) → All (λ (line : Line). f line ≡ g line) lines → map f lines ≡ map g lines
 alike {X} f g [] all = refl
 alike {X} f g (line ∷ lines) all = ap₂ (λ (x : X) (xs : List X). x ∷ xs) (all 0 line (omega arith)) (alike f g lines (λ k d within. all (suc k) d (omega (arith, within))))
 

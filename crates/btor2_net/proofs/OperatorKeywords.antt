@@ -15,7 +15,7 @@ use Rattle.btor2_model.specs.declared.rule.FormRule.{FormRule}
 use Rattle.btor2_model.specs.declared.rule.FormRule.TheVariants as forms
 use Rattle.btor2_model.proofs.KindsByRule.{kinds_by}
 use Rattle.btor2_net.specs.Pages.{keyword_of_one, keyword_of_two}
-use Rattle.btor2_net.proofs.Asking.{Agrees, Plain, four}
+use Rattle.btor2_net.proofs.Asking.{Agrees, Plain, four, all-true}
 use Rattle.btor2_net.proofs.WrittenSorts.{Quiet}
 
 -- the rule of an operator is asked nothing special, and no other loop looks for its lines
@@ -98,10 +98,6 @@ pub record TwoKeyword (op : NetTwo) : Type 0 where
   pub computes : Computes rule
   pub agrees : (v u : ℕ) → TakesTwo op v u → Agrees rule (four (two_width op v u) v u 0)
   pub value : (a b : BitVector) → binary (keyword_of_two op) a b ≡ two_value op a b
-
-all-true : (a b : Bool) → a ≡ true → b ≡ true → (a && b) ≡ true
-all-true true b first second = second
-all-true false b first second = absurd (cc)
 
 binary-keyword : (op : NetTwo) → rule_of (keyword_of_two op) ≡ forms.Binary → ((v u : ℕ) → two_width op v u ≡ v) → ((v u : ℕ) → TakesTwo op v u → v ≡ u)
     → ((a b : BitVector) → binary (keyword_of_two op) a b ≡ two_value op a b) → TwoKeyword op

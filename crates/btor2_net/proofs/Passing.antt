@@ -37,7 +37,8 @@ use Rattle.btor2_model.proofs.Filling.{nothing-there, sort-new}
 use Rattle.btor2_model.proofs.KindsByRule.{IsBaseOf, base-by, kinds-by, kinds_by}
 use Rattle.btor2_net.specs.inner.Nodes.{AddsLine, HasConstant, Numbering, number_at, numeral_at, op_by, op_of, sort_at}
 use Rattle.btor2_net.specs.inner.Values.{HasNodeOf}
-use Rattle.btor2_net.proofs.Growth.{Begins, grown, inside-more, node-follows, node-width, op-width-more, reads-more, value-more, width-more}
+use Rattle.btor2_net.proofs.Growth.{Begins, grown, inside-more, node-follows, op-width-more, reads-more, value-more, width-more}
+use Rattle.net_graph.proofs.NodeWidths.{node_width}
 use Rattle.btor2_net.proofs.Operands.{Follows, Holds, line-works}
 
 -- a rule whose lines have no node, and no value
@@ -251,7 +252,7 @@ module _ (scope : DeclaredIds) (n : Numbering) (net : List NetOp) (holds : Holds
           node = a.0;
           is = ap (λ (f : ℕ → Option ℕ). f line.id) a.2 ∙ ap (λ (b : Bool). cond b (Some a.0) (n.nodes line.id)) (eq-eqb line.id line.id refl);
           stands = slice_get_within new a.0 st.op a.1.at;
-          width_is = node-width new a.0 st.op is_net a.1.at ∙ op-width-more net new st.op begins st.stands ∙ st.width_is;
+          width_is = node_width new a.0 st.op is_net a.1.at ∙ op-width-more net new st.op begins st.stands ∙ st.width_is;
         }
 
     sorts-next : (here : Bool) (id w : ℕ) → nat_eq line.id id ≡ here → width_wanted kinds.Sort (cond here (Some (meaning_of scope line)) (scope.meanings id)) ≡ Some w → (m.sorts id ≡ Some w) × (1 ≤ w) × (w ≤ 128)

@@ -1,5 +1,5 @@
 -- The names of a text's lines are tokens.
-use Rattle.std.proofs.Common.{◌≡◌, ⊎_elim, ℕ, zero, suc, ◌<◌, ◌^◌, Bool, true, false, cond, List, [], ◌∷◌, Option, None, Some, get_or, map, refl, sym, ap, ◌∙◌, subst, arith, eqb, All}
+use Rattle.std.proofs.Common.{◌≡◌, ⊎_elim, ℕ, zero, suc, ◌<◌, ◌^◌, Bool, true, false, cond, List, [], ◌∷◌, Option, None, Some, get_or, map, refl, sym, ap, ◌∙◌, subst, arith, lit≤, eqb, All}
 use Rattle.std.specs.Prelude.{decimal, slice_get}
 use Rattle.std.specs.Char.{digit_value}
 use Rattle.std.specs.List.{list_all}
@@ -10,6 +10,7 @@ use Rattle.std.proofs.lemmas.Option.{slice_get-get_or, slice_get-map}
 use Rattle.std.proofs.lemmas.Fmt.{decimal_is_IsNumeral}
 use Rattle.btor2_text.specs.Printable.{ArePrintable, AreTokens, IsPlainToken, is_plain}
 use Rattle.btor2_text.specs.declared.line.Line.{Line}
+use Rattle.btor2_text.proofs.RoundTrip.{plain_digits}
 use Rattle.btor2_model.specs.Rules.{is_input, is_output, is_state, rule_of}
 use Rattle.btor2_model.specs.Run.{lines_by_rule}
 use Rattle.btor2_model.specs.declared.rule.FormRule.{FormRule}
@@ -19,26 +20,9 @@ use Rattle.circuit_eval.specs.declared.circuit.StateWire.{StateWire}
 use Rattle.circuit_eval.specs.declared.circuit.Wires.{Wires}
 use Rattle.btor2_net.specs.Translations.{HasLines, HasTokens, line_name, names_of}
 
--- digits end no token
-apart : (b c : ℕ) → digit_value c ≡ 36 → digit_value b < 36 → eqb b c ≡ false
-apart b c none digit = ⊎_elim (λ same. absurd (omega (arith, digit, ap digit_value same.1 ∙ none))) (λ other. other.0) (eqb_tells b c)
-
-plain-digit : (b : ℕ) → digit_value b < 36 → is_plain b ≡ true
-plain-digit b digit =
-    let space = apart b 32 refl digit in
-    let tab = apart b 9 refl digit in
-    let carriage = apart b 13 refl digit in
-    let comment = apart b 59 refl digit in
-    let line = apart b 10 refl digit in
-    rw (space, tab, carriage, comment, line) refl
-
-plain-digits : (digits : List ℕ) → AllDigits 10 digits → list_all is_plain digits ≡ true
-plain-digits [] all = refl
-plain-digits (d ∷ digits) all = rw (plain-digit d (omega (arith, all.0)), plain-digits digits all.1) refl
-
 -- `n` and an id
 own-name : (id : ℕ) → id < 2 ^ 64 → IsPlainToken (110 ∷ decimal id)
-own-name id small = record { some_byte = omega arith; plain = plain-digits (decimal id) (decimal_is_IsNumeral id small).0.1 }
+own-name id small = record { some_byte = omega arith; plain = plain_digits 10 (lit≤ tt) (decimal id) (decimal_is_IsNumeral id small).0.1 }
 
 name-by : (id : ℕ) (symbol : Option (List ℕ)) (line : Line) → id < 2 ^ 64 → AreTokens (option_to_list symbol) → IsPlainToken (line_name (record line { id = id; symbol = symbol }))
 name-by id (Some name) line small are = are.0

@@ -28,11 +28,7 @@ use Rattle.btor2_net.proofs.Distinct.{AreDistinct}
 use Rattle.btor2_net.proofs.Keeping.{Good, Keeps, Names, continued-by, keeps-all, keeps-both, names-keep, not-picked, picked, put-good, put-keeps, set_of, unset}
 use Rattle.btor2_net.proofs.WrittenLines.{HasLine, has-line}
 use Rattle.btor2_net.proofs.WrittenSorts.{HasSort}
-use Rattle.btor2_net.proofs.WrittenStates.{not-so, state_meaning}
-
-both-true : (a b : Bool) → a ≡ true → b ≡ true → (a && b) ≡ true
-both-true true b first second = second
-both-true false b first second = absurd (cc)
+use Rattle.btor2_net.proofs.WrittenStates.{not-so, state_meaning, both-true}
 
 -- the `next` of a state names this value
 pub record IsNextOn (p : Page) (state value : ℕ) : Type 0 where

@@ -32,7 +32,8 @@ use Rattle.btor2_net.specs.Pages.{Draft, Page, arguments_of, id_in, id_of_line, 
 use Rattle.btor2_net.specs.inner.Values.{AreGiven}
 use Rattle.btor2_net.proofs.Adding.{Asked, scope_of}
 use Rattle.btor2_net.proofs.Asking.{Agrees, asked-four, asked-three, asked-two, four, number-given, sort-given, value-given}
-use Rattle.btor2_net.proofs.Growth.{node-follows, node-width}
+use Rattle.btor2_net.proofs.Growth.{node-follows}
+use Rattle.net_graph.proofs.NodeWidths.{node_width}
 use Rattle.btor2_net.proofs.Keeping.{Good, Keeps, Names, keeps-all, keeps-both, names-keep, value-keep}
 use Rattle.btor2_net.proofs.OperatorKeywords.{Computes, chosen-computes, extended-computes, one-keyword, sliced-computes, two-keyword}
 use Rattle.btor2_net.proofs.WrittenLines.{HasLine, has-line}
@@ -121,7 +122,7 @@ module _ (net : List NetOp) (is_net : IsNet net) (inputs states : List ℕ) wher
     h = has-sort d.page w g wide.0 wide.1
 
     width-is : w ≡ op_width ws op
-    width-is = node-width net k op is_net at
+    width-is = node_width net k op is_net at
 
     here : get_or net k op ≡ op
     here = get_or_from_slice_get net k op op at

@@ -74,7 +74,7 @@ pub record HasState (p q : Page) (id : ℕ) (wire : StateWire) : Type 0 where
   pub inits : lines_by_rule is_init q.lines ≡ lines_by_rule is_init p.lines ++ init ∷ []
   pub same : (test : FormRule → Bool) → NoState test → lines_by_rule test q.lines ≡ lines_by_rule test p.lines
 
-both-true : (a b : Bool) → a ≡ true → b ≡ true → (a && b) ≡ true
+pub both-true : (a b : Bool) → a ≡ true → b ≡ true → (a && b) ≡ true
 both-true true b first second = second
 both-true false b first second = absurd (cc)
 

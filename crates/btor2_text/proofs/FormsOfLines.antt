@@ -10,8 +10,10 @@ use Rattle.btor2_text.specs.declared.keyword.Keyword.{Keyword}
 use Rattle.btor2_text.specs.declared.kind.ArgumentKind.{ArgumentKind}
 use Rattle.btor2_text.specs.declared.line.Argument.{Argument}
 use Rattle.btor2_text.specs.declared.line.Line.{Line}
-use Rattle.btor2_text.specs.declared.reader.Flaw.{Flaw}
-use Rattle.btor2_text.specs.declared.reader.Flaw.TheVariants as flaws
+use Rattle.kw_bits.specs.declared.failure.Failure.{Failure}
+use Rattle.kw_bits.specs.declared.failure.Failure.TheVariants as failures
+use Rattle.btor2_text.specs.declared.reader.Unread.{Unread}
+use Rattle.btor2_text.specs.declared.reader.Unread.TheVariants as unread
 use Rattle.btor2_text.proofs.KeywordTable.{same_keyword}
 
 -- what a line says of the tokens of this keyword
@@ -130,7 +132,7 @@ malformed-word id word others unknown not_left not_array = record {
 }
 
 -- an error of a part goes on as the error of the whole
-pub passes : {X Y : Type 0} (flaw : Flaw) (P : X → Type 0) (Q : Y → Type 0) (M N L K : Type 0) → (M → N) → (L → K) → MatchRead (Err flaw) P M L → MatchRead (Err flaw) Q N K
-passes flaws.Malformed P Q M N L K wrong left h = wrong h
-passes flaws.LeftOut P Q M N L K wrong left h = left h
-passes flaws.NoMemory P Q M N L K wrong left h = tt
+pub passes : {X Y : Type 0} (flaw : Failure Unread) (P : X → Type 0) (Q : Y → Type 0) (M N L K : Type 0) → (M → N) → (L → K) → MatchRead (Err flaw) P M L → MatchRead (Err flaw) Q N K
+passes (failures.Why unread.Malformed) P Q M N L K wrong left h = wrong h
+passes (failures.Why unread.LeftOut) P Q M N L K wrong left h = left h
+passes failures.NoMemory P Q M N L K wrong left h = tt

@@ -1,12 +1,9 @@
 pub mod Arguments
-pub mod Conjunction
-pub mod Cuts
 pub mod FormsOfLines
 pub mod KeywordTable
 pub mod LinesOrFault
 pub mod Members
 pub mod NotOutside
-pub mod Numerals
 pub mod ReadLines
 pub mod Readings
 pub mod RoundTrip

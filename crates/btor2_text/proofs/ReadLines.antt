@@ -2,7 +2,8 @@
 use Rattle.std.proofs.Common.{◌≡◌, ℕ, zero, suc, ◌+◌, Bool, true, false, not, cond, ◌&&◌, ◌||◌, List, [], ◌∷◌, ◌++◌, length, take, drop, Option, None, Some, Ok, refl, sym, ap, subst, arith}
 use Rattle.std.specs.List.{before_first, filter, list_all, onto_first, prefix_len, slice_split}
 use Rattle.std.specs.Option.{option_to_list}
-use Rattle.btor2_text.specs.Cut.{is_blank, begins_comment, ends_line, has_bytes, lines_of, number_after, words_of, tokens_of}
+use Rattle.kw_base.specs.Texts.{ends_line, has_bytes, is_blank_or_return, is_semicolon, words_of}
+use Rattle.btor2_text.specs.Cut.{lines_of, number_after, tokens_of}
 use Rattle.btor2_text.specs.Forms.{keyword_text, kinds_of}
 use Rattle.btor2_text.specs.Lines.{IsArgument, BeginWithArguments, IsLine}
 use Rattle.btor2_text.specs.Printable.{FitsKind, FitKinds, is_plain, AreTokens, IsPrintable, ArePrintable}
@@ -11,7 +12,7 @@ use Rattle.btor2_text.specs.declared.kind.ArgumentKind.{ArgumentKind}
 use Rattle.btor2_text.specs.declared.kind.ArgumentKind.TheVariants as kinds
 use Rattle.btor2_text.specs.declared.line.Argument.{Argument}
 use Rattle.btor2_text.specs.declared.line.Line.{Line}
-use Rattle.btor2_text.proofs.Conjunction.{and-true, and-left, and-right}
+use Rattle.kw_base.proofs.Conjunction.{and-true, and-left, and-right}
 
 -- each part has only bytes that pass
 EachPart : (ℕ → Bool) → List (List ℕ) → Type 0
@@ -63,15 +64,15 @@ plain-from false true false h = h
 plain-from false false true h = h
 plain-from false false false h = h
 
-all-plain : (bytes : List ℕ) → list_all (λ b. (not (ends_line b) && not (begins_comment b)) && not (is_blank b)) bytes ≡ true → list_all is_plain bytes ≡ true
+all-plain : (bytes : List ℕ) → list_all (λ b. (not (ends_line b) && not (is_semicolon b)) && not (is_blank_or_return b)) bytes ≡ true → list_all is_plain bytes ≡ true
 all-plain [] h = refl
 all-plain (b ∷ bytes) h =
-    let here = (not (ends_line b) && not (begins_comment b)) && not (is_blank b) in
-    let rest = list_all (λ x. (not (ends_line x) && not (begins_comment x)) && not (is_blank x)) bytes in
-    and-true (is_plain b) (list_all is_plain bytes) (plain-from (is_blank b) (begins_comment b) (ends_line b) (and-left here rest h)) (all-plain bytes (and-right here rest h))
+    let here = (not (ends_line b) && not (is_semicolon b)) && not (is_blank_or_return b) in
+    let rest = list_all (λ x. (not (ends_line x) && not (is_semicolon x)) && not (is_blank_or_return x)) bytes in
+    and-true (is_plain b) (list_all is_plain bytes) (plain-from (is_blank_or_return b) (is_semicolon b) (ends_line b) (and-left here rest h)) (all-plain bytes (and-right here rest h))
 
 -- parts that aren't empty are tokens
-tokens-filter : (parts : List (List ℕ)) → EachPart (λ b. (not (ends_line b) && not (begins_comment b)) && not (is_blank b)) parts → AreTokens (filter has_bytes parts)
+tokens-filter : (parts : List (List ℕ)) → EachPart (λ b. (not (ends_line b) && not (is_semicolon b)) && not (is_blank_or_return b)) parts → AreTokens (filter has_bytes parts)
 unfolding EachPart
 tokens-filter [] each = tt
 tokens-filter ([] ∷ parts) each = tokens-filter parts each.1
@@ -81,8 +82,8 @@ tokens-filter ((b ∷ part) ∷ parts) each = (record { some_byte = omega arith;
 AreTokens-tokens_of : (line : List ℕ) → list_all (λ b. not (ends_line b)) line ≡ true → AreTokens (tokens_of line)
 unfolding words_of within
 AreTokens-tokens_of line no_end =
-    tokens-filter (slice_split is_blank (before_first begins_comment line))
-    (each-split (λ b. not (ends_line b) && not (begins_comment b)) is_blank (before_first begins_comment line) (before_first-all (λ b. not (ends_line b)) begins_comment line no_end))
+    tokens-filter (slice_split is_blank_or_return (before_first is_semicolon line))
+    (each-split (λ b. not (ends_line b) && not (is_semicolon b)) is_blank_or_return (before_first is_semicolon line) (before_first-all (λ b. not (ends_line b)) is_semicolon line no_end))
 
 AreTokens-drop : (n : ℕ) (tokens : List (List ℕ)) → AreTokens tokens → AreTokens (drop n tokens)
 AreTokens-drop zero tokens are = are
@@ -127,5 +128,5 @@ all-true (b ∷ bytes) = all-true bytes
 
 -- the lines that are read of a text can be printed
 pub ArePrintable-AreLinesOf : (text : List ℕ) (lines : List Line) → AreLinesOf text lines → ArePrintable lines
-unfolding lines_of within
+unfolding within
 ArePrintable-AreLinesOf text lines are = ArePrintable-lines 1 (lines_of text) lines (each-split (λ _. true) ends_line text (all-true text)) are

@@ -8,8 +8,10 @@ use Rattle.kw_base.specs.declared.fault.Refusal.TheVariants as refusals
 use Rattle.kw_base.specs.Fault.{IfFault, IsOkUnlessNoMemory, IsFaultUnlessNoMemory}
 use Rattle.btor2_text.specs.Cut.{lines_of, number_after, tokens_of}
 use Rattle.btor2_text.specs.inner.Flaws.{GivesLine, IsRefusal}
-use Rattle.btor2_text.specs.declared.reader.Flaw.{Flaw}
-use Rattle.btor2_text.specs.declared.reader.Flaw.TheVariants as flaws
+use Rattle.kw_bits.specs.declared.failure.Failure.{Failure}
+use Rattle.kw_bits.specs.declared.failure.Failure.TheVariants as failures
+use Rattle.btor2_text.specs.declared.reader.Unread.{Unread}
+use Rattle.btor2_text.specs.declared.reader.Unread.TheVariants as unread
 use Rattle.btor2_text.specs.Reading.{Gives, AreLines, IsFirstLineFault, AreLinesOf, IsFirstFaultOf}
 use Rattle.btor2_text.specs.Forms.{kinds_of}
 use Rattle.btor2_text.specs.Lines.{IsArgument, BeginWithArguments, IsLine, IsOutside}
@@ -159,14 +161,11 @@ OnFault (refusals.Fault fault) P = P fault
 OnFault refusals.NoMemory P = Unit {0}
 
 -- the refusal of a line's flaw has the line's fault
-pub fault_of_flaw : (number : ℕ) (tokens : List (List ℕ)) (flaw : Flaw) (refusal : Refusal) → GivesLine number tokens (Err flaw) → IsRefusal flaw number refusal
+pub fault_of_flaw : (number : ℕ) (tokens : List (List ℕ)) (flaw : Failure Unread) (refusal : Refusal) → GivesLine number tokens (Err flaw) → IsRefusal flaw number refusal
     → OnFault refusal (λ fault. Gives number tokens (Err fault))
-fault_of_flaw number tokens flaws.Malformed refusal gives is =
-    let P : Refusal → Type 0 = λ r. OnFault r (λ fault. Gives number tokens (Err fault)) in subst P (sym is) (inr (gives, refl))
-fault_of_flaw number tokens flaws.LeftOut refusal gives is =
-    let P : Refusal → Type 0 = λ r. OnFault r (λ fault. Gives number tokens (Err fault)) in subst P (sym is) (inl (gives, refl))
-fault_of_flaw number tokens flaws.NoMemory refusal gives is =
-    let P : Refusal → Type 0 = λ r. OnFault r (λ fault. Gives number tokens (Err fault)) in subst P (sym is) tt
+fault_of_flaw number tokens (failures.Why unread.Malformed) refusal gives is = rw is (inr (gives, refl))
+fault_of_flaw number tokens (failures.Why unread.LeftOut) refusal gives is = rw is (inl (gives, refl))
+fault_of_flaw number tokens failures.NoMemory refusal gives is = rw is tt
 
 -- the answers of a reader whose refusal has the first fault
 pub is_first_fault : (text : List ℕ) (refusal : Refusal) → OnFault refusal (IsFirstFaultOf text) → IfFault {X = List Line} (Err refusal) (IsFirstFaultOf text)
@@ -187,7 +186,7 @@ first_fault text lines number left to line texts splits (refusals.Fault fault) g
 first_fault text lines number left to line texts splits refusals.NoMemory gives = tt
 
 pub ReadTo-refused : (text : List ℕ) (lines : List Line) (number : ℕ) (left : List (List ℕ)) → ReadTo (lines_of text) lines number left
-    → (line : List ℕ) (texts : List (List ℕ)) → left ≡ line ∷ texts → (here : ℕ) → here ≡ number_after number → (flaw : Flaw) → GivesLine here (tokens_of line) (Err flaw)
+    → (line : List ℕ) (texts : List (List ℕ)) → left ≡ line ∷ texts → (here : ℕ) → here ≡ number_after number → (flaw : Failure Unread) → GivesLine here (tokens_of line) (Err flaw)
     → (refusal : Refusal) → IsRefusal flaw here refusal → OnFault refusal (IsFirstFaultOf text)
 ReadTo-refused text lines number left to line texts splits here is_here flaw gives refusal is =
     first_fault text lines number left to line texts splits refusal (rw is_here at (fault_of_flaw here (tokens_of line) flaw refusal gives is))

@@ -1,7 +1,7 @@
 -- A printed line is read again as the line.
 use Rattle.std.proofs.Common.{◌≡◌, ℕ, ◌<◌, ◌≤◌, ◌^◌, Bool, true, false, not, ◌||◌, eqb, List, [], ◌∷◌, ◌++◌, length, map, drop, None, Some, refl, sym, ap, ◌∙◌, subst, arith, lit<, lit≤, true≢false, ⊎_elim}
 use Rattle.std.specs.Char.{digit_value}
-use Rattle.std.specs.List.{before_first, flat_map, list_all}
+use Rattle.std.specs.List.{All, AllPass, before_first, flat_map, list_all}
 use Rattle.std.specs.Option.{option_to_list}
 use Rattle.std.specs.Prelude.{decimal}
 use Rattle.std.specs.Str.Parse.{AllDigits, IsNumeral}
@@ -9,7 +9,10 @@ use Rattle.std.proofs.lemmas.Bool.Decides.{eqb_tells}
 use Rattle.std.proofs.lemmas.Fmt.{decimal_is_IsNumeral}
 use Rattle.std.proofs.lemmas.List.{append-nil, append_assoc}
 use Rattle.std.proofs.lemmas.List.Sums.{AllPass-from_list_all}
-use Rattle.btor2_text.specs.Cut.{is_blank, begins_comment, ends_line, lines_of, number_after, words_of, tokens_of}
+use Rattle.kw_base.specs.Texts.{ends_line, is_blank_or_return, is_semicolon}
+use Rattle.kw_base.proofs.Cutting.{before_first-append, piece_first}
+use Rattle.kw_base.proofs.Words.{none-from_passes, words_of-blank, words_of-nil, words_of-word}
+use Rattle.btor2_text.specs.Cut.{lines_of, number_after, words_of, tokens_of}
 use Rattle.btor2_text.specs.Forms.{keyword_text, kinds_of, radix_of}
 use Rattle.btor2_text.specs.Lines.{IsArgument, BeginWithArguments, IsId, IsLine}
 use Rattle.btor2_text.specs.Printable.{IsIdNumber, FitsKind, FitKinds, is_plain, IsPlainToken, AreTokens, IsPrintable, ArePrintable, numbered_from}
@@ -23,8 +26,7 @@ use Rattle.btor2_text.specs.declared.kind.ArgumentKind.{ArgumentKind}
 use Rattle.btor2_text.specs.declared.kind.ArgumentKind.TheVariants as kinds
 use Rattle.btor2_text.specs.declared.line.Argument.{Argument}
 use Rattle.btor2_text.specs.declared.line.Line.{Line}
-use Rattle.btor2_text.proofs.Cuts.{before_first-append, lines_of-first, words_of-blank, words_of-word, words_of-nil}
-use Rattle.btor2_text.proofs.Conjunction.{and-true, and-left, and-right}
+use Rattle.kw_base.proofs.Conjunction.{and-true, and-left, and-right}
 
 -- a test of each byte of joined lists
 all-append : (p : ℕ → Bool) (xs ys : List ℕ) → list_all p xs ≡ true → list_all p ys ≡ true → list_all p (xs ++ ys) ≡ true
@@ -43,14 +45,14 @@ not-or false true c h = absurd (true≢false (sym h))
 not-or false false true h = absurd (true≢false (sym h))
 not-or false false false h = (refl, refl, refl)
 
-plain_no_blank : (b : ℕ) → is_plain b ≡ true → not (is_blank b) ≡ true
-plain_no_blank b h = (not-or (is_blank b) (begins_comment b) (ends_line b) h).0
+plain_no_blank : (b : ℕ) → is_plain b ≡ true → not (is_blank_or_return b) ≡ true
+plain_no_blank b h = (not-or (is_blank_or_return b) (is_semicolon b) (ends_line b) h).0
 
-plain_no_comment : (b : ℕ) → is_plain b ≡ true → not (begins_comment b) ≡ true
-plain_no_comment b h = (not-or (is_blank b) (begins_comment b) (ends_line b) h).1
+plain_no_comment : (b : ℕ) → is_plain b ≡ true → not (is_semicolon b) ≡ true
+plain_no_comment b h = (not-or (is_blank_or_return b) (is_semicolon b) (ends_line b) h).1
 
 plain_no_end : (b : ℕ) → is_plain b ≡ true → not (ends_line b) ≡ true
-plain_no_end b h = (not-or (is_blank b) (begins_comment b) (ends_line b) h).2
+plain_no_end b h = (not-or (is_blank_or_return b) (is_semicolon b) (ends_line b) h).2
 
 -- tokens with spaces between them have only bytes that pass a test of plain bytes and the space
 all-row : (p : ℕ → Bool) → ((b : ℕ) → is_plain b ≡ true → p b ≡ true) → p 32 ≡ true → (tokens : List (List ℕ)) → AreTokens tokens → list_all p (flat_map spaced tokens) ≡ true
@@ -58,15 +60,21 @@ all-row p plain space [] are = refl
 all-row p plain space (token ∷ tokens) are =
     all-append p (spaced token) (flat_map spaced tokens) (and-true (p 32) (list_all p token) space (all-weaker is_plain p plain token are.0.plain)) (all-row p plain space tokens are.1)
 
+-- bytes that all pass a test of plain bytes aren't cut
+none_cut : (p : ℕ → Bool) (bytes : List ℕ) → list_all (λ b. not (p b)) bytes ≡ true → All (λ b. p b ≡ false) bytes
+none_cut p bytes all = none-from_passes p bytes (AllPass-from_list_all (λ b. not (p b)) bytes all)
+
+-- no byte of a token is blank
+shown : (b : ℕ) (token : List ℕ) → IsPlainToken (b ∷ token) → AllPass (λ x. not (is_blank_or_return x)) (b ∷ token)
+shown b token is = AllPass-from_list_all (λ x. not (is_blank_or_return x)) (b ∷ token) (all-weaker is_plain (λ x. not (is_blank_or_return x)) plain_no_blank (b ∷ token) is.plain)
+
 -- they are cut into the tokens again
 words_of-row : (token : List ℕ) (tokens : List (List ℕ)) → AreTokens (token ∷ tokens) → words_of (token ++ flat_map spaced tokens) ≡ token ∷ tokens
 words_of-row [] tokens are = absurd (omega (arith, are.0.some_byte))
-words_of-row (b ∷ token) [] are =
-    words_of-word b token [] (AllPass-from_list_all (λ x. not (is_blank x)) (b ∷ token) (all-weaker is_plain (λ x. not (is_blank x)) plain_no_blank (b ∷ token) are.0.plain)) tt
-    ∙ ap (λ words. (b ∷ token) ∷ words) words_of-nil
+words_of-row (b ∷ token) [] are = words_of-word is_blank_or_return b token [] (shown b token are.0) tt ∙ ap (λ words. (b ∷ token) ∷ words) (words_of-nil is_blank_or_return)
 words_of-row (b ∷ token) (next ∷ tokens) are =
-    words_of-word b token (flat_map spaced (next ∷ tokens)) (AllPass-from_list_all (λ x. not (is_blank x)) (b ∷ token) (all-weaker is_plain (λ x. not (is_blank x)) plain_no_blank (b ∷ token) are.0.plain)) refl
-    ∙ ap (λ words. (b ∷ token) ∷ words) (words_of-blank 32 (next ++ flat_map spaced tokens) refl ∙ words_of-row next tokens are.1)
+    words_of-word is_blank_or_return b token (flat_map spaced (next ∷ tokens)) (shown b token are.0) refl
+    ∙ ap (λ words. (b ∷ token) ∷ words) (words_of-blank is_blank_or_return 32 (next ++ flat_map spaced tokens) refl ∙ words_of-row next tokens are.1)
 
 -- digits are plain
 apart : (b c : ℕ) → digit_value c ≡ 36 → digit_value b < 36 → eqb b c ≡ false
@@ -81,7 +89,7 @@ plain_digit b digit =
     let line = apart b 10 refl digit in
     rw (space, tab, carriage, comment, line) refl
 
-plain_digits : (radix : ℕ) → radix ≤ 36 → (digits : List ℕ) → AllDigits radix digits → list_all is_plain digits ≡ true
+pub plain_digits : (radix : ℕ) → radix ≤ 36 → (digits : List ℕ) → AllDigits radix digits → list_all is_plain digits ≡ true
 plain_digits radix small [] all = refl
 plain_digits radix small (d ∷ digits) all = and-true (is_plain d) (list_all is_plain digits) (plain_digit d (omega (arith, all.0))) (plain_digits radix small digits all.1)
 
@@ -225,8 +233,8 @@ all-row_text p plain space line is =
 tokens_of-row_text : (line : Line) → IsPrintable line → tokens_of (row_text line) ≡ decimal line.id ∷ row line
 unfolding row_text
 tokens_of-row_text line is =
-    let code = before_first-append begins_comment (row_text line) [] (AllPass-from_list_all (λ b. not (begins_comment b)) (row_text line) (all-row_text (λ b. not (begins_comment b)) plain_no_comment refl line is)) tt in
-    ap words_of (ap (before_first begins_comment) (sym (append-nil (row_text line))) ∙ code) ∙ words_of-row (decimal line.id) (row line) (are_tokens line is)
+    let code = before_first-append is_semicolon (row_text line) [] (none_cut is_semicolon (row_text line) (all-row_text (λ b. not (is_semicolon b)) plain_no_comment refl line is)) tt in
+    ap words_of (ap (before_first is_semicolon) (sym (append-nil (row_text line))) ∙ code) ∙ words_of-row (decimal line.id) (row line) (are_tokens line is)
 
 -- the tokens are the line
 IsLine-row : (number : ℕ) (line : Line) → IsPrintable line → IsLine number (decimal line.id ∷ row line) (record line { number = number })
@@ -245,20 +253,14 @@ IsLine-row number line is =
 
 lines_of-line_text : (line : Line) (rest : List ℕ) → IsPrintable line → lines_of (line_text line ++ rest) ≡ row_text line ∷ lines_of rest
 lines_of-line_text line rest is =
-    lines_of-first (line_text line ++ rest) (row_text line) 10 rest
+    piece_first ends_line (line_text line ++ rest) (row_text line) 10 rest
     (ap (λ bytes. bytes ++ rest) (line_text-row line) ∙ append_assoc (row_text line) (10 ∷ []) rest)
-    (AllPass-from_list_all (λ b. not (ends_line b)) (row_text line) (all-row_text (λ b. not (ends_line b)) plain_no_end refl line is))
+    (none_cut ends_line (row_text line) (all-row_text (λ b. not (ends_line b)) plain_no_end refl line is))
     refl
-
-nothing : lines_of [] ≡ [] ∷ []
-unfolding lines_of
-nothing = refl
 
 -- lines that are printed are read again, numbered anew
 pub AreLines-text_of : (number : ℕ) (lines : List Line) → ArePrintable lines → AreLines number (lines_of (text_of lines)) (numbered_from number lines)
-AreLines-text_of number [] are =
-    let P : List (List ℕ) → Type 0 = λ texts. AreLines number texts [] in
-    subst P (sym nothing) (None, [], refl, words_of-nil, refl)
+AreLines-text_of number [] are = (None, [], refl, words_of-nil is_blank_or_return, refl)
 AreLines-text_of number (line ∷ lines) are =
     let P : List (List ℕ) → Type 0 = λ texts. AreLines number texts (numbered_from number (line ∷ lines)) in
     let here : IsLine number (tokens_of (row_text line)) (record line { number = number }) =

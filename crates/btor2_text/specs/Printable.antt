@@ -4,7 +4,8 @@ use Rattle.std.specs.Prelude.{◌≡◌, ℕ, ◌<◌, ◌≤◌, ◌^◌, Bool,
 use Rattle.std.specs.List.{list_all}
 use Rattle.std.specs.Option.{option_to_list}
 use Rattle.std.specs.Str.Parse.{IsNumeral}
-use Rattle.btor2_text.specs.Cut.{is_blank, begins_comment, ends_line, number_after}
+use Rattle.kw_base.specs.Texts.{is_blank_or_return, is_semicolon, ends_line}
+use Rattle.btor2_text.specs.Cut.{number_after}
 use Rattle.btor2_text.specs.Forms.{kinds_of, radix_of}
 use Rattle.btor2_text.specs.declared.kind.ArgumentKind.{ArgumentKind}
 use Rattle.btor2_text.specs.declared.kind.ArgumentKind.TheVariants as kinds
@@ -31,7 +32,7 @@ FitKinds (kind ∷ kinds) given = (first : Argument) × (others : List Argument)
 
 -- a byte that a token may have: no blank, no semicolon, no line feed
 abbrev pub is_plain : ℕ → Bool
-is_plain b = not ((is_blank b || begins_comment b) || ends_line b)
+is_plain b = not ((is_blank_or_return b || is_semicolon b) || ends_line b)
 
 -- bytes that are a token: one or more, all plain
 pub record IsPlainToken (bytes : List ℕ) : Type 0 where

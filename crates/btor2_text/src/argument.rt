@@ -8,29 +8,30 @@ ghost use Rattle.btor2_text.specs.inner.Flaws.{IfRead};
 ghost use Rattle.btor2_text.specs.declared.line.Argument.{Argument as ArgumentOf};
 
 use crate::cut::next_token;
-use crate::numeral::{is_numeral, number_of};
-use crate::reader::Flaw;
+use crate::numeral::number_of;
+use crate::reader::Unread;
 use crate::{Argument, ArgumentKind};
-use kw_bits::{Sequence, Text};
+use kw_base::texts::is_numeral;
+use kw_bits::{Failure, Sequence, Text};
 use std::alloc::Global;
 
 /// The id that a token is.
-pub(crate) fn read_id(token: &[u8]) -> Result<u64, Flaw>
+pub(crate) fn read_id(token: &[u8]) -> Result<u64, Failure<Unread>>
     ensures { IfRead result (IsId token.now) ((id : ℕ) → ¬ IsId token.now id) }
 {
     match number_of(token) {
         Some(id) if id != 0 => Ok(id),
-        _ => Err(Flaw::Malformed),
+        _ => Err(Failure::Why(Unread::Malformed)),
     }
 }
 
 /// The width, bound or count that a token is.
-fn read_number(token: &[u8]) -> Result<u32, Flaw>
+fn read_number(token: &[u8]) -> Result<u32, Failure<Unread>>
     ensures { IfRead result (IsNumber token.now) ((number : ℕ) → ¬ IsNumber token.now number) }
 {
     match number_of(token) {
         Some(number) if number <= u64::from(u32::MAX) => Ok(number as u32),
-        _ => Err(Flaw::Malformed),
+        _ => Err(Failure::Why(Unread::Malformed)),
     }
 }
 
@@ -39,17 +40,17 @@ pub(crate) fn read_argument(
     alloc: Global,
     kind: ArgumentKind,
     token: &[u8],
-) -> Result<Argument, Flaw>
+) -> Result<Argument, Failure<Unread>>
     ensures { IfRead result (IsArgument kind token.now) ((argument : ArgumentOf) → ¬ IsArgument kind token.now argument) }
 {
     match kind {
         ArgumentKind::Bitvec if token == b"bitvec".as_slice() => Ok(Argument::Bitvec),
         ArgumentKind::Number => Ok(Argument::Number(read_number(token)?)),
         ArgumentKind::Sort | ArgumentKind::Value => Ok(Argument::Id(read_id(token)?)),
-        ArgumentKind::Numeral(base) if is_numeral(token, base) => {
+        ArgumentKind::Numeral(base) if is_numeral(base.radix(), token) => {
             Ok(Argument::Numeral(Text::from_slice(alloc, token)?))
         }
-        _ => Err(Flaw::Malformed),
+        _ => Err(Failure::Why(Unread::Malformed)),
     }
 }
 
@@ -58,7 +59,7 @@ pub(crate) fn read_arguments(
     alloc: Global,
     kinds: &[ArgumentKind],
     bytes: &[u8],
-) -> Result<Sequence<Argument>, Flaw>
+) -> Result<Sequence<Argument>, Failure<Unread>>
     ensures { IfRead result
         (BeginWithArguments kinds.now (words_of bytes.now))
         ((arguments : List ArgumentOf) → ¬ BeginWithArguments kinds.now (words_of bytes.now) arguments) }
@@ -67,7 +68,7 @@ pub(crate) fn read_arguments(
     let mut rest = bytes;
     for kind in kinds {
         let Some(token) = next_token(rest) else {
-            return Err(Flaw::Malformed);
+            return Err(Failure::Why(Unread::Malformed));
         };
         arguments.push(read_argument(alloc, *kind, token.bytes)?)?;
         rest = token.rest;
@@ -112,14 +113,14 @@ pub(crate) fn skip_tokens(count: usize, bytes: &[u8]) -> Option<&[u8]>
 }
 
 /// The symbol that is the only token of some bytes, if they have any.
-pub(crate) fn read_symbol(alloc: Global, bytes: &[u8]) -> Result<Option<Text>, Flaw>
+pub(crate) fn read_symbol(alloc: Global, bytes: &[u8]) -> Result<Option<Text>, Failure<Unread>>
     ensures { IfRead result (λ symbol. words_of bytes.now ≡ option_to_list symbol) (2 ≤ length (words_of bytes.now)) }
 {
     let Some(symbol) = next_token(bytes) else {
         return Ok(None);
     };
     if next_token(symbol.rest).is_some() {
-        return Err(Flaw::Malformed);
+        return Err(Failure::Why(Unread::Malformed));
     }
     Ok(Some(Text::from_slice(alloc, symbol.bytes)?))
 }

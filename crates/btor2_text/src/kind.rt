@@ -1,6 +1,6 @@
 //! Circuits: the kinds of arguments and the bases of numerals.
 
-ghost use Rattle.std.specs.Prelude.{◌≡◌};
+ghost use Rattle.std.specs.Prelude.{◌≡◌, ◌≤◌};
 ghost use Rattle.btor2_text.specs.Forms as forms;
 
 /// The base in which a constant's numeral is written.
@@ -14,7 +14,9 @@ pub enum Base {
 impl Base {
     /// How many digits the base has.
     pub fn radix(self) -> u32
-        ensures { result ≡ forms.radix_of self }
+        ensures value { result ≡ forms.radix_of self }
+        ensures least { 2 ≤ result }
+        ensures most { result ≤ 36 }
     {
         match self {
             Base::Binary => 2,

@@ -5,7 +5,6 @@ ghost use Rattle.kw_base.specs.Fault.{IfFault, IsOkUnlessNoMemory, IsFaultUnless
 ghost use Rattle.kw_base.specs.declared.fault.Fault.{Fault as FaultOf};
 ghost use Rattle.btor2_text.specs.Cut.{tokens_of, words_of};
 ghost use Rattle.btor2_text.specs.inner.Flaws.{IsRefusal, GivesLine, GivesForm};
-ghost use Rattle.btor2_text.specs.declared.reader.Flaw.TheVariants as flaws;
 ghost use Rattle.btor2_text.specs.Forms.{keyword_text};
 ghost use Rattle.btor2_text.specs.Lines.{IsArraySort, IsLeftOut};
 ghost use Rattle.btor2_text.specs.Printable.{ArePrintable};
@@ -13,61 +12,39 @@ ghost use Rattle.btor2_text.specs.Reading.{AreLinesOf, IsFirstFaultOf};
 ghost use Rattle.btor2_text.specs.declared.line.Line.{Line as LineOf};
 
 use crate::argument::{has_minus, read_arguments, read_id, read_symbol, skip_tokens};
-use crate::cut::{Token, next_token, split_line, without_comment};
+use crate::cut::next_token;
 use crate::keyword::is_left_out;
 use crate::{Keyword, Line, Lines};
+use kw_base::texts::{Separator, Word, before_first, cut};
 use kw_base::{Fault, Place, Refusal, fault_number};
-use kw_bits::{NoMemory, Sequence};
-use std::alloc::{AllocError, AllocFailed, Global};
+use kw_bits::{Failure, Sequence};
+use std::alloc::Global;
 
-/// Why a row of tokens gave no line.
+/// Why a row of tokens is no line.
 #[derive(Clone, Copy, Debug, PartialEq, Eq)]
-pub(crate) enum Flaw {
+pub(crate) enum Unread {
     /// It is of no form.
     Malformed,
     /// It is of a form that BTOR2 has and this project leaves out.
     LeftOut,
-    NoMemory,
 }
 
-impl From<NoMemory> for Flaw {
-    ghost from_gives = { λ _ flaw. flaw ≡ flaws.NoMemory };
-
-    fn from(_: NoMemory) -> Flaw {
-        Flaw::NoMemory
-    }
-}
-
-impl From<AllocError> for Flaw {
-    ghost from_gives = { λ _ flaw. flaw ≡ flaws.NoMemory };
-
-    fn from(_: AllocError) -> Flaw {
-        Flaw::NoMemory
-    }
-}
-
-impl<T: Drop> From<AllocFailed<T>> for Flaw {
-    ghost from_gives = { λ _ flaw. flaw ≡ flaws.NoMemory };
-
-    fn from(_: AllocFailed<T>) -> Flaw {
-        Flaw::NoMemory
-    }
-}
-
-impl Flaw {
-    // The refusal of the line of this number.
-    fn refusal(self, number: u32) -> Refusal
-        ensures { IsRefusal self number result }
-    {
-        let place = Place {
-            line: number,
-            column: 1,
-        };
-        match self {
-            Flaw::Malformed => Refusal::Fault(Fault::new(fault_number::MALFORMED_LINE, place)),
-            Flaw::LeftOut => Refusal::Fault(Fault::new(fault_number::FORM_LEFT_OUT, place)),
-            Flaw::NoMemory => Refusal::NoMemory,
+// The refusal of the line of this number.
+fn refusal(failure: Failure<Unread>, number: u32) -> Refusal
+    ensures { IsRefusal failure number result }
+{
+    let place = Place {
+        line: number,
+        column: 1,
+    };
+    match failure {
+        Failure::Why(Unread::Malformed) => {
+            Refusal::Fault(Fault::new(fault_number::MALFORMED_LINE, place))
         }
+        Failure::Why(Unread::LeftOut) => {
+            Refusal::Fault(Fault::new(fault_number::FORM_LEFT_OUT, place))
+        }
+        Failure::NoMemory => Refusal::NoMemory,
     }
 }
 
@@ -86,39 +63,39 @@ pub fn read_lines(alloc: Global, text: &[u8]) -> Result<Lines, Refusal>
     let mut number: u32 = 0;
     let mut rest = Some(text);
     while let Some(text) = rest {
-        let (line, behind) = split_line(text);
+        let (line, after) = cut(text, Separator::LineFeed);
         number = number.saturating_add(1);
         match read_line(alloc, line, number) {
             Ok(Some(line)) => lines.push(line)?,
             Ok(None) => (),
-            Err(flaw) => return Err(flaw.refusal(number)),
+            Err(flaw) => return Err(refusal(flaw, number)),
         }
-        rest = behind;
+        rest = after;
     }
     Ok(lines)
 }
 
 // What the line of this number is: nothing, where it has no token.
-fn read_line(alloc: Global, line: &[u8], number: u32) -> Result<Option<Line>, Flaw>
+fn read_line(alloc: Global, line: &[u8], number: u32) -> Result<Option<Line>, Failure<Unread>>
     ensures { GivesLine number (tokens_of line.now) result }
 {
-    let Some(id) = next_token(without_comment(line)) else {
+    let Some(id) = next_token(before_first(line, Separator::Semicolon)) else {
         return Ok(None);
     };
     let Some(word) = next_token(id.rest) else {
-        return Err(Flaw::Malformed);
+        return Err(Failure::Why(Unread::Malformed));
     };
     if is_left_out(word.bytes) || is_array_sort(word) {
-        return Err(Flaw::LeftOut);
+        return Err(Failure::Why(Unread::LeftOut));
     }
     match Keyword::of_word(word.bytes) {
         Some(keyword) => Ok(Some(read_form(alloc, keyword, id.bytes, word.rest, number)?)),
-        None => Err(Flaw::Malformed),
+        None => Err(Failure::Why(Unread::Malformed)),
     }
 }
 
 // Whether these are a keyword and a token of a sort of arrays.
-fn is_array_sort(word: Token<'_>) -> bool
+fn is_array_sort(word: Word<'_>) -> bool
     ensures { IsTrue result ↔ IsArraySort word.entry.bytes.now (words_of word.entry.rest.now) }
 {
     match next_token(word.rest) {
@@ -134,17 +111,17 @@ fn read_form(
     id: &[u8],
     bytes: &[u8],
     number: u32,
-) -> Result<Line, Flaw>
+) -> Result<Line, Failure<Unread>>
     requires { ¬ IsLeftOut (id.now ∷ keyword_text keyword ∷ words_of bytes.now) }
     ensures { GivesForm number (id.now ∷ keyword_text keyword ∷ words_of bytes.now) result }
 {
     let kinds = keyword.kinds();
     let Some(rest) = skip_tokens(kinds.len(), bytes) else {
-        return Err(Flaw::Malformed);
+        return Err(Failure::Why(Unread::Malformed));
     };
     let symbol = read_symbol(alloc, rest)?;
     if has_minus(kinds, bytes) {
-        return Err(Flaw::LeftOut);
+        return Err(Failure::Why(Unread::LeftOut));
     }
     let id = read_id(id)?;
     let arguments = read_arguments(alloc, kinds, bytes)?;

@@ -7,6 +7,7 @@ use Rattle.std.proofs.lemmas.Slice.Zip.{get_or-zip}
 use Rattle.one_rule.specs.declared.rows.Row.{Row}
 use Rattle.stim_report.specs.Batches.{joined, last_cycle}
 use Rattle.stim_report.specs.Summary.{has_fired}
+use Rattle.stim_report.proofs.TotalsOfBatches.{cycles_joined}
 use Rattle.koika_assert.specs.inner.Marks.{AddsFirsts}
 use Rattle.koika_assert.specs.Violations.{Watched, first_from, first_violated, watched, watched_on}
 
@@ -27,12 +28,6 @@ pub first_joined : (before batch : List Row) (mark : ℕ)
 first_joined [] batch mark = refl
 first_joined (row ∷ rows) batch mark =
     ap (λ (n : ℕ). option_or (first_violated (row ∷ rows) mark) (position_from (has_fired mark) n (drop 1 batch))) (omega arith) ∙ sym (position_joined (has_fired mark) 1 rows (drop 1 batch))
-
--- the rows end with the batch's last cycle
-pub cycles_joined : (before batch : List Row) → 0 < length batch → last_cycle (joined before batch) ≡ last_cycle before + length (drop 1 batch)
-cycles_joined before [] some = absurd (omega (arith, some))
-cycles_joined [] (first ∷ batch) some = omega arith
-cycles_joined (row ∷ rows) (first ∷ batch) some = omega (arith, length-append (row ∷ rows) batch)
 
 -- the first cycles of all marks
 pub firsts_joined : (before batch : List Row) (marks : List ℕ) (new : List (Option ℕ))

@@ -31,16 +31,12 @@ use Rattle.btor2_model.proofs.Filled.{value-alone}
 use Rattle.btor2_model.proofs.KindsByRule.{kinds-by, kinds_by}
 use Rattle.btor2_net.specs.Pages.{Page}
 use Rattle.btor2_net.specs.Translations.{AreCounted, line_name, output_widths, widths_in}
-use Rattle.btor2_model.proofs.Declared.{IsValue, all-passing, fine-lines, input-values, output-value, own-value, state-values}
+use Rattle.btor2_net.proofs.Made.{alike}
+use Rattle.btor2_model.proofs.Declared.{IsValue, all-passing, fine-lines, input-values, output-value, own-value, state-values, output-rule}
 use Rattle.koika_assert.specs.Bads.{HasSameParts, RunsAlike, ShowsMarks, bad_lines, flag_lines, is_violated, marked, with_bads}
 use Rattle.koika_assert.proofs.AddedBads.{HasBads, IsFlagOn, good, has-bads, no-bads, page, still-accepted, values-same}
 use Rattle.koika_assert.proofs.SameRuns.{in-same, states-same}
 use Rattle.koika_assert.proofs.TurnedRuns.{bad-value}
-
--- functions that agree on each line
-alike : {X : Type 0} (f g : Line → X) (lines : List Line) → All (λ (line : Line). f line ≡ g line) lines → map f lines ≡ map g lines
-alike {X} f g [] all = refl
-alike {X} f g (line ∷ lines) all = ap₂ (λ (x : X) (xs : List X). x ∷ xs) (all 0 line (omega arith)) (alike f g lines (λ k d within. all (suc k) d (omega (arith, within))))
 
 -- and on each id
 alike-ids : {X : Type 0} (f g : ℕ → X) (ids : List ℕ) → ((k id : ℕ) → slice_get ids k ≡ Some id → f id ≡ g id) → map f ids ≡ map g ids
@@ -222,10 +218,6 @@ violated-by : (lines all : List Line) (inputs : InputsByCycle) (step id : ℕ) (
 violated-by lines all inputs step id [] same = refl
 violated-by lines all inputs step id (output ∷ outputs) same =
     ap₂ (λ (x : Bool) (xs : List Bool). x ∷ xs) (ap (λ (v : BitVector). nat_eq v.number 1) (same 0 output refl)) (violated-by lines all inputs step (id + 1) outputs (λ k line at. same (suc k) line at))
-
-output-rule : (rule : FormRule) → is_output rule ≡ true → rule ≡ forms.Output
-output-rule forms.Output is = refl
-output-rule other is = absurd (cc)
 
 module _ (lines : List Line) (accepted : IsAccepted lines) (counted : AreCounted lines) (marks : List ℕ) (within : All (λ (mark : ℕ). mark < length (flag_lines lines)) marks) where
   -- a line's form

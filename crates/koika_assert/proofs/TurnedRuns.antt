@@ -25,10 +25,12 @@ use Rattle.btor2_model.proofs.Ends.{measured-widths, wanted-some, wanted-stays}
 use Rattle.btor2_model.proofs.Filled.{each-measure, value-alone}
 use Rattle.btor2_model.proofs.KindsByRule.{kinds-by, kinds_by}
 use Rattle.btor2_model.proofs.Declared.{IsValue, all-passing, each-line, fine-lines, input-values, own-value, width-is}
+use Rattle.btor2_net.proofs.Made.{alike}
 use Rattle.koika_assert.specs.Bads.{ShowsViolations, as_output, bads_as_outputs, is_violated, turned}
 use Rattle.koika_assert.proofs.SameRuns.{in-same}
 use Rattle.koika_assert.proofs.TurnedScopes.{good-wanted, is_good}
-use Rattle.koika_assert.proofs.TurnedTexts.{TurnsOut, each-fine, goes, is-kept, shown-none, turns-out}
+use Rattle.btor2_model.proofs.Declared.{each-fine}
+use Rattle.koika_assert.proofs.TurnedTexts.{TurnsOut, goes, is-kept, shown-none, turns-out}
 use Rattle.koika_assert.proofs.TurnedValues.{SameGiven, turned-values}
 
 -- an output, a bad line, or one that stays
@@ -110,10 +112,6 @@ flags-of width f g (line ∷ bads) all =
     let one : nat_eq (width (id_at line.arguments 0)) 1 ≡ true = ap (λ (w : ℕ). nat_eq w 1) own.0 in
     let ids = filter (λ (id : ℕ). nat_eq (width id) 1) (map (λ (line : Line). id_at line.arguments 0) (map turned bads)) in
     ap (λ (b : Bool). map f (cond b (id_at line.arguments 0 ∷ ids) ids)) one ∙ ap₂ (λ (x : Bool) (xs : List Bool). x ∷ xs) own.1 rest
-
-alike : {X : Type 0} (f g : Line → X) (lines : List Line) → All (λ (line : Line). f line ≡ g line) lines → map f lines ≡ map g lines
-alike {X} f g [] all = refl
-alike {X} f g (line ∷ lines) all = ap₂ (λ (x : X) (xs : List X). x ∷ xs) (all 0 line (omega arith)) (alike f g lines (λ k d within. all (suc k) d (omega (arith, within))))
 
 module _ (lines : List Line) (accepted : IsAccepted lines) where
   abbrev shown : List Line

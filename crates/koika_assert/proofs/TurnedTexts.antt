@@ -14,6 +14,7 @@ use Rattle.btor2_model.specs.Rules.{is_output, is_state, rule_of}
 use Rattle.btor2_model.specs.Scope.{DeclaredIds, behind, behind_all, no_lines}
 use Rattle.btor2_model.proofs.Conditions.{meets, no-fault}
 use Rattle.btor2_model.proofs.Evaluation.{option_map-none, option_or-none}
+use Rattle.btor2_model.proofs.Declared.{each-fine}
 use Rattle.koika_assert.specs.Bads.{as_output, bads_as_outputs, turned}
 use Rattle.koika_assert.proofs.TurnedScopes.{Shown, met-turned, shown-kept, shown-without, turned-cases}
 
@@ -34,10 +35,6 @@ pub record TurnsOut (scope kept : DeclaredIds) (lines : List Line) : Type 0 wher
 both-none : (f : ℕ → Fault) (o : Option ℕ) (r : Option Fault) → o ≡ None → r ≡ None → option_or (option_map f o) r ≡ None
 both-none f None r first rest = rest
 both-none f (Some x) r first rest = absurd (cc)
-
-pub each-fine : (scope : DeclaredIds) (line : Line) (rest : List Line) → lines_fault scope (line ∷ rest) ≡ None → (line_fault scope line ≡ None) × (lines_fault (behind scope line) rest ≡ None)
-each-fine scope line rest fine =
-    let e = option_or-none (option_map (fault_in line) (line_fault scope line)) (lines_fault (behind scope line) rest) fine in (option_map-none (fault_in line) (line_fault scope line) e.0, e.1)
 
 turn-line : (scope kept : DeclaredIds) (line : Line) (lines : List Line) (b : Bool) → is_output (rule_of line.keyword) ≡ b → Shown scope kept → line_fault scope line ≡ None → IsPrintable line
     → ((next : DeclaredIds) → Shown (behind scope line) next → TurnsOut (behind scope line) next lines) → TurnsOut scope kept (line ∷ lines)

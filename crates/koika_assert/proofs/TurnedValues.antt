@@ -23,7 +23,8 @@ use Rattle.btor2_model.specs.declared.rule.FormRule.TheVariants as forms
 use Rattle.btor2_model.proofs.Conditions.{Meets, meets}
 use Rattle.koika_assert.specs.Bads.{as_output, bads_as_outputs, turned}
 use Rattle.koika_assert.proofs.TurnedScopes.{Alike, AreGood, Shown, alike-good, good-line, is_good, shown-kept, shown-without, turned-cases}
-use Rattle.koika_assert.proofs.TurnedTexts.{each-fine, goes, is-kept}
+use Rattle.btor2_model.proofs.Declared.{each-fine}
+use Rattle.koika_assert.proofs.TurnedTexts.{goes, is-kept}
 
 -- the same values of sorts' and values' ids
 abbrev pub SameValues : DeclaredIds → Values → Values → Type 0
