@@ -15,7 +15,7 @@ use Rattle.typed_core.specs.declared.limits.TheConstants.{PORTS}
 use Rattle.typed_core.specs.declared.outcome.Stopped.{Stopped}
 use Rattle.typed_core.specs.declared.outcome.Stopped.TheVariants.{Refused}
 use Rattle.rule_log.specs.StandsFor.{Tells, is_access}
-use Rattle.rule_log.proofs.Telling.{NoneSet, read_refused, refused_by_flags, seen_more, tells_both, tells_one}
+use Rattle.rule_log.proofs.Telling.{NoneSet, or_none, read_refused, refused_by_flags, seen_more, tells_both, tells_one}
 use Rattle.one_rule.specs.PortRun.{read_behind, write_behind}
 use Rattle.net_graph.specs.Values.{value_at}
 use Rattle.net_graph.specs.declared.node.NetOp.{NetOp}
@@ -25,10 +25,6 @@ use Rattle.net_action.specs.declared.wires.LogWires.{LogWires}
 use Rattle.net_action.specs.declared.wires.RuleNet.{RuleNet}
 
 -- ---- truth values
-
-or_none : (a : Bool) → a ≡ (a || false)
-or_none true = refl
-or_none false = refl
 
 and_true : (a b : Bool) → b ≡ true → (a && b) ≡ a
 and_true true b e = e

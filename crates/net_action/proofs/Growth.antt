@@ -1,9 +1,8 @@
 -- How nets grow, and what keeps when they do.
-use Rattle.std.proofs.Common.{◌≡◌, ℕ, zero, suc, ◌+◌, ◌<◌, ◌≤◌, ◌⊎◌, inl, inr, true, false, List, [], ◌∷◌, ◌++◌, length, get_or, take, refl, sym, ap, subst, ◌∙◌, arith, append_assoc, append-nil, length-append, Option}
+use Rattle.std.proofs.Common.{◌≡◌, ℕ, zero, suc, ◌+◌, ◌<◌, ◌≤◌, ◌⊎◌, inl, inr, true, false, List, [], ◌∷◌, ◌++◌, length, get_or, refl, sym, ap, subst, ◌∙◌, arith, append_assoc, append-nil, length-append, Option}
 use Rattle.std.specs.Prelude.{slice_get, Some, None}
 use Rattle.std.specs.List.{list_any}
 use Rattle.std.proofs.lemmas.Bool.{cases_Bool, both_ways}
-use Rattle.std.proofs.lemmas.List.{get_or-take, get_or_at, length-take-le}
 use Rattle.std.proofs.lemmas.List.Elements.{All-push}
 use Rattle.std.proofs.lemmas.Option.{get_or_from_slice_get, slice_get-get_or, slice_get_within}
 use Rattle.kw_bits.specs.BitVector.{BitVector}
@@ -12,11 +11,10 @@ use Rattle.net_graph.specs.Nets.{Adds, IsNet, Stands, op_width, width_at, widths
 use Rattle.net_graph.specs.Values.{AllRead, Reads, Sources, no_bits, op_value, values_of, widths}
 use Rattle.net_graph.specs.declared.node.NetOp.{NetOp}
 use Rattle.net_graph.specs.declared.node.NetOp.TheVariants.{Const, Input, State, One, Two, Slice, Uext, Sext, Ite}
-use Rattle.net_graph.proofs.NodeWidths.{widths_of-Wide}
-use Rattle.net_graph.proofs.OneByOne.{get_or-one_by_one-append, length-one_by_one, take_more-one_by_one}
+use Rattle.net_graph.proofs.NodeWidths.{node_width, widths_of-Wide}
+use Rattle.net_graph.proofs.OneByOne.{get_or-one_by_one-append, length-one_by_one}
 use Rattle.net_graph.proofs.OperatorWidths.{width-value_at}
 use Rattle.net_graph.proofs.Sharing.{contains_from_found, equal, found_from_contains}
-use Rattle.net_graph.proofs.Standing.{stands_at}
 use Rattle.net_graph.proofs.Values.{values-by_operators, values-widths}
 use Rattle.net_action.specs.Gates.{Grows}
 use Rattle.net_action.specs.inner.Parts.{HaveWires, IsRunning, WireFits}
@@ -51,33 +49,12 @@ wire_more old more id width h =
     let within : id < length old = omega (arith, wire_within old id width h, length-one_by_one op_width [] old) in
     wire_from (old ++ more) id width (omega (arith, length-append old more)) h.1 (get_or-one_by_one-append op_width old more id 0 within ∙ wire_width old id width h)
 
--- the width of an operator is that over the nodes before it
-same_width : (ws : List ℕ) (i : ℕ) (op : NetOp) → length (take i ws) ≤ i → Stands (take i ws) op → op_width (take i ws) op ≡ op_width ws op
-same_width ws i (Const value) few stands = refl
-same_width ws i (Input number width) few stands = refl
-same_width ws i (State number width) few stands = refl
-same_width ws i (One operator a) few stands = simp (get_or-take i ws a 0 (omega arith))
-same_width ws i (Two operator a b) few stands = simp (get_or-take i ws a 0 (omega arith), get_or-take i ws b 0 (omega arith))
-same_width ws i (Slice a upper lower) few stands = refl
-same_width ws i (Uext a added) few stands = simp (get_or-take i ws a 0 (omega arith))
-same_width ws i (Sext a added) few stands = simp (get_or-take i ws a 0 (omega arith))
-same_width ws i (Ite condition a b) few stands = simp (get_or-take i ws a 0 (omega arith))
-
 -- a node has its operator's width
 pub wire_of_op : (net : List NetOp) (id : ℕ) (op : NetOp) → IsNet net → slice_get net id ≡ Some op → HasWire net id (op_width (widths_of net) op)
 wire_of_op ops id op net at =
     let within : id < length ops = slice_get_within ops id op at in
-    let here : get_or ops id op ≡ op = get_or_from_slice_get ops id op op at in
-    let ws : List ℕ = widths_of ops in
-    let count : length ws ≡ length ops = omega (arith, length-one_by_one op_width [] ops) in
-    let first : List ℕ = take id ws in
-    let few : length first ≡ id = omega (arith, length-take-le id ws (omega arith)) in
-    let stands = stands_at ops id op within net.stand in
-    let last : width_at ws id ≡ op_width first (get_or ops id op) =
-    sym (get_or-take (id + 1) ws id 0 (omega arith)) ∙ ap (λ (xs : List ℕ). get_or xs id 0) (take_more-one_by_one op_width ops id op within)
-    ∙ get_or_at first (op_width first (get_or ops id op)) [] 0 id few in
-    let is : width_at ws id ≡ op_width ws op = last ∙ same_width ws id (get_or ops id op) (omega arith) stands ∙ ap (op_width ws) here in
-    wire_from ops id (op_width ws op) within (subst (λ (w : ℕ). 1 ≤ w) is (widths_of-Wide ops net id 0 (omega arith)).0) is
+    let is : width_at (widths_of ops) id ≡ op_width (widths_of ops) op = node_width ops id op net at in
+    wire_from ops id (op_width (widths_of ops) op) within (subst (λ (w : ℕ). 1 ≤ w) is (widths_of-Wide ops net id 0 (omega (arith, within, length-one_by_one op_width [] ops))).0) is
 
 -- ---- growth
 

@@ -11,7 +11,8 @@ use Rattle.net_graph.specs.declared.node.NetOp.TheVariants.{State}
 use Rattle.typed_core.specs.Valid.{IsPort}
 use Rattle.typed_core.specs.declared.design.Node.{Node}
 use Rattle.typed_core.specs.declared.limits.TheConstants.{PORTS}
-use Rattle.one_rule.specs.Walk.{is_at, root, start}
+use Rattle.one_rule.specs.Walk.{start}
+use Rattle.typed_core.specs.Continuations.{is_at, root}
 use Rattle.net_action.specs.Gates.{Grows}
 use Rattle.net_action.specs.Wires.{AreLogWires, AreValues, HasWire, is_up, wire_at}
 use Rattle.net_action.specs.declared.wires.LogWires.{LogWires}

@@ -14,7 +14,8 @@ use Rattle.typed_core.specs.declared.design.Node.{Node}
 use Rattle.typed_core.specs.declared.outcome.Stopped.{Stopped}
 use Rattle.one_rule.specs.Cycle.{is_among}
 use Rattle.one_rule.specs.PortRun.{PortState, merge}
-use Rattle.one_rule.specs.Walk.{Firing, Walk, goes_on, is_at, pass, walk_past}
+use Rattle.one_rule.specs.Walk.{Firing, Walk, goes_on, pass, walk_past}
+use Rattle.typed_core.specs.Continuations.{is_at}
 use Rattle.net_graph.specs.Values.{value_at}
 use Rattle.net_action.specs.Wires.{LogStandsFor, PortsStandFor, is_up}
 use Rattle.net_action.specs.declared.wires.LogWires.{LogWires}

@@ -29,6 +29,7 @@ use Rattle.circuit_eval.specs.Run.{first_row, first_states, flags, is_one, is_on
 use Rattle.circuit_eval.specs.declared.circuit.OutputWire.{OutputWire}
 use Rattle.circuit_eval.specs.declared.circuit.StateWire.{StateWire}
 use Rattle.circuit_eval.specs.declared.circuit.Wires.{Wires}
+use Rattle.circuit_eval.proofs.Flags.{flags_of}
 use Rattle.circuit_eval.proofs.Fitting.{step_feeds}
 use Rattle.circuit_eval.proofs.Stimuli.{HaveWidths-AreBits}
 use Rattle.net_action.specs.Wires.{AreValues, is_up}
@@ -40,15 +41,6 @@ use Rattle.net_sched.specs.inner.Made.{Leaves}
 
 abbrev IsBit : (OutputWire → BitVector) → List OutputWire → Type 0
 IsBit value outputs = All (λ (wire : OutputWire). (value wire).width ≡ 1) outputs
-
--- outputs of one bit are all flags
-flags_of : (value : OutputWire → BitVector) (outputs : List OutputWire) → IsBit value outputs → flags (map value outputs) ≡ map (λ (wire : OutputWire). is_one (value wire)) outputs
-flags_of value [] bits = refl
-flags_of value (wire ∷ outputs) bits =
-    let own : is_one_bit (value wire) ≡ true = ap (λ (n : ℕ). nat_eq n 1) (bits 0 wire (omega arith)) in
-    let rest = flags_of value outputs (λ k d within. bits (suc k) d (omega (arith, within))) in
-    ap (λ (b : Bool). map is_one (cond b (value wire ∷ filter is_one_bit (map value outputs)) (filter is_one_bit (map value outputs)))) own
-    ∙ ap (λ (bs : List Bool). is_one (value wire) ∷ bs) rest
 
 none_up : (outputs : List OutputWire) → map (λ (wire : OutputWire). false) outputs ≡ replicate (length outputs) false
 none_up [] = refl

@@ -164,8 +164,8 @@ fn pass(
         net,
         design,
         externs,
-        node.rule,
         &cycle.ports,
+        node.rule,
         is_visited,
     )?;
     lead(net, &mut cycle.visited, node.yes, tried.fires)?;

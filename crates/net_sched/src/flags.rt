@@ -4,7 +4,7 @@
 ghost use Rattle.std.specs.Prelude.{◌≡◌, ◌<◌, ◌==◌, ◌&&◌, ◌||◌, ℕ, List, IfOk, length, replicate};
 ghost use Rattle.kw_bits.specs.BitVector.{BitVector};
 ghost use Rattle.net_graph.specs.Values.{Sources};
-ghost use Rattle.one_rule.specs.Walk.{is_at};
+ghost use Rattle.typed_core.specs.Continuations.{is_at};
 ghost use Rattle.net_action.specs.Gates.{Grows};
 ghost use Rattle.net_action.specs.Wires.{AreValues, HasWire, is_up};
 ghost use Rattle.net_sched.specs.inner.Cycles.{AreFlags, IsWithin, nth};

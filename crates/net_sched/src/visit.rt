@@ -37,8 +37,8 @@ pub(crate) fn visit(
     net: &mut Net,
     design: &Design,
     externs: &Externs,
-    rule: u32,
     ports: &PortWires,
+    rule: u32,
     is_visited: NetId,
 ) -> Result<NodeWires, NoMemory>
     requires externs { kept externs.now ≡ externs_of design.now }

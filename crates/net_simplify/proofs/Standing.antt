@@ -1,7 +1,7 @@
 -- What holds of a node of a net: what it stands on, its width and its value.
 use Rattle.std.proofs.Common.{◌≡◌, ℕ, ◌+◌, ◌<◌, ◌≤◌, List, [], length, get_or, take, refl, sym, ap, subst, ◌∙◌, arith}
 use Rattle.std.specs.Prelude.{slice_get, Some}
-use Rattle.std.proofs.lemmas.List.{get_or_at, get_or-take, length-take-le}
+use Rattle.std.proofs.lemmas.List.{get_or-take, length-take-le}
 use Rattle.std.proofs.lemmas.Option.{get_or_from_slice_get, slice_get_within}
 use Rattle.kw_bits.specs.BitVector.{BitVector, IsBits}
 use Rattle.kw_bits.specs.Laws.{HasWidth}
@@ -11,7 +11,8 @@ use Rattle.net_graph.specs.Operators.{TakesTwo}
 use Rattle.net_graph.specs.Values.{no_bits, node_value, op_value, Sources, values_of}
 use Rattle.net_graph.specs.declared.node.NetOp.{NetOp}
 use Rattle.net_graph.specs.declared.node.NetOp.TheVariants.{Const, Input, State, One, Two, Slice, Uext, Sext, Ite}
-use Rattle.net_graph.proofs.OneByOne.{length-one_by_one, take_more-one_by_one}
+use Rattle.net_graph.proofs.NodeWidths.{node_width}
+use Rattle.net_graph.proofs.OneByOne.{length-one_by_one}
 use Rattle.net_graph.proofs.OperatorWidths.{width-value_at}
 use Rattle.net_graph.proofs.Standing.{stands_at}
 use Rattle.net_graph.proofs.Values.{values-by_operators, values-widths}
@@ -41,18 +42,6 @@ stands_more ws i (Ite condition a b) few some h =
     let y : width_at (take i ws) b ≡ width_at ws b = get_or-take i ws b 0 (omega arith) in
     (omega arith, omega arith, omega arith, sym z ∙ h.3, sym x ∙ h.4 ∙ y)
 
--- and has the same width over both
-same_width : (ws : List ℕ) (i : ℕ) (op : NetOp) → length (take i ws) ≡ i → Stands (take i ws) op → op_width (take i ws) op ≡ op_width ws op
-same_width ws i (Const value) few h = refl
-same_width ws i (Input number width) few h = refl
-same_width ws i (State number width) few h = refl
-same_width ws i (One operator a) few h = simp (get_or-take i ws a 0 (omega arith))
-same_width ws i (Two operator a b) few h = simp (get_or-take i ws a 0 (omega arith), get_or-take i ws b 0 (omega arith))
-same_width ws i (Slice a upper lower) few h = refl
-same_width ws i (Uext a added) few h = simp (get_or-take i ws a 0 (omega arith))
-same_width ws i (Sext a added) few h = simp (get_or-take i ws a 0 (omega arith))
-same_width ws i (Ite condition a b) few h = simp (get_or-take i ws a 0 (omega arith))
-
 module _ (net : List NetOp) (is : IsNet net) where
   count : length (widths_of net) ≡ length net
   count = omega (arith, length-one_by_one op_width [] net)
@@ -77,15 +66,7 @@ module _ (net : List NetOp) (is : IsNet net) where
 
   -- a node has its operator's width
   pub width_node : (id : ℕ) (op : NetOp) → slice_get net id ≡ Some op → width_at (widths_of net) id ≡ op_width (widths_of net) op
-  width_node id op at =
-      let within : id < length net = slice_get_within net id op at in
-      let here : get_or net id op ≡ op = get_or_from_slice_get net id op op at in
-      let ws : List ℕ = widths_of net in
-      let first : List ℕ = take id ws in
-      let last : width_at ws id ≡ op_width first (get_or net id op) =
-      sym (get_or-take (id + 1) ws id 0 (omega arith)) ∙ ap (λ (xs : List ℕ). get_or xs id 0) (take_more-one_by_one op_width net id op within)
-      ∙ get_or_at first (op_width first (get_or net id op)) [] 0 id (first_few id within) in
-      last ∙ ap (op_width first) here ∙ same_width ws id op (first_few id within) (stands_before id op at)
+  width_node id op at = node_width net id op is at
 
   -- and its operator's value
   pub value_node : (s : Sources) (id : ℕ) (op : NetOp) → slice_get net id ≡ Some op → node_value s net id ≡ op_value s (values_of s net) op

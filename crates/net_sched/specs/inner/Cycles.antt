@@ -8,7 +8,8 @@ use Rattle.typed_core.specs.declared.design.Next.{Next}
 use Rattle.typed_core.specs.declared.design.Next.TheVariants as next
 use Rattle.one_rule.specs.Cycle.{is_among}
 use Rattle.one_rule.specs.PortRun.{PortState}
-use Rattle.one_rule.specs.Walk.{Walk, is_at}
+use Rattle.one_rule.specs.Walk.{Walk}
+use Rattle.typed_core.specs.Continuations.{is_at}
 use Rattle.net_action.specs.Wires.{ArePortWires, HasWire, LogStandsFor, PortsStandFor, is_set, is_up, written}
 use Rattle.net_action.specs.declared.wires.LogWires.{LogWires}
 use Rattle.net_sched.specs.declared.cycle.CycleWires.{CycleWires}

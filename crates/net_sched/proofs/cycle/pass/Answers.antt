@@ -3,7 +3,7 @@ use Rattle.std.specs.Prelude.{slice_get}
 use Rattle.typed_core.specs.Widths.{input_widths, register_widths}
 use Rattle.one_rule.specs.Cycle.{environment}
 use Rattle.one_rule.specs.PortRun.{port_fire, port_run_if}
-use Rattle.one_rule.specs.Walk.{is_at}
+use Rattle.typed_core.specs.Continuations.{is_at}
 use Rattle.net_action.specs.Gates.{Grows}
 use Rattle.net_action.specs.Wires.{HasWire, is_up}
 use Rattle.net_action.proofs.Growth.{grows_on, log_kept, ports_kept, values_before, wire_kept}
