@@ -9,7 +9,7 @@ use Rattle.stim_report.specs.inner.Pages.{HasRoom, Gains, Leaves}
 use Rattle.stim_report.specs.Report.{hex_digit, hex_digits}
 use Rattle.stim_report.proofs.Pages.{room_byte, room_left, goes_on}
 
-pow_sixteen : (place : ℕ) → 2 ^ (4 * place) ≡ 16 ^ place
+pub pow_sixteen : (place : ℕ) → 2 ^ (4 * place) ≡ 16 ^ place
 pow_sixteen zero = refl
 pow_sixteen (suc place) =
     let e : 4 * suc place ≡ 4 + 4 * place = omega arith in

@@ -1,7 +1,6 @@
 pub mod AssignmentsRead
 pub mod BatchesJoined
 pub mod BitsOfNumbers
-pub mod CutsInTurn
 pub mod Digits
 pub mod Equals
 pub mod FiredRules

@@ -8,7 +8,7 @@ use Rattle.kw_base.specs.declared.place.Place.{Place}
 use Rattle.kw_bits.specs.BitVector.{BitVector}
 use Rattle.one_rule.specs.Stimulus.{Assignment, InputVectors, inputs_by}
 use Rattle.stim_report.specs.Assignments.{assignment_of}
-use Rattle.stim_report.specs.Cuts.{lines_of, words_from}
+use Rattle.kw_base.specs.Texts.{is_blank, lines_of, words_from}
 use Rattle.stim_report.specs.inner.Reading.{ReadsWord}
 use Rattle.stim_report.specs.Shapes.{widths_of}
 use Rattle.stim_report.specs.Stimuli.{after, at_place, cycles_from, line_from, line_of, next_line, place, stimulus_of}
@@ -17,30 +17,30 @@ use Rattle.stim_report.specs.declared.shape.Shape.{Shape}
 
 -- what a word gives, and what follows
 word_first : (inputs : List NameWidth) (number : ℕ) (line : List Assignment) (column start : ℕ) (word rest behind : List ℕ) (at : Place) (r : Result Assignment Fault)
-    → words_from column rest ≡ (start, word) ∷ words_from (start + length word) behind → at ≡ place number start → at_place at (assignment_of inputs line word) ≡ r
-    → line_from inputs number line (words_from column rest) ≡ after r (λ (a : Assignment). line_from inputs number (line ++ a ∷ []) (words_from (start + length word) behind))
+    → words_from is_blank column rest ≡ (start, word) ∷ words_from is_blank (start + length word) behind → at ≡ place number start → at_place at (assignment_of inputs line word) ≡ r
+    → line_from inputs number line (words_from is_blank column rest) ≡ after r (λ (a : Assignment). line_from inputs number (line ++ a ∷ []) (words_from is_blank (start + length word) behind))
 word_first inputs number line column start word rest behind at r cut is reads =
     ap (line_from inputs number line) cut
-    ∙ ap (λ (res : Result Assignment Fault). after res (λ (a : Assignment). line_from inputs number (line ++ a ∷ []) (words_from (start + length word) behind)))
+    ∙ ap (λ (res : Result Assignment Fault). after res (λ (a : Assignment). line_from inputs number (line ++ a ∷ []) (words_from is_blank (start + length word) behind)))
     (ap (λ (p : Place). at_place p (assignment_of inputs line word)) (sym is) ∙ reads)
 
 pub line_more : (inputs : List NameWidth) (number : ℕ) (line new : List Assignment) (column blanks : ℕ) (word rest behind : List ℕ) (at : Place) (a : Assignment) (whole : Result (List Assignment) Fault)
-    → words_from column rest ≡ (column + blanks, word) ∷ words_from (column + blanks + length word) behind → at ≡ place number (column + blanks) → at_place at (assignment_of inputs line word) ≡ Ok a → new ≡ line ++ a ∷ []
-    → line_from inputs number line (words_from column rest) ≡ whole → line_from inputs number new (words_from (column + (blanks + length word)) behind) ≡ whole
+    → words_from is_blank column rest ≡ (column + blanks, word) ∷ words_from is_blank (column + blanks + length word) behind → at ≡ place number (column + blanks) → at_place at (assignment_of inputs line word) ≡ Ok a → new ≡ line ++ a ∷ []
+    → line_from inputs number line (words_from is_blank column rest) ≡ whole → line_from inputs number new (words_from is_blank (column + (blanks + length word)) behind) ≡ whole
 line_more inputs number line new column blanks word rest behind at a whole cut is reads more left =
     let e : column + (blanks + length word) ≡ column + blanks + length word = omega arith in
-    ap₂ (λ (l : List Assignment) (n : ℕ). line_from inputs number l (words_from n behind)) more e
+    ap₂ (λ (l : List Assignment) (n : ℕ). line_from inputs number l (words_from is_blank n behind)) more e
     ∙ sym (word_first inputs number line column (column + blanks) word rest behind at (Ok a) cut is reads) ∙ left
 
 pub line_fault : (inputs : List NameWidth) (number : ℕ) (line : List Assignment) (column blanks : ℕ) (word rest behind bytes : List ℕ) (at : Place) (fault : Fault)
-    → words_from column rest ≡ (column + blanks, word) ∷ words_from (column + blanks + length word) behind → at ≡ place number (column + blanks) → at_place at (assignment_of inputs line word) ≡ Err fault
-    → line_from inputs number line (words_from column rest) ≡ line_from inputs number [] (words_from 1 bytes) → line_of inputs number bytes ≡ Err fault
+    → words_from is_blank column rest ≡ (column + blanks, word) ∷ words_from is_blank (column + blanks + length word) behind → at ≡ place number (column + blanks) → at_place at (assignment_of inputs line word) ≡ Err fault
+    → line_from inputs number line (words_from is_blank column rest) ≡ line_from inputs number [] (words_from is_blank 1 bytes) → line_of inputs number bytes ≡ Err fault
 unfolding line_of
 line_fault inputs number line column blanks word rest behind bytes at fault cut is reads left =
     sym left ∙ word_first inputs number line column (column + blanks) word rest behind at (Err fault) cut is reads
 
-pub line_end : (inputs : List NameWidth) (number : ℕ) (line : List Assignment) (column : ℕ) (rest bytes : List ℕ) → words_from column rest ≡ []
-    → line_from inputs number line (words_from column rest) ≡ line_from inputs number [] (words_from 1 bytes) → line_of inputs number bytes ≡ Ok line
+pub line_end : (inputs : List NameWidth) (number : ℕ) (line : List Assignment) (column : ℕ) (rest bytes : List ℕ) → words_from is_blank column rest ≡ []
+    → line_from inputs number line (words_from is_blank column rest) ≡ line_from inputs number [] (words_from is_blank 1 bytes) → line_of inputs number bytes ≡ Ok line
 unfolding line_of
 line_end inputs number line column rest bytes none left = sym left ∙ ap (line_from inputs number line) none
 

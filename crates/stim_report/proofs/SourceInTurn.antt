@@ -1,5 +1,5 @@
 -- A source, piece by piece up to its mark.
-use Rattle.std.proofs.Common.{◌≡◌, ℕ, zero, suc, ◌+◌, ◌-◌, ◌<◌, ◌≤◌, Bool, true, false, not, cond, List, [], ◌∷◌, ◌++◌, length, length-append, take, drop, get_or, Option, Some, None, refl, sym, ap, ap₂, ◌∙◌, append_assoc, arith, inl, inr}
+use Rattle.std.proofs.Common.{◌≡◌, ℕ, zero, suc, ◌+◌, ◌-◌, ◌<◌, ◌≤◌, Bool, true, false, not, cond, List, [], ◌∷◌, ◌++◌, length, length-append, take, drop, get_or, Some, None, refl, sym, ap, ap₂, ◌∙◌, append_assoc, arith, inl, inr}
 use Rattle.std.specs.Prelude.{nat_lt, ◌⊎◌}
 use Rattle.std.specs.List.{flat_map, join_with_byte, position_or_len, slice_split}
 use Rattle.std.proofs.lemmas.Bool.{cases_lt, le-ltb, lt-ltb}
@@ -8,9 +8,8 @@ use Rattle.std.proofs.lemmas.List.Splits.{join_with_byte-slice_split, length-sli
 use Rattle.std.proofs.lemmas.List.Sums.{count_by-le-length, prefix_len_is}
 use Rattle.std.proofs.Math.Seq.{take-append_seam}
 use Rattle.kw_base.specs.Place.{capped}
-use Rattle.stim_report.specs.Cuts.{cut_at, ends_line, is_mark, parts_of, with_line_feed}
-use Rattle.stim_report.specs.inner.Runs.{pieces_of, text_behind}
-use denote.Ref.{Bor}
+use Rattle.kw_base.specs.Texts.{ends_line}
+use Rattle.stim_report.specs.Cuts.{cut_at, is_mark, parts_of, with_line_feed}
 
 -- the pieces of a source
 abbrev pub pieces : List ℕ → List (List ℕ)
@@ -95,11 +94,6 @@ parts_unmarked bytes lines passed =
     ap (λ (k : ℕ). cut_at (pieces bytes) (cond (nat_lt k (length (pieces bytes))) (Some k) None) bytes) at
     ∙ ap (λ (b : Bool). cut_at (pieces bytes) (cond b (Some lines) None) bytes) (le-ltb lines (length (pieces bytes)) (omega (arith, all)))
     ∙ ap (λ (n : ℕ). record { design = bytes; stimulus = []; first_line = capped (n + 1) }) all
-
--- what stands behind the mark's line
-pub behind_joined : (behind : Option (Bor (List ℕ))) → text_behind behind ≡ join_with_byte 10 (pieces_of behind)
-behind_joined None = refl
-behind_joined (Some rest) = sym (join_with_byte-slice_split 10 rest.now)
 
 -- there are no more pieces than bytes, and one
 pub few_pieces : (bytes : List ℕ) → length (pieces bytes) ≤ length bytes + 1

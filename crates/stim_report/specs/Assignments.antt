@@ -1,17 +1,12 @@
 -- The assignments of a stimulus: `name=value`, the value a number in decimal, or after `0x` in hexadecimal. This
 -- project's own text form.
 use Rattle.std.specs.Prelude.{ℕ, ◌+◌, ◌-◌, ◌^◌, ◌==◌, ◌&&◌, not, nat_eq, nat_lt, if◌then◌else◌, Bool, false, Option, None, Some, option_and_then, option_map, Result, Ok, Err, List, [], ◌∷◌, length, take, drop, slice_index, position, bytes_eq}
-use Rattle.std.specs.Char.{digit_value}
-use Rattle.std.specs.List.{list_all, list_any, suffix_len}
+use Rattle.std.specs.List.{list_any, suffix_len}
 use Rattle.std.specs.Str.Parse.{digits_value}
 use Rattle.one_rule.specs.Stimulus.{Assignment}
-use Rattle.stim_report.specs.Cuts.{has_bytes}
+use Rattle.kw_base.specs.Texts.{is_numeral}
 use Rattle.stim_report.specs.Shapes.{widths_of}
 use Rattle.stim_report.specs.declared.shape.NameWidth.{NameWidth}
-
--- one digit or more in a base
-abbrev pub is_numeral : ℕ → List ℕ → Bool
-is_numeral radix digits = has_bytes digits && list_all (λ b. nat_lt (digit_value b) radix) digits
 
 -- the number that digits of a base write
 abbrev pub numeral : ℕ → List ℕ → Option ℕ

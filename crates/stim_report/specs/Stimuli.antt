@@ -7,7 +7,7 @@ use Rattle.kw_base.specs.declared.place.Place.{Place}
 use Rattle.kw_bits.specs.BitVector.{BitVector}
 use Rattle.one_rule.specs.Stimulus.{Assignment, InputVectors, inputs_by}
 use Rattle.stim_report.specs.Assignments.{assignment_of}
-use Rattle.stim_report.specs.Cuts.{lines_of, words_from}
+use Rattle.kw_base.specs.Texts.{is_blank, lines_of, words_from}
 use Rattle.stim_report.specs.Shapes.{widths_of}
 use Rattle.stim_report.specs.declared.shape.NameWidth.{NameWidth}
 use Rattle.stim_report.specs.declared.shape.Shape.{Shape}
@@ -34,7 +34,7 @@ line_from inputs number line (word ∷ words) =
 
 -- the assignments of a line
 unfoldable pub line_of : List NameWidth → ℕ → List ℕ → Result (List Assignment) Fault
-line_of inputs number bytes = line_from inputs number [] (words_from 1 bytes)
+line_of inputs number bytes = line_from inputs number [] (words_from is_blank 1 bytes)
 
 -- the number of the next line
 abbrev pub next_line : ℕ → ℕ

@@ -4,6 +4,5 @@ pub mod Given
 pub mod Numerals
 pub mod Pages
 pub mod Reading
-pub mod Runs
 pub mod Steps
 pub mod Tallies

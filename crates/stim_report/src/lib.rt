@@ -6,7 +6,6 @@
 //! its rows to `report_part` and to a `Tally`, batch by batch.
 #![tactic(auto, using(crate::proofs::Pages::pages))]
 
-mod cuts;
 mod fired;
 mod given;
 mod laws;

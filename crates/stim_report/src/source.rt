@@ -1,12 +1,14 @@
 //! Reports: a source cut at its line `%%`.
 
 ghost use Rattle.std.specs.Prelude.{◌≡◌, ◌≤◌, ◌+◌, length};
+ghost use Rattle.std.specs.List.{join_with_byte};
 ghost use Rattle.kw_base.specs.Place.{capped};
+ghost use Rattle.kw_base.specs.Texts.{pieces_after};
+ghost use Rattle.kw_base.specs.declared.texts.Separator.TheVariants as at;
 ghost use Rattle.stim_report.specs.Cuts as cuts;
 ghost use Rattle.stim_report.specs.Cuts.{parts_of};
-ghost use Rattle.stim_report.specs.inner.Runs.{text_behind};
 
-use crate::cuts::{split_line, without_return};
+use kw_base::texts::{Separator, cut, without_return};
 
 /// What a source consists of.
 #[derive(Clone, Copy, Debug)]
@@ -30,7 +32,7 @@ pub fn source_parts(bytes: &[u8]) -> SourceParts<'_>
     let mut lines: usize = 0;
     let mut rest = Some(bytes);
     while let Some(text) = rest {
-        let (line, behind) = split_line(text);
+        let (line, behind) = cut(text, Separator::LineFeed);
         if is_mark(line) {
             let (design, _) = bytes.split_at(bytes.len() - text.len());
             return SourceParts {
@@ -52,7 +54,7 @@ pub fn source_parts(bytes: &[u8]) -> SourceParts<'_>
 
 // What comes after a line feed, if there is one.
 fn text_behind(behind: Option<&[u8]>) -> &[u8]
-    ensures { result.now ≡ text_behind behind.entry }
+    ensures { result.now ≡ join_with_byte 10 (pieces_after at.LineFeed behind.entry) }
 {
     match behind {
         Some(text) => text,

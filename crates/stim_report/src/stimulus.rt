@@ -12,12 +12,12 @@ ghost use Rattle.stim_report.specs.Stimuli as texts;
 ghost use Rattle.stim_report.specs.Stimuli.{at_place, stimulus_of};
 ghost use Rattle.typed_core.specs.Valid.{IsWidth};
 
-use crate::cuts::{next_line, next_word};
 use crate::given::{clear_given, none_given};
 use crate::names::InputNames;
 use crate::value::{bits_of, numeral_of};
 use crate::{NameWidth, Shape};
 use kw_base::fault_number::{INPUT_TOO_WIDE, MALFORMED_ASSIGNMENT, UNKNOWN_INPUT};
+use kw_base::texts::{Separator, next_line, next_word};
 use kw_base::{Fault, Place, Refusal};
 use kw_bits::{Bits, NoMemory};
 use one_rule::Stimulus;
@@ -85,7 +85,7 @@ fn read_line(
     let mut line: Vec<(u32, Bits)> = Vec::new(alloc);
     let mut column: usize = 1;
     let mut rest = bytes;
-    while let Some(word) = next_word(rest) {
+    while let Some(word) = next_word(rest, Separator::Blank) {
         let start = place(number, column + word.blanks);
         read_word(inputs, names, given, &mut line, word.bytes, start)?;
         column += word.blanks + word.bytes.len();

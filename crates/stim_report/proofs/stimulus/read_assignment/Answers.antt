@@ -23,7 +23,7 @@ returns-in_default-find-clause-is c = λ line given.
     let value = c.in-Some.parts.value.now in
     let parts = c.in-Some.ensures.found in
     let number = digits_value c.in-Some-numeral_of.value.radix c.in-Some-numeral_of.value.digits.now in
-    let writes = c.in-Some-numeral_of.ensures.found.2 in
+    let writes = c.in-Some-numeral_of.ensures.found.1 in
     sym (no_input inputs line word name value number parts writes (sym c.in_default-find.ensures))
 
 pub returns-then-given-input-clause-is : goal.returns-then-given-input-clause-is
@@ -34,7 +34,7 @@ returns-then-given-input-clause-is c = λ line given.
     let value = c.in-Some.parts.value.now in
     let parts = c.in-Some.ensures.found in
     let number = digits_value c.in-Some-numeral_of.value.radix c.in-Some-numeral_of.value.digits.now in
-    let writes = c.in-Some-numeral_of.ensures.found.2 in
+    let writes = c.in-Some-numeral_of.ensures.found.1 in
     let input = c.in-Some-find.input in
     let found = sym c.in-Some-find.ensures in
     sym (given_twice inputs line word name value number input parts writes found (sym (given.flag_each input) ∙ c.if-given-input.true))
@@ -53,7 +53,7 @@ returns-in-Some-bits_of-clause-is c = λ line given.
     let value = c.in-Some.parts.value.now in
     let parts = c.in-Some.ensures.found in
     let number = digits_value c.in-Some-numeral_of.value.radix c.in-Some-numeral_of.value.digits.now in
-    let writes = c.in-Some-numeral_of.ensures.found.2 in
+    let writes = c.in-Some-numeral_of.ensures.found.1 in
     let input = c.in-Some-find.input in
     let found = sym c.in-Some-find.ensures in
     let within = input_within inputs name input c.index-inputs-input.result found in
@@ -75,7 +75,7 @@ returns-in-None-clause-is c = λ line given.
     let value = c.in-Some.parts.value.now in
     let parts = c.in-Some.ensures.found in
     let number = digits_value c.in-Some-numeral_of.value.radix c.in-Some-numeral_of.value.digits.now in
-    let writes = c.in-Some-numeral_of.ensures.found.2 in
+    let writes = c.in-Some-numeral_of.ensures.found.1 in
     let input = c.in-Some-find.input in
     let found = sym c.in-Some-find.ensures in
     let within = input_within inputs name input c.index-inputs-input.result found in
