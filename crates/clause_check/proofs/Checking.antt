@@ -3,8 +3,9 @@ use Rattle.std.proofs.Common.{◌≡◌, ℕ, true, cond, List, [], Option, Some
 use Rattle.std.specs.Result.{OnOk}
 use Rattle.kw_base.specs.Fault.{IfFault}
 use Rattle.kw_base.specs.declared.fault.Refusal.{Refusal}
+use Rattle.kw_base.specs.Texts.{lines_of}
 use Rattle.clause_check.specs.Clauses.{Cnf}
-use Rattle.clause_check.specs.Lines.{lines_of, tokens_of}
+use Rattle.clause_check.specs.Lines.{tokens_of}
 use Rattle.clause_check.specs.Refutations.{Progress, after_line, after_step, begin, fault_from, fault_in, fault_of}
 use Rattle.clause_check.specs.Steps.{Step, step_of}
 use Rattle.clause_check.specs.inner.Progresses.{IsFaultOf}

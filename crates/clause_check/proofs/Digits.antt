@@ -5,7 +5,7 @@ use Rattle.std.specs.List.{list_all}
 use Rattle.std.specs.Prelude.{nat_le, nat_lt, ◌&&◌, ◌||◌}
 use Rattle.std.specs.Str.Parse.{digits_value, digits_value_after}
 use Rattle.std.proofs.lemmas.Bool.{and_parts, eqb-true, le-leb, le-ltb, lt-ltb, ltb-false, ltb-true}
-use Rattle.clause_check.specs.Lines.{is_blank}
+use Rattle.kw_base.specs.Texts.{is_blank}
 use Rattle.clause_check.specs.Steps.{◌>>=◌, number_of}
 use Rattle.clause_check.specs.inner.Cuts.{after_token, token_of}
 use Rattle.clause_check.specs.inner.Tokens.{digits_from, if_small}

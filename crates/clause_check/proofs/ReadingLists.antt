@@ -1,10 +1,10 @@
 -- Literals and numbers read one after another.
 use Rattle.std.proofs.Common.{◌≡◌, ℕ, Bool, cond, List, [], ◌∷◌, ◌++◌, Option, Some, None, refl, sym, ap, ap₂, ◌∙◌, append_assoc, append-nil}
+use Rattle.kw_base.specs.Texts.{StopsAt, is_blank}
 use Rattle.clause_check.specs.Clauses.{Clause}
-use Rattle.clause_check.specs.Lines.{is_blank, tokens_of}
+use Rattle.clause_check.specs.Lines.{tokens_of}
 use Rattle.clause_check.specs.Steps.{◌>>=◌, at_end, literal_of, literals_in, number_of, numbers_in}
 use Rattle.clause_check.specs.declared.literal.Literal.{Literal}
-use Rattle.clause_check.specs.inner.Cuts.{StopsAt}
 use Rattle.clause_check.specs.inner.Tokens.{Closes, IsLiteralAt, IsNumber, NoLiteral, NoNumber}
 use Rattle.clause_check.proofs.Cutting.{tokens_of-first}
 

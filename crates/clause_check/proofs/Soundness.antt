@@ -7,8 +7,9 @@ use Rattle.std.specs.Option.{is_some, option_map_or}
 use Rattle.std.specs.Prelude.{nat_lt, ◌||◌}
 use Rattle.std.proofs.lemmas.Bool.{and_parts as both, eqb-true, not-true}
 use Rattle.kw_base.specs.Place.{capped}
+use Rattle.kw_base.specs.Texts.{lines_of}
 use Rattle.clause_check.specs.Clauses.{Assignment, Clause, Cnf, IsUnsatisfiable, Satisfies, clause_value, is_same, literal_value, negation}
-use Rattle.clause_check.specs.Lines.{lines_of, tokens_of}
+use Rattle.clause_check.specs.Lines.{tokens_of}
 use Rattle.clause_check.specs.Propagation.{Numbered, denied, follows_by_hints, is_false, is_true, left_by, left_of, propagates, refutes}
 use Rattle.clause_check.specs.Refutations.{Progress, added, after_line, after_step, begin, dropped, fault_from, fault_in, fault_of, goes_on, is_empty, numbered, with_clause, without_clause}
 use Rattle.clause_check.specs.Steps.{Step, skips, adds, drops, step_of}

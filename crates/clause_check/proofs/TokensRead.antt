@@ -2,14 +2,16 @@
 use Rattle.std.proofs.Common.{◌≡◌, ◌≢◌, ℕ, ◌<◌, Bool, true, false, cond, eqb, List, [], ◌∷◌, length, Option, Some, None, refl, sym, ap, ap₂, ◌∙◌, subst, arith, true≢false}
 use Rattle.std.specs.Prelude.{bytes_eq, ◌&&◌}
 use Rattle.std.proofs.lemmas.Bool.{eqb-true, not-false}
-use Rattle.clause_check.specs.Lines.{is_blank, tokens_of}
+use Rattle.kw_base.specs.Texts.{StopsAt, is_blank}
+use Rattle.kw_base.proofs.Words.{rest_shorter, words_of-nil}
+use Rattle.clause_check.specs.Lines.{tokens_of}
 use Rattle.clause_check.specs.Steps.{◌>>=◌, closes, literal_by, literal_of, number_of}
 use Rattle.clause_check.specs.declared.literal.Literal.{Literal}
 use Rattle.clause_check.specs.declared.token.LiteralToken.{LiteralToken}
 use Rattle.clause_check.specs.declared.token.LiteralToken.TheVariants as literals
-use Rattle.clause_check.specs.inner.Cuts.{StopsAt, after_token, not_blank, token_of}
+use Rattle.clause_check.specs.inner.Cuts.{after_token, not_blank, token_of}
 use Rattle.clause_check.specs.inner.Tokens.{Closes, GivesLiteral, IsNumber, IsTokenOf, LiteralShortens, NoLiteral, NoNumber, NotFirst, NotMinus, begins_shown, digits_from}
-use Rattle.clause_check.proofs.Cutting.{after_token-blank, after_token-first, rest_shorter, token_of-blank, token_of-first, tokens_of-first, tokens_of-nil}
+use Rattle.clause_check.proofs.Cutting.{after_token-blank, after_token-first, token_of-blank, token_of-first, tokens_of-first}
 use Rattle.clause_check.proofs.Digits.{none_read, number_read, zero_read}
 
 -- ---- a letter
@@ -52,7 +54,7 @@ longer_token letter others shown ends =
     by false = refl
 
 pub no_token : (letter : ℕ) (bytes : List ℕ) → bytes ≡ [] → NotFirst letter (tokens_of bytes)
-no_token letter bytes none = subst (NotFirst letter) (sym (ap tokens_of none ∙ tokens_of-nil)) tt
+no_token letter bytes none = subst (NotFirst letter) (sym (ap tokens_of none ∙ (words_of-nil is_blank))) tt
 
 -- the token that closes a list
 pub closing_token : (tokens : List (List ℕ)) (rest : List ℕ) → tokens ≡ (48 ∷ []) ∷ tokens_of rest → Closes tokens rest
@@ -91,11 +93,11 @@ no_number : (b : ℕ) (bytes : List ℕ) → is_blank b ≡ false → NotFirst 4
 no_number b bytes shown other none = let first = begins b bytes shown other in subst NoNumber (sym first.cut) (first.on, sym (ap number_of first.is) ∙ none)
 
 pub zero_found : (bytes rest : List ℕ) (v : ℕ) → StopsAt is_blank bytes → NotFirst 48 (tokens_of bytes) → digits_from 0 bytes ≡ Some (v, rest) → v ≡ 0 → NoNumber (tokens_of bytes)
-zero_found [] rest v stops other read zero_is = subst NoNumber (sym tokens_of-nil) tt
+zero_found [] rest v stops other read zero_is = subst NoNumber (sym (words_of-nil is_blank)) tt
 zero_found (b ∷ bytes) rest v stops other read zero_is = no_number b bytes stops other (zero_read (b ∷ bytes) rest (read ∙ ap (λ n. Some (n, rest)) zero_is))
 
 pub none_found : (bytes : List ℕ) → StopsAt is_blank bytes → NotFirst 48 (tokens_of bytes) → digits_from 0 bytes ≡ None → NoNumber (tokens_of bytes)
-none_found [] stops other read = subst NoNumber (sym tokens_of-nil) tt
+none_found [] stops other read = subst NoNumber (sym (words_of-nil is_blank)) tt
 none_found (b ∷ bytes) stops other read = no_number b bytes stops other (none_read (b ∷ bytes) read)
 
 pub number_shortens : (bytes : List ℕ) (v : ℕ) (rest : List ℕ) → StopsAt is_blank bytes → digits_from 0 bytes ≡ Some (v, rest) → v ≢ 0 → length rest < length bytes
@@ -149,7 +151,7 @@ pub plain_gives : (variables number : ℕ) (result : LiteralToken) (rest : List 
 plain_gives variables number result rest tokens is made = gives_by variables (literal_by variables false number) result rest is.0 tokens is.1 (number-literal variables is.0 number is.2) is.3 made
 
 pub plain_none : (variables : ℕ) (bytes : List ℕ) → StopsAt is_blank bytes → NotMinus bytes → NoNumber (tokens_of bytes) → NoLiteral variables (tokens_of bytes)
-plain_none variables [] stops plain none = subst (NoLiteral variables) (sym tokens_of-nil) tt
+plain_none variables [] stops plain none = subst (NoLiteral variables) (sym (words_of-nil is_blank)) tt
 plain_none variables (b ∷ bytes) stops plain none =
     let cut = tokens_of-first b bytes stops in
     let parts = subst NoNumber cut none in

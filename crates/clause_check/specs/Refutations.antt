@@ -5,8 +5,9 @@ use Rattle.std.specs.List.{list_any}
 use Rattle.kw_base.specs.Fault.{fault_at}
 use Rattle.kw_base.specs.Place.{capped}
 use Rattle.kw_base.specs.declared.fault.Fault.{Fault}
+use Rattle.kw_base.specs.Texts.{lines_of}
 use Rattle.clause_check.specs.Clauses.{Clause, Cnf}
-use Rattle.clause_check.specs.Lines.{lines_of, tokens_of}
+use Rattle.clause_check.specs.Lines.{tokens_of}
 use Rattle.clause_check.specs.Propagation.{Numbered, follows_by_hints}
 use Rattle.clause_check.specs.Steps.{Step, skips, adds, drops, step_of}
 

@@ -5,8 +5,8 @@ use Rattle.std.specs.Prelude.{ℕ, ◌==◌, ◌^◌, ◌&&◌, Bool, true, fals
 use Rattle.std.specs.Char.{is_digit}
 use Rattle.std.specs.List.{list_all}
 use Rattle.std.specs.Str.Parse.{digits_value}
+use Rattle.kw_base.specs.Texts.{has_bytes}
 use Rattle.clause_check.specs.Clauses.{Clause}
-use Rattle.clause_check.specs.Lines.{has_bytes}
 use Rattle.clause_check.specs.declared.literal.Literal.{Literal}
 
 infixl 10 ◌>>=◌

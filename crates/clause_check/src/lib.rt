@@ -6,7 +6,6 @@
 //! `a_refuted_formula_is_unsatisfiable` says what a refutation is good for. The crate knows nothing of circuits.
 #![tactic(auto)]
 
-mod cut;
 mod database;
 mod dimacs;
 pub mod fault_number;
@@ -21,7 +20,6 @@ mod tests;
 mod token;
 mod values;
 
-pub use cut::{Cut, is_space, next_line};
 pub use dimacs::push_dimacs;
 pub use formula::{Clauses, First, Formula, first_clause};
 pub use laws::a_refuted_formula_is_unsatisfiable;

@@ -7,7 +7,6 @@ ghost use Rattle.clause_check.specs.Refutations.{added, after_line, dropped, fau
 ghost use Rattle.clause_check.specs.inner.Progresses.{IsFaultOf, IsReady, progress_of};
 ghost use Rattle.clause_check.specs.inner.Tokens.{AreWithin};
 
-use crate::cut::next_line;
 use crate::database::Database;
 use crate::fault_number::{MALFORMED_STEP, NOT_REFUTED, WRONG_STEP};
 use crate::formula::Formula;
@@ -15,6 +14,7 @@ use crate::literal::Literal;
 use crate::step::{Form, Lists, fault, read_step};
 use crate::values::Values;
 use kw_base::Refusal;
+use kw_base::texts::next_line;
 use std::alloc::Global;
 
 /// What is known after some lines: the clauses that are there, and the values of variables, which are all open.
@@ -46,7 +46,14 @@ pub fn check_refutation(
     let mut number = first_line;
     let mut rest = bytes;
     while let Some(cut) = next_line(rest) {
-        add_line(alloc, &mut checker, &mut lists, variables, cut.line, number)?;
+        add_line(
+            alloc,
+            &mut checker,
+            &mut lists,
+            variables,
+            cut.bytes,
+            number,
+        )?;
         number = number.saturating_add(1);
         rest = cut.rest;
     }

@@ -8,10 +8,10 @@ ghost use Rattle.clause_check.specs.Refutations.{fault_in};
 ghost use Rattle.clause_check.specs.Steps.{at_end, literals_in, numbered_in, numbers_in, step_of};
 ghost use Rattle.clause_check.specs.inner.Tokens.{AreWithin, FormIsWithin, IsMalformed, step_by};
 
-use crate::cut::without_blanks;
 use crate::fault_number::MALFORMED_STEP;
 use crate::literal::Literal;
 use crate::token::{LiteralToken, NumberToken, after_letter, next_literal, next_number};
+use kw_base::texts::without_blanks;
 use kw_base::{Fault, Place, Refusal};
 use std::alloc::Global;
 

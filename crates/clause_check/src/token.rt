@@ -1,14 +1,14 @@
 //! Refutations: the tokens of a line.
 
 ghost use Rattle.std.specs.Prelude.{◌≡◌, ◌+◌, ◌*◌, ◌<◌, ◌∷◌, [], length, true, false, IfSome, IfNone, None, Some};
-ghost use Rattle.clause_check.specs.Lines.{is_blank, tokens_of};
+ghost use Rattle.kw_base.specs.Texts.{StopsAt, is_blank};
+ghost use Rattle.clause_check.specs.Lines.{tokens_of};
 ghost use Rattle.clause_check.specs.Steps.{literal_by};
-ghost use Rattle.clause_check.specs.inner.Cuts.{StopsAt};
 ghost use Rattle.clause_check.specs.inner.Tokens as tokens;
 ghost use Rattle.clause_check.specs.inner.Tokens.{GivesLiteral, GivesNumber, IsTokenOf, LiteralIsWithin, LiteralShortens, NotFirst, NotMinus, NumberShortens, digits_from};
 
-use crate::cut::{is_space, without_blanks};
 use crate::literal::Literal;
+use kw_base::texts::{Separator, with_decimal, without_blanks};
 
 /// The least number that is too great for a clause.
 const TOO_GREAT: u64 = 1 << 63;
@@ -97,7 +97,7 @@ fn begins_shown(bytes: &[u8]) -> bool
     ensures { result ≡ tokens.begins_shown bytes.now }
 {
     match bytes.split_first() {
-        Some((first, _)) => !is_space(*first),
+        Some((first, _)) => !Separator::Blank.is(*first),
         None => false,
     }
 }
@@ -191,7 +191,7 @@ fn digits_here(bytes: &[u8]) -> Option<Digits<'_>>
         let Some(digit) = digit_of(*first) else {
             return end_here(value, rest, *first);
         };
-        let Some(more) = with_digit(value, digit) else {
+        let Some(more) = digit_after(value, digit) else {
             return None;
         };
         value = more;
@@ -205,7 +205,7 @@ fn end_here(value: u64, rest: &[u8], byte: u8) -> Option<Digits<'_>>
     ensures found { IfSome result (λ digits. (is_blank byte ≡ true) × (digits.value ≡ value) × (digits.rest.now ≡ rest.now)) }
     ensures absent { IfNone result (is_blank byte ≡ false) }
 {
-    if is_space(byte) {
+    if Separator::Blank.is(byte) {
         Some(Digits { value, rest })
     } else {
         None
@@ -213,13 +213,13 @@ fn end_here(value: u64, rest: &[u8], byte: u8) -> Option<Digits<'_>>
 }
 
 // The number with one more digit, if it is below 2^63.
-fn with_digit(value: u64, digit: u32) -> Option<u64>
+fn digit_after(value: u64, digit: u32) -> Option<u64>
     ensures { result ≡ tokens.if_small (value * 10 + digit) }
 {
     let more = if value < SMALL {
         value * 10 + u64::from(digit)
     } else {
-        value.checked_mul(10)?.checked_add(u64::from(digit))?
+        with_decimal(value, digit)?
     };
     if more < TOO_GREAT { Some(more) } else { None }
 }

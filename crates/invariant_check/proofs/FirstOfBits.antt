@@ -1,67 +1,16 @@
 -- The first bit of each name, as names come one by one.
-use Rattle.std.proofs.Common.{◌≡◌, ℕ, zero, suc, ◌+◌, ◌<◌, ◌≤◌, Bool, true, false, cond, eqb, List, [], ◌∷◌, ◌++◌, length, length-append, get_or, Option, Some, None, refl, sym, ap, ap₂, ◌∙◌, subst, arith}
-use Rattle.std.specs.Prelude.{nat_lt, option_map, position, slice_index, bytes_eq}
-use Rattle.std.proofs.lemmas.Bool.{eqb-true, eqb-false, ltb-true, ltb-false, lt-ltb, le-ltb}
+use Rattle.std.proofs.Common.{◌≡◌, ℕ, ◌+◌, ◌<◌, Bool, true, false, List, [], ◌∷◌, ◌++◌, length, length-append, get_or, Option, Some, None, refl, sym, ap, ◌∙◌, subst, arith}
+use Rattle.std.specs.Prelude.{option_map, position, slice_index, bytes_eq}
 use Rattle.std.proofs.lemmas.List.{get_or_default}
-use Rattle.std.specs.List.{position_or_len}
-use Rattle.std.proofs.lemmas.List.Folds.{position_or_len_push}
 use Rattle.std.proofs.lemmas.List.Quantifiers.{position-Some}
-use Rattle.std.proofs.lemmas.List.Sums.{prefix_len-le-length}
 use Rattle.std.proofs.lemmas.Slice.Eq.{bytes_eq-Decides}
 use Rattle.kw_base.specs.Names as names
 use Rattle.kw_base.specs.Names.{Adds, AreNumbered}
 use Rattle.kw_base.specs.declared.names.Added.{Added}
 use Rattle.kw_base.specs.declared.names.Added.TheVariants.{New, There}
+use Rattle.kw_base.proofs.FirstPlaces.{at_other, before_last, last_of, or_at, position_push}
 use Rattle.invariant_check.specs.Invariants.{number_of}
 use Rattle.invariant_check.specs.inner.FirstNames.{AreFirst}
-
--- the place that was found, or else that of one more
-or_at : Option ℕ → Bool → ℕ → Option ℕ
-or_at (Some k) b n = Some k
-or_at None true n = Some n
-or_at None false n = None
-
-push_at : (here n : ℕ) (b same : Bool) (less : Bool) → here ≤ n → eqb here n ≡ same → nat_lt here n ≡ less
-    → cond (nat_lt (cond same (n + cond b 0 1) here) (n + 1)) (Some (cond same (n + cond b 0 1) here)) None
-    ≡ or_at (cond less (Some here) None) b n
-unfolding or_at
-push_at here n b same true most is below =
-    let lt : here < n = ltb-true here n below in
-    let apart : same ≡ false = differs here n same is lt in
-    rw (apart, lt-ltb here (n + 1) (omega (arith, lt))) refl
-  where
-    differs : (here n : ℕ) (same : Bool) → eqb here n ≡ same → here < n → same ≡ false
-    differs here n true is lt = absurd (omega (arith, eqb-true here n is, lt))
-    differs here n false is lt = refl
-push_at here n true true false most is below =
-    let e : n + 0 ≡ n = omega arith in
-    rw (lt-ltb (n + 0) (n + 1) (omega arith)) (ap Some e)
-push_at here n false true false most is below = rw (le-ltb (n + 1) (n + 1) (omega arith)) refl
-push_at here n b false false most is below = absurd (eqb-false here n is (omega (arith, ltb-false here n below, most)))
-
--- the first place in a list with one more
-position_push : {X : Type 0} (p : X → Bool) (xs : List X) (y : X) → position p (xs ++ y ∷ [])
-    ≡ or_at (position p xs) (p y) (length xs)
-position_push p xs y =
-    let here = position_or_len p xs in
-    let n = length xs in
-    let count : length (xs ++ y ∷ []) ≡ n + 1 = length-append xs (y ∷ []) in
-    ap₂ (λ (k m : ℕ). cond (nat_lt k m) (Some k) None) (position_or_len_push p xs y) count
-    ∙ push_at here n (p y) (eqb here n) (nat_lt here n) (prefix_len-le-length _ xs) refl refl
-
--- a name that was found stays
-at_found : (o : Option ℕ) (k n : ℕ) (b : Bool) → o ≡ Some k → or_at o b n ≡ o
-unfolding or_at
-at_found (Some j) k n b is = refl
-at_found None k n b is = absurd cc
-
-at_other : (o : Option ℕ) (n : ℕ) → or_at o false n ≡ o
-unfolding or_at
-at_other (Some j) n = refl
-at_other None n = refl
-
-map_found : (f : ℕ → ℕ) (o : Option ℕ) (k : ℕ) → o ≡ Some k → option_map f o ≡ Some (f k)
-map_found f o k is = ap (option_map f) is
 
 -- a name that was seen changes nothing
 pub first_there : (seen : List (List ℕ)) (numbers : List ℕ) (bits : List (List ℕ)) (own : List ℕ) (k : ℕ)
@@ -87,15 +36,6 @@ first_there seen numbers bits own k first found = record {
         ap (option_map (λ (n : ℕ). n + 1))
         (stays (position (bytes_eq name) bits) (slice_index numbers k)
         (first.first name ∙ ap (option_map (slice_index numbers)) (ap (names.number_of seen) named ∙ found)))
-
-last_of : (firsts : List ℕ) (n : ℕ) → slice_index (firsts ++ n ∷ []) (length firsts) ≡ n
-last_of [] n = refl
-last_of (x ∷ firsts) n = last_of firsts n
-
-before_last : (firsts : List ℕ) (n k : ℕ) → k < length firsts → slice_index (firsts ++ n ∷ []) k ≡ slice_index firsts k
-before_last [] n k h = absurd (omega (arith, h))
-before_last (x ∷ firsts) n zero h = refl
-before_last (x ∷ firsts) n (suc k) h = before_last firsts n k (omega (arith, h))
 
 -- a bit of a new name is the first of it
 pub first_new : (seen : List (List ℕ)) (numbers : List ℕ) (bits : List (List ℕ)) (own : List ℕ)

@@ -9,7 +9,6 @@ pub mod Runs
 pub mod Bounds
 pub mod Idle
 pub mod Obliging
-pub mod CuttingWords
 pub mod FirstOfBits
 pub mod Reading
 pub mod Drafting

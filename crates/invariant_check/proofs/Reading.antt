@@ -10,7 +10,7 @@ use Rattle.kw_base.specs.Place.{capped}
 use Rattle.kw_base.specs.declared.fault.Fault.{Fault}
 use Rattle.kw_base.specs.declared.place.Place.{Place}
 use Rattle.clause_check.specs.Clauses.{Assignment, Clause, IsLiteral, clause_value}
-use Rattle.clause_check.specs.Lines.{lines_of}
+use Rattle.kw_base.specs.Texts.{lines_of}
 use Rattle.clause_check.specs.declared.literal.Literal.{Literal}
 use Rattle.aig_blast.specs.AigRun.{bits_of, first_words}
 use Rattle.aig_blast.specs.Steps.{digits}

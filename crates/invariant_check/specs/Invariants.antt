@@ -7,7 +7,7 @@ use Rattle.kw_base.specs.Place.{capped}
 use Rattle.kw_base.specs.declared.fault.Fault.{Fault}
 use Rattle.kw_base.specs.declared.place.Place.{Place}
 use Rattle.clause_check.specs.Clauses.{Assignment, Clause, clause_value}
-use Rattle.clause_check.specs.Lines.{lines_of}
+use Rattle.kw_base.specs.Texts.{lines_of}
 use Rattle.clause_check.specs.declared.literal.Literal.{Literal}
 use Rattle.kw_bits.specs.BitVector.{BitVector}
 use Rattle.invariant_check.specs.Bits.{bit_values}

@@ -1,5 +1,4 @@
 -- What only contracts of private functions cite.
-pub mod Cuts
 pub mod FirstNames
 pub mod Parts
 pub mod Reading

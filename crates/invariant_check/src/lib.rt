@@ -16,7 +16,6 @@ mod laws;
 mod obligations;
 mod read;
 mod text;
-mod words;
 
 pub use certificate::certify;
 pub use laws::a_kept_invariant_holds_in_every_run;

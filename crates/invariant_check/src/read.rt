@@ -3,20 +3,21 @@
 ghost use Rattle.std.specs.Prelude.{◌≡◌, ◌<◌, false, IfOk, OnOk, IsTrue, length, sum, All, Ok, Err, slice_index_or};
 ghost use Rattle.kw_base.specs.Fault.{IfFault, fault_at};
 ghost use Rattle.kw_base.specs.declared.fault.Refusal.TheVariants as refusals;
+ghost use Rattle.kw_base.specs.Texts.{lines_of};
 ghost use Rattle.clause_check.specs.Clauses.{IsLiteral, clause_value};
-ghost use Rattle.clause_check.specs.Lines.{lines_of};
 ghost use Rattle.aig_blast.specs.Aigs.{latch_widths};
 ghost use Rattle.aig_blast.specs.AigRun.{first_words};
 ghost use Rattle.invariant_check.specs.Bits.{bit_values, register_bits};
 ghost use Rattle.invariant_check.specs.Invariants.{clause_of, clauses_from, invariant_of};
 ghost use Rattle.invariant_check.specs.Kept.{HaveLiterals, is_true_of};
+ghost use Rattle.invariant_check.specs.Words as words;
 ghost use Rattle.invariant_check.specs.inner.Reading.{AreRead, with_line};
 
 use crate::bits::Registers;
 use crate::fault_number::{FALSE_AT_FIRST, WRONG_LITERAL};
-use crate::words::{next_word, place_in};
 use aig_blast::Aig;
-use clause_check::{Formula, Literal, next_line};
+use clause_check::{Formula, Literal};
+use kw_base::texts::{Separator, next_line, next_word};
 use kw_base::{Fault, Place, Refusal};
 use std::alloc::Global;
 
@@ -76,7 +77,7 @@ fn read_clauses(
     let mut number = first_line;
     let mut rest = bytes;
     while let Some(cut) = next_line(rest) {
-        read_line(registers, cut.line, number, &mut clause)?;
+        read_line(registers, cut.bytes, number, &mut clause)?;
         let line = number;
         number = number.saturating_add(1);
         rest = cut.rest;
@@ -113,7 +114,7 @@ fn read_line(
     clause.clear();
     let mut column: usize = 1;
     let mut rest = bytes;
-    while let Some(word) = next_word(rest) {
+    while let Some(word) = next_word(rest, Separator::Blank) {
         let place = place_in(line, column + word.blanks);
         let Some(literal) = registers.literal(word.bytes) else {
             return Err(fault(WRONG_LITERAL, place));
@@ -123,6 +124,19 @@ fn read_line(
         rest = word.rest;
     }
     Ok(())
+}
+
+// The place of a column in a line.
+fn place_in(line: u32, column: usize) -> Place
+    ensures { result ≡ words.place_in line column }
+{
+    match u32::try_from(column) {
+        Ok(column) => Place { line, column },
+        Err(_) => Place {
+            line,
+            column: u32::MAX,
+        },
+    }
 }
 
 fn fault(number: u32, place: Place) -> Refusal

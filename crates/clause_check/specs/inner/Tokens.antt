@@ -2,8 +2,9 @@
 use Rattle.std.specs.Prelude.{◌≡◌, ◌≢◌, ℕ, ◌+◌, ◌*◌, ◌<◌, ◌≤◌, ◌^◌, Bool, true, false, if◌then◌else◌, nat_lt, bytes_eq, List, [], ◌∷◌, All, length, Option, None, Some}
 use Rattle.kw_base.specs.declared.fault.Fault.{Fault}
 use Rattle.std.specs.Char.{digit_value, is_digit}
+use Rattle.kw_base.specs.Texts.{is_blank}
 use Rattle.clause_check.specs.Clauses.{Clause}
-use Rattle.clause_check.specs.Lines.{is_blank, tokens_of}
+use Rattle.clause_check.specs.Lines.{tokens_of}
 use Rattle.clause_check.specs.Refutations.{fault_in}
 use Rattle.clause_check.specs.inner.Cuts.{not_blank}
 use Rattle.clause_check.specs.Steps.{◌>>=◌, Step, skips, adds, drops, closes, literal_of, number_of}

@@ -1,5 +1,5 @@
 use Rattle.std.proofs.Common.{sym, ◌∙◌}
-use Rattle.clause_check.specs.Lines.{lines_of}
+use Rattle.kw_base.specs.Texts.{lines_of}
 use Rattle.clause_check.specs.inner.Progresses.{progress_of}
 use Rattle.clause_check.proofs.Checking.{ends_refuted, first_line_same}
 use Rattle.clause_check.proofs.Soundness.{refuted}

@@ -1,5 +1,5 @@
 use Rattle.std.proofs.Common.{◌≡◌, length}
-use Rattle.clause_check.specs.Lines.{lines_of}
+use Rattle.kw_base.specs.Texts.{lines_of}
 use Rattle.clause_check.specs.Refutations.{fault_from, fault_of}
 use Rattle.clause_check.specs.inner.Progresses.{IsReady, progress_of}
 use Rattle.clause_check.proofs.refutation.check_refutation.Given as goal

@@ -1,10 +1,13 @@
 use Rattle.std.proofs.Common.{refl, ap, sym, ◌∙◌}
-use Rattle.clause_check.specs.Lines.{is_blank, tokens_of}
+use Rattle.kw_base.specs.Texts.{is_blank}
+use Rattle.kw_base.proofs.Cutting.{none_by_test, some_by_test}
+use Rattle.kw_base.proofs.Words.{rest_stops, words_of-nil}
+use Rattle.clause_check.specs.Lines.{tokens_of}
 use Rattle.clause_check.specs.Refutations.{fault_in}
 use Rattle.clause_check.specs.Steps.{at_end, numbered_in, step_of}
 use Rattle.clause_check.specs.declared.step.Form.{Form}
 use Rattle.clause_check.specs.inner.Tokens.{IsMalformed}
-use Rattle.clause_check.proofs.Cutting.{none_by_test, rest_stops, some_by_test, tokens_of-nil, tokens_of-rest}
+use Rattle.clause_check.proofs.Cutting.{tokens_of-rest}
 use Rattle.clause_check.proofs.ReadingLists.{not_at_end}
 use Rattle.clause_check.proofs.Refusals.{passes_on, refused}
 use Rattle.clause_check.proofs.StepsRead.{line_closed, line_comment, line_empty, line_malformed, line_numbered, no_comment, read_so}
@@ -12,7 +15,7 @@ use Rattle.clause_check.proofs.step.read_step.Goals as goal
 
 pub returns-then-is_empty-clause-read : goal.returns-then-is_empty-clause-read
 returns-then-is_empty-clause-read c =
-    line_empty _ _ (tokens_of-rest c.args.bytes.now ∙ ap tokens_of (sym c.without_blanks.ensures.rest ∙ none_by_test _ _ c.is_empty.ensures c.if-is_empty.true) ∙ tokens_of-nil)
+    line_empty _ _ (tokens_of-rest c.args.bytes.now ∙ ap tokens_of (sym c.without_blanks.ensures.rest ∙ none_by_test _ _ c.is_empty.ensures c.if-is_empty.true) ∙ (words_of-nil is_blank))
 
 pub returns-then-is_some-clause-read : goal.returns-then-is_some-clause-read
 returns-then-is_some-clause-read c = line_comment _ _ c.after_letter.result (sym c.is_some.ensures ∙ c.if-is_some.true) c.after_letter.ensures.found

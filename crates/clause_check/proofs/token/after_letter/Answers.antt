@@ -1,9 +1,10 @@
 use Rattle.std.proofs.Common.{ℕ, List, Option, Some, None, ◌≡◌, ◌∷◌, [], ◌∙◌, ap, subst, sym}
 use Rattle.std.specs.Option.{IfNone, IfSome}
-use Rattle.clause_check.specs.Lines.{is_blank, tokens_of}
-use Rattle.clause_check.specs.inner.Cuts.{StopsAt}
+use Rattle.kw_base.specs.Texts.{StopsAt, is_blank}
+use Rattle.kw_base.proofs.Words.{rest_stops}
+use Rattle.clause_check.specs.Lines.{tokens_of}
 use Rattle.clause_check.specs.inner.Tokens.{NotFirst}
-use Rattle.clause_check.proofs.Cutting.{rest_stops, tokens_of-rest}
+use Rattle.clause_check.proofs.Cutting.{tokens_of-rest}
 use Rattle.clause_check.proofs.token.after_letter.Goals as goal
 use denote.Ref.{Bor}
 

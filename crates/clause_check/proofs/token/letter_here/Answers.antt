@@ -1,7 +1,7 @@
 use Rattle.std.proofs.Common.{◌∷◌, ◌∙◌, ap, subst, sym}
 use Rattle.std.proofs.lemmas.List.{nil_from_length}
-use Rattle.clause_check.specs.Lines.{is_blank, tokens_of}
-use Rattle.clause_check.specs.inner.Cuts.{StopsAt}
+use Rattle.kw_base.specs.Texts.{StopsAt, is_blank}
+use Rattle.clause_check.specs.Lines.{tokens_of}
 use Rattle.clause_check.specs.inner.Tokens.{NotFirst}
 use Rattle.clause_check.proofs.TokensRead.{letter_found, longer_token, no_token, other_letter}
 use Rattle.clause_check.proofs.token.letter_here.Goals as goal

@@ -1,8 +1,9 @@
 use Rattle.std.proofs.Common.{ap, subst, sym, ◌∙◌}
-use Rattle.clause_check.specs.Lines.{is_blank, tokens_of}
-use Rattle.clause_check.specs.inner.Cuts.{StopsAt}
+use Rattle.kw_base.specs.Texts.{StopsAt, is_blank}
+use Rattle.kw_base.proofs.Words.{rest_stops}
+use Rattle.clause_check.specs.Lines.{tokens_of}
 use Rattle.clause_check.specs.inner.Tokens.{GivesLiteral}
-use Rattle.clause_check.proofs.Cutting.{rest_stops, tokens_of-rest}
+use Rattle.clause_check.proofs.Cutting.{tokens_of-rest}
 use Rattle.clause_check.proofs.TokensRead.{closing_token}
 use Rattle.clause_check.proofs.token.next_literal.Goals as goal
 

@@ -50,7 +50,7 @@ loop-cut-preserved c =
     ∙ c.args.registers.now.values) c.as_slice-in-Some.ensures.value in
     record {
       read = lines_more (register_bits latches) l.number c.saturating_add-number.result l.rest.now
-          c.in-Some.cut.line.now c.in-Some.cut.rest.now clause _ (bit_values (first_words latches))
+          c.in-Some.cut.bytes.now c.in-Some.cut.rest.now clause _ (bit_values (first_words latches))
           l.formula.clauses c.push.new.self.clauses l.false_line c.first_false-false_line.result c.in-Some.ensures.found
           c.in_ok-read_line.ensures.read c.saturating_add-number.ensures some pushed judged l.invariant.read;
       literals = subst HaveLiterals (sym pushed)

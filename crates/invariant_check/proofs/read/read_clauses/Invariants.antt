@@ -1,5 +1,5 @@
 use Rattle.std.proofs.Common.{◌≡◌, List, length, sum}
-use Rattle.clause_check.specs.Lines.{lines_of}
+use Rattle.kw_base.specs.Texts.{lines_of}
 use Rattle.aig_blast.specs.AigRun.{first_words}
 use Rattle.aig_blast.specs.Aigs.{latch_widths}
 use Rattle.invariant_check.specs.Bits.{bit_values, register_bits}

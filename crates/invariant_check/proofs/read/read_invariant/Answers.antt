@@ -2,7 +2,7 @@ use Rattle.std.proofs.Common.{◌≡◌, ℕ, List, Err, ap, subst, ◌∙◌}
 use Rattle.std.proofs.lemmas.Result.{err_from_is_err_and}
 use Rattle.kw_base.specs.Fault.{fault_at}
 use Rattle.kw_base.specs.declared.fault.Fault.{Fault}
-use Rattle.clause_check.specs.Lines.{lines_of}
+use Rattle.kw_base.specs.Texts.{lines_of}
 use Rattle.clause_check.proofs.Refusals.{passes, refused}
 use Rattle.aig_blast.specs.AigRun.{first_words}
 use Rattle.aig_blast.specs.Aigs.{AigParts}

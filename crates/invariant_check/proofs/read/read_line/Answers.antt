@@ -19,7 +19,7 @@ returns-in_default-literal-clause-fault c =
     refused (Unit {0}) c.fault.result (fault_at 91 c.place_in-place.result)
     (λ (fault : Fault). clause_of bits c.args.line c.args.bytes.now ≡ Err fault) c.fault.ensures
     (line_fault bits c.args.line l.column word.blanks l.clause.items word.bytes.now l.rest.now word.rest.now
-    c.args.bytes.now c.place_in-place.result (c.in-Some.ensures.found l.column) c.place_in-place.ensures
+    c.args.bytes.now c.place_in-place.result (c.in-Some.ensures.columns l.column) c.place_in-place.ensures
     (sym c.literal.ensures ∙ c.in_default-literal.is) l.invariant.line)
 
 pub loop-word-preserved : goal.loop-word-preserved
@@ -31,7 +31,7 @@ loop-word-preserved c =
     record {
       line = line_more bits c.args.line l.column word.blanks l.clause.items c.push.new.self.items word.bytes.now
           l.rest.now word.rest.now c.place_in-place.result c.in-Some-literal.literal _
-          (c.in-Some.ensures.found l.column) c.place_in-place.ensures reads c.in_ok-push.ensures.items l.invariant.line;
+          (c.in-Some.ensures.columns l.column) c.place_in-place.ensures reads c.in_ok-push.ensures.items l.invariant.line;
       column = omega (arith, l.invariant.column, c.in-Some.ensures.length);
       literals = subst (λ (ls : List Literal). All (IsLiteral (length bits)) ls) (sym c.in_ok-push.ensures.items)
           (All-push (IsLiteral (length bits)) l.clause.items c.in-Some-literal.literal l.invariant.literals
@@ -42,4 +42,4 @@ pub returns-clause-read : goal.returns-clause-read
 returns-clause-read c =
     let l = c.loop-word in
     line_end (register_bits c.args.registers.now.latches.now) c.args.line l.column l.clause.items l.rest.now
-    c.args.bytes.now (c.in_default.ensures.absent l.column) l.invariant.line
+    c.args.bytes.now (c.in_default.ensures.no_columns l.column) l.invariant.line
