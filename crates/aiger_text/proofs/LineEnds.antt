@@ -7,10 +7,10 @@ use Rattle.std.proofs.lemmas.Bool.{eqb-false, or_parts}
 use Rattle.std.proofs.lemmas.List.{length-append}
 use Rattle.std.proofs.lemmas.List.Elements.{All-from_recursion}
 use Rattle.aig_blast.specs.Aigs.{IsSymbol}
-use Rattle.aiger_text.specs.inner.Classes.{StopsAt}
-use Rattle.aiger_text.specs.Cuts.{before_bytes, but_empty_last, ends_line, front_of, is_blank, is_return, lines_of, not_blank, rest_of, without_blanks, without_returns}
+use Rattle.kw_base.specs.Texts.{StopsAt, but_empty_last, ends_line, front_of, is_blank, is_return, rest_of}
+use Rattle.kw_base.proofs.Words.{front-rest, rest_stops}
+use Rattle.aiger_text.specs.Cuts.{before_bytes, lines_of, not_blank, without_blanks, without_returns}
 use Rattle.aiger_text.specs.Drafts.{name_after}
-use Rattle.aiger_text.proofs.Cutting.{front-rest, rest_stops}
 
 -- what holds of each item of two lists
 pub all_joined : {X : Type 0} (P : X → Type 0) (xs ys : List X) → AllByRecursion P xs → AllByRecursion P ys → AllByRecursion P (xs ++ ys)

@@ -1,16 +1,19 @@
 -- The lines that a bit-level circuit is printed as, and what they are read as, line by line.
-use Rattle.std.proofs.Common.{◌≡◌, ℕ, ◌<◌, ◌^◌, Bool, true, false, not, ◌&&◌, ◌||◌, cond, eqb, List, [], ◌∷◌, ◌++◌, length, map, refl, sym, ap, ap₂, ◌∙◌, arith, append_assoc, Option, Some}
+use Rattle.std.proofs.Common.{◌≡◌, ℕ, ◌<◌, ◌^◌, Bool, true, false, not, ◌||◌, cond, eqb, List, [], ◌∷◌, ◌++◌, length, map, refl, sym, ap, ap₂, ◌∙◌, arith, append_assoc, Option, Some}
 use Rattle.std.specs.Prelude.{◌≢◌, decimal}
-use Rattle.std.specs.Char.{digit_value, is_digit}
-use Rattle.std.specs.List.{AllByRecursion, AllPass, flat_map, list_all}
+use Rattle.std.specs.Char.{digit_value}
+use Rattle.std.specs.List.{AllByRecursion, flat_map}
 use Rattle.std.specs.Str.Parse.{AllDigits, digits_value}
-use Rattle.std.proofs.lemmas.Bool.{eqb-true, lt-ltb, not_from_false}
+use Rattle.std.proofs.lemmas.Bool.{eqb-true}
 use Rattle.std.proofs.lemmas.Fmt.{decimal_is_IsNumeral}
 use Rattle.std.proofs.lemmas.List.Elements.{All-from_recursion}
-use Rattle.aiger_text.specs.inner.Classes.{StopsAt}
-use Rattle.aiger_text.specs.Cuts.{before_bytes, ends_line, is_numeral, numbers_if_all, lines_of, not_blank, decimal_number, numbers_of, without_returns, words_of}
+use Rattle.kw_base.specs.Texts.{StopsAt, ends_line, is_blank, is_numeral}
+use Rattle.kw_base.proofs.Cutting.{piece_first, whole_lines-more}
+use Rattle.kw_base.proofs.Numerals.{tests-from_digits}
+use Rattle.kw_base.proofs.Words.{words_of-blank, words_of-nil, words_of-word}
+use Rattle.aiger_text.specs.Cuts.{before_bytes, numbers_if_all, lines_of, not_blank, decimal_number, numbers_of, without_returns, words_of}
 use Rattle.aiger_text.specs.Printing.{numbers_text, spaced}
-use Rattle.aiger_text.proofs.Cutting.{lines_of-more, lines_of-nil, not_return, pieces_first, words_of-blank, words_of-nil, words_of-word}
+use Rattle.aiger_text.proofs.Cutting.{not_return}
 use Rattle.aiger_text.proofs.LineEnds.{all_joined, HasNoFeed, IsLine}
 use Rattle.aiger_text.proofs.Naming.{digits_other, ends_other}
 use Rattle.aiger_text.proofs.Numbering.{number_is}
@@ -29,9 +32,9 @@ pub text_by-append : (xs ys : List (List ℕ)) → text_by (xs ++ ys) ≡ text_b
 text_by-append [] ys = refl
 text_by-append (x ∷ xs) ys = ap (λ t. closed x ++ t) (text_by-append xs ys) ∙ sym (append_assoc (closed x) (text_by xs) (text_by ys))
 
-goes_on : (line : List ℕ) → HasNoFeed line → AllByRecursion (λ (b : ℕ). not (ends_line b) ≡ true) line
+goes_on : (line : List ℕ) → HasNoFeed line → AllByRecursion (λ (b : ℕ). ends_line b ≡ false) line
 goes_on [] all = tt
-goes_on (b ∷ line) all = (not_from_false (eqb b 10) (eq-false b 10 all.0), goes_on line all.1)
+goes_on (b ∷ line) all = (eq-false b 10 all.0, goes_on line all.1)
 
 before-whole : (b : ℕ) (line : List ℕ) → ((rest : List ℕ) → b ∷ line ≢ rest ++ 13 ∷ []) → before_bytes b line ≡ b ∷ line
 before-whole b [] ends = ap (λ t. cond t [] (b ∷ [])) (not_return b (λ is. ends [] (ap (λ x. x ∷ []) is)))
@@ -43,10 +46,12 @@ returns-whole (b ∷ line) ends = ap (before_bytes b) (returns-whole line (λ re
 
 -- a text of lines has these lines
 pub lines_of-text : (lines : List (List ℕ)) → AllByRecursion IsLine lines → lines_of (text_by lines) ≡ lines
-lines_of-text [] all = lines_of-nil
+unfolding lines_of
+lines_of-text [] all = refl
 lines_of-text (line ∷ lines) all =
-    let own : AllPass (λ (b : ℕ). not (ends_line b)) line = All-from_recursion (λ (b : ℕ). not (ends_line b) ≡ true) line (goes_on line all.0.one_line) in
-    lines_of-more (closed line ++ text_by lines) line (text_by lines) (pieces_first (closed line ++ text_by lines) line 10 (text_by lines) (append_assoc line (10 ∷ []) (text_by lines)) own refl)
+    let own = All-from_recursion (λ (b : ℕ). ends_line b ≡ false) line (goes_on line all.0.one_line) in
+    let pieces = piece_first ends_line (closed line ++ text_by lines) line 10 (text_by lines) (append_assoc line (10 ∷ []) (text_by lines)) own refl in
+    ap (map without_returns) (whole_lines-more (closed line ++ text_by lines) line (text_by lines) pieces)
     ∙ ap₂ (λ (l : List ℕ) (ls : List (List ℕ)). l ∷ ls) (returns-whole line all.0.ends) (lines_of-text lines all.1)
 
 -- ---- lines of numbers
@@ -92,7 +97,7 @@ digits-not_blank (b ∷ digits) all = (digit-not_blank b all.0, digits-not_blank
 -- the first word
 pub word-first : (word rest : List ℕ) → 0 < length word → AllByRecursion (λ (b : ℕ). not_blank b ≡ true) word → StopsAt not_blank rest → words_of (word ++ rest) ≡ word ∷ words_of rest
 word-first [] rest some all stops = absurd (omega (arith, some))
-word-first (b ∷ word) rest some all stops = words_of-word b word rest (All-from_recursion (λ (x : ℕ). not_blank x ≡ true) (b ∷ word) all) stops
+word-first (b ∷ word) rest some all stops = words_of-word is_blank b word rest (All-from_recursion (λ (x : ℕ). not_blank x ≡ true) (b ∷ word) all) stops
 
 decimal-first : (n : ℕ) (rest : List ℕ) → n < 2 ^ 63 → StopsAt not_blank rest → words_of (decimal n ++ rest) ≡ decimal n ∷ words_of rest
 decimal-first n rest small stops =
@@ -104,21 +109,17 @@ spaced-stops [] = tt
 spaced-stops (n ∷ others) = refl
 
 pub words_of-spaced : (others : List ℕ) → AllSmall others → words_of (flat_map spaced others) ≡ map decimal others
-words_of-spaced [] all = words_of-nil
+words_of-spaced [] all = words_of-nil is_blank
 words_of-spaced (n ∷ others) all =
-    words_of-blank 32 (decimal n ++ flat_map spaced others) refl ∙ decimal-first n (flat_map spaced others) all.0 (spaced-stops others) ∙ ap (λ words. decimal n ∷ words) (words_of-spaced others all.1)
+    words_of-blank is_blank 32 (decimal n ++ flat_map spaced others) refl ∙ decimal-first n (flat_map spaced others) all.0 (spaced-stops others) ∙ ap (λ words. decimal n ∷ words) (words_of-spaced others all.1)
 
 pub words_of-numbers : (first : ℕ) (others : List ℕ) → first < 2 ^ 63 → AllSmall others → words_of (numbers_line first others) ≡ map decimal (first ∷ others)
 words_of-numbers first others small all = decimal-first first (flat_map spaced others) small (spaced-stops others) ∙ ap (λ words. decimal first ∷ words) (words_of-spaced others all)
 
 -- the numbers of words
-all_digits : (digits : List ℕ) → AllDigits 10 digits → list_all (λ b. is_digit b 10) digits ≡ true
-all_digits [] all = refl
-all_digits (b ∷ digits) all = ap₂ (λ s t. s && t) (lt-ltb (digit_value b) 10 all.0) (all_digits digits all.1)
-
-numeral : (digits : List ℕ) → 0 < length digits → AllDigits 10 digits → is_numeral digits ≡ true
+numeral : (digits : List ℕ) → 0 < length digits → AllDigits 10 digits → is_numeral 10 digits ≡ true
 numeral [] some all = absurd (omega (arith, some))
-numeral (b ∷ digits) some all = all_digits (b ∷ digits) all
+numeral (b ∷ digits) some all = tests-from_digits 10 (b ∷ digits) all
 
 pub decimal_number-decimal : (n : ℕ) → n < 2 ^ 63 → decimal_number (decimal n) ≡ Some n
 decimal_number-decimal n small =

@@ -17,8 +17,8 @@ use Rattle.aig_blast.specs.declared.aig.LatchWord.{LatchWord}
 use Rattle.aig_blast.specs.declared.aig.OutputBit.{OutputBit}
 use Rattle.aig_blast.specs.declared.gate.Gate.{Gate}
 use Rattle.aig_blast.proofs.Digits.{length-digits}
-use Rattle.aiger_text.specs.inner.Classes.{StopsAt}
-use Rattle.aiger_text.specs.Cuts.{is_blank, lines_of, words_of}
+use Rattle.kw_base.specs.Texts.{StopsAt, is_blank}
+use Rattle.aiger_text.specs.Cuts.{lines_of, words_of}
 use Rattle.aiger_text.specs.Drafts.{Draft, draft_by, draft_from, draft_in, draft_of, ended, no_lines, section_of}
 use Rattle.aiger_text.specs.Headers.{header_by, header_of}
 use Rattle.aiger_text.specs.Printing.{bit_name, spaced, text_of}

@@ -7,12 +7,12 @@ use Rattle.std.proofs.lemmas.Fmt.{decimal_is_IsNumeral}
 use Rattle.std.proofs.lemmas.List.{length-append, length_push, nil_from_length}
 use Rattle.std.proofs.lemmas.List.Elements.{All-from_recursion, recursion_from_All}
 use Rattle.stim_report.specs.Stimuli.{after}
-use Rattle.aiger_text.specs.inner.Classes.{StopsAt}
-use Rattle.aiger_text.specs.Cuts.{front_of, is_blank, not_blank, rest_of, without_blanks}
+use Rattle.kw_base.specs.Texts.{StopsAt, front_of, is_blank, rest_of}
+use Rattle.kw_base.proofs.Cutting.{front_of-parts, rest_of-parts}
+use Rattle.aiger_text.specs.Cuts.{not_blank, without_blanks}
 use Rattle.aiger_text.specs.Drafts.{Draft, is_end, named_at, put_symbol, section_of, symbol_at, symbol_by, symbol_of, with_line, with_symbol, word_before}
 use Rattle.aiger_text.specs.declared.header.Header.{Header}
 use Rattle.aiger_text.specs.declared.header.Section.TheVariants as sections
-use Rattle.aiger_text.proofs.Cutting.{front_of-parts, rest_of-parts}
 use Rattle.aiger_text.proofs.Drafting.{put_symbol-within, with_line-at}
 use Rattle.aiger_text.proofs.LineEnds.{all_joined, IsLine}
 use Rattle.aiger_text.proofs.Naming.{digits_other}

@@ -1,26 +1,9 @@
 -- How an AIGER text is cut: into lines at its line feeds, without the carriage returns at their ends, and a line into
 -- words at spaces and tabs. AIGER ASCII (Biere, Heljanko and Wieringa, 2011), as this project reads it.
-use Rattle.std.specs.Prelude.{ℕ, ◌==◌, ◌||◌, ◌^◌, ◌&&◌, not, Bool, true, false, if◌then◌else◌, nat_lt, List, [], ◌∷◌, map, Option, None, Some}
-use Rattle.std.specs.Char.{is_digit}
-use Rattle.std.specs.List.{filter, list_all, slice_split}
+use Rattle.std.specs.Prelude.{ℕ, ◌^◌, ◌&&◌, not, Bool, if◌then◌else◌, nat_lt, List, [], ◌∷◌, map, Option, None, Some}
 use Rattle.std.specs.Str.Parse.{digits_value}
-
--- the line feed, the carriage return, and the blanks: the space and the tab
-abbrev pub ends_line : ℕ → Bool
-ends_line b = b == 10
-
--- the carriage return
-abbrev pub is_return : ℕ → Bool
-is_return b = b == 13
-
--- a space or a tab
-abbrev pub is_blank : ℕ → Bool
-is_blank b = (b == 32) || (b == 9)
-
--- there is a byte
-abbrev pub has_bytes : List ℕ → Bool
-has_bytes [] = false
-has_bytes (b ∷ bytes) = true
+use Rattle.kw_base.specs.Texts as texts
+use Rattle.kw_base.specs.Texts.{is_blank, is_numeral, is_return, rest_of, whole_lines}
 
 -- a byte before a line's other bytes: a carriage return that nothing follows is left out
 abbrev pub before_bytes : ℕ → List ℕ → List ℕ
@@ -32,29 +15,13 @@ abbrev pub without_returns : List ℕ → List ℕ
 without_returns [] = []
 without_returns (b ∷ bytes) = before_bytes b (without_returns bytes)
 
--- nothing after the last line feed is no line
-abbrev pub but_empty_last : List (List ℕ) → List (List ℕ)
-but_empty_last [] = []
-but_empty_last ([] ∷ []) = []
-but_empty_last (piece ∷ pieces) = piece ∷ but_empty_last pieces
-
 -- the lines of a text
 unfoldable pub lines_of : List ℕ → List (List ℕ)
-lines_of text = map without_returns (but_empty_last (slice_split ends_line text))
+lines_of text = map without_returns (whole_lines text)
 
--- the words of a line: its longest runs of bytes without a blank
-unfoldable pub words_of : List ℕ → List (List ℕ)
-words_of line = filter has_bytes (slice_split is_blank line)
-
--- the bytes at the front that pass, as many as there are, and the bytes after them
-abbrev pub front_of : (ℕ → Bool) → List ℕ → List ℕ
-front_of passes [] = []
-front_of passes (b ∷ bytes) = if passes b then b ∷ front_of passes bytes else []
-
--- what comes after the first bytes that pass a test
-abbrev pub rest_of : (ℕ → Bool) → List ℕ → List ℕ
-rest_of passes [] = []
-rest_of passes (b ∷ bytes) = if passes b then rest_of passes bytes else b ∷ bytes
+-- the words of a line
+abbrev pub words_of : List ℕ → List (List ℕ)
+words_of line = texts.words_of is_blank line
 
 -- bytes without the blanks that they begin with
 abbrev pub without_blanks : List ℕ → List ℕ
@@ -64,13 +31,9 @@ without_blanks bytes = rest_of is_blank bytes
 abbrev pub not_blank : ℕ → Bool
 not_blank b = not (is_blank b)
 
--- the number that a word writes, if it has decimal digits alone and the number is below 2 to the 63
-abbrev pub is_numeral : List ℕ → Bool
-is_numeral word = has_bytes word && list_all (λ b. is_digit b 10) word
-
 -- the number that a word of decimal digits is, below 2^63
 unfoldable pub decimal_number : List ℕ → Option ℕ
-decimal_number word = if is_numeral word && nat_lt (digits_value 10 word) (2 ^ 63) then Some (digits_value 10 word) else None
+decimal_number word = if is_numeral 10 word && nat_lt (digits_value 10 word) (2 ^ 63) then Some (digits_value 10 word) else None
 
 -- the numbers that words write, if each writes one
 abbrev pub numbers_if_all : Option ℕ → Option (List ℕ) → Option (List ℕ)

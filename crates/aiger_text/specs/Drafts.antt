@@ -7,7 +7,8 @@ use Rattle.kw_base.specs.Fault.{fault_at}
 use Rattle.kw_base.specs.declared.fault.Fault.{Fault}
 use Rattle.aig_blast.specs.declared.gate.Gate.{Gate}
 use Rattle.stim_report.specs.Stimuli.{after, next_line}
-use Rattle.aiger_text.specs.Cuts.{front_of, lines_of, not_blank, decimal_number, rest_of, without_blanks, words_of}
+use Rattle.kw_base.specs.Texts.{front_of, rest_of}
+use Rattle.aiger_text.specs.Cuts.{lines_of, not_blank, decimal_number, without_blanks, words_of}
 use Rattle.aiger_text.specs.Headers.{header_of, line_numbers}
 use Rattle.aiger_text.specs.Places.{is_defined}
 use Rattle.aiger_text.specs.declared.header.Header.{Header}

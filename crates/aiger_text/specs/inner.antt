@@ -1,5 +1,4 @@
 -- What only contracts of private functions cite.
-pub mod Classes
 pub mod Numerals
 pub mod Printing
 pub mod RunsSoFar

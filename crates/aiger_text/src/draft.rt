@@ -5,7 +5,7 @@ ghost use Rattle.aiger_text.specs.Drafts as drafts;
 ghost use Rattle.aiger_text.specs.Drafts.{flaw_of, named_at, no_lines, put_symbol, section_of};
 ghost use Rattle.aiger_text.specs.inner.Steps.{parts_of, ReadsLine, ReadsSymbol};
 
-use crate::cuts::{first_word, without_blanks};
+use crate::cuts::split_word;
 use crate::header::{Header, Section};
 use crate::numbers::{LineNumbers, number_of, numbers_in};
 use crate::variables::Variables;
@@ -13,45 +13,9 @@ use aig_blast::{Gate, Lit};
 use kw_base::fault_number::{
     MALFORMED_AIGER, NO_VARIABLE, RESET_LEFT_OUT, VARIABLE_DEFINED_TWICE, VARIABLE_TOO_GREAT,
 };
-use kw_bits::{NoMemory, Text};
-use std::alloc::{AllocError, AllocFailed, Global};
-
-/// Why a line gives nothing: by the number of its fault, or that memory ran out.
-#[derive(Clone, Copy, Debug, PartialEq, Eq)]
-pub(crate) enum Flaw {
-    Fault(u32),
-    NoMemory,
-}
-
-impl From<NoMemory> for Flaw {
-    ghost use Rattle.aiger_text.specs.declared.draft.Flaw.TheVariants as flaws;
-
-    ghost from_gives = { λ _ flaw. flaw ≡ flaws.NoMemory };
-
-    fn from(_: NoMemory) -> Flaw {
-        Flaw::NoMemory
-    }
-}
-
-impl From<AllocError> for Flaw {
-    ghost use Rattle.aiger_text.specs.declared.draft.Flaw.TheVariants as flaws;
-
-    ghost from_gives = { λ _ flaw. flaw ≡ flaws.NoMemory };
-
-    fn from(_: AllocError) -> Flaw {
-        Flaw::NoMemory
-    }
-}
-
-impl<T: Drop> From<AllocFailed<T>> for Flaw {
-    ghost use Rattle.aiger_text.specs.declared.draft.Flaw.TheVariants as flaws;
-
-    ghost from_gives = { λ _ flaw. flaw ≡ flaws.NoMemory };
-
-    fn from(_: AllocFailed<T>) -> Flaw {
-        Flaw::NoMemory
-    }
-}
+use kw_base::texts::without_blanks;
+use kw_bits::{Failure, Text};
+use std::alloc::Global;
 
 /// What the lines so far say: the variables that they define, the symbols of inputs, latches and outputs, the literals
 /// and resets of latches, the literals of outputs, and the gates.
@@ -109,7 +73,7 @@ impl Draft {
         alloc: Global,
         header: &Header,
         line: &[u8],
-    ) -> Result<(), Flaw>
+    ) -> Result<(), Failure<u32>>
         ensures { ReadsLine result (drafts.with_line header.now (parts_of self.old) line.now) (parts_of self.new) }
     {
         match self.section(header) {
@@ -121,18 +85,18 @@ impl Draft {
         }
     }
 
-    fn add_input(&mut self, header: &Header, numbers: LineNumbers) -> Result<(), Flaw>
+    fn add_input(&mut self, header: &Header, numbers: LineNumbers) -> Result<(), Failure<u32>>
         ensures { ReadsLine result (drafts.with_input header.now (parts_of self.old) numbers) (parts_of self.new) }
     {
         match numbers {
             LineNumbers::One(lit) => self.add_input_of(header, lit),
-            LineNumbers::Two(_, _) => Err(Flaw::Fault(MALFORMED_AIGER)),
-            LineNumbers::Three(_, _, _) => Err(Flaw::Fault(MALFORMED_AIGER)),
-            LineNumbers::Other => Err(Flaw::Fault(MALFORMED_AIGER)),
+            LineNumbers::Two(_, _) => Err(Failure::Why(MALFORMED_AIGER)),
+            LineNumbers::Three(_, _, _) => Err(Failure::Why(MALFORMED_AIGER)),
+            LineNumbers::Other => Err(Failure::Why(MALFORMED_AIGER)),
         }
     }
 
-    fn add_input_of(&mut self, header: &Header, lit: Lit) -> Result<(), Flaw>
+    fn add_input_of(&mut self, header: &Header, lit: Lit) -> Result<(), Failure<u32>>
         ensures { ReadsLine result (drafts.input_by header.now (parts_of self.old) lit) (parts_of self.new) }
     {
         if let Err(flaw) = self.define(header, lit, &[lit], 0) {
@@ -142,18 +106,24 @@ impl Draft {
         Ok(())
     }
 
-    fn add_latch(&mut self, header: &Header, numbers: LineNumbers) -> Result<(), Flaw>
+    fn add_latch(&mut self, header: &Header, numbers: LineNumbers) -> Result<(), Failure<u32>>
         ensures { ReadsLine result (drafts.with_latch header.now (parts_of self.old) numbers) (parts_of self.new) }
     {
         match numbers {
             LineNumbers::Two(lit, next) => self.add_latch_of(header, lit, next, 0),
             LineNumbers::Three(lit, next, reset) => self.add_latch_of(header, lit, next, reset),
-            LineNumbers::One(_) => Err(Flaw::Fault(MALFORMED_AIGER)),
-            LineNumbers::Other => Err(Flaw::Fault(MALFORMED_AIGER)),
+            LineNumbers::One(_) => Err(Failure::Why(MALFORMED_AIGER)),
+            LineNumbers::Other => Err(Failure::Why(MALFORMED_AIGER)),
         }
     }
 
-    fn add_latch_of(&mut self, header: &Header, lit: Lit, next: Lit, reset: u64) -> Result<(), Flaw>
+    fn add_latch_of(
+        &mut self,
+        header: &Header,
+        lit: Lit,
+        next: Lit,
+        reset: u64,
+    ) -> Result<(), Failure<u32>>
         ensures { ReadsLine result (drafts.latch_by header.now (parts_of self.old) lit next reset) (parts_of self.new) }
     {
         if let Err(flaw) = self.define(header, lit, &[lit, next], reset) {
@@ -165,40 +135,46 @@ impl Draft {
         Ok(())
     }
 
-    fn add_output(&mut self, header: &Header, numbers: LineNumbers) -> Result<(), Flaw>
+    fn add_output(&mut self, header: &Header, numbers: LineNumbers) -> Result<(), Failure<u32>>
         ensures { ReadsLine result (drafts.with_output header.now (parts_of self.old) numbers) (parts_of self.new) }
     {
         match numbers {
             LineNumbers::One(lit) => self.add_output_of(header, lit),
-            LineNumbers::Two(_, _) => Err(Flaw::Fault(MALFORMED_AIGER)),
-            LineNumbers::Three(_, _, _) => Err(Flaw::Fault(MALFORMED_AIGER)),
-            LineNumbers::Other => Err(Flaw::Fault(MALFORMED_AIGER)),
+            LineNumbers::Two(_, _) => Err(Failure::Why(MALFORMED_AIGER)),
+            LineNumbers::Three(_, _, _) => Err(Failure::Why(MALFORMED_AIGER)),
+            LineNumbers::Other => Err(Failure::Why(MALFORMED_AIGER)),
         }
     }
 
-    fn add_output_of(&mut self, header: &Header, lit: Lit) -> Result<(), Flaw>
+    fn add_output_of(&mut self, header: &Header, lit: Lit) -> Result<(), Failure<u32>>
         ensures { ReadsLine result (drafts.output_by header.now (parts_of self.old) lit) (parts_of self.new) }
     {
         if has_above(header.most, &[lit]) {
-            return Err(Flaw::Fault(VARIABLE_TOO_GREAT));
+            return Err(Failure::Why(VARIABLE_TOO_GREAT));
         }
         self.outputs.push(None)?;
         self.lits.push(lit)?;
         Ok(())
     }
 
-    fn add_gate(&mut self, header: &Header, numbers: LineNumbers) -> Result<(), Flaw>
+    fn add_gate(&mut self, header: &Header, numbers: LineNumbers) -> Result<(), Failure<u32>>
         ensures { ReadsLine result (drafts.with_gate header.now (parts_of self.old) numbers) (parts_of self.new) }
     {
         match numbers {
             LineNumbers::Three(lit, left, right) => self.add_gate_of(header, lit, left, right),
-            LineNumbers::One(_) => Err(Flaw::Fault(MALFORMED_AIGER)),
-            LineNumbers::Two(_, _) => Err(Flaw::Fault(MALFORMED_AIGER)),
-            LineNumbers::Other => Err(Flaw::Fault(MALFORMED_AIGER)),
+            LineNumbers::One(_) => Err(Failure::Why(MALFORMED_AIGER)),
+            LineNumbers::Two(_, _) => Err(Failure::Why(MALFORMED_AIGER)),
+            LineNumbers::Other => Err(Failure::Why(MALFORMED_AIGER)),
         }
     }
 
-    fn add_gate_of(&mut self, header: &Header, lit: Lit, left: Lit, right: Lit) -> Result<(), Flaw>
+    fn add_gate_of(
+        &mut self,
+        header: &Header,
+        lit: Lit,
+        left: Lit,
+        right: Lit,
+    ) -> Result<(), Failure<u32>>
         ensures { ReadsLine result (drafts.gate_by header.now (parts_of self.old) lit left right) (parts_of self.new) }
     {
         if let Err(flaw) = self.define(header, lit, &[lit, left, right], 0) {
@@ -209,42 +185,54 @@ impl Draft {
     }
 
     // Takes the variable of a literal that a line with these literals and this reset defines.
-    fn define(&mut self, header: &Header, lit: Lit, lits: &[Lit], reset: u64) -> Result<(), Flaw>
+    fn define(
+        &mut self,
+        header: &Header,
+        lit: Lit,
+        lits: &[Lit],
+        reset: u64,
+    ) -> Result<(), Failure<u32>>
         ensures { ReadsLine result (drafts.unless (flaw_of header.now (parts_of self.old).variables lit lits.now reset) (drafts.defined (parts_of self.old) lit)) (parts_of self.new) }
     {
         if let Some(number) = least_fault(header, &self.variables, lit, lits, reset) {
-            return Err(Flaw::Fault(number));
+            return Err(Failure::Why(number));
         }
         self.variables.add(lit / 2)?;
         Ok(())
     }
 
-    fn add_symbol(&mut self, alloc: Global, line: &[u8]) -> Result<(), Flaw>
+    fn add_symbol(&mut self, alloc: Global, line: &[u8]) -> Result<(), Failure<u32>>
         ensures { ReadsLine result (drafts.with_symbol (parts_of self.old) line.now) (parts_of self.new) }
     {
-        let word = first_word(line);
-        let name = without_blanks(word.rest);
-        let Some((kind, digits)) = word.bytes.split_first() else {
-            return Err(Flaw::Fault(MALFORMED_AIGER));
+        let (word, rest) = split_word(line);
+        let name = without_blanks(rest);
+        let Some((kind, digits)) = word.split_first() else {
+            return Err(Failure::Why(MALFORMED_AIGER));
         };
         let Some(index) = number_of(digits) else {
-            return Err(Flaw::Fault(MALFORMED_AIGER));
+            return Err(Failure::Why(MALFORMED_AIGER));
         };
         if name.is_empty() {
-            return Err(Flaw::Fault(MALFORMED_AIGER));
+            return Err(Failure::Why(MALFORMED_AIGER));
         }
         self.add_name(alloc, *kind, index, name)
     }
 
     // Takes the name of an input, latch or output.
-    fn add_name(&mut self, alloc: Global, kind: u8, index: u64, name: &[u8]) -> Result<(), Flaw>
+    fn add_name(
+        &mut self,
+        alloc: Global,
+        kind: u8,
+        index: u64,
+        name: &[u8],
+    ) -> Result<(), Failure<u32>>
         ensures { ReadsLine result (drafts.symbol_by (parts_of self.old) kind index name.now) (parts_of self.new) }
     {
         match kind {
             b'i' => put_name(alloc, &mut self.inputs, index, name),
             b'l' => put_name(alloc, &mut self.latches, index, name),
             b'o' => put_name(alloc, &mut self.outputs, index, name),
-            _ => Err(Flaw::Fault(MALFORMED_AIGER)),
+            _ => Err(Failure::Why(MALFORMED_AIGER)),
         }
     }
 }
@@ -255,11 +243,11 @@ fn put_name(
     symbols: &mut Vec<Option<Text>>,
     index: u64,
     name: &[u8],
-) -> Result<(), Flaw>
+) -> Result<(), Failure<u32>>
     ensures { ReadsSymbol result (put_symbol symbols.old.items index name.now) symbols.new.items }
 {
     if index >= symbols.len() as u64 {
-        return Err(Flaw::Fault(MALFORMED_AIGER));
+        return Err(Failure::Why(MALFORMED_AIGER));
     }
     let place = index as usize;
     if symbols[place].is_some() {

@@ -4,8 +4,8 @@ ghost use Rattle.std.specs.Prelude.{◌≡◌};
 ghost use Rattle.aiger_text.specs.Cuts.{words_of};
 ghost use Rattle.aiger_text.specs.Headers as headers;
 
-use crate::cuts::next_word;
 use crate::numbers::{Next, next_number};
+use kw_base::texts::{Separator, next_word};
 
 /// The numbers of a header: the greatest variable, and how many lines of each kind follow.
 #[derive(Clone, Copy, Debug, PartialEq, Eq)]
@@ -31,7 +31,7 @@ pub(crate) enum Section {
 pub(crate) fn header_of(line: &[u8]) -> Option<Header>
     ensures { result ≡ headers.header_of (words_of line.now) }
 {
-    let word = next_word(line)?;
+    let word = next_word(line, Separator::Blank)?;
     if word.bytes != b"aag".as_slice() {
         return None;
     }

@@ -1,17 +1,14 @@
 //! The numbers in a line of an AIGER text.
 
-ghost use Rattle.std.specs.Prelude.{◌≡◌, ◌*◌, ◌+◌, ◌<◌, ◌^◌, ◌∷◌, [], Some, None};
-ghost use Rattle.std.specs.Char.{is_digit};
-ghost use Rattle.std.specs.List.{list_all};
+ghost use Rattle.std.specs.Prelude.{◌≡◌, ◌<◌, ◌^◌, Some};
 ghost use Rattle.std.specs.Option.{SomeIff};
-ghost use Rattle.std.specs.Str.Parse.{IsNumeral, digits_value};
+ghost use Rattle.std.specs.Str.Parse.{digits_value};
 ghost use Rattle.aiger_text.specs.Cuts.{numbers_if_all, decimal_number as number_of_word, numbers_of, words_of};
-ghost use Rattle.aiger_text.specs.Cuts as cuts;
 ghost use Rattle.aiger_text.specs.Headers as headers;
 ghost use Rattle.aiger_text.specs.Headers.{numbers_by};
 ghost use Rattle.aiger_text.specs.inner.Numerals.{GivesNumber};
 
-use crate::cuts::next_word;
+use kw_base::texts::{Separator, decimal, is_numeral, next_word};
 
 /// The least number that is too great for an AIGER text.
 const TOO_GREAT: u64 = 1 << 63;
@@ -78,7 +75,7 @@ fn with_three(first: u64, second: u64, third: u64, bytes: &[u8]) -> LineNumbers
 pub(crate) fn next_number(bytes: &[u8]) -> Next<'_>
     ensures { GivesNumber result (numbers_of (words_of bytes.now)) }
 {
-    let Some(word) = next_word(bytes) else {
+    let Some(word) = next_word(bytes, Separator::Blank) else {
         return Next::End;
     };
     match number_of(word.bytes) {
@@ -91,42 +88,18 @@ pub(crate) fn next_number(bytes: &[u8]) -> Next<'_>
 pub(crate) fn number_of(word: &[u8]) -> Option<u64>
     ensures { result ≡ number_of_word word.now }
 {
-    if !is_numeral(word) {
+    if !is_numeral(10, word) {
         return None;
     }
     value_of(word)
 }
 
-// Whether there is a byte, and each is a decimal digit.
-fn is_numeral(word: &[u8]) -> bool
-    ensures { result ≡ cuts.is_numeral word.now }
-{
-    !word.is_empty() && are_digits(word)
-}
-
-fn are_digits(bytes: &[u8]) -> bool
-    ensures { result ≡ list_all (λ b. is_digit b 10) bytes.now }
-{
-    bytes.iter().all(|byte| char::from(*byte).is_digit(10))
-}
-
 // The number that decimal digits write, if it is below 2^63.
 fn value_of(digits: &[u8]) -> Option<u64>
-    requires { IsNumeral 10 digits.now }
     ensures { SomeIff result (digits_value 10 digits.now < 2 ^ 63) (digits_value 10 digits.now) }
 {
-    let mut value: u64 = 0;
-    for digit in digits {
-        let digit = char::from(*digit).to_digit(10).unwrap();
-        value = with_digit(value, digit)?;
+    match decimal(digits) {
+        Some(number) if number < TOO_GREAT => Some(number),
+        _ => None,
     }
-    Some(value)
-}
-
-// The number with one more decimal digit after it, if it is below 2^63.
-fn with_digit(value: u64, digit: u32) -> Option<u64>
-    ensures { SomeIff result (value * 10 + digit < 2 ^ 63) (value * 10 + digit) }
-{
-    let more = value.checked_mul(10)?.checked_add(u64::from(digit))?;
-    if more < TOO_GREAT { Some(more) } else { None }
 }

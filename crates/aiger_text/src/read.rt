@@ -12,15 +12,15 @@ ghost use Rattle.aiger_text.specs.inner.Steps.{parts_of};
 ghost use Rattle.aiger_text.specs.inner.Sound.{IsDraft};
 ghost use Rattle.aig_blast.specs.Aigs.{IsAig};
 
-use crate::cuts::next_line;
-use crate::draft::{Draft, Flaw};
+use crate::cuts::next_stripped_line;
+use crate::draft::Draft;
 use crate::header::{Header, Section, header_of};
 use crate::places::{all_placed, gates_placed, line_number, refusal};
 use crate::runs::{latch_words, output_bits, words_of};
 use aig_blast::{Aig, Gate, Lit};
 use kw_base::Refusal;
 use kw_base::fault_number::MALFORMED_AIGER;
-use kw_bits::{NoMemory, Sequence};
+use kw_bits::{Failure, NoMemory, Sequence};
 use std::alloc::Global;
 
 // The most variables of a graph.
@@ -50,7 +50,7 @@ fn read_draft(alloc: Global, bytes: &[u8]) -> Result<Draft, Refusal>
     ensures draft { IfOk result (λ draft. draft_of bytes.now ≡ Ok (parts_of draft)) }
     ensures fault { IfFault result (λ fault. draft_of bytes.now ≡ Err fault) }
 {
-    let Some(line) = next_line(bytes) else {
+    let Some(line) = next_stripped_line(bytes) else {
         return Err(refusal(MALFORMED_AIGER, 1));
     };
     let Some(header) = header_of(line.bytes) else {
@@ -68,7 +68,7 @@ fn read_lines(alloc: Global, header: &Header, text: &[u8], bytes: &[u8]) -> Resu
     let mut draft = Draft::of_text(alloc, text);
     let mut number: u32 = 2;
     let mut rest = bytes;
-    while let Some(line) = next_line(rest) {
+    while let Some(line) = next_stripped_line(rest) {
         let section = draft.section(header);
         if is_end(section, line.bytes) {
             return Ok(draft);
@@ -113,8 +113,8 @@ fn add_line(
 {
     match draft.add_line(alloc, header, line) {
         Ok(()) => Ok(()),
-        Err(Flaw::Fault(fault)) => Err(refusal(fault, number)),
-        Err(Flaw::NoMemory) => Err(Refusal::NoMemory),
+        Err(Failure::Why(fault)) => Err(refusal(fault, number)),
+        Err(Failure::NoMemory) => Err(Refusal::NoMemory),
     }
 }
 

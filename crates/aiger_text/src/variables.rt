@@ -1,16 +1,13 @@
 //! The variables that the lines of an AIGER text define, in order.
 
 ghost use Rattle.std.specs.Prelude.{◌≡◌, ◌≤◌, ◌^◌, ◌++◌, ◌∷◌, [], false, length, OnOk};
-ghost use Rattle.std.specs.Hash.DefaultHasher as sip;
-ghost use Rattle.sha2.specs.Sha256.{sha256};
 ghost use Rattle.aiger_text.specs.Places as places;
 ghost use Rattle.aiger_text.specs.Places.{is_defined};
 
 use indexmap::IndexSet;
+use kw_base::HashOfText;
 use kw_bits::NoMemory;
-use sha2::{Digest, Sha256};
 use std::alloc::Global;
-use std::hash::{BuildHasher, DefaultHasher, Hasher};
 use std::marker::Model;
 
 /// Variables, each once, seen by contracts as the list of them in the order in which they were defined. The text
@@ -71,31 +68,5 @@ impl Variables {
         }
         let place = self.seen.get_index_of(&variable)?;
         Some(place as u64 + 1)
-    }
-}
-
-// Hashes variables by SipHash that was fed with the digest of the text that they are in.
-#[derive(Clone, Copy)]
-struct HashOfText {
-    fed: DefaultHasher,
-}
-
-impl HashOfText {
-    fn new(text: &[u8]) -> HashOfText
-        ensures { result.fed ≡ sip.write sip.initial (sha256 text.now) }
-    {
-        let mut fed = DefaultHasher::new();
-        fed.write(&Sha256::digest(text));
-        HashOfText { fed }
-    }
-}
-
-impl BuildHasher for HashOfText {
-    type Hasher = DefaultHasher;
-
-    ghost build_hasher = { λ of_text. of_text.fed };
-
-    fn build_hasher(&self) -> DefaultHasher {
-        self.fed
     }
 }

@@ -2,8 +2,8 @@
 use Rattle.std.specs.Prelude.{◌≡◌, ℕ, List, Option, Result, Ok, Err}
 use Rattle.aiger_text.specs.Drafts.{Draft}
 use Rattle.aiger_text.specs.declared.draft.Draft.{Draft as DraftFields}
-use Rattle.aiger_text.specs.declared.draft.Flaw.{Flaw}
-use Rattle.aiger_text.specs.declared.draft.Flaw.TheVariants as flaws
+use Rattle.kw_bits.specs.declared.failure.Failure.{Failure}
+use Rattle.kw_bits.specs.declared.failure.Failure.TheVariants as failures
 
 -- what a draft says, by its fields
 abbrev pub parts_of : DraftFields → Draft
@@ -19,13 +19,13 @@ parts_of d = record {
 }
 
 -- the new value is the one that was wanted, or the fault is; no memory says nothing
-abbrev pub Reads : {X : Type 0} → Result (Unit {0}) Flaw → Result X ℕ → X → Type 0
+abbrev pub Reads : {X : Type 0} → Result (Unit {0}) (Failure ℕ) → Result X ℕ → X → Type 0
 Reads (Ok read) wanted new = wanted ≡ Ok new
-Reads (Err (flaws.Fault fault)) wanted new = wanted ≡ Err fault
-Reads (Err flaws.NoMemory) wanted new = Unit {0}
+Reads (Err (failures.Why fault)) wanted new = wanted ≡ Err fault
+Reads (Err failures.NoMemory) wanted new = Unit {0}
 
-abbrev pub ReadsLine : Result (Unit {0}) Flaw → Result Draft ℕ → Draft → Type 0
+abbrev pub ReadsLine : Result (Unit {0}) (Failure ℕ) → Result Draft ℕ → Draft → Type 0
 ReadsLine r wanted new = Reads r wanted new
 
-abbrev pub ReadsSymbol : Result (Unit {0}) Flaw → Result (List (Option (List ℕ))) ℕ → List (Option (List ℕ)) → Type 0
+abbrev pub ReadsSymbol : Result (Unit {0}) (Failure ℕ) → Result (List (Option (List ℕ))) ℕ → List (Option (List ℕ)) → Type 0
 ReadsSymbol r wanted new = Reads r wanted new
