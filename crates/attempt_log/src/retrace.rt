@@ -1,23 +1,18 @@
 //! Engines: the check that events are a rule's trace.
 
-ghost use Rattle.std.specs.Prelude.{◌≡◌, ◌<◌, ◌↔◌, IfOk, IsTrue, List, length, slice_get};
-ghost use Rattle.kw_bits.specs.BitVector.{BitVector};
-ghost use Rattle.typed_core.specs.Alone.{is_refused, outcome_of};
-ghost use Rattle.typed_core.specs.Evaluation.{Progress};
+ghost use Rattle.std.specs.Prelude.{◌≡◌, ◌<◌, ◌↔◌, IfOk, IsTrue, length, slice_get};
 ghost use Rattle.typed_core.specs.Fits.{EventsFit};
 ghost use Rattle.typed_core.specs.Valid.{externs_of};
 ghost use Rattle.typed_core.specs.Widths.{HaveWidths, input_widths, register_widths};
 ghost use Rattle.typed_core.specs.declared.access.Event.{Event};
-ghost use Rattle.typed_core.specs.declared.outcome.Stopped.{Stopped};
-ghost use Rattle.one_rule.specs.Answers.{Answers, value_of};
 ghost use Rattle.one_rule.specs.Cycle.{environment};
 ghost use Rattle.one_rule.specs.Externs.{kept};
 ghost use Rattle.attempt_log.specs.Trace.{IsTrace, ReadFits, ReadsFit, is_read, listed, retrace, trace_ports};
 
 use kw_bits::{Bits, NoMemory};
-use one_rule::{Environment, Externs, Inputs, Interrupt, Ports, evaluate};
+use one_rule::{Environment, Externs, Inputs, Interrupt, Ports, evaluate, note_write, outcome_of};
 use std::alloc::Global;
-use typed_core::{Access, Alone, Design, Event, Events, Outcome, Scope, Stopped};
+use typed_core::{Access, Alone, Design, Event, Events, Scope};
 
 /// Whether these are the events and the outcome that the rule gives where the events answer its reads.
 pub(crate) fn is_trace(
@@ -109,19 +104,6 @@ fn retrace(
     })
 }
 
-// How a rule ends whose reads a list answers.
-fn outcome_of(end: Result<Option<Bits>, Interrupt>) -> Result<Outcome, NoMemory>
-    ensures { (events : List Event) (progress : Progress BitVector Stopped) → Answers value_of (λ (noted : List Event). events ≡ noted) end progress
-        → IfOk result (λ outcome. (events ≡ progress.events) × (outcome ≡ outcome_of progress.ending)) }
-{
-    match end {
-        Ok(_) => Ok(Outcome::Done),
-        Err(Interrupt::Stop(Stopped::Abort)) => Ok(Outcome::Abort),
-        Err(Interrupt::Stop(Stopped::Refused(access))) => Ok(Outcome::OwnClash(access)),
-        Err(Interrupt::NoMemory) => Err(NoMemory),
-    }
-}
-
 // The ports of a rule whose reads a list of events answers: the list, and the rule's own events so far.
 #[derive(Drop)]
 struct TracePorts<'a> {
@@ -151,16 +133,7 @@ impl Ports for TracePorts<'_> {
 
     // A write that the rule's own events refuse isn't noted.
     fn write(&mut self, port: u32, register: u32, value: Bits) -> Result<(), Interrupt> {
-        let access = Access {
-            write: true,
-            port,
-            register,
-        };
-        if is_refused(&self.events, &access) {
-            return Err(Interrupt::Stop(Stopped::Refused(access)));
-        }
-        self.events.push(Event { access, value })?;
-        Ok(())
+        note_write(&mut self.events, port, register, value)
     }
 }
 
@@ -180,13 +153,4 @@ fn is_read(port: u32, register: u32, event: &Event) -> bool
 {
     let access = &event.access;
     !access.write && access.port == port && access.register == register
-}
-
-fn is_refused(events: &Events, access: &Access) -> bool
-    ensures { result ≡ is_refused events.now access.now }
-{
-    events
-        .as_slice()
-        .iter()
-        .any(|event| access.clashes_after(&event.access))
 }

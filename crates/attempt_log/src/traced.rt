@@ -6,6 +6,7 @@ ghost use Rattle.typed_core.specs.Fits.{EventsFit};
 ghost use Rattle.typed_core.specs.Valid.{externs_of};
 ghost use Rattle.typed_core.specs.Widths.{HaveWidths, input_widths, register_widths};
 ghost use Rattle.one_rule.specs.Externs.{kept};
+ghost use Rattle.attempt_log.specs.Attempt.{IsAttempt};
 ghost use Rattle.attempt_log.specs.Sources.{AreSources};
 ghost use Rattle.attempt_log.specs.Trace.{IsTrace};
 
@@ -84,6 +85,14 @@ impl Attempt {
         } else {
             Ok(None)
         }
+    }
+
+    /// What each attempt is by its type: a trace of a rule that its design has. It does nothing, and is called for its
+    /// contract.
+    pub fn recall(&self)
+        ensures { IsAttempt self.now }
+    {
+        let _ = &self.design;
     }
 
     /// The design that its rule is of.

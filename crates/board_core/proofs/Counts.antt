@@ -10,7 +10,7 @@ use Rattle.typed_core.specs.declared.design.Next.{Next}
 use Rattle.typed_core.specs.declared.design.Next.TheVariants as next
 use Rattle.typed_core.specs.declared.design.Node.{Node}
 use Rattle.one_rule.specs.Cycle.{is_among, join}
-use Rattle.one_rule.specs.Walk.{is_at}
+use Rattle.typed_core.specs.Continuations.{is_at}
 use Rattle.attempt_log.specs.Attempt.{Attempted}
 use Rattle.attempt_log.specs.Setting.{at_design}
 use Rattle.attempt_log.specs.Verdict.{verdict}

@@ -15,7 +15,7 @@ use Rattle.typed_core.specs.declared.design.Next.{Next}
 use Rattle.typed_core.specs.declared.design.Next.TheVariants as next
 use Rattle.typed_core.specs.declared.design.Node.{Node}
 use Rattle.one_rule.specs.Cycle.{is_among}
-use Rattle.one_rule.specs.Walk.{is_at}
+use Rattle.typed_core.specs.Continuations.{is_at}
 use Rattle.board_core.specs.Board.{Board, node_at, stands}
 use Rattle.board_core.specs.Candidates.{Picks, first, is_further, pair_at, pair_of, pairs}
 use Rattle.board_core.specs.Kept.{Kept, StandsFor, slots_from}

@@ -69,11 +69,12 @@ legal_goes_on o entries e legal goes = (
 
 -- ---- fronts
 
-abbrev tail_of : List Told → List Told
+-- what was told after the first, and the first
+abbrev pub tail_of : List Told → List Told
 tail_of [] = []
 tail_of (t ∷ ts) = ts
 
-abbrev head_or : Told → List Told → Told
+abbrev pub head_or : Told → List Told → Told
 head_or d [] = d
 head_or d (t ∷ ts) = t
 

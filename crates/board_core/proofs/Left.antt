@@ -11,7 +11,7 @@ use Rattle.typed_core.specs.declared.design.Node.{Node}
 use Rattle.one_rule.specs.Cycle.{system_of}
 use Rattle.one_rule.specs.Run.{run}
 use Rattle.one_rule.specs.Stimulus.{inputs_of}
-use Rattle.one_rule.specs.Walk.{root}
+use Rattle.typed_core.specs.Continuations.{root}
 use Rattle.attempt_log.specs.Attempt.{Attempted}
 use Rattle.attempt_log.specs.Entries.{goes_on}
 use Rattle.attempt_log.specs.Verdict.{verdict}

@@ -12,7 +12,8 @@ use Rattle.typed_core.specs.declared.design.Next.TheVariants as next
 use Rattle.typed_core.specs.declared.design.Node.{Node}
 use Rattle.one_rule.specs.Cycle.{System, fire, is_among}
 use Rattle.one_rule.specs.Laws.{IsScheduled, Tries}
-use Rattle.one_rule.specs.Walk.{Walk, goes_on, root}
+use Rattle.one_rule.specs.Walk.{Walk, goes_on}
+use Rattle.typed_core.specs.Continuations.{root}
 use Rattle.one_rule.specs.declared.cycle.State.{State}
 use Rattle.board_core.specs.Board.{node_at}
 use Rattle.board_core.specs.Position.{position, rule_if, visit_if, visited}

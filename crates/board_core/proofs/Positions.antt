@@ -8,7 +8,8 @@ use Rattle.typed_core.specs.declared.design.Next.{Next}
 use Rattle.typed_core.specs.declared.design.Next.TheVariants as next
 use Rattle.typed_core.specs.declared.design.Node.{Node}
 use Rattle.one_rule.specs.Cycle.{System, fire, walk_of}
-use Rattle.one_rule.specs.Walk.{Firing, Walk, goes_on, is_at, pass, root, visit, walk_past}
+use Rattle.one_rule.specs.Walk.{Firing, Walk, goes_on, pass, visit, walk_past}
+use Rattle.typed_core.specs.Continuations.{is_at, root}
 use Rattle.one_rule.proofs.WalkLaws.{IsAhead}
 use Rattle.board_core.specs.Board.{node_at}
 use Rattle.board_core.specs.Position.{position, visit_if}

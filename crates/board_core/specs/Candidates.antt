@@ -10,7 +10,7 @@ use Rattle.typed_core.specs.declared.design.Node.{Node}
 use Rattle.one_rule.specs.Cycle.{is_among}
 use Rattle.one_rule.specs.Externs.{kept}
 use Rattle.one_rule.specs.Stimulus.{inputs_of}
-use Rattle.one_rule.specs.Walk.{is_at}
+use Rattle.typed_core.specs.Continuations.{is_at}
 use Rattle.attempt_log.specs.declared.job.Job.{Job}
 use Rattle.attempt_log.specs.declared.job.JobAnswer.{JobAnswer}
 use Rattle.attempt_log.specs.declared.job.JobAnswer.TheVariants as answer

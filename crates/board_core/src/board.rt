@@ -80,7 +80,7 @@ impl Core {
         ensures plain { IfOk result (λ core. AtPlain core) }
     {
         let board = CountedBoard::begin(alloc, design, stimulus, regs, from, to, window)?;
-        board.is_plain();
+        board.recall();
         Ok(Core { board, externs })
     }
 
@@ -95,9 +95,9 @@ impl Core {
         ensures left { left self.new ≡ left self.old }
         ensures plain { AtPlain self.new }
     {
-        self.board.is_plain();
+        self.board.recall();
         let answer = self.board.submit(attempt);
-        self.board.is_plain();
+        self.board.recall();
         answer
     }
 
@@ -113,9 +113,9 @@ impl Core {
         ensures plain { AtPlain self.new }
         ensures fires { (board : Board) → StandsFor self.old board → IsPlain self.old.opening board → TellsFiring self.old.opening board result }
     {
-        self.board.is_plain();
+        self.board.recall();
         let answer = self.board.settle();
-        self.board.is_plain();
+        self.board.recall();
         answer
     }
 
@@ -141,14 +141,14 @@ impl Core {
         ensures err { OnErr result (self.new ≡ self.old) }
         ensures plain { AtPlain self.new }
     {
-        self.board.is_plain();
+        self.board.recall();
         let mut answers = Vec::with_capacity(*events.allocator(), events.len())?;
         // They are taken from the end.
         events.reverse();
         while let Some(event) = events.pop() {
             answers.push_reserved(self.step(event));
         }
-        self.board.is_plain();
+        self.board.recall();
         Ok(answers)
     }
 
@@ -160,7 +160,7 @@ impl Core {
         ensures is_for { IfOk result (λ told. IfJob told (λ job. IsFor (setting_of self.now.opening) (attempt_of job))) }
         ensures plain { AtPlain self.now }
     {
-        self.board.is_plain();
+        self.board.recall();
         if self.board.is_finished() {
             return Ok(JobAnswer::Finished);
         }
@@ -173,13 +173,20 @@ impl Core {
         }
     }
 
+    /// What each core is by its type: at a plain position. It does nothing, and is called for its contract.
+    pub fn recall(&self)
+        ensures { AtPlain self.now }
+    {
+        self.board.recall();
+    }
+
     /// The rows of the cycles that are closed, after the row of the opening registers. The board is at a plain
     /// position, and they are the first rows of the run.
     pub fn rows(&self) -> &[Row]
         ensures rows { result.now ≡ self.now.rows }
         ensures plain { AtPlain self.now }
     {
-        self.board.is_plain();
+        self.board.recall();
         self.board.rows()
     }
 
@@ -189,7 +196,7 @@ impl Core {
         ensures whole { let o = self.opening in o.to < self.cycle → result ≡ run (system_of o.design) (inputs_of o.stimulus) o.regs o.from o.to }
         ensures plain { AtPlain self }
     {
-        self.board.is_plain();
+        self.board.recall();
         self.board.into_rows()
     }
 

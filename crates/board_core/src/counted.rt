@@ -16,7 +16,7 @@ ghost use Rattle.board_core.specs.declared.event.BoardAnswer.TheVariants as answ
 ghost use Rattle.board_core.specs.inner.Counts.{HasWeights, is_closing, is_stored, stale_rule};
 
 use crate::candidate::Candidate;
-use crate::kept::{KeptBoard, MAX_CYCLES, MAX_WINDOW, is_attempt};
+use crate::kept::{KeptBoard, MAX_CYCLES, MAX_WINDOW};
 use attempt_log::{Attempt, Job, Settled, Submitted};
 use kw_bits::NoMemory;
 use one_rule::{Externs, Regs, Row, Rows, Stimulus};
@@ -74,7 +74,7 @@ impl CountedBoard {
         let weights = weights_of(alloc, &design)?;
         let counts = Vec::from_elem(alloc, design.nodes.len() as u64, window as usize)?;
         let kept = KeptBoard::begin(alloc, design, stimulus, regs, from, to, window)?;
-        kept.is_plain();
+        kept.recall();
         Ok(CountedBoard {
             kept,
             weights,
@@ -90,8 +90,8 @@ impl CountedBoard {
         ensures refused { (result ≡ submitted.Stored) ⊎ (self.new ≡ self.old) }
         ensures handed_back { HandsBack attempt result }
     {
-        is_attempt(&attempt);
-        self.kept.is_plain();
+        attempt.recall();
+        self.kept.recall();
         let (cycle, rule) = (attempt.cycle(), attempt.rule());
         let now = self.kept.cycle();
         let answer = self.kept.submit(attempt);
@@ -107,7 +107,7 @@ impl CountedBoard {
         ensures opening { self.new.opening ≡ self.old.opening }
         ensures unchanged { is_still result ≡ true → self.new ≡ self.old }
     {
-        self.kept.is_plain();
+        self.kept.recall();
         let answer = self.kept.settle();
         if is_closing(&answer) {
             let nodes = self.kept.design().nodes.len() as u64;
@@ -121,10 +121,10 @@ impl CountedBoard {
     }
 
     // The core stands for a board at a plain position.
-    pub(crate) fn is_plain(&self)
+    pub(crate) fn recall(&self)
         ensures { AtPlain self.now }
     {
-        self.kept.is_plain();
+        self.kept.recall();
     }
 
     pub(crate) fn rows(&self) -> &[Row]

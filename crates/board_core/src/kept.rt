@@ -3,10 +3,10 @@
 ghost use Rattle.std.specs.Prelude.{◌≡◌, ◌+◌, ◌<◌, ◌≤◌, ◌⊎◌, ℕ, List, [], ◌∷◌, ◌++◌, All, IfOk, IfSome, Some, None, true, false, nat_lt, length, replicate, slice_get, is_some};
 ghost use Rattle.std.specs.Arc.{arc_value};
 ghost use Rattle.typed_core.specs.Widths.{HaveWidths, register_widths};
-ghost use Rattle.one_rule.specs.Stimulus.{AlwaysFits, StimulusFits};
+ghost use Rattle.one_rule.specs.Stimulus.{StimulusFits};
 ghost use Rattle.typed_core.specs.declared.design.Next.TheVariants as next;
 ghost use Rattle.typed_core.specs.declared.design.Node.{Node};
-ghost use Rattle.attempt_log.specs.Attempt.{Attempted, IsAttempt};
+ghost use Rattle.attempt_log.specs.Attempt.{Attempted};
 ghost use Rattle.attempt_log.specs.Seats.{HandsBack};
 ghost use Rattle.attempt_log.specs.Setting.{FitsItself, IsFor, attempt_of};
 ghost use Rattle.one_rule.specs.Externs.{kept};
@@ -20,7 +20,7 @@ ghost use Rattle.board_core.specs.Candidates.{IsJobOf, Picks, candidates, first,
 ghost use Rattle.board_core.specs.inner.Search.{FindsIn, HasRule, comes_further};
 ghost use Rattle.board_core.specs.declared.candidate.Search.TheVariants as searched;
 ghost use Rattle.board_core.specs.declared.candidate.Candidate.{Candidate};
-ghost use Rattle.one_rule.specs.Walk.{is_at};
+ghost use Rattle.typed_core.specs.Continuations.{is_at};
 ghost use Rattle.board_core.specs.declared.event.BoardAnswer.TheVariants as answer;
 
 use crate::blank::Blank;
@@ -29,7 +29,7 @@ use crate::place::Place;
 use crate::waiting::Waiting;
 use attempt_log::{Attempt, Job, Settled, Submitted, Verdict};
 use kw_bits::{NoMemory, Reserved};
-use one_rule::{Externs, Inputs, Regs, Row, Rows, Stimulus, opening};
+use one_rule::{Externs, Regs, Row, Rows, Stimulus, opening};
 use std::alloc::Global;
 use std::marker::Model;
 use std::sync::Arc;
@@ -95,7 +95,7 @@ impl KeptBoard {
         ensures opening { IfOk result (λ kept. kept.opening ≡ record { design = arc_value design; stimulus = arc_value stimulus; regs = regs; from = from; to = to; window = window }) }
         ensures opened { IfOk result (λ kept. StandsFor kept (opened kept.opening)) }
     {
-        always_fits(alloc, &stimulus);
+        stimulus.recall();
         let cycles = (to - from) as usize;
         let mut rows = Reserved::with_capacity(alloc, cycles + 1)?;
         let copy = Regs::from_slice(alloc, regs.as_slice())?;
@@ -122,7 +122,7 @@ impl KeptBoard {
         ensures refused { (result ≡ submitted.Stored) ⊎ (self.new ≡ self.old) }
         ensures handed_back { HandsBack attempt result }
     {
-        is_attempt(&attempt);
+        attempt.recall();
         if self.is_late(&attempt) {
             return Submitted::Late(attempt);
         }
@@ -155,7 +155,7 @@ impl KeptBoard {
     }
 
     // The core stands for a board at a plain position.
-    pub(crate) fn is_plain(&self)
+    pub(crate) fn recall(&self)
         ensures { AtPlain self.now }
     {
         let _ = &self.design;
@@ -243,7 +243,7 @@ impl KeptBoard {
         ensures picks { (board : Board) → StandsFor self.now board → Picks (candidates self.now.opening board) pick result }
         ensures rule { IfSome result (λ c. c.rule < length self.now.opening.design.rules) }
     {
-        self.is_plain();
+        self.recall();
         let count = self.count(counts);
         if count == 0 {
             return None;
@@ -286,7 +286,7 @@ impl KeptBoard {
         requires counts { HasCounts self.now counts.now }
         ensures { (board : Board) → StandsFor self.now board → result ≡ length (candidates self.now.opening board) }
     {
-        self.is_plain();
+        self.recall();
         let mut count = self.count_head();
         let cycles = self.window.min(self.last + 1 - self.cycle);
         for ahead in 0..cycles {
@@ -353,7 +353,7 @@ impl KeptBoard {
         requires within { cycle < self.now.cycle + self.now.opening.window }
         ensures { (board : Board) → StandsFor self.now board → result ≡ length (further self.now.opening board cycle) }
     {
-        self.is_plain();
+        self.recall();
         let count = counts[(cycle - self.cycle) as usize];
         if self.cycle < cycle {
             count
@@ -419,7 +419,7 @@ impl KeptBoard {
         ensures { result ≡ comes_further self.now pair }
     {
         let is_current = pair.cycle == self.cycle;
-        !(is_current && is_at(pair.node, self.place.at))
+        !(is_current && self.place.at.is_at(pair.node as usize))
             && !(is_current && self.place.settled[pair.rule as usize])
             && !stands
     }
@@ -441,7 +441,7 @@ impl KeptBoard {
         ensures stored { (board : Board) → StandsFor self.old board → StandsFor self.new (stored self.old.opening board attempt) }
         ensures opening { self.new.opening ≡ self.old.opening }
     {
-        is_attempt(&attempt);
+        attempt.recall();
         let ahead = (attempt.cycle() - self.cycle) as usize;
         let rule = attempt.rule() as usize;
         self.slots[ahead].put(rule, attempt);
@@ -485,16 +485,6 @@ impl KeptBoard {
     }
 }
 
-// Whether the walk is at the node of this number.
-fn is_at(number: u32, at: Next) -> bool
-    ensures { result ≡ is_at number at }
-{
-    match at {
-        Next::Node(to) => number == to,
-        Next::End => false,
-    }
-}
-
 // Room for that many rows of the design.
 fn room(alloc: Global, design: &Design, count: usize) -> Result<Vec<Blank>, NoMemory>
     ensures blank { IfOk result (λ blanks. All (IsBlank design.now) blanks.items) }
@@ -516,22 +506,6 @@ fn empty_slots(alloc: Global, rules: usize, cycles: usize) -> Result<Vec<Waiting
         slots.push_reserved(Waiting::new(alloc, rules)?);
     }
     Ok(slots)
-}
-
-// Any stimulus has values of its widths in every cycle.
-fn always_fits(alloc: Global, stimulus: &Stimulus)
-    ensures { AlwaysFits stimulus.now }
-{
-    let _ = stimulus.agrees(0, &Inputs::new(alloc));
-}
-
-// What any attempt is: a trace of a rule that its design has.
-pub(crate) fn is_attempt(attempt: &Attempt)
-    ensures { IsAttempt attempt.now }
-{
-    let _rule = attempt.rule();
-    let _inputs = attempt.inputs();
-    let _events = attempt.events();
 }
 
 // The answer to the attempt at the head's rule.

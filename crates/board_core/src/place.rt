@@ -1,12 +1,11 @@
 //! Engines: where a board is in the walk of its current cycle.
 
-ghost use Rattle.std.specs.Prelude.{◌≡◌, ◌<◌, ℕ, List, [], ◌∷◌, ◌++◌, length, slice_index_or, IfOk, false, true};
-ghost use Rattle.typed_core.specs.Alone.{after, after_one};
-ghost use Rattle.typed_core.specs.Fits.{EventsFit};
+ghost use Rattle.std.specs.Prelude.{◌≡◌, ℕ, List, [], ◌∷◌, ◌++◌, slice_index_or, IfOk, false, true};
 ghost use Rattle.typed_core.specs.Widths.{HaveWidths, register_widths};
 ghost use Rattle.typed_core.specs.declared.design.Parts.{Parts};
 ghost use Rattle.one_rule.specs.Cycle.{begin, join};
-ghost use Rattle.one_rule.specs.Walk.{Walk, root, start};
+ghost use Rattle.one_rule.specs.Walk.{Walk, start};
+ghost use Rattle.typed_core.specs.Continuations.{root};
 ghost use Rattle.one_rule.specs.declared.cycle.State.{State};
 ghost use Rattle.attempt_log.specs.Verdict.{verdict};
 ghost use Rattle.board_core.specs.Board.{Board, judged};
@@ -17,7 +16,7 @@ use attempt_log::{Attempt, Past, Verdict, verdict};
 use kw_bits::NoMemory;
 use one_rule::Regs;
 use std::alloc::Global;
-use typed_core::{Design, Event, Events, Next, Node};
+use typed_core::{Design, Next, Node, apply};
 
 // Where the walk of a cycle is: the head, the registers, the rules that fired so far with what clashes with them, and
 // the rules that are settled.
@@ -39,7 +38,7 @@ impl Place {
     {
         let rules = design.rules.len();
         Ok(Place {
-            at: root(design.nodes.as_slice()),
+            at: design.root(),
             regs,
             fired: Vec::from_elem(alloc, false, rules)?,
             settled: Vec::from_elem(alloc, false, rules)?,
@@ -77,7 +76,7 @@ impl Place {
             → IsAt attempt.now.design self.new (record { state = join walk.state node.now.rule attempt.now.run.events; at = node.now.yes }) (done ++ node.now.rule ∷ []) }
     {
         let rule = node.rule as usize;
-        apply(attempt.design(), attempt.events(), &mut self.regs);
+        apply(&mut self.regs, attempt.events());
         self.past.take(attempt);
         self.fired[rule] = true;
         self.settled[rule] = true;
@@ -102,39 +101,9 @@ impl Place {
         ensures at { (walk : Walk State) (done : List ℕ) → IsAt design.now self.old walk done
             → IsAt design.now self.new (start design.now.nodes (begin walk.state.regs)) [] }
     {
-        self.at = root(design.nodes.as_slice());
+        self.at = design.root();
         self.fired.fill(false);
         self.settled.fill(false);
         self.past.clear();
-    }
-}
-
-fn root(nodes: &[Node]) -> Next
-    ensures { result ≡ root nodes.now }
-{
-    if nodes.is_empty() {
-        Next::End
-    } else {
-        Next::Node(0)
-    }
-}
-
-// Gives each register that was written the value of its last write.
-fn apply(design: &Design, events: &Events, regs: &mut Regs)
-    requires events { EventsFit (register_widths design.now) events.now }
-    requires registers { HaveWidths (register_widths design.now) regs.old }
-    ensures { regs.new ≡ after events.now regs.old }
-{
-    for event in events.as_slice() {
-        apply_one(event, regs);
-    }
-}
-
-fn apply_one(event: &Event, regs: &mut Regs)
-    requires { event.now.access.register < length regs.old }
-    ensures { regs.new ≡ after_one regs.old event.now }
-{
-    if event.access.write {
-        regs.set(event.access.register as usize, event.value);
     }
 }

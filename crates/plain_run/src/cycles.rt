@@ -8,7 +8,7 @@ ghost use Rattle.one_rule.specs.Externs.{kept};
 ghost use Rattle.one_rule.specs.Rows.{RowFits};
 ghost use Rattle.plain_run.specs.inner.Walking.{AreEmpty};
 
-use crate::walk::{Walking, root, walk};
+use crate::walk::{Walking, walk};
 use kw_bits::NoMemory;
 use one_rule::{Externs, Inputs, Regs, Row, opening};
 use rule_log::Log;
@@ -77,6 +77,7 @@ pub(crate) fn next_row(
     ensures fits { IfOk result (λ next. RowFits design.now next.row) }
     ensures logs { IfOk result (λ next. AreEmpty design.now next.logs) }
 {
+    design.recall();
     let Row {
         regs: mut after,
         fired,
@@ -84,7 +85,7 @@ pub(crate) fn next_row(
     let mut walking = Walking {
         sched: logs.sched,
         fired,
-        at: root(design.nodes.as_slice()),
+        at: design.root(),
     };
     let rule = walk(design, externs, inputs, regs, &mut walking, logs.rule)?;
     let Walking {

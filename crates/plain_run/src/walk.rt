@@ -9,7 +9,8 @@ ghost use Rattle.typed_core.specs.declared.design.Parts.{Parts};
 ghost use Rattle.typed_core.specs.declared.outcome.Stopped.{Stopped};
 ghost use Rattle.one_rule.specs.Externs.{kept};
 ghost use Rattle.one_rule.specs.PortRun.{PortState, merge, port_fire, port_walk};
-ghost use Rattle.one_rule.specs.Walk.{goes_on, is_at, pass, root};
+ghost use Rattle.one_rule.specs.Walk.{goes_on, pass};
+ghost use Rattle.typed_core.specs.Continuations.{is_at, root};
 ghost use Rattle.rule_log.specs.StandsFor.{StandsFor, WritesFollow, registers};
 ghost use Rattle.action_interp.specs.Runs.{end_of};
 ghost use Rattle.plain_run.specs.inner.Walking.{IsAt, IsEmpty, Stands, begin};
@@ -54,25 +55,6 @@ pub(crate) fn walk(
     Ok(log)
 }
 
-pub(crate) fn root(nodes: &[Node]) -> Next
-    ensures { result ≡ root nodes.now }
-{
-    if nodes.is_empty() {
-        Next::End
-    } else {
-        Next::Node(0)
-    }
-}
-
-fn is_at(number: usize, at: Next) -> bool
-    ensures { result ≡ is_at number at }
-{
-    match at {
-        Next::Node(to) => number == to as usize,
-        Next::End => false,
-    }
-}
-
 // Visits the node of this number if the walk is at it.
 fn pass(
     design: &Design,
@@ -94,7 +76,7 @@ fn pass(
         → IsAt design.now walking.new (pass (port_fire design.now inputs.now regs.now) number node.now (record { state = state; at = walking.old.at }))) }
     ensures log { IfOk result (λ log. IsEmpty design.now log.value) }
 {
-    if is_at(number, walking.at) {
+    if walking.at.is_at(number) {
         visit(design, externs, inputs, regs, node, walking, log)
     } else {
         Ok(log)

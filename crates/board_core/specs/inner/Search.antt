@@ -2,7 +2,7 @@
 -- or that many are left to go past.
 use Rattle.std.specs.Prelude.{◌≡◌, ℕ, ◌+◌, ◌<◌, Bool, not, ◌==◌, ◌&&◌, List, length, Some, slice_get}
 use Rattle.typed_core.specs.declared.design.Rule.{Rule}
-use Rattle.one_rule.specs.Walk.{is_at}
+use Rattle.typed_core.specs.Continuations.{is_at}
 use Rattle.board_core.specs.Board.{Board}
 use Rattle.board_core.specs.Kept.{Kept, StandsFor}
 use Rattle.board_core.specs.inner.Counts.{comes_open}

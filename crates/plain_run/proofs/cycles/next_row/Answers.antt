@@ -23,7 +23,7 @@ returns-clause-cycle c =
     let design = c.args.design.now in
     let regs = c.args.regs.now in
     let inputs = c.args.inputs.now in
-    let valid : IsValid design = subst IsValid c.design.view_is c.design.invariant in
+    let valid : IsValid design = c.recall.ensures in
     let end : PortState = port_walk design inputs regs in
     let stands = c.in_ok-rule.ensures.walk in
     let first : c.in_ok-after.field-0.regs ≡ regs = ap (λ (row : Row). row.regs) c.in_ok-after.ensures.row ∙ c.in_ok-from_slice.ensures ∙ c.as_slice.ensures in
@@ -34,5 +34,5 @@ returns-clause-cycle c =
 pub returns-clause-fits : goal.returns-clause-fits
 returns-clause-fits c =
     let design = c.args.design.now in
-    let valid : IsValid design = subst IsValid c.design.view_is c.design.invariant in
+    let valid : IsValid design = c.recall.ensures in
     subst (λ (row : Row). RowFits design row) (sym (returns-clause-cycle c)) (cycle_fits design valid c.args.inputs.now c.args.regs.now c.requires.inputs c.requires.registers)

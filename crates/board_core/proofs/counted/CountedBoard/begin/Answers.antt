@@ -13,6 +13,6 @@ invariant_of-result c =
     let same : c.in_ok-kept.kept.opening ≡ o = c.in_ok-kept.ensures.opening in
     let nodes : c.len.result ≡ length o.design.nodes = c.len.ensures ∙ ap (λ (d : Parts). length d.nodes) (c.behind-design.view_is ∙ c.deref-2.ensures) in (
       subst (λ (d : Parts). HasWeights d.nodes (length d.rules) c.in_ok-weights.weights.items) (c.deref.ensures ∙ sym (ap (λ (x : Opening). x.design) same)) c.in_ok-weights.ensures,
-      begun_counts c.in_ok-kept.kept o same c.is_plain.ensures.opening c.in_ok-kept.ensures.opened c.in_ok-counts.counts.items
+      begun_counts c.in_ok-kept.kept o same c.recall.ensures.opening c.in_ok-kept.ensures.opened c.in_ok-counts.counts.items
           (c.in_ok-counts.ensures.items_if_clones_equal (λ y e. e) ∙ ap (λ (n : ℕ). replicate o.window n) nodes),
     )

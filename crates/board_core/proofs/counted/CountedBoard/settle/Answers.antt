@@ -10,21 +10,21 @@ use Rattle.board_core.proofs.counted.CountedBoard.settle.Goals as goal
 
 pub index-requires : goal.index-requires
 index-requires c =
-    let p = c.is_plain.ensures in
+    let p = c.recall.ensures in
     let step = c.settle-answer.ensures.step p.board p.stands in
     let g = on_stale c.self.inside.kept.opening p.board p.opening p.plain c.settle-answer.result step.0 c.in-Some.rule (sym c.stale_rule.ensures ∙ c.in-Some.is) in
     omega (arith, g.within, c.self.invariant.0.count, c.self.inside.weights.ok)
 
 pub index_mut-requires-in-Some : goal.index_mut-requires-in-Some
 index_mut-requires-in-Some c =
-    let p = c.is_plain.ensures in
+    let p = c.recall.ensures in
     omega (arith, p.window, c.self.invariant.1.count, c.self.inside.counts.ok)
 
 pub overflow_add-index_mut : goal.overflow_add-index_mut
 overflow_add-index_mut c =
     let kept = c.self.inside.kept in
     let new = c.settle-answer.new.self in
-    let p = c.is_plain.ensures in
+    let p = c.recall.ensures in
     let step = c.settle-answer.ensures.step p.board p.stands in
     let rule = c.in-Some.rule in
     let g = on_stale kept.opening p.board p.opening p.plain c.settle-answer.result step.0 rule (sym c.stale_rule.ensures ∙ c.in-Some.is) in
@@ -41,7 +41,7 @@ invariant_of-self c =
     let kept = c.self.inside.kept in
     let new = c.settle-answer.new.self in
     let same = c.settle-answer.ensures.opening in
-    let p = c.is_plain.ensures in
+    let p = c.recall.ensures in
     let step = c.settle-answer.ensures.step p.board p.stands in
     let has = c.self.invariant.1 in
     let after = subst (StandsFor new) (on_closing kept.opening p.board p.opening p.plain c.settle-answer.result step.0 (sym c.is_closing.ensures ∙ c.if-is_closing.true)) step.1 in (
@@ -57,7 +57,7 @@ invariant_of-self-in-Some c =
     let kept = c.self.inside.kept in
     let new = c.settle-answer.new.self in
     let same = c.settle-answer.ensures.opening in
-    let p = c.is_plain.ensures in
+    let p = c.recall.ensures in
     let step = c.settle-answer.ensures.step p.board p.stands in
     let rule = c.in-Some.rule in
     let g = on_stale kept.opening p.board p.opening p.plain c.settle-answer.result step.0 rule (sym c.stale_rule.ensures ∙ c.in-Some.is) in
@@ -77,7 +77,7 @@ invariant_of-self-in_default c =
     let kept = c.self.inside.kept in
     let new = c.settle-answer.new.self in
     let same = c.settle-answer.ensures.opening in
-    let p = c.is_plain.ensures in
+    let p = c.recall.ensures in
     let step = c.settle-answer.ensures.step p.board p.stands in (
       subst (λ (o : Opening). HasWeights o.design.nodes (length o.design.rules) c.self.inside.weights.items) (sym same) c.self.invariant.0,
       counts_on kept new same p.opening p.board (settle kept.opening p.board).board p.stands step.1 c.self.inside.counts.items c.self.invariant.1

@@ -13,7 +13,7 @@ index-requires c =
     let a = c.args.attempt in
     let rules = length-same a.design.rules c.args.self.now.opening.design.rules c.requires.design.rules in
     let same = ap (λ (k : Kept). length k.opening.design.rules) c.self.view_is in
-    omega (arith, c.is_attempt.ensures.rule, c.rule-rule.ensures.rule, rules, same, c.self.invariant.0.count, c.self.inside.weights.ok)
+    omega (arith, c.recall.ensures.rule, c.rule-rule.ensures.rule, rules, same, c.self.invariant.0.count, c.self.inside.weights.ok)
 
 pub overflow_sub-index_mut : goal.overflow_sub-index_mut
 overflow_sub-index_mut c =
@@ -21,12 +21,12 @@ overflow_sub-index_mut c =
     let kept = c.self.inside.kept in
     let rules = length-same a.design.rules c.args.self.now.opening.design.rules c.requires.design.rules in
     let same = ap (λ (k : Kept). length k.opening.design.rules) c.self.view_is in
-    let rule : a.rule < length kept.opening.design.rules = omega (arith, c.is_attempt.ensures.rule, rules, same) in
+    let rule : a.rule < length kept.opening.design.rules = omega (arith, c.recall.ensures.rule, rules, same) in
     let has = c.self.invariant.0 in
     let weight' : c.index.result.now ≡ weight kept.opening.design.nodes a.rule =
     c.index.ensures ∙ get_or_default c.self.inside.weights.items c.rule-rule.result c.index.result.now 0 (omega (arith, rule, c.rule-rule.ensures.rule, has.count))
     ∙ ap (λ (r : ℕ). slice_index_or c.self.inside.weights.items r 0) c.rule-rule.ensures.rule ∙ has.each a.rule rule in
-    let p = c.is_plain.ensures in
+    let p = c.recall-2.ensures in
     let step = c.submit-answer.ensures.step p.board p.stands in
     let t = taken_at kept c.submit-answer.new.self p.board a c.submit-answer.result p.stands (sym c.is_stored.ensures ∙ c.if-is_stored.true) step.0 step.1 in
     let k = c.cycle-cycle.result - c.cycle-now.result in
@@ -43,12 +43,12 @@ invariant_of-self c =
     let new = c.submit-answer.new.self in
     let rules = length-same a.design.rules c.args.self.now.opening.design.rules c.requires.design.rules in
     let same = ap (λ (k : Kept). length k.opening.design.rules) c.self.view_is in
-    let rule : a.rule < length kept.opening.design.rules = omega (arith, c.is_attempt.ensures.rule, rules, same) in
+    let rule : a.rule < length kept.opening.design.rules = omega (arith, c.recall.ensures.rule, rules, same) in
     let has = c.self.invariant.0 in
     let weight' : c.index.result.now ≡ weight kept.opening.design.nodes a.rule =
     c.index.ensures ∙ get_or_default c.self.inside.weights.items c.rule-rule.result c.index.result.now 0 (omega (arith, rule, c.rule-rule.ensures.rule, has.count))
     ∙ ap (λ (r : ℕ). slice_index_or c.self.inside.weights.items r 0) c.rule-rule.ensures.rule ∙ has.each a.rule rule in
-    let p = c.is_plain.ensures in
+    let p = c.recall-2.ensures in
     let step = c.submit-answer.ensures.step p.board p.stands in
     let t = taken_at kept new p.board a c.submit-answer.result p.stands (sym c.is_stored.ensures ∙ c.if-is_stored.true) step.0 step.1 in
     let k = c.cycle-cycle.result - c.cycle-now.result in

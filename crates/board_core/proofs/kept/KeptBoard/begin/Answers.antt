@@ -24,7 +24,7 @@ invariant_of-result c =
     let a = c.args in
     let o : Opening = record { design = arc_value a.design; stimulus = arc_value a.stimulus; regs = a.regs; from = a.from; to = a.to; window = a.window } in
     let valid : IsValid o.design = subst IsValid (c.behind-design.view_is ∙ c.deref-5.ensures) c.behind-design.invariant in
-    let always : AlwaysFits o.stimulus = subst AlwaysFits c.deref.ensures c.always_fits.ensures in
+    let always : AlwaysFits o.stimulus = subst AlwaysFits c.deref.ensures c.recall.ensures in
     let sure : IsOpening o = record { design = valid; stimulus = c.requires.stimulus; always = always; registers = c.requires.registers; order = c.requires.order } in
     let place = c.in_ok-new.field-0 in
     let at : IsAt o.design place (start o.design.nodes (begin o.regs)) [] = subst (λ (d : Parts). IsAt d place (start d.nodes (begin o.regs)) []) c.deref-3.ensures c.in_ok-new.ensures.at in
@@ -50,7 +50,7 @@ returns-clause-opened c =
     let a = c.args in
     let o : Opening = record { design = arc_value a.design; stimulus = arc_value a.stimulus; regs = a.regs; from = a.from; to = a.to; window = a.window } in
     let valid : IsValid o.design = subst IsValid (c.behind-design.view_is ∙ c.deref-5.ensures) c.behind-design.invariant in
-    let always : AlwaysFits o.stimulus = subst AlwaysFits c.deref.ensures c.always_fits.ensures in
+    let always : AlwaysFits o.stimulus = subst AlwaysFits c.deref.ensures c.recall.ensures in
     let sure : IsOpening o = record { design = valid; stimulus = c.requires.stimulus; always = always; registers = c.requires.registers; order = c.requires.order } in
     let place = c.in_ok-new.field-0 in
     let at : IsAt o.design place (start o.design.nodes (begin o.regs)) [] = subst (λ (d : Parts). IsAt d place (start d.nodes (begin o.regs)) []) c.deref-3.ensures c.in_ok-new.ensures.at in

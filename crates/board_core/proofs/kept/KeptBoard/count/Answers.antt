@@ -10,7 +10,7 @@ use Rattle.board_core.proofs.kept.KeptBoard.count.Goals as goal
 pub loop-ahead-init : goal.loop-ahead-init
 loop-ahead-init c =
     let o = c.args.self.now.opening in
-    let p = c.is_plain.ensures in
+    let p = c.recall.ensures in
     record {
       few = omega (arith, c.count_head-count.ensures p.board p.stands, few_first o p.board);
       counts = λ board st. c.count_head-count.ensures board st ∙ ap length (sym (append-nil (first o board)));
@@ -21,7 +21,7 @@ loop-ahead-preserved c =
     let o = c.args.self.now.opening in
     let n = c.loop-ahead.ahead in
     let h = c.loop-ahead.invariant in
-    let p = c.is_plain.ensures in
+    let p = c.recall.ensures in
     let now = c.self.inside.cycle + n in
     record {
       few = omega (arith, h.few, c.count_further-count.ensures p.board p.stands, few_further o p.board now, p.opening.design.few_nodes);
@@ -36,6 +36,6 @@ loop-ahead-preserved c =
 pub overflow_add-count : goal.overflow_add-count
 overflow_add-count c =
     let o = c.args.self.now.opening in
-    let p = c.is_plain.ensures in
+    let p = c.recall.ensures in
     let now = c.self.inside.cycle + c.loop-ahead.ahead in
     omega (arith, c.loop-ahead.invariant.few, c.count_further-count.ensures p.board p.stands, few_further o p.board now, p.opening.design.few_nodes, c.loop-ahead-test.true, c.min-cycles.ensures, c.self.invariant.few_ahead)

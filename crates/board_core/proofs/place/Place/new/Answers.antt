@@ -1,6 +1,5 @@
 use Rattle.std.proofs.Common.{◌≡◌, ℕ, length, false, replicate, refl, ap, ◌∙◌}
 use Rattle.typed_core.specs.declared.design.Parts.{Parts}
-use Rattle.one_rule.specs.Walk.{root}
 use Rattle.board_core.proofs.Flags.{flags_none}
 use Rattle.board_core.proofs.place.Place.new.Goals as goal
 
@@ -9,7 +8,7 @@ returns-clause-at c =
     let n = length c.args.design.now.rules in
     let rules' : c.len-rules.result ≡ n = c.len-rules.ensures ∙ ap (λ (d : Parts). length d.rules) c.design.view_is in
     record {
-      at = c.root.ensures ∙ ap root c.as_slice.ensures ∙ ap (λ (d : Parts). root d.nodes) c.design.view_is;
+      at = c.root.ensures;
       registers = refl;
       fired = c.in_ok-from_elem.ensures.items_if_clones_equal (λ y e. e) ∙ ap (λ (k : ℕ). replicate k false) rules' ∙ flags_none n;
       past = c.in_ok-new.ensures.stands;

@@ -1,6 +1,6 @@
 use Rattle.std.proofs.Common.{subst}
 use Rattle.board_core.specs.Kept.{AtPlain}
-use Rattle.board_core.proofs.kept.KeptBoard.is_plain.Goals as goal
+use Rattle.board_core.proofs.kept.KeptBoard.recall.Goals as goal
 
 pub returns : goal.returns
 returns c =
