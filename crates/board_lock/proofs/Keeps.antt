@@ -23,7 +23,7 @@ use Rattle.board_lock.specs.declared.view.Stage.{Stage}
 use Rattle.board_lock.specs.declared.view.Stage.TheVariants.{Outside, Waiting, Holding}
 use Rattle.board_lock.proofs.Sums.{total-set, term_le, terms_le, total-zero, total-le}
 
-abbrev St : Type 0
+abbrev pub St : Type 0
 St = State (Option Kept) View
 
 pub lies : (views : List View) (id : ℕ) (v : View) → get_elem? views id ≡ some v → id < length views

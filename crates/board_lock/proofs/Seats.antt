@@ -20,10 +20,7 @@ use Rattle.board_lock.specs.declared.view.Part.{Part}
 use Rattle.board_lock.specs.declared.view.Done.{Done}
 use Rattle.board_lock.proofs.Sums.{total-set, terms_le, total-zero, total-append}
 use Rattle.board_lock.proofs.Own.{begins, seen_more, whole}
-use Rattle.board_lock.proofs.Keeps.{unmoved, fits_set, was_outside, lies, yes, no, other_number}
-
-abbrev St : Type 0
-St = State (Option Kept) View
+use Rattle.board_lock.proofs.Keeps.{unmoved, fits_set, was_outside, lies, yes, no, other_number, St}
 
 snoc_all : (P : View → Type 0) (views : List View) (id : ℕ) (w new : View) → P w → P new → ((j : ℕ) (v : View) → j ≢ id → get_elem? views j ≡ some v → P v) → (j : ℕ) (v : View) → get_elem? (set views id w ++ new ∷ []) j ≡ some v → P v
 snoc_all P views id w new mine its others j v e = ⊎_elim (fits_set P views id w mine others j v) (λ (t : new ≡ v). subst P t its) (at_snoc (set views id w) new v j e)

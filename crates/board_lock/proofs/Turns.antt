@@ -8,9 +8,7 @@ use Rattle.board_lock.specs.Plays.{at_stage, looked, HoldsBoard, Waits, Served}
 use Rattle.board_lock.specs.declared.view.View.{View}
 use Rattle.board_lock.specs.declared.view.Stage.TheVariants.{Holding}
 use Rattle.board_lock.proofs.Ends.{some_is}
-
-abbrev pub Sat : Type 0
-Sat = Me (Option Kept) View
+use Rattle.board_lock.proofs.Calls.{Sat}
 
 pub served : (m o : Sat) (word found : ℕ) → Waits m word m → looked (step 1 1 0 0 none) m found o → found ≡ word → Served m o
 served m o word found w l turn =

@@ -12,7 +12,7 @@ ghost use Rattle.board_core.specs.History.{IsLegal, board_after};
 ghost use Rattle.board_lock.specs.Histories.{IsPast, StartsWith};
 ghost use Rattle.board_lock.specs.Plays.{IsOutside, IsWorker, Made, Mine, OwnSince};
 
-use crate::call::{Receipt, is_attempt};
+use crate::call::Receipt;
 use crate::lock::{Lock, Place};
 use attempt_log::{Attempt, BoardSeat, Counts, JobAnswer, Settled, Submitted};
 use kw_bits::NoMemory;
@@ -158,7 +158,7 @@ impl<'a, R: Wait> LockSeat<'a, R> {
         ensures number { self.new.number ≡ self.old.number }
         ensures kept { self.new.counts ≡ self.old.counts }
     {
-        is_attempt(&attempt);
+        attempt.recall();
         let said = Snapshot::of(&attempt);
         let mut board = self.lock.enter(self.rt, &mut self.place);
         let answer = board.submit(attempt);

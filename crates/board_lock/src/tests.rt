@@ -370,10 +370,10 @@ fn expect_first_cycle(rt: &impl Abort, entries: &[Entry]) {
                 worker,
                 cycle,
                 rule,
+                answer,
+                outcome,
                 inputs,
                 events,
-                outcome,
-                answer,
             } => {
                 assert_eq!(rt; (number, *worker, *cycle, *rule), (0, 0, 1, 0));
                 assert_eq!(rt; inputs.len(), 0);

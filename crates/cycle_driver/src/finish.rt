@@ -5,7 +5,7 @@ ghost use Rattle.one_rule.specs.Cycle.{system_of};
 ghost use Rattle.one_rule.specs.Rows.{RowsFit};
 ghost use Rattle.one_rule.specs.Run.{run};
 ghost use Rattle.one_rule.specs.Stimulus.{inputs_of};
-ghost use Rattle.board_core.specs.Kept.{AtPlain, left};
+ghost use Rattle.board_core.specs.Kept.{left};
 ghost use Rattle.cycle_driver.specs.inner.Heads.{AwaitsHead};
 
 use attempt_log::{JobAnswer, Settled, attempt};
@@ -39,7 +39,7 @@ fn goes_on(alloc: Global, core: &mut Core) -> Result<bool, NoMemory>
     ensures less { IfOk result (λ more. more ≡ true → left core.new < left core.old) }
     ensures finished { IfOk result (λ more. more ≡ false → core.new.opening.to < core.new.cycle) }
 {
-    is_plain(core);
+    core.recall();
     match core.settle() {
         Settled::Committed { .. } | Settled::Skipped { .. } | Settled::CycleClosed { .. } => {
             Ok(true)
@@ -50,13 +50,6 @@ fn goes_on(alloc: Global, core: &mut Core) -> Result<bool, NoMemory>
         }
         Settled::Finished => Ok(false),
     }
-}
-
-// A core is at a plain position, by its type.
-fn is_plain(core: &Core)
-    ensures { AtPlain core.now }
-{
-    let _rows = core.rows();
 }
 
 // Does the job of the head, submits its attempt and settles it.

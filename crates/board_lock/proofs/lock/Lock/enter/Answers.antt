@@ -1,7 +1,8 @@
 use Rattle.std.proofs.Common.{rules, sym, subst}
 use Rattle.board_core.specs.Kept.{Kept}
 use Rattle.board_lock.specs.Plays.{HoldsBoard, Served}
-use Rattle.board_lock.proofs.Turns.{Sat, holds_board, slot_out}
+use Rattle.board_lock.proofs.Calls.{Sat}
+use Rattle.board_lock.proofs.Turns.{holds_board, slot_out}
 use Rattle.board_lock.proofs.lock.Lock.enter.Goals as goal
 
 pub exchange-requires : goal.exchange-requires

@@ -3,7 +3,8 @@ use mathlib.Core.Option.{none}
 use Rattle.atomic_table.specs.Table.{step}
 use Rattle.board_lock.specs.Plays.{looked}
 use Rattle.board_lock.proofs.Keeps.{looks}
-use Rattle.board_lock.proofs.Turns.{Sat, served}
+use Rattle.board_lock.proofs.Calls.{Sat}
+use Rattle.board_lock.proofs.Turns.{served}
 use Rattle.board_lock.proofs.lock.Lock.wait_turn.Goals as goal
 
 pub load-serving-requires : goal.load-serving-requires

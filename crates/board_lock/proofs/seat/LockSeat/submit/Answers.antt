@@ -23,7 +23,7 @@ add-place-requires-clause-can g c =
     let m = c.args.self.now.place.me in
     let n = c.enter-board.new.place.me in
     let h = subst (λ (k : Kept). HoldsBoard m k n) (sym c.deref_mut.ensures.value) c.enter-board.ensures.holds in
-    let t = took_submit m.0.opened h.0 c.deref_mut.result.now c.submit-answer.new.self n.0.part.worker c.args.attempt c.of-said.result.value c.submit-answer.result h.1 h.2.2 c.is_attempt.ensures c.requires c.submit-answer.ensures.step c.submit-answer.ensures.opening c.of-said.ensures in
+    let t = took_submit m.0.opened h.0 c.deref_mut.result.now c.submit-answer.new.self n.0.part.worker c.args.attempt c.of-said.result.value c.submit-answer.result h.1 h.2.2 c.recall.ensures c.requires c.submit-answer.ensures.step c.submit-answer.ensures.opening c.of-said.ensures in
     can_add m n c.deref_mut.result.now _ h t.0 c.args.self.now.working (worker_kept m n c.deref_mut.result.now h)
 
 pub leave-requires-clause-can : goal.leave-requires-clause-can
@@ -31,7 +31,7 @@ leave-requires-clause-can g c =
     let m = c.args.self.now.place.me in
     let n = c.enter-board.new.place.me in
     let h = subst (λ (k : Kept). HoldsBoard m k n) (sym c.deref_mut.ensures.value) c.enter-board.ensures.holds in
-    let t = took_submit m.0.opened h.0 c.deref_mut.result.now c.submit-answer.new.self n.0.part.worker c.args.attempt c.of-said.result.value c.submit-answer.result h.1 h.2.2 c.is_attempt.ensures c.requires c.submit-answer.ensures.step c.submit-answer.ensures.opening c.of-said.ensures in
+    let t = took_submit m.0.opened h.0 c.deref_mut.result.now c.submit-answer.new.self n.0.part.worker c.args.attempt c.of-said.result.value c.submit-answer.result h.1 h.2.2 c.recall.ensures c.requires c.submit-answer.ensures.step c.submit-answer.ensures.opening c.of-said.ensures in
     can_give m n c.add-place.new.place.me c.deref_mut.result.now c.add-place.result c.submit-answer.new.self _ h c.add-place.ensures.added t.1
 
 pub returns-clause-made : goal.returns-clause-made
@@ -39,7 +39,7 @@ returns-clause-made g c =
     let m = c.args.self.now.place.me in
     let n = c.enter-board.new.place.me in
     let h = subst (λ (k : Kept). HoldsBoard m k n) (sym c.deref_mut.ensures.value) c.enter-board.ensures.holds in
-    let t = took_submit m.0.opened h.0 c.deref_mut.result.now c.submit-answer.new.self n.0.part.worker c.args.attempt c.of-said.result.value c.submit-answer.result h.1 h.2.2 c.is_attempt.ensures c.requires c.submit-answer.ensures.step c.submit-answer.ensures.opening c.of-said.ensures in
+    let t = took_submit m.0.opened h.0 c.deref_mut.result.now c.submit-answer.new.self n.0.part.worker c.args.attempt c.of-said.result.value c.submit-answer.result h.1 h.2.2 c.recall.ensures c.requires c.submit-answer.ensures.step c.submit-answer.ensures.opening c.of-said.ensures in
     let of = worker_kept m n c.deref_mut.result.now h in
     let q = c.leave.new.place.me in
     subst (λ (e : Entry). Made m e q) (λ i. submit_entry ((of ∙ c.args.self.now.numbered) i) (c.of-said.ensures i) c.submit-answer.result)
@@ -57,7 +57,7 @@ invariant_of-self g c =
     let m = c.args.self.now.place.me in
     let n = c.enter-board.new.place.me in
     let h = subst (λ (k : Kept). HoldsBoard m k n) (sym c.deref_mut.ensures.value) c.enter-board.ensures.holds in
-    let t = took_submit m.0.opened h.0 c.deref_mut.result.now c.submit-answer.new.self n.0.part.worker c.args.attempt c.of-said.result.value c.submit-answer.result h.1 h.2.2 c.is_attempt.ensures c.requires c.submit-answer.ensures.step c.submit-answer.ensures.opening c.of-said.ensures in
+    let t = took_submit m.0.opened h.0 c.deref_mut.result.now c.submit-answer.new.self n.0.part.worker c.args.attempt c.of-said.result.value c.submit-answer.result h.1 h.2.2 c.recall.ensures c.requires c.submit-answer.ensures.step c.submit-answer.ensures.opening c.of-said.ensures in
     let of = worker_kept m n c.deref_mut.result.now h in
     let q = c.leave.new.place.me in
     let done = made m n c.add-place.new.place.me q c.deref_mut.result.now c.add-place.result _ h t.0 c.add-place.ensures.added c.leave.ensures.gave c.args.self.now.working.0 of in
