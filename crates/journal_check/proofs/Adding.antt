@@ -11,13 +11,12 @@ use Rattle.kw_base.specs.declared.fault.Refusal.{Refusal}
 use Rattle.kw_base.specs.declared.fault.Refusal.TheVariants as refusals
 use Rattle.typed_core.specs.declared.design.Parts.{Parts}
 use Rattle.one_rule.specs.Stimulus.{InputVectors}
-use Rattle.stim_report.specs.Cuts.{lines_of}
+use Rattle.kw_base.specs.Texts.{lines_of}
 use Rattle.journal_check.specs.Fitting.{IsSmall, LineFits}
 use Rattle.journal_check.specs.Journals.{lines_in, lines_of_batch, numbers_of_batch}
 use Rattle.journal_check.specs.Printing.{ended, line_text, text_of}
 use Rattle.journal_check.specs.Reading.{AreJournalLines, IsFirstMalformed, IsNumbered, MayFollow, NoneFollows, malformed_at, number_after, numbers_from}
-use Rattle.journal_check.specs.inner.Steps.{Adds, HasRead, IsMalformed, refusal_of}
-use Rattle.journal_check.specs.declared.flaw.Flaw.TheVariants as flaws
+use Rattle.journal_check.specs.inner.Steps.{Adds, HasRead, IsMalformed}
 use Rattle.journal_check.specs.declared.journal.Batch.{Batch}
 use Rattle.journal_check.specs.declared.journal.Journal.{Journal}
 use Rattle.journal_check.specs.declared.line.JournalLine.{JournalLine}
@@ -116,7 +115,7 @@ passes (refusals.Fault fault) P Q h f = f fault h
 passes refusals.NoMemory P Q h f = tt
 
 -- no text begins so
-pub no_lines : (design : Parts) (stimulus : InputVectors) (text : List ℕ) (number : ℕ) (refusal : Refusal) → refusal ≡ refusal_of flaws.Malformed number → lines_of text ≡ []
+pub no_lines : (design : Parts) (stimulus : InputVectors) (text : List ℕ) (number : ℕ) (refusal : Refusal) → refusal ≡ refusals.Fault (malformed_at number) → lines_of text ≡ []
     → IfFault {X = ℕ} (Err refusal) (λ (fault : Fault). (fault ≡ malformed_at number) × NoneFollows design stimulus None (lines_of text))
 no_lines design stimulus text number refusal is none =
     subst (λ (r : Refusal). IfFault {X = ℕ} (Err r) (λ (fault : Fault). (fault ≡ malformed_at number) × NoneFollows design stimulus None (lines_of text))) (sym is)

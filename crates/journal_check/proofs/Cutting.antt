@@ -29,7 +29,8 @@ use Rattle.one_rule.specs.Stimulus.{InputVectors}
 use Rattle.journal_check.specs.Fitting.{CauseFits, RegisterEventFits, IsSmall, LineFits, OutcomeFits, SettledFits, StaleFits}
 use Rattle.journal_check.specs.Printing.{access_text, cause_tokens, event_text, joined_tokens, line_text, line_tokens, name_of_register, name_of_rule, outcome_tokens, register_name, settled_tokens, spaced, stale_tokens, taken_text, value_text}
 use Rattle.journal_check.specs.Reading.{HasPlainNames}
-use Rattle.journal_check.specs.Tokens.{is_space, register_names, rule_names}
+use Rattle.journal_check.specs.Tokens.{register_names, rule_names}
+use Rattle.kw_base.specs.Texts.{is_space}
 use Rattle.journal_check.specs.inner.Tokens.{tokens_of}
 use Rattle.journal_check.specs.declared.line.JournalLine.{JournalLine}
 use Rattle.journal_check.specs.declared.line.JournalLine.TheVariants as line

@@ -9,6 +9,7 @@ use Rattle.std.proofs.lemmas.Nat.{div-add-mod', pow-add}
 use Rattle.std.proofs.lemmas.Fmt.{decimal_by_steps}
 use Rattle.std.proofs.lemmas.List.Sums.{fold-append}
 use Rattle.stim_report.specs.Report.{hex, hex_digit, hex_digits}
+use Rattle.stim_report.proofs.Hex.{pow_sixteen}
 use Rattle.journal_check.specs.Numbers.{hex_read, number_read, value_read, with_decimal, with_hex}
 
 -- a digit is the low bits of its byte
@@ -63,12 +64,6 @@ with_hex-digit : (v d : ℕ) → d < 16 → v * 16 + d < 2 ^ 128 → with_hex v 
 with_hex-digit v d h room =
     let front : v * 16 % 2 ^ 128 ≡ v * 16 = mod-eq_of_lt (omega (arith, room)) in
     ap₂ (λ (a b : ℕ). (a + b) % 2 ^ 128) front (hex_read-digit d h) ∙ mod-eq_of_lt room
-
-pow_sixteen : (place : ℕ) → 2 ^ (4 * place) ≡ 16 ^ place
-pow_sixteen zero = refl
-pow_sixteen (suc place) =
-    let e : 4 * suc place ≡ 4 + 4 * place = omega arith in
-    ap (λ n. 2 ^ n) e ∙ pow-add 2 4 (4 * place) ∙ ap (λ n. 16 * n) (pow_sixteen place) ∙ sym (omega (arith, pow-suc 16 place))
 
 -- the digits that are left bring the number back
 from_digits : (count n : ℕ) → n < 2 ^ 128 → fold with_hex (n / 16 ^ count) (hex_digits count n) ≡ n

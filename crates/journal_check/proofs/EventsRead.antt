@@ -6,8 +6,9 @@ use Rattle.typed_core.specs.declared.access.Event.{Event}
 use Rattle.typed_core.specs.declared.design.Parts.{Parts}
 use denote.Ref.{Bor}
 use Rattle.journal_check.specs.inner.Tokens.{◌>>=◌, Front, Reads, ReadsFront, event_read, events_at, tokens_left, tokens_of}
-use Rattle.journal_check.specs.declared.flaw.Flaw.{Flaw}
-use Rattle.journal_check.specs.declared.flaw.Flaw.TheVariants as flaws
+use Rattle.kw_bits.specs.declared.failure.Failure.{Failure}
+use Rattle.journal_check.specs.declared.token.Malformed.{Malformed}
+use Rattle.kw_bits.specs.declared.failure.Failure.TheVariants as failures
 
 -- events, and then those of a front
 abbrev pub after_events : List Event → Front (List Event) → Front (List Event)
@@ -67,12 +68,12 @@ event_kept design events rest bytes token behind whole e more so_far is cut test
     ap (λ (all : List Event). after_events all (events_at design (tokens_left behind))) pushed
     ∙ sym (turn design events rest bytes (token ∷ tokens_left behind) whole so_far is cut ∙ at_event design events token (tokens_left behind) e test read)
 
-pub event_flawed : (design : Parts) (events : List Event) (rest : Option (Bor (List ℕ))) (bytes : Bor (List ℕ)) (token : List ℕ) (behind : Option (Bor (List ℕ))) (whole : Front (List Event)) (flaw : Flaw)
+pub event_flawed : (design : Parts) (events : List Event) (rest : Option (Bor (List ℕ))) (bytes : Bor (List ℕ)) (token : List ℕ) (behind : Option (Bor (List ℕ))) (whole : Front (List Event)) (flaw : Failure Malformed)
     → after_events events (events_at design (tokens_left rest)) ≡ whole → rest ≡ Some bytes → tokens_of bytes.now ≡ token ∷ tokens_left behind → bytes_eq token (codes ":") ≡ false
     → Reads {X = Event} (λ event. event) (Err flaw) (event_read design token) → ReadsFront {X = List Event} (Err flaw) whole
-event_flawed design events rest bytes token behind whole flaws.Malformed so_far is cut test none =
+event_flawed design events rest bytes token behind whole (failures.Why malformed) so_far is cut test none =
     turn design events rest bytes (token ∷ tokens_left behind) whole so_far is cut ∙ at_none design events token (tokens_left behind) test none
-event_flawed design events rest bytes token behind whole flaws.NoMemory so_far is cut test none = tt
+event_flawed design events rest bytes token behind whole failures.NoMemory so_far is cut test none = tt
 
 pub none_left : (design : Parts) (events : List Event) (rest : Option (Bor (List ℕ))) (whole : Front (List Event)) → after_events events (events_at design (tokens_left rest)) ≡ whole → rest ≡ None → whole ≡ None
 none_left design events rest whole so_far is = sym so_far ∙ ap (λ (r : Option (Bor (List ℕ))). after_events events (events_at design (tokens_left r))) is

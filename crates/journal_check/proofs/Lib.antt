@@ -11,7 +11,6 @@ pub mod NamesFound
 pub mod OneFault
 pub mod OneJournal
 pub mod OneReading
-pub mod Pieces
 pub mod PrintedLines
 pub mod ReadBack
 pub mod ReadFits

@@ -2,6 +2,7 @@
 use Rattle.std.proofs.Common.{◌≡◌, ℕ, ◌↔◌, Bool, true, false, true≢false, List, Option, Some, None, Err, refl, sym, ap, subst, ◌∙◌}
 use Rattle.kw_base.specs.Fault.{IfFault}
 use Rattle.kw_base.specs.declared.fault.Refusal.{Refusal}
+use Rattle.kw_base.specs.declared.fault.Refusal.TheVariants as refusals
 use Rattle.typed_core.specs.declared.design.Parts.{Parts}
 use Rattle.one_rule.specs.Stimulus.{InputVectors}
 use Rattle.attempt_log.specs.declared.entry.Entry.TheVariants as entry
@@ -10,11 +11,12 @@ use Rattle.attempt_log.specs.declared.entry.Settled.TheVariants as settled
 use Rattle.journal_check.specs.inner.Allowed.{Differs, IsAllowed}
 use Rattle.journal_check.specs.Fitting.{IsSmall, LineFits, SettledFits}
 use Rattle.journal_check.specs.Printing.{line_text}
-use Rattle.journal_check.specs.Reading.{HasPlainNames}
+use Rattle.journal_check.specs.Reading.{HasPlainNames, malformed_at}
 use Rattle.journal_check.specs.inner.Steps.{IsMalformed, NoneIs, refusal_of}
 use Rattle.journal_check.specs.inner.Tokens.{Reads, line_at, tokens_of}
-use Rattle.journal_check.specs.declared.flaw.Flaw.{Flaw}
-use Rattle.journal_check.specs.declared.flaw.Flaw.TheVariants as flaws
+use Rattle.kw_bits.specs.declared.failure.Failure.{Failure}
+use Rattle.journal_check.specs.declared.token.Malformed.{Malformed}
+use Rattle.kw_bits.specs.declared.failure.Failure.TheVariants as failures
 use Rattle.journal_check.specs.declared.line.JournalLine.{JournalLine}
 use Rattle.journal_check.specs.declared.line.JournalLine.TheVariants as line
 use Rattle.journal_check.proofs.OneReading.{text_back}
@@ -38,7 +40,7 @@ fits_allowed design stimulus workers (line.Entry (entry.Settle worker answer)) h
 none_some : {X : Type 0} (x : X) → None ≡ Some x → ⊥
 none_some x h = absurd (cc)
 
-abbrev value_or : {X : Type 0} → X → Option X → X
+abbrev pub value_or : {X : Type 0} → X → Option X → X
 value_or x None = x
 value_or x (Some y) = y
 
@@ -66,16 +68,16 @@ not_printed design stimulus workers text m small read not names l fits is =
     not (ap (line_text design) (only design stimulus workers text m small read names l fits is) ∙ sym is)
 
 -- a line is refused for its form
-pub refused : (design : Parts) (P : JournalLine → Type 0) (text : List ℕ) (number : ℕ) (refusal : Refusal) → refusal ≡ refusal_of flaws.Malformed number → (HasPlainNames design → NoneIs design P text)
+pub refused : (design : Parts) (P : JournalLine → Type 0) (text : List ℕ) (number : ℕ) (refusal : Refusal) → refusal ≡ refusals.Fault (malformed_at number) → (HasPlainNames design → NoneIs design P text)
     → IfFault {X = ℕ} (Err refusal) (IsMalformed design P text number)
 refused design P text number refusal is none = subst (λ (r : Refusal). IfFault {X = ℕ} (Err r) (IsMalformed design P text number)) (sym is) (refl, none)
 
 -- by what the reader of tokens returned
-pub unread_refused : (design : Parts) (stimulus : InputVectors) (workers : ℕ) (text : List ℕ) (number : ℕ) (flaw : Flaw) (refusal : Refusal) → IsSmall workers → refusal ≡ refusal_of flaw number
+pub unread_refused : (design : Parts) (stimulus : InputVectors) (workers : ℕ) (text : List ℕ) (number : ℕ) (flaw : Failure Malformed) (refusal : Refusal) → IsSmall workers → refusal ≡ refusal_of flaw number
     → Reads {X = JournalLine} (λ l. l) (Err flaw) (line_at design stimulus (tokens_of text)) → IfFault {X = ℕ} (Err refusal) (IsMalformed design (LineFits design stimulus workers) text number)
-unread_refused design stimulus workers text number flaws.Malformed refusal small is none =
+unread_refused design stimulus workers text number (failures.Why malformed) refusal small is none =
     refused design (LineFits design stimulus workers) text number refusal is (unread design stimulus workers text small none)
-unread_refused design stimulus workers text number flaws.NoMemory refusal small is none =
+unread_refused design stimulus workers text number failures.NoMemory refusal small is none =
     subst (λ (r : Refusal). IfFault {X = ℕ} (Err r) (IsMalformed design (LineFits design stimulus workers) text number)) (sym is) tt
 
 -- by a test that failed

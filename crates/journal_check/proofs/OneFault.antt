@@ -9,21 +9,14 @@ use Rattle.one_rule.specs.Stimulus.{InputVectors}
 use Rattle.attempt_log.specs.declared.entry.Entry.{Entry}
 use Rattle.attempt_log.specs.declared.entry.Entry.TheVariants as entry
 use Rattle.board_core.specs.Board.{Board, Opening, opened, run_events, step}
-use Rattle.board_core.specs.History.{IsLegal, SubmitsFor, Told, event_of, events_of, told_by, told_of}
+use Rattle.board_core.specs.History.{IsLegal, SubmitsFor, event_of, events_of, told_by, told_of}
 use Rattle.board_core.specs.Laws.{IsTraced}
+use Rattle.board_core.proofs.Histories.{head_or, tail_of}
 use Rattle.journal_check.specs.CheckingLaws.{OneFirstFault, NeverGoodAndFaulty}
 use Rattle.journal_check.specs.Checking.{AreGood, IsFaultFrom, IsFaultOf, IsFaultOfEntries, IsFirstWrong, IsGoodBatch, IsWrongEntry, at_line, left_by, opening_of}
 use Rattle.journal_check.specs.declared.journal.Batch.{Batch}
 
 -- ---- an entry of a legal history isn't wrong
-
-abbrev tail_of : List Told → List Told
-tail_of [] = []
-tail_of (t ∷ ts) = ts
-
-abbrev head_or : Told → List Told → Told
-head_or d [] = d
-head_or d (t ∷ ts) = t
 
 -- it may be submitted, and its answer is the board's
 record IsRight (o : Opening) (board : Board) (e : Entry) : Type 0 where

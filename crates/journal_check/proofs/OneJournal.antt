@@ -5,7 +5,7 @@ use Rattle.typed_core.specs.declared.design.Parts.{Parts}
 use Rattle.one_rule.specs.Stimulus.{InputVectors}
 use Rattle.attempt_log.specs.declared.entry.Entry.{Entry}
 use Rattle.kw_base.specs.declared.fault.Fault.{Fault}
-use Rattle.stim_report.specs.Cuts.{lines_of}
+use Rattle.kw_base.specs.Texts.{lines_of}
 use Rattle.journal_check.specs.Fitting.{IsSmall, LineFits}
 use Rattle.journal_check.specs.Journals.{lines_in, lines_of_batch, journal_lines, numbers_of_batch}
 use Rattle.journal_check.specs.Printing.{ended, journal_text, line_text}

@@ -6,8 +6,8 @@ use Rattle.std.proofs.lemmas.Bool.{lt-ltb, ltb-true, ne_eqb}
 use Rattle.std.proofs.lemmas.List.Sums.{AllPass-from_list_all}
 use Rattle.typed_core.specs.declared.design.Parts.{Parts}
 use Rattle.one_rule.specs.Stimulus.{InputVectors}
-use Rattle.stim_report.specs.Cuts.{lines_of, without_return}
-use Rattle.stim_report.proofs.CutsInTurn.{lines_of-more, lines_of-nil}
+use Rattle.kw_base.specs.Texts.{ends_line, lines_of, without_return}
+use Rattle.kw_base.proofs.Cutting.{lines_of-more, lines_of-nil, piece_first}
 use Rattle.journal_check.specs.Fitting.{IsSmall, LineFits}
 use Rattle.journal_check.specs.Journals.{lines_in}
 use Rattle.journal_check.specs.Printing.{ended, journal_text, line_text, line_tokens, text_of}
@@ -15,7 +15,6 @@ use Rattle.journal_check.specs.Reading.{HasShownNames, is_shown}
 use Rattle.journal_check.specs.declared.journal.Journal.{Journal}
 use Rattle.journal_check.specs.declared.line.JournalLine.{JournalLine}
 use Rattle.journal_check.proofs.Cutting.{HasVisible, joined_in, tokens_in}
-use Rattle.journal_check.proofs.Pieces.{piece_first}
 
 visible_shown : HasVisible is_shown
 visible_shown b h = lt-ltb 31 b (omega (arith, h))
@@ -56,7 +55,8 @@ stays (b ∷ bytes) h =
 cut_first : (text rest : List ℕ) → list_all is_shown text ≡ true → lines_of (ended text ++ rest) ≡ text ∷ lines_of rest
 cut_first text rest h =
     lines_of-more (ended text ++ rest) text rest
-    (piece_first 10 (ended text ++ rest) text 10 rest (append_assoc text (10 ∷ []) rest) (AllPass-from_list_all (λ x. not (x == 10)) text (within is_shown (λ x. not (x == 10)) no_feed text h)) refl)
+    (piece_first ends_line (ended text ++ rest) text 10 rest (append_assoc text (10 ∷ []) rest)
+    (λ k d some. not-true _ (AllPass-from_list_all (λ x. not (x == 10)) text (within is_shown (λ x. not (x == 10)) no_feed text h) k d some)) refl)
     ∙ ap (λ (t : List ℕ). t ∷ lines_of rest) (stays text h)
 
 cut_lines : (design : Parts) (ls : List JournalLine) → AllByRecursion (λ (l : JournalLine). list_all is_shown (line_text design l) ≡ true) ls → lines_of (text_of design ls) ≡ map (line_text design) ls

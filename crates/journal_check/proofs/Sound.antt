@@ -35,16 +35,13 @@ use Rattle.journal_check.specs.Tokens.{number_named, register_names, rule_names}
 use Rattle.journal_check.specs.inner.Tokens.{◌>>=◌, access_at, access_read, batch_at, begin_at, bits_of, cause_at, clash_cause, closed_at, committed_at, event_read, events_at, head_at, line_at, number_at, outcome_at, outdated_at, own_at, own_cause, rule_at, settle_at, settled_at, skipped_at, stale_at, submit_at, token_at, value_of, waiting_at}
 use Rattle.journal_check.specs.declared.head.Head.{Head}
 use Rattle.journal_check.specs.declared.line.JournalLine.{JournalLine}
+use Rattle.journal_check.proofs.LinesRead.{value_or}
 
 -- ---- options and tests
 
 first_of : {X Y : Type 0} (o : Option X) (f : X → Option Y) (y : Y) → (o >>= f) ≡ Some y → (x : X) × (o ≡ Some x) × (f x ≡ Some y)
 first_of None f y h = absurd (cc)
 first_of (Some x) f y h = (x, refl, h)
-
-abbrev value_or : {X : Type 0} → X → Option X → X
-value_or x None = x
-value_or x (Some y) = y
 
 same_value : {X : Type 0} (a b : X) → Some a ≡ Some b → a ≡ b
 same_value a b h = ap (value_or a) h

@@ -12,7 +12,7 @@ use Rattle.one_rule.specs.Stimulus.{InputVectors}
 use Rattle.attempt_log.specs.declared.entry.Entry.{Entry}
 use Rattle.attempt_log.specs.declared.entry.Entry.TheVariants as entry
 use Rattle.board_core.specs.declared.kept.TheConstants.{MAX_CYCLES}
-use Rattle.stim_report.specs.Cuts.{lines_of}
+use Rattle.kw_base.specs.Texts.{lines_of}
 use Rattle.journal_check.specs.Checking.{AreGood, IsGood, left_by, opening_of}
 use Rattle.journal_check.specs.Fitting.{EntryFits, LineFits}
 use Rattle.journal_check.specs.Journals.{lines_in, lines_of_batch, numbers_of_batch}

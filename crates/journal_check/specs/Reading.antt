@@ -11,12 +11,12 @@ use Rattle.one_rule.specs.Stimulus.{InputVectors}
 use Rattle.journal_check.specs.Fitting.{EntryFits, LineFits}
 use Rattle.journal_check.specs.Journals.{lines_in, journal_lines}
 use Rattle.journal_check.specs.Printing.{line_text}
-use Rattle.journal_check.specs.Tokens.{is_space, register_names, rule_names}
+use Rattle.journal_check.specs.Tokens.{register_names, rule_names}
 use Rattle.journal_check.specs.declared.journal.Batch.{Batch}
 use Rattle.journal_check.specs.declared.journal.Journal.{Journal}
 use Rattle.journal_check.specs.declared.line.JournalLine.{JournalLine}
 use Rattle.journal_check.specs.declared.line.JournalLine.TheVariants as line
-use Rattle.stim_report.specs.Cuts.{lines_of}
+use Rattle.kw_base.specs.Texts.{is_space, lines_of}
 
 -- the number of the line that comes this many lines after the first one
 abbrev pub number_after : ℕ → ℕ → ℕ

@@ -1,14 +1,10 @@
 -- What the tokens of a line are read as. It asks no more than is needed to find a candidate: a line is taken where
 -- what was read fits the design and is printed as the line is.
-use Rattle.std.specs.Prelude.{ℕ, ◌==◌, Bool, Option, List, map, position}
+use Rattle.std.specs.Prelude.{ℕ, Option, List, map, position}
 use Rattle.std.specs.Str.{bytes_eq}
 use Rattle.typed_core.specs.declared.design.Parts.{Parts}
 use Rattle.typed_core.specs.declared.design.RegDecl.{RegDecl}
 use Rattle.typed_core.specs.declared.design.Rule.{Rule}
-
--- the space
-abbrev pub is_space : ℕ → Bool
-is_space b = b == 32
 
 -- ---- names
 

@@ -7,11 +7,11 @@ ghost use Rattle.journal_check.specs.inner.Tokens as inner_tokens;
 ghost use Rattle.journal_check.specs.inner.Tokens.{Reads, ReadsFront, cause_at, clash_cause, closed_at, committed_at, outcome_at, outdated_at, own_at, own_cause, settled_at, skipped_at, stale_at, tokens_left, waiting_at};
 
 use crate::access::{access, value_of};
-use crate::cut::next_token;
-use crate::flaw::Flaw;
 use crate::head::{number, read_head};
 use crate::names::Vocabulary;
+use crate::token::{Malformed, next_token};
 use attempt_log::{Cause, Settled, StaleRead, Taken};
+use kw_bits::Failure;
 use typed_core::Outcome;
 
 /// How a rule ended, as read at a cursor.
@@ -19,7 +19,7 @@ use typed_core::Outcome;
 pub(crate) fn outcome<'a>(
     names: &Vocabulary<'_>,
     rest: Option<&'a [u8]>,
-) -> Result<(Outcome, Option<&'a [u8]>), Flaw>
+) -> Result<(Outcome, Option<&'a [u8]>), Failure<Malformed>>
     requires { Knows names.now.design.now names.now.registers names.now.rules }
     ensures { ReadsFront result (outcome_at names.now.design.now (tokens_left rest.entry)) }
 {
@@ -36,7 +36,7 @@ pub(crate) fn outcome<'a>(
 fn own_clash<'a>(
     names: &Vocabulary<'_>,
     rest: Option<&'a [u8]>,
-) -> Result<(Outcome, Option<&'a [u8]>), Flaw>
+) -> Result<(Outcome, Option<&'a [u8]>), Failure<Malformed>>
     requires { Knows names.now.design.now names.now.registers names.now.rules }
     ensures { ReadsFront result (own_at names.now.design.now (tokens_left rest.entry)) }
 {
@@ -62,7 +62,10 @@ pub(crate) fn taken_read(word: &[u8]) -> Taken
 
 /// What was answered when the head was to be settled, as read at a cursor.
 #[tactic(auto, unfolding(crate::specs::inner::Tokens::settled_at))]
-pub(crate) fn settled(names: &Vocabulary<'_>, rest: Option<&[u8]>) -> Result<Settled, Flaw>
+pub(crate) fn settled(
+    names: &Vocabulary<'_>,
+    rest: Option<&[u8]>,
+) -> Result<Settled, Failure<Malformed>>
     requires { Knows names.now.design.now names.now.registers names.now.rules }
     ensures { Reads (λ answer. answer) result (settled_at names.now.design.now (tokens_left rest.entry)) }
 {
@@ -86,7 +89,7 @@ pub(crate) fn settled(names: &Vocabulary<'_>, rest: Option<&[u8]>) -> Result<Set
 }
 
 #[tactic(auto, unfolding(crate::specs::inner::Tokens::committed_at))]
-fn committed(names: &Vocabulary<'_>, rest: Option<&[u8]>) -> Result<Settled, Flaw>
+fn committed(names: &Vocabulary<'_>, rest: Option<&[u8]>) -> Result<Settled, Failure<Malformed>>
     requires { Knows names.now.design.now names.now.registers names.now.rules }
     ensures { Reads (λ answer. answer) result (committed_at names.now.design.now (tokens_left rest.entry)) }
 {
@@ -98,7 +101,7 @@ fn committed(names: &Vocabulary<'_>, rest: Option<&[u8]>) -> Result<Settled, Fla
 }
 
 #[tactic(auto, unfolding(crate::specs::inner::Tokens::skipped_at))]
-fn skipped(names: &Vocabulary<'_>, rest: Option<&[u8]>) -> Result<Settled, Flaw>
+fn skipped(names: &Vocabulary<'_>, rest: Option<&[u8]>) -> Result<Settled, Failure<Malformed>>
     requires { Knows names.now.design.now names.now.registers names.now.rules }
     ensures { Reads (λ answer. answer) result (skipped_at names.now.design.now (tokens_left rest.entry)) }
 {
@@ -112,7 +115,7 @@ fn skipped(names: &Vocabulary<'_>, rest: Option<&[u8]>) -> Result<Settled, Flaw>
 }
 
 #[tactic(auto, unfolding(crate::specs::inner::Tokens::outdated_at))]
-fn outdated(names: &Vocabulary<'_>, rest: Option<&[u8]>) -> Result<Settled, Flaw>
+fn outdated(names: &Vocabulary<'_>, rest: Option<&[u8]>) -> Result<Settled, Failure<Malformed>>
     requires { Knows names.now.design.now names.now.registers names.now.rules }
     ensures { Reads (λ answer. answer) result (outdated_at names.now.design.now (tokens_left rest.entry)) }
 {
@@ -126,7 +129,7 @@ fn outdated(names: &Vocabulary<'_>, rest: Option<&[u8]>) -> Result<Settled, Flaw
 }
 
 #[tactic(auto, unfolding(crate::specs::inner::Tokens::waiting_at))]
-fn waiting(names: &Vocabulary<'_>, rest: Option<&[u8]>) -> Result<Settled, Flaw>
+fn waiting(names: &Vocabulary<'_>, rest: Option<&[u8]>) -> Result<Settled, Failure<Malformed>>
     requires { Knows names.now.design.now names.now.registers names.now.rules }
     ensures { Reads (λ answer. answer) result (waiting_at names.now.design.now (tokens_left rest.entry)) }
 {
@@ -138,7 +141,7 @@ fn waiting(names: &Vocabulary<'_>, rest: Option<&[u8]>) -> Result<Settled, Flaw>
 }
 
 #[tactic(auto, unfolding(crate::specs::inner::Tokens::closed_at))]
-fn closed(rest: Option<&[u8]>) -> Result<Settled, Flaw>
+fn closed(rest: Option<&[u8]>) -> Result<Settled, Failure<Malformed>>
     ensures { Reads (λ answer. answer) result (closed_at (tokens_left rest.entry)) }
 {
     let (cycle, _) = number(rest)?;
@@ -147,7 +150,7 @@ fn closed(rest: Option<&[u8]>) -> Result<Settled, Flaw>
 
 // A read, and the values after `held=` and `now=`.
 #[tactic(auto, unfolding(crate::specs::inner::Tokens::stale_at))]
-fn stale(names: &Vocabulary<'_>, rest: Option<&[u8]>) -> Result<StaleRead, Flaw>
+fn stale(names: &Vocabulary<'_>, rest: Option<&[u8]>) -> Result<StaleRead, Failure<Malformed>>
     requires { Knows names.now.design.now names.now.registers names.now.rules }
     ensures { Reads (λ read. read) result (stale_at names.now.design.now (tokens_left rest.entry)) }
 {
@@ -171,7 +174,7 @@ pub(crate) fn after(token: &[u8], count: usize) -> &[u8]
 
 // Why a rule was skipped, as read at a cursor.
 #[tactic(auto, unfolding(crate::specs::inner::Tokens::cause_at))]
-fn cause(names: &Vocabulary<'_>, rest: Option<&[u8]>) -> Result<Cause, Flaw>
+fn cause(names: &Vocabulary<'_>, rest: Option<&[u8]>) -> Result<Cause, Failure<Malformed>>
     requires { Knows names.now.design.now names.now.registers names.now.rules }
     ensures { Reads (λ cause. cause) result (cause_at names.now.design.now (tokens_left rest.entry)) }
 {
@@ -186,7 +189,7 @@ fn cause(names: &Vocabulary<'_>, rest: Option<&[u8]>) -> Result<Cause, Flaw>
 }
 
 #[tactic(auto, unfolding(crate::specs::inner::Tokens::own_cause))]
-fn own_cause(names: &Vocabulary<'_>, rest: Option<&[u8]>) -> Result<Cause, Flaw>
+fn own_cause(names: &Vocabulary<'_>, rest: Option<&[u8]>) -> Result<Cause, Failure<Malformed>>
     requires { Knows names.now.design.now names.now.registers names.now.rules }
     ensures { Reads (λ cause. cause) result (own_cause names.now.design.now (tokens_left rest.entry)) }
 {
@@ -195,7 +198,7 @@ fn own_cause(names: &Vocabulary<'_>, rest: Option<&[u8]>) -> Result<Cause, Flaw>
 }
 
 #[tactic(auto, unfolding(crate::specs::inner::Tokens::clash_cause))]
-fn clash_cause(names: &Vocabulary<'_>, rest: Option<&[u8]>) -> Result<Cause, Flaw>
+fn clash_cause(names: &Vocabulary<'_>, rest: Option<&[u8]>) -> Result<Cause, Failure<Malformed>>
     requires { Knows names.now.design.now names.now.registers names.now.rules }
     ensures { Reads (λ cause. cause) result (clash_cause names.now.design.now (tokens_left rest.entry)) }
 {

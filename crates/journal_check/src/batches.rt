@@ -4,12 +4,12 @@ ghost use Rattle.std.specs.Prelude.{◌≡◌, ◌≤◌, ◌<◌, ◌++◌, ◌
 ghost use Rattle.std.specs.Arc.{arc_value};
 ghost use Rattle.std.specs.List.{AllByRecursion};
 ghost use Rattle.kw_base.specs.Fault.{IfFault};
-ghost use Rattle.typed_core.specs.Valid.{IsValid, externs_of};
+ghost use Rattle.typed_core.specs.Valid.{externs_of};
 ghost use Rattle.typed_core.specs.Widths.{HaveWidths, register_widths};
 ghost use Rattle.one_rule.specs.Externs.{kept};
 ghost use Rattle.one_rule.specs.Rows.{RowsFit};
 ghost use Rattle.one_rule.specs.Run.{InputsByCycle, last_registers, run_of};
-ghost use Rattle.one_rule.specs.Stimulus.{AlwaysFits, StimulusFits, inputs_of};
+ghost use Rattle.one_rule.specs.Stimulus.{StimulusFits, inputs_of};
 ghost use Rattle.board_core.specs.declared.kept.TheConstants.{MAX_CYCLES};
 ghost use Rattle.journal_check.specs.Checking.{BatchFits, IsDue, IsFaultOf, IsFirstJournalFault, IsGood, IsGoodBatch, left_by, opening_of};
 
@@ -18,7 +18,7 @@ use crate::replay::{refusal, replay};
 use kw_base::Refusal;
 use kw_base::fault_number::WRONG_BATCH;
 use kw_bits::{NoMemory, Sequence};
-use one_rule::{Externs, Inputs, Regs, Row, Rows, Stimulus, first_values, opening};
+use one_rule::{Externs, Regs, Row, Rows, Stimulus, first_values, opening};
 use std::alloc::Global;
 use std::sync::Arc;
 use typed_core::Design;
@@ -45,7 +45,7 @@ pub fn recheck(
     ensures fit { IfOk result (λ rows. RowsFit (arc_value design) rows) }
     ensures fault { IfFault result (λ fault. IsFirstJournalFault (arc_value design) (arc_value stimulus) n journal fault) }
 {
-    runs_fit(alloc, &design, &stimulus);
+    runs_fit(&design, &stimulus);
     let mut rows = first_rows(alloc, &design)?;
     let mut from = 0;
     for batch in journal.batches.as_slice() {
@@ -62,26 +62,12 @@ pub fn recheck(
 }
 
 // The rows of each run of a design fit it, with a stimulus for its inputs.
-fn runs_fit(alloc: Global, design: &Design, stimulus: &Stimulus)
+fn runs_fit(design: &Design, stimulus: &Stimulus)
     requires { StimulusFits design.now stimulus.now }
     ensures { (n : ℕ) → RowsFit design.now (run_of design.now (inputs_of stimulus.now) n) }
 {
-    is_valid(design);
-    always_fits(alloc, stimulus);
-}
-
-// A design is valid, by its type.
-fn is_valid(design: &Design)
-    ensures { IsValid design.now }
-{
-    let _registers = design.regs.len();
-}
-
-// A stimulus has values of its widths in every cycle, by its type.
-fn always_fits(alloc: Global, stimulus: &Stimulus)
-    ensures { AlwaysFits stimulus.now }
-{
-    let _agrees = stimulus.agrees(0, &Inputs::new(alloc));
+    design.recall();
+    stimulus.recall();
 }
 
 // The row that a run begins with.
@@ -136,8 +122,8 @@ fn is_due(batch: &Batch, from: u32, n: u32) -> bool
     batch.from == from && batch.to == (from + BATCH_CYCLES).min(n) && from < batch.to
 }
 
-// The registers of the last row.
-fn last_regs(alloc: Global, rows: &Rows) -> Result<Regs, NoMemory>
+/// The registers of the last row.
+pub fn last_regs(alloc: Global, rows: &Rows) -> Result<Regs, NoMemory>
     requires { 0 < length rows.now }
     ensures { IfOk result (λ regs. regs ≡ last_registers [] rows.now) }
 {

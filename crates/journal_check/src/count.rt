@@ -1,10 +1,9 @@
 //! Journals: how many lines a text has.
-
 ghost use Rattle.std.specs.Prelude.{◌≡◌, length};
-ghost use Rattle.stim_report.specs.Cuts.{lines_of};
+ghost use Rattle.kw_base.specs.Texts.{lines_of};
 ghost use Rattle.journal_check.specs.Reading.{number_after};
 
-use crate::cut::next_line;
+use kw_base::texts::next_line;
 
 /// The number of the line after a text whose first line has this number.
 pub fn line_after(first_line: u32, text: &[u8]) -> u32
@@ -12,9 +11,9 @@ pub fn line_after(first_line: u32, text: &[u8]) -> u32
 {
     let mut number = first_line;
     let mut rest = text;
-    while let Some(cut) = next_line(rest) {
+    while let Some(line) = next_line(rest) {
         number = number.saturating_add(1);
-        rest = cut.rest;
+        rest = line.rest;
     }
     number
 }

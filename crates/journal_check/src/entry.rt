@@ -6,13 +6,14 @@ ghost use Rattle.journal_check.specs.inner.Tokens.{Reads, batch_at, begin_at, li
 
 use crate::access::events;
 use crate::answer::{after, outcome, settled, taken_read};
-use crate::cut::{next_token, split_token};
-use crate::flaw::Flaw;
 use crate::head::{number, read_head};
 use crate::line::JournalLine;
 use crate::names::Vocabulary;
 use crate::number::number_read;
+use crate::token::{Malformed, next_token};
 use attempt_log::Entry;
+use kw_base::texts::{Separator, cut};
+use kw_bits::Failure;
 use one_rule::Stimulus;
 use std::alloc::Global;
 
@@ -23,11 +24,11 @@ pub(crate) fn line(
     names: &Vocabulary<'_>,
     stimulus: &Stimulus,
     bytes: &[u8],
-) -> Result<JournalLine, Flaw>
+) -> Result<JournalLine, Failure<Malformed>>
     requires { Knows names.now.design.now names.now.registers names.now.rules }
     ensures { Reads (λ line. line) result (line_at names.now.design.now stimulus.now (tokens_of bytes.now)) }
 {
-    let (word, rest) = split_token(bytes);
+    let (word, rest) = cut(bytes, Separator::Space);
     if word == b"s".as_slice() {
         return submit(alloc, names, stimulus, rest);
     }
@@ -46,7 +47,7 @@ fn submit(
     names: &Vocabulary<'_>,
     stimulus: &Stimulus,
     rest: Option<&[u8]>,
-) -> Result<JournalLine, Flaw>
+) -> Result<JournalLine, Failure<Malformed>>
     requires { Knows names.now.design.now names.now.registers names.now.rules }
     ensures { Reads (λ line. line) result (submit_at names.now.design.now stimulus.now (tokens_left rest.entry)) }
 {
@@ -67,7 +68,7 @@ fn submit(
 }
 
 #[tactic(auto, unfolding(crate::specs::inner::Tokens::settle_at))]
-fn settle(names: &Vocabulary<'_>, rest: Option<&[u8]>) -> Result<JournalLine, Flaw>
+fn settle(names: &Vocabulary<'_>, rest: Option<&[u8]>) -> Result<JournalLine, Failure<Malformed>>
     requires { Knows names.now.design.now names.now.registers names.now.rules }
     ensures { Reads (λ line. line) result (settle_at names.now.design.now (tokens_left rest.entry)) }
 {
@@ -78,7 +79,7 @@ fn settle(names: &Vocabulary<'_>, rest: Option<&[u8]>) -> Result<JournalLine, Fl
 }
 
 #[tactic(auto, unfolding(crate::specs::inner::Tokens::batch_at))]
-fn batch(rest: Option<&[u8]>) -> Result<JournalLine, Flaw>
+fn batch(rest: Option<&[u8]>) -> Result<JournalLine, Failure<Malformed>>
     ensures { Reads (λ line. line) result (batch_at (tokens_left rest.entry)) }
 {
     let (from, rest) = number(rest)?;
@@ -88,7 +89,7 @@ fn batch(rest: Option<&[u8]>) -> Result<JournalLine, Flaw>
 
 // The number after `workers=`.
 #[tactic(auto, unfolding(crate::specs::inner::Tokens::begin_at))]
-fn begin(rest: Option<&[u8]>) -> Result<JournalLine, Flaw>
+fn begin(rest: Option<&[u8]>) -> Result<JournalLine, Failure<Malformed>>
     ensures { Reads (λ line. line) result (begin_at (tokens_left rest.entry)) }
 {
     let (token, _) = next_token(rest)?;

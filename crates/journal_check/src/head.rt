@@ -3,10 +3,10 @@
 ghost use Rattle.journal_check.specs.inner.Naming.{Knows};
 ghost use Rattle.journal_check.specs.inner.Tokens.{ReadsFront, head_at, number_at, tokens_left};
 
-use crate::cut::next_token;
-use crate::flaw::Flaw;
 use crate::names::Vocabulary;
 use crate::number::number_read;
+use crate::token::{Malformed, next_token};
+use kw_bits::Failure;
 
 /// A cycle and a rule.
 #[derive(Clone, Copy, Debug, PartialEq, Eq)]
@@ -17,7 +17,7 @@ pub(crate) struct Head {
 
 /// The number at a cursor.
 #[tactic(auto, unfolding(crate::specs::inner::Tokens::number_at))]
-pub(crate) fn number(rest: Option<&[u8]>) -> Result<(u32, Option<&[u8]>), Flaw>
+pub(crate) fn number(rest: Option<&[u8]>) -> Result<(u32, Option<&[u8]>), Failure<Malformed>>
     ensures { ReadsFront result (number_at (tokens_left rest.entry)) }
 {
     let (token, rest) = next_token(rest)?;
@@ -29,7 +29,7 @@ pub(crate) fn number(rest: Option<&[u8]>) -> Result<(u32, Option<&[u8]>), Flaw>
 pub(crate) fn read_head<'a>(
     names: &Vocabulary<'_>,
     rest: Option<&'a [u8]>,
-) -> Result<(Head, Option<&'a [u8]>), Flaw>
+) -> Result<(Head, Option<&'a [u8]>), Failure<Malformed>>
     requires { Knows names.now.design.now names.now.registers names.now.rules }
     ensures { ReadsFront result (head_at names.now.design.now (tokens_left rest.entry)) }
 {

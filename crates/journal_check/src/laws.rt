@@ -3,7 +3,7 @@
 ghost use Rattle.std.specs.Prelude.{◌≡◌, ◌≤◌, ◌<◌, ◌^◌, ℕ, List, decimal, length, map};
 ghost use Rattle.std.specs.List.{AllByRecursion, flat_map};
 ghost use Rattle.kw_base.specs.declared.fault.Fault.{Fault as FaultOf};
-ghost use Rattle.stim_report.specs.Cuts.{lines_of};
+ghost use Rattle.kw_base.specs.Texts.{lines_of};
 ghost use Rattle.stim_report.specs.Report.{hex};
 ghost use Rattle.journal_check.specs.Numbers.{number_read, value_read};
 ghost use Rattle.journal_check.specs.Fitting.{IsRule, IsSmall, LineFits};

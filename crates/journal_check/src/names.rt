@@ -5,10 +5,9 @@ ghost use Rattle.journal_check.specs.inner.Naming.{Knows, NamesOf};
 ghost use Rattle.journal_check.specs.Tokens.{number_named, register_names, rule_names};
 ghost use Rattle.journal_check.specs.inner.Tokens.{Reads, ReadsFront, rule_at, tokens_left};
 
-use crate::cut::next_token;
-use crate::flaw::Flaw;
+use crate::token::{Malformed, next_token};
 use kw_base::{Added, Names};
-use kw_bits::{NoMemory, Text};
+use kw_bits::{Failure, NoMemory, Text};
 use std::alloc::Global;
 use typed_core::Design;
 
@@ -34,7 +33,7 @@ impl Vocabulary<'_> {
     }
 
     /// The first register of a name.
-    pub(crate) fn register(&self, name: &[u8]) -> Result<u32, Flaw>
+    pub(crate) fn register(&self, name: &[u8]) -> Result<u32, Failure<Malformed>>
         requires { Knows self.now.design.now self.now.registers self.now.rules }
         ensures { Reads (λ number. number) result (number_named (register_names self.now.design.now) name.now) }
     {
@@ -46,7 +45,10 @@ impl Vocabulary<'_> {
 
     /// The first rule of the name at a cursor.
     #[tactic(auto, unfolding(crate::specs::inner::Tokens::rule_at))]
-    pub(crate) fn rule<'b>(&self, rest: Option<&'b [u8]>) -> Result<(u32, Option<&'b [u8]>), Flaw>
+    pub(crate) fn rule<'b>(
+        &self,
+        rest: Option<&'b [u8]>,
+    ) -> Result<(u32, Option<&'b [u8]>), Failure<Malformed>>
         requires { Knows self.now.design.now self.now.registers self.now.rules }
         ensures { ReadsFront result (rule_at self.now.design.now (tokens_left rest.entry)) }
     {
@@ -55,7 +57,7 @@ impl Vocabulary<'_> {
     }
 
     // The first rule of a name.
-    fn rule_named(&self, name: &[u8]) -> Result<u32, Flaw>
+    fn rule_named(&self, name: &[u8]) -> Result<u32, Failure<Malformed>>
         requires { Knows self.now.design.now self.now.registers self.now.rules }
         ensures { Reads (λ number. number) result (number_named (rule_names self.now.design.now) name.now) }
     {
@@ -66,12 +68,12 @@ impl Vocabulary<'_> {
     }
 }
 
-fn number_found(number: Option<u32>) -> Result<u32, Flaw>
+fn number_found(number: Option<u32>) -> Result<u32, Failure<Malformed>>
     ensures { Reads (λ number. number) result number }
 {
     match number {
         Some(number) => Ok(number),
-        None => Err(Flaw::Malformed),
+        None => Err(Failure::Why(Malformed)),
     }
 }
 
@@ -87,7 +89,8 @@ fn position_of_register(design: &Design, name: &[u8]) -> Option<u32>
     None
 }
 
-fn position_of_rule(design: &Design, name: &[u8]) -> Option<u32>
+/// The number of the first rule of a name.
+pub fn position_of_rule(design: &Design, name: &[u8]) -> Option<u32>
     ensures { result ≡ number_named (rule_names design.now) name.now }
 {
     let rules = design.rules.as_slice();

@@ -1,21 +1,21 @@
 //! Journals: lines as text.
 
-ghost use Rattle.std.specs.Prelude.{◌≡◌, ◌<◌, ◌≤◌, ◌++◌, ◌∷◌, [], ◌/◌, ◌%◌, ◌^◌, map, IfOk, OnOk, codes, decimal, if◌then◌else◌};
+ghost use Rattle.std.specs.Prelude.{◌≡◌, ◌++◌, ◌∷◌, [], map, IfOk, OnOk, codes, decimal};
 ghost use Rattle.std.specs.List.{flat_map};
 ghost use Rattle.journal_check.specs.Journals.{lines_of_batch};
-ghost use Rattle.journal_check.specs.Printing.{access_text, batch_tokens, begin_tokens, cause_tokens, entry_tokens, event_text, joined_tokens, journal_text, line_text, outcome_tokens, register_name, rule_name, settled_tokens, spaced, stale_tokens, text_of, value_text};
+ghost use Rattle.journal_check.specs.Printing.{batch_tokens, begin_tokens, entry_tokens, event_text, joined_tokens, journal_text, line_text, outcome_tokens, rule_name, settled_tokens, spaced, stale_tokens, text_of};
 ghost use Rattle.journal_check.specs.Printing as texts;
-ghost use Rattle.stim_report.specs.Report.{hex_digit, hex_digits};
 
 use crate::journal::{Batch, Journal};
 use crate::line::JournalLine;
-use attempt_log::{Cause, Entry, Settled, StaleRead, Taken};
+use crate::words::{
+    name_of, push_access, push_cause, push_events, push_number, push_token, push_value,
+};
+use attempt_log::{Entry, Settled, StaleRead, Taken};
 use itoa::Buffer;
-use kw_bits::{Bits, NoMemory, Text};
+use kw_bits::{NoMemory, Text};
 use std::alloc::Global;
 use typed_core::{Access, Design, Event, Outcome};
-
-const DIGITS: &[u8; 16] = b"0123456789abcdef";
 
 /// The text of a journal: its lines in order, each with a line feed at its end.
 pub fn print_journal(alloc: Global, design: &Design, journal: &Journal) -> Result<Text, NoMemory>
@@ -123,7 +123,7 @@ fn push_entry(text: &mut Text, design: &Design, entry: &Entry) -> Result<(), NoM
             text.push(b's')?;
             push_number(text, *worker)?;
             push_number(text, *cycle)?;
-            push_rule(text, design, *rule)?;
+            push_token(text, name_of(design, *rule as usize))?;
             push_attempt(text, design, outcome, events.as_slice(), *answer)
         }
         Entry::Settle { worker, answer } => {
@@ -172,23 +172,6 @@ fn push_outcome(text: &mut Text, design: &Design, outcome: &Outcome) -> Result<(
     }
 }
 
-fn push_events(text: &mut Text, design: &Design, events: &[Event]) -> Result<(), NoMemory>
-    ensures { OnOk result (text.new ≡ text.old ++ flat_map spaced (map (event_text design.now) events.now)) }
-{
-    for event in events {
-        push_event(text, design, event)?;
-    }
-    Ok(())
-}
-
-fn push_event(text: &mut Text, design: &Design, event: &Event) -> Result<(), NoMemory>
-    ensures { OnOk result (text.new ≡ text.old ++ spaced (event_text design.now event.now)) }
-{
-    push_access(text, design, &event.access)?;
-    text.push(b'=')?;
-    push_value(text, event.value)
-}
-
 fn taken_text(taken: Taken) -> &'static [u8]
     ensures { result.now ≡ texts.taken_text taken }
 {
@@ -234,29 +217,7 @@ fn push_head(
 {
     push_token(text, word)?;
     push_number(text, cycle)?;
-    push_rule(text, design, rule)
-}
-
-fn push_cause(text: &mut Text, design: &Design, cause: &Cause) -> Result<(), NoMemory>
-    ensures { OnOk result (text.new ≡ text.old ++ flat_map spaced (cause_tokens design.now cause.now)) }
-{
-    match cause {
-        Cause::Abort => push_token(text, b"abort"),
-        Cause::OwnClash(access) => {
-            push_token(text, b"own")?;
-            push_access(text, design, access)
-        }
-        Cause::Clash {
-            access,
-            rule,
-            earlier,
-        } => {
-            push_token(text, b"clash")?;
-            push_access(text, design, access)?;
-            push_rule(text, design, *rule)?;
-            push_access(text, design, earlier)
-        }
-    }
+    push_token(text, name_of(design, rule as usize))
 }
 
 fn push_stale(text: &mut Text, design: &Design, read: StaleRead) -> Result<(), NoMemory>
@@ -272,82 +233,4 @@ fn push_stale(text: &mut Text, design: &Design, read: StaleRead) -> Result<(), N
     push_value(text, read.held)?;
     push_token(text, b"now=")?;
     push_value(text, read.now)
-}
-
-// Adds a space and an access.
-fn push_access(text: &mut Text, design: &Design, access: &Access) -> Result<(), NoMemory>
-    ensures { OnOk result (text.new ≡ text.old ++ spaced (access_text design.now access.now)) }
-{
-    text.push(b' ')?;
-    text.push(kind_of(access.write))?;
-    text.extend_from_slice(Buffer::new().format(access.port).as_bytes())?;
-    text.push(b':')?;
-    push_register(text, design, access.register)
-}
-
-fn kind_of(write: bool) -> u8
-    ensures { result ≡ (if write then 119 else 114) }
-{
-    if write { b'w' } else { b'r' }
-}
-
-// Adds the name of a register.
-fn push_register(text: &mut Text, design: &Design, register: u32) -> Result<(), NoMemory>
-    ensures { OnOk result (text.new ≡ text.old ++ register_name design.now register) }
-{
-    match design.regs.as_slice().get(register as usize) {
-        Some(decl) => text.extend_from_slice(decl.name.as_slice()),
-        None => Ok(()),
-    }
-}
-
-// Adds a space and the name of a rule.
-fn push_rule(text: &mut Text, design: &Design, rule: u32) -> Result<(), NoMemory>
-    ensures { OnOk result (text.new ≡ text.old ++ spaced (rule_name design.now rule)) }
-{
-    match design.rules.as_slice().get(rule as usize) {
-        Some(rule) => push_token(text, rule.name.as_slice()),
-        None => push_token(text, b""),
-    }
-}
-
-// Adds a space and a number.
-fn push_number(text: &mut Text, number: u32) -> Result<(), NoMemory>
-    ensures { OnOk result (text.new ≡ text.old ++ spaced (decimal number)) }
-{
-    push_token(text, Buffer::new().format(number).as_bytes())
-}
-
-// Adds a space and a token.
-fn push_token(text: &mut Text, token: &[u8]) -> Result<(), NoMemory>
-    ensures { OnOk result (text.new ≡ text.old ++ spaced token.now) }
-{
-    text.push(b' ')?;
-    text.extend_from_slice(token)
-}
-
-// Adds the hexadecimal digits of a value.
-fn push_value(text: &mut Text, value: Bits) -> Result<(), NoMemory>
-    ensures { OnOk result (text.new ≡ text.old ++ value_text value) }
-{
-    push_digits(text, value.number(), value.width().div_ceil(4))
-}
-
-// Adds the lowest digits of a number, as many as count.
-fn push_digits(text: &mut Text, number: u128, count: u32) -> Result<(), NoMemory>
-    requires { count ≤ 32 }
-    ensures { OnOk result (text.new ≡ text.old ++ hex_digits count number) }
-{
-    for place in (0..count).rev() {
-        text.push(digit_at(number, place))?;
-    }
-    Ok(())
-}
-
-// The digit at a place, the lowest at place 0.
-fn digit_at(number: u128, place: u32) -> u8
-    requires { place < 32 }
-    ensures { result ≡ hex_digit (number / 16 ^ place % 16) }
-{
-    DIGITS[((number >> (4 * place)) % 16) as usize]
 }

@@ -2,8 +2,7 @@
 
 ghost use Rattle.std.specs.Prelude.{◌≡◌, ◌≢◌, ◌<◌, ◌≤◌, ◌^◌, ◌++◌, ◌∷◌, ◌↔◌, [], List, IsTrue, IfOk, OnOk, length, Some, None};
 ghost use Rattle.kw_base.specs.Fault.{IfFault};
-ghost use Rattle.stim_report.specs.Cuts.{lines_of};
-ghost use Rattle.typed_core.specs.Valid.{IsValid};
+ghost use Rattle.kw_base.specs.Texts.{lines_of};
 ghost use Rattle.journal_check.specs.inner.Allowed.{Differs, IsAllowed};
 ghost use Rattle.journal_check.specs.Fitting.{IsSmall, LineFits};
 ghost use Rattle.journal_check.specs.inner.Naming.{Knows};
@@ -14,18 +13,18 @@ ghost use Rattle.journal_check.specs.declared.journal.Batch.{Batch as BatchOf};
 ghost use Rattle.journal_check.specs.declared.line.JournalLine.{JournalLine as LineOf};
 ghost use Rattle.journal_check.specs.declared.line.JournalLine.TheVariants as lines;
 
-use crate::cut::next_line;
 use crate::entry::line;
-use crate::flaw::Flaw;
 use crate::journal::{Batch, Journal};
 use crate::line::JournalLine;
 use crate::names::Vocabulary;
 use crate::print::push_line;
+use crate::token::Malformed;
 use attempt_log::{Entry, Settled};
 use board_core::MAX_CYCLES;
 use kw_base::fault_number::MALFORMED_JOURNAL;
+use kw_base::texts::next_line;
 use kw_base::{Fault, Place, Refusal};
-use kw_bits::{NoMemory, Sequence, Text};
+use kw_bits::{Failure, NoMemory, Sequence, Text};
 use one_rule::Stimulus;
 use std::alloc::Global;
 use typed_core::Design;
@@ -69,18 +68,18 @@ fn read_lines(
     };
     let mut number = first_line.saturating_add(1);
     let mut rest = beginning.rest;
-    while let Some(cut) = next_line(rest) {
+    while let Some(line) = next_line(rest) {
         add_line(
             alloc,
             names,
             stimulus,
             &mut page,
             &mut journal,
-            cut.line,
+            line.bytes,
             number,
         )?;
         number = number.saturating_add(1);
-        rest = cut.rest;
+        rest = line.rest;
     }
     Ok(journal)
 }
@@ -105,13 +104,13 @@ fn read_beginning<'a>(
         × (lines_of bytes.now ≡ line_text names.now.design.now (lines.Begins begun.workers) ∷ lines_of begun.rest.now)) }
     ensures fault { IfFault result (λ fault. (fault ≡ malformed_at number) × NoneFollows names.now.design.now stimulus.now None (lines_of bytes.now)) }
 {
-    let Some(cut) = next_line(bytes) else {
-        return Err(refusal(Flaw::Malformed, number));
+    let Some(line) = next_line(bytes) else {
+        return Err(refusal(Failure::Why(Malformed), number));
     };
-    let workers = read_workers(alloc, names, stimulus, page, cut.line, number)?;
+    let workers = read_workers(alloc, names, stimulus, page, line.bytes, number)?;
     Ok(Beginning {
         workers,
-        rest: cut.rest,
+        rest: line.rest,
     })
 }
 
@@ -132,8 +131,8 @@ fn read_workers(
     let line = read_line(alloc, names, stimulus, page, 0, bytes, number)?;
     match line {
         JournalLine::Begins { workers } => Ok(workers),
-        JournalLine::Batch { .. } => Err(refusal(Flaw::Malformed, number)),
-        JournalLine::Entry(_entry) => Err(refusal(Flaw::Malformed, number)),
+        JournalLine::Batch { .. } => Err(refusal(Failure::Why(Malformed), number)),
+        JournalLine::Entry(_entry) => Err(refusal(Failure::Why(Malformed), number)),
     }
 }
 
@@ -154,7 +153,7 @@ fn add_line(
 {
     let line = read_line(alloc, names, stimulus, page, journal.workers, bytes, number)?;
     match line {
-        JournalLine::Begins { .. } => Err(refusal(Flaw::Malformed, number)),
+        JournalLine::Begins { .. } => Err(refusal(Failure::Why(Malformed), number)),
         JournalLine::Batch { from, to } => add_batch(alloc, &mut journal.batches, from, to, number),
         JournalLine::Entry(entry) => add_entry(&mut journal.batches, entry, number),
     }
@@ -188,7 +187,7 @@ fn add_entry(batches: &mut Sequence<Batch>, entry: Entry, number: u32) -> Result
     ensures fault { IfFault result (λ fault. (fault ≡ malformed_at number) × (batches.old ≡ [])) }
 {
     let Some(mut batch) = batches.pop() else {
-        return Err(refusal(Flaw::Malformed, number));
+        return Err(refusal(Failure::Why(Malformed), number));
     };
     batch.entries.push(entry)?;
     batch.lines.push(number)?;
@@ -214,34 +213,27 @@ fn read_line(
         Ok(line) => line,
         Err(flaw) => return Err(refusal(flaw, number)),
     };
-    is_valid(names.design);
+    names.design.recall();
     if !is_allowed(&line, workers) {
-        return Err(refusal(Flaw::Malformed, number));
+        return Err(refusal(Failure::Why(Malformed), number));
     }
     let printed = is_printed_so(page, names.design, &line, bytes)?;
     if !printed {
-        return Err(refusal(Flaw::Malformed, number));
+        return Err(refusal(Failure::Why(Malformed), number));
     }
     Ok(line)
 }
 
 // The refusal of the line of this number.
-fn refusal(flaw: Flaw, line: u32) -> Refusal
+fn refusal(flaw: Failure<Malformed>, line: u32) -> Refusal
     ensures { result ≡ refusal_of flaw line }
 {
     match flaw {
-        Flaw::Malformed => {
+        Failure::Why(_) => {
             Refusal::Fault(Fault::new(MALFORMED_JOURNAL, Place { line, column: 1 }))
         }
-        Flaw::NoMemory => Refusal::NoMemory,
+        Failure::NoMemory => Refusal::NoMemory,
     }
-}
-
-// States that a design is valid, as its type says.
-fn is_valid(design: &Design)
-    ensures { IsValid design.now }
-{
-    let _registers = design.regs.len();
 }
 
 // Whether a line is printed so. The page is for use again.

@@ -13,7 +13,7 @@ ghost use Rattle.attempt_log.specs.Trace.{IsTrace};
 ghost use Rattle.board_core.specs.Board.{opened, setting_of};
 ghost use Rattle.board_core.specs.History as history;
 ghost use Rattle.board_core.specs.History.{IsLegal};
-ghost use Rattle.board_core.specs.Kept.{AtPlain, StandsFor};
+ghost use Rattle.board_core.specs.Kept.{StandsFor};
 ghost use Rattle.board_core.specs.declared.event.BoardEvent.TheVariants as event;
 ghost use Rattle.board_core.specs.declared.kept.TheConstants.{MAX_CYCLES};
 ghost use Rattle.journal_check.specs.Checking.{BatchFits, Closes, IsFaultOfEntries, IsFirstWrong, SubmitsRule, at_line, opening_of};
@@ -115,7 +115,7 @@ fn make_entry(
     ensures ok { OnOk result (Makes core.old entry.now core.new) }
     ensures fault { IfFault result (IsFaultAt core.old entry.now line) }
 {
-    is_plain(core);
+    core.recall();
     match entry {
         Entry::Submit {
             cycle,
@@ -136,13 +136,6 @@ fn make_entry(
         }
         Entry::Settle { answer, .. } => settle(core, *answer, line),
     }
-}
-
-// A core is at a plain position, by its type.
-fn is_plain(core: &Core)
-    ensures { AtPlain core.now }
-{
-    let _rows = core.rows();
 }
 
 // The attempt of a copy of these inputs and events, if they are a trace of the rule with this outcome.

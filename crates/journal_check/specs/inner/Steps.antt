@@ -4,14 +4,15 @@ use Rattle.std.specs.List.{AllByRecursion}
 use Rattle.kw_base.specs.declared.fault.Fault.{Fault}
 use Rattle.kw_base.specs.declared.fault.Refusal.{Refusal}
 use Rattle.kw_base.specs.declared.fault.Refusal.TheVariants as refusals
-use Rattle.stim_report.specs.Cuts.{lines_of}
+use Rattle.kw_base.specs.Texts.{lines_of}
 use Rattle.typed_core.specs.declared.design.Parts.{Parts}
 use Rattle.one_rule.specs.Stimulus.{InputVectors}
 use Rattle.journal_check.specs.Journals.{lines_in, journal_lines}
 use Rattle.journal_check.specs.Printing.{line_text}
 use Rattle.journal_check.specs.Reading.{AreJournalLines, HasPlainNames, IsNumbered, malformed_at, number_after}
-use Rattle.journal_check.specs.declared.flaw.Flaw.{Flaw}
-use Rattle.journal_check.specs.declared.flaw.Flaw.TheVariants as flaws
+use Rattle.kw_bits.specs.declared.failure.Failure.{Failure}
+use Rattle.journal_check.specs.declared.token.Malformed.{Malformed}
+use Rattle.kw_bits.specs.declared.failure.Failure.TheVariants as failures
 use Rattle.journal_check.specs.declared.journal.Journal.{Journal}
 use Rattle.journal_check.specs.declared.line.JournalLine.{JournalLine}
 
@@ -38,6 +39,6 @@ pub record HasRead (design : Parts) (stimulus : InputVectors) (first_line : ℕ)
   pub number_is : number ≡ number_after first_line (length before)
 
 -- the refusal of the line of a number
-abbrev pub refusal_of : Flaw → ℕ → Refusal
-refusal_of flaws.Malformed line = refusals.Fault (malformed_at line)
-refusal_of flaws.NoMemory line = refusals.NoMemory
+abbrev pub refusal_of : Failure Malformed → ℕ → Refusal
+refusal_of (failures.Why malformed) line = refusals.Fault (malformed_at line)
+refusal_of failures.NoMemory line = refusals.NoMemory

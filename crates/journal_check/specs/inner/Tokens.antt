@@ -2,6 +2,8 @@
 use Rattle.std.specs.Prelude.{◌≡◌, ℕ, Result, Ok, Err, ◌==◌, ◌%◌, ◌^◌, nat_lt, if◌then◌else◌, Option, None, Some, List, [], ◌∷◌, drop, codes, slice_get}
 use Rattle.std.specs.List.{slice_split}
 use Rattle.std.specs.Str.{bytes_eq}
+use Rattle.kw_base.specs.Texts.{is_space, pieces_after}
+use Rattle.kw_base.specs.declared.texts.Separator.TheVariants as at
 use Rattle.kw_bits.specs.BitVector.{BitVector}
 use Rattle.typed_core.specs.Widths.{register_widths}
 use Rattle.typed_core.specs.declared.access.Access.{Access}
@@ -20,13 +22,14 @@ use Rattle.attempt_log.specs.declared.entry.Taken.{Taken}
 use Rattle.attempt_log.specs.declared.entry.Taken.TheVariants as taken
 use Rattle.stim_report.specs.Assignments.{name_and_value}
 use Rattle.journal_check.specs.Numbers.{number_read, value_read}
-use Rattle.journal_check.specs.declared.flaw.Flaw.{Flaw}
-use Rattle.journal_check.specs.declared.flaw.Flaw.TheVariants as flaws
+use Rattle.kw_bits.specs.declared.failure.Failure.{Failure}
+use Rattle.journal_check.specs.declared.token.Malformed.{Malformed}
+use Rattle.kw_bits.specs.declared.failure.Failure.TheVariants as failures
 use Rattle.journal_check.specs.declared.head.Head.{Head}
 use Rattle.journal_check.specs.declared.line.JournalLine.{JournalLine}
 use Rattle.journal_check.specs.declared.line.JournalLine.TheVariants as line
 use denote.Ref.{Bor}
-use Rattle.journal_check.specs.Tokens.{is_space, register_names, rule_names, number_named}
+use Rattle.journal_check.specs.Tokens.{register_names, rule_names, number_named}
 
 -- the tokens of a line: what is between its spaces
 abbrev pub tokens_of : List ℕ → List (List ℕ)
@@ -34,8 +37,7 @@ tokens_of text = slice_split is_space text
 
 -- where a cursor stands on a line, these tokens are left; past the last there is none
 abbrev pub tokens_left : Option (Bor (List ℕ)) → List (List ℕ)
-tokens_left None = []
-tokens_left (Some rest) = tokens_of rest.now
+tokens_left rest = pieces_after at.Space rest
 
 -- what a part is read as, and then what follows by it
 infixl 10 ◌>>=◌
@@ -250,15 +252,15 @@ line_at design stimulus tokens = do
 -- ---- what the readers return
 
 -- a reader gives what is read, seen so; a flaw where nothing is; no memory says nothing
-abbrev pub Reads : {X Y : Type 0} → (X → Y) → Result X Flaw → Option Y → Type 0
+abbrev pub Reads : {X Y : Type 0} → (X → Y) → Result X (Failure Malformed) → Option Y → Type 0
 Reads view (Ok x) read = read ≡ Some (view x)
-Reads view (Err flaws.Malformed) read = read ≡ None
-Reads view (Err flaws.NoMemory) read = Unit {0}
+Reads view (Err (failures.Why malformed)) read = read ≡ None
+Reads view (Err failures.NoMemory) read = Unit {0}
 
 -- the same of a part with a cursor after it
-abbrev pub ReadsFront : {X : Type 0} → Result (X × Option (Bor (List ℕ))) Flaw → Front X → Type 0
+abbrev pub ReadsFront : {X : Type 0} → Result (X × Option (Bor (List ℕ))) (Failure Malformed) → Front X → Type 0
 ReadsFront {X} result read = Reads (λ (x : X × Option (Bor (List ℕ))). (x.0, tokens_left x.1)) result read
 
 -- the same of a token
-abbrev pub ReadsToken : Result (Bor (List ℕ) × Option (Bor (List ℕ))) Flaw → Front (List ℕ) → Type 0
+abbrev pub ReadsToken : Result (Bor (List ℕ) × Option (Bor (List ℕ))) (Failure Malformed) → Front (List ℕ) → Type 0
 ReadsToken result read = Reads (λ (x : Bor (List ℕ) × Option (Bor (List ℕ))). (x.0.now, tokens_left x.1)) result read

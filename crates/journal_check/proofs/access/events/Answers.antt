@@ -12,23 +12,23 @@ loop-rest-init c =
 
 pub returns-then-is_colon : goal.returns-then-is_colon
 returns-then-is_colon c =
-    colon_read c.args.names.now.design.now c.loop-rest.events c.loop-rest.rest c.in-Some.bytes c.split_token.result.0.now c.split_token.result.1 _ c.loop-rest.invariant c.in-Some.is c.split_token.ensures.tokens
+    colon_read c.args.names.now.design.now c.loop-rest.events c.loop-rest.rest c.in-Some.bytes c.cut.result.0.now c.cut.result.1 _ c.loop-rest.invariant c.in-Some.is c.cut.ensures.pieces
     (sym c.is_colon.ensures ∙ c.if-is_colon.true)
 
 pub returns-in_err-event : goal.returns-in_err-event
 returns-in_err-event c =
     let p = err_from_is_err_and c.from_residual.result c.from_residual.ensures.1 in
     rw (p.1, p.2)
-    (event_flawed c.args.names.now.design.now c.loop-rest.events c.loop-rest.rest c.in-Some.bytes c.split_token.result.0.now c.split_token.result.1 _ c.in_err-event.field-0.0 c.loop-rest.invariant c.in-Some.is c.split_token.ensures.tokens
+    (event_flawed c.args.names.now.design.now c.loop-rest.events c.loop-rest.rest c.in-Some.bytes c.cut.result.0.now c.cut.result.1 _ c.in_err-event.field-0.0 c.loop-rest.invariant c.in-Some.is c.cut.ensures.pieces
     (sym c.is_colon.ensures ∙ c.if-is_colon.false) c.in_err-event.ensures)
 
 pub loop-rest-preserved : goal.loop-rest-preserved
 loop-rest-preserved c =
-    event_kept c.args.names.now.design.now c.loop-rest.events c.loop-rest.rest c.in-Some.bytes c.split_token.result.0.now c.split_token.result.1 _ c.in_ok-event.event _ c.loop-rest.invariant c.in-Some.is c.split_token.ensures.tokens
+    event_kept c.args.names.now.design.now c.loop-rest.events c.loop-rest.rest c.in-Some.bytes c.cut.result.0.now c.cut.result.1 _ c.in_ok-event.event _ c.loop-rest.invariant c.in-Some.is c.cut.ensures.pieces
     (sym c.is_colon.ensures ∙ c.if-is_colon.false) c.in_ok-event.ensures c.in_ok-push.ensures.ok
 
 pub loop-rest-smaller : goal.loop-rest-smaller
-loop-rest-smaller c = fewer_left c.loop-rest.rest c.in-Some.bytes c.split_token.result.1 c.in-Some.is c.split_token.ensures.shorter
+loop-rest-smaller c = fewer_left c.loop-rest.rest c.in-Some.bytes c.cut.result.1 c.in-Some.is c.cut.ensures.shorter
 
 pub returns : goal.returns
 returns c = none_left c.args.names.now.design.now c.loop-rest.events c.loop-rest.rest _ c.loop-rest.invariant c.in_default.is

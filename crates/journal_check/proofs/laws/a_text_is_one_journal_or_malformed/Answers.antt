@@ -1,4 +1,4 @@
-use Rattle.stim_report.specs.Cuts.{lines_of}
+use Rattle.kw_base.specs.Texts.{lines_of}
 use Rattle.journal_check.proofs.OneJournal.{no_malformed, one_journal, one_malformed}
 use Rattle.journal_check.proofs.laws.a_text_is_one_journal_or_malformed.Goals as goal
 

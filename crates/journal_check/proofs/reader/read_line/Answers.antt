@@ -24,6 +24,6 @@ returns-then-not-printed-clause-fault c =
 
 pub returns-clause-line : goal.returns-clause-line
 returns-clause-line c = (
-  line_fits c.args.names.now.design.now c.args.stimulus.now c.args.workers c.is_valid.ensures (tokens_of c.args.bytes.now) c.in-Ok.line c.in-Ok.ensures (c.is_allowed.ensures.0 c.if-not-is_allowed.false),
+  line_fits c.args.names.now.design.now c.args.stimulus.now c.args.workers c.recall.ensures (tokens_of c.args.bytes.now) c.in-Ok.line c.in-Ok.ensures (c.is_allowed.ensures.0 c.if-not-is_allowed.false),
   sym (c.in_ok-printed.ensures.0 c.if-not-printed.false),
 )

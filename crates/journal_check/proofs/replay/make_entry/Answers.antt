@@ -27,5 +27,5 @@ returns-in-Some-clause-ok c =
     let made = subst (λ m. IfSome m (λ (a : Attempted). a ≡ attempted design w.cycle w.rule w.inputs w.events w.outcome)) c.in-Some.is c.in_ok-made-in-Submit.ensures.attempt in
     let some : IsSome c.in_ok-made-in-Submit.made = search rules in
     on_ok_weaker c.submit.result
-    (λ answers. subst (λ (e : Entry). Makes k e c.submit.new.core) (sym w.is) (submit_made k design w.worker w.cycle w.rule w.inputs w.events w.outcome w.answer c.requires.design fit c.submit.new.core c.in-Some.attempt c.is_plain.ensures made (c.in_ok-made-in-Submit.ensures.some.0 some) answers))
+    (λ answers. subst (λ (e : Entry). Makes k e c.submit.new.core) (sym w.is) (submit_made k design w.worker w.cycle w.rule w.inputs w.events w.outcome w.answer c.requires.design fit c.submit.new.core c.in-Some.attempt c.recall.ensures made (c.in_ok-made-in-Submit.ensures.some.0 some) answers))
     c.submit.ensures.ok

@@ -2,7 +2,7 @@ use Rattle.std.proofs.Common.{ℕ, ◌*◌, ◌/◌, ◌%◌, ◌^◌, ap, ◌�
 use Rattle.std.proofs.Math.Nat.{mod-lt}
 use Rattle.stim_report.specs.Report.{hex_digit}
 use Rattle.stim_report.proofs.Hex.{in_table, shifted_by_places}
-use Rattle.journal_check.proofs.print.digit_at.Goals as goal
+use Rattle.journal_check.proofs.words.digit_at.Goals as goal
 
 pub returns : goal.returns
 returns c =

@@ -1,6 +1,6 @@
 use Rattle.std.proofs.Common.{◌≡◌, ◌++◌, ◌≤◌}
 use Rattle.stim_report.specs.Report.{hex_digits}
-use Rattle.journal_check.proofs.print.push_digits.Given as goal
+use Rattle.journal_check.proofs.words.push_digits.Given as goal
 
 -- the digits below the place are left
 abbrev pub invariant-loop-place : goal.invariant-loop-place

@@ -1,7 +1,7 @@
 use Rattle.std.proofs.Common.{ℕ, List, ◌-◌, [], ◌∷◌, ◌++◌, ap, sym, ◌∙◌, append_assoc, arith}
 use Rattle.stim_report.specs.Report.{hex_digits}
 use Rattle.stim_report.proofs.Hex.{hex_digits_step}
-use Rattle.journal_check.proofs.print.push_digits.Goals as goal
+use Rattle.journal_check.proofs.words.push_digits.Goals as goal
 
 pub loop-place-preserved : goal.loop-place-preserved
 loop-place-preserved c =
