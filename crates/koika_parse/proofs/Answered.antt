@@ -21,8 +21,9 @@ use Rattle.koika_parse.specs.inner.Expected.{Any, Behind, One, StandAt, Takes, T
 use Rattle.koika_parse.specs.inner.Reading.{next, tokens_left}
 use Rattle.koika_parse.specs.declared.cursor.Cursor.{Cursor}
 use Rattle.koika_parse.specs.declared.source.Source.{Source}
-use Rattle.koika_parse.specs.declared.stop.Stop.{Stop}
-use Rattle.koika_parse.specs.declared.stop.Stop.TheVariants as stops
+use Rattle.koika_parse.specs.inner.Stops.{Stop}
+use Rattle.kw_bits.specs.declared.failure.Failure.TheVariants as failures
+use Rattle.koika_parse.specs.declared.stop.Unread.TheVariants as unread
 use Rattle.koika_parse.proofs.Expected.{Language, Lookahead, Apart, Empty, Goes, finish, free, free_last, last}
 use Rattle.koika_parse.proofs.Expected.{last_stopped, never_none, one_takes, refused_one, same_of_some, step, stopped}
 use Rattle.koika_parse.proofs.Expected.{too_deep, within}
@@ -122,7 +123,7 @@ decide_below a b = of (below_or_not a b)
 
 -- why reading ends where memory doesn't run out
 abbrev pub IsRefusal : Stop → Type 0
-IsRefusal stops.NoMemory = ⊥
+IsRefusal failures.NoMemory = ⊥
 IsRefusal _ = ⊤
 
 -- no word is read up to this cursor, since the text has none
@@ -135,6 +136,11 @@ Ended source old new Word Follow = Takes {X = ⊤} source old new Word Follow (O
 
 abbrev pub Answered : Source → Cursor → Language → Lookahead → Type 0
 Answered source old Word Follow = (new : Cursor) × Ended source old new Word Follow
+
+-- reading ends unexpectedly
+pub unexpected : {source : Source} {old new : Cursor} {Word : Language} {Follow : Lookahead} →
+    Takes {X = ⊤} source old new Word Follow (Err (failures.Why unread.Unexpected)) → Answered source old Word Follow
+unexpected {new = new} takes = (new, inr (failures.Why unread.Unexpected, tt, takes))
 
 -- at a cursor with fewer tokens left than at this one
 abbrev pub Fewer : Source → Cursor → (Cursor → Type 0) → Type 0
@@ -209,11 +215,11 @@ stepped source old terminal = of (decide_next (next source old) terminal)
         let new : Cursor = record { at = old.at + 1; depth = open_behind old.depth terminal } in
         let low = within source old at in
         (new, inl (refl, low, one_takes tt refl (one_token source old new d terminal low at refl (open_behind_next source old d terminal low at) (λ less. few))))
-    at_token at (inr deep) = (old, inr (stops.TooDeep, tt, too_deep terminal at deep))
+    at_token at (inr deep) = (old, inr (failures.Why unread.TooDeep, tt, too_deep terminal at deep))
 
     of : Decided (next source old ≡ Some terminal) → Stepped source old terminal
     of (inl at) = at_token at (few_or_deep (open_behind old.depth terminal))
-    of (inr other) = (old, inr (stops.Unexpected, tt, refused_one terminal other))
+    of (inr other) = (old, inr (failures.Why unread.Unexpected, tt, refused_one terminal other))
 
 pub one_then : {source : Source} {old mid : Cursor} {Word : Language} {Follow : Lookahead} {terminal : Terminal} {Q : Language} →
     Goes source old mid Word Follow (Then (One terminal) Q) → Fewer source mid (Ends source old Word Follow Q) → Answered source old Word Follow

@@ -1,5 +1,5 @@
 -- Reading an expression comes to an end: its primaries, suffixes, prefixes, chains of each level, blocks and `if`.
-use Rattle.std.proofs.Common.{◌≡◌, ℕ, zero, suc, ◌+◌, ◌<◌, ◌≤◌, Bool, true, false, Option, None, Some, List, [], ◌++◌, inl, inr, refl, sym, ap, ◌∙◌, subst, arith, lit<}
+use Rattle.std.proofs.Common.{◌≡◌, ℕ, zero, suc, ◌+◌, ◌<◌, ◌≤◌, Bool, true, false, Option, None, Some, List, [], ◌++◌, inl, inr, refl, sym, ap, ◌∙◌, subst, arith}
 use Rattle.std.specs.Prelude.{◌⊎◌}
 use Rattle.std.specs.List.{All}
 use Rattle.std.proofs.lemmas.Bool.{false≢true}
@@ -34,16 +34,15 @@ use Rattle.koika_parse.specs.inner.Parts.{IsArm, IsOperandIn}
 use Rattle.koika_parse.specs.inner.Reading.{kind_at, next}
 use Rattle.koika_parse.specs.declared.cursor.Cursor.{Cursor}
 use Rattle.koika_parse.specs.declared.source.Source.{Source}
-use Rattle.koika_parse.specs.declared.stop.Stop.TheVariants as stops
 use Rattle.koika_parse.proofs.Answered.{Answered, Decided, Fewer, Further, HasToken, any_last, any_then, by_case}
 use Rattle.koika_parse.proofs.Answered.{by_tokens, decide_as, decide_named, decide_next, decide_number, none_left}
-use Rattle.koika_parse.proofs.Answered.{one_last, one_then, part_last, part_more, part_then, symbol_or}
+use Rattle.koika_parse.proofs.Answered.{one_last, one_then, part_last, part_more, part_then, symbol_or, unexpected}
 use Rattle.koika_parse.proofs.AnsweredParts.{closed_answered, commas_answered, literal_answered, name_answered, number_answered, type_answered}
-use Rattle.koika_parse.proofs.BlockWords.{ElseGo, InsideGo, else_again, inside_again, after_apart, after_at, after_end}
+use Rattle.koika_parse.proofs.BlockWords.{ElseGo, InsideGo, after_apart, after_at, after_end}
 use Rattle.koika_parse.proofs.BlockWords.{arm_start, before_block, block_start, conditional_start, else_arm, else_at}
 use Rattle.koika_parse.proofs.BlockWords.{else_block, else_end, expression_chain, expression_if, field_value_start}
 use Rattle.koika_parse.proofs.BlockWords.{inside_end, inside_expression, inside_let, inside_start, let_start}
-use Rattle.koika_parse.proofs.ChainWords.{operands_again, MorePrefixes, MoreSuffixes, OperandsGo, chain_start}
+use Rattle.koika_parse.proofs.ChainWords.{MorePrefixes, MoreSuffixes, OperandsGo, chain_start}
 use Rattle.koika_parse.proofs.ChainWords.{free_more, holds_operator, index_at, operand_first, operand_start}
 use Rattle.koika_parse.proofs.ChainWords.{operands_apart, operands_at, operands_end, operator_at, postfix_start}
 use Rattle.koika_parse.proofs.ChainWords.{prefix_at_sign, prefixes_apart, prefixes_at, prefixes_end, prefixes_start}
@@ -55,7 +54,7 @@ use Rattle.koika_parse.proofs.MadeExpressions.{abort_primary, array_primary, blo
 use Rattle.koika_parse.proofs.MadeExpressions.{extend_primary, pack_primary, parentheses_primary, read_primary}
 use Rattle.koika_parse.proofs.MadeExpressions.{unpack_primary, update_primary, write_primary}
 use Rattle.koika_parse.proofs.PrimaryWords.{FieldValuesTail, arguments_at, arguments_end, array_start, compare_start}
-use Rattle.koika_parse.proofs.PrimaryWords.{expressions_listed, extend_start, field_values_listed, literal_at, named_at}
+use Rattle.koika_parse.proofs.PrimaryWords.{extend_start, some_field_value, literal_at, named_at}
 use Rattle.koika_parse.proofs.PrimaryWords.{named_call, named_colons, named_end, named_start, pack_start}
 use Rattle.koika_parse.proofs.PrimaryWords.{parentheses_start, parenthesis_free, part_name, part_number, primary_at}
 use Rattle.koika_parse.proofs.PrimaryWords.{primary_none, read_start, some_array, some_compare, some_extend}
@@ -63,7 +62,7 @@ use Rattle.koika_parse.proofs.PrimaryWords.{some_field_values_tail, some_pack, s
 use Rattle.koika_parse.proofs.PrimaryWords.{some_update, some_write, unpack_start, update_start, write_start}
 use Rattle.koika_parse.proofs.Rows.{brace_not_name, first_one, name_not_brace}
 use Rattle.koika_parse.proofs.Expected.{some_one}
-use Rattle.koika_parse.proofs.Witnesses.{some_block}
+use Rattle.koika_parse.proofs.Witnesses.{some_block, some_expression}
 
 -- the operator between two operands that a symbol is
 is_operator : Symbol → Bool
@@ -197,22 +196,22 @@ module _ (source : Source) (stands : All (StandsIn source.text.now) source.token
 
   -- what stands in a block, and a block
   abbrev MoreInside : Cursor → Cursor → Type 0
-  MoreInside old mid = old.at ≤ mid.at → InsideGo source old mid → Answered source old (InsideWord 0) brace_follows
+  MoreInside old mid = old.at ≤ mid.at → InsideGo source old mid → Answered source old InsideWord brace_follows
 
-  inside_answered : (old : Cursor) → Further old (ExpressionAnswered source) → Answered source old (InsideWord 0) brace_follows
+  inside_answered : (old : Cursor) → Further old (ExpressionAnswered source) → Answered source old InsideWord brace_follows
   inside_answered old inner = by_tokens source (MoreInside old) each old (omega arith) inside_start
     where
       each : (mid : Cursor) → Fewer source mid (MoreInside old) → MoreInside old mid
       each mid again forward go = by_case (decide_next (next source mid) (symbol symbols.RightBrace))
           (λ brace. none_left (inside_end brace go))
           (λ brace. by_case (decide_next (next source mid) (keyword keywords.Let))
-          (λ at. part_more let_token (inside_let brace at go) (let_answered mid (λ m further. inner m (omega (arith, forward, further)))) (free (InsideWord (go.count + 1)) brace_follows)
-          λ new fewer goes. again new fewer (omega (arith, forward, fewer)) (inside_again mid go (omega arith) at (omega (arith, fewer)) goes))
-          (λ at. part_then (inside_expression brace at go) (inner mid forward) (after_apart go.count)
+          (λ at. part_more let_token (inside_let brace at go) (let_answered mid (λ m further. inner m (omega (arith, forward, further)))) (free InsideWord brace_follows)
+          λ new fewer goes. again new fewer (omega (arith, forward, fewer)) goes)
+          (λ at. part_then (inside_expression brace at go) (inner mid forward) after_apart
           λ after further goes. by_case (decide_next (next source after) (symbol symbols.Semicolon))
-          (λ semicolon. one_then (after_at go further semicolon goes)
-          λ new fewer goes. again new (omega (arith, further, fewer)) (omega (arith, forward, further, fewer)) (inside_again after go further semicolon (omega (arith, fewer)) goes))
-          (λ semicolon. none_left (after_end go semicolon goes))))
+          (λ semicolon. one_then (after_at semicolon goes)
+          λ new fewer goes. again new (omega (arith, further, fewer)) (omega (arith, forward, further, fewer)) goes)
+          (λ semicolon. none_left (after_end semicolon goes))))
 
   pub block_by : (old : Cursor) → Inner source old → Answered source old OneBlock Any
   block_by old inner = one_then block_start
@@ -222,7 +221,7 @@ module _ (source : Source) (stands : All (StandsIn source.text.now) source.token
   -- what begins with a bracket or a keyword
   array_by : (old : Cursor) → Inner source old → Answered source old ArrayWord Any
   array_by old inner = one_then array_start
-      λ start fewer goes. closed_answered source stands expressions_listed tt (tt, refl) goes (λ m further. inner m (omega (arith, fewer, further)))
+      λ start fewer goes. closed_answered source stands some_expression tt (tt, refl) goes (λ m further. inner m (omega (arith, fewer, further)))
 
   parentheses_by : (old : Cursor) → Inner source old → Answered source old ParenthesesWord Any
   parentheses_by old inner = one_then parentheses_start
@@ -291,7 +290,7 @@ module _ (source : Source) (stands : All (StandsIn source.text.now) source.token
   arguments_by : (old : Cursor) → Further old (ExpressionAnswered source) → Answered source old ArgumentsWord parenthesis_follows
   arguments_by old inner = by_case (decide_next (next source old) (symbol symbols.RightParenthesis))
       (λ at. none_left (arguments_end at))
-      (λ at. part_last (arguments_at at) (commas_answered source stands expressions_listed tt old inner) (λ v follows. parenthesis_free (first v) follows))
+      (λ at. part_last (arguments_at at) (commas_answered source stands some_expression tt old inner) (λ v follows. parenthesis_free (first v) follows))
 
   named_by : (old : Cursor) → Inner source old → Answered source old NamedWord (Free 12)
   named_by old inner = any_then named_start (name_answered source stands old)
@@ -305,7 +304,7 @@ module _ (source : Source) (stands : All (StandsIn source.text.now) source.token
       λ start fewer goes. by_case (decide_named (kind_at source start))
       (λ member. any_last (name_not_brace FieldValuesTail member goes) (name_answered source stands start))
       (λ member. one_then (brace_not_name FieldValuesTail member some_field_values_tail goes)
-      λ fields less goes. closed_answered source stands field_values_listed tt (tt, refl) goes
+      λ fields less goes. closed_answered source stands some_field_value tt (tt, refl) goes
       λ at further. field_value_by at (λ m more. inner m (omega (arith, forward, fewer, less, further, more)))))
       (λ colons. none_left (named_end call colons goes)))
 
@@ -316,7 +315,7 @@ module _ (source : Source) (stands : All (StandsIn source.text.now) source.token
 
   no_primary : {kind : TokenKind} (old : Cursor) → kind_at source old ≡ Some kind → ((u : List Leaf) → PrimaryWord kind u → ⊥) → Answered source old (LevelWord 12) (Free 12)
   no_primary old at never =
-      (old, inr (stops.Unexpected, tt, primary_none (λ kind here u word. never u (subst (λ j. PrimaryWord j u) (same_of_some (sym here ∙ at)) word))))
+      unexpected (primary_none (λ kind here u word. never u (subst (λ j. PrimaryWord j u) (same_of_some (sym here ∙ at)) word)))
 
   keyword_by : (old : Cursor) → Inner source old → (k : Keyword) → kind_at source old ≡ Some (kinds.Keyword k) → Answered source old (LevelWord 12) (Free 12)
   keyword_by old inner keywords.Read0 at = primary_last at (some_read 0) (read_primary 0 (omega arith)) (read_by 0 old)
@@ -349,7 +348,7 @@ module _ (source : Source) (stands : All (StandsIn source.text.now) source.token
   primary_by old inner = of (kind_at source old) refl
     where
       of : (o : Option TokenKind) → kind_at source old ≡ o → Answered source old (LevelWord 12) (Free 12)
-      of None at = (old, inr (stops.Unexpected, tt, primary_none (λ kind here u word. never_none (sym at ∙ here))))
+      of None at = unexpected (primary_none (λ kind here u word. never_none (sym at ∙ here)))
       of (Some (kinds.Literal bits)) at = any_last (literal_at bits at) (literal_answered source stands old)
       of (Some kinds.Name) at = part_last (named_at at) (named_by old inner) (λ v free. free)
       of (Some (kinds.Number n)) at = no_primary old at (λ u word. word)
@@ -416,8 +415,8 @@ module _ (source : Source) (stands : All (StandsIn source.text.now) source.token
 
       each : (mid : Cursor) → Fewer source mid (Chained k old) → Chained k old mid
       each mid again forward go = by_case (decide_operator source mid k)
-          (λ at. part_more (operand_token k) (operands_at k low high at go) (operand mid forward at) (operands_apart (go.count + 1) k)
-          λ new fewer goes. again new fewer (omega (arith, forward, fewer)) (operands_again k at go (omega (arith, fewer)) goes))
+          (λ at. part_more (operand_token k) (operands_at k low high at go) (operand mid forward at) (operands_apart k)
+          λ new fewer goes. again new fewer (omega (arith, forward, fewer)) goes)
           (λ at. none_left (operands_end k at go))
 
   chain_by : (j k : ℕ) → k + j ≡ 10 → 0 < k → (old : Cursor) → Inner source old → Answered source old (LevelWord k) (Free k)
@@ -426,8 +425,7 @@ module _ (source : Source) (stands : All (StandsIn source.text.now) source.token
       let high : k ≤ 9 = omega (arith, same) in
       let tighter : Further old (λ mid. Answered source mid (LevelWord (k + 1)) (Free (k + 1))) =
       λ m further. chain_by j (k + 1) (omega (arith, same)) (omega arith) m (λ n fewer. inner n (omega (arith, further, fewer))) in
-      part_then (chain_start k low high) (chain_by j (k + 1) (omega (arith, same)) (omega arith) old inner) (operands_apart 0 k)
-      λ mid forward goes. operands_by k low high old tighter mid forward (record { count = 0; low = omega arith; fits = lit< tt; goes = goes })
+      part_then (chain_start k low high) (chain_by j (k + 1) (omega (arith, same)) (omega arith) old inner) (operands_apart k) (operands_by k low high old tighter)
 
   -- an `if`, and an expression
   arm_by : (old : Cursor) → Inner source old → Answered source old (Part IsArm arm_leaves) Any
@@ -439,16 +437,15 @@ module _ (source : Source) (stands : All (StandsIn source.text.now) source.token
   Branched old mid = old.at ≤ mid.at → ElseGo source old mid → Answered source old ConditionalWord (Free 0)
 
   conditional_by : (old : Cursor) → Inner source old → Answered source old ConditionalWord (Free 0)
-  conditional_by old inner = any_then conditional_start (arm_by old inner)
-      λ mid forward goes. by_tokens source (Branched old) each mid forward (record { count = 1; low = omega arith; fits = lit< tt; goes = goes })
+  conditional_by old inner = any_then conditional_start (arm_by old inner) (by_tokens source (Branched old) each)
     where
       each : (mid : Cursor) → Fewer source mid (Branched old) → Branched old mid
       each mid again forward go = by_case (decide_next (next source mid) (keyword keywords.Else))
           (λ here. one_then (else_at here go)
           λ branch fewer goes. by_case (decide_next (next source branch) (keyword keywords.If))
-          (λ at. any_then (else_arm here go at goes) (arm_by branch (λ m less. inner m (omega (arith, forward, fewer, less))))
-          λ new further goes. again new (omega (arith, fewer, further)) (omega (arith, forward, fewer, further)) (else_again here go (omega (arith, fewer, further)) goes))
-          (λ at. any_last (else_block go at goes) (block_by branch (λ m less. inner m (omega (arith, forward, fewer, less))))))
+          (λ at. any_then (else_arm at goes) (arm_by branch (λ m less. inner m (omega (arith, forward, fewer, less))))
+          λ new further goes. again new (omega (arith, fewer, further)) (omega (arith, forward, fewer, further)) goes)
+          (λ at. any_last (else_block at goes) (block_by branch (λ m less. inner m (omega (arith, forward, fewer, less))))))
           (λ here. none_left (else_end here go))
 
   pub expression_answered : (old : Cursor) → Answered source old OneExpression (Free 0)

@@ -1,5 +1,5 @@
 -- Reading a name, a number, a literal, a type, parts with commas, a constant and a scheduler comes to an end.
-use Rattle.std.proofs.Common.{◌≡◌, ℕ, ◌+◌, ◌≤◌, Option, Some, List, get_or, inr, refl, sym, ap, ◌∙◌, subst, arith, lit<}
+use Rattle.std.proofs.Common.{◌≡◌, ℕ, ◌≤◌, Option, Some, List, get_or, inr, refl, sym, ap, ◌∙◌, subst, arith}
 use Rattle.std.specs.Prelude.{slice_range}
 use Rattle.std.specs.List.{All}
 use Rattle.std.specs.Option.{option_map}
@@ -22,15 +22,14 @@ use Rattle.koika_parse.specs.inner.Reading.{kind_at, next}
 use Rattle.koika_parse.specs.inner.Words.{LastChoiceWord, RulesWord, no_name, no_try}
 use Rattle.koika_parse.specs.declared.cursor.Cursor.{Cursor}
 use Rattle.koika_parse.specs.declared.source.Source.{Source}
-use Rattle.koika_parse.specs.declared.stop.Stop.TheVariants as stops
-use Rattle.koika_parse.proofs.Answered.{Answered, Ends, Fewer, Further, any_last, any_then, by_case, by_tokens, decide_named, decide_next, none_left, one_last, one_then, part_then}
-use Rattle.koika_parse.proofs.Commas.{CommasGo, Listed, commas_again, commas_apart, commas_at, commas_end, commas_start}
-use Rattle.koika_parse.proofs.ConstantWords.{FieldsTail, constant_at_bracket, constant_at_name, constant_elsewhere, constant_field_start, constant_fields_listed, constants_listed, some_fields_tail}
-use Rattle.koika_parse.proofs.Expected.{Language, Lookahead, same_first, Goes, begin, before_one, kind_is, kind_of_next, literal_kind, named_terminal, narrow_part, refused, some_next, within}
+use Rattle.koika_parse.proofs.Answered.{Answered, Ends, Fewer, Further, any_last, any_then, by_case, by_tokens, decide_named, decide_next, none_left, one_last, one_then, part_then, unexpected}
+use Rattle.koika_parse.proofs.Commas.{CommasGo, commas_apart, commas_at, commas_end, commas_start}
+use Rattle.koika_parse.proofs.ConstantWords.{FieldsTail, constant_at_bracket, constant_at_name, constant_elsewhere, constant_field_start, some_constant_field, some_fields_tail}
+use Rattle.koika_parse.proofs.Expected.{Language, Lookahead, same_first, Goes, Has, begin, before_one, kind_is, kind_of_next, literal_kind, named_terminal, narrow_part, refused, some_next, within}
 use Rattle.koika_parse.proofs.Names.{name_is}
 use Rattle.koika_parse.proofs.Rows.{brace_not_name, name_not_brace}
 use Rattle.koika_parse.proofs.SchedulerWords.{choice_start, last_at, last_none, rules_apart, rules_at, rules_end, rules_start, scheduler_start}
-use Rattle.koika_parse.proofs.Witnesses.{some_literal, some_name, some_number, some_width}
+use Rattle.koika_parse.proofs.Witnesses.{some_constant, some_literal, some_name, some_number, some_width}
 use Rattle.koika_parse.proofs.Words.{array_is_type, field_start, member_start, name_is_type, one_literal, one_name}
 use Rattle.koika_parse.proofs.Words.{one_number, some_array_type, type_array, type_bits, type_name, width_is_type}
 use Rattle.koika_parse.proofs.Words.{width_start}
@@ -51,7 +50,7 @@ module _ (source : Source) (stands : All (StandsIn source.text.now) source.token
       let is = name_is (source.names old.at no_token low kind) in
       let at = ap (option_map (terminal_of text)) (slice_get-get_or tokens old.at no_token low) in
       one_last (one_name (slice_range text token.start token.end) is (named_terminal text token kind) at))
-      (λ other. (old, inr (stops.Unexpected, tt, refused (begin (Part IsName name_leaves) some_name) (λ r v word behind same. other (kind_is source old (same_first v (sym word.2) ∙ same))))))
+      (λ other. unexpected (refused (begin (Part IsName name_leaves) some_name) (λ r v word behind same. other (kind_is source old (same_first v (sym word.2) ∙ same)))))
 
   pub number_answered : (old : Cursor) → Answered source old (Part NumberFits number_leaves) Any
   number_answered old = of (next source old) refl
@@ -64,7 +63,7 @@ module _ (source : Source) (stands : All (StandsIn source.text.now) source.token
           let text = slice_range source.text.now token.start token.end in
           let is : IsToken (kinds.Number n) text = subst (λ k. IsToken k text) kind (stands old.at no_token low).bytes in
           one_last (one_number n is.2 refl at)
-      of o at = (old, inr (stops.Unexpected, tt, refused (begin (Part NumberFits number_leaves) some_number) (λ r v word behind same. none word.0.value (sym at ∙ sym same ∙ same_first v word.2))))
+      of o at = unexpected (refused (begin (Part NumberFits number_leaves) some_number) (λ r v word behind same. none word.0.value (sym at ∙ sym same ∙ same_first v word.2)))
         where
           none : (x : ℕ) → o ≡ Some (number x) → ⊥
           none x e = cc e
@@ -81,7 +80,7 @@ module _ (source : Source) (stands : All (StandsIn source.text.now) source.token
           let is : IsToken (kinds.Literal bits) text = subst (λ k. IsToken k text) kind (stands old.at no_token low).bytes in
           let said = is.2 in
           one_last (one_literal bits (subst (λ w. IsBitVector w bits.number) (sym said.width) (subst (IsBitVector (literal_width is.0)) (sym said.number) said.in_range)) refl at)
-      of o at = (old, inr (stops.Unexpected, tt, refused (begin (Part LiteralFits literal_leaves) some_literal) (λ r v word behind same. none word.0.bits (sym at ∙ sym same ∙ same_first v word.2))))
+      of o at = unexpected (refused (begin (Part LiteralFits literal_leaves) some_literal) (λ r v word behind same. none word.0.bits (sym at ∙ sym same ∙ same_first v word.2)))
         where
           none : (x : BitVector) → o ≡ Some (literal x) → ⊥
           none x e = cc e
@@ -111,10 +110,10 @@ module _ (source : Source) (stands : All (StandsIn source.text.now) source.token
   member_answered old = any_then member_start (name_answered old) λ equals forward goes. one_then goes λ value fewer goes. any_last goes (literal_answered value)
 
   -- parts with commas between them
-  module _ {X : Type 0} {Follow : Lookahead} {Room : ℕ → Type 0} {Is : X → Type 0} {leaves : X → List Leaf} (listed : Listed Room Is leaves) (comma : Follow (Some (symbol symbols.Comma)))
+  module _ {X : Type 0} {Follow : Lookahead} {Is : X → Type 0} {leaves : X → List Leaf} (some : Has (Part Is leaves)) (comma : Follow (Some (symbol symbols.Comma)))
       (old : Cursor) (part : Further old (λ mid. Answered source mid (Part Is leaves) Follow)) where
     More : Cursor → Type 0
-    More mid = old.at ≤ mid.at → CommasGo source old mid Follow Room Is leaves → Answered source old (Commas Room Is leaves) (NoComma Follow)
+    More mid = old.at ≤ mid.at → CommasGo source old mid Follow Is leaves → Answered source old (Commas Is leaves) (NoComma Follow)
 
     more_answered : (mid : Cursor) → More mid
     unfolding More
@@ -122,23 +121,21 @@ module _ (source : Source) (stands : All (StandsIn source.text.now) source.token
       where
         each : (mid : Cursor) → Fewer source mid More → More mid
         each mid again forward go = by_case (decide_next (next source mid) (symbol symbols.Comma))
-            (λ at. one_then (commas_at listed at go)
-            λ beyond fewer goes. part_then goes (part beyond (omega (arith, fewer, forward))) (commas_apart (go.count + 1) listed Follow comma)
-            λ new further goes. again new (omega (arith, fewer, further)) (omega (arith, fewer, forward, further))
-            (commas_again at go (omega (arith, fewer, further)) goes))
-            (λ other. none_left (commas_end listed other go))
+            (λ at. one_then (commas_at some at go)
+            λ beyond fewer goes. part_then goes (part beyond (omega (arith, fewer, forward))) (commas_apart some Follow comma)
+            λ new further goes. again new (omega (arith, fewer, further)) (omega (arith, fewer, forward, further)) goes)
+            (λ other. none_left (commas_end some other go))
 
-    pub commas_answered : Answered source old (Commas Room Is leaves) (NoComma Follow)
+    pub commas_answered : Answered source old (Commas Is leaves) (NoComma Follow)
     unfolding More
-    commas_answered = part_then (commas_start listed) (part old (omega arith)) (commas_apart 1 listed Follow comma)
-        λ mid forward goes. more_answered mid forward (record { count = 1; low = omega arith; fits = lit< tt; goes = goes })
+    commas_answered = part_then (commas_start some) (part old (omega arith)) (commas_apart some Follow comma) more_answered
 
   -- parts with commas between them, up to the symbol that closes them
-  pub closed_answered : {X : Type 0} {Follow Mid : Lookahead} {Room : ℕ → Type 0} {Is : X → Type 0} {leaves : X → List Leaf} {Word : Language} {close : Symbol} {old mid : Cursor} →
-      Listed Room Is leaves → Mid (Some (symbol symbols.Comma)) → NoComma Mid (Some (symbol close)) → Goes source old mid Word Follow (Then (Commas Room Is leaves) (One (symbol close))) →
+  pub closed_answered : {X : Type 0} {Follow Mid : Lookahead} {Is : X → Type 0} {leaves : X → List Leaf} {Word : Language} {close : Symbol} {old mid : Cursor} →
+      Has (Part Is leaves) → Mid (Some (symbol symbols.Comma)) → NoComma Mid (Some (symbol close)) → Goes source old mid Word Follow (Then (Commas Is leaves) (One (symbol close))) →
       Further mid (λ m. Answered source m (Part Is leaves) Mid) → Answered source old Word Follow
-  closed_answered {Follow = Follow} {Mid = Mid} {close = close} {mid = mid} listed comma closes goes part =
-      part_then goes (commas_answered listed comma mid part) (before_one Follow (NoComma Mid) (symbol close) closes) λ behind forward goes. one_last goes
+  closed_answered {Follow = Follow} {Mid = Mid} {close = close} {mid = mid} some comma closes goes part =
+      part_then goes (commas_answered some comma mid part) (before_one Follow (NoComma Mid) (symbol close) closes) λ behind forward goes. one_last goes
 
   -- a constant
   abbrev ConstantAnswered : Cursor → Type 0
@@ -159,11 +156,11 @@ module _ (source : Source) (stands : All (StandsIn source.text.now) source.token
           λ mid fewer goes. by_case (decide_named (kind_at source mid))
           (λ member. any_last (name_not_brace FieldsTail member goes) (name_answered mid))
           (λ member. one_then (brace_not_name FieldsTail member some_fields_tail goes)
-          λ start less goes. closed_answered constant_fields_listed tt (tt, refl) goes
+          λ start less goes. closed_answered some_constant_field tt (tt, refl) goes
           λ at further. field at (λ m more. inner m (omega (arith, forward, fewer, less, further, more)))))
           (λ named. by_case (decide_next (next source old) (symbol symbols.LeftBracket))
           (λ at. one_then (constant_at_bracket at)
-          λ start fewer goes. closed_answered constants_listed tt (tt, refl) goes (λ m further. inner m (omega (arith, fewer, further))))
+          λ start fewer goes. closed_answered some_constant tt (tt, refl) goes (λ m further. inner m (omega (arith, fewer, further))))
           (λ other. any_last (constant_elsewhere named other) (literal_answered old)))
 
   -- a scheduler

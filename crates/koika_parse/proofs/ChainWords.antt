@@ -2,11 +2,10 @@
 use Rattle.std.specs.List.{All, flat_map}
 use Rattle.koika_parse.proofs.MadeExpressions.{chain_within, operand_within, postfix_within, unary_within}
 use Rattle.koika_parse.proofs.Witnesses.{some_level, some_name, some_number, some_suffix}
-use Rattle.std.proofs.lemmas.List.Elements.{All-cons, All-head, All-nil, All-tail}
+use Rattle.std.proofs.lemmas.List.Elements.{All-head, All-tail}
 use Rattle.koika_syntax.specs.declared.tree.Operand.{Operand}
 use Rattle.std.proofs.Common.{◌≢◌, ◌≡◌, ℕ, zero, suc, ◌+◌, ◌-◌, ◌<◌, ◌≤◌, Option, None, Some, IfSome, Err, List, []}
 use Rattle.std.proofs.Common.{◌∷◌, ◌++◌, append_assoc, append-nil, inl, inr, refl, ap, sym, subst, ◌∙◌, arith, Ok}
-use Rattle.std.proofs.Common.{length, lit<, ◌^◌}
 use Rattle.std.specs.Prelude.{◌⊎◌, ⊤}
 use Rattle.koika_syntax.specs.Grammar.{IsSuffix, IsName, NumberFits, level_of, prefix_leaves, suffix_leaves}
 use Rattle.koika_syntax.specs.inner.Grammar.{expression_leaves, operand_leaves}
@@ -20,19 +19,20 @@ use Rattle.koika_syntax.specs.declared.operator.UnaryOperator.TheVariants as una
 use Rattle.koika_syntax.specs.declared.tree.Suffix.{Suffix}
 use Rattle.koika_syntax.specs.declared.tree.Suffix.TheVariants as suffixes
 use Rattle.koika_syntax.specs.declared.tree.Prefix.{Prefix}
-use Rattle.koika_parse.specs.inner.Expected.{One, Part, Then, first, Behind, Takes, InVector}
+use Rattle.koika_parse.specs.inner.Expected.{One, Part, Then, first, Behind, Takes}
 use Rattle.koika_parse.specs.inner.ExpressionWords.{OneSuffix, holds, Free, LevelWord, OperandsWord, OperatorWord}
 use Rattle.koika_parse.specs.inner.ExpressionWords.{SomeOperandsWord, IsAtOperator, PrefixWord, PrefixesWord}
 use Rattle.koika_parse.specs.inner.ExpressionWords.{SuffixesWord, IsAtPrefix, IsAtSuffix, no_prefix}
 use Rattle.koika_parse.specs.inner.Parts.{IsOperandIn}
-use Rattle.koika_parse.specs.inner.Reading.{next, tokens_left}
+use Rattle.koika_parse.specs.inner.Reading.{next}
 use Rattle.koika_parse.specs.declared.cursor.Cursor.{Cursor}
 use Rattle.koika_parse.specs.declared.source.Source.{Source}
-use Rattle.koika_parse.specs.declared.stop.Stop.TheVariants as stops
+use Rattle.kw_bits.specs.declared.failure.Failure.TheVariants as failures
+use Rattle.koika_parse.specs.declared.stop.Unread.TheVariants as unread
 use Rattle.koika_parse.proofs.Expected.{Language, Lookahead, same_first, ◌⨾◌, a_part, a_sign, word_as, Empty, Apart}
 use Rattle.koika_parse.proofs.Expected.{Goes, start, starts, goes_as, narrow, narrow_part, refused, same_of_some}
 use Rattle.koika_parse.proofs.Expected.{kind_of, Has, Kept, Within, begin, has_within, kept, like_one, like_part}
-use Rattle.koika_parse.proofs.Expected.{like_then, made, made_at, place_one, room_at, same_of, some_one, some_then}
+use Rattle.koika_parse.proofs.Expected.{like_then, made, made_at, place_one, same_of, some_one, some_then}
 use Rattle.koika_parse.proofs.Expected.{step}
 use Rattle.koika_parse.proofs.Rows.{Rows, the_first, the_second, rows_cases, rows_made, rows_none, first_one, rows_split}
 use Rattle.koika_parse.proofs.Words.{sign_word}
@@ -175,10 +175,6 @@ free_more k l less (Some (symbol s)) free = of (holds s) free
 free_more k l less (Some (keyword keywords.Else)) free = omega (arith, free, less)
 free_more k l less _ free = tt
 
--- an operand, and others where there is room for so many more
-abbrev pub MoreOperands : ℕ → ℕ → Language
-MoreOperands n k = Then (OneOperand k) (OperandsWord (n + 1) k)
-
 -- an operator of this level is the first token
 abbrev BeginsWithOperator : ℕ → List Leaf → Type 0
 BeginsWithOperator k u = (operator : BinaryOperator) × (level_of operator ≡ k) × (first u ≡ Some (symbol (binary_symbol operator)))
@@ -189,50 +185,26 @@ operand_first k r v part =
     let word = operand_word k part.0 part.1 in
     (word.2.0, word.2.1, same_first v (part.2 ∙ word.4 ∙ ap (λ l. l ++ word.1) word.2.2.2) ∙ ap Some word.2.2.1)
 
-operands_first : (n k : ℕ) (r v : List Leaf) → MoreOperands n k r → BeginsWithOperator k (r ++ v)
-operands_first n k r v both =
+operands_first : (k : ℕ) (r v : List Leaf) → SomeOperandsWord k r → BeginsWithOperator k (r ++ v)
+operands_first k r v both =
     let head = operand_first k both.0 (both.1 ++ v) both.2 in
     (head.0, head.1, same_first v both.4 ∙ ap first (append_assoc both.0 both.1 v) ∙ head.2)
 
--- operands where there is room for so many more, and what is left of them
-operands_cases : (n k : ℕ) (r : List Leaf) → OperandsWord n k r → Empty r ⊎ MoreOperands n k r
-operands_cases n k r word = subst (λ r. Empty r ⊎ MoreOperands n k r) (sym word.2) (of word.0 word.1)
-  where
-    of : (xs : List Operand) → All (IsOperandIn k) xs × InVector (length xs + n) →
-        Empty (flat_map operand_leaves xs) ⊎ MoreOperands n k (flat_map operand_leaves xs)
-    of [] all = inl refl
-    of (x ∷ xs) all =
-        inr (operand_leaves x, flat_map operand_leaves xs, (x, All-head (IsOperandIn k) x xs all.0, refl), (xs, (All-tail (IsOperandIn k) x xs all.0, omega (arith, all.1)), refl), refl)
+abbrev no_operands : (k : ℕ) → Has (OperandsWord k)
+no_operands k = ([], rows_none (IsOperandIn k) operand_leaves)
 
-operands_made : (n k : ℕ) (r : List Leaf) → MoreOperands n k r → OperandsWord n k r
-operands_made n k r both =
-    let o = both.2 in
-    let os = both.3 in
-    let are = All-cons (IsOperandIn k) o.0 os.0 o.1 os.1.0 in
-    (o.0 ∷ os.0, (are, omega (arith, os.1.1)), both.4 ∙ ap (λ l. l ++ both.1) o.2 ∙ ap (λ l. operand_leaves o.0 ++ l) os.2)
-
-operands_within : (n k : ℕ) → InVector n → Within (λ r. Empty r ⊎ MoreOperands n k r) (OperandsWord n k)
-operands_within n k fits q (inl empty) = kept q [] ([], (All-nil (IsOperandIn k), omega (arith, fits)), refl) (same_of (sym empty))
-operands_within n k fits q (inr both) = kept q q (operands_made n k q both) (same_of refl)
-
-abbrev no_operands : (n k : ℕ) → InVector n → Has (OperandsWord n k)
-no_operands n k fits = ([], ([], (All-nil (IsOperandIn k), omega (arith, fits)), refl))
-
--- so many operands have been read, no more than tokens
-pub record OperandsGo (source : Source) (old new : Cursor) (k : ℕ) (Word : Language) : Type 0 where
-  pub count : ℕ
-  pub low : count ≤ new.at + 1
-  pub fits : count < 2 ^ 63
-  pub goes : Goes source old new Word (Free k) (OperandsWord count k)
+-- operands have been read, and more may follow
+abbrev pub OperandsGo : Source → (old new : Cursor) → ℕ → Language → Type 0
+OperandsGo source old new k Word = Goes source old new Word (Free k) (OperandsWord k)
 
 -- an operand of a chain may have more operands behind it
-pub operands_apart : (n k : ℕ) → Apart (OperandsWord n k) (Free k) (Free (k + 1))
-operands_apart n k q v word behind = of (operands_cases n k q word)
+pub operands_apart : (k : ℕ) → Apart (OperandsWord k) (Free k) (Free (k + 1))
+operands_apart k q v word behind = of (rows_cases (IsOperandIn k) operand_leaves q word)
   where
-    of : Empty q ⊎ MoreOperands n k q → Behind (Free (k + 1)) (q ++ v)
+    of : Empty q ⊎ SomeOperandsWord k q → Behind (Free (k + 1)) (q ++ v)
     of (inl empty) = subst (λ l. Behind (Free (k + 1)) (l ++ v)) (sym empty) (free_more k (k + 1) (omega arith) (first v) behind)
     of (inr some) =
-        let head = operands_first n k q v some in
+        let head = operands_first k q v some in
         subst (Free (k + 1)) (sym head.2) (free_operator (k + 1) head.0 (omega (arith, head.1)))
 
 -- an operator of each level
@@ -262,48 +234,32 @@ some_operand : (k : ℕ) → 0 < k → k ≤ 9 → Has (OneOperand k)
 some_operand k low high = has_within (operand_within k) (some_operand_word k low high)
 
 -- at an operator of the level, one operand more; elsewhere none
-pub operands_at : {source : Source} {old new : Cursor} {Word : Language} (k : ℕ) → 0 < k → k ≤ 9 → IsAtOperator source new k → (go : OperandsGo source old new k Word) →
-    Goes source old new Word (Free k) (MoreOperands go.count k)
-operands_at {source} {old} {new} k low high at go = the_second (goes_as go.goes (operands_cases go.count k) ([], inl refl) (operands_within go.count k go.fits))
+pub operands_at : {source : Source} {old new : Cursor} {Word : Language} (k : ℕ) → 0 < k → k ≤ 9 → IsAtOperator source new k →
+    OperandsGo source old new k Word → Goes source old new Word (Free k) (SomeOperandsWord k)
+operands_at k low high at go = the_second (rows_split (IsOperandIn k) operand_leaves go)
     (λ r v empty behind same. omega (arith, at.1, taken_operator k at.0 (subst (Free k) (same_first v (sym empty) ∙ same ∙ at.2) behind)))
-    (some_then (some_operand k low high) (no_operands (go.count + 1) k (room_at source new go.count at.2 go.low)))
-
--- one operand more has been read
-pub operands_again : {source : Source} {old mid new : Cursor} {Word : Language} (k : ℕ) → IsAtOperator source mid k → (go : OperandsGo source old mid k Word) →
-    mid.at < new.at → Goes source old new Word (Free k) (OperandsWord (go.count + 1) k) → OperandsGo source old new k Word
-operands_again {source = source} {mid = mid} k at go further goes =
-    record { count = go.count + 1; low = omega (arith, go.low, further); fits = room_at source mid go.count at.2 go.low; goes = goes }
-
-pub operands_next : {X : Type 0} {source : Source} {old mid new : Cursor} {Word : Language} {x : X} (k : ℕ) → 0 < k → k ≤ 9 → IsAtOperator source mid k → OperandsGo source old mid k Word →
-    Takes source mid new (OneOperand k) (Free (k + 1)) (Ok x) → tokens_left source new < tokens_left source mid → OperandsGo source old new k Word
-operands_next k low high at go takes fewer =
-    operands_again k at go (omega (arith, fewer)) (step (operands_at k low high at go) takes (operands_apart (go.count + 1) k))
+    (some_then (some_operand k low high) (no_operands k))
 
 pub operands_end : {source : Source} {old new : Cursor} {Word : Language} (k : ℕ) → (IsAtOperator source new k → ⊥) → OperandsGo source old new k Word → Goes source old new Word (Free k) Empty
-operands_end k other go = the_first (goes_as go.goes (operands_cases go.count k) ([], inl refl) (operands_within go.count k go.fits))
-    (λ r v some behind same. let head = operands_first go.count k r v some in other (head.0, head.1, sym same ∙ head.2)) ([], refl)
+operands_end k other go = the_first (rows_split (IsOperandIn k) operand_leaves go)
+    (λ r v some behind same. let head = operands_first k r v some in other (head.0, head.1, sym same ∙ head.2)) ([], refl)
 
 -- a chain is an operand and those behind it
-pub chain_start : {source : Source} {cursor : Cursor} {Follow : Lookahead} (k : ℕ) → 0 < k → k ≤ 9 → Goes source cursor cursor (LevelWord k) Follow (Then (LevelWord (k + 1)) (OperandsWord 0 k))
-chain_start k low high = start (λ u word. of u (chain_split k low high u word)) (some_then (some_level (k + 1) (omega (arith, high))) (no_operands 0 k (lit< tt))) (chain_within k)
+pub chain_start : {source : Source} {cursor : Cursor} {Follow : Lookahead} (k : ℕ) → 0 < k → k ≤ 9 → Goes source cursor cursor (LevelWord k) Follow (Then (LevelWord (k + 1)) (OperandsWord k))
+chain_start k low high = start (λ u word. of u (chain_split k low high u word)) (some_then (some_level (k + 1) (omega (arith, high))) (no_operands k)) (chain_within k)
   where
-    of : (u : List Leaf) → LevelWord (k + 1) u ⊎ Then (LevelWord (k + 1)) (SomeOperandsWord k) u → Then (LevelWord (k + 1)) (OperandsWord 0 k) u
-    of u (inl tighter) = (u, [], tighter, (no_operands 0 k (lit< tt)).1, sym (append-nil u))
-    of u (inr both) = (both.0, both.1, both.2, operands_made 0 k both.1 both.3, both.4)
+    of : (u : List Leaf) → LevelWord (k + 1) u ⊎ Then (LevelWord (k + 1)) (SomeOperandsWord k) u → Then (LevelWord (k + 1)) (OperandsWord k) u
+    of u (inl tighter) = (u, [], tighter, (no_operands k).1, sym (append-nil u))
+    of u (inr both) = (both.0, both.1, both.2, rows_made (IsOperandIn k) operand_leaves both.1 both.3, both.4)
 
 -- behind the first operand of a chain
 abbrev pub chain_go :
     {X : Type 0} {source : Source} {old new : Cursor} {x : X} (k : ℕ) → 0 < k → k ≤ 9 →
     Takes source old new (LevelWord (k + 1)) (Free (k + 1)) (Ok x) → OperandsGo source old new k (LevelWord k)
-chain_go k low high takes = record { count = 0; low = omega arith; fits = lit< tt; goes = step (chain_start k low high) takes (operands_apart 0 k) }
+chain_go k low high takes = step (chain_start k low high) takes (operands_apart k)
 
 pub operands_start : {source : Source} {cursor : Cursor} {Follow : Lookahead} (k : ℕ) → 0 < k → k ≤ 9 → Goes source cursor cursor (SomeOperandsWord k) Follow (SomeOperandsWord k)
-operands_start k low high = begin (SomeOperandsWord k) (some_then (some_operand k low high) (no_operands 1 k (lit< tt)))
-
-pub operands_first_go :
-    {X : Type 0} {source : Source} {old new : Cursor} {x : X} (k : ℕ) → 0 < k → k ≤ 9 →
-    Takes source old new (OneOperand k) (Free (k + 1)) (Ok x) → OperandsGo source old new k (SomeOperandsWord k)
-operands_first_go k low high takes = record { count = 1; low = omega arith; fits = lit< tt; goes = step (operands_start k low high) takes (operands_apart 1 k) }
+operands_start k low high = begin (SomeOperandsWord k) (some_then (some_operand k low high) (no_operands k))
 
 pub operand_start : {source : Source} {cursor : Cursor} {Follow : Lookahead} (k : ℕ) → 0 < k → k ≤ 9 → Goes source cursor cursor (OneOperand k) Follow (OperandWord k)
 operand_start k low high = starts (OperandWord k) (operand_word k) (some_operand_word k low high) (operand_within k)
@@ -323,7 +279,7 @@ operator_at k low high operator level at =
 pub operator_refused :
     {Y : Type 0} {source : Source} {cursor : Cursor} {Follow : Lookahead} (k : ℕ) → 0 < k → k ≤ 9 →
     (IsAtOperator source cursor k → ⊥) →
-    Takes {X = Y} source cursor cursor (OperatorWord k) Follow (Err stops.Unexpected)
+    Takes {X = Y} source cursor cursor (OperatorWord k) Follow (Err (failures.Why unread.Unexpected))
 operator_refused k low high other = refused (operator_start k low high) (λ r v word behind same. other (word.0, word.1, sym same ∙ same_first v word.2.2 ∙ ap Some word.2.1))
 
 prefix_low : (operator : UnaryOperator) → begins (symbol (unary_symbol operator)) < 2
@@ -398,7 +354,7 @@ prefix_at_sign operator at = narrow prefix_start (λ r v word behind same. (_, s
 
 pub prefix_refused :
     {Y : Type 0} {source : Source} {cursor : Cursor} {Follow : Lookahead} → (IsAtPrefix source cursor → ⊥) →
-    Takes {X = Y} source cursor cursor PrefixWord Follow (Err stops.Unexpected)
+    Takes {X = Y} source cursor cursor PrefixWord Follow (Err (failures.Why unread.Unexpected))
 prefix_refused other = refused prefix_start (λ r v word behind same. other (word.0.operator, sym same ∙ same_first v word.2))
 
 abbrev pub MoreSuffixes : Language

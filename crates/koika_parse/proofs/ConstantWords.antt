@@ -1,18 +1,19 @@
 -- The words of constants.
-use Rattle.std.proofs.Common.{◌≡◌, Option, Some, List, [], ◌∷◌, ◌++◌, length, map, inl, inr, refl, ap, sym, subst, ◌∙◌, Vec, Global, arith}
+use Rattle.std.proofs.Common.{◌≡◌, Option, Some, List, [], ◌∷◌, ◌++◌, map, inl, inr, refl, ap, sym, ◌∙◌}
 use Rattle.std.specs.List.{All}
-use lib.ListN.{length-map}
-use Rattle.koika_syntax.specs.Grammar.{IsName, IsNonempty, LiteralFits, constant_leaves, IsConstant, IsConstantLayer, IsConstantFieldLayer, constant_step, constant_field_step}
+use Rattle.koika_syntax.specs.Grammar.{IsName, IsNonempty, LiteralFits, constant_leaves, IsConstant, IsConstantLayer}
 use Rattle.koika_syntax.specs.inner.Grammar.{constant_field_leaves}
 use Rattle.koika_syntax.specs.Tree.{Leaf, Terminal, symbol, name_leaves, literal_leaves, sign}
 use Rattle.koika_syntax.specs.declared.symbol.Symbol.TheVariants as symbols
-use Rattle.koika_parse.specs.inner.Expected.{Commas, InVector, One, Part, Then, first}
+use Rattle.koika_parse.specs.inner.Expected.{Commas, One, Part, Then, first}
 use Rattle.koika_parse.specs.inner.Words.{ConstantArrayWord, ConstantColonsWord, ConstantTailWord, NamedConstantWord}
 use Rattle.koika_parse.specs.inner.Reading.{kind_at, next}
 use Rattle.koika_parse.specs.declared.cursor.Cursor.{Cursor}
 use Rattle.koika_parse.specs.declared.source.Source.{Source}
-use Rattle.koika_parse.proofs.Commas.{Listed, in_vector, some_commas}
-use Rattle.koika_parse.proofs.Witnesses.{some_constant, some_literal, some_name, vector}
+use Rattle.koika_parse.proofs.Commas.{some_commas}
+use Rattle.koika_parse.proofs.Witnesses.{some_constant, some_literal, some_name}
+use Rattle.koika_parse.proofs.Layers.{Such, of_leaves, constant_kind, constant_grown, constant_layer, constant_leaves_by}
+use Rattle.koika_parse.proofs.Layers.{constant_field_kind, constant_field_grown, constant_field_leaves_by}
 use Rattle.koika_parse.proofs.Parts.{is_constant_array, is_constant_field, is_constant_literal, is_constant_member, is_constant_struct}
 use Rattle.koika_parse.proofs.Calls.{leaves_constant_field, leaves_constant_literal, leaves_constant_member}
 use Rattle.std.specs.Option.{option_map}
@@ -22,13 +23,11 @@ use Rattle.koika_parse.proofs.Expected.{like_part, like_then, made, made_at, pla
 use Rattle.koika_parse.proofs.Expected.{some_one, some_then, kind_of_next, kind_of, sign_or_name, literal_or_sign}
 use Rattle.koika_parse.proofs.Expected.{name_or_sign, literal_or_name}
 use Rattle.std.proofs.lemmas.List.Elements.{All-cons, All-nil}
-use Rattle.koika_syntax.specs.declared.tree.Constant.{Constant, Constant-F, map-Constant, out-Constant, every_held-Constant, every_here-Constant, fold_out-Constant}
+use Rattle.koika_syntax.specs.declared.tree.Constant.{Constant}
 use Rattle.koika_syntax.specs.declared.tree.Constant.TheOpen as constant
 use Rattle.koika_syntax.specs.declared.tree.Name.{Name}
-use Rattle.koika_syntax.specs.declared.tree.ConstantField.{ConstantField, ConstantField-F, roll-ConstantField}
-use Rattle.koika_syntax.specs.declared.tree.ConstantField.{map-ConstantField, out-ConstantField}
-use Rattle.koika_syntax.specs.declared.tree.ConstantField.{every_held-ConstantField, every_here-ConstantField}
-use Rattle.koika_syntax.proofs.Leaves.{array_constant, constant_field, struct_constant}
+use Rattle.koika_syntax.specs.declared.tree.ConstantField.{ConstantField, roll-ConstantField}
+use Rattle.koika_syntax.proofs.Leaves.{array_constant, struct_constant}
 use Rattle.koika_syntax.specs.declared.tree.Constant.TheViews as constant_views
 use Rattle.koika_parse.specs.inner.Parts.{IsConstantField}
 use Rattle.koika_parse.proofs.Words.{Known, one, one_at, part, this, ◌then◌, sign_word}
@@ -36,53 +35,21 @@ use Rattle.koika_parse.proofs.Words.{Known, one, one_at, part, this, ◌then◌,
 abbrev pub ConstantFieldWord : List Leaf → Type 0
 ConstantFieldWord = Then (Part IsName name_leaves) (Then (One (symbol symbols.Colon)) (Part IsConstant constant_leaves))
 
-abbrev pub Such : {X : Type 0} → (X → Type 0) → Type 0
-Such {X} P = (x : X) × P x
-
 pub firsts_are : {X : Type 0} (P : X → Type 0) (xs : List (Such P)) → All P (map (λ e. e.0) xs)
 firsts_are P [] = All-nil P
 firsts_are P (x ∷ xs) = All-cons P x.0 (map (λ e. e.0) xs) x.1 (firsts_are P xs)
 
--- a vector holds what it holds
-pub held_fit : {X : Type 0} (P : X → Type 0) (v : Vec (Such P) Global) → InVector (length (map (λ e. e.0) v.items))
-held_fit P v = omega (arith, length-map v.items (λ (e : Such P). e.0), v.ok.0, v.ok.1, v.small)
-
-abbrev held_in : {X : Type 0} {Is : X → Type 0} (leaves : X → List Leaf) (v : Vec (Such Is) Global) →
-    IsNonempty (map (λ e. e.0) v.items) → Has (Commas InVector Is leaves)
-held_in {Is = Is} leaves v some = this (map (λ e. e.0) v.items) (some, firsts_are Is v.items, held_fit Is v)
-
-abbrev OpenConstant : Type 0
-OpenConstant = Constant-F (Such IsConstant) (Such IsConstantField)
-
-abbrev closed_constant : OpenConstant → Constant-F Constant ConstantField
-closed_constant y = map-Constant (Such IsConstant) (Such IsConstantField) Constant ConstantField (λ e. e.0) (λ e. e.0) y
-
-abbrev constant_layer_leaves : Constant-F Constant ConstantField → List Leaf
-constant_layer_leaves d = constant_step (map-Constant Constant ConstantField (List Leaf) (List Leaf) constant_leaves constant_field_leaves d)
-
-constant_held : (t : Constant) → IsConstant t → (y : OpenConstant) × (closed_constant y ≡ out-Constant t)
-unfolding IsConstant IsConstantField
-constant_held t is = every_held-Constant IsConstantLayer IsConstantFieldLayer t is
-
-constant_here : (t : Constant) → IsConstant t → IsConstantLayer (out-Constant t)
-unfolding IsConstant IsConstantField
-constant_here t is = every_here-Constant IsConstantLayer IsConstantFieldLayer t is
-
-constant_out : (t : Constant) → constant_leaves t ≡ constant_layer_leaves (out-Constant t)
-unfolding constant_leaves constant_field_leaves
-constant_out t = fold_out-Constant (List Leaf) (List Leaf) constant_step constant_field_step t
+abbrev held_in : {X : Type 0} {Is : X → Type 0} (leaves : X → List Leaf) (xs : List (Such Is)) → IsNonempty (map (λ e. e.0) xs) → Has (Commas Is leaves)
+held_in {Is = Is} leaves xs some = this (map (λ e. e.0) xs) (some, firsts_are Is xs)
 
 -- each constant, where its first token is the next one, has a word of this language
 abbrev EachConstant : (List Leaf → Type 0) → List Leaf → Option Terminal → Type 0
 EachConstant W v next =
-    (y : OpenConstant) → IsConstantLayer (closed_constant y) → first (constant_layer_leaves (closed_constant y) ++ v) ≡ next → W (constant_layer_leaves (closed_constant y))
+    (y : constant_kind.Open) → IsConstantLayer (constant_kind.closed y) → first (constant_layer (constant_kind.closed y) ++ v) ≡ next → W (constant_layer (constant_kind.closed y))
 
 constant_case : (W : List Leaf → Type 0) {v : List Leaf} {next : Option Terminal} → EachConstant W v next →
     (t : Constant) → IsConstant t → first (constant_leaves t ++ v) ≡ next → W (constant_leaves t)
-constant_case W {v} {next} each t is =
-    let held = constant_held t is in
-    subst (λ u. first (u ++ v) ≡ next → W u) (sym (constant_out t ∙ ap constant_layer_leaves (sym held.1)))
-    (each held.0 (subst IsConstantLayer (sym held.1) (constant_here t is)))
+constant_case W {v} {next} each t is = of_leaves constant_kind constant_grown constant_leaves_by (λ u. first (u ++ v) ≡ next → W u) each t is
 
 -- a constant by its next token
 colons_word : (n : Name) → IsName n → (u : List Leaf) → ConstantColonsWord u → NamedConstantWord (name_leaves n ++ (sign symbols.ColonColon ++ u))
@@ -122,30 +89,12 @@ constant_literal t is v next at named here = constant_case (Part LiteralFits lit
     each (constant.Struct of fields close) is at = absurd (named (sym (ap (option_map kind_of) at)))
     each (constant.Array place elements) is at = absurd (here (sym at))
 
-abbrev OpenField : Type 0
-OpenField = ConstantField-F (Such IsConstant) (Such IsConstantField)
-
-abbrev closed_field : OpenField → ConstantField-F Constant ConstantField
-closed_field y = map-ConstantField (Such IsConstant) (Such IsConstantField) Constant ConstantField (λ e. e.0) (λ e. e.0) y
-
-constant_field_held : (t : ConstantField) → IsConstantField t → (y : OpenField) × (closed_field y ≡ out-ConstantField t)
-unfolding IsConstant IsConstantField
-constant_field_held t is = every_held-ConstantField IsConstantLayer IsConstantFieldLayer t is
-
-constant_field_here : (t : ConstantField) → IsConstantField t → IsConstantFieldLayer (out-ConstantField t)
-unfolding IsConstant IsConstantField
-constant_field_here t is = every_here-ConstantField IsConstantLayer IsConstantFieldLayer t is
-
 abbrev constant_field_words : Has (Part IsName name_leaves) → Has (Part IsConstant constant_leaves) → Known ConstantFieldWord
 constant_field_words n value = part n then one (symbol symbols.Colon) then part value
 
 pub constant_field_word : (t : ConstantField) → IsConstantField t → ConstantFieldWord (constant_field_leaves t)
-constant_field_word t is =
-    let held = constant_field_held t is in
-    let field = held.0 in
-    let named : IsName field.name = subst IsConstantFieldLayer (sym held.1) (constant_field_here t is) in
-    subst ConstantFieldWord (sym (constant_field t ∙ ap (λ d. name_leaves d.name ++ sign symbols.Colon ++ constant_leaves d.value) (sym held.1)))
-    (constant_field_words (this field.name named) (this field.value.0 field.value.1)).some.1
+constant_field_word = of_leaves constant_field_kind constant_field_grown constant_field_leaves_by ConstantFieldWord
+    (λ y is. (constant_field_words (this y.name is) (this y.value.0 y.value.1)).some.1)
 
 abbrev known_constant_field : Known ConstantFieldWord
 known_constant_field = constant_field_words some_name some_constant
@@ -159,18 +108,15 @@ pub constant_field_start : {source : Source} {cursor : Cursor} {Follow : Option 
     Goes source cursor cursor (Part IsConstantField constant_field_leaves) Follow ConstantFieldWord
 constant_field_start = starts ConstantFieldWord constant_field_word known_constant_field.some constant_field_within
 
-pub constants_listed : Listed InVector IsConstant constant_leaves
-constants_listed = in_vector some_constant
-
-pub constant_fields_listed : Listed InVector IsConstantField constant_field_leaves
-constant_fields_listed = in_vector (has_within constant_field_within known_constant_field.some)
+pub some_constant_field : Has (Part IsConstantField constant_field_leaves)
+some_constant_field = has_within constant_field_within known_constant_field.some
 
 -- what stands behind `::` of a constant, and what is a constant
 abbrev pub FieldsTail : List Leaf → Type 0
-FieldsTail = Then (Commas InVector IsConstantField constant_field_leaves) (One (symbol symbols.RightBrace))
+FieldsTail = Then (Commas IsConstantField constant_field_leaves) (One (symbol symbols.RightBrace))
 
 pub some_fields_tail : Has FieldsTail
-some_fields_tail = some_then (some_commas constant_fields_listed) (some_one (symbol symbols.RightBrace))
+some_fields_tail = some_then (some_commas some_constant_field) (some_one (symbol symbols.RightBrace))
 
 some_named_constant : Has NamedConstantWord
 some_named_constant = some_then some_name (some_then (some_one (symbol symbols.ColonColon)) (some_name.0, inl some_name.1))
@@ -188,21 +134,21 @@ named_constant_within q both = of both.3.3
     of (inr tail) =
         let n = both.2 in
         let listed = tail.3.2 in
-        let fields = vector listed.0 listed.1.2 in
+        let fields = listed.0 in
         made_at q
         (λ place. then_place both (like_part n) (then_place both.3 (like_one both.3.2) (then_place tail (like_one tail.2) (then_place tail.3 (like_part listed) (place_one place tail.3.3)))))
         (λ place. constant_views.Struct n.0 fields place) (λ place. is_constant_struct n.0 fields place listed.1.1 (n.1, listed.1.0))
         (λ place. struct_constant n.0 fields place)
 
 some_constant_array : Has ConstantArrayWord
-some_constant_array = some_then (some_one (symbol symbols.LeftBracket)) (some_then (some_commas constants_listed) (some_one (symbol symbols.RightBracket)))
+some_constant_array = some_then (some_one (symbol symbols.LeftBracket)) (some_then (some_commas some_constant) (some_one (symbol symbols.RightBracket)))
 
 pub constant_array_start : {source : Source} {cursor : Cursor} {Follow : Option Terminal → Type 0} → Goes source cursor cursor ConstantArrayWord Follow ConstantArrayWord
 constant_array_start = begin ConstantArrayWord some_constant_array
 
 constant_array_within : Within ConstantArrayWord (Part IsConstant constant_leaves)
 constant_array_within q both =
-    let elements = vector both.3.2.0 both.3.2.1.2 in
+    let elements = both.3.2.0 in
     made_at q (λ place. place_then place both (like_then both.3 (like_part both.3.2) (like_one both.3.3))) (λ place. constant_views.Array place elements)
     (λ place. is_constant_array place elements both.3.2.1.1 both.3.2.1.0) (λ place. array_constant place elements)
 

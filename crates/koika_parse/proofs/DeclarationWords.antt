@@ -1,6 +1,6 @@
 -- The words of declarations and of a design, and what is left of them by the next token.
 use Rattle.koika_parse.proofs.Witnesses.{some_block, some_constant, some_declaration, some_literal, some_name, some_scheduler, some_type, some_width}
-use Rattle.koika_parse.proofs.Commas.{Listed, any_many, some_commas}
+use Rattle.koika_parse.proofs.Commas.{some_commas}
 use Rattle.std.proofs.lemmas.List.Elements.{All-nil}
 use Rattle.std.proofs.Common.{◌≡◌, ℕ, ◌<◌, Option, None, Some, IfSome, Err, List, [], ◌∷◌, ◌++◌, length, map, append_assoc, append-nil, inl, inr, refl, ap, sym, subst, ◌∙◌, arith}
 use Rattle.std.specs.Prelude.{◌⊎◌}
@@ -21,10 +21,11 @@ use Rattle.koika_syntax.specs.declared.tree.Constant.{Constant}
 use Rattle.koika_syntax.specs.declared.tree.Field.{Field}
 use Rattle.koika_syntax.specs.declared.tree.Name.{Name}
 use Rattle.koika_syntax.specs.declared.tree.Tree.{Tree}
-use Rattle.koika_syntax.specs.declared.tree.TypeExpression.{TypeExpression, Bits, Named, Array'}
+use Rattle.koika_syntax.specs.declared.tree.TypeExpression.{TypeExpression}
+use Rattle.koika_syntax.specs.declared.tree.TypeExpression.TheOpen as type_expression
 use Rattle.std.specs.Option.{option_map}
 use Rattle.std.proofs.lemmas.Option.{slice_get-get_or}
-use Rattle.koika_parse.specs.inner.Expected.{Any, One, Part, Then, Commas, first, Takes, AnyMany}
+use Rattle.koika_parse.specs.inner.Expected.{Any, One, Part, Then, Commas, first, Takes}
 use Rattle.koika_parse.specs.inner.ExpressionWords.{parenthesis_follows}
 use Rattle.koika_parse.specs.inner.Reading.{kind_at, next}
 use Rattle.koika_parse.specs.inner.Words.{ParametersWord, ResultWord, DeclarationWord, DeclarationsWord, DesignWord}
@@ -32,26 +33,27 @@ use Rattle.koika_parse.specs.inner.Words.{end_follows, schedule_follows, AssertW
 use Rattle.koika_parse.specs.inner.Words.{InputWord, RegisterWord, RuleWord, StructWord, TableWord}
 use Rattle.koika_parse.specs.declared.cursor.Cursor.{Cursor}
 use Rattle.koika_parse.specs.declared.source.Source.{Source}
-use Rattle.koika_parse.specs.declared.stop.Stop.TheVariants as stops
+use Rattle.kw_bits.specs.declared.failure.Failure.TheVariants as failures
+use Rattle.koika_parse.specs.declared.stop.Unread.TheVariants as unread
 use Rattle.koika_parse.proofs.Expected.{Apart, Empty, Goes, before_one_then, start, starts, goes_as, narrow_part}
 use Rattle.koika_parse.proofs.Expected.{refused, same_of_some, never_none, kind_is, sign_or_name, Has, Within, begin}
 use Rattle.koika_parse.proofs.Expected.{has_within, kept, like_one, like_part, made, made_at, place_then, same_of}
 use Rattle.koika_parse.proofs.Expected.{some_one, some_then, then_place}
 use Rattle.koika_parse.proofs.Rows.{the_first, the_second, rows_none, rows_split}
 use Rattle.koika_parse.proofs.SchedulerWords.{BracedScheduler}
-use Rattle.koika_parse.proofs.Words.{DeclaredWord, Known, one, one_at, part, this, ◌then◌, word_word, assoc2, assoc3, assoc4, some_field, some_member}
+use Rattle.koika_parse.proofs.Words.{DeclaredWord, EachType, type_case, Known, one, one_at, part, this, ◌then◌, word_word, assoc2, assoc3, assoc4, some_field, some_member}
 use Rattle.koika_parse.proofs.PrimaryWords.{no_commas}
 
 -- the words of each declaration, with its parts
 abbrev named : (k : Keyword) → Has (Part IsName name_leaves) → Known (DeclaredWord k)
 named k n = one (keyword k) then part n
 
-abbrev enum_words : Has (Part IsName name_leaves) → Has (Part IsWidth width_leaves) → Has (Commas AnyMany IsMember member_leaves) → Known EnumWord
+abbrev enum_words : Has (Part IsName name_leaves) → Has (Part IsWidth width_leaves) → Has (Commas IsMember member_leaves) → Known EnumWord
 enum_words n width members =
     named keywords.Enum n then one (symbol symbols.Colon) then part width
     then one (symbol symbols.LeftBrace) then part members then one (symbol symbols.RightBrace)
 
-abbrev struct_words : Has (Part IsName name_leaves) → Has (Commas AnyMany IsField field_leaves) → Known StructWord
+abbrev struct_words : Has (Part IsName name_leaves) → Has (Commas IsField field_leaves) → Known StructWord
 struct_words n fields = named keywords.Struct n then one (symbol symbols.LeftBrace) then part fields then one (symbol symbols.RightBrace)
 
 abbrev register_words : Has (Part IsName name_leaves) → Has (Part IsType type_leaves) → Has (Part IsConstant constant_leaves) → Known RegisterWord
@@ -62,7 +64,7 @@ register_words n of first =
 abbrev input_words : Has (Part IsName name_leaves) → Has (Part IsType type_leaves) → Known InputWord
 input_words n of = named keywords.Input n then one (symbol symbols.Colon) then part of then one (symbol symbols.Semicolon)
 
-abbrev table_words : Has (Part IsName name_leaves) → (input output : Has (Part IsWidth width_leaves)) → Has (Commas AnyMany LiteralFits literal_leaves) → Known TableWord
+abbrev table_words : Has (Part IsName name_leaves) → (input output : Has (Part IsWidth width_leaves)) → Has (Commas LiteralFits literal_leaves) → Known TableWord
 table_words n input output entries =
     named keywords.Table n then one (symbol symbols.Colon) then part input then one (symbol symbols.Arrow) then part output
     then one (symbol symbols.LeftBrace) then part entries then one (symbol symbols.RightBrace)
@@ -105,14 +107,14 @@ Headed d = (k : Keyword) × DeclarationWord k (declaration_leaves d) × ((v : Li
 
 pub declaration_word : (d : Declaration) → IsDeclaration d → Headed d
 declaration_word (declarations.Enum n width members) is =
-    (keywords.Enum, (enum_words (this n is.0) (this width is.1) (this members (is.2, is.3, tt))).some.1, λ v. refl)
-declaration_word (declarations.Struct n fields) is = (keywords.Struct, (struct_words (this n is.0) (this fields (is.1, is.2, tt))).some.1, λ v. refl)
+    (keywords.Enum, (enum_words (this n is.0) (this width is.1) (this members (is.2, is.3))).some.1, λ v. refl)
+declaration_word (declarations.Struct n fields) is = (keywords.Struct, (struct_words (this n is.0) (this fields (is.1, is.2))).some.1, λ v. refl)
 declaration_word (declarations.Register n of first) is =
     let words = register_words (this n is.0) (this of is.1) (this first is.2) in
     (keywords.Reg, subst RegisterWord (sym (register_leaves n of first)) words.some.1, λ v. refl)
 declaration_word (declarations.Input n of) is = (keywords.Input, (input_words (this n is.0) (this of is.1)).some.1, λ v. refl)
 declaration_word (declarations.Table n input output entries) is =
-    (keywords.Table, (table_words (this n is.0) (this input is.1) (this output is.2) (this entries (is.3, is.4, tt))).some.1, λ v. refl)
+    (keywords.Table, (table_words (this n is.0) (this input is.1) (this output is.2) (this entries (is.3, is.4))).some.1, λ v. refl)
 declaration_word (declarations.Host n input output) is = (keywords.Host, (host_words (this n is.0) (this input is.1) (this output is.2)).some.1, λ v. refl)
 declaration_word (declarations.Function n parameters result body) is =
     let words = function_words (this n is.0) (this parameters is.1) (this result is.2) (this body is.3) in
@@ -135,15 +137,6 @@ ADeclaration = Part IsDeclaration declaration_leaves
 abbrev DeclaredAs : (Word : List Leaf → Type 0) → Type 0
 DeclaredAs Word = Within Word ADeclaration
 
-pub members_listed : Listed AnyMany IsMember member_leaves
-members_listed = any_many some_member
-
-pub fields_listed : Listed AnyMany IsField field_leaves
-fields_listed = any_many some_field
-
-pub literals_listed : Listed AnyMany LiteralFits literal_leaves
-literals_listed = any_many some_literal
-
 no_parameters : Has ParametersWord
 no_parameters = (commas (map field_leaves []), ([], All-nil IsField, refl))
 
@@ -151,7 +144,7 @@ some_result : Has ResultWord
 some_result = (word keywords.Unit, (None, tt, refl))
 
 abbrev known_enum : Known EnumWord
-known_enum = enum_words some_name some_width (some_commas members_listed)
+known_enum = enum_words some_name some_width (some_commas some_member)
 
 pub some_enum : Has EnumWord
 some_enum = known_enum.some
@@ -164,7 +157,7 @@ enum_within q both =
     made q (known_enum.like q both) (declarations.Enum n.0 width.0 members.0) (n.1, width.1, members.1.0, members.1.1) refl
 
 abbrev known_struct : Known StructWord
-known_struct = struct_words some_name (some_commas fields_listed)
+known_struct = struct_words some_name (some_commas some_field)
 
 pub some_struct : Has StructWord
 some_struct = known_struct.some
@@ -201,7 +194,7 @@ input_within q both =
     made q (known_input.like q both) (declarations.Input n.0 of.0) (n.1, of.1) refl
 
 abbrev known_table : Known TableWord
-known_table = table_words some_name some_width some_width (some_commas literals_listed)
+known_table = table_words some_name some_width some_width (some_commas some_literal)
 
 pub some_table : Has TableWord
 some_table = known_table.some
@@ -276,7 +269,7 @@ declaration_at k some within at = narrow_part (DeclarationWord k) (λ x is v sam
     subst (λ j. DeclarationWord j (declaration_leaves x)) (same_keyword (sym (head.2 v) ∙ same ∙ at)) head.1) some within
 
 pub declaration_none : {Y : Type 0} {source : Source} {cursor : Cursor} {Follow : Option Terminal → Type 0} →
-    ((k : Keyword) → next source cursor ≡ Some (keyword k) → ⊥) → Takes {X = Y} source cursor cursor ADeclaration Follow (Err stops.Unexpected)
+    ((k : Keyword) → next source cursor ≡ Some (keyword k) → ⊥) → Takes {X = Y} source cursor cursor ADeclaration Follow (Err (failures.Why unread.Unexpected))
 declaration_none other = refused (begin ADeclaration some_declaration) (λ r v word behind same.
     let head = declaration_word word.0 word.1 in
     other head.0 (sym same ∙ ap (λ l. first (l ++ v)) word.2 ∙ head.2 v))
@@ -298,7 +291,7 @@ other_declaration _ n0 n1 n2 n3 n4 n5 n6 n7 n8 u word = word
 
 pub declaration_refused : {Y : Type 0} {source : Source} {cursor : Cursor} {Follow : Option Terminal → Type 0} (k : Keyword) →
     ((u : List Leaf) → DeclarationWord k u → ⊥) → next source cursor ≡ Some (keyword k) →
-    Takes {X = Y} source cursor cursor ADeclaration Follow (Err stops.Unexpected)
+    Takes {X = Y} source cursor cursor ADeclaration Follow (Err (failures.Why unread.Unexpected))
 declaration_refused k none at = refused (begin ADeclaration some_declaration) (λ r v word behind same.
     let head = declaration_word word.0 word.1 in
     let same_word = same_keyword (sym (head.2 v) ∙ ap (λ l. first (l ++ v)) (sym word.2) ∙ same ∙ at) in
@@ -370,19 +363,22 @@ bits_or_unit e = cc e
 bracket_or_unit : Some (symbol symbols.LeftBracket) ≡ Some (keyword keywords.Unit) → ⊥
 bracket_or_unit e = cc e
 
-type_or_unit : (of : TypeExpression) (v : List Leaf) → first (type_leaves of ++ v) ≡ Some (keyword keywords.Unit) → ⊥
-type_or_unit (Bits width) v at = bits_or_unit at
-type_or_unit (Named n) v at = name_or_unit at
-type_or_unit (Array' place _ element size) v at = bracket_or_unit at
+type_or_unit : (of : TypeExpression) → IsType of → (v : List Leaf) → first (type_leaves of ++ v) ≡ Some (keyword keywords.Unit) → ⊥
+type_or_unit of is v at = type_case (λ u. ⊥) each of is at
+  where
+    each : EachType (λ u. ⊥) v (Some (keyword keywords.Unit))
+    each (type_expression.Bits width) is at = bits_or_unit at
+    each (type_expression.Named n) is at = name_or_unit at
+    each (type_expression.Array place element size) is at = bracket_or_unit at
 
 pub result_unit : {source : Source} {cursor : Cursor} {Follow : Option Terminal → Type 0} → next source cursor ≡ Some (keyword keywords.Unit) →
     Goes source cursor cursor ResultWord Follow (One (keyword keywords.Unit))
 result_unit {source} {cursor} unit =
-    narrow_part (One (keyword keywords.Unit)) (λ x is v at. of x v (at ∙ unit)) (some_one (keyword keywords.Unit)) (λ q one. made q (like_one one) None tt refl)
+    narrow_part (One (keyword keywords.Unit)) (λ x is v at. of x is v (at ∙ unit)) (some_one (keyword keywords.Unit)) (λ q one. made q (like_one one) None tt refl)
   where
-    of : (x : Option TypeExpression) (v : List Leaf) → first (result_leaves x ++ v) ≡ Some (keyword keywords.Unit) → One (keyword keywords.Unit) (result_leaves x)
-    of None v at = word_word keywords.Unit
-    of (Some type) v at = absurd (type_or_unit type v at)
+    of : (x : Option TypeExpression) → IfSome x IsType → (v : List Leaf) → first (result_leaves x ++ v) ≡ Some (keyword keywords.Unit) → One (keyword keywords.Unit) (result_leaves x)
+    of None is v at = word_word keywords.Unit
+    of (Some type) is v at = absurd (type_or_unit type is v at)
 
 pub result_type : {source : Source} {cursor : Cursor} {Follow : Option Terminal → Type 0} → (next source cursor ≡ Some (keyword keywords.Unit) → ⊥) →
     Goes source cursor cursor ResultWord Follow (Part IsType type_leaves)
@@ -395,14 +391,14 @@ result_type {source} {cursor} other =
 
 -- no parameter, or at least one
 abbrev Fields : List Leaf → Type 0
-Fields = Commas AnyMany IsField field_leaves
+Fields = Commas IsField field_leaves
 
 parameters_cases : (r : List Leaf) → ParametersWord r → Empty r ⊎ Fields r
 parameters_cases r word = subst (λ r. Empty r ⊎ Fields r) (sym word.2) (of word.0 word.1)
   where
     of : (xs : List Field) → All IsField xs → Empty (commas (map field_leaves xs)) ⊎ Fields (commas (map field_leaves xs))
     of [] all = inl no_commas
-    of (x ∷ xs) all = inr (x ∷ xs, (omega arith, all, tt), refl)
+    of (x ∷ xs) all = inr (x ∷ xs, (omega arith, all), refl)
 
 parameters_within : Within (λ u. Empty u ⊎ Fields u) ParametersWord
 parameters_within q (inl empty) = kept q (commas (map field_leaves [])) ([], All-nil IsField, refl) (same_of (no_commas ∙ sym empty))
@@ -419,7 +415,7 @@ fields_first (x ∷ xs) v some = (x.name.text, refl)
 pub parameters_at : {source : Source} {cursor : Cursor} → kind_at source cursor ≡ Some kinds.Name → Goes source cursor cursor ParametersWord parenthesis_follows Fields
 parameters_at {source} {cursor} named = the_second parameters_start
     (λ r v empty behind same. sign_or_name (sym (kind_is source cursor (sym (ap (λ l. first (l ++ v)) empty ∙ behind) ∙ same)) ∙ named))
-    (some_commas fields_listed)
+    (some_commas some_field)
 
 pub parameters_end : {source : Source} {cursor : Cursor} {Follow : Option Terminal → Type 0} → (kind_at source cursor ≡ Some kinds.Name → ⊥) →
     Goes source cursor cursor ParametersWord Follow Empty
@@ -440,6 +436,6 @@ no_next source cursor within none =
 
 -- nothing stands behind a design
 pub tree_ended : {Y : Type 0} {source : Source} {old new : Cursor} {Word : List Leaf → Type 0} → new.at < length source.tokens.now →
-    Goes source old new Word end_follows Empty → Takes {X = Y} source old new Word end_follows (Err stops.Unexpected)
+    Goes source old new Word end_follows Empty → Takes {X = Y} source old new Word end_follows (Err (failures.Why unread.Unexpected))
 tree_ended {Y} {source} {old} {new} within goes =
     refused goes (λ r v empty behind same. no_next source new within (sym same ∙ ap (λ l. first (l ++ v)) empty ∙ behind))

@@ -18,16 +18,15 @@ use Rattle.koika_parse.specs.Brackets.{AreFewOpen, open_behind, open_behind_all}
 use Rattle.koika_parse.specs.inner.Expected.{AgreesUpTo, first, Ends, Front, Spot, StandAt, Takes, spots_of}
 use Rattle.koika_parse.specs.Faults.{BeginsWith, GoesOn, NoneGoesOn, OpensTooMany, place_behind, seen, StandsBetween}
 use Rattle.koika_parse.specs.Laws.{ReadsBack}
-use Rattle.koika_parse.proofs.Unambiguous.{read_again}
 use Rattle.koika_parse.specs.inner.Reading.{Reads, next}
-use Rattle.koika_parse.specs.inner.Stops.{IsFaultOf}
+use Rattle.koika_parse.specs.inner.Stops.{IsFaultOf, Stop}
 use Rattle.koika_parse.specs.inner.Words.{DesignWord, end_follows}
 use Rattle.koika_parse.proofs.Expected.{never_none, same_of_some}
 use Rattle.koika_parse.proofs.Seen.{few_seen, open_seen, same_head, same_tail}
 use Rattle.koika_parse.specs.declared.cursor.Cursor.{Cursor}
 use Rattle.koika_parse.specs.declared.source.Source.{Source}
-use Rattle.koika_parse.specs.declared.stop.Stop.{Stop}
-use Rattle.koika_parse.specs.declared.stop.Stop.TheVariants as stops
+use Rattle.kw_bits.specs.declared.failure.Failure.TheVariants as failures
+use Rattle.koika_parse.specs.declared.stop.Unread.TheVariants as unread
 
 -- what is answered is such a fault
 pub fault_as : {X : Type 0} {P Q : Fault → Type 0} (result : Result X Refusal) → IfFault result P → ((fault : Fault) → P fault → Q fault) → IfFault result Q
@@ -55,9 +54,9 @@ agrees_whole text (leaf ∷ w) (token ∷ tokens) (suc i) same = agrees_whole te
 
 -- which designs reading refuses
 abbrev Refuses : Stop → Tree → Type 0
-Refuses stops.Unexpected tree = ⊤
-Refuses stops.TooDeep tree = AreFewOpen 0 (tree_leaves tree)
-Refuses stops.NoMemory tree = ⊥
+Refuses (failures.Why unread.Unexpected) tree = ⊤
+Refuses (failures.Why unread.TooDeep) tree = AreFewOpen 0 (tree_leaves tree)
+Refuses failures.NoMemory tree = ⊥
 
 -- reading a whole text stops so
 abbrev pub Stopped : Source → (old new : Cursor) → Stop → Type 0
@@ -71,16 +70,16 @@ never {source} {old} {new} {stop} at depth takes tree such design agrees =
     ended stop _ such (takes.takes w w [] agrees (tree, design, refl) refl (ap (λ n. drop n w) at ∙ sym (append-nil w)))
   where
     ended : (stop : Stop) (left : Type 0) → Refuses stop tree → Ends {X = Tree} (Err stop) (AreFewOpen old.depth (tree_leaves tree ++ [])) left → ⊥
-    ended stops.Unexpected left such ends = ends
-    ended stops.TooDeep left such ends = ends (subst (λ d. AreFewOpen d (tree_leaves tree ++ [])) (sym depth) (subst (AreFewOpen 0) (sym (append-nil (tree_leaves tree))) such))
-    ended stops.NoMemory left such ends = such
+    ended (failures.Why unread.Unexpected) left such ends = ends
+    ended (failures.Why unread.TooDeep) left such ends = ends (subst (λ d. AreFewOpen d (tree_leaves tree ++ [])) (sym depth) (subst (AreFewOpen 0) (sym (append-nil (tree_leaves tree))) such))
+    ended failures.NoMemory left such ends = such
 
-none_goes_on : {source : Source} {old new : Cursor} → old.at ≡ 0 → old.depth ≡ 0 → Stopped source old new stops.Unexpected →
+none_goes_on : {source : Source} {old new : Cursor} → old.at ≡ 0 → old.depth ≡ 0 → Stopped source old new (failures.Why unread.Unexpected) →
     (before behind : List Token) → source.tokens.now ≡ before ++ behind → drop new.at source.tokens.now ≡ behind → NoneGoesOn source.text.now before behind
 none_goes_on {source} {old} {new} at depth takes before [] split ends = λ tree design same.
     let text = source.text.now in
     let whole : before ≡ source.tokens.now = sym (split ∙ append-nil before) in
-    never {stop = stops.Unexpected} at depth takes tree tt design
+    never {stop = failures.Why unread.Unexpected} at depth takes tree tt design
     (λ cursor low. agrees_whole text (tree_leaves tree) source.tokens.now cursor.at (same ∙ ap (map (terminal_of text)) whole))
 none_goes_on {source} {old} {new} at depth takes before (token ∷ behind) split ends = λ tree begins.
     let text = source.text.now in
@@ -89,7 +88,7 @@ none_goes_on {source} {old} {new} at depth takes before (token ∷ behind) split
     let front : all ≡ read ++ behind = split ∙ sym (append_assoc before (token ∷ []) behind) in
     let lengths = length-append before (token ∷ behind) in
     let long : length read ≡ new.at + 1 = omega (arith, length-append before (token ∷ []), lengths, ap length split, length-drop new.at all, ap length ends) in
-    never {stop = stops.Unexpected} at depth takes tree tt begins.design (λ cursor low.
+    never {stop = failures.Why unread.Unexpected} at depth takes tree tt begins.design (λ cursor low.
     agrees_front text (tree_leaves tree) read behind begins.rest cursor.at begins.terminals (omega (arith, long, low))
     ∙ ap (λ ts. option_map (terminal_of text) (slice_get ts cursor.at)) (sym front))
 
@@ -161,7 +160,7 @@ goes_on {source} {old} {new} spot rest front at (token ∷ behind) ends =
 -- the fault stands where reading stops
 pub stands_between : {source : Source} {old new : Cursor} (stop : Stop) (fault : Fault) → old.at ≡ 0 → old.depth ≡ 0 → Stopped source old new stop → IsFaultOf source new stop fault →
     StandsBetween source.text.now source.tokens.now fault
-stands_between {source} {old} {new} stops.Unexpected fault at depth takes is =
+stands_between {source} {old} {new} (failures.Why unread.Unexpected) fault at depth takes is =
     let front = takes.leads.1 in
     let split = split_of at front.reads in
     record {
@@ -172,7 +171,7 @@ stands_between {source} {old} {new} stops.Unexpected fault at depth takes is =
       begun = (front.word.0, begun takes.leads.0 front);
       why = inl (is, none_goes_on at depth takes front.reads.tokens (drop new.at source.tokens.now) split refl);
     }
-stands_between {source} {old} {new} stops.TooDeep fault at depth takes is =
+stands_between {source} {old} {new} (failures.Why unread.TooDeep) fault at depth takes is =
     let spot = takes.leads.0 in
     let rest = takes.leads.1 in
     let front = takes.leads.2 in
@@ -188,7 +187,7 @@ stands_between {source} {old} {new} stops.TooDeep fault at depth takes is =
       begun = (front.word.0, begun (spot ∷ rest) front);
       why = inr (is, opens source new tokens behind spot.terminal refl depths takes.leads.3 takes.leads.4, goes_on spot rest front takes.leads.3 behind refl);
     }
-stands_between {source} {old} {new} stops.NoMemory fault at depth takes is = absurd is
+stands_between {source} {old} {new} failures.NoMemory fault at depth takes is = absurd is
 
 -- where reading stops, no tree with few open brackets has these tokens
 none_has : {source : Source} {old new : Cursor} {stop : Stop} → old.at ≡ 0 → old.depth ≡ 0 → Stopped source old new stop → (fault : Fault) → IsFaultOf source new stop fault →
@@ -197,22 +196,11 @@ none_has {source} {old} {new} {stop} at depth takes fault is tree design few sam
     never at depth takes tree (such stop is) design (λ cursor low. agrees_whole source.text.now (tree_leaves tree) source.tokens.now cursor.at same)
   where
     such : (stop : Stop) → IsFaultOf source new stop fault → Refuses stop tree
-    such stops.Unexpected is = tt
-    such stops.TooDeep is = few
-    such stops.NoMemory is = absurd is
-
--- tokens that are a tree's are read as that tree
-pub reads_back_found : (text : List ℕ) (tokens : List Token) (found : Tree) → Derives text found tokens → ReadsBack text tokens (Ok found)
-reads_back_found text tokens found derives tree is same few = read_again text tokens tree found is same derives
+    such (failures.Why unread.Unexpected) is = tt
+    such (failures.Why unread.TooDeep) is = few
+    such failures.NoMemory is = absurd is
 
 pub reads_back_refused : {source : Source} {old new : Cursor} {stop : Stop} (refusal : Refusal) → old.at ≡ 0 → old.depth ≡ 0 →
     Stopped source old new stop → IfFault {X = Tree} (Err refusal) (IsFaultOf source new stop) → ReadsBack source.text.now source.tokens.now (Err refusal)
 reads_back_refused (refusals.Fault fault) at depth takes is tree design same few = none_has at depth takes fault is tree design few (sym same)
 reads_back_refused refusals.NoMemory at depth takes is tree design same few = tt
-
--- the places of the next token and of the end
-pub place_token : (text : List ℕ) (tokens : List Token) (i : ℕ) (d : Token) → i < length tokens → place_at text (get_or tokens i d).start ≡ place_behind text (drop i tokens)
-place_token text tokens i d within = ap (place_behind text) (sym (drop-cons tokens i d within))
-
-pub place_end : (text : List ℕ) (tokens : List Token) (i : ℕ) → length tokens ≤ i → place_at text (length text) ≡ place_behind text (drop i tokens)
-place_end text tokens i past = ap (place_behind text) (sym (drop_all i tokens past))

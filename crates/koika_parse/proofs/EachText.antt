@@ -25,9 +25,10 @@ use Rattle.koika_parse.specs.inner.Words.{InputWord, ParametersWord, RegisterWor
 use Rattle.koika_parse.specs.inner.Words.{TableWord, end_follows, schedule_follows}
 use Rattle.koika_parse.specs.declared.cursor.Cursor.{Cursor}
 use Rattle.koika_parse.specs.declared.source.Source.{Source}
-use Rattle.koika_parse.specs.declared.stop.Stop.{Stop}
-use Rattle.koika_parse.specs.declared.stop.Stop.TheVariants as stops
-use Rattle.koika_parse.proofs.Answered.{Answered, Ended, Fewer, HasToken, IsRefusal, any_last, any_then, by_case}
+use Rattle.koika_parse.specs.inner.Stops.{Stop}
+use Rattle.kw_bits.specs.declared.failure.Failure.TheVariants as failures
+use Rattle.koika_parse.specs.declared.stop.Unread.TheVariants as unread
+use Rattle.koika_parse.proofs.Answered.{Answered, Ended, Fewer, HasToken, IsRefusal, any_last, any_then, by_case, unexpected}
 use Rattle.koika_parse.proofs.Answered.{by_tokens, decide_below, decide_named, decide_next, none_left, one_last}
 use Rattle.koika_parse.proofs.Answered.{one_then, part_last, part_more, part_then}
 use Rattle.koika_parse.proofs.AnsweredExpressions.{block_answered}
@@ -36,8 +37,8 @@ use Rattle.koika_parse.proofs.AnsweredParts.{literal_answered, member_answered, 
 use Rattle.koika_parse.proofs.AnsweredParts.{type_answered, width_answered}
 use Rattle.koika_parse.proofs.DeclarationWords.{assert_within, declaration_at, declaration_none, declaration_refused}
 use Rattle.koika_parse.proofs.DeclarationWords.{declaration_word, declarations_at, declarations_end, declarations_start}
-use Rattle.koika_parse.proofs.DeclarationWords.{enum_within, fields_listed, function_start, function_within}
-use Rattle.koika_parse.proofs.DeclarationWords.{host_within, input_within, literals_listed, members_listed}
+use Rattle.koika_parse.proofs.DeclarationWords.{enum_within, function_start, function_within}
+use Rattle.koika_parse.proofs.DeclarationWords.{host_within, input_within}
 use Rattle.koika_parse.proofs.DeclarationWords.{parameters_at, parameters_end, register_within, result_type}
 use Rattle.koika_parse.proofs.DeclarationWords.{result_unit, rule_within, some_assert, some_design, some_enum}
 use Rattle.koika_parse.proofs.DeclarationWords.{some_function, some_host, some_input, some_register, some_rule}
@@ -48,8 +49,8 @@ use Rattle.koika_parse.proofs.Expected.{Apart, Empty, Goes, begin, before_one_th
 use Rattle.koika_parse.proofs.Names.{names_stand, starts_stand}
 use Rattle.koika_parse.proofs.PrimaryWords.{parenthesis_any}
 use Rattle.koika_parse.proofs.Seen.{few_seen}
-use Rattle.koika_parse.proofs.Witnesses.{heap}
-use Rattle.koika_parse.proofs.Words.{declared_start}
+use Rattle.koika_parse.proofs.Witnesses.{heap, some_literal}
+use Rattle.koika_parse.proofs.Words.{declared_start, some_field, some_member}
 
 -- each declaration has a token
 declaration_token : HasToken (Part IsDeclaration declaration_leaves)
@@ -65,12 +66,12 @@ module _ (source : Source) (stands : All (StandsIn source.text.now) source.token
       λ colon forward goes. one_then goes
       λ width fewer goes. any_then goes (width_answered source stands width)
       λ brace further goes. one_then goes
-      λ members less goes. closed_answered source stands members_listed tt (tt, refl) goes (λ m at. member_answered source stands m)
+      λ members less goes. closed_answered source stands some_member tt (tt, refl) goes (λ m at. member_answered source stands m)
 
   struct_answered : (old : Cursor) → Answered source old StructWord Any
   struct_answered old = any_then (begin StructWord some_struct) (declared keywords.Struct old)
       λ brace forward goes. one_then goes
-      λ fields fewer goes. closed_answered source stands fields_listed tt (tt, refl) goes (λ m at. field_answered source stands m)
+      λ fields fewer goes. closed_answered source stands some_field tt (tt, refl) goes (λ m at. field_answered source stands m)
 
   register_answered : (old : Cursor) → Answered source old RegisterWord Any
   register_answered old = any_then (begin RegisterWord some_register) (declared keywords.Reg old)
@@ -93,7 +94,7 @@ module _ (source : Source) (stands : All (StandsIn source.text.now) source.token
       λ arrow further goes. one_then goes
       λ output less goes. any_then goes (width_answered source stands output)
       λ brace beyond goes. one_then goes
-      λ entries least goes. closed_answered source stands literals_listed tt (tt, refl) goes (λ m at. literal_answered source stands m)
+      λ entries least goes. closed_answered source stands some_literal tt (tt, refl) goes (λ m at. literal_answered source stands m)
 
   host_answered : (old : Cursor) → Answered source old HostWord Any
   host_answered old = any_then (begin HostWord some_host) (declared keywords.Host old)
@@ -105,7 +106,7 @@ module _ (source : Source) (stands : All (StandsIn source.text.now) source.token
 
   parameters_answered : (old : Cursor) → Answered source old ParametersWord parenthesis_follows
   parameters_answered old = by_case (decide_named (kind_at source old))
-      (λ named. part_last (parameters_at named) (commas_answered source stands fields_listed tt old (λ m at. field_answered source stands m)) (λ v follows. parenthesis_any (first v) follows))
+      (λ named. part_last (parameters_at named) (commas_answered source stands some_field tt old (λ m at. field_answered source stands m)) (λ v follows. parenthesis_any (first v) follows))
       (λ named. none_left (parameters_end named))
 
   result_answered : (old : Cursor) → Answered source old ResultWord Any
@@ -137,14 +138,14 @@ module _ (source : Source) (stands : All (StandsIn source.text.now) source.token
   declaration_by old keywords.Fun at = any_last (declaration_at keywords.Fun some_function function_within at) (function_answered old)
   declaration_by old keywords.Rule at = any_last (declaration_at keywords.Rule some_rule rule_within at) (rule_answered old)
   declaration_by old keywords.Assert at = any_last (declaration_at keywords.Assert some_assert assert_within at) (assert_answered old)
-  declaration_by old k at = (old, inr (stops.Unexpected, tt, declaration_refused k (λ u word. word) at))
+  declaration_by old k at = unexpected (declaration_refused k (λ u word. word) at)
 
   declaration_answered : (old : Cursor) → Answered source old (Part IsDeclaration declaration_leaves) Any
   declaration_answered old = of (next source old) refl
     where
       of : (o : Option Terminal) → next source old ≡ o → Answered source old (Part IsDeclaration declaration_leaves) Any
       of (Some (keyword k)) at = declaration_by old k at
-      of o at = (old, inr (stops.Unexpected, tt, declaration_none (λ k here. none k (sym at ∙ here))))
+      of o at = unexpected (declaration_none (λ k here. none k (sym at ∙ here)))
         where
           none : (k : Keyword) → o ≡ Some (keyword k) → ⊥
           none k e = cc e
@@ -203,11 +204,11 @@ read_design {source} {old} {new} begins depth ends takes =
 read_fault :
     {source : Source} {old new : Cursor} (stop : Stop) → IsRefusal stop → old.at ≡ 0 → old.depth ≡ 0 →
     Takes {X = Tree} source old new DesignWord end_follows (Err stop) → IsParsed source.text.now source.tokens.now
-read_fault {source} {old} {new} stops.Unexpected is at depth takes =
-    inr (fault_at 11 (place_behind source.text.now (drop new.at source.tokens.now)), stands_between stops.Unexpected _ at depth takes refl)
-read_fault {source} {old} {new} stops.TooDeep is at depth takes =
-    inr (fault_at 12 (place_behind source.text.now (drop new.at source.tokens.now)), stands_between stops.TooDeep _ at depth takes refl)
-read_fault stops.NoMemory is at depth takes = absurd is
+read_fault {source} {old} {new} (failures.Why unread.Unexpected) is at depth takes =
+    inr (fault_at 11 (place_behind source.text.now (drop new.at source.tokens.now)), stands_between (failures.Why unread.Unexpected) _ at depth takes refl)
+read_fault {source} {old} {new} (failures.Why unread.TooDeep) is at depth takes =
+    inr (fault_at 12 (place_behind source.text.now (drop new.at source.tokens.now)), stands_between (failures.Why unread.TooDeep) _ at depth takes refl)
+read_fault failures.NoMemory is at depth takes = absurd is
 
 nothing_apart : Apart Empty end_follows end_follows
 nothing_apart q v empty behind = subst (λ l. Behind end_follows (l ++ v)) (sym empty) behind
@@ -223,7 +224,8 @@ read_text source stands = of answered.1
 
     of : Ended source old answered.0 DesignWord end_follows → IsParsed source.text.now source.tokens.now
     of (inl takes) = by_case (decide_below answered.0.at (length source.tokens.now))
-        (λ within. read_fault {old = old} {new = answered.0} stops.Unexpected tt refl refl (tree_ended {Y = Tree} within (step (then_nothing (begin DesignWord some_design)) takes nothing_apart)))
+        (λ within. read_fault {old = old} {new = answered.0} (failures.Why unread.Unexpected) tt refl refl
+        (tree_ended {Y = Tree} within (step (then_nothing (begin DesignWord some_design)) takes nothing_apart)))
         (λ past. inl (read_design {old = old} {new = answered.0} refl refl (omega (arith, past)) takes))
     of (inr refused) = read_fault {old = old} {new = answered.0} refused.0 refused.1 refl refl (last_stopped {Y = Tree} (begin DesignWord some_design) refused.2 (λ v follows. follows))
 

@@ -3,7 +3,7 @@ use Rattle.std.proofs.Common.{◌≢◌, ◌≡◌, ℕ, zero, suc, ◌+◌, ◌
 use Rattle.std.proofs.Common.{IsErrAnd, List, [], ◌∷◌, ◌++◌, drop, length, map, get_or, append_assoc, append-nil, refl}
 use Rattle.std.proofs.Common.{sym, ap, ◌∙◌, subst, arith}
 use Rattle.std.proofs.lemmas.List.{drop-drop, map-append}
-use Rattle.std.proofs.lemmas.Option.{slice_get-get_or, slice_get_past}
+use Rattle.std.proofs.lemmas.Option.{slice_get-get_or}
 use Rattle.kw_bits.specs.BitVector.{BitVector}
 use Rattle.std.specs.Bool.{⊤}
 use Rattle.std.specs.List.{AllZip}
@@ -16,13 +16,14 @@ use Rattle.koika_syntax.specs.declared.token.Token.{Token}
 use Rattle.koika_syntax.specs.declared.token.TokenKind.{TokenKind}
 use Rattle.koika_syntax.specs.declared.token.TokenKind.TheVariants as kinds
 use Rattle.koika_parse.specs.Brackets.{AreFewOpen, open_behind}
-use Rattle.koika_parse.specs.inner.Expected.{InVector, Part, One, Then, first, Any, Behind, AgreesUpTo, Leaves, Ends, Spot, StandAt, spots_of, Front, Leads, Takes}
+use Rattle.koika_parse.specs.inner.Expected.{Part, One, Then, first, Any, Behind, AgreesUpTo, Leaves, Ends, Spot, StandAt, spots_of, Front, Leads, Takes}
 use Rattle.koika_parse.proofs.Reading.{in_turn, tokens_in_turn, zip_append}
 use Rattle.koika_parse.specs.inner.Reading.{Reads, next, kind_at, token_at}
 use Rattle.koika_parse.specs.declared.cursor.Cursor.{Cursor}
 use Rattle.koika_parse.specs.declared.source.Source.{Source}
-use Rattle.koika_parse.specs.declared.stop.Stop.{Stop}
-use Rattle.koika_parse.specs.declared.stop.Stop.TheVariants as stops
+use Rattle.koika_parse.specs.inner.Stops.{Stop}
+use Rattle.kw_bits.specs.declared.failure.Failure.TheVariants as failures
+use Rattle.koika_parse.specs.declared.stop.Unread.TheVariants as unread
 
 infixr 35 ◌⨾◌
 -- a set of words
@@ -180,19 +181,19 @@ front_here goes q word rest stand = let found = goes.back q word rest stand in r
 
 leads_then : (X Y : Type 0) {source : Source} {old mid : Cursor} (new : Cursor) {Word : Language} {Follow : Lookahead} {P Q : Language} (stop : Stop) →
     Goes source old mid Word Follow (Then P Q) → Leads {X = X} source mid new P (Err stop) → Leads {X = Y} source old new Word (Err stop)
-leads_then X Y new stops.Unexpected goes leads =
+leads_then X Y new (failures.Why unread.Unexpected) goes leads =
     let b = goes.some.1.1 in
     (leads.0 ++ spots_in b, front_then goes leads.0 leads.1 b goes.some.1.3 (spots_in b) (stand_in b))
-leads_then X Y new stops.TooDeep goes leads =
+leads_then X Y new (failures.Why unread.TooDeep) goes leads =
     let b = goes.some.1.1 in
     (leads.0, leads.1 ++ spots_in b, front_then goes (leads.0 ∷ leads.1) leads.2 b goes.some.1.3 (spots_in b) (stand_in b), leads.3, leads.4)
-leads_then X Y new stops.NoMemory goes leads = tt
+leads_then X Y new failures.NoMemory goes leads = tt
 
 leads_last : (X Y : Type 0) {source : Source} {old mid : Cursor} (new : Cursor) {Word : Language} {Follow : Lookahead} {P : Language} (stop : Stop) →
     Goes source old mid Word Follow P → Leads {X = X} source mid new P (Err stop) → Leads {X = Y} source old new Word (Err stop)
-leads_last X Y new stops.Unexpected goes leads = (leads.0, front_last goes leads.0 leads.1)
-leads_last X Y new stops.TooDeep goes leads = (leads.0, leads.1, front_last goes (leads.0 ∷ leads.1) leads.2, leads.3, leads.4)
-leads_last X Y new stops.NoMemory goes leads = tt
+leads_last X Y new (failures.Why unread.Unexpected) goes leads = (leads.0, front_last goes leads.0 leads.1)
+leads_last X Y new (failures.Why unread.TooDeep) goes leads = (leads.0, leads.1, front_last goes (leads.0 ∷ leads.1) leads.2, leads.3, leads.4)
+leads_last X Y new failures.NoMemory goes leads = tt
 
 -- nothing has been read
 abbrev none_read : (source : Source) (cursor : Cursor) → Reads source cursor cursor []
@@ -250,9 +251,9 @@ step {X} {source} {old} {mid} {new} {Word} {Follow} {Mid} {P} {Q} {x} goes takes
 }
 
 ends_as : (X Y : Type 0) (stop : Stop) (few few' left left' : Type 0) → (few' → few) → Ends {X = X} (Err stop) few left → Ends {X = Y} (Err stop) few' left'
-ends_as X Y stops.Unexpected few few' left left' fewer ends = ends
-ends_as X Y stops.TooDeep few few' left left' fewer ends = λ f. ends (fewer f)
-ends_as X Y stops.NoMemory few few' left left' fewer ends = tt
+ends_as X Y (failures.Why unread.Unexpected) few few' left left' fewer ends = ends
+ends_as X Y (failures.Why unread.TooDeep) few few' left left' fewer ends = λ f. ends (fewer f)
+ends_as X Y failures.NoMemory few few' left left' fewer ends = tt
 
 -- a part that isn't read
 pub stopped : {X Y : Type 0} {source : Source} {old mid new : Cursor} {Word : Language} {Follow Mid : Lookahead} {P Q : Language} {stop : Stop} →
@@ -298,7 +299,7 @@ narrow {source} {old} {new} goes tells some within = record {
 
 -- the next token cannot be
 pub refused : {Y : Type 0} {source : Source} {old new : Cursor} {Word : Language} {Follow : Lookahead} {Rest : Language} →
-    Goes source old new Word Follow Rest → NextTells source new Follow Rest (λ r. ⊥) → Takes {X = Y} source old new Word Follow (Err stops.Unexpected)
+    Goes source old new Word Follow Rest → NextTells source new Follow Rest (λ r. ⊥) → Takes {X = Y} source old new Word Follow (Err (failures.Why unread.Unexpected))
 refused {Y} {source} {old} {new} goes tells = record {
   forward = goes.forward;
   takes = λ w u v agrees word behind here.
@@ -412,7 +413,7 @@ some_next source cursor {kind} at = of_next (next source cursor) (kind_of_next s
     of_next None e = absurd (never_none e)
     of_next (Some terminal) e = (terminal, refl)
 
--- where there is a token, it is one of the text's, and a vector has room for one item more than tokens in front of it
+-- where there is a token, it is one of the text's
 pub within : (source : Source) (cursor : Cursor) {terminal : Terminal} → next source cursor ≡ Some terminal → cursor.at < length source.tokens.now
 within source cursor {terminal} at = of source.tokens.now cursor.at at
   where
@@ -422,15 +423,9 @@ within source cursor {terminal} at = of source.tokens.now cursor.at at
     of (token ∷ tokens) zero e = omega arith
     of (token ∷ tokens) (suc i) e = omega (arith, of tokens i e)
 
-pub room_at : (source : Source) (cursor : Cursor) (n : ℕ) {terminal : Terminal} → next source cursor ≡ Some terminal → n ≤ cursor.at + 1 → InVector (n + 1)
-room_at source cursor n at low = omega (arith, within source cursor at, low, source.short)
-
 -- the kind of the next token
 pub kind_is : (source : Source) (cursor : Cursor) {terminal : Terminal} → Some terminal ≡ next source cursor → kind_at source cursor ≡ Some (kind_of terminal)
 kind_is source cursor at = sym (kind_of_next source cursor) ∙ ap (option_map kind_of) (sym at)
-
-pub kind_is_of : (source : Source) (cursor : Cursor) {terminal : Terminal} → next source cursor ≡ Some terminal → Some (kind_of terminal) ≡ kind_at source cursor
-kind_is_of source cursor at = sym (ap (option_map kind_of) at) ∙ kind_of_next source cursor
 
 -- one token is read
 pub one_takes :
@@ -487,19 +482,6 @@ pub tail : {X : Type 0} {source : Source} {old mid new : Cursor} {Word : Languag
 tail (Ok x) goes takes apart = last x goes takes apart
 tail (Err stop) goes takes apart = last_stopped goes takes apart
 
-literal_of_kind : (terminal : Terminal) (bits : BitVector) → kind_of terminal ≡ kinds.Literal bits → terminal ≡ literal bits
-literal_of_kind (literal found) bits e = cc e
-literal_of_kind _ bits e = cc e
-
--- the next token is a literal
-pub literal_next :
-    (source : Source) (cursor : Cursor) (d : Token) (bits : BitVector) → cursor.at < length source.tokens.now →
-    (get_or source.tokens.now cursor.at d).kind ≡ kinds.Literal bits → next source cursor ≡ Some (literal bits)
-literal_next source cursor d bits within kind =
-    let found = some_next source cursor (ap (option_map (λ t. t.kind)) (slice_get-get_or source.tokens.now cursor.at d within)) in
-    let is : kind_of found.0 ≡ kinds.Literal bits = same_of_some (kind_is_of source cursor found.1 ∙ ap (option_map (λ t. t.kind)) (slice_get-get_or source.tokens.now cursor.at d within)) ∙ kind in
-    found.1 ∙ ap Some (literal_of_kind found.0 bits is)
-
 -- a part that begins with a known token
 pub before_one : (Follow Mid : Lookahead) (terminal : Terminal) → Mid (Some terminal) → Apart (One terminal) Follow Mid
 before_one Follow Mid terminal mid q v one behind = subst (λ l. Behind Mid (l ++ v)) (sym one.2) (subst (λ t. Mid (Some t)) (sym one.1) mid)
@@ -525,17 +507,10 @@ name_of _ e = cc e
 pub named_terminal : (text : List ℕ) (token : Token) → token.kind ≡ kinds.Name → name (slice_range text token.start token.end) ≡ terminal_of text token
 named_terminal text token named = sym (ap (λ kind. terminal_of text (record { kind = kind; start = token.start; end = token.end })) named)
 
-pub number_of_kind : (terminal : Terminal) {n : ℕ} → kind_of terminal ≡ kinds.Number n → number n ≡ terminal
-number_of_kind (number m) e = cc e
-number_of_kind _ e = cc e
-
 pub literal_kind :
     (source : Source) (cursor : Cursor) (d : Token) {kind : TokenKind} → cursor.at < length source.tokens.now →
     kind_at source cursor ≡ Some kind → (get_or source.tokens.now cursor.at d).kind ≡ kind
 literal_kind source cursor d within at = same_of_some (sym (ap (option_map (λ t. t.kind)) (slice_get-get_or source.tokens.now cursor.at d within)) ∙ at)
-
-pub no_kind : (source : Source) (cursor : Cursor) {kind : TokenKind} → length source.tokens.now ≤ cursor.at → kind_at source cursor ≡ Some kind → ⊥
-no_kind source cursor past at = never_none (sym (ap (option_map (λ t. t.kind)) (slice_get_past source.tokens.now cursor.at past)) ∙ at)
 
 -- a part by the next token
 pub narrow_part : {X : Type 0} {source : Source} {cursor : Cursor} {Is : X → Type 0} {leaves : X → List Leaf} {Follow : Lookahead} (P : Language) →
@@ -609,13 +584,13 @@ some_one terminal = (record { terminal = terminal; place = None } ∷ [], (recor
 -- a token that cannot be
 pub refused_one :
     {Y : Type 0} {source : Source} {cursor : Cursor} (terminal : Terminal) → next source cursor ≢ Some terminal →
-    Takes {X = Y} source cursor cursor (One terminal) Any (Err stops.Unexpected)
+    Takes {X = Y} source cursor cursor (One terminal) Any (Err (failures.Why unread.Unexpected))
 refused_one terminal other = refused (begin (One terminal) (some_one terminal)) (λ r v one behind next_is. other (sym next_is ∙ same_first v one.2 ∙ ap Some one.1))
 
 -- a bracket too many
 pub too_deep :
     {Y : Type 0} {source : Source} {cursor : Cursor} (terminal : Terminal) → next source cursor ≡ Some terminal →
-    64 < open_behind cursor.depth terminal → Takes {X = Y} source cursor cursor (One terminal) Any (Err stops.TooDeep)
+    64 < open_behind cursor.depth terminal → Takes {X = Y} source cursor cursor (One terminal) Any (Err (failures.Why unread.TooDeep))
 too_deep {Y} {source} {cursor} terminal at deep = record {
   forward = omega arith;
   takes = λ w u v agrees one behind here few. omega (arith, deep, ap (open_behind cursor.depth) one.1, (subst (λ l. AreFewOpen cursor.depth (l ++ v)) one.2 few).0);

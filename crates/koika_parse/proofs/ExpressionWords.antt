@@ -6,11 +6,8 @@ use Rattle.std.specs.Prelude.{◌⊎◌}
 use Rattle.std.specs.List.{All}
 use Rattle.std.proofs.lemmas.List.Elements.{All-cons, All-nil, All-head, All-tail}
 use Rattle.koika_syntax.specs.Grammar.{IsSuffix, LiteralFits, IsName, IsNonempty, IsBlock, IsOperandAt}
-use Rattle.koika_syntax.specs.Grammar.{IsExpressionLayer, IsStatementLayer, IsArmLayer, IsBlockLayer, IsFieldValueLayer}
-use Rattle.koika_syntax.specs.Grammar.{IsOperandLayer, Leaves, level, level_of, level_of_chain as chain_level}
+use Rattle.koika_syntax.specs.Grammar.{IsExpressionLayer, IsStatementLayer, level, level_of, level_of_chain as chain_level}
 use Rattle.koika_syntax.specs.Grammar.{level_of_layer as layer_level, call_leaves, last_leaves, block_leaves}
-use Rattle.koika_syntax.specs.Grammar.{expression_step, statement_step, arm_step, block_step, field_value_step}
-use Rattle.koika_syntax.specs.Grammar.{operand_step}
 use Rattle.koika_syntax.specs.inner.Grammar.{IsExpression, expression_leaves, statement_leaves, arm_leaves, field_value_leaves, operand_leaves}
 use Rattle.koika_syntax.specs.Tree.{Leaf, keyword, symbol, word, sign, placed, name_leaves, literal_leaves, commas}
 use Rattle.koika_syntax.specs.Tree.{with_between, all_of, each_after, binary_symbol, comparison_word, extension_word}
@@ -27,7 +24,7 @@ use Rattle.koika_syntax.specs.declared.operator.Extension.TheVariants as extensi
 use Rattle.koika_syntax.specs.declared.operator.SignedComparison.{SignedComparison}
 use Rattle.koika_syntax.specs.declared.operator.SignedComparison.TheVariants as comparisons
 use Rattle.koika_syntax.specs.declared.tree.Expression.TheOpen as expression
-use Rattle.koika_parse.specs.inner.Expected.{InVector, One, Part, Then}
+use Rattle.koika_parse.specs.inner.Expected.{One, Part, Then}
 use Rattle.koika_parse.specs.inner.ExpressionWords.{LevelWord, OperatorWord, SomeOperandsWord, PrefixesWord}
 use Rattle.koika_parse.specs.inner.ExpressionWords.{SuffixesWord, ReadWord, WriteWord, ExtendWord, CompareWord}
 use Rattle.koika_parse.specs.inner.ExpressionWords.{NamedWord, KeywordWord, SymbolWord, LetWord, ArrayWord}
@@ -35,15 +32,19 @@ use Rattle.koika_parse.specs.inner.ExpressionWords.{CallTailWord, ColonsWord, Pa
 use Rattle.koika_parse.specs.inner.ExpressionWords.{ConditionalWord, InsideWord}
 use Rattle.koika_parse.specs.inner.Parts.{IsArm, IsFieldValue, IsOperand, IsOperandIn, IsStatement}
 use Rattle.koika_parse.proofs.Expected.{Language, Has, ◌⨾◌, a_part, a_placed, a_sign, a_word, word_as, kind_of}
-use Rattle.koika_parse.proofs.ConstantWords.{Such, firsts_are, held_fit}
+use Rattle.koika_parse.proofs.ConstantWords.{firsts_are}
+use Rattle.koika_parse.proofs.Layers.{Such, of_layers, of_leaves, expression_kind, expression_grown, expression_layer, expression_leaves_by}
+use Rattle.koika_parse.proofs.Layers.{statement_kind, statement_grown, statement_layer, statement_leaves_by, arm_kind, arm_grown, arm_leaves_by}
+use Rattle.koika_parse.proofs.Layers.{block_kind, block_grown, block_layer, block_leaves_by, field_value_kind, field_value_grown, field_value_leaves_by}
+use Rattle.koika_parse.proofs.Layers.{operand_kind, operand_grown, operand_layer, operand_leaves_by}
 use Rattle.koika_parse.proofs.Calls.{all_of_map}
 use Rattle.koika_parse.proofs.Words.{sign_word}
-use Rattle.koika_syntax.specs.declared.tree.Expression.{Expression, Expression-F, map-Expression, out-Expression, every_held-Expression, every_here-Expression, fold_out-Expression}
-use Rattle.koika_syntax.specs.declared.tree.Statement.{Statement, Statement-F, map-Statement, out-Statement, every_held-Statement, every_here-Statement, fold_out-Statement}
-use Rattle.koika_syntax.specs.declared.tree.Arm.{Arm, Arm-F, map-Arm, out-Arm, every_held-Arm, every_here-Arm, fold_out-Arm}
-use Rattle.koika_syntax.specs.declared.tree.Block.{Block, Block-F, map-Block, out-Block, every_held-Block, every_here-Block, fold_out-Block}
-use Rattle.koika_syntax.specs.declared.tree.FieldValue.{FieldValue, FieldValue-F, map-FieldValue, out-FieldValue, every_held-FieldValue, every_here-FieldValue, fold_out-FieldValue}
-use Rattle.koika_syntax.specs.declared.tree.Operand.{Operand, Operand-F, map-Operand, out-Operand, every_held-Operand, every_here-Operand, fold_out-Operand}
+use Rattle.koika_syntax.specs.declared.tree.Expression.{Expression, out-Expression}
+use Rattle.koika_syntax.specs.declared.tree.Statement.{Statement}
+use Rattle.koika_syntax.specs.declared.tree.Arm.{Arm}
+use Rattle.koika_syntax.specs.declared.tree.Block.{Block}
+use Rattle.koika_syntax.specs.declared.tree.FieldValue.{FieldValue}
+use Rattle.koika_syntax.specs.declared.tree.Operand.{Operand, out-Operand}
 
 -- a primary by the kind of its first token
 abbrev pub PrimaryWord : TokenKind → Language
@@ -64,166 +65,6 @@ OneExpression = Part IsExpression expression_leaves
 abbrev firsts : {X : Type 0} {Is : X → Type 0} → List (Such Is) → List X
 firsts held = map (λ e. e.0) held
 
--- a layer of a tree, by what stands for the six kinds of parts
-abbrev Shape : Type 1
-Shape = (E S A B F O : Type 0) → Type 0
-
--- a function of layers, by one of each of their parts
-abbrev Maps : Shape → Type 1
-Maps Layer = (E S A B F O E' S' A' B' F' O' : Type 0) → (E → E') → (S → S') → (A → A') → (B → B') → (F → F') → (O → O') →
-    Layer E S A B F O → Layer E' S' A' B' F' O'
-
--- a layer with its parts; with parts that are the grammar's, and without the proofs of that; and its leaves
-abbrev Closed : Shape → Type 0
-Closed Layer = Layer Expression Statement Arm Block FieldValue Operand
-
-abbrev Open : Shape → Type 0
-Open Layer = Layer (Such IsExpression) (Such IsStatement) (Such IsArm) (Such IsBlock) (Such IsFieldValue) (Such IsOperand)
-
-abbrev closed : (Layer : Shape) → Maps Layer → Open Layer → Closed Layer
-closed Layer over y =
-    over (Such IsExpression) (Such IsStatement) (Such IsArm) (Such IsBlock) (Such IsFieldValue) (Such IsOperand)
-    Expression Statement Arm Block FieldValue Operand (λ e. e.0) (λ e. e.0) (λ e. e.0) (λ e. e.0) (λ e. e.0) (λ e. e.0) y
-
-abbrev layer_leaves : (Layer : Shape) → Maps Layer → (Layer Leaves Leaves Leaves Leaves Leaves Leaves → List Leaf) → Closed Layer → List Leaf
-layer_leaves Layer over step d =
-    step (over Expression Statement Arm Block FieldValue Operand Leaves Leaves Leaves Leaves Leaves Leaves
-    expression_leaves statement_leaves arm_leaves block_leaves field_value_leaves operand_leaves d)
-
--- a layer is one whose parts are the grammar's, and keeps what it has to
-abbrev Held : {O C : Type 0} → (O → C) → (C → Type 0) → C → Type 0
-Held {O} closing Is d = ((y : O) × (closing y ≡ d)) × Is d
-
--- what holds of each layer whose parts are the grammar's holds of a layer that is one of them
-of_open : {O C : Type 0} (closing : O → C) (Is Claim : C → Type 0) → ((y : O) → Is (closing y) → Claim (closing y)) → {d : C} → Held closing Is d → Claim d
-of_open closing Is Claim each held = subst Claim held.0.1 (each held.0.0 (subst Is (sym held.0.1) held.1))
-
-abbrev OpenExpression : Type 0
-OpenExpression = Open Expression-F
-
-abbrev closed_expression : OpenExpression → Closed Expression-F
-closed_expression y = closed Expression-F map-Expression y
-
-abbrev expression_layer_leaves : Closed Expression-F → List Leaf
-expression_layer_leaves d = layer_leaves Expression-F map-Expression expression_step d
-
-expression_held : (t : Expression) → IsExpression t → Held closed_expression IsExpressionLayer (out-Expression t)
-unfolding IsExpression IsStatement IsArm IsBlock IsFieldValue IsOperand
-expression_held t is = (
-  every_held-Expression IsExpressionLayer IsStatementLayer IsArmLayer IsBlockLayer IsFieldValueLayer IsOperandLayer t is,
-  every_here-Expression IsExpressionLayer IsStatementLayer IsArmLayer IsBlockLayer IsFieldValueLayer IsOperandLayer t is,
-)
-
-expression_out : (t : Expression) → expression_leaves t ≡ expression_layer_leaves (out-Expression t)
-unfolding expression_leaves statement_leaves arm_leaves block_leaves field_value_leaves operand_leaves
-expression_out t =
-    fold_out-Expression Leaves Leaves Leaves Leaves Leaves Leaves expression_step statement_step arm_step block_step field_value_step operand_step t
-
-abbrev OpenStatement : Type 0
-OpenStatement = Open Statement-F
-
-abbrev closed_statement : OpenStatement → Closed Statement-F
-closed_statement y = closed Statement-F map-Statement y
-
-abbrev statement_layer_leaves : Closed Statement-F → List Leaf
-statement_layer_leaves d = layer_leaves Statement-F map-Statement statement_step d
-
-statement_held : (t : Statement) → IsStatement t → Held closed_statement IsStatementLayer (out-Statement t)
-unfolding IsExpression IsStatement IsArm IsBlock IsFieldValue IsOperand
-statement_held t is = (
-  every_held-Statement IsExpressionLayer IsStatementLayer IsArmLayer IsBlockLayer IsFieldValueLayer IsOperandLayer t is,
-  every_here-Statement IsExpressionLayer IsStatementLayer IsArmLayer IsBlockLayer IsFieldValueLayer IsOperandLayer t is,
-)
-
-statement_out : (t : Statement) → statement_leaves t ≡ statement_layer_leaves (out-Statement t)
-unfolding expression_leaves statement_leaves arm_leaves block_leaves field_value_leaves operand_leaves
-statement_out t =
-    fold_out-Statement Leaves Leaves Leaves Leaves Leaves Leaves expression_step statement_step arm_step block_step field_value_step operand_step t
-
-abbrev OpenArm : Type 0
-OpenArm = Open Arm-F
-
-abbrev closed_arm : OpenArm → Closed Arm-F
-closed_arm y = closed Arm-F map-Arm y
-
-abbrev arm_layer_leaves : Closed Arm-F → List Leaf
-arm_layer_leaves d = layer_leaves Arm-F map-Arm arm_step d
-
-arm_held : (t : Arm) → IsArm t → Held closed_arm IsArmLayer (out-Arm t)
-unfolding IsExpression IsStatement IsArm IsBlock IsFieldValue IsOperand
-arm_held t is = (
-  every_held-Arm IsExpressionLayer IsStatementLayer IsArmLayer IsBlockLayer IsFieldValueLayer IsOperandLayer t is,
-  every_here-Arm IsExpressionLayer IsStatementLayer IsArmLayer IsBlockLayer IsFieldValueLayer IsOperandLayer t is,
-)
-
-arm_out : (t : Arm) → arm_leaves t ≡ arm_layer_leaves (out-Arm t)
-unfolding expression_leaves statement_leaves arm_leaves block_leaves field_value_leaves operand_leaves
-arm_out t =
-    fold_out-Arm Leaves Leaves Leaves Leaves Leaves Leaves expression_step statement_step arm_step block_step field_value_step operand_step t
-
-abbrev OpenBlock : Type 0
-OpenBlock = Open Block-F
-
-abbrev closed_block : OpenBlock → Closed Block-F
-closed_block y = closed Block-F map-Block y
-
-abbrev block_layer_leaves : Closed Block-F → List Leaf
-block_layer_leaves d = layer_leaves Block-F map-Block block_step d
-
-block_held : (t : Block) → IsBlock t → Held closed_block IsBlockLayer (out-Block t)
-unfolding IsExpression IsStatement IsArm IsBlock IsFieldValue IsOperand
-block_held t is = (
-  every_held-Block IsExpressionLayer IsStatementLayer IsArmLayer IsBlockLayer IsFieldValueLayer IsOperandLayer t is,
-  every_here-Block IsExpressionLayer IsStatementLayer IsArmLayer IsBlockLayer IsFieldValueLayer IsOperandLayer t is,
-)
-
-block_out : (t : Block) → block_leaves t ≡ block_layer_leaves (out-Block t)
-unfolding expression_leaves statement_leaves arm_leaves block_leaves field_value_leaves operand_leaves
-block_out t =
-    fold_out-Block Leaves Leaves Leaves Leaves Leaves Leaves expression_step statement_step arm_step block_step field_value_step operand_step t
-
-abbrev OpenFieldValue : Type 0
-OpenFieldValue = Open FieldValue-F
-
-abbrev closed_field_value : OpenFieldValue → Closed FieldValue-F
-closed_field_value y = closed FieldValue-F map-FieldValue y
-
-abbrev field_value_layer_leaves : Closed FieldValue-F → List Leaf
-field_value_layer_leaves d = layer_leaves FieldValue-F map-FieldValue field_value_step d
-
-field_value_held : (t : FieldValue) → IsFieldValue t → Held closed_field_value IsFieldValueLayer (out-FieldValue t)
-unfolding IsExpression IsStatement IsArm IsBlock IsFieldValue IsOperand
-field_value_held t is = (
-  every_held-FieldValue IsExpressionLayer IsStatementLayer IsArmLayer IsBlockLayer IsFieldValueLayer IsOperandLayer t is,
-  every_here-FieldValue IsExpressionLayer IsStatementLayer IsArmLayer IsBlockLayer IsFieldValueLayer IsOperandLayer t is,
-)
-
-field_value_out : (t : FieldValue) → field_value_leaves t ≡ field_value_layer_leaves (out-FieldValue t)
-unfolding expression_leaves statement_leaves arm_leaves block_leaves field_value_leaves operand_leaves
-field_value_out t =
-    fold_out-FieldValue Leaves Leaves Leaves Leaves Leaves Leaves expression_step statement_step arm_step block_step field_value_step operand_step t
-
-abbrev OpenOperand : Type 0
-OpenOperand = Open Operand-F
-
-abbrev closed_operand : OpenOperand → Closed Operand-F
-closed_operand y = closed Operand-F map-Operand y
-
-abbrev operand_layer_leaves : Closed Operand-F → List Leaf
-operand_layer_leaves d = layer_leaves Operand-F map-Operand operand_step d
-
-operand_held : (t : Operand) → IsOperand t → Held closed_operand IsOperandLayer (out-Operand t)
-unfolding IsExpression IsStatement IsArm IsBlock IsFieldValue IsOperand
-operand_held t is = (
-  every_held-Operand IsExpressionLayer IsStatementLayer IsArmLayer IsBlockLayer IsFieldValueLayer IsOperandLayer t is,
-  every_here-Operand IsExpressionLayer IsStatementLayer IsArmLayer IsBlockLayer IsFieldValueLayer IsOperandLayer t is,
-)
-
-operand_out : (t : Operand) → operand_leaves t ≡ operand_layer_leaves (out-Operand t)
-unfolding expression_leaves statement_leaves arm_leaves block_leaves field_value_leaves operand_leaves
-operand_out t =
-    fold_out-Operand Leaves Leaves Leaves Leaves Leaves Leaves expression_step statement_step arm_step block_step field_value_step operand_step t
-
 -- no operator holds as tightly as a unary run
 low_operator : (operator : BinaryOperator) → level_of operator ≤ 9
 low_operator binary.Or = omega arith
@@ -243,64 +84,49 @@ abbrev pub DoWord : Language
 DoWord = Then OneExpression (One (symbol symbols.Semicolon))
 
 abbrev pub BlockWord : Language
-BlockWord = Then (One (symbol symbols.LeftBrace)) (Then (InsideWord 0) (One (symbol symbols.RightBrace)))
+BlockWord = Then (One (symbol symbols.LeftBrace)) (Then InsideWord (One (symbol symbols.RightBrace)))
 
 -- a part of a layer is a word of its language
 abbrev part_of : {X : Type 0} {Is : X → Type 0} {leaves : X → List Leaf} → Such Is → Has (Part Is leaves)
 part_of held = a_part held.0 held.1
 
-arm_layer_word : (y : OpenArm) → IsArmLayer (closed_arm y) → ArmWord (arm_layer_leaves (closed_arm y))
-arm_layer_word y is =
-    word_as ArmWord (a_placed (keyword keywords.If) y.place ⨾ a_part y.condition.0 (y.condition.1, omega (arith, is)) ⨾ part_of y.body) refl
-
 pub arm_word : (t : Arm) → IsArm t → ArmWord (arm_leaves t)
-arm_word t is =
-    subst ArmWord (sym (arm_out t)) (of_open closed_arm IsArmLayer (λ d. ArmWord (arm_layer_leaves d)) arm_layer_word (arm_held t is))
-
-field_value_layer_word : (y : OpenFieldValue) → IsFieldValueLayer (closed_field_value y) → FieldValueWord (field_value_layer_leaves (closed_field_value y))
-field_value_layer_word y is = word_as FieldValueWord (a_part y.name is ⨾ a_sign symbols.Colon ⨾ part_of y.value) refl
+arm_word = of_leaves arm_kind arm_grown arm_leaves_by ArmWord
+    (λ y is. word_as ArmWord (a_placed (keyword keywords.If) y.place ⨾ a_part y.condition.0 (y.condition.1, omega (arith, is)) ⨾ part_of y.body) refl)
 
 pub field_value_word : (t : FieldValue) → IsFieldValue t → FieldValueWord (field_value_leaves t)
-field_value_word t is =
-    subst FieldValueWord (sym (field_value_out t))
-    (of_open closed_field_value IsFieldValueLayer (λ d. FieldValueWord (field_value_layer_leaves d)) field_value_layer_word (field_value_held t is))
+field_value_word = of_leaves field_value_kind field_value_grown field_value_leaves_by FieldValueWord
+    (λ y is. word_as FieldValueWord (a_part y.name is ⨾ a_sign symbols.Colon ⨾ part_of y.value) refl)
 
 -- a statement is a binding or an expression
 abbrev pub StatementWord : Language
 StatementWord u = LetWord u ⊎ DoWord u
 
-statement_layer_word : (y : OpenStatement) → IsStatementLayer (closed_statement y) → StatementWord (statement_layer_leaves (closed_statement y))
+statement_layer_word : (y : statement_kind.Open) → IsStatementLayer (statement_kind.closed y) → StatementWord (statement_layer (statement_kind.closed y))
 statement_layer_word (expression.Let n value) is =
     inl (word_as LetWord (a_word keywords.Let ⨾ a_part n is ⨾ a_sign symbols.Equals ⨾ part_of value ⨾ a_sign symbols.Semicolon) refl)
 statement_layer_word (expression.Do value) is = inr (word_as DoWord (part_of value ⨾ a_sign symbols.Semicolon) refl)
 
 pub statement_word : (t : Statement) → IsStatement t → StatementWord (statement_leaves t)
-statement_word t is =
-    subst StatementWord (sym (statement_out t))
-    (of_open closed_statement IsStatementLayer (λ d. StatementWord (statement_layer_leaves d)) statement_layer_word (statement_held t is))
+statement_word = of_leaves statement_kind statement_grown statement_leaves_by StatementWord statement_layer_word
 
-block_layer_word : (y : OpenBlock) → BlockWord (block_layer_leaves (closed_block y))
+block_layer_word : (y : block_kind.Open) → BlockWord (block_layer (block_kind.closed y))
 block_layer_word y = of_value y.place y.statements y.value
   where
-    inside : (statements : Vec (Such IsStatement) Global) (value : Option Expression) → IfSome value IsExpression →
-        Has (InsideWord 0)
+    inside : (statements : List (Such IsStatement)) (value : Option Expression) → IfSome value IsExpression → Has InsideWord
     inside statements value is =
-        let leaves = sym (all_of_map statement_leaves (firsts statements.items)) in
-        let are : All IsStatement (firsts statements.items) × InVector (length (firsts statements.items) + 0) =
-        (firsts_are IsStatement statements.items, omega (arith, held_fit IsStatement statements)) in
-        (_, (firsts statements.items, value, are, is, ap (λ t. t ++ last_leaves value expression_leaves) leaves))
+        let leaves = sym (all_of_map statement_leaves (firsts statements)) in
+        (_, (firsts statements, value, firsts_are IsStatement statements, is, ap (λ t. t ++ last_leaves value expression_leaves) leaves))
 
-    of_value : (place : ℕ) (statements : Vec (Such IsStatement) Global) (value : Option (Box (Such IsExpression) Global)) →
-        BlockWord (block_layer_leaves (closed_block (record { place = place; statements = statements; value = value })))
+    of_value : (place : ℕ) (statements : List (Such IsStatement)) (value : Option (Such IsExpression)) →
+        BlockWord (block_layer (block_kind.closed (record { place = place; statements = statements; value = value })))
     of_value place statements None =
         word_as BlockWord (a_placed (symbol symbols.LeftBrace) place ⨾ inside statements None tt ⨾ a_sign symbols.RightBrace) refl
-    of_value place statements (Some b) =
-        word_as BlockWord (a_placed (symbol symbols.LeftBrace) place ⨾ inside statements (Some b.value.0) b.value.1 ⨾ a_sign symbols.RightBrace) refl
+    of_value place statements (Some value) =
+        word_as BlockWord (a_placed (symbol symbols.LeftBrace) place ⨾ inside statements (Some value.0) value.1 ⨾ a_sign symbols.RightBrace) refl
 
 pub block_word : (t : Block) → IsBlock t → BlockWord (block_leaves t)
-block_word t is =
-    subst BlockWord (sym (block_out t))
-    (of_open closed_block IsBlockLayer (λ d. BlockWord (block_layer_leaves d)) (λ y is. block_layer_word y) (block_held t is))
+block_word = of_leaves block_kind block_grown block_leaves_by BlockWord (λ y is. block_layer_word y)
 
 -- parts with commas between them, up to the parenthesis behind the last
 abbrev up_to_close : List Leaf → List (List Leaf) → List Leaf
@@ -361,88 +187,89 @@ block_headed t is =
     let word = block_word t is in
     (word.2.0, word.1, word.4 ∙ ap (λ l. l ++ word.1) word.2.2, subst (λ s. PrimaryWord (kind_of s) (block_leaves t)) (sym word.2.1) (t, is, refl))
 
-expressions_held : (v : Vec (Such IsExpression) Global) → All IsExpression (firsts v.items) × InVector (length (firsts v.items))
-expressions_held v = (firsts_are IsExpression v.items, held_fit IsExpression v)
+-- a layer of an expression whose parts are the grammar's
+abbrev OpenExpression : Type 0
+OpenExpression = expression_kind.Open
+
+abbrev closed_expression : OpenExpression → expression_kind.Layer
+closed_expression y = expression_kind.closed y
 
 -- a layer of an expression of this level or a tighter one
-abbrev IsOf : ℕ → Closed Expression-F → Type 0
+abbrev IsOf : ℕ → expression_kind.Layer → Type 0
 IsOf k d = IsExpressionLayer d × (k ≤ layer_level d)
 
-primary_layer_word : (y : OpenExpression) → IsOf 12 (closed_expression y) → Headed PrimaryWord (expression_layer_leaves (closed_expression y))
+primary_layer_word : (y : OpenExpression) → IsOf 12 (closed_expression y) → Headed PrimaryWord (expression_layer (closed_expression y))
 primary_layer_word (expression.If arms otherwise) is = absurd (omega (arith, is.1))
-primary_layer_word (expression.Chain first rest) is = absurd (omega (arith, is.1, low_chain (firsts rest.items)))
+primary_layer_word (expression.Chain first rest) is = absurd (omega (arith, is.1, low_chain (firsts rest)))
 primary_layer_word (expression.Unary prefixes operand) is = absurd (omega (arith, is.1))
 primary_layer_word (expression.Postfix primary suffixes) is = absurd (omega (arith, is.1))
 primary_layer_word (expression.Literal l) is = headed _ [] (l, is.0, refl)
 primary_layer_word (expression.Name n) is = headed _ [] (word_as NamedWord (a_part n is.0 ⨾ (_, inl refl)) refl)
 primary_layer_word (expression.Call called arguments) is =
-    let tail : Has CallTailWord = a_sign symbols.LeftParenthesis ⨾ a_part _ (expressions_held arguments) ⨾ a_sign symbols.RightParenthesis in
+    let tail : Has CallTailWord = a_sign symbols.LeftParenthesis ⨾ a_part _ (firsts_are IsExpression arguments) ⨾ a_sign symbols.RightParenthesis in
     headed _ _ (word_as NamedWord (a_part called is.0 ⨾ (tail.0, inr (inl tail.1))) refl)
 primary_layer_word (expression.Member of member) is =
     let tail : Has MemberTailWord = a_sign symbols.ColonColon ⨾ (name_leaves member, inl (member, is.0.1, refl)) in
     headed _ _ (word_as NamedWord (a_part of is.0.0 ⨾ (tail.0, inr (inr tail.1))) refl)
 primary_layer_word (expression.Struct of fields close) is =
-    let are : IsNonempty (firsts fields.items) × All IsFieldValue (firsts fields.items) × InVector (length (firsts fields.items)) =
-    (is.0.1, firsts_are IsFieldValue fields.items, held_fit IsFieldValue fields) in
+    let are : IsNonempty (firsts fields) × All IsFieldValue (firsts fields) = (is.0.1, firsts_are IsFieldValue fields) in
     let inside : Has StructTailWord = a_sign symbols.LeftBrace ⨾ a_part _ are ⨾ a_placed (symbol symbols.RightBrace) close in
     let tail : Has MemberTailWord = a_sign symbols.ColonColon ⨾ (inside.0, inr inside.1) in
     headed _ _ (word_as NamedWord (a_part of is.0.0 ⨾ (tail.0, inr (inr tail.1))) refl)
 primary_layer_word (expression.Array place elements) is =
-    let are = expressions_held elements in
-    headed _ _ (word_as ArrayWord (a_placed (symbol symbols.LeftBracket) place ⨾ a_part (firsts elements.items) (is.0, are.0, are.1) ⨾ a_sign symbols.RightBracket) refl)
+    headed _ _ (word_as ArrayWord (a_placed (symbol symbols.LeftBracket) place ⨾ a_part (firsts elements) (is.0, firsts_are IsExpression elements) ⨾ a_sign symbols.RightBracket) refl)
 primary_layer_word (expression.Parentheses place inside) is =
-    headed _ _ (word_as ParenthesesWord (a_placed (symbol symbols.LeftParenthesis) place ⨾ part_of inside.value ⨾ a_sign symbols.RightParenthesis) refl)
+    headed _ _ (word_as ParenthesesWord (a_placed (symbol symbols.LeftParenthesis) place ⨾ part_of inside ⨾ a_sign symbols.RightParenthesis) refl)
 primary_layer_word (expression.Block block) is = block_headed block.0 block.1
 primary_layer_word (expression.Read place port register) is =
     call_headed (read_word port) place _ [] (read_keyword port is.0.0) (a_part register is.0.1 ⨾ a_sign symbols.RightParenthesis) refl
 primary_layer_word (expression.Write place port register value) is =
     call_headed (write_word port) place _ (_ ∷ []) (write_keyword port is.0.0)
-    (a_part register is.0.1 ⨾ a_sign symbols.Comma ⨾ part_of value.value ⨾ a_sign symbols.RightParenthesis) refl
+    (a_part register is.0.1 ⨾ a_sign symbols.Comma ⨾ part_of value ⨾ a_sign symbols.RightParenthesis) refl
 primary_layer_word (expression.Abort place) is = headed _ [] (a_placed (keyword keywords.Abort) place).1
 primary_layer_word (expression.Pack place value) is =
-    call_headed keywords.Pack place _ [] (λ u word. word) (part_of value.value ⨾ a_sign symbols.RightParenthesis) refl
+    call_headed keywords.Pack place _ [] (λ u word. word) (part_of value ⨾ a_sign symbols.RightParenthesis) refl
 primary_layer_word (expression.Unpack place to value) is =
     call_headed keywords.Unpack place _ (_ ∷ []) (λ u word. word)
-    (a_part to is.0 ⨾ a_sign symbols.Comma ⨾ part_of value.value ⨾ a_sign symbols.RightParenthesis) refl
+    (a_part to is.0 ⨾ a_sign symbols.Comma ⨾ part_of value ⨾ a_sign symbols.RightParenthesis) refl
 primary_layer_word (expression.Extend place extension value width) is =
     call_headed (extension_word extension) place _ (_ ∷ []) (extension_keyword extension)
-    (part_of value.value ⨾ a_sign symbols.Comma ⨾ a_part width is.0 ⨾ a_sign symbols.RightParenthesis) refl
+    (part_of value ⨾ a_sign symbols.Comma ⨾ a_part width is.0 ⨾ a_sign symbols.RightParenthesis) refl
 primary_layer_word (expression.Compare place comparison left right) is =
     call_headed (comparison_word comparison) place _ (_ ∷ []) (comparison_keyword comparison)
-    (part_of left.value ⨾ a_sign symbols.Comma ⨾ part_of right.value ⨾ a_sign symbols.RightParenthesis) refl
+    (part_of left ⨾ a_sign symbols.Comma ⨾ part_of right ⨾ a_sign symbols.RightParenthesis) refl
 primary_layer_word (expression.Update place whole part value) is =
     call_headed keywords.Update place _ (_ ∷ _ ∷ []) (λ u word. word)
-    (part_of whole.value ⨾ a_sign symbols.Comma ⨾ a_part part is.0 ⨾ a_sign symbols.Comma ⨾ part_of value.value ⨾ a_sign symbols.RightParenthesis) refl
+    (part_of whole ⨾ a_sign symbols.Comma ⨾ a_part part is.0 ⨾ a_sign symbols.Comma ⨾ part_of value ⨾ a_sign symbols.RightParenthesis) refl
 
 pub primary_word : (t : Expression) → IsExpression t × (12 ≤ level t) → Headed PrimaryWord (expression_leaves t)
 primary_word t is =
-    let held = expression_held t is.0 in
-    let word = of_open closed_expression (IsOf 12) (λ d. Headed PrimaryWord (expression_layer_leaves d)) primary_layer_word (held.0, (held.1, is.1)) in
-    subst (Headed PrimaryWord) (sym (expression_out t)) word
+    subst (Headed PrimaryWord) (sym (expression_leaves_by t _ refl))
+    (of_layers expression_kind expression_grown (λ d. 12 ≤ layer_level d → Headed PrimaryWord (expression_layer d))
+    (λ y here high. primary_layer_word y (here, high)) t is.0 is.1)
 
 -- an expression of a level is one of a tighter level, or what that level makes of tighter ones
-abbrev SplitsTo : ℕ → Language → Closed Expression-F → Type 0
-SplitsTo k P d = (k + 1 ≤ layer_level d) ⊎ P (expression_layer_leaves d)
+abbrev SplitsTo : ℕ → Language → expression_kind.Layer → Type 0
+SplitsTo k P d = (k + 1 ≤ layer_level d) ⊎ P (expression_layer d)
 
 layered : (k : ℕ) (P : Language) → ((y : OpenExpression) → IsOf k (closed_expression y) → SplitsTo k P (closed_expression y)) → (u : List Leaf) →
     LevelWord k u → LevelWord (k + 1) u ⊎ P u
 layered k P each u word =
-    let held = expression_held word.0 word.1.0 in
-    of (of_open closed_expression (IsOf k) (SplitsTo k P) each (held.0, (held.1, word.1.1)))
+    of (of_layers expression_kind expression_grown (λ d. k ≤ layer_level d → SplitsTo k P d) (λ y here high. each y (here, high)) word.0 word.1.0 word.1.1)
   where
     of : SplitsTo k P (out-Expression word.0) → LevelWord (k + 1) u ⊎ P u
     of (inl high) = inl (word.0, (word.1.0, high), word.2)
-    of (inr low) = inr (subst P (sym (word.2 ∙ expression_out word.0)) low)
+    of (inr low) = inr (subst P (sym (word.2 ∙ expression_leaves_by word.0 _ refl)) low)
 
-operands_of : (k : ℕ) (rest : List Operand) → All IsOperand rest → InVector (length rest) → IsNonempty rest → k ≡ chain_level rest →
+operands_of : (k : ℕ) (rest : List Operand) → All IsOperand rest → IsNonempty rest → k ≡ chain_level rest →
     All (IsOperandAt (chain_level rest)) rest → SomeOperandsWord k (all_of (map operand_leaves rest))
-operands_of k [] are low some same all = absurd (omega (arith, some))
-operands_of k (o ∷ os) are low some same all =
+operands_of k [] are some same all = absurd (omega (arith, some))
+operands_of k (o ∷ os) are some same all =
     let fit : All (IsOperandIn k) (o ∷ os) = both (o ∷ os) are (subst (λ l. All (IsOperandAt l) (o ∷ os)) (sym same) all) in (
       operand_leaves o,
       all_of (map operand_leaves os),
       (o, All-head (IsOperandIn k) o os fit, refl),
-      (os, (All-tail (IsOperandIn k) o os fit, omega (arith, low)), sym (all_of_map operand_leaves os)),
+      (os, All-tail (IsOperandIn k) o os fit, sym (all_of_map operand_leaves os)),
       refl,
     )
   where
@@ -456,17 +283,17 @@ operands_of k (o ∷ os) are low some same all =
 pub chain_split : (k : ℕ) → 0 < k → k ≤ 9 → (u : List Leaf) → LevelWord k u → LevelWord (k + 1) u ⊎ Then (LevelWord (k + 1)) (SomeOperandsWord k) u
 chain_split k low high u word = layered k (Then (LevelWord (k + 1)) (SomeOperandsWord k)) each u word
   where
-    chained : (first : Such IsExpression) (rest : List Operand) → All IsOperand rest → InVector (length rest) → IsNonempty rest →
+    chained : (first : Such IsExpression) (rest : List Operand) → All IsOperand rest → IsNonempty rest →
         chain_level rest < level first.0 → All (IsOperandAt (chain_level rest)) rest → (k ≡ chain_level rest) ⊎ (k < chain_level rest) →
         (k + 1 ≤ chain_level rest) ⊎ Then (LevelWord (k + 1)) (SomeOperandsWord k) (expression_leaves first.0 ++ all_of (map operand_leaves rest))
-    chained first rest are fits some loose all (inl same) =
-        inr (_, _, (first.0, (first.1, omega (arith, loose, same)), refl), operands_of k rest are fits some same all, refl)
-    chained first rest are fits some loose all (inr more) = inl (omega (arith, more))
+    chained first rest are some loose all (inl same) =
+        inr (_, _, (first.0, (first.1, omega (arith, loose, same)), refl), operands_of k rest are some same all, refl)
+    chained first rest are some loose all (inr more) = inl (omega (arith, more))
 
     each : (y : OpenExpression) → IsOf k (closed_expression y) → SplitsTo k (Then (LevelWord (k + 1)) (SomeOperandsWord k)) (closed_expression y)
     each (expression.If arms otherwise) is = absurd (omega (arith, low, is.1))
     each (expression.Chain first rest) is =
-        chained first.value (firsts rest.items) (firsts_are IsOperand rest.items) (held_fit IsOperand rest) is.0.0 is.0.1 is.0.2 (eq-or-lt_of_le is.1)
+        chained first (firsts rest) (firsts_are IsOperand rest) is.0.0 is.0.1 is.0.2 (eq-or-lt_of_le is.1)
     each _ is = inl (omega (arith, high))
 
 -- a unary run is operators in front of an operand, if any, and the operand
@@ -475,11 +302,11 @@ unary_split u word = layered 10 (Then PrefixesWord (LevelWord 11)) each u word
   where
     each : (y : OpenExpression) → IsOf 10 (closed_expression y) → SplitsTo 10 (Then PrefixesWord (LevelWord 11)) (closed_expression y)
     each (expression.If arms otherwise) is = absurd (omega (arith, is.1))
-    each (expression.Chain first rest) is = absurd (omega (arith, is.1, low_chain (firsts rest.items)))
+    each (expression.Chain first rest) is = absurd (omega (arith, is.1, low_chain (firsts rest)))
     each (expression.Unary [] operand) is = absurd (omega (arith, is.0.0))
     each (expression.Unary (prefix ∷ prefixes) operand) is =
         let front : Has PrefixesWord = a_part prefix tt ⨾ a_part prefixes (λ i d lt. tt) in
-        inr (word_as (Then PrefixesWord (LevelWord 11)) (front ⨾ a_part operand.value.0 (operand.value.1, is.0.1)) refl)
+        inr (word_as (Then PrefixesWord (LevelWord 11)) (front ⨾ a_part operand.0 (operand.1, is.0.1)) refl)
     each _ is = inl (omega arith)
 
 -- a postfix is a primary and suffixes, if any
@@ -488,25 +315,25 @@ postfix_split u word = layered 11 (Then (LevelWord 12) SuffixesWord) each u word
   where
     each : (y : OpenExpression) → IsOf 11 (closed_expression y) → SplitsTo 11 (Then (LevelWord 12) SuffixesWord) (closed_expression y)
     each (expression.If arms otherwise) is = absurd (omega (arith, is.1))
-    each (expression.Chain first rest) is = absurd (omega (arith, is.1, low_chain (firsts rest.items)))
+    each (expression.Chain first rest) is = absurd (omega (arith, is.1, low_chain (firsts rest)))
     each (expression.Unary prefixes operand) is = absurd (omega (arith, is.1))
     each (expression.Postfix primary []) is = absurd (omega (arith, is.0.1))
     each (expression.Postfix primary (suffix ∷ suffixes)) is =
         let behind : Has SuffixesWord = a_part suffix (All-head IsSuffix suffix suffixes is.0.2) ⨾ a_part suffixes (All-tail IsSuffix suffix suffixes is.0.2) in
-        inr (word_as (Then (LevelWord 12) SuffixesWord) (a_part primary.value.0 (primary.value.1, is.0.0) ⨾ behind) refl)
+        inr (word_as (Then (LevelWord 12) SuffixesWord) (a_part primary.0 (primary.1, is.0.0) ⨾ behind) refl)
     each _ is = inl (omega arith)
 
-conditional : (arms : List Arm) → All IsArm arms → InVector (length arms) → (otherwise : Option Block) → IfSome otherwise IsBlock → IsNonempty arms →
+conditional : (arms : List Arm) → All IsArm arms → (otherwise : Option Block) → IfSome otherwise IsBlock → IsNonempty arms →
     ConditionalWord (with_between (word keywords.Else) (map arm_leaves arms) ++ last_leaves otherwise (λ block. word keywords.Else ++ block_leaves block))
 unfolding with_between
-conditional [] are low otherwise last some = absurd (omega (arith, some))
-conditional (arm ∷ arms) are low otherwise last some =
+conditional [] are otherwise last some = absurd (omega (arith, some))
+conditional (arm ∷ arms) are otherwise last some =
     let more = each_after (word keywords.Else) (map arm_leaves arms) in
     let end = last_leaves otherwise (λ block. word keywords.Else ++ block_leaves block) in (
       arm_leaves arm,
       more ++ end,
       (arm, All-head IsArm arm arms are, refl),
-      (arms, otherwise, (All-tail IsArm arm arms are, omega (arith, low)), last, refl),
+      (arms, otherwise, All-tail IsArm arm arms are, last, refl),
       append_assoc (arm_leaves arm) more end,
     )
 
@@ -523,24 +350,22 @@ expression_split u word = layered 0 ConditionalWord each u (word.0, (word.1, ome
         of_operator _ = omega arith
 
     each : (y : OpenExpression) → IsOf 0 (closed_expression y) → SplitsTo 0 ConditionalWord (closed_expression y)
-    each (expression.If arms None) is = inr (conditional (firsts arms.items) (firsts_are IsArm arms.items) (held_fit IsArm arms) None tt is.0)
+    each (expression.If arms None) is = inr (conditional (firsts arms) (firsts_are IsArm arms) None tt is.0)
     each (expression.If arms (Some block)) is =
-        inr (conditional (firsts arms.items) (firsts_are IsArm arms.items) (held_fit IsArm arms) (Some block.0) block.1 is.0)
-    each (expression.Chain first rest) is = inl (chained (firsts rest.items) is.0.0)
+        inr (conditional (firsts arms) (firsts_are IsArm arms) (Some block.0) block.1 is.0)
+    each (expression.Chain first rest) is = inl (chained (firsts rest) is.0.0)
     each _ is = inl (omega arith)
 
 -- an operand is an operator and an expression that holds together more tightly
 abbrev pub OperandWord : ℕ → Language
 OperandWord k = Then (OperatorWord k) (LevelWord (k + 1))
 
-abbrev IsOperandOf : ℕ → Closed Operand-F → Type 0
+abbrev IsOperandOf : ℕ → operand_kind.Layer → Type 0
 IsOperandOf k d = (level_of d.operator ≡ k) × (k < level d.operand)
-
-operand_layer_word : (k : ℕ) (y : OpenOperand) → IsOperandOf k (closed_operand y) → OperandWord k (operand_layer_leaves (closed_operand y))
-operand_layer_word k y is =
-    word_as (OperandWord k) ((_, (y.operator, is.0, sign_word (binary_symbol y.operator))) ⨾ a_part y.operand.0 (y.operand.1, omega (arith, is.1))) refl
 
 pub operand_word : (k : ℕ) (t : Operand) → IsOperandIn k t → OperandWord k (operand_leaves t)
 operand_word k t is =
-    subst (OperandWord k) (sym (operand_out t))
-    (of_open closed_operand (IsOperandOf k) (λ d. OperandWord k (operand_layer_leaves d)) (operand_layer_word k) ((operand_held t is.0).0, is.1))
+    subst (OperandWord k) (sym (operand_leaves_by t _ refl))
+    (of_layers operand_kind operand_grown (λ d. IsOperandOf k d → OperandWord k (operand_layer d))
+    (λ y here at. word_as (OperandWord k) ((_, (y.operator, at.0, sign_word (binary_symbol y.operator))) ⨾ a_part y.operand.0 (y.operand.1, omega (arith, at.1))) refl)
+    t is.0 is.1)

@@ -1,11 +1,12 @@
 -- The layers of trees: what is of the grammar, and its leaves, by the layer of a tree and the trees in it.
-use Rattle.std.proofs.Common.{◌≡◌, List, ap, ◌∙◌}
+use Rattle.std.proofs.Common.{◌≡◌, List, refl, sym, ap, ◌∙◌, subst}
 use Rattle.koika_syntax.specs.Tree.{Leaf}
 use Rattle.koika_syntax.specs.Grammar.{IsConstant, IsBlock, IsScheduler, constant_leaves, block_leaves, scheduler_leaves}
 use Rattle.koika_syntax.specs.Grammar.{IsConstantLayer, IsConstantFieldLayer, constant_step, constant_field_step}
 use Rattle.koika_syntax.specs.Grammar.{IsExpressionLayer, IsStatementLayer, IsArmLayer, IsBlockLayer, IsFieldValueLayer, IsOperandLayer}
 use Rattle.koika_syntax.specs.Grammar.{expression_step, statement_step, arm_step, block_step, field_value_step, operand_step}
 use Rattle.koika_syntax.specs.Grammar.{IsChoiceLayer, IsSchedulerLayer, choice_step, scheduler_step}
+use Rattle.koika_syntax.specs.Grammar.{IsType, IsTypeLayer, type_leaves, type_step}
 use Rattle.koika_syntax.specs.inner.Grammar.{IsExpression, constant_field_leaves, choice_leaves}
 use Rattle.koika_syntax.specs.inner.Grammar.{expression_leaves, statement_leaves, arm_leaves, field_value_leaves, operand_leaves}
 use Rattle.koika_syntax.specs.declared.tree.Constant.{Constant, Constant-F, map-Constant, out-Constant, roll-Constant}
@@ -31,6 +32,10 @@ use Rattle.koika_syntax.specs.declared.tree.Choice.{Choice, Choice-F, map-Choice
 use Rattle.koika_syntax.specs.declared.tree.Scheduler.{Scheduler, Scheduler-F, map-Scheduler, out-Scheduler}
 use Rattle.koika_syntax.specs.declared.tree.Scheduler.{roll-Scheduler, every_held-Scheduler, every_here-Scheduler}
 use Rattle.koika_syntax.specs.declared.tree.Scheduler.{every_made-Scheduler, fold_out-Scheduler}
+use Rattle.koika_syntax.specs.declared.tree.TypeExpression.{TypeExpression, TypeExpression-F, map-TypeExpression}
+use Rattle.koika_syntax.specs.declared.tree.TypeExpression.{out-TypeExpression, roll-TypeExpression}
+use Rattle.koika_syntax.specs.declared.tree.TypeExpression.{every_held-TypeExpression, every_here-TypeExpression}
+use Rattle.koika_syntax.specs.declared.tree.TypeExpression.{every_made-TypeExpression, fold_out-TypeExpression}
 use Rattle.koika_parse.specs.inner.Parts.{IsConstantField, IsStatement, IsArm, IsFieldValue, IsOperand, IsChoice}
 
 -- what has a property
@@ -60,6 +65,47 @@ ByLayer k of layer = (t : k.Tree) (d : k.Layer) → k.out t ≡ d → of t ≡ l
 
 abbrev Leaves : Type 0
 Leaves = List Leaf
+
+-- a property of the layers of trees of the grammar, and of their leaves
+pub of_layers : (k : Kind) → Grown k → (Claim : k.Layer → Type 0) → ((y : k.Open) → k.IsLayer (k.closed y) → Claim (k.closed y)) →
+    (t : k.Tree) → k.Is t → Claim (k.out t)
+of_layers k grown Claim each t is =
+    let held = grown.held t is in
+    subst Claim held.1 (each held.0 (subst k.IsLayer (sym held.1) (grown.here t is)))
+
+pub of_leaves :
+    (k : Kind) → Grown k → {leaves : k.Tree → Leaves} {layer : k.Layer → Leaves} → ByLayer k leaves layer →
+    (W : Leaves → Type 0) → ((y : k.Open) → k.IsLayer (k.closed y) → W (layer (k.closed y))) → (t : k.Tree) → k.Is t → W (leaves t)
+of_leaves k grown {leaves} {layer} by W each t is =
+    subst W (sym (by t (k.out t) refl)) (of_layers k grown (λ d. W (layer d)) each t is)
+
+-- a type
+abbrev pub type_kind : Kind
+type_kind = record {
+  Tree = TypeExpression;
+  Layer = TypeExpression-F TypeExpression;
+  Open = TypeExpression-F (Such IsType);
+  out = out-TypeExpression;
+  roll = roll-TypeExpression;
+  closed = map-TypeExpression (Such IsType) TypeExpression (λ e. e.0);
+  Is = IsType;
+  IsLayer = IsTypeLayer;
+}
+
+pub type_grown : Grown type_kind
+unfolding IsType
+type_grown = record {
+  held = every_held-TypeExpression IsTypeLayer;
+  here = every_here-TypeExpression IsTypeLayer;
+  made = every_made-TypeExpression IsTypeLayer;
+}
+
+abbrev pub type_layer : TypeExpression-F TypeExpression → Leaves
+type_layer d = type_step (map-TypeExpression TypeExpression Leaves type_leaves d)
+
+pub type_leaves_by : ByLayer type_kind type_leaves type_layer
+unfolding type_leaves
+type_leaves_by t d e = fold_out-TypeExpression Leaves type_step t ∙ ap type_layer e
 
 -- a constant
 abbrev pub constant_kind : Kind

@@ -15,9 +15,7 @@ pub mod Calls
 pub mod UnambiguousReaders
 pub mod UnambiguousGrammar
 pub mod UnambiguousLevels
-pub mod UnambiguousLists
-pub mod UnambiguousConstants
-pub mod UnambiguousBlocks
+pub mod Unmoved
 pub mod UnambiguousExpressions
 pub mod UnambiguousDesigns
 pub mod Unambiguous

@@ -23,8 +23,7 @@ use Rattle.koika_syntax.specs.Grammar.{level, IsBlock, IsSuffix, block_leaves, l
 use Rattle.koika_syntax.specs.inner.Grammar.{IsExpression, arm_leaves, expression_leaves, field_value_leaves, operand_leaves, statement_leaves}
 use Rattle.koika_syntax.proofs.Leaves.{array_expression, block_expression, call_expression, chain_expression, compare_expression, if_expression, struct_expression, update_expression}
 use Rattle.koika_syntax.specs.declared.tree.Suffix.{Suffix}
-use Rattle.koika_parse.proofs.Witnesses.{boxed, vector}
-use Rattle.koika_parse.specs.inner.Expected.{InVector, One, Part, Then}
+use Rattle.koika_parse.specs.inner.Expected.{One, Part, Then}
 use Rattle.koika_syntax.specs.declared.tree.Expression.{Expression}
 use Rattle.koika_syntax.specs.declared.tree.FieldValue.{roll-FieldValue}
 use Rattle.koika_syntax.specs.declared.tree.Arm.{Arm, roll-Arm}
@@ -35,7 +34,7 @@ use Rattle.koika_parse.proofs.Words.{assoc3, assoc5}
 use Rattle.koika_syntax.specs.declared.tree.Operand.{Operand, roll-Operand}
 use Rattle.koika_syntax.specs.declared.keyword.Keyword.{Keyword}
 use Rattle.koika_syntax.specs.declared.tree.Block.{Block, roll-Block}
-use Rattle.std.proofs.Common.{◌≡◌, ℕ, ◌+◌, ◌<◌, ◌≤◌, Option, None, Some, IfSome, List, [], ◌∷◌, ◌++◌, map, append_assoc, append-nil, inl, inr, refl, ap, sym, ◌∙◌, arith, Global, Vec, length}
+use Rattle.std.proofs.Common.{◌≡◌, ℕ, ◌+◌, ◌<◌, ◌≤◌, Option, None, Some, IfSome, List, [], ◌∷◌, ◌++◌, map, append_assoc, append-nil, inl, inr, refl, ap, sym, ◌∙◌, arith}
 use Rattle.std.specs.Prelude.{◌⊎◌}
 use Rattle.std.specs.List.{All, flat_map}
 use Rattle.koika_syntax.specs.declared.keyword.Keyword.TheVariants as keywords
@@ -73,13 +72,13 @@ block_primary q part = made q (like_part part) (views.Block part.0) (is_block_ex
 
 pub array_primary : Primary ArrayWord
 array_primary q both =
-    let elements = vector both.3.2.0 both.3.2.1.2 in
+    let elements = both.3.2.0 in
     made_at q (λ place. place_then place both (like_closed both.3)) (λ place. views.Array place elements)
     (λ place. (is_array place elements both.3.2.1.1 both.3.2.1.0, omega (arith, level_array place elements))) (λ place. array_expression place elements)
 
 pub parentheses_primary : Primary ParenthesesWord
 parentheses_primary q both =
-    let inside = boxed both.3.2.0 in
+    let inside = both.3.2.0 in
     made_at q (λ place. place_then place both (like_closed both.3)) (λ place. views.Parentheses place inside)
     (λ place. (is_parentheses place inside both.3.2.1 tt, omega (arith, level_parentheses place inside))) (λ place. leaves_parentheses place inside)
 
@@ -92,7 +91,7 @@ read_primary port low q both =
 pub write_primary : (port : ℕ) → port < 4 → Primary (WriteWord port)
 write_primary port low q both =
     let register = both.3.3.2 in
-    let value = boxed both.3.3.3.3.2.0 in
+    let value = both.3.3.3.3.2.0 in
     made_at q (λ place. place_then place both (like_arguments both.3))
     (λ place. views.Write place port register.0 value)
     (λ place. (is_write place port register.0 value both.3.3.3.3.2.1 (low, register.1), omega (arith, level_write place port register.0 value)))
@@ -103,7 +102,7 @@ abort_primary q one = made_at q (λ place. place_one place one) (λ place. views
 
 pub pack_primary : Primary PackWord
 pack_primary q both =
-    let value = boxed both.3.3.2.0 in
+    let value = both.3.3.2.0 in
     made_at q (λ place. place_then place both (like_argument both.3)) (λ place. views.Pack place value)
     (λ place. (is_pack place value both.3.3.2.1 tt, omega (arith, level_pack place value))) (λ place. leaves_pack place value)
 
@@ -116,40 +115,40 @@ two_arguments place k a b =
 pub unpack_primary : Primary UnpackWord
 unpack_primary q both =
     let to = both.3.3.2 in
-    let value = boxed both.3.3.3.3.2.0 in
+    let value = both.3.3.3.3.2.0 in
     made_at q (λ place. place_then place both (like_arguments both.3))
     (λ place. views.Unpack place to.0 value)
     (λ place. (is_unpack place to.0 value both.3.3.3.3.2.1 to.1, omega (arith, level_unpack place to.0 value)))
-    (λ place. leaves_unpack place to.0 value ∙ two_arguments place keywords.Unpack (type_leaves to.0) (expression_leaves value.value))
+    (λ place. leaves_unpack place to.0 value ∙ two_arguments place keywords.Unpack (type_leaves to.0) (expression_leaves value))
 
 pub extend_primary : (extension : Extension) → Primary (ExtendWord extension)
 extend_primary extension q both =
-    let value = boxed both.3.3.2.0 in
+    let value = both.3.3.2.0 in
     let width = both.3.3.3.3.2 in
     made_at q (λ place. place_then place both (like_arguments both.3))
     (λ place. views.Extend place extension value width.0) (λ place. (is_extend place extension value width.0 both.3.3.2.1 width.1, omega (arith, level_extend place extension value width.0)))
-    (λ place. leaves_extend place extension value width.0 ∙ two_arguments place (extension_word extension) (expression_leaves value.value) (number_leaves width.0))
+    (λ place. leaves_extend place extension value width.0 ∙ two_arguments place (extension_word extension) (expression_leaves value) (number_leaves width.0))
 
 pub compare_primary : (comparison : SignedComparison) → Primary (CompareWord comparison)
 compare_primary comparison q both =
-    let left = boxed both.3.3.2.0 in
-    let right = boxed both.3.3.3.3.2.0 in
+    let left = both.3.3.2.0 in
+    let right = both.3.3.3.3.2.0 in
     made_at q (λ place. place_then place both (like_arguments both.3))
     (λ place. views.Compare place comparison left right)
     (λ place. (is_compare place comparison left right both.3.3.2.1 both.3.3.3.3.2.1 tt, omega (arith, level_compare place comparison left right)))
-    (λ place. compare_expression place comparison left right ∙ two_arguments place (comparison_word comparison) (expression_leaves left.value) (expression_leaves right.value))
+    (λ place. compare_expression place comparison left right ∙ two_arguments place (comparison_word comparison) (expression_leaves left) (expression_leaves right))
 
 pub update_primary : Primary UpdateWord
 update_primary q both =
-    let whole = boxed both.3.3.2.0 in
+    let whole = both.3.3.2.0 in
     let part = both.3.3.3.3.2 in
     let more = both.3.3.3.3.3 in
-    let value = boxed more.3.2.0 in
+    let value = more.3.2.0 in
     let comma = sign symbols.Comma in
     let close = sign symbols.RightParenthesis in
     let grouped =
-    assoc5 (expression_leaves whole.value) comma (part_leaves part.0) comma (expression_leaves value.value) close
-    ∙ ap (λ t. expression_leaves whole.value ++ (comma ++ t)) (assoc3 (part_leaves part.0) comma (expression_leaves value.value) close) in
+    assoc5 (expression_leaves whole) comma (part_leaves part.0) comma (expression_leaves value) close
+    ∙ ap (λ t. expression_leaves whole ++ (comma ++ t)) (assoc3 (part_leaves part.0) comma (expression_leaves value) close) in
     made_at q (λ place. place_then place both (like_then both.3 (like_one both.3.2) (like_then both.3.3 (like_part both.3.3.2) (like_arguments both.3.3.3))))
     (λ place. views.Update place whole part.0 value) (λ place. (is_update place whole part.0 value both.3.3.2.1 more.3.2.1 part.1, omega (arith, level_update place whole part.0 value)))
     (λ place. update_expression place whole part.0 value ∙ ap (λ t. placed (keyword keywords.Update) place ++ (sign symbols.LeftParenthesis ++ t)) grouped)
@@ -161,9 +160,9 @@ named_primary q both = of both.3
     of (inl empty) =
         made q (like_then both (like_part both.2) ([], same_of (sym empty))) (views.made-Name both.2.0) (is_name both.2.0 both.2.1, omega (arith, level_name both.2.0)) (leaves_name both.2.0)
     of (inr (inl call)) =
-        let arguments = vector call.3.2.0 call.3.2.1.1 in
+        let arguments = call.3.2.0 in
         made q (like_then both (like_part both.2) (like_argument call)) (views.Call both.2.0 arguments)
-        (is_call both.2.0 arguments call.3.2.1.0 both.2.1, omega (arith, level_call both.2.0 arguments)) (call_expression both.2.0 arguments)
+        (is_call both.2.0 arguments call.3.2.1 both.2.1, omega (arith, level_call both.2.0 arguments)) (call_expression both.2.0 arguments)
     of (inr (inr colons)) = behind colons.3
       where
         behind : ColonsWord colons.1 → Kept (LevelWord 12) q
@@ -171,7 +170,7 @@ named_primary q both = of both.3
             made q (like_then both (like_part both.2) (like_then colons (like_one colons.2) (like_part member))) (views.made-Member both.2.0 member.0)
             (is_member both.2.0 member.0 (both.2.1, member.1), omega (arith, level_member both.2.0 member.0)) (leaves_member both.2.0 member.0)
         behind (inr tail) =
-            let fields = vector tail.3.2.0 tail.3.2.1.2 in
+            let fields = tail.3.2.0 in
             made_at q
             (λ place. then_place both (like_part both.2) (then_place colons (like_one colons.2)
             (then_place tail (like_one tail.2) (then_place tail.3 (like_part tail.3.2) (place_one place tail.3.3)))))
@@ -180,24 +179,24 @@ named_primary q both = of both.3
             (λ place. struct_expression both.2.0 fields place)
 
 -- chains, unary runs and postfixes
-pub chain_within : (k : ℕ) → Within (Then (LevelWord (k + 1)) (OperandsWord 0 k)) (LevelWord k)
+pub chain_within : (k : ℕ) → Within (Then (LevelWord (k + 1)) (OperandsWord k)) (LevelWord k)
 chain_within k q both = of both.3.0 both.3.1 both.3.2
   where
-    of : (operands : List Operand) → All (IsOperandIn k) operands × InVector (length operands + 0) → both.1 ≡ flat_map operand_leaves operands → Kept (LevelWord k) q
+    of : (operands : List Operand) → All (IsOperandIn k) operands → both.1 ≡ flat_map operand_leaves operands → Kept (LevelWord k) q
     of [] all same = kept q both.0 (looser k (k + 1) (omega arith) both.0 both.2) (same_of (sym (both.4 ∙ ap (λ t. both.0 ++ t) same ∙ append-nil both.0)))
     of (o ∷ os) all same =
-        let first = boxed both.2.0 in
-        let rest = vector (o ∷ os) (omega (arith, all.1)) in
-        let above : k < level first.value = omega (arith, both.2.1.1) in
+        let first = both.2.0 in
+        let rest = o ∷ os in
+        let above : k < level first = omega (arith, both.2.1.1) in
         made q (like_then both (like_part both.2) (flat_map operand_leaves (o ∷ os), same_of (sym same))) (views.Chain first rest)
-        (is_chain_of k first rest (omega arith) all.0 above both.2.1.0, omega (arith, level_chain_of k first rest (omega arith) all.0 above))
-        (chain_expression first rest ∙ ap (λ t. expression_leaves first.value ++ t) (sym (all_of_map operand_leaves (o ∷ os))))
+        (is_chain_of k first rest (omega arith) all above both.2.1.0, omega (arith, level_chain_of k first rest (omega arith) all above))
+        (chain_expression first rest ∙ ap (λ t. expression_leaves first ++ t) (sym (all_of_map operand_leaves (o ∷ os))))
 
 pub unary_within : Within (λ u. LevelWord 11 u ⊎ Then PrefixesWord (LevelWord 11) u) (LevelWord 10)
 unary_within q (inl postfix) = kept q q (looser 10 11 (omega arith) q postfix) (same_of refl)
 unary_within q (inr both) =
     let prefixes = both.2.2.0 ∷ both.2.3.0 in
-    let operand = boxed both.3.0 in
+    let operand = both.3.0 in
     made q (like_then both (like_then both.2 (like_part both.2.2) (like_part both.2.3)) (like_part both.3)) (views.Unary prefixes operand)
     (is_unary prefixes operand both.3.1.0 (omega arith, omega (arith, both.3.1.1)), omega (arith, level_unary prefixes operand)) (leaves_unary prefixes operand)
 
@@ -207,7 +206,7 @@ postfix_within q both = of both.3.0 both.3.1 both.3.2
     of : (suffixes : List Suffix) → All IsSuffix suffixes → both.1 ≡ flat_map suffix_leaves suffixes → Kept (LevelWord 11) q
     of [] all same = kept q both.0 (looser 11 12 (omega arith) both.0 both.2) (same_of (sym (both.4 ∙ ap (λ t. both.0 ++ t) same ∙ append-nil both.0)))
     of (s ∷ ss) all same =
-        let primary = boxed both.2.0 in
+        let primary = both.2.0 in
         made q (like_then both (like_part both.2) (flat_map suffix_leaves (s ∷ ss), same_of (sym same))) (views.Postfix primary (s ∷ ss))
         (is_postfix primary (s ∷ ss) both.2.1.0 (omega (arith, both.2.1.1), omega arith, all), omega (arith, level_postfix primary (s ∷ ss))) (leaves_postfix primary (s ∷ ss))
 
@@ -234,9 +233,9 @@ conditional_within q both =
     let arm = both.2.0 in
     let arms = both.3.0 in
     let otherwise = both.3.1 in
-    let all = vector (arm ∷ arms) (omega (arith, both.3.2.1)) in
+    let all = arm ∷ arms in
     made q (like_then both (like_part both.2) (else_leaves arms otherwise, same_of (sym both.3.4))) (views.If all otherwise)
-    (is_if all otherwise (All-cons IsArm arm arms both.2.1 both.3.2.0) both.3.3 (omega arith)) (if_expression all otherwise ∙ if_leaves_are arm arms otherwise)
+    (is_if all otherwise (All-cons IsArm arm arms both.2.1 both.3.2) both.3.3 (omega arith)) (if_expression all otherwise ∙ if_leaves_are arm arms otherwise)
 
 pub expression_within : Within (λ u. LevelWord 1 u ⊎ ConditionalWord u) (Part IsExpression expression_leaves)
 expression_within q (inl chain) = kept q q (chain.0, chain.1.0, chain.2) (same_of refl)
@@ -258,8 +257,8 @@ field_value_within q both =
 pub block_within : Within BlockWord (Part IsBlock block_leaves)
 block_within q both = of both.3.2.1 both.3.2.3 both.3.2.4
   where
-    statements : Vec Statement Global
-    statements = vector both.3.2.0 (omega (arith, both.3.2.2.1))
+    statements : List Statement
+    statements = both.3.2.0
 
     -- the block's leaves, with those of each statement
     in_block : (place : ℕ) (last : List Leaf) →
@@ -274,14 +273,14 @@ block_within q both = of both.3.2.1 both.3.2.3 both.3.2.4
         made_at q
         (λ place. place_then place both (like_then both.3 (flat_map statement_leaves both.3.2.0 ++ [], same_of (sym same)) (like_one both.3.3)))
         (λ place. roll-Block (record { place = place; statements = statements; value = None }))
-        (λ place. is_block place statements None both.3.2.2.0 tt)
+        (λ place. is_block place statements None both.3.2.2 tt)
         (λ place. leaves_block place statements None ∙ in_block place [])
     of (Some e) is same =
         made_at q
         (λ place. place_then place both (like_then both.3 (flat_map statement_leaves both.3.2.0 ++ expression_leaves e, same_of (sym same)) (like_one both.3.3)))
-        (λ place. roll-Block (record { place = place; statements = statements; value = Some (boxed e) }))
-        (λ place. is_block place statements (Some (boxed e)) both.3.2.2.0 is)
-        (λ place. leaves_block place statements (Some (boxed e)) ∙ in_block place (expression_leaves e))
+        (λ place. roll-Block (record { place = place; statements = statements; value = Some e }))
+        (λ place. is_block place statements (Some e) both.3.2.2 is)
+        (λ place. leaves_block place statements (Some e) ∙ in_block place (expression_leaves e))
 
 pub let_within : Within LetWord (Part IsStatement statement_leaves)
 let_within q both =

@@ -1,11 +1,11 @@
 -- What is left of a primary, of what stands behind a name, and of arguments, by the next token.
 use Rattle.koika_syntax.specs.declared.symbol.Symbol.{Symbol}
 use Rattle.koika_syntax.specs.declared.keyword.Keyword.{Keyword}
-use Rattle.koika_parse.proofs.Commas.{Listed, in_vector, some_commas}
+use Rattle.koika_parse.proofs.Commas.{some_commas}
 use Rattle.kw_bits.specs.BitVector.{BitVector}
 use Rattle.koika_syntax.specs.declared.operator.Extension.{Extension}
 use Rattle.koika_syntax.specs.declared.operator.SignedComparison.{SignedComparison}
-use Rattle.koika_parse.specs.declared.stop.Stop.{Stop}
+use Rattle.koika_parse.specs.inner.Stops.{Stop}
 use Rattle.std.proofs.Common.{Result}
 use Rattle.koika_parse.proofs.Expected.{Language, Lookahead, same_first, tail, free_last}
 use Rattle.koika_parse.proofs.Witnesses.{some_expression, some_level, some_name, some_number, a_number, some_block, some_literal, some_type}
@@ -25,7 +25,7 @@ use Rattle.koika_syntax.specs.declared.token.TokenKind.TheVariants as kinds
 use Rattle.koika_syntax.specs.declared.tree.Expression.{Expression}
 use Rattle.koika_syntax.specs.declared.tree.UpdatedPart as tree_parts
 use Rattle.koika_syntax.specs.declared.tree.UpdatedPart.TheVariants as parts
-use Rattle.koika_parse.specs.inner.Expected.{One, Then, first, Takes, Commas, Any, NoComma, InVector}
+use Rattle.koika_parse.specs.inner.Expected.{One, Part, Then, first, Takes, Commas, Any, NoComma}
 use Rattle.koika_parse.specs.inner.ExpressionWords.{Free, LevelWord, NamedWord, NamedTailWord, CallTailWord, ColonsWord}
 use Rattle.koika_parse.specs.inner.ExpressionWords.{ArgumentsWord, ConditionalWord, parenthesis_follows, ArrayWord}
 use Rattle.koika_parse.specs.inner.ExpressionWords.{CompareWord, ExtendWord, KeywordWord, OneBlock, OneLiteral, OnePart}
@@ -34,7 +34,8 @@ use Rattle.koika_parse.specs.inner.ExpressionWords.{UpdateWord, WriteWord}
 use Rattle.koika_parse.specs.inner.Reading.{kind_at, next}
 use Rattle.koika_parse.specs.declared.cursor.Cursor.{Cursor}
 use Rattle.koika_parse.specs.declared.source.Source.{Source}
-use Rattle.koika_parse.specs.declared.stop.Stop.TheVariants as stops
+use Rattle.kw_bits.specs.declared.failure.Failure.TheVariants as failures
+use Rattle.koika_parse.specs.declared.stop.Unread.TheVariants as unread
 use Rattle.koika_parse.proofs.Expected.{Empty, Goes, start, narrow_part, refused, same_of_some, kind_is, Has, Within, begin, has_within, kept, kind_of, like_part, made, same_of, some_one, some_then}
 use Rattle.koika_parse.proofs.Rows.{the_first, the_second, first_one}
 use Rattle.koika_parse.proofs.ExpressionWords.{OneExpression, PrimaryWord, primary_word, ArmWord, arm_word, expression_split, FieldValueWord}
@@ -48,7 +49,7 @@ primary_at {source} {cursor} kind some within at = narrow_part (PrimaryWord kind
     subst (λ k. PrimaryWord k (expression_leaves x)) (same_of_some (sym (kind_is source cursor (sym (same_first v headed.2) ∙ same)) ∙ at)) headed.3) some within
 
 pub primary_none : {Y : Type 0} {source : Source} {cursor : Cursor} {Follow : Lookahead} → ((kind : TokenKind) → kind_at source cursor ≡ Some kind → (u : List Leaf) → PrimaryWord kind u → ⊥) →
-    Takes {X = Y} source cursor cursor (LevelWord 12) Follow (Err stops.Unexpected)
+    Takes {X = Y} source cursor cursor (LevelWord 12) Follow (Err (failures.Why unread.Unexpected))
 primary_none {Y} {source} {cursor} none = refused (begin (LevelWord 12) (some_level 12 (omega arith))) (λ r v word behind same.
     let headed = primary_word word.0 word.1 in
     none (kind_of headed.0.terminal) (kind_is source cursor (sym (same_first v (word.2 ∙ headed.2)) ∙ same)) (expression_leaves word.0) headed.3)
@@ -75,26 +76,23 @@ pub some_field_value_word : Has FieldValueWord
 some_field_value_word = some_then some_name (some_then (some_one (symbol symbols.Colon)) some_expression)
 
 no_arguments : Has ArgumentsWord
-no_arguments = (commas (map expression_leaves []), ([], (All-nil IsExpression, lit< tt), refl))
+no_arguments = (commas (map expression_leaves []), ([], All-nil IsExpression, refl))
 
 pub named_start : {source : Source} {cursor : Cursor} {Follow : Lookahead} → Goes source cursor cursor NamedWord Follow NamedWord
 named_start = begin NamedWord some_named
 
-pub expressions_listed : Listed InVector IsExpression expression_leaves
-expressions_listed = in_vector some_expression
-
-pub field_values_listed : Listed InVector IsFieldValue field_value_leaves
-field_values_listed = in_vector (has_within field_value_within some_field_value_word)
+pub some_field_value : Has (Part IsFieldValue field_value_leaves)
+some_field_value = has_within field_value_within some_field_value_word
 
 some_call : Has CallTailWord
 some_call = some_then (some_one (symbol symbols.LeftParenthesis)) (some_then no_arguments (some_one (symbol symbols.RightParenthesis)))
 
 -- what stands between the brackets of a struct
 abbrev pub FieldValuesTail : Language
-FieldValuesTail = Then (Commas InVector IsFieldValue field_value_leaves) (One (symbol symbols.RightBrace))
+FieldValuesTail = Then (Commas IsFieldValue field_value_leaves) (One (symbol symbols.RightBrace))
 
 pub some_field_values_tail : Has FieldValuesTail
-some_field_values_tail = some_then (some_commas field_values_listed) (some_one (symbol symbols.RightBrace))
+some_field_values_tail = some_then (some_commas some_field_value) (some_one (symbol symbols.RightBrace))
 
 free_call : (next : Option Terminal) → Free 12 next → next ≡ Some (symbol symbols.LeftParenthesis) → ⊥
 free_call next free at = let less : 12 < 12 = subst (Free 12) at free in omega (arith, less)
@@ -147,18 +145,18 @@ number_or_name e = cc e
 
 -- no argument, or at least one
 abbrev SomeArguments : Language
-SomeArguments = Commas InVector IsExpression expression_leaves
+SomeArguments = Commas IsExpression expression_leaves
 
 arguments_cases : (r : List Leaf) → ArgumentsWord r → Empty r ⊎ SomeArguments r
 arguments_cases r word = subst (λ r. Empty r ⊎ SomeArguments r) (sym word.2) (of word.0 word.1)
   where
-    of : (xs : List Expression) → All IsExpression xs × InVector (length xs) → Empty (commas (map expression_leaves xs)) ⊎ SomeArguments (commas (map expression_leaves xs))
+    of : (xs : List Expression) → All IsExpression xs → Empty (commas (map expression_leaves xs)) ⊎ SomeArguments (commas (map expression_leaves xs))
     of [] all = inl no_commas
-    of (x ∷ xs) all = inr (x ∷ xs, (omega arith, all.0, all.1), refl)
+    of (x ∷ xs) all = inr (x ∷ xs, (omega arith, all), refl)
 
 arguments_within : Within (λ u. Empty u ⊎ SomeArguments u) ArgumentsWord
-arguments_within q (inl empty) = kept q (commas (map expression_leaves [])) ([], (All-nil IsExpression, lit< tt), refl) (same_of (no_commas ∙ sym empty))
-arguments_within q (inr word) = kept q q (word.0, (word.1.1, word.1.2), word.2) (same_of refl)
+arguments_within q (inl empty) = kept q (commas (map expression_leaves [])) ([], All-nil IsExpression, refl) (same_of (no_commas ∙ sym empty))
+arguments_within q (inr word) = kept q q (word.0, word.1.1, word.2) (same_of refl)
 
 arguments_start : {source : Source} {cursor : Cursor} {Follow : Lookahead} → Goes source cursor cursor ArgumentsWord Follow (λ u. Empty u ⊎ SomeArguments u)
 arguments_start = start arguments_cases ([], inl refl) arguments_within
@@ -177,7 +175,7 @@ pub arguments_end : {source : Source} {cursor : Cursor} {Follow : Lookahead} →
 arguments_end at = the_first arguments_start (λ r v some behind same. arguments_first r v some (same ∙ at)) ([], refl)
 
 pub arguments_at : {source : Source} {cursor : Cursor} → next source cursor ≢ Some (symbol symbols.RightParenthesis) → Goes source cursor cursor ArgumentsWord parenthesis_follows SomeArguments
-arguments_at other = the_second arguments_start (λ r v empty behind same. other (sym same ∙ same_first v empty ∙ behind)) (some_commas expressions_listed)
+arguments_at other = the_second arguments_start (λ r v empty behind same. other (sym same ∙ same_first v empty ∙ behind)) (some_commas some_expression)
 
 -- the part of an update by the next token
 pub part_name : {source : Source} {cursor : Cursor} {Follow : Lookahead} → kind_at source cursor ≡ Some kinds.Name → Goes source cursor cursor OnePart Follow OneName
@@ -203,7 +201,7 @@ parenthesis_any next at = subst (NoComma Any) (sym at) (tt, refl)
 
 -- each primary by the symbol or the keyword that it begins with
 pub some_array : Has ArrayWord
-some_array = some_then (some_one (symbol symbols.LeftBracket)) (some_then (some_commas expressions_listed) (some_one (symbol symbols.RightBracket)))
+some_array = some_then (some_one (symbol symbols.LeftBracket)) (some_then (some_commas some_expression) (some_one (symbol symbols.RightBracket)))
 
 pub array_start : {source : Source} {cursor : Cursor} {Follow : Lookahead} → Goes source cursor cursor ArrayWord Follow ArrayWord
 array_start = begin ArrayWord some_array
@@ -311,7 +309,7 @@ other_symbol _ a b c u word = word
 pub symbol_refused :
     {Y : Type 0} {source : Source} {cursor : Cursor} {Follow : Lookahead} (s : Symbol) → s ≢ symbols.LeftBracket →
     s ≢ symbols.LeftParenthesis → s ≢ symbols.LeftBrace → kind_at source cursor ≡ Some (kinds.Symbol s) →
-    Takes {X = Y} source cursor cursor (LevelWord 12) Follow (Err stops.Unexpected)
+    Takes {X = Y} source cursor cursor (LevelWord 12) Follow (Err (failures.Why unread.Unexpected))
 symbol_refused s a b c at = primary_none (λ kind here u word. other_symbol s a b c u (subst (λ k. PrimaryWord k u) (same_of_some (sym here ∙ at)) word))
 
 pub other_keyword : (k : Keyword) → k ≢ keywords.Read0 → k ≢ keywords.Read1 → k ≢ keywords.Read2 → k ≢ keywords.Read3 →
@@ -339,5 +337,5 @@ other_keyword keywords.Update n0 n1 n2 n3 n4 n5 n6 n7 n8 n9 n10 n11 n12 n13 n14 
 other_keyword _ n0 n1 n2 n3 n4 n5 n6 n7 n8 n9 n10 n11 n12 n13 n14 n15 n16 n17 u word = word
 
 pub keyword_refused : {Y : Type 0} {source : Source} {cursor : Cursor} {Follow : Lookahead} (k : Keyword) → ((u : List Leaf) → KeywordWord k u → ⊥) → kind_at source cursor ≡ Some (kinds.Keyword k) →
-    Takes {X = Y} source cursor cursor (LevelWord 12) Follow (Err stops.Unexpected)
+    Takes {X = Y} source cursor cursor (LevelWord 12) Follow (Err (failures.Why unread.Unexpected))
 keyword_refused k none at = primary_none (λ kind here u word. none u (subst (λ k. PrimaryWord k u) (same_of_some (sym here ∙ at)) word))

@@ -104,11 +104,6 @@ in_place_of {X} {source} {old} {new} leaves y same r = subst (λ z. Reads source
 pub as_leaves : {source : Source} {old new : Cursor} {xs : List Leaf} (ys : List Leaf) → ys ≡ xs → Reads source old new xs → Reads source old new ys
 as_leaves {source} {old} {new} ys same r = subst (λ l. Reads source old new l) (sym same) r
 
--- a token behind it leaves fewer
-pub shorter_behind : {source : Source} {old mid new : Cursor} {leaf : Leaf} {xs leaves : List Leaf} →
-    Reads source old mid xs → Reads source mid new (leaf ∷ leaves) → tokens_left source new < tokens_left source old
-shorter_behind p q = omega (arith, p.left, q.left)
-
 -- all of the tokens have been read
 pub whole : {source : Source} {old new : Cursor} {leaves : List Leaf} → Reads source old new leaves →
     old.at ≡ 0 → length source.tokens.now ≤ new.at → AllZip (IsLeafAt source.text.now) leaves source.tokens.now

@@ -1,11 +1,11 @@
 -- The words of schedulers.
-use Rattle.koika_parse.proofs.Witnesses.{a_name, a_name_is, boxed, some_name, some_scheduler}
+use Rattle.koika_parse.proofs.Witnesses.{a_name, a_name_is, some_name, some_scheduler}
 use Rattle.koika_parse.proofs.Parts.{is_choice, is_scheduler}
 use Rattle.koika_parse.proofs.Calls.{leaves_choice, leaves_scheduler}
-use Rattle.std.proofs.Common.{◌≡◌, Option, None, Some, IfSome, List, [], ◌++◌, append_assoc, inl, inr, refl, ap, sym, subst, ◌∙◌, Box, Global}
+use Rattle.std.proofs.Common.{◌≡◌, Option, None, Some, IfSome, List, [], ◌++◌, append_assoc, inl, inr, refl, ap, sym, subst, ◌∙◌}
 use Rattle.std.specs.Prelude.{◌⊎◌}
 use Rattle.std.specs.List.{All, flat_map}
-use Rattle.koika_syntax.specs.Grammar.{IsName, IsScheduler, IsChoiceLayer, IsSchedulerLayer, scheduler_leaves, rule_leaves, choice_step, scheduler_step, last_leaves}
+use Rattle.koika_syntax.specs.Grammar.{IsName, IsScheduler, scheduler_leaves, rule_leaves, choice_step, last_leaves}
 use Rattle.koika_syntax.specs.inner.Grammar.{choice_leaves}
 use Rattle.koika_syntax.specs.Tree.{Leaf, Terminal, keyword, symbol, name_leaves, word, sign, in_braces}
 use Rattle.koika_syntax.specs.declared.keyword.Keyword.{Keyword}
@@ -19,15 +19,16 @@ use Rattle.koika_parse.proofs.Expected.{Apart, Empty, before_one, kind_of, Goes,
 use Rattle.koika_parse.proofs.Expected.{name_of, same_of_some, never_none, Has, Within, begin, has_within, kept, made}
 use Rattle.koika_parse.proofs.Expected.{same_of, same_one, same_part, same_then, some_one, some_then, starts}
 use Rattle.koika_syntax.specs.declared.tree.Name.{Name}
-use Rattle.koika_syntax.specs.declared.tree.Choice.{Choice, Choice-F, map-Choice, out-Choice, every_held-Choice, every_here-Choice, fold_out-Choice, roll-Choice}
-use Rattle.koika_syntax.specs.declared.tree.Scheduler.{Scheduler, Scheduler-F, map-Scheduler, out-Scheduler, every_held-Scheduler, every_here-Scheduler, fold_out-Scheduler, roll-Scheduler}
+use Rattle.koika_syntax.specs.declared.tree.Choice.{Choice, roll-Choice}
+use Rattle.koika_syntax.specs.declared.tree.Scheduler.{Scheduler, roll-Scheduler}
 use Rattle.koika_parse.specs.inner.Parts.{IsChoice}
 use Rattle.koika_parse.proofs.Words.{Known, one, part, this, ◌then◌, sign_word, assoc2}
 use Rattle.koika_parse.specs.inner.Reading.{kind_at, next}
 use Rattle.koika_parse.specs.declared.cursor.Cursor.{Cursor}
 use Rattle.koika_parse.specs.declared.source.Source.{Source}
 use Rattle.koika_parse.proofs.Rows.{the_first, the_second, rows_none, rows_split}
-use Rattle.koika_parse.proofs.ConstantWords.{Such}
+use Rattle.koika_parse.proofs.Layers.{Such, of_leaves, choice_kind, choice_grown, choice_leaves_by}
+use Rattle.koika_parse.proofs.Layers.{scheduler_kind, scheduler_grown, scheduler_layer, scheduler_leaves_by}
 
 -- a scheduler in its braces
 abbrev pub BracedScheduler : List Leaf → Type 0
@@ -59,69 +60,19 @@ choice_in_turn : (rule : Name) (taken other : List Leaf) →
 choice_in_turn rule taken other =
     ap (λ t. word keywords.Try ++ (name_leaves rule ++ (word keywords.Then ++ t))) (assoc2 (in_braces taken) (word keywords.Else) (in_braces other))
 
-abbrev OpenScheduler : Type 0
-OpenScheduler = Scheduler-F (Such IsChoice) (Such IsScheduler)
-
-abbrev closed_scheduler : OpenScheduler → Scheduler-F Choice Scheduler
-closed_scheduler y = map-Scheduler (Such IsChoice) (Such IsScheduler) Choice Scheduler (λ e. e.0) (λ e. e.0) y
-
-scheduler_held : (t : Scheduler) → IsScheduler t → (y : OpenScheduler) × (closed_scheduler y ≡ out-Scheduler t)
-unfolding IsChoice IsScheduler
-scheduler_held t is = every_held-Scheduler IsChoiceLayer IsSchedulerLayer t is
-
-scheduler_here : (t : Scheduler) → IsScheduler t → IsSchedulerLayer (out-Scheduler t)
-unfolding IsChoice IsScheduler
-scheduler_here t is = every_here-Scheduler IsChoiceLayer IsSchedulerLayer t is
-
-abbrev scheduler_layer_leaves : Scheduler-F Choice Scheduler → List Leaf
-scheduler_layer_leaves d = scheduler_step (map-Scheduler Choice Scheduler (List Leaf) (List Leaf) choice_leaves scheduler_leaves d)
-
-scheduler_out : (t : Scheduler) → scheduler_leaves t ≡ scheduler_layer_leaves (out-Scheduler t)
-unfolding choice_leaves scheduler_leaves
-scheduler_out t = fold_out-Scheduler (List Leaf) (List Leaf) choice_step scheduler_step t
-
-scheduler_layer_word : (rules : List Name) (last : Option (Box (Such IsChoice) Global)) → All IsName rules →
-    SchedulerWord (in_braces (scheduler_layer_leaves (closed_scheduler (record { rules = rules; last = last }))))
+scheduler_layer_word : (rules : List Name) (last : Option (Such IsChoice)) → All IsName rules →
+    SchedulerWord (in_braces (scheduler_layer (scheduler_kind.closed (record { rules = rules; last = last }))))
 scheduler_layer_word rules None here = subst SchedulerWord (sym (braced_rules rules [])) (scheduler_words (this rules here) (this None tt)).some.1
 scheduler_layer_word rules (Some b) here =
-    subst SchedulerWord (sym (braced_rules rules (choice_leaves b.value.0))) (scheduler_words (this rules here) (this (Some b.value.0) b.value.1)).some.1
+    subst SchedulerWord (sym (braced_rules rules (choice_leaves b.0))) (scheduler_words (this rules here) (this (Some b.0) b.1)).some.1
 
 pub scheduler_word : (t : Scheduler) → IsScheduler t → SchedulerWord (in_braces (scheduler_leaves t))
-scheduler_word t is =
-    let held = scheduler_held t is in
-    subst (λ u. SchedulerWord (in_braces u)) (sym (scheduler_out t ∙ ap scheduler_layer_leaves (sym held.1)))
-    (scheduler_layer_word held.0.rules held.0.last (subst IsSchedulerLayer (sym held.1) (scheduler_here t is)))
-
-abbrev OpenChoice : Type 0
-OpenChoice = Choice-F (Such IsChoice) (Such IsScheduler)
-
-abbrev closed_choice : OpenChoice → Choice-F Choice Scheduler
-closed_choice y = map-Choice (Such IsChoice) (Such IsScheduler) Choice Scheduler (λ e. e.0) (λ e. e.0) y
-
-choice_held : (t : Choice) → IsChoice t → (y : OpenChoice) × (closed_choice y ≡ out-Choice t)
-unfolding IsChoice IsScheduler
-choice_held t is = every_held-Choice IsChoiceLayer IsSchedulerLayer t is
-
-choice_here : (t : Choice) → IsChoice t → IsChoiceLayer (out-Choice t)
-unfolding IsChoice IsScheduler
-choice_here t is = every_here-Choice IsChoiceLayer IsSchedulerLayer t is
-
-abbrev choice_layer_leaves : Choice-F Choice Scheduler → List Leaf
-choice_layer_leaves d = choice_step (map-Choice Choice Scheduler (List Leaf) (List Leaf) choice_leaves scheduler_leaves d)
-
-choice_out : (t : Choice) → choice_leaves t ≡ choice_layer_leaves (out-Choice t)
-unfolding choice_leaves scheduler_leaves
-choice_out t = fold_out-Choice (List Leaf) (List Leaf) choice_step scheduler_step t
+scheduler_word = of_leaves scheduler_kind scheduler_grown scheduler_leaves_by (λ u. SchedulerWord (in_braces u)) (λ y here. scheduler_layer_word y.rules y.last here)
 
 pub choice_word : (t : Choice) → IsChoice t → ChoiceWord (choice_leaves t)
-choice_word t is =
-    let held = choice_held t is in
-    let c = held.0 in
-    let taken = c.then in
-    let other = c.otherwise in
-    let named : IsName c.rule = subst IsChoiceLayer (sym held.1) (choice_here t is) in
-    subst ChoiceWord (sym (choice_out t ∙ ap choice_layer_leaves (sym held.1) ∙ choice_in_turn c.rule (scheduler_leaves taken.0) (scheduler_leaves other.0)))
-    (choice_words (this c.rule named) (this taken.0 taken.1) (this other.0 other.1)).some.1
+choice_word = of_leaves choice_kind choice_grown choice_leaves_by ChoiceWord (λ c named.
+    subst ChoiceWord (sym (choice_in_turn c.rule (scheduler_leaves c.then.0) (scheduler_leaves c.otherwise.0)))
+    (choice_words (this c.rule named) (this c.then.0 c.then.1) (this c.otherwise.0 c.otherwise.1)).some.1)
 
 first_of : (k : Keyword) (Q : List Leaf → Type 0) (u v : List Leaf) → Then (One (keyword k)) Q u → first (u ++ v) ≡ Some (keyword k)
 first_of k Q u v both = ap (λ l. first (l ++ v)) (both.4 ∙ ap (λ l. l ++ both.1) both.2.2) ∙ ap Some both.2.1
@@ -152,8 +103,8 @@ scheduler_of rules None named is =
     let s = roll-Scheduler (record { rules = rules; last = None }) in
     (s, is_scheduler rules None named tt, ap in_braces (leaves_scheduler rules None) ∙ braced_rules rules [])
 scheduler_of rules (Some c) named is =
-    let s = roll-Scheduler (record { rules = rules; last = Some (boxed c) }) in
-    (s, is_scheduler rules (Some (boxed c)) named is, ap in_braces (leaves_scheduler rules (Some (boxed c))) ∙ braced_rules rules (choice_leaves c))
+    let s = roll-Scheduler (record { rules = rules; last = Some c }) in
+    (s, is_scheduler rules (Some c) named is, ap in_braces (leaves_scheduler rules (Some c)) ∙ braced_rules rules (choice_leaves c))
 
 no_rules : Has RulesWord
 no_rules = ([], rows_none IsName rule_leaves)

@@ -1,13 +1,18 @@
--- Readers of tokens, and what they read: a reader of a part takes the tokens of the part's leaves, whatever follows
--- that doesn't continue the part, and gives its outline.
-use Rattle.std.proofs.Common.{◌≡◌, ℕ, zero, suc, ◌≤◌, Bool, true, false, cond, Option, Some, None, IfSome, List, []}
-use Rattle.std.proofs.Common.{◌∷◌, ◌++◌, length, map, refl, ap, sym, subst, ◌∙◌, append_assoc, arith, length-append}
+-- What a reader reads: the tokens of a part's leaves, where nothing after them holds to the part; and how that is put
+-- together.
+use Rattle.std.proofs.Common.{◌≡◌, ℕ, zero, suc, ◌<◌, ◌≤◌, true, cond, Option, Some, None, IfSome, List, []}
+use Rattle.std.proofs.Common.{◌∷◌, ◌++◌, length, map, refl, ap, sym, subst, ◌∙◌, arith, length-append, append-nil}
 use Rattle.std.specs.Prelude.{⊤}
 use Rattle.std.specs.List.{flat_map, AllByRecursion}
-use Rattle.koika_syntax.specs.Tree.{Leaf, Terminal}
-use Rattle.koika_parse.specs.Outline.{Outline}
+use Rattle.std.proofs.Math.Dec.{eqb}
+use Rattle.std.proofs.lemmas.Bool.{eq-eqb, ne_eqb}
+use Rattle.std.proofs.lemmas.List.Folds.{flat_map-map}
+use Rattle.koika_syntax.specs.Tree.{Leaf, Terminal, sign, commas, with_between}
+use Rattle.koika_syntax.specs.declared.symbol.Symbol.TheVariants as symbols
+use Rattle.koika_parse.proofs.UnambiguousGrammar.{Phrase, Result, Reader, give, refuse, on, then, peek, or, many, phrase}
+use Rattle.koika_parse.proofs.UnambiguousGrammar.{grip, skip, separated, grammar}
 
--- a token that is read, with what is made of its place
+-- a token with what is made of its place
 pub data Item : Type 0 where
   item : Terminal → ℕ → Item
 
@@ -15,240 +20,263 @@ abbrev pub first : List Item → Option Terminal
 first [] = None
 first (item t p ∷ items) = Some t
 
--- a reader gives outlines; refuses; reads a token and goes on by it; reads a part and goes on by it; goes on by the next
--- token; or reads otherwise where it refuses
-pub data Reader : Type 0 where
-  give : List Outline → Reader
-  refuse : Reader
-  on : (Terminal → ℕ → Reader) → Reader
-  then : Reader → (List Outline → Reader) → Reader
-  peek : (Option Terminal → Bool) → Reader → Reader → Reader
-  or : Reader → Reader → Reader
+abbrev Found : Type 0 → Type 0
+Found X = Option (X × List Item)
 
-abbrev pub Found : Type 0
-Found = Option (List Outline × List Item)
-
-abbrev pub after : (List Outline → List Item → Found) → Found → Found
+abbrev after : {X Y : Type 0} → (X → List Item → Found Y) → Found X → Found Y
 after next None = None
 after next (Some found) = next found.0 found.1
 
-abbrev or_else : Found → Found → Found
+abbrev or_else : {X : Type 0} → Found X → Found X → Found X
 or_else None other = other
 or_else (Some found) other = Some found
 
-abbrev by_first : (Terminal → ℕ → List Item → Found) → List Item → Found
+abbrev by_first : {X : Type 0} → (Terminal → ℕ → List Item → Found X) → List Item → Found X
 by_first next [] = None
 by_first next (item t p ∷ items) = next t p items
 
-abbrev pub run : Reader → List Item → Found
-run (give outlines) items = Some (outlines, items)
-run refuse items = None
-run (on next) items = by_first (λ t p. run (next t p)) items
-run (then r next) items = after (λ outlines. run (next outlines)) (run r items)
-run (peek test r s) items = cond (test (first items)) (run r items) (run s items)
-run (or r s) items = or_else (run r items) (run s items)
+abbrev repeated : {X : Type 0} → ℕ → (List Item → Found X) → ℕ → List Item → Found (List X)
+repeated k r zero items = Some ([], items)
+repeated k r (suc m) items = cond (eqb (grip (first items)) k) (after (λ x more. after (λ xs rest. Some (x ∷ xs, rest)) (repeated k r m more)) (r items)) (Some ([], items))
 
-abbrev pub skip : Reader → Reader
-skip r = on (λ t p. r)
+-- a reader is run with phrases that are not nested deeper than a number
+abbrev runs : ((s : Phrase) → List Item → Found (Result s)) → {X : Type 0} → Reader X → List Item → Found X
+runs phrases (give x) items = Some (x, items)
+runs phrases refuse items = None
+runs phrases (on next) items = by_first (λ t p more. runs phrases (next t p) more) items
+runs phrases (then r next) items = after (λ x more. runs phrases (next x) more) (runs phrases r items)
+runs phrases (peek k r s) items = cond (eqb (grip (first items)) k) (runs phrases r items) (runs phrases s items)
+runs phrases (or r s) items = or_else (runs phrases r items) (runs phrases s items)
+runs phrases (many k r) items = repeated k (runs phrases r) (length items) items
+runs phrases (phrase s) items = phrases s items
 
-abbrev pub taking : (Outline → Reader) → Reader
-taking next = on (λ t p. next (Outline.token t p))
+abbrev runs_phrase : ℕ → (s : Phrase) → List Item → Found (Result s)
+runs_phrase zero s items = None
+runs_phrase (suc d) s items = runs (runs_phrase d) (grammar s) items
 
--- parts for as long as the next token passes a test
-abbrev pub many : (Option Terminal → Bool) → Reader → ℕ → Reader
-many test r zero = give []
-many test r (suc m) = peek test (then r (λ x. then (many test r m) (λ xs. give (x ++ xs)))) (give [])
+abbrev pub run : {X : Type 0} → ℕ → Reader X → List Item → Found X
+run d r items = runs (runs_phrase d) r items
 
--- the items are these leaves
-abbrev pub Shows : (ℕ → ℕ) → List Leaf → List Item → Type 0
-Shows at [] [] = ⊤
-Shows at [] (i ∷ items) = ⊥
-Shows at (leaf ∷ leaves) [] = ⊥
-Shows at (leaf ∷ leaves) (item t p ∷ items) = (leaf.terminal ≡ t) × IfSome leaf.place (λ place. at place ≡ p) × Shows at leaves items
+-- items are these leaves and a rest
+abbrev pub Shows : (ℕ → ℕ) → List Leaf → List Item → List Item → Type 0
+Shows at [] items rest = items ≡ rest
+Shows at (leaf ∷ leaves) [] rest = ⊥
+Shows at (leaf ∷ leaves) (item t p ∷ items) rest = (leaf.terminal ≡ t) × IfSome leaf.place (λ place. at place ≡ p) × Shows at leaves items rest
 
--- outlines are read from leaves, where what follows may follow
-pub record Reads (at : ℕ → ℕ) (r : Reader) (leaves : List Leaf) (outlines : List Outline) (Follow : Option Terminal → Type 0) : Type 0 where
-  pub reads : (items rest : List Item) → Shows at leaves items → Follow (first rest) → run r (items ++ rest) ≡ Some (outlines, rest)
+-- a result is read from fewer than n leaves, where what follows holds no more tightly than k
+pub record Reads (at : ℕ → ℕ) (d n : ℕ) {X : Type 0} (r : Reader X) (leaves : List Leaf) (x : X) (k : ℕ) : Type 0 where
+  pub reads : (items rest : List Item) → length leaves < n → Shows at leaves items rest → grip (first rest) ≤ k → run d r items ≡ Some (x, rest)
 
--- the first token of leaves and of what follows
-pub record Leads (at : ℕ → ℕ) (Mid : Option Terminal → Type 0) (leaves : List Leaf) (Follow : Option Terminal → Type 0) : Type 0 where
-  pub leads : (items rest : List Item) → Shows at leaves items → Follow (first rest) → Mid (first (items ++ rest))
+-- the first token of leaves, or of what follows them, holds no more tightly than j
+abbrev pub Front : ℕ → List Leaf → ℕ → Type 0
+Front j [] k = k ≤ j
+Front j (leaf ∷ leaves) k = grip (Some leaf.terminal) ≤ j
 
-abbrev pub Any : Option Terminal → Type 0
-Any next = ⊤
+-- leaves that begin with a token that holds so
+abbrev pub Begins : ℕ → List Leaf → Type 0
+Begins k [] = ⊥
+Begins k (leaf ∷ leaves) = grip (Some leaf.terminal) ≡ k
 
--- leaves that are read as this outline, if there are at most n; and each of some parts, as its outline
-abbrev pub ReadsUpTo : {D : Type 0} (at : ℕ → ℕ) (r : Reader) (n : ℕ) (Follow : Option Terminal → Type 0) → D → List Leaf → Outline → Type 0
-ReadsUpTo at r n Follow d leaves outline = length leaves ≤ n → Reads at r leaves (outline ∷ []) Follow
+-- a reader refuses what begins with this token
+pub record Refuses (d : ℕ) {X : Type 0} (r : Reader X) (t : Terminal) : Type 0 where
+  pub refuses : (q : ℕ) (items : List Item) → run d r (item t q ∷ items) ≡ None
 
-abbrev pub ReadsEach : {E : Type 0} (at : ℕ → ℕ) (r : Reader) (Is : E → Type 0) (leaves : E → List Leaf) (out : E → Outline) (n : ℕ) (Follow : Option Terminal → Type 0) → Type 0
-ReadsEach {E} at r Is leaves out n Follow = (e : E) → Is e → length (leaves e) ≤ n → Reads at r (leaves e) (out e ∷ []) Follow
+pub refuses_then : {d : ℕ} {X Y : Type 0} {r : Reader X} {next : X → Reader Y} {t : Terminal} → Refuses d r t → Refuses d (then r next) t
+refuses_then {d} {next = next} h = record { refuses = λ q items. ap (after (λ x. run d (next x))) (h.refuses q items) }
 
--- leaves that begin so
-abbrev pub Begins : (Option Terminal → Bool) → List Leaf → Type 0
-Begins test [] = ⊥
-Begins test (leaf ∷ leaves) = test (Some leaf.terminal) ≡ true
+some_leaf : (k : ℕ) (ls : List Leaf) → Begins k ls → 0 < length ls
+some_leaf k [] begins = absurd begins
+some_leaf k (leaf ∷ ls) begins = omega arith
 
--- a reader refuses each text that begins with this token
-pub record Refuses (r : Reader) (t : Terminal) : Type 0 where
-  pub refuses : (q : ℕ) (items : List Item) → run r (item t q ∷ items) ≡ None
+-- parts that each begin with a token that holds so
+pub front_many : (k : ℕ) {E : Type 0} (leaves : E → List Leaf) (Is : E → Type 0) → ((t : E) → Is t → Begins (suc k) (leaves t)) →
+    (ts : List E) → AllByRecursion Is ts → Front (suc k) (flat_map leaves ts) k
+front_many k leaves Is begins [] all = omega arith
+front_many k leaves Is begins (t ∷ ts) all = front (leaves t) (begins t all.0)
+  where
+    front : (ls : List Leaf) → Begins (suc k) ls → Front (suc k) (ls ++ flat_map leaves ts) k
+    front [] begins = absurd begins
+    front (leaf ∷ ls) begins = omega (arith, begins)
 
-module _ {at : ℕ → ℕ} where
-  pub reads_give : {xs : List Outline} {F : Option Terminal → Type 0} → Reads at (give xs) [] xs F
-  reads_give {xs} {F} = record { reads = go }
-    where
-      go : (items rest : List Item) → Shows at [] items → F (first rest) → run (give xs) (items ++ rest) ≡ Some (xs, rest)
-      go [] rest shows follow = refl
-      go (i ∷ items) rest shows follow = absurd shows
+module _ (at : ℕ → ℕ) where
+  opened : (leaf : Leaf) (ls : List Leaf) (items rest : List Item) → Shows at (leaf ∷ ls) items rest →
+      (q : ℕ) × (more : List Item) × (items ≡ item leaf.terminal q ∷ more) × IfSome leaf.place (λ place. at place ≡ q) × Shows at ls more rest
+  opened leaf ls [] rest shows = absurd shows
+  opened leaf ls (item t q ∷ items) rest shows = (q, items, ap (λ t. item t q ∷ items) (sym shows.0), shows.1, shows.2)
 
-  pub reads_placed : {r : Terminal → ℕ → Reader} {t : Terminal} {p : ℕ} {leaves : List Leaf} {xs : List Outline} {F : Option Terminal → Type 0} →
-      Reads at (r t (at p)) leaves xs F → Reads at (on r) (record { terminal = t; place = Some p } ∷ leaves) xs F
-  reads_placed {r = r} {t = t} {p = p} {leaves = leaves} {xs = xs} {F = F} h = record { reads = go }
-    where
-      go : (items rest : List Item) → Shows at (record { terminal = t; place = Some p } ∷ leaves) items → F (first rest) → run (on r) (items ++ rest) ≡ Some (xs, rest)
-      go [] rest shows follow = absurd shows
-      go (item t' q ∷ items) rest shows follow =
-          subst (λ t'. run (r t' q) (items ++ rest) ≡ Some (xs, rest)) shows.0 (subst (λ q. run (r t q) (items ++ rest) ≡ Some (xs, rest)) shows.1 (h.reads items rest shows.2 follow))
+  split : (ls ms : List Leaf) (items rest : List Item) → Shows at (ls ++ ms) items rest → (mid : List Item) × Shows at ls items mid × Shows at ms mid rest
+  split [] ms items rest shows = (items, refl, shows)
+  split (leaf ∷ ls) ms [] rest shows = absurd shows
+  split (leaf ∷ ls) ms (item t p ∷ items) rest shows = let more = split ls ms items rest shows.2 in (more.0, (shows.0, shows.1, more.1), more.2)
 
-  pub reads_sign : {r : Terminal → ℕ → Reader} {t : Terminal} {leaves : List Leaf} {xs : List Outline} {F : Option Terminal → Type 0} →
-      ((q : ℕ) → Reads at (r t q) leaves xs F) → Reads at (on r) (record { terminal = t; place = None } ∷ leaves) xs F
-  reads_sign {r = r} {t = t} {leaves = leaves} {xs = xs} {F = F} h = record { reads = go }
-    where
-      go : (items rest : List Item) → Shows at (record { terminal = t; place = None } ∷ leaves) items → F (first rest) → run (on r) (items ++ rest) ≡ Some (xs, rest)
-      go [] rest shows follow = absurd shows
-      go (item t' q ∷ items) rest shows follow = subst (λ t'. run (r t' q) (items ++ rest) ≡ Some (xs, rest)) shows.0 ((h q).reads items rest shows.2 follow)
+  front_of : {j k : ℕ} (ms : List Leaf) (mid rest : List Item) → Front j ms k → Shows at ms mid rest → grip (first rest) ≤ k → grip (first mid) ≤ j
+  front_of {j} {k} [] mid rest front shows free = let same = ap (λ items. grip (first items)) shows in omega (arith, front, free, same)
+  front_of (leaf ∷ ms) [] rest front shows free = absurd shows
+  front_of {j} (leaf ∷ ms) (item t p ∷ mid) rest front shows free = subst (λ t. grip (Some t) ≤ j) shows.0 front
 
-  pub reads_skip : {r : Reader} {leaf : Leaf} {leaves : List Leaf} {xs : List Outline} {F : Option Terminal → Type 0} →
-      Reads at r leaves xs F → Reads at (skip r) (leaf ∷ leaves) xs F
-  reads_skip {r = r} {leaf = leaf} {leaves = leaves} {xs = xs} {F = F} h = record { reads = go }
-    where
-      go : (items rest : List Item) → Shows at (leaf ∷ leaves) items → F (first rest) → run (skip r) (items ++ rest) ≡ Some (xs, rest)
-      go [] rest shows follow = absurd shows
-      go (item t q ∷ items) rest shows follow = h.reads items rest shows.2 follow
+  shown_length : (ls : List Leaf) (items rest : List Item) → Shows at ls items rest → length ls ≤ length items
+  shown_length [] items rest shows = omega arith
+  shown_length (leaf ∷ ls) [] rest shows = absurd shows
+  shown_length (leaf ∷ ls) (item t p ∷ items) rest shows = let more = shown_length ls items rest shows.2 in omega (arith, more)
 
-  pub reads_then : {r : Reader} {next : List Outline → Reader} {ls ms : List Leaf} {xs ys : List Outline} {M F : Option Terminal → Type 0} →
-      Reads at r ls xs M → Leads at M ms F → Reads at (next xs) ms ys F → Reads at (then r next) (ls ++ ms) ys F
-  reads_then {r = r} {next = next} {ls = ls} {ms = ms} {xs = xs} {ys = ys} {F = F} h lead k = record { reads = go }
-    where
-      split : (ls ms : List Leaf) (items : List Item) → Shows at (ls ++ ms) items → (a b : List Item) × (items ≡ a ++ b) × Shows at ls a × Shows at ms b
-      split [] ms items shows = ([], items, refl, tt, shows)
-      split (leaf ∷ ls) ms [] shows = absurd shows
-      split (leaf ∷ ls) ms (item t p ∷ items) shows =
-          let more = split ls ms items shows.2 in
-          (item t p ∷ more.0, more.1, ap (λ s. item t p ∷ s) more.2, (shows.0, shows.1, more.3), more.4)
+  begun : (k : ℕ) (ls : List Leaf) (items mid : List Item) → Begins k ls → Shows at ls items mid → grip (first items) ≡ k
+  begun k [] items mid begins shows = absurd begins
+  begun k (leaf ∷ ls) [] mid begins shows = absurd shows
+  begun k (leaf ∷ ls) (item t q ∷ items) mid begins shows = subst (λ t. grip (Some t) ≡ k) shows.0 begins
 
-      go : (items rest : List Item) → Shows at (ls ++ ms) items → F (first rest) → run (then r next) (items ++ rest) ≡ Some (ys, rest)
-      go items rest shows follow =
-          let parts = split ls ms items shows in
-          let whole = ap (λ s. s ++ rest) parts.2 ∙ append_assoc parts.0 parts.1 rest in
-          let behind : Found → Found = after (λ outlines. run (next outlines)) in
-          let part = h.reads parts.0 (parts.1 ++ rest) parts.3 (lead.leads parts.1 rest parts.4 follow) in
-          ap (λ s. behind (run r s)) whole ∙ ap behind part ∙ k.reads parts.1 rest parts.4 follow
+module _ {at : ℕ → ℕ} {d : ℕ} where
+  pub reads_give : {n k : ℕ} {X : Type 0} {x : X} → Reads at d n (give x) [] x k
+  reads_give {x = x} = record { reads = λ items rest within shows free. ap (λ items. Some (x, items)) shows }
 
-  pub reads_map : {r : Reader} {f : List Outline → List Outline} {ls : List Leaf} {xs : List Outline} {F : Option Terminal → Type 0} →
-      Reads at r ls xs F → Reads at (then r (λ xs. give (f xs))) ls (f xs) F
-  reads_map {f = f} h = record { reads = λ items rest shows follow. ap (after (λ xs. run (give (f xs)))) (h.reads items rest shows follow) }
-
-  pub reads_peek : {test : Option Terminal → Bool} {r s : Reader} (answer : Bool) {ls : List Leaf} {xs : List Outline} {F : Option Terminal → Type 0} →
-      Leads at (λ next. test next ≡ answer) ls F → Reads at (cond answer r s) ls xs F → Reads at (peek test r s) ls xs F
-  reads_peek {test = test} {r = r} {s = s} answer {xs = xs} lead h = record {
-    reads = λ items rest shows follow.
-        let all = items ++ rest in
-        ap (λ b. cond b (run r all) (run s all)) (lead.leads items rest shows follow) ∙ each answer all ∙ h.reads items rest shows follow;
+  -- a token, with its place or without; the leaves after it are fewer
+  pub first_placed : {n k : ℕ} {X : Type 0} {f : Terminal → ℕ → Reader X} {t : Terminal} {p : ℕ} {ls : List Leaf} {x : X} →
+      Reads at d n (f t (at p)) ls x k → Reads at d (suc n) (on f) (record { terminal = t; place = Some p } ∷ ls) x k
+  first_placed {f = f} {t} {p} {ls} {x} h = record {
+    reads = λ items rest within shows free.
+        let o = opened at (record { terminal = t; place = Some p }) ls items rest shows in
+        ap (run d (on f)) o.2 ∙ subst (λ q. run d (f t q) o.1 ≡ Some (x, rest)) o.3 (h.reads o.1 rest (omega (arith, within)) o.4 free);
   }
-    where
-      each : (b : Bool) (items : List Item) → cond b (run r items) (run s items) ≡ run (cond b r s) items
-      each true items = refl
-      each false items = refl
 
-  pub leads_head : {M F : Option Terminal → Type 0} {leaf : Leaf} {leaves : List Leaf} → M (Some leaf.terminal) → Leads at M (leaf ∷ leaves) F
-  leads_head {M} {F} {leaf} {leaves} m = record { leads = go }
-    where
-      go : (items rest : List Item) → Shows at (leaf ∷ leaves) items → F (first rest) → M (first (items ++ rest))
-      go [] rest shows follow = absurd shows
-      go (item t p ∷ items) rest shows follow = subst (λ t. M (Some t)) shows.0 m
-
-  pub leads_end : {M F : Option Terminal → Type 0} → ((next : Option Terminal) → F next → M next) → Leads at M [] F
-  leads_end {M} {F} ends = record { leads = go }
-    where
-      go : (items rest : List Item) → Shows at [] items → F (first rest) → M (first (items ++ rest))
-      go [] rest shows follow = ends (first rest) follow
-      go (i ∷ items) rest shows follow = absurd shows
-
-  pub leads_any : {ls : List Leaf} {F : Option Terminal → Type 0} → Leads at Any ls F
-  leads_any = record { leads = λ items rest shows follow. tt }
-
-  pub leads_as : {M N : Option Terminal → Type 0} {ls : List Leaf} {F : Option Terminal → Type 0} → Leads at M ls F → ((next : Option Terminal) → M next → N next) → Leads at N ls F
-  leads_as h more = record { leads = λ items rest shows follow. more (first (items ++ rest)) (h.leads items rest shows follow) }
-
-  pub leads_begins : {F : Option Terminal → Type 0} (test : Option Terminal → Bool) (ls ms : List Leaf) → Begins test ls → Leads at (λ next. test next ≡ true) (ls ++ ms) F
-  leads_begins test [] ms b = absurd b
-  leads_begins test (leaf ∷ ls) ms b = leads_head b
-
-  -- the same, where less may follow
-  pub reads_before : {r : Reader} {ls : List Leaf} {xs : List Outline} {F G : Option Terminal → Type 0} →
-      Reads at r ls xs F → ((next : Option Terminal) → G next → F next) → Reads at r ls xs G
-  reads_before h less = record { reads = λ items rest shows follow. h.reads items rest shows (less (first rest) follow) }
-
-  pub reads_or : {r s : Reader} {ls : List Leaf} {xs : List Outline} {F : Option Terminal → Type 0} → Reads at r ls xs F → Reads at (or r s) ls xs F
-  reads_or {s = s} h = record { reads = λ items rest shows follow. ap (λ o. or_else o (run s (items ++ rest))) (h.reads items rest shows follow) }
-
-  pub reads_other : {r s : Reader} {leaf : Leaf} {ls : List Leaf} {xs : List Outline} {F : Option Terminal → Type 0} →
-      Refuses r leaf.terminal → Reads at s (leaf ∷ ls) xs F → Reads at (or r s) (leaf ∷ ls) xs F
-  reads_other {r = r} {s = s} {leaf = leaf} {ls = ls} {xs = xs} {F = F} h k = record { reads = go }
-    where
-      go : (items rest : List Item) → Shows at (leaf ∷ ls) items → F (first rest) → run (or r s) (items ++ rest) ≡ Some (xs, rest)
-      go [] rest shows follow = absurd shows
-      go (item t q ∷ items) rest shows follow =
-          ap (λ o. or_else o (run s (item t q ∷ (items ++ rest)))) (subst (λ t. run r (item t q ∷ (items ++ rest)) ≡ None) shows.0 (h.refuses q (items ++ rest)))
-          ∙ k.reads (item t q ∷ items) rest shows follow
-
-module _ {at : ℕ → ℕ} where
-  -- a part, and a token behind it that is skipped
-  pub reads_closed : {r : Reader} {next : List Outline → Reader} {ls ms : List Leaf} (leaf : Leaf) {xs ys : List Outline} {M F : Option Terminal → Type 0} →
-      Reads at r ls xs M → M (Some leaf.terminal) → Reads at (next xs) ms ys F → Reads at (then r (λ xs. skip (next xs))) (ls ++ (leaf ∷ ms)) ys F
-  reads_closed {next = next} leaf h closes k = reads_then {next = λ xs. skip (next xs)} h (leads_head closes) (reads_skip k)
-
-  -- the same, where the first token is known and not written out
-  pub reads_refused : {r s : Reader} {t : Terminal} {ls : List Leaf} {xs : List Outline} {F : Option Terminal → Type 0} →
-      Leads at (λ next. next ≡ Some t) ls F → Refuses r t → Reads at s ls xs F → Reads at (or r s) ls xs F
-  reads_refused {r} {s} {t} lead h k = record {
-    reads = λ items rest shows follow. ap (λ o. or_else o (run s (items ++ rest))) (go (items ++ rest) (lead.leads items rest shows follow)) ∙ k.reads items rest shows follow;
+  pub first_sign : {n k : ℕ} {X : Type 0} {f : Terminal → ℕ → Reader X} {t : Terminal} {ls : List Leaf} {x : X} →
+      ((q : ℕ) → Reads at d n (f t q) ls x k) → Reads at d (suc n) (on f) (record { terminal = t; place = None } ∷ ls) x k
+  first_sign {f = f} {t} {ls} h = record {
+    reads = λ items rest within shows free.
+        let o = opened at (record { terminal = t; place = None }) ls items rest shows in ap (run d (on f)) o.2 ∙ (h o.0).reads o.1 rest (omega (arith, within)) o.4 free;
   }
-    where
-      go : (items : List Item) → first items ≡ Some t → run r items ≡ None
-      go [] e = cc
-      go (item t' q ∷ items) e = let same : t' ≡ t = cc in subst (λ t. run r (item t q ∷ items) ≡ None) (sym same) (h.refuses q items)
 
-pub some_leaf : (test : Option Terminal → Bool) (ls ms : List Leaf) (m : ℕ) → Begins test ls → length (ls ++ ms) ≤ suc m → length ms ≤ m
-some_leaf test [] ms m b le = absurd b
-some_leaf test (leaf ∷ ls) ms m b le = omega (arith, length-append ls ms)
+  -- what is read of more leaves is read of fewer, and before what holds less
+  pub shorter : {n k : ℕ} {X : Type 0} {r : Reader X} {ls : List Leaf} {x : X} → Reads at d (suc n) r ls x k → Reads at d n r ls x k
+  shorter h = record { reads = λ items rest within shows free. h.reads items rest (omega (arith, within)) shows free }
 
-no_leaf : (test : Option Terminal → Bool) (ls ms : List Leaf) → Begins test ls → length (ls ++ ms) ≤ 0 → ⊥
-no_leaf test [] ms b le = b
-no_leaf test (leaf ∷ ls) ms b le = omega arith
+  pub looser : {n j k : ℕ} {X : Type 0} {r : Reader X} {ls : List Leaf} {x : X} → k ≤ j → Reads at d n r ls x j → Reads at d n r ls x k
+  looser le h = record { reads = λ items rest within shows free. h.reads items rest within shows (omega (arith, le, free)) }
 
-module _ {at : ℕ → ℕ} {E : Type 0} {test : Option Terminal → Bool} {r : Reader} (leaves : E → List Leaf) (out : E → Outline)
-    (Is : E → Type 0) (M F : Option Terminal → Type 0) (n : ℕ)
-    (claim : ReadsEach at r Is leaves out n M)
-    (begins : (e : E) → Is e → Begins test (leaves e))
-    (again : (next : Option Terminal) → test next ≡ true → M next)
-    (ends : (next : Option Terminal) → F next → M next)
-    (stops : (next : Option Terminal) → F next → test next ≡ false) where
-  pub more_leads : (es : List E) → AllByRecursion Is es → Leads at M (flat_map leaves es) F
-  more_leads [] all = leads_end ends
-  more_leads (e ∷ es) all = leads_as (leads_begins test (leaves e) (flat_map leaves es) (begins e all.0)) again
+  -- the same leaves, grouped otherwise, and the same reader
+  pub grouped : {n k : ℕ} {X : Type 0} {r : Reader X} {x : X} {ls ms : List Leaf} → ls ≡ ms → Reads at d n r ms x k → Reads at d n r ls x k
+  grouped {n} {k} {r = r} {x} same h = subst (λ l. Reads at d n r l x k) (sym same) h
 
-  -- many parts are read
-  pub reads_many : (m : ℕ) (es : List E) → AllByRecursion Is es → length (flat_map leaves es) ≤ n → length (flat_map leaves es) ≤ m →
-      Reads at (many test r m) (flat_map leaves es) (map out es) F
-  reads_many zero [] all within short = reads_give
-  reads_many (suc m) [] all within short = reads_peek false (leads_end stops) reads_give
-  reads_many zero (e ∷ es) all within short = absurd (no_leaf test (leaves e) (flat_map leaves es) (begins e all.0) short)
-  reads_many (suc m) (e ∷ es) all within short =
-      let rest = flat_map leaves es in
-      let len = length-append (leaves e) rest in
-      let short' = some_leaf test (leaves e) rest m (begins e all.0) short in
-      reads_peek true (leads_begins test (leaves e) rest (begins e all.0))
-      (reads_then (claim e all.0 (omega (arith, len))) (more_leads es all.1)
-      (reads_map {f = λ xs. out e ∷ xs} (reads_many m es all.1 (omega (arith, len)) short')))
+  pub reads_by : {n k : ℕ} {X : Type 0} {r s : Reader X} {x : X} {ls : List Leaf} → r ≡ s → Reads at d n r ls x k → Reads at d n s ls x k
+  reads_by {n} {k} {x = x} {ls} same h = subst (λ r. Reads at d n r ls x k) same h
+
+  pub reads_placed : {n k : ℕ} {X : Type 0} {f : Terminal → ℕ → Reader X} {t : Terminal} {p : ℕ} {ls : List Leaf} {x : X} →
+      Reads at d n (f t (at p)) ls x k → Reads at d n (on f) (record { terminal = t; place = Some p } ∷ ls) x k
+  reads_placed h = shorter (first_placed h)
+
+  pub reads_sign : {n k : ℕ} {X : Type 0} {f : Terminal → ℕ → Reader X} {t : Terminal} {ls : List Leaf} {x : X} →
+      ((q : ℕ) → Reads at d n (f t q) ls x k) → Reads at d n (on f) (record { terminal = t; place = None } ∷ ls) x k
+  reads_sign h = shorter (first_sign h)
+
+  pub reads_skip : {n k : ℕ} {X : Type 0} {r : Reader X} {t : Terminal} {ls : List Leaf} {x : X} →
+      Reads at d n r ls x k → Reads at d n (skip r) (record { terminal = t; place = None } ∷ ls) x k
+  reads_skip h = reads_sign (λ q. h)
+
+  -- a part, and what is after it
+  pub reads_then : {n j k : ℕ} {X Y : Type 0} {r : Reader X} {next : X → Reader Y} {ls ms : List Leaf} {x : X} {y : Y} →
+      Reads at d n r ls x j → Front j ms k → Reads at d n (next x) ms y k → Reads at d n (then r next) (ls ++ ms) y k
+  reads_then {next = next} {ls} {ms} h front more = record {
+    reads = λ items rest within shows free.
+        let len = length-append ls ms in
+        let parts = split at ls ms items rest shows in
+        ap (after (λ x. run d (next x))) (h.reads items parts.0 (omega (arith, within, len)) parts.1 (front_of at ms parts.0 rest front parts.2 free))
+        ∙ more.reads parts.0 rest (omega (arith, within, len)) parts.2 free;
+  }
+
+  -- the same where a token is after the part, which has fewer leaves
+  pub reads_closed : {n j k : ℕ} {X Y : Type 0} {r : Reader X} {next : X → Reader Y} {leaf : Leaf} {ls ms : List Leaf} {x : X} {y : Y} →
+      Reads at d n r ls x j → grip (Some leaf.terminal) ≤ j → Reads at d (suc n) (next x) (leaf ∷ ms) y k → Reads at d (suc n) (then r next) (ls ++ (leaf ∷ ms)) y k
+  reads_closed {next = next} {leaf} {ls} {ms} h front more = record {
+    reads = λ items rest within shows free.
+        let len = length-append ls (leaf ∷ ms) in
+        let parts = split at ls (leaf ∷ ms) items rest shows in
+        ap (after (λ x. run d (next x))) (h.reads items parts.0 (omega (arith, within, len)) parts.1 (front_of at (leaf ∷ ms) parts.0 rest front parts.2 free))
+        ∙ more.reads parts.0 rest (omega (arith, within, len)) parts.2 free;
+  }
+
+  -- the same whatever is after the part
+  pub reads_freely : {n k : ℕ} {X Y : Type 0} {r : Reader X} {next : X → Reader Y} {ls ms : List Leaf} {x : X} {y : Y} →
+      ((j : ℕ) → Reads at d n r ls x j) → Reads at d n (next x) ms y k → Reads at d n (then r next) (ls ++ ms) y k
+  reads_freely {next = next} {ls} {ms} h more = record {
+    reads = λ items rest within shows free.
+        let len = length-append ls ms in
+        let parts = split at ls ms items rest shows in
+        ap (after (λ x. run d (next x))) ((h (grip (first parts.0))).reads items parts.0 (omega (arith, within, len)) parts.1 (omega arith))
+        ∙ more.reads parts.0 rest (omega (arith, within, len)) parts.2 free;
+  }
+
+  pub reads_map : {n k : ℕ} {X Y : Type 0} {r : Reader X} {f : X → Y} {ls : List Leaf} {x : X} → Reads at d n r ls x k → Reads at d n (then r (λ x. give (f x))) ls (f x) k
+  reads_map {f = f} h = record { reads = λ items rest within shows free. ap (after (λ x items. Some (f x, items))) (h.reads items rest within shows free) }
+
+  pub reads_or : {n k : ℕ} {X : Type 0} {r s : Reader X} {ls : List Leaf} {x : X} → Reads at d n r ls x k → Reads at d n (or r s) ls x k
+  reads_or {s = s} h = record { reads = λ items rest within shows free. ap (λ o. or_else o (run d s items)) (h.reads items rest within shows free) }
+
+  pub reads_other : {n k : ℕ} {X : Type 0} {r s : Reader X} {leaf : Leaf} {ls : List Leaf} {x : X} →
+      Refuses d r leaf.terminal → Reads at d n s (leaf ∷ ls) x k → Reads at d n (or r s) (leaf ∷ ls) x k
+  reads_other {r = r} {s} {leaf} {ls} refuses h = record {
+    reads = λ items rest within shows free.
+        let o = opened at leaf ls items rest shows in
+        ap (λ found. or_else found (run d s items)) (ap (run d r) o.2 ∙ refuses.refuses o.0 o.1) ∙ h.reads items rest within shows free;
+  }
+
+  -- by how tightly the next token holds
+  pub peek_here : {n j k : ℕ} {X : Type 0} {r s : Reader X} {leaf : Leaf} {ls : List Leaf} {x : X} → eqb (grip (Some leaf.terminal)) k ≡ true →
+      Reads at d n r (leaf ∷ ls) x j → Reads at d n (peek k r s) (leaf ∷ ls) x j
+  peek_here {k = k} {r = r} {s} {leaf} {ls} here h = record {
+    reads = λ items rest within shows free.
+        let o = opened at leaf ls items rest shows in
+        ap (λ b. cond b (run d r items) (run d s items)) (ap (λ items. eqb (grip (first items)) k) o.2 ∙ here) ∙ h.reads items rest within shows free;
+  }
+
+  pub peek_past : {n j k : ℕ} {X : Type 0} {r s : Reader X} {x : X} → j < k → Reads at d n s [] x j → Reads at d n (peek k r s) [] x j
+  peek_past {k = k} {r = r} {s = s} less h = record {
+    reads = λ items rest within shows free.
+        let same = ap (λ items. grip (first items)) shows in
+        ap (λ b. cond b (run d r items) (run d s items)) (ne_eqb (grip (first items)) k (λ e. omega (arith, e, same, less, free))) ∙ h.reads items rest within shows free;
+  }
+
+  -- parts that each begin with a token that holds so, and are each read before such a token
+  module _ {n k : ℕ} {E X : Type 0} {r : Reader X} (leaves : E → List Leaf) (out : E → X) (Is : E → Type 0)
+      (claim : (t : E) → Is t → Reads at d n r (leaves t) (out t) (suc k)) (begins : (t : E) → Is t → Begins (suc k) (leaves t)) where
+    reads_up_to : (m : ℕ) (ts : List E) → AllByRecursion Is ts → (items rest : List Item) → length (flat_map leaves ts) < n → length (flat_map leaves ts) ≤ m →
+        Shows at (flat_map leaves ts) items rest → grip (first rest) ≤ k → repeated (suc k) (run d r) m items ≡ Some (map out ts, rest)
+    reads_up_to zero [] all items rest within short shows free = ap (λ items. Some ([], items)) shows
+    reads_up_to (suc m) [] all items rest within short shows free =
+        let same = ap (λ items. grip (first items)) shows in
+        ap (λ b. cond b (after (λ x more. after (λ xs rest. Some (x ∷ xs, rest)) (repeated (suc k) (run d r) m more)) (run d r items)) (Some ([], items)))
+        (ne_eqb (grip (first items)) (suc k) (λ e. omega (arith, e, same, free))) ∙ ap (λ items. Some ([], items)) shows
+    reads_up_to zero (t ∷ ts) all items rest within short shows free =
+        absurd (omega (arith, short, length-append (leaves t) (flat_map leaves ts), some_leaf (suc k) (leaves t) (begins t all.0)))
+    reads_up_to (suc m) (t ∷ ts) all items rest within short shows free =
+        let len = length-append (leaves t) (flat_map leaves ts) in
+        let some = some_leaf (suc k) (leaves t) (begins t all.0) in
+        let parts = split at (leaves t) (flat_map leaves ts) items rest shows in
+        let front = front_of at (flat_map leaves ts) parts.0 rest (front_many k leaves Is begins ts all.1) parts.2 free in
+        ap (λ b. cond b (after (λ x more. after (λ xs rest. Some (x ∷ xs, rest)) (repeated (suc k) (run d r) m more)) (run d r items)) (Some ([], items)))
+        (eq-eqb (grip (first items)) (suc k) (begun at (suc k) (leaves t) items parts.0 (begins t all.0) parts.1))
+        ∙ ap (after (λ x more. after (λ xs rest. Some (x ∷ xs, rest)) (repeated (suc k) (run d r) m more)))
+        ((claim t all.0).reads items parts.0 (omega (arith, within, len)) parts.1 front)
+        ∙ ap (after (λ xs rest. Some (out t ∷ xs, rest))) (reads_up_to m ts all.1 parts.0 rest (omega (arith, within, len)) (omega (arith, short, len, some)) parts.2 free)
+
+    pub reads_many : (ts : List E) → AllByRecursion Is ts → Reads at d n (many (suc k) r) (flat_map leaves ts) (map out ts) k
+    reads_many ts all = record { reads = λ items rest within shows free. reads_up_to (length items) ts all items rest within (shown_length at (flat_map leaves ts) items rest shows) shows free }
+
+  -- a part with no others after it
+  pub reads_alone : {n j k : ℕ} {X Y Z : Type 0} {r : Reader X} {s : Reader Y} {f : X → List Y → Z} {ls : List Leaf} {x : X} → Reads at d n r ls x j → k ≤ j →
+      Reads at d n (then r (λ x. then (many (suc k) s) (λ ys. give (f x ys)))) ls (f x []) k
+  reads_alone {n} {k = k} {r = r} {s} {f} {ls} {x} h le =
+      subst (λ l. Reads at d n (then r (λ x. then (many (suc k) s) (λ ys. give (f x ys)))) l (f x []) k) (append-nil ls)
+      (reads_then h le (reads_map {f = f x} (reads_many {E = ⊥} (λ t. absurd t) (λ t. absurd t) (λ t. ⊤) (λ t. absurd t) (λ t. absurd t) [] tt)))
+
+  -- at least one part, with commas between them
+  pub reads_separated : {n : ℕ} {E X : Type 0} {r : Reader X} (leaves : E → List Leaf) (out : E → X) (Is : E → Type 0) →
+      ((t : E) → Is t → Reads at d n r (leaves t) (out t) 1) → (ts : List E) → 0 < length ts → AllByRecursion Is ts →
+      Reads at d n (separated r) (commas (map leaves ts)) (map out ts) 0
+  unfolding with_between
+  reads_separated leaves out Is claim [] some all = absurd (omega (arith, some))
+  reads_separated {n} {r = r} leaves out Is claim (t ∷ ts) some all =
+      subst (λ l. Reads at d n (separated r) (leaves t ++ l) (out t ∷ map out ts) 0) (sym (flat_map-map (λ part. sign symbols.Comma ++ part) leaves ts))
+      (reads_then (claim t all.0) (front_many 0 (λ t. sign symbols.Comma ++ leaves t) Is (λ t is. refl) ts all.1)
+      (reads_map (reads_many (λ t. sign symbols.Comma ++ leaves t) out Is (λ t is. reads_skip (claim t is)) (λ t is. refl) ts all.1)))
+
+-- a phrase, of its grammar
+pub reads_phrase : {at : ℕ → ℕ} {d n k : ℕ} {s : Phrase} {ls : List Leaf} {x : Result s} → Reads at d n (grammar s) ls x k → Reads at (suc d) n (phrase s) ls x k
+reads_phrase h = record { reads = h.reads }

@@ -1,7 +1,6 @@
--- A word of each language, and lists of items as vectors.
-use Rattle.std.proofs.Common.{◌≡◌, ℕ, ◌≤◌, None, List, [], ◌∷◌, length, Vec, Box, Global, refl, ap, arith, lit<}
+-- A word of each language.
+use Rattle.std.proofs.Common.{◌≡◌, ℕ, ◌≤◌, None, List, [], ◌∷◌, length, Global, refl, ap, arith, lit<}
 use Rattle.std.proofs.lemmas.List.Elements.{All-nil}
-use denote.RawPtr.{null_ptr}
 use Rattle.koika_syntax.specs.Grammar.{IsName, NumberFits, LiteralFits, IsWidth, IsType, IsConstant, IsBlock}
 use Rattle.koika_syntax.specs.Grammar.{IsScheduler, IsDeclaration, IsSuffix, type_leaves, constant_leaves, block_leaves}
 use Rattle.koika_syntax.specs.Grammar.{scheduler_leaves, declaration_leaves, suffix_leaves}
@@ -18,23 +17,15 @@ use Rattle.koika_syntax.specs.declared.tree.Literal.{Literal}
 use Rattle.koika_syntax.specs.declared.tree.Name.{Name}
 use Rattle.koika_syntax.specs.declared.tree.Number.{Number}
 use Rattle.koika_syntax.specs.declared.tree.Scheduler.{roll-Scheduler}
-use Rattle.koika_syntax.specs.declared.tree.Statement.{Statement}
 use Rattle.koika_syntax.specs.declared.tree.Suffix.TheVariants as suffixes
-use Rattle.koika_syntax.specs.declared.tree.TypeExpression.{Named}
-use Rattle.koika_parse.specs.inner.Expected.{InVector, Part}
+use Rattle.koika_syntax.specs.declared.tree.TypeExpression.TheViews as type_views
+use Rattle.koika_parse.specs.inner.Expected.{Part}
 use Rattle.koika_parse.specs.inner.ExpressionWords.{LevelWord}
 use Rattle.koika_parse.proofs.Expected.{Has}
-use Rattle.koika_parse.proofs.Parts.{is_abort, is_block, is_constant_literal, is_scheduler, level_abort}
+use Rattle.koika_parse.proofs.Parts.{is_abort, is_block, is_constant_literal, is_named_type, is_scheduler, level_abort}
 
 abbrev pub heap : Global
 heap = record { memory = record { seal = tt } }
-
--- items in a vector, and one in a box
-abbrev pub vector : {X : Type 0} (xs : List X) → InVector (length xs) → Vec X Global
-vector xs fits = record { ptr = null_ptr; len = length xs; cap = length xs; alloc = heap; items = xs; ok = (refl, omega arith); small = fits }
-
-abbrev pub boxed : {X : Type 0} → X → Box X Global
-boxed x = record { ptr = null_ptr; alloc = heap; value = x }
 
 -- a name
 abbrev pub a_name : Name
@@ -106,7 +97,7 @@ pub some_width : Has (Part IsWidth width_leaves)
 some_width = (width_leaves (record { place = 0; number = a_number }), (record { place = 0; number = a_number }, lit< tt, refl))
 
 pub some_type : Has (Part IsType type_leaves)
-some_type = (type_leaves (Named a_name), (Named a_name, a_name_is, refl))
+some_type = (type_leaves (type_views.made-Named a_name), (type_views.made-Named a_name, is_named_type a_name a_name_is, refl))
 
 -- a constant, an expression of each level, a block, a scheduler and a declaration
 pub some_constant : Has (Part IsConstant constant_leaves)
@@ -118,14 +109,11 @@ some_expression = (expression_leaves (views.made-Abort 0), (views.made-Abort 0, 
 pub some_level : (k : ℕ) → k ≤ 12 → Has (LevelWord k)
 some_level k low = (expression_leaves (views.made-Abort 0), (views.made-Abort 0, (is_abort 0 tt, omega (arith, low, level_abort 0)), refl))
 
-abbrev no_statements : Vec Statement Global
-no_statements = vector [] (lit< tt)
-
 abbrev a_block : Block
-a_block = roll-Block (record { place = 0; statements = no_statements; value = None })
+a_block = roll-Block (record { place = 0; statements = []; value = None })
 
 pub some_block : Has (Part IsBlock block_leaves)
-some_block = (block_leaves a_block, (a_block, is_block 0 no_statements None (All-nil _) tt, refl))
+some_block = (block_leaves a_block, (a_block, is_block 0 [] None (All-nil _) tt, refl))
 
 pub some_scheduler : Has (Part IsScheduler (λ s. in_braces (scheduler_leaves s)))
 some_scheduler =

@@ -1,6 +1,6 @@
 -- The words of each part, as the words of its own parts in turn.
 use Rattle.std.proofs.Common.{◌≡◌, ℕ, ◌<◌, ◌^◌, Option, None, Some, Ok, List, [], ◌∷◌, ◌++◌, append_assoc, refl, ap, sym, subst, ◌∙◌}
-use Rattle.koika_syntax.specs.Grammar.{IsName, NumberFits, LiteralFits, IsWidth, IsType, IsMember, IsField, type_leaves, member_leaves, field_leaves}
+use Rattle.koika_syntax.specs.Grammar.{IsName, NumberFits, LiteralFits, IsWidth, IsType, IsTypeLayer, IsMember, IsField, type_leaves, member_leaves, field_leaves}
 use Rattle.kw_bits.specs.BitVector.{BitVector, IsBitVector}
 use Rattle.koika_syntax.specs.Tokens.{IsToken}
 use Rattle.koika_syntax.specs.Tree.{Leaf, Terminal, name, number, literal, keyword, symbol, name_leaves, number_leaves, literal_leaves, width_leaves, word, sign, placed}
@@ -11,7 +11,9 @@ use Rattle.koika_syntax.specs.declared.symbol.Symbol.TheVariants as symbols
 use Rattle.koika_syntax.specs.declared.tree.Field.{Field}
 use Rattle.koika_syntax.specs.declared.tree.EnumMember.{EnumMember}
 use Rattle.koika_syntax.specs.declared.tree.Number.{Number}
-use Rattle.koika_syntax.specs.declared.tree.TypeExpression.{TypeExpression, Bits, Named, Array'}
+use Rattle.koika_syntax.specs.declared.tree.TypeExpression.{TypeExpression}
+use Rattle.koika_syntax.specs.declared.tree.TypeExpression.TheOpen as type_expression
+use Rattle.koika_syntax.specs.declared.tree.TypeExpression.TheViews as type_views
 use Rattle.koika_syntax.specs.declared.tree.Width.{Width}
 use Rattle.koika_parse.specs.inner.Expected.{Any, NoComma, One, Part, Takes, Then, first}
 use Rattle.koika_parse.specs.inner.Reading.{Reads, kind_at, next}
@@ -25,7 +27,10 @@ use Rattle.koika_parse.proofs.Expected.{Apart, Goes, Has, Like, Within, before_o
 use Rattle.koika_parse.proofs.Expected.{next_part, starts, like_one, like_part, like_then, made, made_at, place_then}
 use Rattle.koika_parse.proofs.Expected.{single, some_one, some_then, kind_of, name_or_word, sign_or_word, word_or_name}
 use Rattle.koika_parse.proofs.Expected.{sign_or_name}
-use Rattle.koika_parse.proofs.Witnesses.{a_literal, a_literal_is, a_name, a_name_is, boxed, some_literal, some_name, some_number, some_type, some_width}
+use Rattle.koika_parse.proofs.Witnesses.{a_literal, a_literal_is, a_name, a_name_is, some_literal, some_name, some_number, some_type, some_width}
+use Rattle.koika_parse.proofs.Layers.{of_leaves, type_grown, type_kind, type_layer, type_leaves_by}
+use Rattle.koika_parse.proofs.Parts.{is_array_type, is_named_type, is_width_type}
+use Rattle.koika_parse.proofs.Calls.{leaves_array_type, leaves_named_type, leaves_width_type}
 
 infixr 50 ◌then◌
 pub sign_word : (s : Symbol) → One (symbol s) (sign s)
@@ -159,7 +164,9 @@ pub some_member : Has (Part IsMember member_leaves)
 some_member = let m : EnumMember = record { name = a_name; value = a_literal } in (member_leaves m, (m, (a_name_is, a_literal_is), refl))
 
 pub some_field : Has (Part IsField field_leaves)
-some_field = let f : Field = record { name = a_name; of = Named a_name } in (field_leaves f, (f, (a_name_is, a_name_is), refl))
+some_field =
+    let f : Field = record { name = a_name; of = type_views.made-Named a_name } in
+    (field_leaves f, (f, (a_name_is, is_named_type a_name a_name_is), refl))
 
 -- the word of a declaration and the name behind it
 abbrev pub DeclaredWord : Keyword → List Leaf → Type 0
@@ -171,22 +178,22 @@ declared_start k = begin (DeclaredWord k) (some_then (some_one (keyword k)) some
 
 -- what is a type
 pub width_is_type : Within (Part IsWidth width_leaves) (Part IsType type_leaves)
-width_is_type q part = made q (like_part part) (Bits part.0) part.1 refl
+width_is_type q part = made q (like_part part) (type_views.made-Bits part.0) (is_width_type part.0 part.1) (leaves_width_type part.0)
 
 pub name_is_type : Within (Part IsName name_leaves) (Part IsType type_leaves)
-name_is_type q part = made q (like_part part) (Named part.0) part.1 refl
+name_is_type q part = made q (like_part part) (type_views.made-Named part.0) (is_named_type part.0 part.1) (leaves_named_type part.0)
 
 abbrev array_words : ℕ → Has (Part IsType type_leaves) → Has (Part NumberFits number_leaves) → Known ArrayTypeWord
 array_words place element size =
     one_at (symbol symbols.LeftBracket) place then part element
     then one (symbol symbols.Semicolon) then part size then one (symbol symbols.RightBracket)
 
-array_leaves : (place : ℕ) (element : TypeExpression) (size : Number) →
-    placed (symbol symbols.LeftBracket) place ++ type_leaves element ++ sign symbols.Semicolon ++ number_leaves size ++ sign symbols.RightBracket
-    ≡ placed (symbol symbols.LeftBracket) place ++ (type_leaves element ++ (sign symbols.Semicolon ++ number_leaves size ++ sign symbols.RightBracket))
+array_leaves : (place : ℕ) (element : List Leaf) (size : Number) →
+    placed (symbol symbols.LeftBracket) place ++ element ++ sign symbols.Semicolon ++ number_leaves size ++ sign symbols.RightBracket
+    ≡ placed (symbol symbols.LeftBracket) place ++ (element ++ (sign symbols.Semicolon ++ number_leaves size ++ sign symbols.RightBracket))
 array_leaves place element size =
     ap (λ t. placed (symbol symbols.LeftBracket) place ++ t)
-    (assoc3 (type_leaves element) (sign symbols.Semicolon) (number_leaves size) (sign symbols.RightBracket))
+    (assoc3 element (sign symbols.Semicolon) (number_leaves size) (sign symbols.RightBracket))
 
 pub array_is_type : Within ArrayTypeWord (Part IsType type_leaves)
 array_is_type q both =
@@ -194,32 +201,50 @@ array_is_type q both =
     let behind = both.3.3 in
     let size = behind.3.2 in
     let sized = like_then behind.3 (like_part size) (like_one behind.3.3) in
-    let b = boxed tt in
     made_at q (λ place. place_then place both (like_then both.3 (like_part element) (like_then behind (like_one behind.2) sized)))
-    (λ place. Array' place b element.0 size.0) (λ place. (element.1, size.1)) (λ place. array_leaves place element.0 size.0)
+    (λ place. type_views.Array place element.0 size.0) (λ place. is_array_type place element.0 size.0 element.1 size.1)
+    (λ place. leaves_array_type place element.0 size.0 ∙ array_leaves place (type_leaves element.0) size.0)
 
 pub some_array_type : Has ArrayTypeWord
 some_array_type = (array_words 0 some_type some_number).some
 
 -- a type by its next token
+-- each type, where its first token is the next one, has a word of this language
+abbrev pub EachType : (List Leaf → Type 0) → List Leaf → Option Terminal → Type 0
+EachType W v next =
+    (y : type_kind.Open) → IsTypeLayer (type_kind.closed y) → first (type_layer (type_kind.closed y) ++ v) ≡ next → W (type_layer (type_kind.closed y))
+
+pub type_case : (W : List Leaf → Type 0) {v : List Leaf} {next : Option Terminal} → EachType W v next →
+    (of : TypeExpression) → IsType of → first (type_leaves of ++ v) ≡ next → W (type_leaves of)
+type_case W {v} {next} each of is = of_leaves type_kind type_grown type_leaves_by (λ u. first (u ++ v) ≡ next → W u) each of is
+
 pub type_bits : (of : TypeExpression) → IsType of → (v : List Leaf) (next : Option Terminal) → first (type_leaves of ++ v) ≡ next →
     next ≡ Some (keyword keywords.Bits) → Part IsWidth width_leaves (type_leaves of)
-type_bits (Bits width) is v next at bits = (width, is, refl)
-type_bits (Named n) is v next at bits = absurd (name_or_word (at ∙ bits))
-type_bits (Array' place _ element size) is v next at bits = absurd (sign_or_word (at ∙ bits))
+type_bits of is v next at bits = type_case (Part IsWidth width_leaves) each of is at
+  where
+    each : EachType (Part IsWidth width_leaves) v next
+    each (type_expression.Bits width) is at = (width, is, refl)
+    each (type_expression.Named n) is at = absurd (name_or_word (at ∙ bits))
+    each (type_expression.Array place element size) is at = absurd (sign_or_word (at ∙ bits))
 
 pub type_name : (of : TypeExpression) → IsType of → (v : List Leaf) (next : Option Terminal) → first (type_leaves of ++ v) ≡ next →
     option_map kind_of next ≡ Some kinds.Name → Part IsName name_leaves (type_leaves of)
-type_name (Bits width) is v next at named = absurd (word_or_name (ap (option_map kind_of) at ∙ named))
-type_name (Named n) is v next at named = (n, is, refl)
-type_name (Array' place _ element size) is v next at named = absurd (sign_or_name (ap (option_map kind_of) at ∙ named))
+type_name of is v next at named = type_case (Part IsName name_leaves) each of is at
+  where
+    each : EachType (Part IsName name_leaves) v next
+    each (type_expression.Bits width) is at = absurd (word_or_name (ap (option_map kind_of) at ∙ named))
+    each (type_expression.Named n) is at = (n, is, refl)
+    each (type_expression.Array place element size) is at = absurd (sign_or_name (ap (option_map kind_of) at ∙ named))
 
 pub type_array : (of : TypeExpression) → IsType of → (v : List Leaf) (next : Option Terminal) → first (type_leaves of ++ v) ≡ next →
     (next ≡ Some (keyword keywords.Bits) → ⊥) → (option_map kind_of next ≡ Some kinds.Name → ⊥) → ArrayTypeWord (type_leaves of)
-type_array (Bits width) is v next at bits named = absurd (bits (sym at))
-type_array (Named n) is v next at bits named = absurd (named (sym (ap (option_map kind_of) at)))
-type_array (Array' place _ element size) is v next at bits named =
-    subst ArrayTypeWord (sym (array_leaves place element size)) (array_words place (this element is.0) (this size is.1)).some.1
+type_array of is v next at bits named = type_case ArrayTypeWord each of is at
+  where
+    each : EachType ArrayTypeWord v next
+    each (type_expression.Bits width) is at = absurd (bits (sym at))
+    each (type_expression.Named n) is at = absurd (named (sym (ap (option_map kind_of) at)))
+    each (type_expression.Array place element size) is at =
+        subst ArrayTypeWord (sym (array_leaves place (type_leaves element.0) size)) (array_words place (this element.0 element.1) (this size is)).some.1
 
 pub type_at_bits : {source : Source} {cursor : Cursor} {Follow : Option Terminal → Type 0} → next source cursor ≡ Some (keyword keywords.Bits) →
     Goes source cursor cursor (Part IsType type_leaves) Follow (Part IsWidth width_leaves)

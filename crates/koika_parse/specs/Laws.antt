@@ -11,7 +11,7 @@ use Rattle.koika_syntax.specs.declared.token.Token.{Token}
 use Rattle.koika_syntax.specs.declared.tree.Tree.{Tree}
 use Rattle.koika_parse.specs.Brackets.{AreFewOpen}
 use Rattle.koika_parse.specs.Faults.{StandsBetween}
-use Rattle.koika_parse.specs.Outline.{SameTree, SameUpToPlaces}
+use Rattle.koika_parse.specs.Places.{SameUpToPlaces}
 
 -- what the grammar sees of the tokens of a tree, and of those of a text
 abbrev pub terminals : Tree → List Terminal
@@ -20,9 +20,9 @@ terminals tree = map (λ leaf. leaf.terminal) (tree_leaves tree)
 abbrev pub terminals_in : List ℕ → List Token → List Terminal
 terminals_in text tokens = map (terminal_of text) tokens
 
--- two trees that derive the same tokens of a text are the same
+-- two trees that derive the same tokens of a text are equal
 abbrev pub OneTree : Type 0
-OneTree = (text : List ℕ) (tokens : List Token) (t u : Tree) → Derives text t tokens → Derives text u tokens → SameTree t u
+OneTree = (text : List ℕ) (tokens : List Token) (t u : Tree) → Derives text t tokens → Derives text u tokens → t ≡ u
 
 -- two trees of the grammar that have the same tokens are the same up to places
 abbrev pub OneTreeUpToPlaces : Type 0

@@ -1,5 +1,5 @@
 pub mod Brackets
 pub mod Faults
-pub mod Outline
+pub mod Places
 pub mod Laws
 pub mod inner

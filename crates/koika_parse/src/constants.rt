@@ -5,7 +5,7 @@ ghost use Rattle.koika_syntax.specs.Grammar.{IsConstant, LiteralFits, IsNonempty
 ghost use Rattle.koika_syntax.specs.inner.Grammar.{constant_field_leaves};
 ghost use Rattle.koika_syntax.specs.Tree.{commas, literal_leaves, sign};
 ghost use Rattle.koika_syntax.specs.declared.symbol.Symbol.TheVariants as symbols;
-ghost use Rattle.koika_parse.specs.inner.Expected.{Any, Commas, InVector, NoComma, Part, Takes};
+ghost use Rattle.koika_parse.specs.inner.Expected.{Any, Commas, NoComma, Part, Takes};
 ghost use Rattle.koika_parse.specs.inner.Reading.{Reads};
 ghost use Rattle.koika_parse.specs.inner.Parts.{IsConstantField};
 ghost use Rattle.koika_parse.specs.inner.Words.{ConstantArrayWord, NamedConstantWord};
@@ -14,6 +14,7 @@ use crate::cursor::Cursor;
 use crate::source::Source;
 use crate::stop::Stop;
 use koika_syntax::{Constant, ConstantField, Symbol};
+use kw_bits::Sequence;
 
 impl<'a> Source<'a> {
     /// Reads a constant.
@@ -62,13 +63,13 @@ impl<'a> Source<'a> {
 
     // Reads fields with commas between them.
     #[cycle(constant)]
-    fn constant_fields(&self, cursor: &mut Cursor) -> Result<Vec<ConstantField>, Stop>
-        ensures read { IfOk result (λ found. Reads self.now cursor.old cursor.new (commas (map constant_field_leaves found.items))) }
-        ensures is { IfOk result (λ found. All IsConstantField found.items) }
-        ensures some { IfOk result (λ found. IsNonempty found.items) }
-        ensures takes { Takes self.now cursor.old cursor.new (Commas InVector IsConstantField constant_field_leaves) (NoComma Any) result }
+    fn constant_fields(&self, cursor: &mut Cursor) -> Result<Sequence<ConstantField>, Stop>
+        ensures read { IfOk result (λ found. Reads self.now cursor.old cursor.new (commas (map constant_field_leaves found))) }
+        ensures is { IfOk result (λ found. All IsConstantField found) }
+        ensures some { IfOk result (λ found. IsNonempty found) }
+        ensures takes { Takes self.now cursor.old cursor.new (Commas IsConstantField constant_field_leaves) (NoComma Any) result }
     {
-        let mut all = Vec::new(self.alloc);
+        let mut all = Sequence::new(self.alloc);
         let first = self.constant_field(cursor)?;
         all.push(first)?;
         'more: while self.is_at_sign(cursor, Symbol::Comma) {
@@ -105,13 +106,13 @@ impl<'a> Source<'a> {
 
     // Reads constants with commas between them.
     #[cycle(constant)]
-    fn constants(&self, cursor: &mut Cursor) -> Result<Vec<Constant>, Stop>
-        ensures read { IfOk result (λ found. Reads self.now cursor.old cursor.new (commas (map constant_leaves found.items))) }
-        ensures is { IfOk result (λ found. All IsConstant found.items) }
-        ensures some { IfOk result (λ found. IsNonempty found.items) }
-        ensures takes { Takes self.now cursor.old cursor.new (Commas InVector IsConstant constant_leaves) (NoComma Any) result }
+    fn constants(&self, cursor: &mut Cursor) -> Result<Sequence<Constant>, Stop>
+        ensures read { IfOk result (λ found. Reads self.now cursor.old cursor.new (commas (map constant_leaves found))) }
+        ensures is { IfOk result (λ found. All IsConstant found) }
+        ensures some { IfOk result (λ found. IsNonempty found) }
+        ensures takes { Takes self.now cursor.old cursor.new (Commas IsConstant constant_leaves) (NoComma Any) result }
     {
-        let mut all = Vec::new(self.alloc);
+        let mut all = Sequence::new(self.alloc);
         let first = self.constant(cursor)?;
         all.push(first)?;
         'more: while self.is_at_sign(cursor, Symbol::Comma) {

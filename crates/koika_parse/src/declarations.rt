@@ -3,18 +3,18 @@
 ghost use Rattle.std.specs.Prelude.{◌≡◌, ◌<◌, ◌++◌, All, IfOk, OnOk, IfSome, Some, map};
 ghost use Rattle.koika_syntax.specs.Grammar.{IsDeclaration, IsField, LiteralFits, IsMember, IsName, IsNonempty, IsType, declaration_leaves, field_leaves, member_leaves, result_leaves};
 ghost use Rattle.koika_syntax.specs.Tree.{commas, keyword, literal_leaves, name_leaves, word};
-ghost use Rattle.koika_parse.specs.inner.Expected.{Any, AnyMany, Commas, NoComma, One, Part, Takes, Then};
+ghost use Rattle.koika_parse.specs.inner.Expected.{Any, Commas, NoComma, One, Part, Takes, Then};
 ghost use Rattle.koika_parse.specs.inner.ExpressionWords.{parenthesis_follows};
 ghost use Rattle.koika_parse.specs.inner.Reading.{Reads, next, tokens_left};
 ghost use Rattle.koika_parse.specs.inner.Words.{AssertWord, EnumWord, FunctionWord, HostWord, InputWord, ParametersWord, RegisterWord, ResultWord, RuleWord, StructWord, TableWord};
 
 use crate::cursor::Cursor;
 use crate::source::Source;
-use crate::stop::Stop;
+use crate::stop::{Stop, Unread};
 use koika_syntax::{
     Declaration, EnumMember, Field, Keyword, Literal, Name, Symbol, TypeExpression, Width,
 };
-use kw_bits::Sequence;
+use kw_bits::{Failure, Sequence};
 
 impl<'a> Source<'a> {
     /// Reads a declaration.
@@ -26,7 +26,7 @@ impl<'a> Source<'a> {
     {
         match self.keyword_at(cursor) {
             Some(begin) => self.begun_declaration(cursor, begin),
-            None => Err(Stop::Unexpected),
+            None => Err(Failure::Why(Unread::Unexpected)),
         }
     }
 
@@ -48,7 +48,7 @@ impl<'a> Source<'a> {
             Keyword::Fun => self.function_declaration(cursor),
             Keyword::Rule => self.rule_declaration(cursor),
             Keyword::Assert => self.assert_declaration(cursor),
-            _ => Err(Stop::Unexpected),
+            _ => Err(Failure::Why(Unread::Unexpected)),
         }
     }
 
@@ -86,7 +86,7 @@ impl<'a> Source<'a> {
         ensures read { IfOk result (λ found. Reads self.now cursor.old cursor.new (commas (map member_leaves found))) }
         ensures is { IfOk result (λ found. All IsMember found) }
         ensures some { IfOk result (λ found. IsNonempty found) }
-        ensures takes { Takes self.now cursor.old cursor.new (Commas AnyMany IsMember member_leaves) (NoComma Any) result }
+        ensures takes { Takes self.now cursor.old cursor.new (Commas IsMember member_leaves) (NoComma Any) result }
     {
         let mut all = Sequence::new(self.alloc);
         let first = self.member(cursor)?;
@@ -127,7 +127,7 @@ impl<'a> Source<'a> {
         ensures read { IfOk result (λ found. Reads self.now cursor.old cursor.new (commas (map field_leaves found))) }
         ensures is { IfOk result (λ found. All IsField found) }
         ensures some { IfOk result (λ found. IsNonempty found) }
-        ensures takes { Takes self.now cursor.old cursor.new (Commas AnyMany IsField field_leaves) (NoComma Any) result }
+        ensures takes { Takes self.now cursor.old cursor.new (Commas IsField field_leaves) (NoComma Any) result }
     {
         let mut all = Sequence::new(self.alloc);
         let first = self.field(cursor)?;
@@ -205,7 +205,7 @@ impl<'a> Source<'a> {
         ensures read { IfOk result (λ found. Reads self.now cursor.old cursor.new (commas (map literal_leaves found))) }
         ensures is { IfOk result (λ found. All LiteralFits found) }
         ensures some { IfOk result (λ found. IsNonempty found) }
-        ensures takes { Takes self.now cursor.old cursor.new (Commas AnyMany LiteralFits literal_leaves) (NoComma Any) result }
+        ensures takes { Takes self.now cursor.old cursor.new (Commas LiteralFits literal_leaves) (NoComma Any) result }
     {
         let mut all = Sequence::new(self.alloc);
         let first = self.literal(cursor)?;

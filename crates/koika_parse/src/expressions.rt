@@ -12,14 +12,15 @@ ghost use Rattle.koika_parse.specs.inner.Parts.{IsArm, IsOperandIn, IsStatement}
 
 use crate::cursor::Cursor;
 use crate::source::Source;
-use crate::stop::Stop;
+use crate::stop::{Stop, Unread};
 use koika_syntax::{Arm, BinaryOperator, Block, Expression, Keyword, Operand, Statement, Symbol};
+use kw_bits::{Boxed, Failure, Sequence};
 
 // The statements of a block, and its last expression.
 #[derive(Drop)]
 struct Inside {
-    statements: Vec<Statement>,
-    value: Option<Box<Expression>>,
+    statements: Sequence<Statement>,
+    value: Option<Boxed<Expression>>,
 }
 
 /// The tightest level of operators.
@@ -42,13 +43,13 @@ impl<'a> Source<'a> {
 
     /// Reads an expression.
     #[cycle(expression)]
-    pub(crate) fn boxed(&self, cursor: &mut Cursor) -> Result<Box<Expression>, Stop>
-        ensures read { IfOk result (λ found. Reads self.now cursor.old cursor.new (expression_leaves found.value)) }
-        ensures is { IfOk result (λ found. IsExpression found.value) }
+    pub(crate) fn boxed(&self, cursor: &mut Cursor) -> Result<Boxed<Expression>, Stop>
+        ensures read { IfOk result (λ found. Reads self.now cursor.old cursor.new (expression_leaves found)) }
+        ensures is { IfOk result IsExpression }
         ensures takes { Takes self.now cursor.old cursor.new (Part IsExpression expression_leaves) (Free 0) result }
     {
         let inside = self.expression(cursor)?;
-        let boxed = Box::new(self.alloc, inside)?;
+        let boxed = Boxed::new(self.alloc, inside)?;
         Ok(boxed)
     }
 
@@ -59,7 +60,7 @@ impl<'a> Source<'a> {
         ensures is { IfOk result IsExpression }
         ensures takes { Takes self.now cursor.old cursor.new ConditionalWord (Free 0) result }
     {
-        let mut arms = Vec::new(self.alloc);
+        let mut arms = Sequence::new(self.alloc);
         let first = self.arm(cursor)?;
         arms.push(first)?;
         'more: while self.is_at_word(cursor, Keyword::Else) {
@@ -117,12 +118,12 @@ impl<'a> Source<'a> {
     #[cycle(expression)]
     fn inside(&self, cursor: &mut Cursor) -> Result<Inside, Stop>
         ensures read { IfOk result (λ found. Reads self.now cursor.old cursor.new
-            (all_of (map statement_leaves found.statements.items) ++ last_leaves found.value (λ value. expression_leaves value.value))) }
-        ensures statements { IfOk result (λ found. All IsStatement found.statements.items) }
-        ensures value { IfOk result (λ found. IfSome found.value (λ value. IsExpression value.value)) }
-        ensures takes { Takes self.now cursor.old cursor.new (InsideWord 0) brace_follows result }
+            (all_of (map statement_leaves found.statements) ++ last_leaves found.value expression_leaves)) }
+        ensures statements { IfOk result (λ found. All IsStatement found.statements) }
+        ensures value { IfOk result (λ found. IfSome found.value IsExpression) }
+        ensures takes { Takes self.now cursor.old cursor.new InsideWord brace_follows result }
     {
-        let mut statements = Vec::new(self.alloc);
+        let mut statements = Sequence::new(self.alloc);
         'more: while !self.is_at_sign(cursor, Symbol::RightBrace) {
             if self.is_at_word(cursor, Keyword::Let) {
                 let next = self.binding(cursor)?;
@@ -131,7 +132,7 @@ impl<'a> Source<'a> {
             }
             let found = self.expression(cursor)?;
             if !self.is_at_sign(cursor, Symbol::Semicolon) {
-                let last = Box::new(self.alloc, found)?;
+                let last = Boxed::new(self.alloc, found)?;
                 return Ok(Inside {
                     statements,
                     value: Some(last),
@@ -179,22 +180,22 @@ impl<'a> Source<'a> {
         if !self.is_at_operator(cursor, loosest) {
             return Ok(inside);
         }
-        let first = Box::new(self.alloc, inside)?;
+        let first = Boxed::new(self.alloc, inside)?;
         let rest = self.operands(cursor, loosest)?;
         Ok(Expression::Chain { first, rest })
     }
 
     // Reads operators of a level, each with the operand after it, at least one.
     #[cycle(expression)]
-    fn operands(&self, cursor: &mut Cursor, wanted: u32) -> Result<Vec<Operand>, Stop>
+    fn operands(&self, cursor: &mut Cursor, wanted: u32) -> Result<Sequence<Operand>, Stop>
         requires low { 0 < wanted }
         requires high { wanted ≤ 9 }
-        ensures read { IfOk result (λ found. Reads self.now cursor.old cursor.new (all_of (map operand_leaves found.items))) }
-        ensures is { IfOk result (λ found. All (IsOperandIn wanted) found.items) }
-        ensures some { IfOk result (λ found. IsNonempty found.items) }
+        ensures read { IfOk result (λ found. Reads self.now cursor.old cursor.new (all_of (map operand_leaves found))) }
+        ensures is { IfOk result (λ found. All (IsOperandIn wanted) found) }
+        ensures some { IfOk result (λ found. IsNonempty found) }
         ensures takes { Takes self.now cursor.old cursor.new (SomeOperandsWord wanted) (Free wanted) result }
     {
-        let mut all = Vec::new(self.alloc);
+        let mut all = Sequence::new(self.alloc);
         let first = self.operand(cursor, wanted)?;
         all.push(first)?;
         'more: while self.is_at_operator(cursor, wanted) {
@@ -227,7 +228,7 @@ impl<'a> Source<'a> {
         ensures takes { Takes self.now cursor.old cursor.new (OperatorWord wanted) Any result }
     {
         match self.operator_at(cursor, wanted) {
-            None => Err(Stop::Unexpected),
+            None => Err(Failure::Why(Unread::Unexpected)),
             Some(operator) => {
                 self.sign(cursor, operator.symbol())?;
                 Ok(operator)

@@ -18,10 +18,10 @@ ghost use Rattle.koika_parse.specs.inner.Words.{DeclarationsWord, DesignWord, en
 
 use crate::cursor::Cursor;
 use crate::source::Source;
-use crate::stop::Stop;
+use crate::stop::{Stop, Unread};
 use koika_syntax::{Declaration, Keyword, Token, Tree};
 use kw_base::{Fault, Refusal, fault_number, place_of};
-use kw_bits::Sequence;
+use kw_bits::{Failure, Sequence};
 use std::alloc::Global;
 
 /// The tree of a text, whose tokens these are, or the first fault: 11 at a token that no design goes on with, or after
@@ -60,7 +60,7 @@ impl<'a> Source<'a> {
         let schedule = self.word_at(cursor, Keyword::Schedule)?;
         let scheduler = self.scheduler(cursor)?;
         if cursor.at < self.tokens.len() {
-            return Err(Stop::Unexpected);
+            return Err(Failure::Why(Unread::Unexpected));
         }
         Ok(Tree {
             declarations,
@@ -87,9 +87,15 @@ impl<'a> Source<'a> {
         ensures { IfFault {X = Tree} (Err result) (IsFaultOf self.now cursor.now stop) }
     {
         match stop {
-            Stop::Unexpected => Refusal::Fault(self.fault(cursor, fault_number::UNEXPECTED_TOKEN)),
-            Stop::TooDeep => Refusal::Fault(self.fault(cursor, fault_number::BRACKETS_TOO_DEEP)),
-            Stop::NoMemory => Refusal::NoMemory,
+            Failure::Why(Unread::Unexpected) => Refusal::Fault(self.fault(
+                cursor,
+                fault_number::UNEXPECTED_TOKEN,
+            )),
+            Failure::Why(Unread::TooDeep) => Refusal::Fault(self.fault(
+                cursor,
+                fault_number::BRACKETS_TOO_DEEP,
+            )),
+            Failure::NoMemory => Refusal::NoMemory,
         }
     }
 

@@ -4,23 +4,23 @@ ghost use Rattle.std.specs.Prelude.{◌≡◌, ◌≢◌, ◌<◌, ◌↔◌, Al
 ghost use Rattle.std.specs.List.{flat_map};
 ghost use Rattle.koika_syntax.specs.Grammar.{IsNonempty, IsPart, IsSuffix, level, part_leaves, prefix_leaves, suffix_leaves};
 ghost use Rattle.koika_syntax.specs.inner.Grammar.{IsExpression, expression_leaves, field_value_leaves};
-ghost use Rattle.koika_syntax.specs.Tree.{commas, keyword, read_word, symbol, unary_symbol, write_word};
+ghost use Rattle.koika_syntax.specs.Tree.{commas, keyword, symbol, unary_symbol};
 ghost use Rattle.koika_syntax.specs.declared.keyword.Keyword.TheVariants as keywords;
 ghost use Rattle.koika_syntax.specs.declared.token.TokenKind.TheVariants as kinds;
 ghost use Rattle.koika_syntax.specs.declared.operator.UnaryOperator.{UnaryOperator};
-ghost use Rattle.koika_parse.specs.inner.Expected.{Any, Commas, InVector, NoComma, One, Takes};
+ghost use Rattle.koika_parse.specs.inner.Expected.{Any, Commas, NoComma, One, Takes};
 ghost use Rattle.koika_parse.specs.inner.ExpressionWords.{ArgumentsWord, ArrayWord, CompareWord, ExtendWord, Free, IsAtPrefix, IsAtSuffix, LevelWord, NamedWord, OneBlock, OneFieldValue, OneLiteral, OnePart, OneSuffix, PackWord, ParenthesesWord, PrefixWord, PrefixesWord, ReadWord, SuffixesWord, UnpackWord, UpdateWord, WriteWord, no_prefix, parenthesis_follows};
 ghost use Rattle.koika_parse.specs.inner.Reading.{Reads, kind_at, next, tokens_left};
 ghost use Rattle.koika_parse.specs.inner.Parts.{IsFieldValue};
 
 use crate::cursor::Cursor;
 use crate::source::Source;
-use crate::stop::Stop;
+use crate::stop::{Stop, Unread};
 use koika_syntax::{
     Expression, Extension, FieldValue, Keyword, Prefix, SignedComparison, Suffix, Symbol,
-    TokenKind, UnaryOperator, UpdatedPart,
+    TokenKind, UnaryOperator, UpdatedPart, read_word, write_word,
 };
-use kw_bits::Sequence;
+use kw_bits::{Boxed, Failure, Sequence};
 
 impl<'a> Source<'a> {
     /// Reads operators in front of an operand, and the operand.
@@ -36,7 +36,7 @@ impl<'a> Source<'a> {
         }
         let prefixes = self.prefixes(cursor)?;
         let inside = self.postfix(cursor)?;
-        let operand = Box::new(self.alloc, inside)?;
+        let operand = Boxed::new(self.alloc, inside)?;
         Ok(Expression::Unary { prefixes, operand })
     }
 
@@ -62,7 +62,7 @@ impl<'a> Source<'a> {
         ensures takes { Takes self.now cursor.old cursor.new PrefixWord Any result }
     {
         match self.prefix_at(cursor) {
-            None => Err(Stop::Unexpected),
+            None => Err(Failure::Why(Unread::Unexpected)),
             Some(operator) => {
                 let place = self.sign_at(cursor, operator.symbol())?;
                 Ok(Prefix { operator, place })
@@ -97,7 +97,7 @@ impl<'a> Source<'a> {
         if !self.is_at_suffix(cursor) {
             return Ok(inside);
         }
-        let primary = Box::new(self.alloc, inside)?;
+        let primary = Boxed::new(self.alloc, inside)?;
         let suffixes = self.suffixes(cursor)?;
         Ok(Expression::Postfix { primary, suffixes })
     }
@@ -157,7 +157,7 @@ impl<'a> Source<'a> {
     {
         match self.peek(cursor) {
             Some(kind) => self.begun(cursor, kind),
-            None => Err(Stop::Unexpected),
+            None => Err(Failure::Why(Unread::Unexpected)),
         }
     }
 
@@ -175,7 +175,7 @@ impl<'a> Source<'a> {
             TokenKind::Name => self.named(cursor),
             TokenKind::Symbol(symbol) => self.bracketed(cursor, symbol),
             TokenKind::Keyword(keyword) => self.keyword_primary(cursor, keyword),
-            TokenKind::Number(_) => Err(Stop::Unexpected),
+            TokenKind::Number(_) => Err(Failure::Why(Unread::Unexpected)),
         }
     }
 
@@ -192,7 +192,7 @@ impl<'a> Source<'a> {
             Symbol::LeftBracket => self.array(cursor),
             Symbol::LeftParenthesis => self.parentheses(cursor),
             Symbol::LeftBrace => self.block_expression(cursor),
-            _ => Err(Stop::Unexpected),
+            _ => Err(Failure::Why(Unread::Unexpected)),
         }
     }
 
@@ -245,7 +245,7 @@ impl<'a> Source<'a> {
             Keyword::Sgt => self.compare(cursor, SignedComparison::Greater),
             Keyword::Sge => self.compare(cursor, SignedComparison::GreaterOrEqual),
             Keyword::Update => self.update(cursor),
-            _ => Err(Stop::Unexpected),
+            _ => Err(Failure::Why(Unread::Unexpected)),
         }
     }
 
@@ -457,13 +457,13 @@ impl<'a> Source<'a> {
     }
 
     #[cycle(expression)]
-    fn arguments(&self, cursor: &mut Cursor) -> Result<Vec<Expression>, Stop>
-        ensures read { IfOk result (λ found. Reads self.now cursor.old cursor.new (commas (map expression_leaves found.items))) }
-        ensures is { IfOk result (λ found. All IsExpression found.items) }
+    fn arguments(&self, cursor: &mut Cursor) -> Result<Sequence<Expression>, Stop>
+        ensures read { IfOk result (λ found. Reads self.now cursor.old cursor.new (commas (map expression_leaves found))) }
+        ensures is { IfOk result (λ found. All IsExpression found) }
         ensures takes { Takes self.now cursor.old cursor.new ArgumentsWord parenthesis_follows result }
     {
         if self.is_at_sign(cursor, Symbol::RightParenthesis) {
-            let none = Vec::new(self.alloc);
+            let none = Sequence::new(self.alloc);
             return Ok(none);
         }
         self.values(cursor)
@@ -471,13 +471,13 @@ impl<'a> Source<'a> {
 
     // Reads expressions with commas between them.
     #[cycle(expression)]
-    fn values(&self, cursor: &mut Cursor) -> Result<Vec<Expression>, Stop>
-        ensures read { IfOk result (λ found. Reads self.now cursor.old cursor.new (commas (map expression_leaves found.items))) }
-        ensures is { IfOk result (λ found. All IsExpression found.items) }
-        ensures some { IfOk result (λ found. IsNonempty found.items) }
-        ensures takes { Takes self.now cursor.old cursor.new (Commas InVector IsExpression expression_leaves) (NoComma (Free 0)) result }
+    fn values(&self, cursor: &mut Cursor) -> Result<Sequence<Expression>, Stop>
+        ensures read { IfOk result (λ found. Reads self.now cursor.old cursor.new (commas (map expression_leaves found))) }
+        ensures is { IfOk result (λ found. All IsExpression found) }
+        ensures some { IfOk result (λ found. IsNonempty found) }
+        ensures takes { Takes self.now cursor.old cursor.new (Commas IsExpression expression_leaves) (NoComma (Free 0)) result }
     {
-        let mut all = Vec::new(self.alloc);
+        let mut all = Sequence::new(self.alloc);
         let first = self.expression(cursor)?;
         all.push(first)?;
         'more: while self.is_at_sign(cursor, Symbol::Comma) {
@@ -489,13 +489,13 @@ impl<'a> Source<'a> {
     }
 
     #[cycle(expression)]
-    fn field_values(&self, cursor: &mut Cursor) -> Result<Vec<FieldValue>, Stop>
-        ensures read { IfOk result (λ found. Reads self.now cursor.old cursor.new (commas (map field_value_leaves found.items))) }
-        ensures is { IfOk result (λ found. All IsFieldValue found.items) }
-        ensures some { IfOk result (λ found. IsNonempty found.items) }
-        ensures takes { Takes self.now cursor.old cursor.new (Commas InVector IsFieldValue field_value_leaves) (NoComma (Free 0)) result }
+    fn field_values(&self, cursor: &mut Cursor) -> Result<Sequence<FieldValue>, Stop>
+        ensures read { IfOk result (λ found. Reads self.now cursor.old cursor.new (commas (map field_value_leaves found))) }
+        ensures is { IfOk result (λ found. All IsFieldValue found) }
+        ensures some { IfOk result (λ found. IsNonempty found) }
+        ensures takes { Takes self.now cursor.old cursor.new (Commas IsFieldValue field_value_leaves) (NoComma (Free 0)) result }
     {
-        let mut all = Vec::new(self.alloc);
+        let mut all = Sequence::new(self.alloc);
         let first = self.field_value(cursor)?;
         all.push(first)?;
         'more: while self.is_at_sign(cursor, Symbol::Comma) {
@@ -541,29 +541,5 @@ fn prefix_of(found: Symbol) -> Option<UnaryOperator>
         Symbol::Tilde => Some(UnaryOperator::Not),
         Symbol::Minus => Some(UnaryOperator::Negate),
         _ => None,
-    }
-}
-
-// How a read at a port is written.
-fn read_word(port: u32) -> Keyword
-    ensures { result ≡ read_word port }
-{
-    match port {
-        1 => Keyword::Read1,
-        2 => Keyword::Read2,
-        3 => Keyword::Read3,
-        _ => Keyword::Read0,
-    }
-}
-
-// How a write at a port is written.
-fn write_word(port: u32) -> Keyword
-    ensures { result ≡ write_word port }
-{
-    match port {
-        1 => Keyword::Write1,
-        2 => Keyword::Write2,
-        3 => Keyword::Write3,
-        _ => Keyword::Write0,
     }
 }

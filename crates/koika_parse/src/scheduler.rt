@@ -14,7 +14,7 @@ use crate::cursor::Cursor;
 use crate::source::Source;
 use crate::stop::Stop;
 use koika_syntax::{Choice, Keyword, Name, Scheduler, Symbol};
-use kw_bits::Sequence;
+use kw_bits::{Boxed, Sequence};
 
 impl<'a> Source<'a> {
     /// Reads a scheduler in its brackets.
@@ -47,16 +47,16 @@ impl<'a> Source<'a> {
     }
 
     #[cycle(scheduler)]
-    fn last_choice(&self, cursor: &mut Cursor) -> Result<Option<Box<Choice>>, Stop>
-        ensures read { IfOk result (λ found. Reads self.now cursor.old cursor.new (last_leaves found (λ choice. choice_leaves choice.value))) }
-        ensures is { IfOk result (λ found. IfSome found (λ choice. IsChoice choice.value)) }
+    fn last_choice(&self, cursor: &mut Cursor) -> Result<Option<Boxed<Choice>>, Stop>
+        ensures read { IfOk result (λ found. Reads self.now cursor.old cursor.new (last_leaves found choice_leaves)) }
+        ensures is { IfOk result (λ found. IfSome found IsChoice) }
         ensures takes { Takes self.now cursor.old cursor.new LastChoiceWord no_try result }
     {
         if !self.is_at_word(cursor, Keyword::Try) {
             return Ok(None);
         }
         let choice = self.choice(cursor)?;
-        let last = Box::new(self.alloc, choice)?;
+        let last = Boxed::new(self.alloc, choice)?;
         Ok(Some(last))
     }
 

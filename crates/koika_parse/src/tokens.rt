@@ -11,14 +11,15 @@ ghost use Rattle.koika_parse.specs.inner.Names.{IsNameIn};
 ghost use Rattle.koika_parse.specs.Brackets.{open_behind_symbol};
 ghost use Rattle.koika_parse.specs.inner.Brackets.{open_behind_kind};
 ghost use Rattle.koika_parse.specs.inner.Expected.{Any, One, Part, Takes};
-ghost use Rattle.koika_parse.specs.declared.stop.Stop.TheVariants as stops;
+ghost use Rattle.kw_bits.specs.declared.failure.Failure.TheVariants as failures;
+ghost use Rattle.koika_parse.specs.declared.stop.Unread.TheVariants as unread;
 ghost use Rattle.koika_parse.specs.inner.Reading.{Reads, kind_at, next, token_at};
 
 use crate::cursor::Cursor;
 use crate::source::Source;
-use crate::stop::Stop;
+use crate::stop::{Stop, Unread};
 use koika_syntax::{Keyword, Literal, Name, Number, Symbol, Token, TokenKind, Width};
-use kw_bits::{Bits, Text};
+use kw_bits::{Bits, Failure, Text};
 
 /// At most this many brackets are open at once.
 const MOST_OPEN: u32 = 64;
@@ -149,7 +150,7 @@ impl<'a> Source<'a> {
         ensures takes { Takes self.now cursor.old cursor.new (One (symbol wanted)) Any result }
     {
         if !self.is_at_sign(cursor, wanted) {
-            return Err(Stop::Unexpected);
+            return Err(Failure::Why(Unread::Unexpected));
         }
         self.step(cursor)
     }
@@ -169,7 +170,7 @@ impl<'a> Source<'a> {
         ensures takes { Takes self.now cursor.old cursor.new (One (keyword wanted)) Any result }
     {
         if !self.is_at_word(cursor, wanted) {
-            return Err(Stop::Unexpected);
+            return Err(Failure::Why(Unread::Unexpected));
         }
         self.step(cursor)
     }
@@ -190,7 +191,7 @@ impl<'a> Source<'a> {
         ensures takes { Takes self.now cursor.old cursor.new (Part IsName name_leaves) Any result }
     {
         match self.name_at(cursor) {
-            None => Err(Stop::Unexpected),
+            None => Err(Failure::Why(Unread::Unexpected)),
             Some(token) => {
                 let bytes = &self.text[token.start as usize..token.end as usize];
                 let text = Text::from_slice(self.alloc, bytes)?;
@@ -207,7 +208,7 @@ impl<'a> Source<'a> {
         ensures takes { Takes self.now cursor.old cursor.new (Part NumberFits number_leaves) Any result }
     {
         match self.number_at(cursor) {
-            None => Err(Stop::Unexpected),
+            None => Err(Failure::Why(Unread::Unexpected)),
             Some(value) => {
                 let place = self.step(cursor)?;
                 Ok(Number { value, place })
@@ -222,7 +223,7 @@ impl<'a> Source<'a> {
         ensures takes { Takes self.now cursor.old cursor.new (Part LiteralFits literal_leaves) Any result }
     {
         match self.bits_at(cursor) {
-            None => Err(Stop::Unexpected),
+            None => Err(Failure::Why(Unread::Unexpected)),
             Some(bits) => {
                 let place = self.step(cursor)?;
                 Ok(literal_at(bits, place))
@@ -298,7 +299,7 @@ fn literal_at(bits: Bits, place: u32) -> Literal
 // How many brackets are open after a token, where that many are open in front of it.
 fn depth_behind(before: u32, kind: TokenKind) -> Result<u32, Stop>
     ensures behind { IfOk result (λ behind. behind ≡ open_behind_kind before kind) }
-    ensures deep { IfErr result (λ stop. (stop ≡ stops.TooDeep) × (64 < open_behind_kind before kind)) }
+    ensures deep { IfErr result (λ stop. (stop ≡ failures.Why unread.TooDeep) × (64 < open_behind_kind before kind)) }
     ensures few { IfOk result (λ behind. before ≤ 64 → behind ≤ 64) }
 {
     match kind {
@@ -309,7 +310,7 @@ fn depth_behind(before: u32, kind: TokenKind) -> Result<u32, Stop>
 
 fn depth_behind_symbol(before: u32, found: Symbol) -> Result<u32, Stop>
     ensures behind { IfOk result (λ behind. behind ≡ open_behind_symbol before found) }
-    ensures deep { IfErr result (λ stop. (stop ≡ stops.TooDeep) × (64 < open_behind_symbol before found)) }
+    ensures deep { IfErr result (λ stop. (stop ≡ failures.Why unread.TooDeep) × (64 < open_behind_symbol before found)) }
     ensures few { IfOk result (λ behind. before ≤ 64 → behind ≤ 64) }
 {
     match found {
@@ -317,7 +318,7 @@ fn depth_behind_symbol(before: u32, found: Symbol) -> Result<u32, Stop>
             if before < MOST_OPEN {
                 Ok(before + 1)
             } else {
-                Err(Stop::TooDeep)
+                Err(Failure::Why(Unread::TooDeep))
             }
         }
         Symbol::RightParenthesis | Symbol::RightBracket | Symbol::RightBrace => {

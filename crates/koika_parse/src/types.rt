@@ -11,6 +11,7 @@ use crate::cursor::Cursor;
 use crate::source::Source;
 use crate::stop::Stop;
 use koika_syntax::{Keyword, Symbol, TypeExpression};
+use kw_bits::Boxed;
 
 impl<'a> Source<'a> {
     /// Reads a type.
@@ -56,7 +57,7 @@ impl<'a> Source<'a> {
     {
         let place = self.sign_at(cursor, Symbol::LeftBracket)?;
         let inside = self.type_expression(cursor)?;
-        let element = Box::new(self.alloc, inside)?;
+        let element = Boxed::new(self.alloc, inside)?;
         self.sign(cursor, Symbol::Semicolon)?;
         let length = self.number(cursor)?;
         self.sign(cursor, Symbol::RightBracket)?;

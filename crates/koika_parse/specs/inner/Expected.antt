@@ -2,7 +2,7 @@
 -- takes that word and leaves what is after it, and reading ends unexpectedly nowhere where some word goes on. Where it
 -- ends, some word goes on with what has been read.
 -- This serves private functions alone.
-use Rattle.std.specs.Prelude.{◌≡◌, ℕ, ◌<◌, ◌≤◌, ◌^◌, Option, None, Some, IfSome, Result, Ok, Err, Bool, true, false, ⊤, List, [], ◌∷◌, ◌++◌, length, map, All, drop}
+use Rattle.std.specs.Prelude.{◌≡◌, ℕ, ◌<◌, ◌≤◌, Option, None, Some, IfSome, Result, Ok, Err, Bool, true, false, ⊤, List, [], ◌∷◌, ◌++◌, map, All, drop}
 use Rattle.std.specs.List.{AllZip}
 use Rattle.koika_syntax.specs.Grammar.{IsNonempty}
 use Rattle.koika_syntax.specs.Tree.{Leaf, Terminal, symbol, commas, terminal_of}
@@ -12,8 +12,9 @@ use Rattle.koika_parse.specs.Brackets.{AreFewOpen, open_behind}
 use Rattle.koika_parse.specs.inner.Reading.{Reads, next}
 use Rattle.koika_parse.specs.declared.cursor.Cursor.{Cursor}
 use Rattle.koika_parse.specs.declared.source.Source.{Source}
-use Rattle.koika_parse.specs.declared.stop.Stop.{Stop}
-use Rattle.koika_parse.specs.declared.stop.Stop.TheVariants as stops
+use Rattle.koika_parse.specs.inner.Stops.{Stop}
+use Rattle.kw_bits.specs.declared.failure.Failure.TheVariants as failures
+use Rattle.koika_parse.specs.declared.stop.Unread.TheVariants as unread
 
 -- words of a part: the leaves of each thing that it may be
 abbrev pub Part : {X : Type 0} → (X → Type 0) → (X → List Leaf) → List Leaf → Type 0
@@ -52,9 +53,9 @@ pub record Leaves (old new : Cursor) (w before behind : List Leaf) : Type 0 wher
 -- how reading ends: it leaves what is after; it cannot be unexpected; brackets are too many
 abbrev pub Ends : {X : Type 0} → Result X Stop → (few left : Type 0) → Type 0
 Ends (Ok x) few left = left
-Ends (Err stops.Unexpected) few left = ⊥
-Ends (Err stops.TooDeep) few left = few → ⊥
-Ends (Err stops.NoMemory) few left = ⊤
+Ends (Err (failures.Why unread.Unexpected)) few left = ⊥
+Ends (Err (failures.Why unread.TooDeep)) few left = few → ⊥
+Ends (Err failures.NoMemory) few left = ⊤
 
 -- a token and where it stands
 pub record Spot : Type 0 where
@@ -80,9 +81,9 @@ pub record Front (source : Source) (old new : Cursor) (Word : List Leaf → Type
 -- how far reading comes: over a word; over the front of one; over the front of one that goes on with a bracket too many
 abbrev pub Leads : {X : Type 0} → Source → (old new : Cursor) → (List Leaf → Type 0) → Result X Stop → Type 0
 Leads source old new Word (Ok x) = Front source old new Word []
-Leads source old new Word (Err stops.Unexpected) = (rest : List Spot) × Front source old new Word rest
-Leads source old new Word (Err stops.TooDeep) = (spot : Spot) × (rest : List Spot) × Front source old new Word (spot ∷ rest) × (next source new ≡ Some spot.terminal) × (64 < open_behind new.depth spot.terminal)
-Leads source old new Word (Err stops.NoMemory) = ⊤
+Leads source old new Word (Err (failures.Why unread.Unexpected)) = (rest : List Spot) × Front source old new Word rest
+Leads source old new Word (Err (failures.Why unread.TooDeep)) = (spot : Spot) × (rest : List Spot) × Front source old new Word (spot ∷ rest) × (next source new ≡ Some spot.terminal) × (64 < open_behind new.depth spot.terminal)
+Leads source old new Word (Err failures.NoMemory) = ⊤
 
 -- a reader takes words of this language, wherever such a token follows
 pub record Takes {X : Type 0} (source : Source) (old new : Cursor) (Word : List Leaf → Type 0) (Follow : Option Terminal → Type 0) (result : Result X Stop) : Type 0 where
@@ -90,16 +91,9 @@ pub record Takes {X : Type 0} (source : Source) (old new : Cursor) (Word : List 
   pub takes : (w u v : List Leaf) → AgreesUpTo source new w → Word u → Behind Follow v → drop old.at w ≡ u ++ v → Ends result (AreFewOpen old.depth (u ++ v)) (Leaves old new w (u ++ v) v)
   pub leads : Leads source old new Word result
 
--- how many parts a list has room for: for any number, or for those that a vector holds
-abbrev pub AnyMany : ℕ → Type 0
-AnyMany n = ⊤
-
-abbrev pub InVector : ℕ → Type 0
-InVector n = n < 2 ^ 63
-
 -- parts with commas between them, at least one
-abbrev pub Commas : {X : Type 0} → (ℕ → Type 0) → (X → Type 0) → (X → List Leaf) → List Leaf → Type 0
-Commas Room Is leaves = Part (λ xs. IsNonempty xs × All Is xs × Room (length xs)) (λ xs. commas (map leaves xs))
+abbrev pub Commas : {X : Type 0} → (X → Type 0) → (X → List Leaf) → List Leaf → Type 0
+Commas Is leaves = Part (λ xs. IsNonempty xs × All Is xs) (λ xs. commas (map leaves xs))
 
 -- no comma, and what may follow a part
 abbrev pub is_comma : Option Terminal → Bool

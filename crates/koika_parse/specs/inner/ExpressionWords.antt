@@ -1,7 +1,7 @@
 -- The words of expressions, as the words of `specs/Words.antt` are: a chain by its level, a primary by its first token,
 -- and what may be after an expression of a level. They are the grammar's, as the clauses of private functions cite
 -- them.
-use Rattle.std.specs.Prelude.{◌≡◌, ◌⊎◌, ℕ, ◌+◌, ◌<◌, ◌≤◌, Option, None, Some, IfSome, ⊤, List, [], ◌++◌, length, map, All}
+use Rattle.std.specs.Prelude.{◌≡◌, ◌⊎◌, ℕ, ◌<◌, ◌≤◌, Option, None, Some, IfSome, ⊤, List, [], ◌++◌, map, All}
 use Rattle.std.specs.List.{flat_map}
 use Rattle.koika_syntax.specs.Grammar.{IsName, NumberFits, LiteralFits, IsType, IsBlock, IsPart, IsSuffix, type_leaves, block_leaves, part_leaves, prefix_leaves, suffix_leaves, last_leaves, level, level_of}
 use Rattle.koika_syntax.specs.inner.Grammar.{IsExpression, expression_leaves, statement_leaves, arm_leaves, operand_leaves, field_value_leaves}
@@ -20,7 +20,7 @@ use Rattle.koika_syntax.specs.declared.tree.Arm.{Arm}
 use Rattle.koika_syntax.specs.declared.tree.Block.{Block}
 use Rattle.koika_syntax.specs.declared.tree.Expression.{Expression}
 use Rattle.koika_syntax.specs.declared.tree.Statement.{Statement}
-use Rattle.koika_parse.specs.inner.Expected.{InVector, One, Part, Then, Commas}
+use Rattle.koika_parse.specs.inner.Expected.{One, Part, Then, Commas}
 use Rattle.koika_parse.specs.inner.Parts.{IsArm, IsFieldValue, IsOperandIn, IsStatement}
 use Rattle.koika_parse.specs.inner.Reading.{next}
 use Rattle.koika_parse.specs.declared.cursor.Cursor.{Cursor}
@@ -64,12 +64,12 @@ LevelWord k = Part (λ e. IsExpression e × (k ≤ level e)) expression_leaves
 abbrev pub OperatorWord : ℕ → List Leaf → Type 0
 OperatorWord k u = (operator : BinaryOperator) × (level_of operator ≡ k) × One (symbol (binary_symbol operator)) u
 
--- operands where a vector has room for that many more after others
-abbrev pub OperandsWord : (before k : ℕ) → List Leaf → Type 0
-OperandsWord before k = Part (λ operands. All (IsOperandIn k) operands × InVector (length operands + before)) (λ operands. flat_map operand_leaves operands)
+-- operands of a level, and at least one of them
+abbrev pub OperandsWord : ℕ → List Leaf → Type 0
+OperandsWord k = Part (λ operands. All (IsOperandIn k) operands) (λ operands. flat_map operand_leaves operands)
 
 abbrev pub SomeOperandsWord : ℕ → List Leaf → Type 0
-SomeOperandsWord k = Then (Part (IsOperandIn k) operand_leaves) (OperandsWord 1 k)
+SomeOperandsWord k = Then (Part (IsOperandIn k) operand_leaves) (OperandsWord k)
 
 -- the next token is an operator of this level, and an operator in front of an operand
 abbrev pub IsAtOperator : Source → Cursor → ℕ → Type 0
@@ -111,7 +111,7 @@ OneFieldValue = Part IsFieldValue field_value_leaves
 
 -- what begins with a bracket or a keyword
 abbrev pub ArrayWord : List Leaf → Type 0
-ArrayWord = Then (One (symbol symbols.LeftBracket)) (Then (Commas InVector IsExpression expression_leaves) (One (symbol symbols.RightBracket)))
+ArrayWord = Then (One (symbol symbols.LeftBracket)) (Then (Commas IsExpression expression_leaves) (One (symbol symbols.RightBracket)))
 
 abbrev pub ParenthesesWord : List Leaf → Type 0
 ParenthesesWord = Then (One (symbol symbols.LeftParenthesis)) (Then (Part IsExpression expression_leaves) (One (symbol symbols.RightParenthesis)))
@@ -139,13 +139,13 @@ UpdateWord = Then (One (keyword keywords.Update)) (Then (One (symbol symbols.Lef
 
 -- what is after a name
 abbrev pub ArgumentsWord : List Leaf → Type 0
-ArgumentsWord = Part (λ arguments. All IsExpression arguments × InVector (length arguments)) (λ arguments. commas (map expression_leaves arguments))
+ArgumentsWord = Part (λ arguments. All IsExpression arguments) (λ arguments. commas (map expression_leaves arguments))
 
 abbrev pub CallTailWord : List Leaf → Type 0
 CallTailWord = Then (One (symbol symbols.LeftParenthesis)) (Then ArgumentsWord (One (symbol symbols.RightParenthesis)))
 
 abbrev pub StructTailWord : List Leaf → Type 0
-StructTailWord = Then (One (symbol symbols.LeftBrace)) (Then (Commas InVector IsFieldValue field_value_leaves) (One (symbol symbols.RightBrace)))
+StructTailWord = Then (One (symbol symbols.LeftBrace)) (Then (Commas IsFieldValue field_value_leaves) (One (symbol symbols.RightBrace)))
 
 abbrev pub ColonsWord : List Leaf → Type 0
 ColonsWord u = Part IsName name_leaves u ⊎ StructTailWord u
@@ -188,15 +188,15 @@ SymbolWord _ = λ u. ⊥
 abbrev pub LetWord : List Leaf → Type 0
 LetWord = Then (One (keyword keywords.Let)) (Then (Part IsName name_leaves) (Then (One (symbol symbols.Equals)) (Then (Part IsExpression expression_leaves) (One (symbol symbols.Semicolon)))))
 
--- an `if` after that many arms, and a block between its brackets after that many statements
-abbrev pub ElseWord : ℕ → List Leaf → Type 0
-ElseWord before u = (arms : List Arm) × (otherwise : Option Block) × (All IsArm arms × InVector (length arms + before)) × IfSome otherwise IsBlock × (u ≡ each_after (word keywords.Else) (map arm_leaves arms) ++ last_leaves otherwise (λ block. word keywords.Else ++ block_leaves block))
+-- what hangs on the first arm of an `if`, the whole `if`, and a block between its brackets
+abbrev pub ElseWord : List Leaf → Type 0
+ElseWord u = (arms : List Arm) × (otherwise : Option Block) × All IsArm arms × IfSome otherwise IsBlock × (u ≡ each_after (word keywords.Else) (map arm_leaves arms) ++ last_leaves otherwise (λ block. word keywords.Else ++ block_leaves block))
 
 abbrev pub ConditionalWord : List Leaf → Type 0
-ConditionalWord = Then (Part IsArm arm_leaves) (ElseWord 1)
+ConditionalWord = Then (Part IsArm arm_leaves) ElseWord
 
-abbrev pub InsideWord : ℕ → List Leaf → Type 0
-InsideWord before u = (statements : List Statement) × (value : Option Expression) × (All IsStatement statements × InVector (length statements + before)) × IfSome value IsExpression × (u ≡ flat_map statement_leaves statements ++ last_leaves value expression_leaves)
+abbrev pub InsideWord : List Leaf → Type 0
+InsideWord u = (statements : List Statement) × (value : Option Expression) × All IsStatement statements × IfSome value IsExpression × (u ≡ flat_map statement_leaves statements ++ last_leaves value expression_leaves)
 
 -- the next token begins a suffix
 abbrev pub IsAtSuffix : Source → Cursor → Type 0

@@ -7,7 +7,7 @@ use Rattle.koika_syntax.specs.Tree.{Leaf, Terminal, name, keyword, symbol, comma
 use Rattle.koika_syntax.specs.declared.keyword.Keyword.{Keyword}
 use Rattle.koika_syntax.specs.declared.keyword.Keyword.TheVariants as keywords
 use Rattle.koika_syntax.specs.declared.symbol.Symbol.TheVariants as symbols
-use Rattle.koika_parse.specs.inner.Expected.{AnyMany, InVector, One, Part, Then, Commas}
+use Rattle.koika_parse.specs.inner.Expected.{One, Part, Then, Commas}
 use Rattle.std.specs.List.{flat_map}
 use Rattle.koika_parse.specs.inner.Parts.{IsConstantField, IsChoice}
 
@@ -17,10 +17,10 @@ ArrayTypeWord = Then (One (symbol symbols.LeftBracket)) (Then (Part IsType type_
 
 -- the declarations, one for each word
 abbrev pub EnumWord : List Leaf → Type 0
-EnumWord = Then (Then (One (keyword keywords.Enum)) (Part IsName name_leaves)) (Then (One (symbol symbols.Colon)) (Then (Part IsWidth width_leaves) (Then (One (symbol symbols.LeftBrace)) (Then (Commas AnyMany IsMember member_leaves) (One (symbol symbols.RightBrace))))))
+EnumWord = Then (Then (One (keyword keywords.Enum)) (Part IsName name_leaves)) (Then (One (symbol symbols.Colon)) (Then (Part IsWidth width_leaves) (Then (One (symbol symbols.LeftBrace)) (Then (Commas IsMember member_leaves) (One (symbol symbols.RightBrace))))))
 
 abbrev pub StructWord : List Leaf → Type 0
-StructWord = Then (Then (One (keyword keywords.Struct)) (Part IsName name_leaves)) (Then (One (symbol symbols.LeftBrace)) (Then (Commas AnyMany IsField field_leaves) (One (symbol symbols.RightBrace))))
+StructWord = Then (Then (One (keyword keywords.Struct)) (Part IsName name_leaves)) (Then (One (symbol symbols.LeftBrace)) (Then (Commas IsField field_leaves) (One (symbol symbols.RightBrace))))
 
 abbrev pub RegisterWord : List Leaf → Type 0
 RegisterWord = Then (Then (One (keyword keywords.Reg)) (Part IsName name_leaves)) (Then (One (symbol symbols.Colon)) (Then (Part IsType type_leaves) (Then (One (symbol symbols.Equals)) (Then (Part IsConstant constant_leaves) (One (symbol symbols.Semicolon))))))
@@ -29,7 +29,7 @@ abbrev pub InputWord : List Leaf → Type 0
 InputWord = Then (Then (One (keyword keywords.Input)) (Part IsName name_leaves)) (Then (One (symbol symbols.Colon)) (Then (Part IsType type_leaves) (One (symbol symbols.Semicolon))))
 
 abbrev pub TableWord : List Leaf → Type 0
-TableWord = Then (Then (One (keyword keywords.Table)) (Part IsName name_leaves)) (Then (One (symbol symbols.Colon)) (Then (Part IsWidth width_leaves) (Then (One (symbol symbols.Arrow)) (Then (Part IsWidth width_leaves) (Then (One (symbol symbols.LeftBrace)) (Then (Commas AnyMany LiteralFits literal_leaves) (One (symbol symbols.RightBrace))))))))
+TableWord = Then (Then (One (keyword keywords.Table)) (Part IsName name_leaves)) (Then (One (symbol symbols.Colon)) (Then (Part IsWidth width_leaves) (Then (One (symbol symbols.Arrow)) (Then (Part IsWidth width_leaves) (Then (One (symbol symbols.LeftBrace)) (Then (Commas LiteralFits literal_leaves) (One (symbol symbols.RightBrace))))))))
 
 abbrev pub HostWord : List Leaf → Type 0
 HostWord = Then (Then (One (keyword keywords.Host)) (Part IsName name_leaves)) (Then (One (symbol symbols.Colon)) (Then (Part IsWidth width_leaves) (Then (One (symbol symbols.Arrow)) (Then (Part IsWidth width_leaves) (One (symbol symbols.Semicolon))))))
@@ -79,7 +79,7 @@ end_follows next = next ≡ None
 
 -- a constant: what is after its `::`, and what it is by its first token
 abbrev pub ConstantTailWord : List Leaf → Type 0
-ConstantTailWord = Then (One (symbol symbols.LeftBrace)) (Then (Commas InVector IsConstantField constant_field_leaves) (One (symbol symbols.RightBrace)))
+ConstantTailWord = Then (One (symbol symbols.LeftBrace)) (Then (Commas IsConstantField constant_field_leaves) (One (symbol symbols.RightBrace)))
 
 abbrev pub ConstantColonsWord : List Leaf → Type 0
 ConstantColonsWord u = Part IsName name_leaves u ⊎ ConstantTailWord u
@@ -88,7 +88,7 @@ abbrev pub NamedConstantWord : List Leaf → Type 0
 NamedConstantWord = Then (Part IsName name_leaves) (Then (One (symbol symbols.ColonColon)) (ConstantColonsWord))
 
 abbrev pub ConstantArrayWord : List Leaf → Type 0
-ConstantArrayWord = Then (One (symbol symbols.LeftBracket)) (Then (Commas InVector IsConstant constant_leaves) (One (symbol symbols.RightBracket)))
+ConstantArrayWord = Then (One (symbol symbols.LeftBracket)) (Then (Commas IsConstant constant_leaves) (One (symbol symbols.RightBracket)))
 
 -- a scheduler in its brackets, its rules, and its last choice
 abbrev pub RulesWord : List Leaf → Type 0

@@ -2,7 +2,8 @@ use Rattle.std.proofs.Common.{refl, arith, rules, Err}
 use Rattle.koika_parse.proofs.Names.{names_stand, starts_stand}
 use Rattle.koika_parse.proofs.Reading.{whole}
 use Rattle.koika_syntax.specs.declared.tree.Tree.{Tree}
-use Rattle.koika_parse.proofs.Designs.{fault_as, reads_back_found, reads_back_refused, stands_between}
+use Rattle.koika_parse.proofs.Designs.{fault_as, reads_back_refused, stands_between}
+use Rattle.koika_parse.proofs.Unambiguous.{read_again}
 use Rattle.koika_parse.proofs.OneFault.{no_fault, one_refused}
 use Rattle.koika_parse.proofs.parser.parse.Goals as goal
 
@@ -23,7 +24,8 @@ pub returns-in-Err-clause-fault : goal.returns-in-Err-clause-fault
 returns-in-Err-clause-fault c = fault_as {X = Tree} (Err c.refusal.result) c.refusal.ensures (λ fault is. stands_between c.in-Err.stop fault refl refl c.in-Err.ensures.takes is)
 
 pub returns-in-Ok-clause-again : goal.returns-in-Ok-clause-again
-returns-in-Ok-clause-again c = reads_back_found c.args.text.now c.args.tokens.now c.in-Ok.tree (returns-in-Ok-clause-derived c)
+returns-in-Ok-clause-again c = λ tree is same few.
+    read_again c.args.text.now c.args.tokens.now tree c.in-Ok.tree is same (returns-in-Ok-clause-derived c)
 
 pub returns-in-Err-clause-again : goal.returns-in-Err-clause-again
 returns-in-Err-clause-again c = reads_back_refused c.refusal.result refl refl c.in-Err.ensures.takes c.refusal.ensures

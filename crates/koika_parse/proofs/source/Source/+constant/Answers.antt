@@ -12,8 +12,9 @@ use Rattle.koika_parse.proofs.Expected.{step, finish, last_part, fails, fails_be
 use Rattle.koika_parse.specs.inner.Expected.{Any}
 use Rattle.koika_parse.proofs.Commas.{commas_start, commas_apart, commas_at, commas_end, commas_first, commas_next}
 use Rattle.koika_parse.proofs.ConstantWords.{FieldsTail, constant_array_start, constant_at_bracket, constant_at_name}
-use Rattle.koika_parse.proofs.ConstantWords.{constant_elsewhere, constant_field_start, constant_fields_listed}
-use Rattle.koika_parse.proofs.ConstantWords.{constants_listed, named_constant_start, some_fields_tail}
+use Rattle.koika_parse.proofs.ConstantWords.{constant_elsewhere, constant_field_start, some_constant_field}
+use Rattle.koika_parse.proofs.ConstantWords.{named_constant_start, some_fields_tail}
+use Rattle.koika_parse.proofs.Witnesses.{some_constant}
 use Rattle.koika_parse.proofs.Rows.{name_not_brace, brace_not_name}
 use Rattle.koika_parse.proofs.Words.{before_brace, before_bracket}
 use Rattle.koika_parse.proofs.Steps.{◌past◌, ◌then◌}
@@ -21,31 +22,31 @@ use Rattle.koika_parse.proofs.source.Source.+constant.Goals as goal
 
 pub constants-more-init : goal.constants-more-init
 constants-more-init t c = (
-  joined_start _ _ _ (sign symbols.Comma) constant_leaves IsConstant c.in_ok-first.first _ c.push.new.self.items
-      c.in_ok-first.ensures.read c.in_ok-first.ensures.is c.new-all.ensures.items c.in_ok-push.ensures.items,
-  commas_first constants_listed c.in_ok-first.ensures.takes tt,
+  joined_start _ _ _ (sign symbols.Comma) constant_leaves IsConstant c.in_ok-first.first _ c.push.new.self
+      c.in_ok-first.ensures.read c.in_ok-first.ensures.is c.new-all.ensures c.in_ok-push.ensures.ok,
+  commas_first some_constant c.in_ok-first.ensures.takes tt,
 )
 
 pub constants-more-preserved : goal.constants-more-preserved
 constants-more-preserved t c = (
-  joined_again c.in_ok-next.next c.push-in-more.new.self.items c.more.invariant.0 c.in_ok-sign.ensures.read
-      c.in_ok-next.ensures.read c.in_ok-next.ensures.is c.in_ok-push-2.ensures.items,
-  commas_next constants_listed (c.is_at_sign.ensures.0 c.more-test.true) c.more.invariant.1 c.in_ok-sign.ensures.read
+  joined_again c.in_ok-next.next c.push-in-more.new.self c.more.invariant.0 c.in_ok-sign.ensures.read
+      c.in_ok-next.ensures.read c.in_ok-next.ensures.is c.in_ok-push-2.ensures.ok,
+  commas_next some_constant (c.is_at_sign.ensures.0 c.more-test.true) c.more.invariant.1
       c.in_ok-sign.ensures.takes c.in_ok-next.ensures.takes tt,
 )
 
 pub constant_fields-more-init : goal.constant_fields-more-init
 constant_fields-more-init t c = (
-  joined_start _ _ _ (sign symbols.Comma) constant_field_leaves IsConstantField c.in_ok-first.first _ c.push.new.self.items
-      c.in_ok-first.ensures.read c.in_ok-first.ensures.is c.new-all.ensures.items c.in_ok-push.ensures.items,
-  commas_first constant_fields_listed c.in_ok-first.ensures.takes tt,
+  joined_start _ _ _ (sign symbols.Comma) constant_field_leaves IsConstantField c.in_ok-first.first _ c.push.new.self
+      c.in_ok-first.ensures.read c.in_ok-first.ensures.is c.new-all.ensures c.in_ok-push.ensures.ok,
+  commas_first some_constant_field c.in_ok-first.ensures.takes tt,
 )
 
 pub constant_fields-more-preserved : goal.constant_fields-more-preserved
 constant_fields-more-preserved t c = (
-  joined_again c.in_ok-next.next c.push-in-more.new.self.items c.more.invariant.0 c.in_ok-sign.ensures.read
-      c.in_ok-next.ensures.read c.in_ok-next.ensures.is c.in_ok-push-2.ensures.items,
-  commas_next constant_fields_listed (c.is_at_sign.ensures.0 c.more-test.true) c.more.invariant.1 c.in_ok-sign.ensures.read
+  joined_again c.in_ok-next.next c.push-in-more.new.self c.more.invariant.0 c.in_ok-sign.ensures.read
+      c.in_ok-next.ensures.read c.in_ok-next.ensures.is c.in_ok-push-2.ensures.ok,
+  commas_next some_constant_field (c.is_at_sign.ensures.0 c.more-test.true) c.more.invariant.1
       c.in_ok-sign.ensures.takes c.in_ok-next.ensures.takes tt,
 )
 
@@ -140,41 +141,41 @@ constant_array-returns-clause-takes t c =
 
 pub constant_fields-returns-in_err-first-clause-takes : goal.constant_fields-returns-in_err-first-clause-takes
 constant_fields-returns-in_err-first-clause-takes t c =
-    fails_before _ c.from_residual.ensures (commas_start constant_fields_listed) c.in_err-first.ensures.takes
-    (commas_apart _ constant_fields_listed Any tt)
+    fails_before _ c.from_residual.ensures (commas_start some_constant_field) c.in_err-first.ensures.takes
+    (commas_apart some_constant_field Any tt)
 
 pub constant_fields-returns-in_err-sign-clause-takes : goal.constant_fields-returns-in_err-sign-clause-takes
 constant_fields-returns-in_err-sign-clause-takes t c =
     fails _ c.from_residual-in_err-sign.ensures
-    (commas_at constant_fields_listed (c.is_at_sign.ensures.0 c.more-test.true) c.more.invariant.1) c.in_err-sign.ensures.takes
+    (commas_at some_constant_field (c.is_at_sign.ensures.0 c.more-test.true) c.more.invariant.1) c.in_err-sign.ensures.takes
 
 pub constant_fields-returns-in_err-next-clause-takes : goal.constant_fields-returns-in_err-next-clause-takes
 constant_fields-returns-in_err-next-clause-takes t c =
-    let comma = commas_at constant_fields_listed (c.is_at_sign.ensures.0 c.more-test.true) c.more.invariant.1 past c.in_ok-sign.ensures.takes in
-    fails_before _ c.from_residual-in_err-next.ensures comma c.in_err-next.ensures.takes (commas_apart _ constant_fields_listed Any tt)
+    let comma = commas_at some_constant_field (c.is_at_sign.ensures.0 c.more-test.true) c.more.invariant.1 past c.in_ok-sign.ensures.takes in
+    fails_before _ c.from_residual-in_err-next.ensures comma c.in_err-next.ensures.takes (commas_apart some_constant_field Any tt)
 
 pub constant_fields-returns-clause-takes : goal.constant_fields-returns-clause-takes
 constant_fields-returns-clause-takes t c =
-    finish _ (commas_end constant_fields_listed (not_so c.is_at_sign.ensures c.more-test.false) c.more.invariant.1)
+    finish _ (commas_end some_constant_field (not_so c.is_at_sign.ensures c.more-test.false) c.more.invariant.1)
 
 pub constants-returns-in_err-first-clause-takes : goal.constants-returns-in_err-first-clause-takes
 constants-returns-in_err-first-clause-takes t c =
-    fails_before _ c.from_residual.ensures (commas_start constants_listed) c.in_err-first.ensures.takes
-    (commas_apart _ constants_listed Any tt)
+    fails_before _ c.from_residual.ensures (commas_start some_constant) c.in_err-first.ensures.takes
+    (commas_apart some_constant Any tt)
 
 pub constants-returns-in_err-sign-clause-takes : goal.constants-returns-in_err-sign-clause-takes
 constants-returns-in_err-sign-clause-takes t c =
     fails _ c.from_residual-in_err-sign.ensures
-    (commas_at constants_listed (c.is_at_sign.ensures.0 c.more-test.true) c.more.invariant.1) c.in_err-sign.ensures.takes
+    (commas_at some_constant (c.is_at_sign.ensures.0 c.more-test.true) c.more.invariant.1) c.in_err-sign.ensures.takes
 
 pub constants-returns-in_err-next-clause-takes : goal.constants-returns-in_err-next-clause-takes
 constants-returns-in_err-next-clause-takes t c =
-    let comma = commas_at constants_listed (c.is_at_sign.ensures.0 c.more-test.true) c.more.invariant.1 past c.in_ok-sign.ensures.takes in
-    fails_before _ c.from_residual-in_err-next.ensures comma c.in_err-next.ensures.takes (commas_apart _ constants_listed Any tt)
+    let comma = commas_at some_constant (c.is_at_sign.ensures.0 c.more-test.true) c.more.invariant.1 past c.in_ok-sign.ensures.takes in
+    fails_before _ c.from_residual-in_err-next.ensures comma c.in_err-next.ensures.takes (commas_apart some_constant Any tt)
 
 pub constants-returns-clause-takes : goal.constants-returns-clause-takes
 constants-returns-clause-takes t c =
-    finish _ (commas_end constants_listed (not_so c.is_at_sign.ensures c.more-test.false) c.more.invariant.1)
+    finish _ (commas_end some_constant (not_so c.is_at_sign.ensures c.more-test.false) c.more.invariant.1)
 
 pub named_constant-returns-in_err-of-clause-takes : goal.named_constant-returns-in_err-of-clause-takes
 named_constant-returns-in_err-of-clause-takes t c = fails _ c.from_residual.ensures named_constant_start c.in_err-of.ensures.takes

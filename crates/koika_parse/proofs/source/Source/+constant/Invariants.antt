@@ -6,7 +6,7 @@ use Rattle.koika_syntax.specs.declared.symbol.Symbol.TheVariants as symbols
 use Rattle.koika_parse.specs.inner.Reading.{tokens_left}
 use Rattle.koika_parse.specs.inner.Parts.{IsConstantField}
 use Rattle.koika_parse.proofs.Lists.{Joined}
-use Rattle.koika_parse.specs.inner.Expected.{Any, InVector}
+use Rattle.koika_parse.specs.inner.Expected.{Any}
 use Rattle.koika_parse.proofs.Commas.{CommasGo}
 use Rattle.koika_parse.proofs.source.Source.+constant.Given as goal
 
@@ -30,16 +30,16 @@ decreases-named_constant l = tokens_left l.self.now l.cursor.now * 4
 
 abbrev pub invariant-constant_fields-more : goal.invariant-constant_fields-more
 invariant-constant_fields-more l =
-    Joined l.self l.fn.cursor l.cursor (sign symbols.Comma) constant_field_leaves IsConstantField l.all.items
-    × CommasGo l.self l.fn.cursor l.cursor Any InVector IsConstantField constant_field_leaves
+    Joined l.self l.fn.cursor l.cursor (sign symbols.Comma) constant_field_leaves IsConstantField l.all
+    × CommasGo l.self l.fn.cursor l.cursor Any IsConstantField constant_field_leaves
 
 abbrev pub decreases-constant_fields-more : goal.decreases-constant_fields-more
 decreases-constant_fields-more l = tokens_left l.self l.cursor
 
 abbrev pub invariant-constants-more : goal.invariant-constants-more
 invariant-constants-more l =
-    Joined l.self l.fn.cursor l.cursor (sign symbols.Comma) constant_leaves IsConstant l.all.items
-    × CommasGo l.self l.fn.cursor l.cursor Any InVector IsConstant constant_leaves
+    Joined l.self l.fn.cursor l.cursor (sign symbols.Comma) constant_leaves IsConstant l.all
+    × CommasGo l.self l.fn.cursor l.cursor Any IsConstant constant_leaves
 
 abbrev pub decreases-constants-more : goal.decreases-constants-more
 decreases-constants-more l = tokens_left l.self l.cursor

@@ -3,7 +3,7 @@ use Rattle.koika_syntax.specs.Tree.{Leaf, symbol, commas, with_between, keyword,
 use Rattle.koika_syntax.specs.declared.keyword.Keyword.{Keyword}
 use Rattle.koika_parse.specs.declared.cursor.Cursor.{Cursor}
 use Rattle.koika_parse.specs.declared.source.Source.{Source}
-use Rattle.koika_parse.specs.declared.stop.Stop.{Stop}
+use Rattle.koika_parse.specs.inner.Stops.{Stop}
 use Rattle.koika_parse.specs.inner.Reading.{kind_at}
 use Rattle.koika_parse.specs.inner.Expected.{NoComma, One, Then, Any, Takes, first}
 use Rattle.koika_parse.specs.inner.ExpressionWords.{KeywordWord, brace_follows, parenthesis_follows, Free, LevelWord}
@@ -12,8 +12,8 @@ use Rattle.koika_parse.proofs.Expected.{fails_last, fails_last_as, finish, free_
 use Rattle.koika_parse.proofs.Expected.{takes_word, never_none, same_of_some, some_one}
 use Rattle.koika_parse.proofs.PrimaryWords.{keyword_at, arguments_at, arguments_end, named_call, named_colons}
 use Rattle.koika_parse.proofs.PrimaryWords.{named_end, named_start, parenthesis_free, primary_none, FieldValuesTail}
-use Rattle.koika_parse.proofs.PrimaryWords.{array_start, block_primary_start, compare_start, expressions_listed}
-use Rattle.koika_parse.proofs.PrimaryWords.{extend_start, field_values_listed, keyword_refused, literal_at, named_at}
+use Rattle.koika_parse.proofs.PrimaryWords.{array_start, block_primary_start, compare_start}
+use Rattle.koika_parse.proofs.PrimaryWords.{extend_start, some_field_value, keyword_refused, literal_at, named_at}
 use Rattle.koika_parse.proofs.PrimaryWords.{other_keyword, pack_start, parentheses_start, some_array, some_compare}
 use Rattle.koika_parse.proofs.PrimaryWords.{some_extend, some_field_values_tail, some_pack, some_parentheses, some_read}
 use Rattle.koika_parse.proofs.PrimaryWords.{some_unpack, some_update, some_write, symbol_at, symbol_refused}
@@ -22,7 +22,7 @@ use Rattle.koika_parse.proofs.MadeExpressions.{abort_primary, array_primary, blo
 use Rattle.koika_parse.proofs.MadeExpressions.{extend_primary, pack_primary, parentheses_primary, read_primary}
 use Rattle.koika_parse.proofs.MadeExpressions.{unpack_primary, update_primary, write_primary}
 use Rattle.koika_parse.proofs.ExpressionWords.{PrimaryWord}
-use Rattle.koika_parse.proofs.Witnesses.{some_block}
+use Rattle.koika_parse.proofs.Witnesses.{some_block, some_expression}
 use Rattle.koika_syntax.specs.declared.token.TokenKind.TheVariants as kinds
 use Rattle.koika_syntax.specs.Grammar.{level}
 use Rattle.koika_syntax.specs.inner.Grammar.{IsExpression, expression_leaves, field_value_leaves, operand_leaves}
@@ -47,13 +47,11 @@ use Rattle.koika_parse.proofs.Calls.{leaves_block, leaves_unary, leaves_postfix,
 use Rattle.koika_parse.proofs.BlockWords.{after_apart, after_at, after_end, arm_start, before_block, block_start}
 use Rattle.koika_parse.proofs.BlockWords.{conditional_start, else_arm, else_at, else_block, else_end, expression_chain}
 use Rattle.koika_parse.proofs.BlockWords.{expression_if, expression_start, field_value_start, inside_end}
-use Rattle.koika_parse.proofs.BlockWords.{inside_expression, inside_let, inside_start, let_start, after_next, else_go}
-use Rattle.koika_parse.proofs.BlockWords.{else_next, inside_let_next}
+use Rattle.koika_parse.proofs.BlockWords.{inside_expression, inside_let, inside_start, let_start}
 use Rattle.koika_parse.proofs.Rows.{brace_not_name, name_not_brace}
 use Rattle.koika_parse.proofs.ChainWords.{chain_start, free_more, operand_start, operands_apart, operands_at}
 use Rattle.koika_parse.proofs.ChainWords.{operands_end, operands_start, postfix_start, prefixes_apart, suffixes_apart}
-use Rattle.koika_parse.proofs.ChainWords.{suffixes_at, suffixes_end, unary_at, unary_end, chain_go, operands_first_go}
-use Rattle.koika_parse.proofs.ChainWords.{operands_next}
+use Rattle.koika_parse.proofs.ChainWords.{suffixes_at, suffixes_end, unary_at, unary_end, chain_go}
 use Rattle.koika_parse.proofs.Commas.{commas_apart, commas_at, commas_end, commas_start, commas_first, commas_next}
 use Rattle.koika_syntax.specs.declared.keyword.Keyword.TheVariants as keywords
 use Rattle.koika_syntax.specs.declared.symbol.Symbol.TheVariants as symbols
@@ -96,10 +94,10 @@ begun_by {k = k} at same some within takes =
 
 pub boxed-returns-clause-read : goal.boxed-returns-clause-read
 boxed-returns-clause-read t c =
-    in_place_of expression_leaves c.in_ok-boxed.boxed.value c.in_ok-boxed.ensures.ok c.in_ok-inside.ensures.read
+    in_place_of expression_leaves c.in_ok-boxed.boxed c.in_ok-boxed.ensures c.in_ok-inside.ensures.read
 
 pub boxed-returns-clause-is : goal.boxed-returns-clause-is
-boxed-returns-clause-is t c = subst IsExpression (sym c.in_ok-boxed.ensures.ok) c.in_ok-inside.ensures.is
+boxed-returns-clause-is t c = subst IsExpression (sym c.in_ok-boxed.ensures) c.in_ok-inside.ensures.is
 
 pub array-returns-clause-read : goal.array-returns-clause-read
 array-returns-clause-read t c = as_leaves _ (array_expression _ _)
@@ -243,32 +241,32 @@ named-returns-then-is_at_sign-2-clause-level t c = level_struct _ _ _
 
 pub values-more-init : goal.values-more-init
 values-more-init t c = (
-  joined_start _ _ _ (sign symbols.Comma) expression_leaves IsExpression c.in_ok-first.first _ c.push.new.self.items
-      c.in_ok-first.ensures.read c.in_ok-first.ensures.is c.new-all.ensures.items c.in_ok-push.ensures.items,
-  commas_first expressions_listed c.in_ok-first.ensures.takes tt,
+  joined_start _ _ _ (sign symbols.Comma) expression_leaves IsExpression c.in_ok-first.first _ c.push.new.self
+      c.in_ok-first.ensures.read c.in_ok-first.ensures.is c.new-all.ensures c.in_ok-push.ensures.ok,
+  commas_first some_expression c.in_ok-first.ensures.takes tt,
 )
 
 pub values-more-preserved : goal.values-more-preserved
 values-more-preserved t c = (
-  joined_again c.in_ok-next.next c.push-in-more.new.self.items c.more.invariant.0 c.in_ok-sign.ensures.read
-      c.in_ok-next.ensures.read c.in_ok-next.ensures.is c.in_ok-push-2.ensures.items,
-  commas_next expressions_listed (c.is_at_sign.ensures.0 c.more-test.true) c.more.invariant.1 c.in_ok-sign.ensures.read
+  joined_again c.in_ok-next.next c.push-in-more.new.self c.more.invariant.0 c.in_ok-sign.ensures.read
+      c.in_ok-next.ensures.read c.in_ok-next.ensures.is c.in_ok-push-2.ensures.ok,
+  commas_next some_expression (c.is_at_sign.ensures.0 c.more-test.true) c.more.invariant.1
       c.in_ok-sign.ensures.takes c.in_ok-next.ensures.takes tt,
 )
 
 pub field_values-more-init : goal.field_values-more-init
 field_values-more-init t c = (
-  joined_start _ _ _ (sign symbols.Comma) field_value_leaves IsFieldValue c.in_ok-first.first _ c.push.new.self.items
-      c.in_ok-first.ensures.read c.in_ok-first.ensures.is c.new-all.ensures.items c.in_ok-push.ensures.items,
-  commas_first field_values_listed c.in_ok-first.ensures.takes tt,
+  joined_start _ _ _ (sign symbols.Comma) field_value_leaves IsFieldValue c.in_ok-first.first _ c.push.new.self
+      c.in_ok-first.ensures.read c.in_ok-first.ensures.is c.new-all.ensures c.in_ok-push.ensures.ok,
+  commas_first some_field_value c.in_ok-first.ensures.takes tt,
 )
 
 pub field_values-more-preserved : goal.field_values-more-preserved
 field_values-more-preserved t c = (
-  joined_again c.in_ok-next.next c.push-in-more.new.self.items c.more.invariant.0 c.in_ok-sign.ensures.read
-      c.in_ok-next.ensures.read c.in_ok-next.ensures.is c.in_ok-push-2.ensures.items,
-  commas_next field_values_listed (c.is_at_sign.ensures.0 c.more-test.true) c.more.invariant.1
-      c.in_ok-sign.ensures.read c.in_ok-sign.ensures.takes c.in_ok-next.ensures.takes tt,
+  joined_again c.in_ok-next.next c.push-in-more.new.self c.more.invariant.0 c.in_ok-sign.ensures.read
+      c.in_ok-next.ensures.read c.in_ok-next.ensures.is c.in_ok-push-2.ensures.ok,
+  commas_next some_field_value (c.is_at_sign.ensures.0 c.more-test.true) c.more.invariant.1
+      c.in_ok-sign.ensures.takes c.in_ok-next.ensures.takes tt,
 )
 
 pub field_value-returns-clause-read : goal.field_value-returns-clause-read
@@ -308,40 +306,40 @@ block-returns-clause-is t c = is_block _ _ _ c.in_ok-inside.ensures.statements c
 
 pub chain-returns-clause-read : goal.chain-returns-clause-read
 chain-returns-clause-read t c = as_leaves _ (chain_expression _ _)
-    (in_place_of expression_leaves c.in_ok-first.first.value c.in_ok-first.ensures.ok c.in_ok-inside.ensures.read
+    (in_place_of expression_leaves c.in_ok-first.first c.in_ok-first.ensures c.in_ok-inside.ensures.read
     then c.in_ok-rest.ensures.read)
 
 pub chain-returns-clause-is : goal.chain-returns-clause-is
 chain-returns-clause-is t c = is_chain_of c.args.loosest c.in_ok-first.first c.in_ok-rest.rest c.in_ok-rest.ensures.some
-    c.in_ok-rest.ensures.is (omega (arith, ap level c.in_ok-first.ensures.ok, c.in_ok-inside.ensures.level))
-    (subst IsExpression (sym c.in_ok-first.ensures.ok) c.in_ok-inside.ensures.is)
+    c.in_ok-rest.ensures.is (omega (arith, ap level c.in_ok-first.ensures, c.in_ok-inside.ensures.level))
+    (subst IsExpression (sym c.in_ok-first.ensures) c.in_ok-inside.ensures.is)
 
 pub chain-returns-clause-level : goal.chain-returns-clause-level
 chain-returns-clause-level t c = omega (
   arith,
   level_chain_of c.args.loosest c.in_ok-first.first c.in_ok-rest.rest
       c.in_ok-rest.ensures.some c.in_ok-rest.ensures.is
-      (omega (arith, ap level c.in_ok-first.ensures.ok, c.in_ok-inside.ensures.level)),
+      (omega (arith, ap level c.in_ok-first.ensures, c.in_ok-inside.ensures.level)),
 )
 
 pub operands-more-init : goal.operands-more-init
 operands-more-init t c = (
-  joined_start _ _ _ [] operand_leaves (IsOperandIn c.args.wanted) c.in_ok-first.first _ c.push.new.self.items
-      c.in_ok-first.ensures.read c.in_ok-first.ensures.is c.new-all.ensures.items c.in_ok-push.ensures.items,
-  operands_first_go c.args.wanted c.requires.low c.requires.high c.in_ok-first.ensures.takes,
+  joined_start _ _ _ [] operand_leaves (IsOperandIn c.args.wanted) c.in_ok-first.first _ c.push.new.self
+      c.in_ok-first.ensures.read c.in_ok-first.ensures.is c.new-all.ensures c.in_ok-push.ensures.ok,
+  operands_start c.args.wanted c.requires.low c.requires.high past c.in_ok-first.ensures.takes by operands_apart c.args.wanted,
 )
 
 pub operands-more-preserved : goal.operands-more-preserved
 operands-more-preserved t c = (
-  joined_again c.in_ok-next.next c.push-in-more.new.self.items c.more.invariant.0 (nothing _ _ _ refl)
-      c.in_ok-next.ensures.read c.in_ok-next.ensures.is c.in_ok-push-2.ensures.items,
-  operands_next c.args.wanted c.requires.low c.requires.high (c.is_at_operator.ensures.0 c.more-test.true)
-      c.more.invariant.1 c.in_ok-next.ensures.takes c.in_ok-next.ensures.some,
+  joined_again c.in_ok-next.next c.push-in-more.new.self c.more.invariant.0 (nothing _ _ _ refl)
+      c.in_ok-next.ensures.read c.in_ok-next.ensures.is c.in_ok-push-2.ensures.ok,
+  operands_at c.args.wanted c.requires.low c.requires.high (c.is_at_operator.ensures.0 c.more-test.true) c.more.invariant.1
+      past c.in_ok-next.ensures.takes by operands_apart c.args.wanted,
 )
 
 pub operands-returns-clause-read : goal.operands-returns-clause-read
 operands-returns-clause-read t c =
-    as_leaves _ (parts_after_another operand_leaves c.more.all.items) c.more.invariant.0.read
+    as_leaves _ (parts_after_another operand_leaves c.more.all) c.more.invariant.0.read
 
 pub operand-returns-clause-read : goal.operand-returns-clause-read
 operand-returns-clause-read t c =
@@ -360,26 +358,26 @@ operand-returns-clause-some t c = shorter (c.in_ok-operator.ensures.read then c.
 pub unary-returns-clause-read : goal.unary-returns-clause-read
 unary-returns-clause-read t c = as_leaves _ (leaves_unary _ _)
     (c.in_ok-prefixes.ensures.read
-    then in_place_of expression_leaves c.in_ok-operand.operand.value c.in_ok-operand.ensures.ok
+    then in_place_of expression_leaves c.in_ok-operand.operand c.in_ok-operand.ensures
     c.in_ok-inside.ensures.read)
 
 pub unary-returns-clause-is : goal.unary-returns-clause-is
 unary-returns-clause-is t c = is_unary _ _
-    (subst IsExpression (sym c.in_ok-operand.ensures.ok) c.in_ok-inside.ensures.is)
-    (c.in_ok-prefixes.ensures.some, omega (arith, ap level c.in_ok-operand.ensures.ok, c.in_ok-inside.ensures.level))
+    (subst IsExpression (sym c.in_ok-operand.ensures) c.in_ok-inside.ensures.is)
+    (c.in_ok-prefixes.ensures.some, omega (arith, ap level c.in_ok-operand.ensures, c.in_ok-inside.ensures.level))
 
 pub unary-returns-clause-level : goal.unary-returns-clause-level
 unary-returns-clause-level t c = omega (arith, level_unary c.in_ok-prefixes.prefixes c.in_ok-operand.operand)
 
 pub postfix-returns-clause-read : goal.postfix-returns-clause-read
 postfix-returns-clause-read t c = as_leaves _ (leaves_postfix _ _)
-    (in_place_of expression_leaves c.in_ok-primary.primary.value c.in_ok-primary.ensures.ok c.in_ok-inside.ensures.read
+    (in_place_of expression_leaves c.in_ok-primary.primary c.in_ok-primary.ensures c.in_ok-inside.ensures.read
     then c.in_ok-suffixes.ensures.read)
 
 pub postfix-returns-clause-is : goal.postfix-returns-clause-is
 postfix-returns-clause-is t c = is_postfix _ _
-    (subst IsExpression (sym c.in_ok-primary.ensures.ok) c.in_ok-inside.ensures.is) (
-      omega (arith, ap level c.in_ok-primary.ensures.ok, c.in_ok-inside.ensures.level),
+    (subst IsExpression (sym c.in_ok-primary.ensures) c.in_ok-inside.ensures.is) (
+      omega (arith, ap level c.in_ok-primary.ensures, c.in_ok-inside.ensures.level),
       c.in_ok-suffixes.ensures.some,
       c.in_ok-suffixes.ensures.is,
     )
@@ -389,17 +387,17 @@ postfix-returns-clause-level t c = omega (arith, level_postfix c.in_ok-primary.p
 
 pub conditional-more-init : goal.conditional-more-init
 conditional-more-init t c = (
-  joined_start _ _ _ (word keywords.Else) arm_leaves IsArm c.in_ok-first.first _ c.push.new.self.items
-      c.in_ok-first.ensures.read c.in_ok-first.ensures.is c.new-arms.ensures.items c.in_ok-push.ensures.items,
-  else_go c.in_ok-first.ensures.takes,
+  joined_start _ _ _ (word keywords.Else) arm_leaves IsArm c.in_ok-first.first _ c.push.new.self
+      c.in_ok-first.ensures.read c.in_ok-first.ensures.is c.new-arms.ensures c.in_ok-push.ensures.ok,
+  conditional_start past c.in_ok-first.ensures.takes,
 )
 
 pub conditional-more-preserved : goal.conditional-more-preserved
 conditional-more-preserved t c = (
-  joined_again c.in_ok-next.next c.push-in-more.new.self.items c.more.invariant.0 c.in_ok-word.ensures.read
-      c.in_ok-next.ensures.read c.in_ok-next.ensures.is c.in_ok-push-2.ensures.items,
-  else_next (c.is_at_word.ensures.0 c.more-test.true) c.more.invariant.1 c.in_ok-word.ensures.read
-      c.in_ok-word.ensures.takes (c.is_at_word-in-more.ensures.0 c.if-not-is_at_word.false) c.in_ok-next.ensures.takes,
+  joined_again c.in_ok-next.next c.push-in-more.new.self c.more.invariant.0 c.in_ok-word.ensures.read
+      c.in_ok-next.ensures.read c.in_ok-next.ensures.is c.in_ok-push-2.ensures.ok,
+  else_at (c.is_at_word.ensures.0 c.more-test.true) c.more.invariant.1 past c.in_ok-word.ensures.takes
+      so else_arm (c.is_at_word-in-more.ensures.0 c.if-not-is_at_word.false) past c.in_ok-next.ensures.takes,
 )
 
 pub conditional-returns-clause-read : goal.conditional-returns-clause-read
@@ -412,16 +410,16 @@ conditional-returns-clause-is t c = is_if _ None c.more.invariant.0.is tt c.more
 pub arguments-returns-then-is_at_sign-clause-read : goal.arguments-returns-then-is_at_sign-clause-read
 unfolding with_between
 arguments-returns-then-is_at_sign-clause-read t c = as_leaves _
-    (ap (λ xs. commas (map expression_leaves xs)) c.new-none.ensures.items)
+    (ap (λ xs. commas (map expression_leaves xs)) c.new-none.ensures)
     (nothing c.args.self.now c.args.cursor.now c.args.cursor.now refl)
 
 pub arguments-returns-then-is_at_sign-clause-is : goal.arguments-returns-then-is_at_sign-clause-is
 arguments-returns-then-is_at_sign-clause-is t c =
-    subst (λ xs. All IsExpression xs) (sym c.new-none.ensures.items) (All-nil IsExpression)
+    subst (λ xs. All IsExpression xs) (sym c.new-none.ensures) (All-nil IsExpression)
 
 pub inside-returns-clause-read : goal.inside-returns-clause-read
 inside-returns-clause-read t c =
-    as_leaves _ (append-nil _ ∙ sym (all_of_map statement_leaves c.more.statements.items)) c.more.invariant.0.read
+    as_leaves _ (append-nil _ ∙ sym (all_of_map statement_leaves c.more.statements)) c.more.invariant.0.read
 
 pub conditional-returns-then-not-is_at_word-clause-read : goal.conditional-returns-then-not-is_at_word-clause-read
 conditional-returns-then-not-is_at_word-clause-read t c = as_leaves _ (if_expression _ (Some c.in_ok-last.last))
@@ -433,32 +431,31 @@ conditional-returns-then-not-is_at_word-clause-is t c =
 
 pub inside-more-preserved-then-is_at_word : goal.inside-more-preserved-then-is_at_word
 inside-more-preserved-then-is_at_word t c = (
-  row_again c.in_ok-next.next c.push.new.self.items c.more.invariant.0 c.in_ok-next.ensures.read
-      c.in_ok-next.ensures.is c.in_ok-push.ensures.items,
-  inside_let_next (not_so c.is_at_sign.ensures c.more-test.true) (c.is_at_word.ensures.0 c.if-is_at_word.true)
-      c.more.invariant.1 c.in_ok-next.ensures.takes c.in_ok-next.ensures.some,
+  row_again c.in_ok-next.next c.push.new.self c.more.invariant.0 c.in_ok-next.ensures.read
+      c.in_ok-next.ensures.is c.in_ok-push.ensures.ok,
+  inside_let (not_so c.is_at_sign.ensures c.more-test.true) (c.is_at_word.ensures.0 c.if-is_at_word.true)
+      c.more.invariant.1 past c.in_ok-next.ensures.takes,
 )
 
 pub inside-more-preserved : goal.inside-more-preserved
 inside-more-preserved t c = (
-  row_again (views.made-Do c.in_ok-found.found) c.push-in-more.new.self.items c.more.invariant.0
+  row_again (views.made-Do c.in_ok-found.found) c.push-in-more.new.self c.more.invariant.0
       (as_leaves _ (leaves_do _) (c.in_ok-found.ensures.read then c.in_ok-sign.ensures.read))
-      (is_do _ c.in_ok-found.ensures.is) c.in_ok-push-2.ensures.items,
-  after_next c.more.invariant.1 c.in_ok-found.ensures.takes.forward
-      (c.is_at_sign-in-more.ensures.0 c.if-not-is_at_sign.false)
-      (inside_expression (not_so c.is_at_sign.ensures c.more-test.true)
+      (is_do _ c.in_ok-found.ensures.is) c.in_ok-push-2.ensures.ok,
+  inside_expression (not_so c.is_at_sign.ensures c.more-test.true)
       (not_so c.is_at_word.ensures c.if-is_at_word.false) c.more.invariant.1
-      past c.in_ok-found.ensures.takes by after_apart _) c.in_ok-sign.ensures.read c.in_ok-sign.ensures.takes,
+      past c.in_ok-found.ensures.takes by after_apart
+      so after_at (c.is_at_sign-in-more.ensures.0 c.if-not-is_at_sign.false) past c.in_ok-sign.ensures.takes,
 )
 
 pub inside-returns-then-not-is_at_sign-clause-read : goal.inside-returns-then-not-is_at_sign-clause-read
 inside-returns-then-not-is_at_sign-clause-read t c =
-    as_leaves _ (sym (all_of_map statement_leaves c.more.statements.items)) c.more.invariant.0.read
-    then in_place_of expression_leaves c.in_ok-last.last.value c.in_ok-last.ensures.ok c.in_ok-found.ensures.read
+    as_leaves _ (sym (all_of_map statement_leaves c.more.statements)) c.more.invariant.0.read
+    then in_place_of expression_leaves c.in_ok-last.last c.in_ok-last.ensures c.in_ok-found.ensures.read
 
 pub inside-more-init : goal.inside-more-init
 inside-more-init t c = (
-  row_start _ _ _ statement_leaves IsStatement _ refl c.new-statements.ensures.items,
+  row_start _ _ _ statement_leaves IsStatement _ refl c.new-statements.ensures,
   inside_start,
 )
 
@@ -833,7 +830,7 @@ chain-returns-then-loosest-gt-TIGHTEST-clause-takes t c = subst
 pub chain-returns-in_err-inside-clause-takes : goal.chain-returns-in_err-inside-clause-takes
 chain-returns-in_err-inside-clause-takes t c = fails_before _ c.from_residual.ensures
     (chain_start c.args.loosest c.requires.low (omega arith)) c.in_err-inside.ensures.takes
-    (operands_apart 0 c.args.loosest)
+    (operands_apart c.args.loosest)
 
 pub chain-returns-then-not-is_at_operator-clause-takes : goal.chain-returns-then-not-is_at_operator-clause-takes
 chain-returns-then-not-is_at_operator-clause-takes t c = finish _
@@ -855,12 +852,12 @@ chain-returns-clause-takes t c = last _
 pub operands-returns-in_err-first-clause-takes : goal.operands-returns-in_err-first-clause-takes
 operands-returns-in_err-first-clause-takes t c = fails_before _ c.from_residual.ensures
     (operands_start c.args.wanted c.requires.low c.requires.high) c.in_err-first.ensures.takes
-    (operands_apart _ c.args.wanted)
+    (operands_apart c.args.wanted)
 
 pub operands-returns-in_err-next-clause-takes : goal.operands-returns-in_err-next-clause-takes
 operands-returns-in_err-next-clause-takes t c = fails_before _ c.from_residual-in_err-next.ensures
     (operands_at c.args.wanted c.requires.low c.requires.high (c.is_at_operator.ensures.0 c.more-test.true)
-    c.more.invariant.1) c.in_err-next.ensures.takes (operands_apart _ c.args.wanted)
+    c.more.invariant.1) c.in_err-next.ensures.takes (operands_apart c.args.wanted)
 
 pub operands-returns-clause-takes : goal.operands-returns-clause-takes
 operands-returns-clause-takes t c =
@@ -877,20 +874,19 @@ conditional-returns-in_err-word-clause-takes t c = fails _ c.from_residual-in_er
 pub conditional-returns-in_err-last-clause-takes : goal.conditional-returns-in_err-last-clause-takes
 conditional-returns-in_err-last-clause-takes t c = fails_last _ c.from_residual-in_err-last.ensures
     (else_at (c.is_at_word.ensures.0 c.more-test.true) c.more.invariant.1 past c.in_ok-word.ensures.takes
-    so else_block c.more.invariant.1 (not_so c.is_at_word-in-more.ensures c.if-not-is_at_word.true))
+    so else_block (not_so c.is_at_word-in-more.ensures c.if-not-is_at_word.true))
     c.in_err-last.ensures.takes
 
 pub conditional-returns-then-not-is_at_word-clause-takes : goal.conditional-returns-then-not-is_at_word-clause-takes
 conditional-returns-then-not-is_at_word-clause-takes t c = last_part _
     (else_at (c.is_at_word.ensures.0 c.more-test.true) c.more.invariant.1 past c.in_ok-word.ensures.takes
-    so else_block c.more.invariant.1 (not_so c.is_at_word-in-more.ensures c.if-not-is_at_word.true))
+    so else_block (not_so c.is_at_word-in-more.ensures c.if-not-is_at_word.true))
     c.in_ok-last.ensures.takes
 
 pub conditional-returns-in_err-next-clause-takes : goal.conditional-returns-in_err-next-clause-takes
 conditional-returns-in_err-next-clause-takes t c = fails _ c.from_residual-in_err-next.ensures
     (else_at (c.is_at_word.ensures.0 c.more-test.true) c.more.invariant.1 past c.in_ok-word.ensures.takes
-    so else_arm (c.is_at_word.ensures.0 c.more-test.true) c.more.invariant.1
-    (c.is_at_word-in-more.ensures.0 c.if-not-is_at_word.false)) c.in_err-next.ensures.takes
+    so else_arm (c.is_at_word-in-more.ensures.0 c.if-not-is_at_word.false)) c.in_err-next.ensures.takes
 
 pub conditional-returns-clause-takes : goal.conditional-returns-clause-takes
 conditional-returns-clause-takes t c =
@@ -904,22 +900,21 @@ inside-returns-in_err-next-clause-takes t c = fails _ c.from_residual.ensures
 pub inside-returns-in_err-found-clause-takes : goal.inside-returns-in_err-found-clause-takes
 inside-returns-in_err-found-clause-takes t c = fails_before _ c.from_residual-in_err-found.ensures
     (inside_expression (not_so c.is_at_sign.ensures c.more-test.true)
-    (not_so c.is_at_word.ensures c.if-is_at_word.false) c.more.invariant.1) c.in_err-found.ensures.takes (after_apart _)
+    (not_so c.is_at_word.ensures c.if-is_at_word.false) c.more.invariant.1) c.in_err-found.ensures.takes after_apart
 
 pub inside-returns-then-not-is_at_sign-clause-takes : goal.inside-returns-then-not-is_at_sign-clause-takes
 inside-returns-then-not-is_at_sign-clause-takes t c = finish _
     (inside_expression (not_so c.is_at_sign.ensures c.more-test.true)
     (not_so c.is_at_word.ensures c.if-is_at_word.false) c.more.invariant.1
-    past c.in_ok-found.ensures.takes by after_apart _
-    so after_end c.more.invariant.1 (not_so c.is_at_sign-in-more.ensures c.if-not-is_at_sign.true))
+    past c.in_ok-found.ensures.takes by after_apart
+    so after_end (not_so c.is_at_sign-in-more.ensures c.if-not-is_at_sign.true))
 
 pub inside-returns-in_err-sign-clause-takes : goal.inside-returns-in_err-sign-clause-takes
 inside-returns-in_err-sign-clause-takes t c = fails _ c.from_residual-in_err-sign.ensures
     (inside_expression (not_so c.is_at_sign.ensures c.more-test.true)
     (not_so c.is_at_word.ensures c.if-is_at_word.false) c.more.invariant.1
-    past c.in_ok-found.ensures.takes by after_apart _
-    so after_at c.more.invariant.1 c.in_ok-found.ensures.takes.forward
-    (c.is_at_sign-in-more.ensures.0 c.if-not-is_at_sign.false)) c.in_err-sign.ensures.takes
+    past c.in_ok-found.ensures.takes by after_apart
+    so after_at (c.is_at_sign-in-more.ensures.0 c.if-not-is_at_sign.false)) c.in_err-sign.ensures.takes
 
 pub inside-returns-clause-takes : goal.inside-returns-clause-takes
 inside-returns-clause-takes t c = finish _ (inside_end (c.is_at_sign.ensures.0 c.more-test.false) c.more.invariant.1)
@@ -1079,40 +1074,40 @@ arguments-returns-clause-takes t c = tail c.values.result
     (λ v behind. parenthesis_free (first v) behind)
 
 pub values-returns-in_err-first-clause-takes : goal.values-returns-in_err-first-clause-takes
-values-returns-in_err-first-clause-takes t c = fails_before _ c.from_residual.ensures (commas_start expressions_listed)
-    c.in_err-first.ensures.takes (commas_apart _ expressions_listed (Free 0) tt)
+values-returns-in_err-first-clause-takes t c = fails_before _ c.from_residual.ensures (commas_start some_expression)
+    c.in_err-first.ensures.takes (commas_apart some_expression (Free 0) tt)
 
 pub values-returns-in_err-sign-clause-takes : goal.values-returns-in_err-sign-clause-takes
 values-returns-in_err-sign-clause-takes t c = fails _ c.from_residual-in_err-sign.ensures
-    (commas_at expressions_listed (c.is_at_sign.ensures.0 c.more-test.true) c.more.invariant.1)
+    (commas_at some_expression (c.is_at_sign.ensures.0 c.more-test.true) c.more.invariant.1)
     c.in_err-sign.ensures.takes
 
 pub values-returns-in_err-next-clause-takes : goal.values-returns-in_err-next-clause-takes
 values-returns-in_err-next-clause-takes t c = fails_before _ c.from_residual-in_err-next.ensures
-    (commas_at expressions_listed (c.is_at_sign.ensures.0 c.more-test.true) c.more.invariant.1
-    past c.in_ok-sign.ensures.takes) c.in_err-next.ensures.takes (commas_apart _ expressions_listed (Free 0) tt)
+    (commas_at some_expression (c.is_at_sign.ensures.0 c.more-test.true) c.more.invariant.1
+    past c.in_ok-sign.ensures.takes) c.in_err-next.ensures.takes (commas_apart some_expression (Free 0) tt)
 
 pub values-returns-clause-takes : goal.values-returns-clause-takes
 values-returns-clause-takes t c =
-    finish _ (commas_end expressions_listed (not_so c.is_at_sign.ensures c.more-test.false) c.more.invariant.1)
+    finish _ (commas_end some_expression (not_so c.is_at_sign.ensures c.more-test.false) c.more.invariant.1)
 
 pub field_values-returns-in_err-first-clause-takes : goal.field_values-returns-in_err-first-clause-takes
 field_values-returns-in_err-first-clause-takes t c = fails_before _ c.from_residual.ensures
-    (commas_start field_values_listed) c.in_err-first.ensures.takes (commas_apart _ field_values_listed (Free 0) tt)
+    (commas_start some_field_value) c.in_err-first.ensures.takes (commas_apart some_field_value (Free 0) tt)
 
 pub field_values-returns-in_err-sign-clause-takes : goal.field_values-returns-in_err-sign-clause-takes
 field_values-returns-in_err-sign-clause-takes t c = fails _ c.from_residual-in_err-sign.ensures
-    (commas_at field_values_listed (c.is_at_sign.ensures.0 c.more-test.true) c.more.invariant.1)
+    (commas_at some_field_value (c.is_at_sign.ensures.0 c.more-test.true) c.more.invariant.1)
     c.in_err-sign.ensures.takes
 
 pub field_values-returns-in_err-next-clause-takes : goal.field_values-returns-in_err-next-clause-takes
 field_values-returns-in_err-next-clause-takes t c = fails_before _ c.from_residual-in_err-next.ensures
-    (commas_at field_values_listed (c.is_at_sign.ensures.0 c.more-test.true) c.more.invariant.1
-    past c.in_ok-sign.ensures.takes) c.in_err-next.ensures.takes (commas_apart _ field_values_listed (Free 0) tt)
+    (commas_at some_field_value (c.is_at_sign.ensures.0 c.more-test.true) c.more.invariant.1
+    past c.in_ok-sign.ensures.takes) c.in_err-next.ensures.takes (commas_apart some_field_value (Free 0) tt)
 
 pub field_values-returns-clause-takes : goal.field_values-returns-clause-takes
 field_values-returns-clause-takes t c =
-    finish _ (commas_end field_values_listed (not_so c.is_at_sign.ensures c.more-test.false) c.more.invariant.1)
+    finish _ (commas_end some_field_value (not_so c.is_at_sign.ensures c.more-test.false) c.more.invariant.1)
 
 pub bracketed-returns-in-LeftBracket-clause-takes : goal.bracketed-returns-in-LeftBracket-clause-takes
 bracketed-returns-in-LeftBracket-clause-takes t c = symbol_at symbols.LeftBracket some_array array_primary

@@ -7,7 +7,6 @@ use Rattle.koika_syntax.specs.Tree.{sign, word}
 use Rattle.koika_parse.specs.inner.Parts.{IsArm, IsFieldValue, IsOperandIn, IsStatement}
 use Rattle.koika_parse.specs.inner.Reading.{tokens_left}
 use Rattle.koika_parse.proofs.Lists.{Joined, Row}
-use Rattle.koika_parse.specs.inner.Expected.{InVector}
 use Rattle.koika_parse.specs.inner.ExpressionWords.{Free, SomeOperandsWord}
 use Rattle.koika_parse.proofs.Commas.{CommasGo}
 use Rattle.koika_syntax.specs.declared.keyword.Keyword.TheVariants as keywords
@@ -100,7 +99,7 @@ decreases-chain l = tokens_left l.self.now l.cursor.now * 32 + (25 - l.loosest)
 
 abbrev pub invariant-conditional-more : goal.invariant-conditional-more
 invariant-conditional-more l =
-    Joined l.self l.fn.cursor l.cursor (word keywords.Else) arm_leaves IsArm l.arms.items ×
+    Joined l.self l.fn.cursor l.cursor (word keywords.Else) arm_leaves IsArm l.arms ×
     ElseGo l.self l.fn.cursor l.cursor
 
 abbrev pub decreases-conditional-more : goal.decreases-conditional-more
@@ -108,7 +107,7 @@ decreases-conditional-more l = tokens_left l.self l.cursor
 
 abbrev pub invariant-inside-more : goal.invariant-inside-more
 invariant-inside-more l =
-    Row l.self l.fn.cursor l.cursor statement_leaves IsStatement l.statements.items ×
+    Row l.self l.fn.cursor l.cursor statement_leaves IsStatement l.statements ×
     InsideGo l.self l.fn.cursor l.cursor
 
 abbrev pub decreases-inside-more : goal.decreases-inside-more
@@ -116,7 +115,7 @@ decreases-inside-more l = tokens_left l.self l.cursor
 
 abbrev pub invariant-operands-more : goal.invariant-operands-more
 invariant-operands-more l =
-    Joined l.self l.fn.cursor l.cursor [] operand_leaves (IsOperandIn l.wanted) l.all.items ×
+    Joined l.self l.fn.cursor l.cursor [] operand_leaves (IsOperandIn l.wanted) l.all ×
     OperandsGo l.self l.fn.cursor l.cursor l.wanted (SomeOperandsWord l.wanted)
 
 abbrev pub decreases-operands-more : goal.decreases-operands-more
@@ -124,16 +123,16 @@ decreases-operands-more l = tokens_left l.self l.cursor
 
 abbrev pub invariant-values-more : goal.invariant-values-more
 invariant-values-more l =
-    Joined l.self l.fn.cursor l.cursor (sign symbols.Comma) expression_leaves IsExpression l.all.items ×
-    CommasGo l.self l.fn.cursor l.cursor (Free 0) InVector IsExpression expression_leaves
+    Joined l.self l.fn.cursor l.cursor (sign symbols.Comma) expression_leaves IsExpression l.all ×
+    CommasGo l.self l.fn.cursor l.cursor (Free 0) IsExpression expression_leaves
 
 abbrev pub decreases-values-more : goal.decreases-values-more
 decreases-values-more l = tokens_left l.self l.cursor
 
 abbrev pub invariant-field_values-more : goal.invariant-field_values-more
 invariant-field_values-more l =
-    Joined l.self l.fn.cursor l.cursor (sign symbols.Comma) field_value_leaves IsFieldValue l.all.items ×
-    CommasGo l.self l.fn.cursor l.cursor (Free 0) InVector IsFieldValue field_value_leaves
+    Joined l.self l.fn.cursor l.cursor (sign symbols.Comma) field_value_leaves IsFieldValue l.all ×
+    CommasGo l.self l.fn.cursor l.cursor (Free 0) IsFieldValue field_value_leaves
 
 abbrev pub decreases-field_values-more : goal.decreases-field_values-more
 decreases-field_values-more l = tokens_left l.self l.cursor

@@ -21,10 +21,10 @@ scheduler-returns-clause-is t c = is_scheduler c.in_ok-rules.rules c.in_ok-last.
 
 pub last_choice-returns-clause-read : goal.last_choice-returns-clause-read
 last_choice-returns-clause-read t c =
-    in_place_of choice_leaves c.in_ok-last.last.value c.in_ok-last.ensures.ok c.in_ok-choice.ensures.read
+    in_place_of choice_leaves c.in_ok-last.last c.in_ok-last.ensures c.in_ok-choice.ensures.read
 
 pub last_choice-returns-clause-is : goal.last_choice-returns-clause-is
-last_choice-returns-clause-is t c = subst IsChoice (sym c.in_ok-last.ensures.ok) c.in_ok-choice.ensures.is
+last_choice-returns-clause-is t c = subst IsChoice (sym c.in_ok-last.ensures) c.in_ok-choice.ensures.is
 
 pub choice-returns-clause-read : goal.choice-returns-clause-read
 choice-returns-clause-read t c =

@@ -1,6 +1,8 @@
 use Rattle.std.proofs.Common.{subst, sym}
 use Rattle.koika_syntax.specs.Grammar.{IsType, type_leaves}
-use Rattle.koika_parse.proofs.Reading.{in_place_of}
+use Rattle.koika_parse.proofs.Reading.{as_leaves, in_place_of}
+use Rattle.koika_parse.proofs.Parts.{is_array_type}
+use Rattle.koika_parse.proofs.Calls.{leaves_array_type}
 use Rattle.koika_parse.proofs.Expected.{last_part, fails, fails_last, tail, free_last, begin, not_so}
 use Rattle.koika_parse.specs.inner.Expected.{Any}
 use Rattle.koika_parse.proofs.Words.{some_array_type, type_at_bits, type_at_name, type_elsewhere}
@@ -10,13 +12,15 @@ use Rattle.koika_parse.proofs.source.Source.+types.Goals as goal
 
 pub array_type-returns-clause-read : goal.array_type-returns-clause-read
 array_type-returns-clause-read t c =
-    c.in_ok-place.ensures.read
-    then in_place_of type_leaves c.in_ok-element.element.value c.in_ok-element.ensures.ok c.in_ok-inside.ensures.read
-    then c.in_ok-sign.ensures.read then c.in_ok-length.ensures.read then c.in_ok-sign-2.ensures.read
+    as_leaves _ (leaves_array_type c.in_ok-place.place c.in_ok-element.element c.in_ok-length.length)
+    (c.in_ok-place.ensures.read
+    then in_place_of type_leaves c.in_ok-element.element c.in_ok-element.ensures c.in_ok-inside.ensures.read
+    then c.in_ok-sign.ensures.read then c.in_ok-length.ensures.read then c.in_ok-sign-2.ensures.read)
 
 pub array_type-returns-clause-is : goal.array_type-returns-clause-is
 array_type-returns-clause-is t c =
-    (subst IsType (sym c.in_ok-element.ensures.ok) c.in_ok-inside.ensures.is, c.in_ok-length.ensures.is)
+    is_array_type c.in_ok-place.place c.in_ok-element.element c.in_ok-length.length
+    (subst IsType (sym c.in_ok-element.ensures) c.in_ok-inside.ensures.is) c.in_ok-length.ensures.is
 
 pub array_type-returns-in_err-place-clause-takes : goal.array_type-returns-in_err-place-clause-takes
 array_type-returns-in_err-place-clause-takes t c =

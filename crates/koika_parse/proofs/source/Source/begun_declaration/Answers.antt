@@ -3,7 +3,7 @@ use Rattle.koika_syntax.specs.Grammar.{IsDeclaration, declaration_leaves}
 use Rattle.koika_syntax.specs.declared.keyword.Keyword.{Keyword}
 use Rattle.koika_parse.specs.declared.cursor.Cursor.{Cursor}
 use Rattle.koika_parse.specs.declared.source.Source.{Source}
-use Rattle.koika_parse.specs.declared.stop.Stop.{Stop}
+use Rattle.koika_parse.specs.inner.Stops.{Stop}
 use Rattle.koika_parse.specs.inner.Reading.{next}
 use Rattle.koika_parse.specs.inner.Expected.{Part, Takes, Any}
 use Rattle.koika_parse.specs.inner.Words.{DeclarationWord}

@@ -1,5 +1,4 @@
-use Rattle.std.proofs.Common.{◌+◌}
-use Rattle.koika_parse.proofs.DeclarationWords.{literals_listed}
+use Rattle.koika_parse.proofs.Witnesses.{some_literal}
 use Rattle.koika_syntax.specs.Grammar.{LiteralFits}
 use Rattle.koika_syntax.specs.Tree.{literal_leaves, sign}
 use Rattle.koika_syntax.specs.declared.symbol.Symbol.TheVariants as symbols
@@ -14,31 +13,31 @@ pub more-init : goal.more-init
 more-init c = (
   joined_start _ _ _ (sign symbols.Comma) literal_leaves LiteralFits c.in_ok-first.first _ c.push.new.self
       c.in_ok-first.ensures.read c.in_ok-first.ensures.is c.new-all.ensures c.in_ok-push.ensures.ok,
-  commas_first literals_listed c.in_ok-first.ensures.takes tt,
+  commas_first some_literal c.in_ok-first.ensures.takes tt,
 )
 
 pub more-preserved : goal.more-preserved
 more-preserved c = (
   joined_again c.in_ok-next.next c.push-in-more.new.self c.more.invariant.0 c.in_ok-sign.ensures.read
       c.in_ok-next.ensures.read c.in_ok-next.ensures.is c.in_ok-push-2.ensures.ok,
-  commas_next literals_listed (c.is_at_sign.ensures.0 c.more-test.true) c.more.invariant.1 c.in_ok-sign.ensures.read
+  commas_next some_literal (c.is_at_sign.ensures.0 c.more-test.true) c.more.invariant.1
       c.in_ok-sign.ensures.takes c.in_ok-next.ensures.takes tt,
 )
 
 pub returns-in_err-first-clause-takes : goal.returns-in_err-first-clause-takes
-returns-in_err-first-clause-takes c = fails_before _ c.from_residual.ensures (commas_start literals_listed)
-    c.in_err-first.ensures.takes (commas_apart 1 literals_listed Any tt)
+returns-in_err-first-clause-takes c = fails_before _ c.from_residual.ensures (commas_start some_literal)
+    c.in_err-first.ensures.takes (commas_apart some_literal Any tt)
 
 pub returns-in_err-sign-clause-takes : goal.returns-in_err-sign-clause-takes
 returns-in_err-sign-clause-takes c = fails _ c.from_residual-in_err-sign.ensures
-    (commas_at literals_listed (c.is_at_sign.ensures.0 c.more-test.true) c.more.invariant.1) c.in_err-sign.ensures.takes
+    (commas_at some_literal (c.is_at_sign.ensures.0 c.more-test.true) c.more.invariant.1) c.in_err-sign.ensures.takes
 
 pub returns-in_err-next-clause-takes : goal.returns-in_err-next-clause-takes
 returns-in_err-next-clause-takes c = fails_before _ c.from_residual-in_err-next.ensures
-    (commas_at literals_listed (c.is_at_sign.ensures.0 c.more-test.true) c.more.invariant.1
+    (commas_at some_literal (c.is_at_sign.ensures.0 c.more-test.true) c.more.invariant.1
     past c.in_ok-sign.ensures.takes) c.in_err-next.ensures.takes
-    (commas_apart (c.more.invariant.1.count + 1) literals_listed Any tt)
+    (commas_apart some_literal Any tt)
 
 pub returns-clause-takes : goal.returns-clause-takes
 returns-clause-takes c =
-    finish _ (commas_end literals_listed (λ e. cc (c.more-test.false, c.is_at_sign.ensures.1 e)) c.more.invariant.1)
+    finish _ (commas_end some_literal (λ e. cc (c.more-test.false, c.is_at_sign.ensures.1 e)) c.more.invariant.1)

@@ -1,5 +1,4 @@
-use Rattle.std.proofs.Common.{◌+◌}
-use Rattle.koika_parse.proofs.DeclarationWords.{members_listed}
+use Rattle.koika_parse.proofs.Words.{some_member}
 use Rattle.koika_syntax.specs.Grammar.{IsMember, member_leaves}
 use Rattle.koika_syntax.specs.Tree.{sign}
 use Rattle.koika_syntax.specs.declared.symbol.Symbol.TheVariants as symbols
@@ -14,31 +13,31 @@ pub more-init : goal.more-init
 more-init c = (
   joined_start _ _ _ (sign symbols.Comma) member_leaves IsMember c.in_ok-first.first _ c.push.new.self
       c.in_ok-first.ensures.read c.in_ok-first.ensures.is c.new-all.ensures c.in_ok-push.ensures.ok,
-  commas_first members_listed c.in_ok-first.ensures.takes tt,
+  commas_first some_member c.in_ok-first.ensures.takes tt,
 )
 
 pub more-preserved : goal.more-preserved
 more-preserved c = (
   joined_again c.in_ok-next.next c.push-in-more.new.self c.more.invariant.0 c.in_ok-sign.ensures.read c.in_ok-next.ensures.read
       c.in_ok-next.ensures.is c.in_ok-push-2.ensures.ok,
-  commas_next members_listed (c.is_at_sign.ensures.0 c.more-test.true) c.more.invariant.1 c.in_ok-sign.ensures.read
+  commas_next some_member (c.is_at_sign.ensures.0 c.more-test.true) c.more.invariant.1
       c.in_ok-sign.ensures.takes c.in_ok-next.ensures.takes tt,
 )
 
 pub returns-in_err-first-clause-takes : goal.returns-in_err-first-clause-takes
 returns-in_err-first-clause-takes c =
-    fails_before _ c.from_residual.ensures (commas_start members_listed) c.in_err-first.ensures.takes
-    (commas_apart 1 members_listed Any tt)
+    fails_before _ c.from_residual.ensures (commas_start some_member) c.in_err-first.ensures.takes
+    (commas_apart some_member Any tt)
 
 pub returns-in_err-sign-clause-takes : goal.returns-in_err-sign-clause-takes
 returns-in_err-sign-clause-takes c =
     fails _ c.from_residual-in_err-sign.ensures
-    (commas_at members_listed (c.is_at_sign.ensures.0 c.more-test.true) c.more.invariant.1) c.in_err-sign.ensures.takes
+    (commas_at some_member (c.is_at_sign.ensures.0 c.more-test.true) c.more.invariant.1) c.in_err-sign.ensures.takes
 
 pub returns-in_err-next-clause-takes : goal.returns-in_err-next-clause-takes
 returns-in_err-next-clause-takes c =
-    let comma = commas_at members_listed (c.is_at_sign.ensures.0 c.more-test.true) c.more.invariant.1 past c.in_ok-sign.ensures.takes in
-    fails_before _ c.from_residual-in_err-next.ensures comma c.in_err-next.ensures.takes (commas_apart (c.more.invariant.1.count + 1) members_listed Any tt)
+    let comma = commas_at some_member (c.is_at_sign.ensures.0 c.more-test.true) c.more.invariant.1 past c.in_ok-sign.ensures.takes in
+    fails_before _ c.from_residual-in_err-next.ensures comma c.in_err-next.ensures.takes (commas_apart some_member Any tt)
 
 pub returns-clause-takes : goal.returns-clause-takes
-returns-clause-takes c = finish _ (commas_end members_listed (not_so c.is_at_sign.ensures c.more-test.false) c.more.invariant.1)
+returns-clause-takes c = finish _ (commas_end some_member (not_so c.is_at_sign.ensures c.more-test.false) c.more.invariant.1)
