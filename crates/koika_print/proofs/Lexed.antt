@@ -16,6 +16,7 @@ use Rattle.koika_syntax.specs.declared.token.TokenKind.TheVariants as kinds
 use Rattle.koika_syntax.proofs.KeywordTable.{IsWord-keyword_text}
 use Rattle.koika_syntax.proofs.Blanks.{literal_token, longest_word, longest_number, longest_literal, longest_symbol}
 use Rattle.koika_syntax.proofs.Longest.{IsLongest-from_none_longer, NoneLonger-blank}
+use Rattle.koika_syntax.proofs.Spans.{span}
 use Rattle.koika_print.specs.Printed.{written, blank_after, blank_after_symbol, printed, IsWritable, AreWritable, IsLexedAs}
 
 abbrev kind_of : Terminal → TokenKind
@@ -80,9 +81,6 @@ slice_span : (before bytes after : List ℕ) → slice_range (before ++ (bytes +
 slice_span before bytes after =
     let width : length (before ++ bytes) - length before ≡ length bytes = omega (arith, length-append before bytes) in
     ap (take (length (before ++ bytes) - length before)) (drop-append_seam before (bytes ++ after)) ∙ ap (λ n. take n (bytes ++ after)) width ∙ take-append_seam bytes after
-
-abbrev span : TokenKind → List ℕ → List ℕ → Token
-span kind before bytes = record { kind = kind; start = length before; end = length (before ++ bytes) }
 
 terminal_at : (t : Terminal) (before after : List ℕ) → terminal_of (before ++ (written t ++ after)) (span (kind_of t) before (written t)) ≡ t
 terminal_at (name text) before after = ap name (slice_span before text after)

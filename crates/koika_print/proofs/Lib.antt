@@ -1,4 +1,3 @@
 pub mod Printing
 pub mod Lexed
-pub mod Levels
 pub mod Writable

@@ -1,12 +1,12 @@
 -- The tokens of a tree of the grammar can be written.
-use Rattle.std.proofs.Common.{◌≡◌, ℕ, Option, None, Some, IfSome, List, [], ◌∷◌, ◌++◌, map, Vec, Box, Global, sym, subst, ◌∙◌}
+use Rattle.std.proofs.Common.{◌≡◌, ℕ, Option, None, Some, IfSome, List, [], ◌∷◌, ◌++◌, map, sym, subst, ◌∙◌}
 use Rattle.std.specs.Prelude.{⊤}
 use Rattle.std.specs.List.{All, AllByRecursion, flat_map}
 use Rattle.std.proofs.lemmas.List.Elements.{recursion_from_All}
 use Rattle.koika_syntax.specs.Tree.{Leaf, sign, word, commas, with_between, all_of, placed, symbol, in_parentheses, in_braces, name_leaves, number_leaves, literal_leaves, keyword}
 use Rattle.koika_syntax.specs.declared.keyword.Keyword.TheVariants as keywords
 use Rattle.koika_syntax.specs.declared.symbol.Symbol.TheVariants as symbols
-use Rattle.koika_syntax.specs.Grammar.{IsName, LiteralFits, IsType, IsMember, IsField, IsConstant, IsConstantLayer, IsConstantFieldLayer, IsBlock, IsExpressionLayer, IsStatementLayer, IsArmLayer, IsBlockLayer, IsFieldValueLayer, IsOperandLayer, IsSuffix, IsPart, IsDeclaration, IsScheduler, IsSchedulerLayer, IsChoiceLayer, IsDesign, type_leaves, constant_leaves, constant_step, constant_field_step, block_leaves, expression_step, statement_step, arm_step, block_step, field_value_step, operand_step, prefix_leaves, suffix_leaves, part_leaves, member_leaves, field_leaves, result_leaves, declaration_leaves, rule_leaves, choice_step, scheduler_step, scheduler_leaves, tree_leaves}
+use Rattle.koika_syntax.specs.Grammar.{IsName, LiteralFits, IsType, IsTypeLayer, IsMember, IsField, IsConstant, IsConstantLayer, IsConstantFieldLayer, IsBlock, IsExpressionLayer, IsStatementLayer, IsArmLayer, IsBlockLayer, IsFieldValueLayer, IsOperandLayer, IsSuffix, IsPart, IsDeclaration, IsScheduler, IsSchedulerLayer, IsChoiceLayer, IsDesign, type_leaves, type_step, constant_leaves, constant_step, constant_field_step, block_leaves, expression_step, statement_step, arm_step, block_step, field_value_step, operand_step, prefix_leaves, suffix_leaves, part_leaves, member_leaves, field_leaves, result_leaves, declaration_leaves, rule_leaves, choice_step, scheduler_step, scheduler_leaves, tree_leaves}
 use Rattle.koika_syntax.specs.inner.Grammar.{IsExpression, constant_field_leaves, expression_leaves, statement_leaves, arm_leaves, field_value_leaves, operand_leaves, choice_leaves}
 use Rattle.koika_syntax.specs.declared.tree.Expression.{Expression, Expression-F, map-Expression, roll-Expression, every_held-Expression, every_here-Expression, out-roll-Expression, fold-roll-Expression, ind-Expression}
 use Rattle.koika_syntax.specs.declared.tree.Statement.{Statement, Statement-F, map-Statement, roll-Statement, every-Statement, every_held-Statement, every_here-Statement, out-roll-Statement, fold-roll-Statement}
@@ -32,9 +32,10 @@ use Rattle.koika_syntax.specs.declared.tree.Prefix.{Prefix}
 use Rattle.koika_syntax.specs.declared.tree.Suffix.{Suffix}
 use Rattle.koika_syntax.specs.declared.tree.Suffix.TheVariants as suffixes
 use Rattle.koika_syntax.specs.declared.tree.Tree.{Tree}
-use Rattle.koika_syntax.specs.declared.tree.TypeExpression.{TypeExpression, Bits, Named, Array'}
+use Rattle.koika_syntax.specs.declared.tree.TypeExpression.{TypeExpression, TypeExpression-F, map-TypeExpression, roll-TypeExpression, every_held-TypeExpression, every_here-TypeExpression, out-roll-TypeExpression, fold-roll-TypeExpression, ind-TypeExpression}
+use Rattle.koika_syntax.specs.declared.tree.TypeExpression.TheOpen as types
+use Rattle.koika_syntax.proofs.TreeParts.{Such, IsArm, IsConstantField, IsFieldValue, IsOperand, IsStatement, EachOfConstant, EachOfExpression, EachOfStatement, EachOfArm, EachOfBlock, EachOfFieldValue, EachOfOperand, each_of_expression, each_of_statement, each_of_arm, each_of_block, each_of_field_value, each_of_operand, each_of_constant}
 use Rattle.koika_print.specs.Printed.{AreWritable}
-use Rattle.koika_print.proofs.Levels.{Such, firsts, EachOfExpression, EachOfStatement, EachOfArm, EachOfBlock, EachOfFieldValue, EachOfOperand, each_of_expression, each_of_statement, each_of_arm, each_of_block, each_of_field_value, each_of_operand}
 
 -- tokens one after another
 pub together : (xs ys : List Leaf) → AreWritable xs → AreWritable ys → AreWritable (xs ++ ys)
@@ -70,23 +71,42 @@ of_all : {X : Type 0} (Is : X → Type 0) (leaves : X → List Leaf) → ((x : X
 of_all Is leaves each [] is = tt
 of_all Is leaves each (x ∷ xs) is = (each x is.0, of_all Is leaves each xs is.1)
 
+-- a layer of the grammar can be written where its parts can
+of_layer : {F : Type 0} (text : F → List Leaf) (Here Are Write : F → Type 0) → ((d : F) → Here d → Are d → Write d → AreWritable (text d)) →
+    {out held made d : F} → Here out → held ≡ out → Are held → made ≡ d → Write made → out ≡ d → {leaves : List Leaf} → leaves ≡ text d → AreWritable leaves
+of_layer {F} text Here Are Write writes {out} {held} {made} {d} here held_is are same write out_is {leaves} leaves_are =
+    subst AreWritable (sym leaves_are) (writes d (subst Here out_is here) (subst Are (held_is ∙ out_is) are) (subst Write same write))
+
 -- a type
-writable_type : (t : TypeExpression) → IsType t → AreWritable (type_leaves t)
-writable_type (Bits width) is = (tt, (is, tt))
-writable_type (Named n) is = (is, tt)
-writable_type (Array' place q element size) is = (tt, together ((type_leaves element ++ sign symbols.Semicolon) ++ number_leaves size) (sign symbols.RightBracket) (together (type_leaves element ++ sign symbols.Semicolon) (number_leaves size) (together (type_leaves element) (sign symbols.Semicolon) (writable_type element is.0) (tt, tt)) (is.1, tt)) (tt, tt))
+abbrev WritesType : TypeExpression → Type 0
+WritesType t = IsType t → AreWritable (type_leaves t)
 
-abbrev IsStatement : Statement → Type 0
-IsStatement = every-Statement IsExpressionLayer IsStatementLayer IsArmLayer IsBlockLayer IsFieldValueLayer IsOperandLayer
+abbrev EachOfType : (TypeExpression → Type 0) → TypeExpression-F TypeExpression → Type 0
+EachOfType Q (types.Bits width) = ⊤
+EachOfType Q (types.Named n) = ⊤
+EachOfType Q (types.Array place element size) = Q element
 
-abbrev IsArm : Arm → Type 0
-IsArm = every-Arm IsExpressionLayer IsStatementLayer IsArmLayer IsBlockLayer IsFieldValueLayer IsOperandLayer
+each_of_type : (Q : TypeExpression → Type 0) (y : TypeExpression-F (Such Q)) → EachOfType Q (map-TypeExpression (Such Q) TypeExpression (λ e. e.0) y)
+each_of_type Q (types.Bits width) = tt
+each_of_type Q (types.Named n) = tt
+each_of_type Q (types.Array place element size) = element.1
 
-abbrev IsFieldValue : FieldValue → Type 0
-IsFieldValue = every-FieldValue IsExpressionLayer IsStatementLayer IsArmLayer IsBlockLayer IsFieldValueLayer IsOperandLayer
+type_writes : (d : TypeExpression-F TypeExpression) → IsTypeLayer d → EachOfType IsType d → EachOfType WritesType d → AreWritable (type_step (map-TypeExpression TypeExpression (List Leaf) type_leaves d))
+type_writes (types.Bits width) here is writes = (tt, (here, tt))
+type_writes (types.Named n) here is writes = (here, tt)
+type_writes (types.Array place element size) here is writes =
+    let before = type_leaves element ++ sign symbols.Semicolon in
+    (tt, together (before ++ number_leaves size) (sign symbols.RightBracket) (together before (number_leaves size) (together (type_leaves element) (sign symbols.Semicolon) (writes is) (tt, tt)) (here, tt)) (tt, tt))
 
-abbrev IsOperand : Operand → Type 0
-IsOperand = every-Operand IsExpressionLayer IsStatementLayer IsArmLayer IsBlockLayer IsFieldValueLayer IsOperandLayer
+type_of_layer : (d : TypeExpression-F TypeExpression) (y : TypeExpression-F (Such WritesType)) → map-TypeExpression (Such WritesType) TypeExpression (λ e. e.0) y ≡ d → WritesType (roll-TypeExpression d)
+unfolding IsType type_leaves
+type_of_layer d y same is =
+    let held = every_held-TypeExpression IsTypeLayer (roll-TypeExpression d) is in
+    of_layer _ IsTypeLayer (EachOfType IsType) (EachOfType WritesType) type_writes (every_here-TypeExpression IsTypeLayer (roll-TypeExpression d) is) held.1 (each_of_type IsType held.0) same (each_of_type WritesType y)
+    (out-roll-TypeExpression d) (fold-roll-TypeExpression (List Leaf) type_step d)
+
+writable_type : (t : TypeExpression) → WritesType t
+writable_type = ind-TypeExpression WritesType type_of_layer
 
 abbrev WritesExpression : Expression → Type 0
 WritesExpression t = IsExpression t → AreWritable (expression_leaves t)
@@ -136,31 +156,31 @@ if_writes : (arms : List Arm) → AllByRecursion (λ a. AreWritable (arm_leaves 
 if_writes arms each last w = together (with_between (word keywords.Else) (map arm_leaves arms)) last (joined_by (word keywords.Else) (tt, tt) (map arm_leaves arms) (mapped arm_leaves arms each)) w
 
 expression_writes : (d : Expression-F Expression Statement Arm Block FieldValue Operand) → IsExpressionLayer d → ExpressionIs d → ExpressionWrites d → AreWritable (expression_layer_leaves d)
-expression_writes (expression.If arms None) here is writes = if_writes arms.items (given IsArm arm_leaves arms.items is.0 writes.0) [] tt
-expression_writes (expression.If arms (Some b)) here is writes = if_writes arms.items (given IsArm arm_leaves arms.items is.0 writes.0) (word keywords.Else ++ block_leaves b) (tt, writes.1 is.1)
+expression_writes (expression.If arms None) here is writes = if_writes arms (given IsArm arm_leaves arms is.0 writes.0) [] tt
+expression_writes (expression.If arms (Some b)) here is writes = if_writes arms (given IsArm arm_leaves arms is.0 writes.0) (word keywords.Else ++ block_leaves b) (tt, writes.1 is.1)
 expression_writes (expression.Chain first rest) here is writes =
-    together (expression_leaves first.value) (all_of (map operand_leaves rest.items)) (writes.0 is.0) (all_together (λ part. part) (map operand_leaves rest.items) (mapped operand_leaves rest.items (given IsOperand operand_leaves rest.items is.1 writes.1)))
-expression_writes (expression.Unary prefixes operand) here is writes = together (flat_map prefix_leaves prefixes) (expression_leaves operand.value) (prefixes_write prefixes) (writes is)
+    together (expression_leaves first) (all_of (map operand_leaves rest)) (writes.0 is.0) (all_together (λ part. part) (map operand_leaves rest) (mapped operand_leaves rest (given IsOperand operand_leaves rest is.1 writes.1)))
+expression_writes (expression.Unary prefixes operand) here is writes = together (flat_map prefix_leaves prefixes) (expression_leaves operand) (prefixes_write prefixes) (writes is)
 expression_writes (expression.Postfix primary suffixes) here is writes =
-    together (expression_leaves primary.value) (flat_map suffix_leaves suffixes) (writes is) (all_together suffix_leaves suffixes (of_all IsSuffix suffix_leaves suffix_writes suffixes (recursion_from_All IsSuffix suffixes here.2)))
+    together (expression_leaves primary) (flat_map suffix_leaves suffixes) (writes is) (all_together suffix_leaves suffixes (of_all IsSuffix suffix_leaves suffix_writes suffixes (recursion_from_All IsSuffix suffixes here.2)))
 expression_writes (expression.Literal l) here is writes = (here, tt)
 expression_writes (expression.Name n) here is writes = (here, tt)
-expression_writes (expression.Call called arguments) here is writes = (here, call_writes (map expression_leaves arguments.items) (mapped expression_leaves arguments.items (given IsExpression expression_leaves arguments.items is writes)))
+expression_writes (expression.Call called arguments) here is writes = (here, call_writes (map expression_leaves arguments) (mapped expression_leaves arguments (given IsExpression expression_leaves arguments is writes)))
 expression_writes (expression.Member of member) here is writes = (here.0, (tt, (here.1, tt)))
 expression_writes (expression.Struct of fields close) here is writes =
-    (here.0, (tt, (tt, together (commas (map field_value_leaves fields.items)) (placed (symbol symbols.RightBrace) close) (with_commas (map field_value_leaves fields.items) (mapped field_value_leaves fields.items (given IsFieldValue field_value_leaves fields.items is writes))) (tt, tt))))
+    (here.0, (tt, (tt, together (commas (map field_value_leaves fields)) (placed (symbol symbols.RightBrace) close) (with_commas (map field_value_leaves fields) (mapped field_value_leaves fields (given IsFieldValue field_value_leaves fields is writes))) (tt, tt))))
 expression_writes (expression.Array place elements) here is writes =
-    (tt, together (commas (map expression_leaves elements.items)) (sign symbols.RightBracket) (with_commas (map expression_leaves elements.items) (mapped expression_leaves elements.items (given IsExpression expression_leaves elements.items is writes))) (tt, tt))
-expression_writes (expression.Parentheses place inside) here is writes = (tt, together (expression_leaves inside.value) (sign symbols.RightParenthesis) (writes is) (tt, tt))
+    (tt, together (commas (map expression_leaves elements)) (sign symbols.RightBracket) (with_commas (map expression_leaves elements) (mapped expression_leaves elements (given IsExpression expression_leaves elements is writes))) (tt, tt))
+expression_writes (expression.Parentheses place inside) here is writes = (tt, together (expression_leaves inside) (sign symbols.RightParenthesis) (writes is) (tt, tt))
 expression_writes (expression.Block block) here is writes = writes is
 expression_writes (expression.Read place port register) here is writes = (tt, call_writes (name_leaves register ∷ []) ((here.1, tt), tt))
-expression_writes (expression.Write place port register value) here is writes = (tt, call_writes (name_leaves register ∷ expression_leaves value.value ∷ []) ((here.1, tt), (writes is, tt)))
+expression_writes (expression.Write place port register value) here is writes = (tt, call_writes (name_leaves register ∷ expression_leaves value ∷ []) ((here.1, tt), (writes is, tt)))
 expression_writes (expression.Abort place) here is writes = (tt, tt)
-expression_writes (expression.Pack place value) here is writes = (tt, call_writes (expression_leaves value.value ∷ []) (writes is, tt))
-expression_writes (expression.Unpack place to value) here is writes = (tt, call_writes (type_leaves to ∷ expression_leaves value.value ∷ []) (writable_type to here, (writes is, tt)))
-expression_writes (expression.Extend place extension value width) here is writes = (tt, call_writes (expression_leaves value.value ∷ number_leaves width ∷ []) (writes is, ((here, tt), tt)))
-expression_writes (expression.Compare place comparison left right) here is writes = (tt, call_writes (expression_leaves left.value ∷ expression_leaves right.value ∷ []) (writes.0 is.0, (writes.1 is.1, tt)))
-expression_writes (expression.Update place whole part value) here is writes = (tt, call_writes (expression_leaves whole.value ∷ part_leaves part ∷ expression_leaves value.value ∷ []) (writes.0 is.0, (part_writes part here, (writes.1 is.1, tt))))
+expression_writes (expression.Pack place value) here is writes = (tt, call_writes (expression_leaves value ∷ []) (writes is, tt))
+expression_writes (expression.Unpack place to value) here is writes = (tt, call_writes (type_leaves to ∷ expression_leaves value ∷ []) (writable_type to here, (writes is, tt)))
+expression_writes (expression.Extend place extension value width) here is writes = (tt, call_writes (expression_leaves value ∷ number_leaves width ∷ []) (writes is, ((here, tt), tt)))
+expression_writes (expression.Compare place comparison left right) here is writes = (tt, call_writes (expression_leaves left ∷ expression_leaves right ∷ []) (writes.0 is.0, (writes.1 is.1, tt)))
+expression_writes (expression.Update place whole part value) here is writes = (tt, call_writes (expression_leaves whole ∷ part_leaves part ∷ expression_leaves value ∷ []) (writes.0 is.0, (part_writes part here, (writes.1 is.1, tt))))
 
 abbrev statement_layer_leaves : Statement-F Expression Statement Arm Block FieldValue Operand → List Leaf
 statement_layer_leaves d = statement_step (map-Statement Expression Statement Arm Block FieldValue Operand (List Leaf) (List Leaf) (List Leaf) (List Leaf) (List Leaf) (List Leaf) expression_leaves statement_leaves arm_leaves block_leaves field_value_leaves operand_leaves d)
@@ -193,68 +213,56 @@ operand_writes d here is writes = (tt, writes is)
 block_writes : (d : Block-F Expression Statement Arm Block FieldValue Operand) → IsBlockLayer d → EachOfBlock IsExpression IsStatement IsArm IsBlock IsFieldValue IsOperand d → EachOfBlock WritesExpression WritesStatement WritesArm WritesBlock WritesFieldValue WritesOperand d → AreWritable (block_layer_leaves d)
 block_writes d here is writes = of_parts d.place d.statements d.value is writes
   where
-    of_parts : (place : ℕ) (statements : Vec Statement Global) (value : Option (Box Expression Global)) → EachOfBlock IsExpression IsStatement IsArm IsBlock IsFieldValue IsOperand (record { place = place; statements = statements; value = value }) → EachOfBlock WritesExpression WritesStatement WritesArm WritesBlock WritesFieldValue WritesOperand (record { place = place; statements = statements; value = value }) →
+    of_parts : (place : ℕ) (statements : List Statement) (value : Option Expression) → EachOfBlock IsExpression IsStatement IsArm IsBlock IsFieldValue IsOperand (record { place = place; statements = statements; value = value }) → EachOfBlock WritesExpression WritesStatement WritesArm WritesBlock WritesFieldValue WritesOperand (record { place = place; statements = statements; value = value }) →
         AreWritable (block_layer_leaves (record { place = place; statements = statements; value = value }))
     of_parts place statements None is writes =
-        let all = all_of (map statement_leaves statements.items) in
-        (tt, together (all ++ []) (sign symbols.RightBrace) (together all [] (all_together (λ part. part) (map statement_leaves statements.items) (mapped statement_leaves statements.items (given IsStatement statement_leaves statements.items is.0 writes.0))) tt) (tt, tt))
+        let all = all_of (map statement_leaves statements) in
+        (tt, together (all ++ []) (sign symbols.RightBrace) (together all [] (all_together (λ part. part) (map statement_leaves statements) (mapped statement_leaves statements (given IsStatement statement_leaves statements is.0 writes.0))) tt) (tt, tt))
     of_parts place statements (Some b) is writes =
-        let all = all_of (map statement_leaves statements.items) in
-        (tt, together (all ++ expression_leaves b.value) (sign symbols.RightBrace) (together all (expression_leaves b.value) (all_together (λ part. part) (map statement_leaves statements.items) (mapped statement_leaves statements.items (given IsStatement statement_leaves statements.items is.0 writes.0))) (writes.1 is.1)) (tt, tt))
+        let all = all_of (map statement_leaves statements) in
+        (tt, together (all ++ expression_leaves b) (sign symbols.RightBrace) (together all (expression_leaves b) (all_together (λ part. part) (map statement_leaves statements) (mapped statement_leaves statements (given IsStatement statement_leaves statements is.0 writes.0))) (writes.1 is.1)) (tt, tt))
 
 expression_of_layer : (d : Expression-F Expression Statement Arm Block FieldValue Operand) (y : Expression-F (Such WritesExpression) (Such WritesStatement) (Such WritesArm) (Such WritesBlock) (Such WritesFieldValue) (Such WritesOperand)) → map-Expression (Such WritesExpression) (Such WritesStatement) (Such WritesArm) (Such WritesBlock) (Such WritesFieldValue) (Such WritesOperand) Expression Statement Arm Block FieldValue Operand (λ e. e.0) (λ e. e.0) (λ e. e.0) (λ e. e.0) (λ e. e.0) (λ e. e.0) y ≡ d → WritesExpression (roll-Expression d)
 unfolding IsExpression IsBlock expression_leaves statement_leaves arm_leaves block_leaves field_value_leaves operand_leaves
 expression_of_layer d y same is =
     let held = every_held-Expression IsExpressionLayer IsStatementLayer IsArmLayer IsBlockLayer IsFieldValueLayer IsOperandLayer (roll-Expression d) is in
-    let here = subst IsExpressionLayer (out-roll-Expression d) (every_here-Expression IsExpressionLayer IsStatementLayer IsArmLayer IsBlockLayer IsFieldValueLayer IsOperandLayer (roll-Expression d) is) in
-    let parts_are = subst (EachOfExpression IsExpression IsStatement IsArm IsBlock IsFieldValue IsOperand) (held.1 ∙ out-roll-Expression d) (each_of_expression IsExpression IsStatement IsArm IsBlock IsFieldValue IsOperand held.0) in
-    let parts_write = subst (EachOfExpression WritesExpression WritesStatement WritesArm WritesBlock WritesFieldValue WritesOperand) same (each_of_expression WritesExpression WritesStatement WritesArm WritesBlock WritesFieldValue WritesOperand y) in
-    subst AreWritable (sym (fold-roll-Expression (List Leaf) (List Leaf) (List Leaf) (List Leaf) (List Leaf) (List Leaf) expression_step statement_step arm_step block_step field_value_step operand_step d)) (expression_writes d here parts_are parts_write)
+    of_layer expression_layer_leaves IsExpressionLayer (EachOfExpression IsExpression IsStatement IsArm IsBlock IsFieldValue IsOperand) (EachOfExpression WritesExpression WritesStatement WritesArm WritesBlock WritesFieldValue WritesOperand) expression_writes (every_here-Expression IsExpressionLayer IsStatementLayer IsArmLayer IsBlockLayer IsFieldValueLayer IsOperandLayer (roll-Expression d) is) held.1 (each_of_expression IsExpression IsStatement IsArm IsBlock IsFieldValue IsOperand held.0) same (each_of_expression WritesExpression WritesStatement WritesArm WritesBlock WritesFieldValue WritesOperand y)
+    (out-roll-Expression d) (fold-roll-Expression (List Leaf) (List Leaf) (List Leaf) (List Leaf) (List Leaf) (List Leaf) expression_step statement_step arm_step block_step field_value_step operand_step d)
 
 statement_of_layer : (d : Statement-F Expression Statement Arm Block FieldValue Operand) (y : Statement-F (Such WritesExpression) (Such WritesStatement) (Such WritesArm) (Such WritesBlock) (Such WritesFieldValue) (Such WritesOperand)) → map-Statement (Such WritesExpression) (Such WritesStatement) (Such WritesArm) (Such WritesBlock) (Such WritesFieldValue) (Such WritesOperand) Expression Statement Arm Block FieldValue Operand (λ e. e.0) (λ e. e.0) (λ e. e.0) (λ e. e.0) (λ e. e.0) (λ e. e.0) y ≡ d → WritesStatement (roll-Statement d)
 unfolding IsExpression IsBlock expression_leaves statement_leaves arm_leaves block_leaves field_value_leaves operand_leaves
 statement_of_layer d y same is =
     let held = every_held-Statement IsExpressionLayer IsStatementLayer IsArmLayer IsBlockLayer IsFieldValueLayer IsOperandLayer (roll-Statement d) is in
-    let here = subst IsStatementLayer (out-roll-Statement d) (every_here-Statement IsExpressionLayer IsStatementLayer IsArmLayer IsBlockLayer IsFieldValueLayer IsOperandLayer (roll-Statement d) is) in
-    let parts_are = subst (EachOfStatement IsExpression IsStatement IsArm IsBlock IsFieldValue IsOperand) (held.1 ∙ out-roll-Statement d) (each_of_statement IsExpression IsStatement IsArm IsBlock IsFieldValue IsOperand held.0) in
-    let parts_write = subst (EachOfStatement WritesExpression WritesStatement WritesArm WritesBlock WritesFieldValue WritesOperand) same (each_of_statement WritesExpression WritesStatement WritesArm WritesBlock WritesFieldValue WritesOperand y) in
-    subst AreWritable (sym (fold-roll-Statement (List Leaf) (List Leaf) (List Leaf) (List Leaf) (List Leaf) (List Leaf) expression_step statement_step arm_step block_step field_value_step operand_step d)) (statement_writes d here parts_are parts_write)
+    of_layer statement_layer_leaves IsStatementLayer (EachOfStatement IsExpression IsStatement IsArm IsBlock IsFieldValue IsOperand) (EachOfStatement WritesExpression WritesStatement WritesArm WritesBlock WritesFieldValue WritesOperand) statement_writes (every_here-Statement IsExpressionLayer IsStatementLayer IsArmLayer IsBlockLayer IsFieldValueLayer IsOperandLayer (roll-Statement d) is) held.1 (each_of_statement IsExpression IsStatement IsArm IsBlock IsFieldValue IsOperand held.0) same (each_of_statement WritesExpression WritesStatement WritesArm WritesBlock WritesFieldValue WritesOperand y)
+    (out-roll-Statement d) (fold-roll-Statement (List Leaf) (List Leaf) (List Leaf) (List Leaf) (List Leaf) (List Leaf) expression_step statement_step arm_step block_step field_value_step operand_step d)
 
 arm_of_layer : (d : Arm-F Expression Statement Arm Block FieldValue Operand) (y : Arm-F (Such WritesExpression) (Such WritesStatement) (Such WritesArm) (Such WritesBlock) (Such WritesFieldValue) (Such WritesOperand)) → map-Arm (Such WritesExpression) (Such WritesStatement) (Such WritesArm) (Such WritesBlock) (Such WritesFieldValue) (Such WritesOperand) Expression Statement Arm Block FieldValue Operand (λ e. e.0) (λ e. e.0) (λ e. e.0) (λ e. e.0) (λ e. e.0) (λ e. e.0) y ≡ d → WritesArm (roll-Arm d)
 unfolding IsExpression IsBlock expression_leaves statement_leaves arm_leaves block_leaves field_value_leaves operand_leaves
 arm_of_layer d y same is =
     let held = every_held-Arm IsExpressionLayer IsStatementLayer IsArmLayer IsBlockLayer IsFieldValueLayer IsOperandLayer (roll-Arm d) is in
-    let here = subst IsArmLayer (out-roll-Arm d) (every_here-Arm IsExpressionLayer IsStatementLayer IsArmLayer IsBlockLayer IsFieldValueLayer IsOperandLayer (roll-Arm d) is) in
-    let parts_are = subst (EachOfArm IsExpression IsStatement IsArm IsBlock IsFieldValue IsOperand) (held.1 ∙ out-roll-Arm d) (each_of_arm IsExpression IsStatement IsArm IsBlock IsFieldValue IsOperand held.0) in
-    let parts_write = subst (EachOfArm WritesExpression WritesStatement WritesArm WritesBlock WritesFieldValue WritesOperand) same (each_of_arm WritesExpression WritesStatement WritesArm WritesBlock WritesFieldValue WritesOperand y) in
-    subst AreWritable (sym (fold-roll-Arm (List Leaf) (List Leaf) (List Leaf) (List Leaf) (List Leaf) (List Leaf) expression_step statement_step arm_step block_step field_value_step operand_step d)) (arm_writes d here parts_are parts_write)
+    of_layer arm_layer_leaves IsArmLayer (EachOfArm IsExpression IsStatement IsArm IsBlock IsFieldValue IsOperand) (EachOfArm WritesExpression WritesStatement WritesArm WritesBlock WritesFieldValue WritesOperand) arm_writes (every_here-Arm IsExpressionLayer IsStatementLayer IsArmLayer IsBlockLayer IsFieldValueLayer IsOperandLayer (roll-Arm d) is) held.1 (each_of_arm IsExpression IsStatement IsArm IsBlock IsFieldValue IsOperand held.0) same (each_of_arm WritesExpression WritesStatement WritesArm WritesBlock WritesFieldValue WritesOperand y)
+    (out-roll-Arm d) (fold-roll-Arm (List Leaf) (List Leaf) (List Leaf) (List Leaf) (List Leaf) (List Leaf) expression_step statement_step arm_step block_step field_value_step operand_step d)
 
 block_of_layer : (d : Block-F Expression Statement Arm Block FieldValue Operand) (y : Block-F (Such WritesExpression) (Such WritesStatement) (Such WritesArm) (Such WritesBlock) (Such WritesFieldValue) (Such WritesOperand)) → map-Block (Such WritesExpression) (Such WritesStatement) (Such WritesArm) (Such WritesBlock) (Such WritesFieldValue) (Such WritesOperand) Expression Statement Arm Block FieldValue Operand (λ e. e.0) (λ e. e.0) (λ e. e.0) (λ e. e.0) (λ e. e.0) (λ e. e.0) y ≡ d → WritesBlock (roll-Block d)
 unfolding IsExpression IsBlock expression_leaves statement_leaves arm_leaves block_leaves field_value_leaves operand_leaves
 block_of_layer d y same is =
     let held = every_held-Block IsExpressionLayer IsStatementLayer IsArmLayer IsBlockLayer IsFieldValueLayer IsOperandLayer (roll-Block d) is in
-    let here = subst IsBlockLayer (out-roll-Block d) (every_here-Block IsExpressionLayer IsStatementLayer IsArmLayer IsBlockLayer IsFieldValueLayer IsOperandLayer (roll-Block d) is) in
-    let parts_are = subst (EachOfBlock IsExpression IsStatement IsArm IsBlock IsFieldValue IsOperand) (held.1 ∙ out-roll-Block d) (each_of_block IsExpression IsStatement IsArm IsBlock IsFieldValue IsOperand held.0) in
-    let parts_write = subst (EachOfBlock WritesExpression WritesStatement WritesArm WritesBlock WritesFieldValue WritesOperand) same (each_of_block WritesExpression WritesStatement WritesArm WritesBlock WritesFieldValue WritesOperand y) in
-    subst AreWritable (sym (fold-roll-Block (List Leaf) (List Leaf) (List Leaf) (List Leaf) (List Leaf) (List Leaf) expression_step statement_step arm_step block_step field_value_step operand_step d)) (block_writes d here parts_are parts_write)
+    of_layer block_layer_leaves IsBlockLayer (EachOfBlock IsExpression IsStatement IsArm IsBlock IsFieldValue IsOperand) (EachOfBlock WritesExpression WritesStatement WritesArm WritesBlock WritesFieldValue WritesOperand) block_writes (every_here-Block IsExpressionLayer IsStatementLayer IsArmLayer IsBlockLayer IsFieldValueLayer IsOperandLayer (roll-Block d) is) held.1 (each_of_block IsExpression IsStatement IsArm IsBlock IsFieldValue IsOperand held.0) same (each_of_block WritesExpression WritesStatement WritesArm WritesBlock WritesFieldValue WritesOperand y)
+    (out-roll-Block d) (fold-roll-Block (List Leaf) (List Leaf) (List Leaf) (List Leaf) (List Leaf) (List Leaf) expression_step statement_step arm_step block_step field_value_step operand_step d)
 
 field_value_of_layer : (d : FieldValue-F Expression Statement Arm Block FieldValue Operand) (y : FieldValue-F (Such WritesExpression) (Such WritesStatement) (Such WritesArm) (Such WritesBlock) (Such WritesFieldValue) (Such WritesOperand)) → map-FieldValue (Such WritesExpression) (Such WritesStatement) (Such WritesArm) (Such WritesBlock) (Such WritesFieldValue) (Such WritesOperand) Expression Statement Arm Block FieldValue Operand (λ e. e.0) (λ e. e.0) (λ e. e.0) (λ e. e.0) (λ e. e.0) (λ e. e.0) y ≡ d → WritesFieldValue (roll-FieldValue d)
 unfolding IsExpression IsBlock expression_leaves statement_leaves arm_leaves block_leaves field_value_leaves operand_leaves
 field_value_of_layer d y same is =
     let held = every_held-FieldValue IsExpressionLayer IsStatementLayer IsArmLayer IsBlockLayer IsFieldValueLayer IsOperandLayer (roll-FieldValue d) is in
-    let here = subst IsFieldValueLayer (out-roll-FieldValue d) (every_here-FieldValue IsExpressionLayer IsStatementLayer IsArmLayer IsBlockLayer IsFieldValueLayer IsOperandLayer (roll-FieldValue d) is) in
-    let parts_are = subst (EachOfFieldValue IsExpression IsStatement IsArm IsBlock IsFieldValue IsOperand) (held.1 ∙ out-roll-FieldValue d) (each_of_field_value IsExpression IsStatement IsArm IsBlock IsFieldValue IsOperand held.0) in
-    let parts_write = subst (EachOfFieldValue WritesExpression WritesStatement WritesArm WritesBlock WritesFieldValue WritesOperand) same (each_of_field_value WritesExpression WritesStatement WritesArm WritesBlock WritesFieldValue WritesOperand y) in
-    subst AreWritable (sym (fold-roll-FieldValue (List Leaf) (List Leaf) (List Leaf) (List Leaf) (List Leaf) (List Leaf) expression_step statement_step arm_step block_step field_value_step operand_step d)) (field_value_writes d here parts_are parts_write)
+    of_layer field_value_layer_leaves IsFieldValueLayer (EachOfFieldValue IsExpression IsStatement IsArm IsBlock IsFieldValue IsOperand) (EachOfFieldValue WritesExpression WritesStatement WritesArm WritesBlock WritesFieldValue WritesOperand) field_value_writes (every_here-FieldValue IsExpressionLayer IsStatementLayer IsArmLayer IsBlockLayer IsFieldValueLayer IsOperandLayer (roll-FieldValue d) is) held.1 (each_of_field_value IsExpression IsStatement IsArm IsBlock IsFieldValue IsOperand held.0) same (each_of_field_value WritesExpression WritesStatement WritesArm WritesBlock WritesFieldValue WritesOperand y)
+    (out-roll-FieldValue d) (fold-roll-FieldValue (List Leaf) (List Leaf) (List Leaf) (List Leaf) (List Leaf) (List Leaf) expression_step statement_step arm_step block_step field_value_step operand_step d)
 
 operand_of_layer : (d : Operand-F Expression Statement Arm Block FieldValue Operand) (y : Operand-F (Such WritesExpression) (Such WritesStatement) (Such WritesArm) (Such WritesBlock) (Such WritesFieldValue) (Such WritesOperand)) → map-Operand (Such WritesExpression) (Such WritesStatement) (Such WritesArm) (Such WritesBlock) (Such WritesFieldValue) (Such WritesOperand) Expression Statement Arm Block FieldValue Operand (λ e. e.0) (λ e. e.0) (λ e. e.0) (λ e. e.0) (λ e. e.0) (λ e. e.0) y ≡ d → WritesOperand (roll-Operand d)
 unfolding IsExpression IsBlock expression_leaves statement_leaves arm_leaves block_leaves field_value_leaves operand_leaves
 operand_of_layer d y same is =
     let held = every_held-Operand IsExpressionLayer IsStatementLayer IsArmLayer IsBlockLayer IsFieldValueLayer IsOperandLayer (roll-Operand d) is in
-    let here = subst IsOperandLayer (out-roll-Operand d) (every_here-Operand IsExpressionLayer IsStatementLayer IsArmLayer IsBlockLayer IsFieldValueLayer IsOperandLayer (roll-Operand d) is) in
-    let parts_are = subst (EachOfOperand IsExpression IsStatement IsArm IsBlock IsFieldValue IsOperand) (held.1 ∙ out-roll-Operand d) (each_of_operand IsExpression IsStatement IsArm IsBlock IsFieldValue IsOperand held.0) in
-    let parts_write = subst (EachOfOperand WritesExpression WritesStatement WritesArm WritesBlock WritesFieldValue WritesOperand) same (each_of_operand WritesExpression WritesStatement WritesArm WritesBlock WritesFieldValue WritesOperand y) in
-    subst AreWritable (sym (fold-roll-Operand (List Leaf) (List Leaf) (List Leaf) (List Leaf) (List Leaf) (List Leaf) expression_step statement_step arm_step block_step field_value_step operand_step d)) (operand_writes d here parts_are parts_write)
+    of_layer operand_layer_leaves IsOperandLayer (EachOfOperand IsExpression IsStatement IsArm IsBlock IsFieldValue IsOperand) (EachOfOperand WritesExpression WritesStatement WritesArm WritesBlock WritesFieldValue WritesOperand) operand_writes (every_here-Operand IsExpressionLayer IsStatementLayer IsArmLayer IsBlockLayer IsFieldValueLayer IsOperandLayer (roll-Operand d) is) held.1 (each_of_operand IsExpression IsStatement IsArm IsBlock IsFieldValue IsOperand held.0) same (each_of_operand WritesExpression WritesStatement WritesArm WritesBlock WritesFieldValue WritesOperand y)
+    (out-roll-Operand d) (fold-roll-Operand (List Leaf) (List Leaf) (List Leaf) (List Leaf) (List Leaf) (List Leaf) expression_step statement_step arm_step block_step field_value_step operand_step d)
 
 writable_expression : (t : Expression) → WritesExpression t
 writable_expression = ind-Expression WritesExpression WritesStatement WritesArm WritesBlock WritesFieldValue WritesOperand expression_of_layer statement_of_layer arm_of_layer block_of_layer field_value_of_layer operand_of_layer
@@ -263,45 +271,27 @@ writable_block : (t : Block) → WritesBlock t
 writable_block = ind-Block WritesExpression WritesStatement WritesArm WritesBlock WritesFieldValue WritesOperand expression_of_layer statement_of_layer arm_of_layer block_of_layer field_value_of_layer operand_of_layer
 
 -- constants
-abbrev IsConstantField : ConstantField → Type 0
-IsConstantField = every-ConstantField IsConstantLayer IsConstantFieldLayer
-
 abbrev WritesConstant : Constant → Type 0
 WritesConstant t = IsConstant t → AreWritable (constant_leaves t)
 
 abbrev WritesConstantField : ConstantField → Type 0
 WritesConstantField t = IsConstantField t → AreWritable (constant_field_leaves t)
 
-module _ (Q : Constant → Type 0) (QField : ConstantField → Type 0) where
-  abbrev EachOfConstant : Constant-F Constant ConstantField → Type 0
-  EachOfConstant (constant.Literal l) = ⊤
-  EachOfConstant (constant.Member of member) = ⊤
-  EachOfConstant (constant.Struct of fields close) = AllByRecursion QField fields.items
-  EachOfConstant (constant.Array place elements) = AllByRecursion Q elements.items
-
-  each_of_constant : (y : Constant-F (Such Q) (Such QField)) → EachOfConstant (map-Constant (Such Q) (Such QField) Constant ConstantField (λ e. e.0) (λ e. e.0) y)
-  each_of_constant (constant.Literal l) = tt
-  each_of_constant (constant.Member of member) = tt
-  each_of_constant (constant.Struct of fields close) = firsts QField fields.items
-  each_of_constant (constant.Array place elements) = firsts Q elements.items
-
 constant_writes : (d : Constant-F Constant ConstantField) → IsConstantLayer d → EachOfConstant IsConstant IsConstantField d → EachOfConstant WritesConstant WritesConstantField d →
     AreWritable (constant_step (map-Constant Constant ConstantField (List Leaf) (List Leaf) constant_leaves constant_field_leaves d))
 constant_writes (constant.Literal l) here is writes = (here, tt)
 constant_writes (constant.Member of member) here is writes = (here.0, (tt, (here.1, tt)))
 constant_writes (constant.Struct of fields close) here is writes =
-    (here.0, (tt, (tt, together (commas (map constant_field_leaves fields.items)) (placed (symbol symbols.RightBrace) close) (with_commas (map constant_field_leaves fields.items) (mapped constant_field_leaves fields.items (given IsConstantField constant_field_leaves fields.items is writes))) (tt, tt))))
+    (here.0, (tt, (tt, together (commas (map constant_field_leaves fields)) (placed (symbol symbols.RightBrace) close) (with_commas (map constant_field_leaves fields) (mapped constant_field_leaves fields (given IsConstantField constant_field_leaves fields is writes))) (tt, tt))))
 constant_writes (constant.Array place elements) here is writes =
-    (tt, together (commas (map constant_leaves elements.items)) (sign symbols.RightBracket) (with_commas (map constant_leaves elements.items) (mapped constant_leaves elements.items (given IsConstant constant_leaves elements.items is writes))) (tt, tt))
+    (tt, together (commas (map constant_leaves elements)) (sign symbols.RightBracket) (with_commas (map constant_leaves elements) (mapped constant_leaves elements (given IsConstant constant_leaves elements is writes))) (tt, tt))
 
 constant_of_layer : (d : Constant-F Constant ConstantField) (y : Constant-F (Such WritesConstant) (Such WritesConstantField)) → map-Constant (Such WritesConstant) (Such WritesConstantField) Constant ConstantField (λ e. e.0) (λ e. e.0) y ≡ d → WritesConstant (roll-Constant d)
 unfolding IsConstant constant_leaves constant_field_leaves
 constant_of_layer d y same is =
     let held = every_held-Constant IsConstantLayer IsConstantFieldLayer (roll-Constant d) is in
-    let here = subst IsConstantLayer (out-roll-Constant d) (every_here-Constant IsConstantLayer IsConstantFieldLayer (roll-Constant d) is) in
-    let parts_are = subst (EachOfConstant IsConstant IsConstantField) (held.1 ∙ out-roll-Constant d) (each_of_constant IsConstant IsConstantField held.0) in
-    let parts_write = subst (EachOfConstant WritesConstant WritesConstantField) same (each_of_constant WritesConstant WritesConstantField y) in
-    subst AreWritable (sym (fold-roll-Constant (List Leaf) (List Leaf) constant_step constant_field_step d)) (constant_writes d here parts_are parts_write)
+    of_layer _ IsConstantLayer (EachOfConstant IsConstant IsConstantField) (EachOfConstant WritesConstant WritesConstantField) constant_writes (every_here-Constant IsConstantLayer IsConstantFieldLayer (roll-Constant d) is) held.1 (each_of_constant IsConstant IsConstantField held.0) same (each_of_constant WritesConstant WritesConstantField y)
+    (out-roll-Constant d) (fold-roll-Constant (List Leaf) (List Leaf) constant_step constant_field_step d)
 
 constant_field_of_layer : (d : ConstantField-F Constant ConstantField) (y : ConstantField-F (Such WritesConstant) (Such WritesConstantField)) → map-ConstantField (Such WritesConstant) (Such WritesConstantField) Constant ConstantField (λ e. e.0) (λ e. e.0) y ≡ d → WritesConstantField (roll-ConstantField d)
 unfolding IsConstant constant_leaves constant_field_leaves
@@ -327,14 +317,14 @@ WritesScheduler t = IsScheduler t → AreWritable (scheduler_leaves t)
 
 module _ (Q : Choice → Type 0) (QScheduler : Scheduler → Type 0) where
   abbrev EachOfScheduler : Scheduler-F Choice Scheduler → Type 0
-  EachOfScheduler d = IfSome d.last (λ b. Q b.value)
+  EachOfScheduler d = IfSome d.last Q
 
   each_of_scheduler : (y : Scheduler-F (Such Q) (Such QScheduler)) → EachOfScheduler (map-Scheduler (Such Q) (Such QScheduler) Choice Scheduler (λ e. e.0) (λ e. e.0) y)
   each_of_scheduler y = of_parts y.rules y.last
     where
-      of_parts : (rules : List Name) (last : Option (Box (Such Q) Global)) → EachOfScheduler (map-Scheduler (Such Q) (Such QScheduler) Choice Scheduler (λ e. e.0) (λ e. e.0) (record { rules = rules; last = last }))
+      of_parts : (rules : List Name) (last : Option (Such Q)) → EachOfScheduler (map-Scheduler (Such Q) (Such QScheduler) Choice Scheduler (λ e. e.0) (λ e. e.0) (record { rules = rules; last = last }))
       of_parts rules None = tt
-      of_parts rules (Some b) = b.value.1
+      of_parts rules (Some b) = b.1
 
 rules_write : (rules : List Name) → All IsName rules → AreWritable (flat_map rule_leaves rules)
 rules_write rules are = all_together rule_leaves rules (of_all IsName rule_leaves (λ n is. (is, (tt, tt))) rules (recursion_from_All IsName rules are))
@@ -343,19 +333,17 @@ scheduler_writes : (d : Scheduler-F Choice Scheduler) → IsSchedulerLayer d →
     AreWritable (scheduler_step (map-Scheduler Choice Scheduler (List Leaf) (List Leaf) choice_leaves scheduler_leaves d))
 scheduler_writes d here is writes = of_parts d.rules d.last here is writes
   where
-    of_parts : (rules : List Name) (last : Option (Box Choice Global)) → All IsName rules → IfSome last (λ b. IsChoice b.value) → IfSome last (λ b. WritesChoice b.value) →
+    of_parts : (rules : List Name) (last : Option Choice) → All IsName rules → IfSome last IsChoice → IfSome last WritesChoice →
         AreWritable (scheduler_step (map-Scheduler Choice Scheduler (List Leaf) (List Leaf) choice_leaves scheduler_leaves (record { rules = rules; last = last })))
     of_parts rules None here is writes = together (flat_map rule_leaves rules) [] (rules_write rules here) tt
-    of_parts rules (Some b) here is writes = together (flat_map rule_leaves rules) (choice_leaves b.value) (rules_write rules here) (writes is)
+    of_parts rules (Some b) here is writes = together (flat_map rule_leaves rules) (choice_leaves b) (rules_write rules here) (writes is)
 
 scheduler_of_layer : (d : Scheduler-F Choice Scheduler) (y : Scheduler-F (Such WritesChoice) (Such WritesScheduler)) → map-Scheduler (Such WritesChoice) (Such WritesScheduler) Choice Scheduler (λ e. e.0) (λ e. e.0) y ≡ d → WritesScheduler (roll-Scheduler d)
 unfolding IsScheduler choice_leaves scheduler_leaves
 scheduler_of_layer d y same is =
     let held = every_held-Scheduler IsChoiceLayer IsSchedulerLayer (roll-Scheduler d) is in
-    let here = subst IsSchedulerLayer (out-roll-Scheduler d) (every_here-Scheduler IsChoiceLayer IsSchedulerLayer (roll-Scheduler d) is) in
-    let parts_are = subst (EachOfScheduler IsChoice IsScheduler) (held.1 ∙ out-roll-Scheduler d) (each_of_scheduler IsChoice IsScheduler held.0) in
-    let parts_write = subst (EachOfScheduler WritesChoice WritesScheduler) same (each_of_scheduler WritesChoice WritesScheduler y) in
-    subst AreWritable (sym (fold-roll-Scheduler (List Leaf) (List Leaf) choice_step scheduler_step d)) (scheduler_writes d here parts_are parts_write)
+    of_layer _ IsSchedulerLayer (EachOfScheduler IsChoice IsScheduler) (EachOfScheduler WritesChoice WritesScheduler) scheduler_writes (every_here-Scheduler IsChoiceLayer IsSchedulerLayer (roll-Scheduler d) is) held.1 (each_of_scheduler IsChoice IsScheduler held.0) same (each_of_scheduler WritesChoice WritesScheduler y)
+    (out-roll-Scheduler d) (fold-roll-Scheduler (List Leaf) (List Leaf) choice_step scheduler_step d)
 
 in_braces_writes : (inside : List Leaf) → AreWritable inside → AreWritable (in_braces inside)
 in_braces_writes inside w = (tt, together inside (sign symbols.RightBrace) w (tt, tt))

@@ -11,7 +11,7 @@ ghost use Rattle.koika_print.specs.inner.Printed.{Prints};
 use crate::leaves::{comma_behind, else_behind, literal, name, sign, word};
 use crate::primaries::{extend, pack, prefixed, read, replaced, suffixed, unpack, write};
 use koika_syntax::{Arm, Block, Expression, FieldValue, Keyword, Name, Operand, Statement, Symbol};
-use kw_bits::{NoMemory, Text};
+use kw_bits::{Boxed, NoMemory, Text};
 
 /// Writes an expression.
 #[cycle(expression)]
@@ -25,11 +25,11 @@ pub(crate) fn expression(out: &mut Text, value: &Expression) -> Result<(), NoMem
             last_arm(out, otherwise)
         }
         Expression::Chain { first, rest } => {
-            expression(out, first)?;
+            expression(out, first.get())?;
             operand_run(out, rest.as_slice())
         }
-        Expression::Unary { prefixes, operand } => prefixed(out, prefixes, operand),
-        Expression::Postfix { primary, suffixes } => suffixed(out, primary, suffixes),
+        Expression::Unary { prefixes, operand } => prefixed(out, prefixes, operand.get()),
+        Expression::Postfix { primary, suffixes } => suffixed(out, primary.get(), suffixes),
         Expression::Literal(bits) => literal(out, *bits),
         Expression::Name(local) => name(out, local),
         Expression::Call { called, arguments } => call(out, called, arguments.as_slice()),
@@ -40,7 +40,7 @@ pub(crate) fn expression(out: &mut Text, value: &Expression) -> Result<(), NoMem
             close: _,
         } => struct_of(out, of, fields.as_slice()),
         Expression::Array { place: _, elements } => array(out, elements.as_slice()),
-        Expression::Parentheses { place: _, inside } => parentheses(out, inside),
+        Expression::Parentheses { place: _, inside } => parentheses(out, inside.get()),
         Expression::Block(inside) => block(out, inside),
         Expression::Read {
             place: _,
@@ -52,20 +52,20 @@ pub(crate) fn expression(out: &mut Text, value: &Expression) -> Result<(), NoMem
             port,
             register,
             value,
-        } => write(out, *port, register, value),
+        } => write(out, *port, register, value.get()),
         Expression::Abort { place: _ } => word(out, Keyword::Abort),
-        Expression::Pack { place: _, value } => pack(out, value),
+        Expression::Pack { place: _, value } => pack(out, value.get()),
         Expression::Unpack {
             place: _,
             to,
             value,
-        } => unpack(out, value, to),
+        } => unpack(out, value.get(), to),
         Expression::Extend {
             place: _,
             extension,
             value,
             width,
-        } => extend(out, *extension, value, *width),
+        } => extend(out, *extension, value.get(), *width),
         Expression::Compare {
             place: _,
             comparison,
@@ -217,21 +217,25 @@ fn array(out: &mut Text, elements: &[Expression]) -> Result<(), NoMemory>
 
 // Writes a word, and its first argument with the comma after it.
 #[cycle(expression)]
-fn first_argument(out: &mut Text, called: Keyword, value: &Expression) -> Result<(), NoMemory>
+fn first_argument(
+    out: &mut Text,
+    called: Keyword,
+    value: &Boxed<Expression>,
+) -> Result<(), NoMemory>
     ensures { OnOk result (Prints out.old out.new
         (word called ++ sign symbols.LeftParenthesis ++ expression_leaves value.now ++ sign symbols.Comma)) }
 {
     word(out, called)?;
     sign(out, Symbol::LeftParenthesis)?;
-    expression(out, value)?;
+    expression(out, value.get())?;
     sign(out, Symbol::Comma)
 }
 
 #[cycle(expression)]
-fn last_argument(out: &mut Text, value: &Expression) -> Result<(), NoMemory>
+fn last_argument(out: &mut Text, value: &Boxed<Expression>) -> Result<(), NoMemory>
     ensures { OnOk result (Prints out.old out.new (expression_leaves value.now ++ sign symbols.RightParenthesis)) }
 {
-    expression(out, value)?;
+    expression(out, value.get())?;
     sign(out, Symbol::RightParenthesis)
 }
 
@@ -257,12 +261,12 @@ pub(crate) fn block(out: &mut Text, of: &Block) -> Result<(), NoMemory>
 }
 
 #[cycle(expression)]
-fn last(out: &mut Text, value: &Option<Box<Expression>>) -> Result<(), NoMemory>
-    ensures { OnOk result (Prints out.old out.new (last_leaves value.now (λ last. expression_leaves last.value))) }
+fn last(out: &mut Text, value: &Option<Boxed<Expression>>) -> Result<(), NoMemory>
+    ensures { OnOk result (Prints out.old out.new (last_leaves value.now expression_leaves)) }
 {
     match value {
         None => Ok(()),
-        Some(last) => expression(out, last),
+        Some(last) => expression(out, last.get()),
     }
 }
 

@@ -14,7 +14,7 @@ use crate::leaves::{name, number, sign, word};
 use crate::types::type_expression;
 use koika_syntax::{
     Expression, Extension, Keyword, Name, Number, Prefix, Suffix, Symbol, TypeExpression,
-    UpdatedPart,
+    UpdatedPart, read_word, write_word,
 };
 use kw_bits::{NoMemory, Sequence, Text};
 
@@ -175,28 +175,4 @@ pub(crate) fn replaced(out: &mut Text, part: &UpdatedPart) -> Result<(), NoMemor
         UpdatedPart::Index(index) => number(out, *index)?,
     }
     sign(out, Symbol::Comma)
-}
-
-// How a read at a port is written.
-fn read_word(port: u32) -> Keyword
-    ensures { result ≡ read_word port }
-{
-    match port {
-        1 => Keyword::Read1,
-        2 => Keyword::Read2,
-        3 => Keyword::Read3,
-        _ => Keyword::Read0,
-    }
-}
-
-// How a write at a port is written.
-fn write_word(port: u32) -> Keyword
-    ensures { result ≡ write_word port }
-{
-    match port {
-        1 => Keyword::Write1,
-        2 => Keyword::Write2,
-        3 => Keyword::Write3,
-        _ => Keyword::Write0,
-    }
 }

@@ -9,7 +9,7 @@ ghost use Rattle.koika_print.specs.inner.Printed.{Prints};
 
 use crate::leaves::{name, sign, word};
 use koika_syntax::{Choice, Keyword, Name, Scheduler, Symbol};
-use kw_bits::{NoMemory, Text};
+use kw_bits::{Boxed, NoMemory, Text};
 
 // Writes a scheduler without its brackets.
 #[cycle(scheduler)]
@@ -32,12 +32,12 @@ fn rules(out: &mut Text, rules: &[Name]) -> Result<(), NoMemory>
 }
 
 #[cycle(scheduler)]
-fn last(out: &mut Text, last: &Option<Box<Choice>>) -> Result<(), NoMemory>
-    ensures { OnOk result (Prints out.old out.new (last_leaves last.now (λ last. choice_leaves last.value))) }
+fn last(out: &mut Text, last: &Option<Boxed<Choice>>) -> Result<(), NoMemory>
+    ensures { OnOk result (Prints out.old out.new (last_leaves last.now choice_leaves)) }
 {
     match last {
         None => Ok(()),
-        Some(last) => choice(out, last),
+        Some(last) => choice(out, last.get()),
     }
 }
 

@@ -8,6 +8,9 @@ use crate::leaves::{name, number, sign, width};
 use koika_syntax::{Symbol, TypeExpression};
 use kw_bits::{NoMemory, Text};
 
+/// Writes a type.
+#[cycle(type_expression)]
+#[tactic(auto, using(crate::proofs::Printing::printing), unfolding(koika_syntax::specs::Grammar::type_leaves))]
 pub(crate) fn type_expression(out: &mut Text, of: &TypeExpression) -> Result<(), NoMemory>
     ensures { OnOk result (Prints out.old out.new (type_leaves of.now)) }
 {
@@ -20,7 +23,7 @@ pub(crate) fn type_expression(out: &mut Text, of: &TypeExpression) -> Result<(),
             length,
         } => {
             sign(out, Symbol::LeftBracket)?;
-            type_expression(out, element)?;
+            type_expression(out, element.get())?;
             sign(out, Symbol::Semicolon)?;
             number(out, *length)?;
             sign(out, Symbol::RightBracket)
