@@ -3,24 +3,23 @@ use Rattle.std.proofs.Common.{◌≡◌, ℕ, suc, ◌+◌, ◌<◌, ◌≤◌, 
 use Rattle.std.proofs.Math.Seq.{drop-cons}
 use Rattle.std.proofs.lemmas.List.{drop_all}
 use Rattle.koika_check.specs.Outcomes.{Condition, Gives, Fails, CheckResult, ◌>>=◌, found, one_by_one, smaller, smallest, unless, where_all}
-use Rattle.koika_check.specs.inner.Outcomes.{Ends, Passes, Tells}
-use Rattle.koika_check.specs.declared.stop.Stop.{Stop}
-use Rattle.koika_check.specs.declared.stop.Stop.TheVariants as stops
+use Rattle.koika_check.specs.inner.Outcomes.{Ends, Passes, Stop, Tells}
+use Rattle.kw_bits.specs.declared.failure.Failure.TheVariants as failures
 use Rattle.koika_check.specs.declared.stop.Wrong.{Wrong}
 
 -- why a part ends is why the whole ends
 pub ends : {X Y : Type 0} (whole : CheckResult Y) (o : CheckResult X) (f : X → CheckResult Y) (e : Stop) → whole ≡ (o >>= f) → Ends o e → Ends whole e
-ends whole o f stops.NoMemory q h = tt
-ends whole o f (stops.Wrong w) q h = q ∙ ap (λ p. p >>= f) h
+ends whole o f failures.NoMemory q h = tt
+ends whole o f (failures.Why w) q h = q ∙ ap (λ p. p >>= f) h
 
 pub ends-same : {X : Type 0} (whole o : CheckResult X) (e : Stop) → whole ≡ o → Ends o e → Ends whole e
-ends-same whole o stops.NoMemory q h = tt
-ends-same whole o (stops.Wrong w) q h = q ∙ h
+ends-same whole o failures.NoMemory q h = tt
+ends-same whole o (failures.Why w) q h = q ∙ h
 
 pub tells-ends : {X Y : Type 0} (is : Y → X → Type 0) (o : CheckResult X) (e : Stop) → Tells is o (Err e) → Ends o e
-tells-ends is o stops.NoMemory h = tt
-tells-ends is (Gives x) (stops.Wrong w) h = absurd h
-tells-ends is (Fails f) (stops.Wrong w) h = ap Fails (sym h)
+tells-ends is o failures.NoMemory h = tt
+tells-ends is (Gives x) (failures.Why w) h = absurd h
+tells-ends is (Fails f) (failures.Why w) h = ap Fails (sym h)
 
 -- what is found is there
 pub found-some : {X : Type 0} (o : Option X) (w : Wrong) (x : X) → found o w ≡ Gives x → o ≡ Some x
@@ -34,9 +33,9 @@ bind-gives (Fails w) f y e = absurd cc
 
 -- the fault of a condition ends a call, which goes on where it holds
 pub passes-ends : (X : Type 0) {Y : Type 0} (c c' : Condition) (y : Y) (e : Stop) → c ≡ c' → Passes {X = X} c (Err e) → Ends (where_all (c' ∷ []) y) e
-passes-ends X c c' y stops.NoMemory q h = tt
-passes-ends X None c' y (stops.Wrong w) q h = absurd h
-passes-ends X (Some f) c' y (stops.Wrong w) q h = ap (λ (k : Condition). unless (smaller k None) y) (sym q) ∙ ap Fails (sym h)
+passes-ends X c c' y failures.NoMemory q h = tt
+passes-ends X None c' y (failures.Why w) q h = absurd h
+passes-ends X (Some f) c' y (failures.Why w) q h = ap (λ (k : Condition). unless (smaller k None) y) (sym q) ∙ ap Fails (sym h)
 
 pub passes-gives : {X Y : Type 0} (c c' : Condition) (x : X) (y : Y) → c ≡ c' → Passes c (Ok x) → where_all (c' ∷ []) y ≡ Gives y
 passes-gives None c' x y q h = ap (λ (k : Condition). unless (smaller k None) y) (sym q)
@@ -44,9 +43,9 @@ passes-gives (Some f) c' x y q h = absurd h
 
 -- the same of several conditions
 pub all-ends : (X : Type 0) {Y : Type 0} (c : Condition) (cs : List Condition) (y : Y) (e : Stop) → c ≡ smallest cs → Passes {X = X} c (Err e) → Ends (where_all cs y) e
-all-ends X c cs y stops.NoMemory q h = tt
-all-ends X None cs y (stops.Wrong w) q h = absurd h
-all-ends X (Some f) cs y (stops.Wrong w) q h = ap (λ (k : Condition). unless k y) (sym q) ∙ ap Fails (sym h)
+all-ends X c cs y failures.NoMemory q h = tt
+all-ends X None cs y (failures.Why w) q h = absurd h
+all-ends X (Some f) cs y (failures.Why w) q h = ap (λ (k : Condition). unless k y) (sym q) ∙ ap Fails (sym h)
 
 pub all-gives : {X Y : Type 0} (c : Condition) (cs : List Condition) (x : X) (y : Y) → c ≡ smallest cs → Passes c (Ok x) → where_all cs y ≡ Gives y
 all-gives None cs x y q h = ap (λ (k : Condition). unless k y) (sym q)

@@ -57,7 +57,7 @@ place-found (b ∷ rest) n p d e = by_test (nat_eq n b.name) refl (place-found r
         let z : suc (length rest) - 1 - p ≡ suc (length rest - 1 - p) = omega (arith, found.0) in
         (omega (arith, found.0), ap (λ i. (get_or (b ∷ rest) i d).name) z ∙ found.1)
 
-not_true : (b : Bool) → (b ≡ true → ⊥) → b ≡ false
+pub not_true : (b : Bool) → (b ≡ true → ⊥) → b ≡ false
 not_true true h = absurd (h refl)
 not_true false h = refl
 

@@ -1,5 +1,5 @@
 -- What an `if`, a block and the parts of expressions come to, by what their own parts come to.
-use Rattle.std.proofs.Common.{◌≡◌, ℕ, List, [], ◌∷◌, Box, Vec, Global, map, Option, Some, None, ap, refl, sym, ◌∙◌}
+use Rattle.std.proofs.Common.{◌≡◌, ℕ, List, [], ◌∷◌, map, Option, Some, None, ap, refl, sym, ◌∙◌}
 use Rattle.std.specs.Option.{option_map}
 use Rattle.koika_syntax.specs.declared.tree.Arm.{Arm, out-Arm, fold_out-Arm}
 use Rattle.koika_syntax.specs.declared.tree.Block.{Block, out-Block, roll-Block, roll-out-Block, fold-roll-Block}
@@ -20,15 +20,15 @@ use Rattle.koika_check.specs.inner.TypedParts.{bound_step}
 use Rattle.koika_check.specs.declared.typed.BlockStep.TheVariants as step
 use Rattle.koika_check.proofs.Turns.{one-map, turn-map}
 
-pub expression-If : (arms : Vec Arm Global) (otherwise : Option Block) (s : Scope) →
-    expression_in (views.If arms otherwise) s ≡ (in_turn (λ a. arm_in a s) arms.items >>= λ xs. otherwise_in s (option_map block_in otherwise) >>= conditional xs)
+pub expression-If : (arms : List Arm) (otherwise : Option Block) (s : Scope) →
+    expression_in (views.If arms otherwise) s ≡ (in_turn (λ a. arm_in a s) arms >>= λ xs. otherwise_in s (option_map block_in otherwise) >>= conditional xs)
 unfolding expression_in statement_in arm_in block_in field_value_in operand_in
 expression-If arms None s =
     ap (λ e. expression_in e s) (sym (views.rolls-If arms None)) ∙ ap (λ m. m s) (fold-roll-Expression ExpressionTyping StatementTyping Armed ExpressionTyping Fielded Joining expression_step statement_step arm_step block_step field_value_step operand_step (opened.If arms None))
-    ∙ ap (λ (o : CheckResult (List ArmTyping)). o >>= λ xs. otherwise_in s None >>= conditional xs) (turn-map (λ (m : Armed). m s) arm_in arms.items)
+    ∙ ap (λ (o : CheckResult (List ArmTyping)). o >>= λ xs. otherwise_in s None >>= conditional xs) (turn-map (λ (m : Armed). m s) arm_in arms)
 expression-If arms (Some b) s =
     ap (λ e. expression_in e s) (sym (views.rolls-If arms (Some b))) ∙ ap (λ m. m s) (fold-roll-Expression ExpressionTyping StatementTyping Armed ExpressionTyping Fielded Joining expression_step statement_step arm_step block_step field_value_step operand_step (opened.If arms (Some b)))
-    ∙ ap (λ (o : CheckResult (List ArmTyping)). o >>= λ xs. otherwise_in s (Some (block_in b)) >>= conditional xs) (turn-map (λ (m : Armed). m s) arm_in arms.items)
+    ∙ ap (λ (o : CheckResult (List ArmTyping)). o >>= λ xs. otherwise_in s (Some (block_in b)) >>= conditional xs) (turn-map (λ (m : Armed). m s) arm_in arms)
 
 pub statement-Let : (n : Name) (value : Expression) (s : Scope) → statement_in (statements.Let n value) s ≡ (expression_in value s >>= bound_step n s)
 unfolding expression_in statement_in arm_in block_in field_value_in operand_in
@@ -54,21 +54,21 @@ unfolding expression_in statement_in arm_in block_in field_value_in operand_in
 operand-parts o = fold_out-Operand ExpressionTyping StatementTyping Armed ExpressionTyping Fielded Joining expression_step statement_step arm_step block_step field_value_step operand_step o
 
 -- a block's statements, and then its last expression
-abbrev block_of : (place : ℕ) → List Statement → Option (Box Expression Global) → ExpressionTyping
+abbrev block_of : (place : ℕ) → List Statement → Option Expression → ExpressionTyping
 block_of place items value s =
-    one_by_one (λ t. run (statement_in t)) items (record { steps = []; behind = s }) >>= close place (option_map (λ (e : Box Expression Global). expression_in e.value) value)
+    one_by_one (λ t. run (statement_in t)) items (record { steps = []; behind = s }) >>= close place (option_map expression_in value)
 
-block-at : (place : ℕ) (items : Vec Statement Global) (value : Option (Box Expression Global)) (s : Scope) →
-    block_in (roll-Block (record { place = place; statements = items; value = value })) s ≡ block_of place items.items value s
+block-at : (place : ℕ) (items : List Statement) (value : Option Expression) (s : Scope) →
+    block_in (roll-Block (record { place = place; statements = items; value = value })) s ≡ block_of place items value s
 unfolding expression_in statement_in arm_in block_in field_value_in operand_in
 block-at place items None s =
     ap (λ m. m s) (fold-roll-Block ExpressionTyping StatementTyping Armed ExpressionTyping Fielded Joining expression_step statement_step arm_step block_step field_value_step operand_step (record { place = place; statements = items; value = None }))
-    ∙ ap (λ (o : CheckResult BlockSoFar). o >>= close place None) (one-map run statement_in items.items (record { steps = []; behind = s }))
+    ∙ ap (λ (o : CheckResult BlockSoFar). o >>= close place None) (one-map run statement_in items (record { steps = []; behind = s }))
 block-at place items (Some last) s =
     ap (λ m. m s) (fold-roll-Block ExpressionTyping StatementTyping Armed ExpressionTyping Fielded Joining expression_step statement_step arm_step block_step field_value_step operand_step (record { place = place; statements = items; value = Some last }))
-    ∙ ap (λ (o : CheckResult BlockSoFar). o >>= close place (Some (expression_in last.value))) (one-map run statement_in items.items (record { steps = []; behind = s }))
+    ∙ ap (λ (o : CheckResult BlockSoFar). o >>= close place (Some (expression_in last))) (one-map run statement_in items (record { steps = []; behind = s }))
 
-pub block-parts : (b : Block) (s : Scope) → block_in b s ≡ block_of (out-Block b).place (out-Block b).statements.items (out-Block b).value s
+pub block-parts : (b : Block) (s : Scope) → block_in b s ≡ block_of (out-Block b).place (out-Block b).statements (out-Block b).value s
 block-parts b s = ap (λ k. block_in k s) (sym (roll-out-Block b)) ∙ block-at (out-Block b).place (out-Block b).statements (out-Block b).value s
 
 -- a chain's operands, one by one

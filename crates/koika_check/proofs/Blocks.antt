@@ -14,7 +14,7 @@ use Rattle.koika_check.specs.Expressions.{BlockSoFar, Stepping, close, run}
 use Rattle.koika_check.specs.inner.Expressions.{expression_in, statement_in}
 use Rattle.koika_check.specs.inner.Locals.{AreLocals, inside_of, local_of, locals_of, shapes_of}
 use Rattle.koika_check.specs.Outcomes.{Gives, CheckResult, ◌>>=◌, found, one_by_one}
-use Rattle.koika_check.specs.inner.Outcomes.{Ends}
+use Rattle.koika_check.specs.inner.Outcomes.{Ends, Stop}
 use Rattle.koika_check.specs.Scopes.{Local, Scope, bound}
 use Rattle.koika_check.specs.inner.Shapes.{part_of, type_if, type_of_shape}
 use Rattle.koika_check.specs.inner.TypedParts.{AreSteps, IsStep, bound_step}
@@ -24,8 +24,7 @@ use Rattle.koika_check.specs.declared.checker.Checker.{Checker}
 use Rattle.koika_check.specs.declared.checker.Typing.{Typing}
 use Rattle.koika_check.specs.declared.locals.Locals.{Locals}
 use Rattle.koika_check.specs.declared.shapes.Shape.{Shape}
-use Rattle.koika_check.specs.declared.stop.Stop.{Stop}
-use Rattle.koika_check.specs.declared.stop.Stop.TheVariants as stops
+use Rattle.kw_bits.specs.declared.failure.Failure.TheVariants as failures
 use Rattle.koika_check.specs.declared.stop.Wrong.{Wrong}
 use Rattle.koika_check.specs.declared.typed.BlockStep.{BlockStep}
 use Rattle.koika_check.specs.declared.typed.BlockStep.TheVariants as step
@@ -89,10 +88,10 @@ done-gives old new o y h = record {
 
 -- ---- `let`
 
-pub unit-unbound : (c : Checker) (n : Name) (y : Typing) (w : Wrong) → y.part.of ≡ None → w ≡ wrong_type (part_of (arrays_of c) y.part) → Ends (bound_step n (scope_of c) (typing_of c y)) (stops.Wrong w)
+pub unit-unbound : (c : Checker) (n : Name) (y : Typing) (w : Wrong) → y.part.of ≡ None → w ≡ wrong_type (part_of (arrays_of c) y.part) → Ends (bound_step n (scope_of c) (typing_of c y)) (failures.Why w)
 unit-unbound c n y w none is = fails (type_if (arrays_of c) y.part.of) (ap (type_if (arrays_of c)) none)
   where
-    fails : (o : Option ValueType) → o ≡ None → Ends {X = Stepping} (found o (wrong_type (part_of (arrays_of c) y.part)) >>= λ of. Gives (record { step = step.Let y.typed; behind = bound n.text of (scope_of c) })) (stops.Wrong w)
+    fails : (o : Option ValueType) → o ≡ None → Ends {X = Stepping} (found o (wrong_type (part_of (arrays_of c) y.part)) >>= λ of. Gives (record { step = step.Let y.typed; behind = bound n.text of (scope_of c) })) (failures.Why w)
     fails None e = ap (λ v. found None v >>= λ of. Gives (record { step = step.Let y.typed; behind = bound n.text of (scope_of c) })) (sym is)
     fails (Some t) e = absurd cc
 

@@ -10,7 +10,7 @@ use Rattle.koika_check.specs.Expressions.{chain_in, join_in}
 use Rattle.koika_check.specs.inner.Expressions.{expression_in, operand_in}
 use Rattle.koika_check.specs.Operators.{operated}
 use Rattle.koika_check.specs.Outcomes.{Gives, CheckResult, ◌>>=◌, one_by_one}
-use Rattle.koika_check.specs.inner.Outcomes.{Ends, Tells}
+use Rattle.koika_check.specs.inner.Outcomes.{Ends, Stop, Tells}
 use Rattle.koika_check.specs.Scopes.{Scope}
 use Rattle.koika_check.specs.inner.Shapes.{Denotes, part_of, type_if}
 use Rattle.koika_check.specs.inner.TypedParts.{Chained, In, IsChained}
@@ -18,7 +18,6 @@ use Rattle.koika_check.specs.Types.{TypedPart as TypedPart, part}
 use Rattle.koika_check.specs.declared.checker.Checker.{Checker}
 use Rattle.koika_check.specs.declared.checker.Typing.{Typing}
 use Rattle.koika_check.specs.declared.shapes.Shape.{Shape}
-use Rattle.koika_check.specs.declared.stop.Stop.{Stop}
 use Rattle.koika_check.specs.declared.typed.Operation.TheVariants as operation
 use Rattle.koika_check.specs.declared.typed.Typed.{Typed}
 use Rattle.koika_check.specs.declared.typed.Typed.TheVariants as made

@@ -13,7 +13,7 @@ use Rattle.koika_types.specs.declared.declarations.EnumDecl.{EnumDecl}
 use Rattle.koika_check.specs.inner.Checking.{AreTypes, AreWidths, Grows, IsChecker, IsDeclared, IsNamed, IsWidth, arrays_of, enum_by, shape_of, struct_by, type_by_thing}
 use Rattle.koika_check.specs.inner.Locals.{AreLocals}
 use Rattle.koika_check.specs.Outcomes.{Fails, Gives, found, wrong, ◌>>=◌}
-use Rattle.koika_check.specs.inner.Outcomes.{Tells}
+use Rattle.koika_check.specs.inner.Outcomes.{Stop, Tells}
 use Rattle.koika_check.specs.inner.Shapes.{AreShapes, IsShape, array_types, type_of_shape}
 use Rattle.koika_check.specs.inner.Shapes as shapes
 use Rattle.koika_check.specs.inner.Things.{AreParts, AreThings, thing_named}
@@ -27,7 +27,6 @@ use Rattle.koika_check.specs.declared.locals.Bound.{Bound}
 use Rattle.koika_check.specs.declared.shapes.ArrayShape.{ArrayShape}
 use Rattle.koika_check.specs.declared.shapes.Shape.{Shape}
 use Rattle.koika_check.specs.declared.shapes.Shapes.{Shapes}
-use Rattle.koika_check.specs.declared.stop.Stop.{Stop}
 use Rattle.koika_check.specs.declared.stop.Wrong.{Wrong}
 use Rattle.koika_check.specs.declared.things.Thing.{Thing}
 use Rattle.koika_check.specs.declared.things.Thing.TheVariants as thing

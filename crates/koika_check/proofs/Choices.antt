@@ -8,7 +8,7 @@ use Rattle.koika_check.specs.Constructs.{ArmTyping, conditional, types_of_parts,
 use Rattle.koika_check.specs.Constructs as constructs
 use Rattle.koika_check.specs.Expressions.{otherwise_in}
 use Rattle.koika_check.specs.Outcomes.{Condition, Gives, CheckResult, ◌>>=◌, smallest, unless, where_all}
-use Rattle.koika_check.specs.inner.Outcomes.{Tells}
+use Rattle.koika_check.specs.inner.Outcomes.{Stop, Tells}
 use Rattle.koika_check.specs.Scopes.{Scope}
 use Rattle.koika_check.specs.inner.Shapes.{part_of, type_if}
 use Rattle.koika_check.specs.inner.TypedParts.{AreArms, In, IsLast, place_of_first, typings_of}
@@ -19,8 +19,7 @@ use Rattle.koika_check.specs.declared.checker.Typing.{Typing}
 use Rattle.koika_check.specs.declared.checker.Typings.{Typings}
 use Rattle.koika_check.specs.declared.expressions.Arms.{Arms}
 use Rattle.koika_check.specs.declared.shapes.Shape.{Shape}
-use Rattle.koika_check.specs.declared.stop.Stop.{Stop}
-use Rattle.koika_check.specs.declared.stop.Stop.TheVariants as stops
+use Rattle.kw_bits.specs.declared.failure.Failure.TheVariants as failures
 use Rattle.koika_check.specs.declared.typed.Typed.{Typed}
 use Rattle.koika_check.specs.declared.typed.Typed.TheVariants as made
 use Rattle.koika_check.specs.declared.typed.ValueType.{ValueType}
@@ -74,11 +73,11 @@ choice-checks old mid new o last arms r h k =
 -- ---- the conditions of an `if`
 
 tells-unless : {X Y : Type 0} (is : Y → X → Type 0) (c c' : Condition) (z : Y) (x : X) (r : Result Y Stop) → c ≡ c' → is z x → Tells (λ (y z : Y). y ≡ z) (unless c z) r → Tells is (unless c' x) r
-tells-unless is c c' z x (Err stops.NoMemory) e h t = tt
+tells-unless is c c' z x (Err failures.NoMemory) e h t = tt
 tells-unless is None c' z x (Ok y) e h t = subst (λ d. Tells is (unless d x) (Ok y)) e (subst (λ w. is w x) (sym t) h)
-tells-unless is None c' z x (Err (stops.Wrong w)) e h t = absurd t
+tells-unless is None c' z x (Err (failures.Why w)) e h t = absurd t
 tells-unless is (Some f) c' z x (Ok y) e h t = absurd t
-tells-unless is (Some f) c' z x (Err (stops.Wrong w)) e h t = subst (λ d. Tells is (unless d x) (Err (stops.Wrong w))) e t
+tells-unless is (Some f) c' z x (Err (failures.Why w)) e h t = subst (λ d. Tells is (unless d x) (Err (failures.Why w))) e t
 
 first-of-bodies : (bodies : List constructs.Typing) (y : constructs.Typing) → type_of_bodies bodies (y ∷ []) ≡ type_of_first (types_of_parts (bodies ++ y ∷ []))
 first-of-bodies [] y = refl

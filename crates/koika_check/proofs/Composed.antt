@@ -4,7 +4,7 @@ use Rattle.koika_syntax.specs.declared.tree.Name.{Name}
 use Rattle.koika_check.specs.inner.Checking.{AreTyped, Checks, Grows, IsCalled, IsChecker, IsPart, IsTyping, Stands, TypedAs, Yields, arrays_of, scope_of, typing_of}
 use Rattle.koika_check.specs.Constructs as constructs
 use Rattle.koika_check.specs.Outcomes.{Fails, Gives, CheckResult, ◌>>=◌}
-use Rattle.koika_check.specs.inner.Outcomes.{Ends, Tells}
+use Rattle.koika_check.specs.inner.Outcomes.{Ends, Stop, Tells}
 use Rattle.koika_check.specs.Scopes as scopes
 use Rattle.koika_check.specs.Scopes.{Scope}
 use Rattle.koika_check.specs.inner.Shapes.{part_of}
@@ -15,7 +15,6 @@ use Rattle.koika_check.specs.declared.checked.Checked.{Checked}
 use Rattle.koika_check.specs.declared.checker.Checker.{Checker}
 use Rattle.koika_check.specs.declared.checker.Typing.{Typing}
 use Rattle.koika_check.specs.declared.checker.Typings.{Typings}
-use Rattle.koika_check.specs.declared.stop.Stop.{Stop}
 use Rattle.koika_check.specs.declared.typed.Typed.{Typed}
 use Rattle.koika_check.specs.declared.typed.ValueType.{ValueType}
 use Rattle.koika_check.specs.declared.types.NamedType.{NamedType}

@@ -1,5 +1,5 @@
 -- What a constant comes to, by what its parts come to.
-use Rattle.std.proofs.Common.{◌≡◌, ℕ, List, Some, Vec, Global, ap, sym, ◌∙◌}
+use Rattle.std.proofs.Common.{◌≡◌, ℕ, List, Some, ap, sym, ◌∙◌}
 use Rattle.kw_base.specs.declared.fault_number.TheConstants.{UNKNOWN_NAME}
 use Rattle.koika_syntax.specs.declared.tree.Constant.{Constant, fold-roll-Constant}
 use Rattle.koika_syntax.specs.declared.tree.Constant.TheOpen as opened
@@ -25,20 +25,20 @@ pub constant-Member : (of m : Name) (d : Checked) → constant_of (variants.Memb
 unfolding constant_of constant_field_of
 constant-Member of m d = ap (λ c. constant_of c d) (sym (variants.rolls-Member of m)) ∙ ap (λ m. m d) (fold-roll-Constant ConstantMeaning FieldMeaning constant_step constant_field_step (opened.Member of m))
 
-pub constant-Struct : (of : Name) (fields : Vec ConstantField Global) (close : ℕ) (d : Checked) → constant_of (constant.Struct of fields close) d ≡
-    (found (struct_named d of.text) (wrong UNKNOWN_NAME of.place) >>= λ number. in_turn (λ f. constant_field_of f d) fields.items >>= struct_known d number of.place close)
+pub constant-Struct : (of : Name) (fields : List ConstantField) (close : ℕ) (d : Checked) → constant_of (constant.Struct of fields close) d ≡
+    (found (struct_named d of.text) (wrong UNKNOWN_NAME of.place) >>= λ number. in_turn (λ f. constant_field_of f d) fields >>= struct_known d number of.place close)
 unfolding constant_of constant_field_of
 constant-Struct of fields close d =
     ap (λ c. constant_of c d) (sym (constant.rolls-Struct of fields close))
     ∙ ap (λ m. m d) (fold-roll-Constant ConstantMeaning FieldMeaning constant_step constant_field_step (opened.Struct of fields close))
-    ∙ ap (λ (o : CheckResult (List KnownField)). found (struct_named d of.text) (wrong UNKNOWN_NAME of.place) >>= λ number. o >>= struct_known d number of.place close) (turn-map (λ (m : FieldMeaning). m d) constant_field_of fields.items)
+    ∙ ap (λ (o : CheckResult (List KnownField)). found (struct_named d of.text) (wrong UNKNOWN_NAME of.place) >>= λ number. o >>= struct_known d number of.place close) (turn-map (λ (m : FieldMeaning). m d) constant_field_of fields)
 
-pub constant-Array : (place : ℕ) (elements : Vec Constant Global) (d : Checked) → constant_of (constant.Array place elements) d ≡ (in_turn (λ e. constant_of e d) elements.items >>= array_known d place)
+pub constant-Array : (place : ℕ) (elements : List Constant) (d : Checked) → constant_of (constant.Array place elements) d ≡ (in_turn (λ e. constant_of e d) elements >>= array_known d place)
 unfolding constant_of constant_field_of
 constant-Array place elements d =
     ap (λ c. constant_of c d) (sym (constant.rolls-Array place elements))
     ∙ ap (λ m. m d) (fold-roll-Constant ConstantMeaning FieldMeaning constant_step constant_field_step (opened.Array place elements))
-    ∙ ap (λ (o : CheckResult (List Known)). o >>= array_known d place) (turn-map (λ (m : ConstantMeaning). m d) constant_of elements.items)
+    ∙ ap (λ (o : CheckResult (List Known)). o >>= array_known d place) (turn-map (λ (m : ConstantMeaning). m d) constant_of elements)
 
 pub constant-field : (f : ConstantField) (d : Checked) → constant_field_of f d ≡ (constant_of (out-ConstantField f).value d >>= λ known. Gives (record { name = (out-ConstantField f).name; known = known }))
 unfolding constant_of constant_field_of

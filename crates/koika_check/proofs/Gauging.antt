@@ -22,7 +22,7 @@ use Rattle.koika_check.proofs.Accumulations.{accumulated, accumulated-at, accumu
 use Rattle.koika_check.proofs.Runs.{taken, taken-length}
 use Rattle.koika_check.proofs.Saturating.{left-saturates, sum-saturates}
 
-plus_one : (i : ℕ) → i + 1 ≡ suc i
+pub plus_one : (i : ℕ) → i + 1 ≡ suc i
 plus_one i = omega arith
 
 abbrev pub counted_as : (width squares : ℕ) → Counted

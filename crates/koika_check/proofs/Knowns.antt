@@ -14,7 +14,7 @@ use Rattle.koika_check.specs.Constants.{array_known, constant_of, known_member, 
 use Rattle.koika_check.specs.inner.Constants.{constant_field_of}
 use Rattle.koika_check.specs.Constants as constants
 use Rattle.koika_check.specs.Outcomes.{Gives, CheckResult, ◌>>=◌, in_turn}
-use Rattle.koika_check.specs.inner.Outcomes.{Ends, Tells}
+use Rattle.koika_check.specs.inner.Outcomes.{Ends, Stop, Tells}
 use Rattle.koika_check.specs.inner.Shapes.{part_of}
 use Rattle.koika_check.specs.Types.{TypedPart as TypedPart}
 use Rattle.koika_check.specs.declared.agreement.Part.{Part}
@@ -24,7 +24,6 @@ use Rattle.koika_check.specs.declared.checker.Known.{Known}
 use Rattle.koika_check.specs.declared.composites.Given.{Given}
 use Rattle.koika_check.specs.declared.constants.KnownFields.{KnownFields}
 use Rattle.koika_check.specs.declared.constants.Knowns.{Knowns}
-use Rattle.koika_check.specs.declared.stop.Stop.{Stop}
 use Rattle.koika_check.proofs.Compositions.{given-grow, given-push}
 use Rattle.koika_check.proofs.ConstantParts.{constant-field}
 use Rattle.koika_check.proofs.Growth.{grows-refl, grows-trans, part-grows, parts-grow}

@@ -8,7 +8,7 @@ use Rattle.koika_check.specs.inner.Checking.{IsType, IsTypeOrUnit, IsWidth, Type
 use Rattle.koika_check.specs.Constructs.{typing}
 use Rattle.koika_check.specs.Constructs as constructs
 use Rattle.koika_check.specs.Outcomes.{Fails, Gives, CheckResult, found, holds, where_all, wrong}
-use Rattle.koika_check.specs.inner.Outcomes.{Ends, Tells}
+use Rattle.koika_check.specs.inner.Outcomes.{Ends, Stop, Tells}
 use Rattle.koika_check.specs.Scopes.{Scope, input_named, local_named}
 use Rattle.koika_check.specs.inner.Shapes.{Denotes, type_if}
 use Rattle.koika_check.specs.Types.{TypedPart as TypedPart, as_bits, bits, is_bits, width_of, wrong_type}
@@ -17,8 +17,7 @@ use Rattle.koika_check.specs.declared.checked.Input.{Input}
 use Rattle.koika_check.specs.declared.checker.Checker.{Checker}
 use Rattle.koika_check.specs.declared.checker.Typing.{Typing}
 use Rattle.koika_check.specs.declared.shapes.Shape.{Shape}
-use Rattle.koika_check.specs.declared.stop.Stop.{Stop}
-use Rattle.koika_check.specs.declared.stop.Stop.TheVariants as stops
+use Rattle.kw_bits.specs.declared.failure.Failure.TheVariants as failures
 use Rattle.koika_check.specs.declared.typed.Typed.{Typed}
 use Rattle.koika_check.specs.declared.typed.Typed.TheVariants as made
 use Rattle.koika_check.specs.declared.typed.ValueType.{ValueType}
@@ -27,8 +26,8 @@ use Rattle.koika_check.proofs.PartTypes.{named_item}
 -- a value that is made, or no memory
 tells-made : {X Y : Type 0} (is : Y → X → Type 0) (t : Y) (x : X) (r : Result Y Stop) → is t x → Tells (λ y z. y ≡ z) (Gives t) r → Tells is (Gives x) r
 tells-made is t x (Ok y) h e = subst (λ z. is z x) (sym e) h
-tells-made is t x (Err stops.NoMemory) h e = tt
-tells-made is t x (Err (stops.Wrong w)) h e = absurd e
+tells-made is t x (Err failures.NoMemory) h e = tt
+tells-made is t x (Err (failures.Why w)) h e = absurd e
 
 -- where the conditions hold
 pub leaf-gives : (c : Checker) (o : CheckResult constructs.Typing) (of : Option Shape) (of' : Option ValueType) (place : ℕ) (t : Typed) (r : Result Typing Stop) → o ≡ Gives (typing of' place t) → of' ≡ type_if (arrays_of c) of → IsTypeOrUnit c of →
@@ -51,9 +50,9 @@ pub bits-stop : {X Y : Type 0} (is : Y → X → Type 0) (p : TypedPart) (y : X)
 bits-stop {X = X} {Y = Y} is p y e h = by_bits (as_bits p.of) e h
   where
     by_bits : (o : Option ℕ) (e : Stop) → Tells (λ (w of : ℕ). w ≡ of) (found o (wrong_type p)) (Err e) → Tells is (where_all (holds (is_some o) (wrong_type p) ∷ []) y) (Err e)
-    by_bits o stops.NoMemory h = tt
-    by_bits None (stops.Wrong w) h = h
-    by_bits (Some n) (stops.Wrong w) h = absurd h
+    by_bits o failures.NoMemory h = tt
+    by_bits None (failures.Why w) h = h
+    by_bits (Some n) (failures.Why w) h = absurd h
 
 -- a shape that stands for bits of values
 pub denoted-type : (c : Checker) (s : Shape) (t : ValueType) → Denotes (arrays_of c) s (Some t) → IsWidth (width_of c.design t) → IsType c s
@@ -83,5 +82,5 @@ named-unknown s n l i = rw (l, i) refl
 
 -- why checking ends, as a call tells it
 pub tells-ends : {X Y : Type 0} (is : Y → X → Type 0) (o : CheckResult X) (e : Stop) → Ends o e → Tells is o (Err e)
-tells-ends is o stops.NoMemory h = tt
-tells-ends is o (stops.Wrong w) h = subst (λ p. Tells is p (Err (stops.Wrong w))) (sym h) refl
+tells-ends is o failures.NoMemory h = tt
+tells-ends is o (failures.Why w) h = subst (λ p. Tells is p (Err (failures.Why w))) (sym h) refl

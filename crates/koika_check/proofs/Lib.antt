@@ -42,8 +42,9 @@ pub mod Steps
 pub mod Surplus
 pub mod Telling
 pub mod TreeCounts
-pub mod TreeParts
+pub mod TypedTreeParts
 pub mod Turns
+pub mod TypeParts
 pub mod TypedAdditions
 pub mod TypedBlocks
 pub mod TypedComposites

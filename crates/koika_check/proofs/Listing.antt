@@ -16,10 +16,7 @@ use Rattle.koika_check.specs.declared.things.Thing.{Thing}
 use Rattle.koika_check.specs.declared.things.Thing.TheVariants as thing
 use Rattle.koika_check.proofs.Declared.{number-push}
 use Rattle.koika_check.proofs.Positions.{same, same-is}
-
-not_true : (b : Bool) → (b ≡ true → ⊥) → b ≡ false
-not_true true h = absurd (h refl)
-not_true false h = refl
+use Rattle.koika_check.proofs.Bindings.{not_true}
 
 -- what stands behind, and in front of, a declaration's key
 name_of : (t : Thing) (name : List ℕ) → drop 5 (key_of_part t name) ≡ name

@@ -7,9 +7,7 @@ use Rattle.koika_types.specs.Values.{packed, stacked, stacked_up}
 use Rattle.koika_types.specs.declared.value.Value.{Value}
 use Rattle.koika_types.specs.declared.value.Value.TheVariants as value
 use Rattle.koika_types.proofs.Layers.{packed-Fields, packed-Items}
-
-abbrev pub packed_width : Value → ℕ
-packed_width v = (packed v).width
+use Rattle.koika_types.proofs.Parts.{packed_width}
 
 joined_width : (a b : BitVector) → (concat a b).width ≡ a.width + b.width
 unfolding concat

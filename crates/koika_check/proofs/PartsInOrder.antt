@@ -14,7 +14,7 @@ use Rattle.koika_check.specs.Constructs as constructs
 use Rattle.koika_check.specs.Expressions.{block_in}
 use Rattle.koika_check.specs.inner.Expressions.{arm_in, expression_in, field_value_in}
 use Rattle.koika_check.specs.Outcomes.{Gives, CheckResult, ◌>>=◌, in_turn}
-use Rattle.koika_check.specs.inner.Outcomes.{Ends, Tells}
+use Rattle.koika_check.specs.inner.Outcomes.{Ends, Stop, Tells}
 use Rattle.koika_check.specs.Scopes.{Scope}
 use Rattle.koika_check.specs.inner.Shapes.{part_of}
 use Rattle.koika_check.specs.inner.TypedParts.{AreArms, AreTypedFields, In, place_of_first}
@@ -26,7 +26,6 @@ use Rattle.koika_check.specs.declared.checker.Typings.{Typings}
 use Rattle.koika_check.specs.declared.composites.Given.{Given}
 use Rattle.koika_check.specs.declared.expressions.Arms.{Arms}
 use Rattle.koika_check.specs.declared.expressions.TypedFields.{TypedFields}
-use Rattle.koika_check.specs.declared.stop.Stop.{Stop}
 use Rattle.koika_check.specs.declared.typed.Operation.TheVariants as operation
 use Rattle.koika_check.specs.declared.typed.Typed.{Typed}
 use Rattle.koika_check.specs.declared.typed.Typed.TheVariants as typed

@@ -5,10 +5,7 @@ use Rattle.std.proofs.lemmas.List.Folds.{list_any_at}
 use Rattle.koika_check.specs.inner.Paths.{IsPath}
 use Rattle.koika_check.specs.Schedule.{is_on}
 use Rattle.koika_check.specs.declared.path.Path.{Path}
-
-not_true : (b : Bool) → (b ≡ true → ⊥) → b ≡ false
-not_true true h = absurd (h refl)
-not_true false h = refl
+use Rattle.koika_check.proofs.Bindings.{not_true}
 
 eqb-refl : (n : ℕ) → nat_eq n n ≡ true
 eqb-refl n = grind arith

@@ -1,5 +1,5 @@
 -- The nodes of schedulers, and the paths to them.
-use Rattle.std.proofs.Common.{◌≡◌, ℕ, suc, ◌+◌, ◌<◌, Bool, true, false, not, List, [], ◌∷◌, ◌++◌, length, drop, take, set, get_or, Option, Some, None, refl, ap, ap₂, sym, ◌∙◌, append_assoc, append-nil, arith, nat_eq, nat_lt, ◌&&◌, Box, Global, length-append}
+use Rattle.std.proofs.Common.{◌≡◌, ℕ, suc, ◌+◌, ◌<◌, Bool, true, false, not, List, [], ◌∷◌, ◌++◌, length, drop, take, set, get_or, Option, Some, None, refl, ap, ap₂, sym, ◌∙◌, append_assoc, append-nil, arith, nat_eq, nat_lt, ◌&&◌, length-append}
 use Rattle.std.specs.Option.{option_map}
 use Rattle.std.specs.Prelude.{is_none, is_some}
 use Rattle.std.proofs.Math.Seq.{drop-cons, set-append_seam, take-append_seam}
@@ -21,14 +21,14 @@ use Rattle.koika_check.proofs.Answering.{bind-gives, next-drop}
 
 -- ---- schedulers by their parts
 
-abbrev pub end_of : Option (Box Choice Global) → Option Nodes
-end_of last = option_map (λ (choice : Box Choice Global). choice_nodes choice.value) last
+abbrev pub end_of : Option Choice → Option Nodes
+end_of last = option_map choice_nodes last
 
 -- what comes behind the path behind a scheduler's names
-abbrev pub behind_names : Checked → (path : List ℕ) → (number : ℕ) → List Name → Option (Box Choice Global) → List ℕ → CheckResult (List Node)
+abbrev pub behind_names : Checked → (path : List ℕ) → (number : ℕ) → List Name → Option Choice → List ℕ → CheckResult (List Node)
 behind_names d path number rules last behind = at_the_end (end_of last) d behind (number + length rules) >>= λ nodes. Gives (in_a_row number (drop (length path) behind) nodes)
 
-scheduler_at : (rules : List Name) (last : Option (Box Choice Global)) (d : Checked) (path : List ℕ) (number : ℕ) →
+scheduler_at : (rules : List Name) (last : Option Choice) (d : Checked) (path : List ℕ) (number : ℕ) →
     scheduler_nodes (roll-Scheduler (record { rules = rules; last = last })) d path number ≡ (path_behind d rules path >>= behind_names d path number rules last)
 unfolding scheduler_nodes choice_nodes
 scheduler_at rules None d path number = ap (λ (m : Nodes). m d path number) (fold-roll-Scheduler Nodes Nodes nodes_of_choice nodes_of_scheduler (record { rules = rules; last = None }))
@@ -95,17 +95,17 @@ choice-some c d path number nodes e =
         same a b e = cc
 
 -- nodes stand at the end of a scheduler where a choice does
-end-is : (last : Option (Box Choice Global)) (d : Checked) (path : List ℕ) (number : ℕ) (nodes : List Node) → at_the_end (end_of last) d path number ≡ Gives nodes → is_end nodes ≡ is_none last
+end-is : (last : Option Choice) (d : Checked) (path : List ℕ) (number : ℕ) (nodes : List Node) → at_the_end (end_of last) d path number ≡ Gives nodes → is_end nodes ≡ is_none last
 end-is None d path number nodes e = ap is_end (sym (same [] nodes e))
   where
     same : (a b : List Node) → ◌≡◌ {A = CheckResult (List Node)} (Gives a) (Gives b) → a ≡ b
     same a b e = cc
-end-is (Some choice) d path number nodes e = choice-some choice.value d path number nodes e
+end-is (Some choice) d path number nodes e = choice-some choice d path number nodes e
 
-pub end-known : (last : Option (Box Choice Global)) (d : Checked) (path : List ℕ) (number : ℕ) (nodes : List Node) (b : Bool) → at_the_end (end_of last) d path number ≡ Gives nodes → not b ≡ is_some last → is_end nodes ≡ b
+pub end-known : (last : Option Choice) (d : Checked) (path : List ℕ) (number : ℕ) (nodes : List Node) (b : Bool) → at_the_end (end_of last) d path number ≡ Gives nodes → not b ≡ is_some last → is_end nodes ≡ b
 end-known last d path number nodes b e f = end-is last d path number nodes e ∙ none_is last b f
   where
-    none_is : (o : Option (Box Choice Global)) (b : Bool) → not b ≡ is_some o → is_none o ≡ b
+    none_is : (o : Option Choice) (b : Bool) → not b ≡ is_some o → is_none o ≡ b
     none_is None true f = refl
     none_is None false f = absurd cc
     none_is (Some c) true f = absurd cc

@@ -3,14 +3,13 @@ use Rattle.std.proofs.Common.{◌≡◌, Result, Ok, Err, refl, ap, ap₂, sym, 
 use Rattle.koika_check.specs.inner.Checking.{Checks, Grows, IsChecker, IsPart, IsTyping, TypedAs, Yields, arrays_of, scope_of, typing_of}
 use Rattle.koika_check.specs.Constructs as constructs
 use Rattle.koika_check.specs.Outcomes.{CheckResult, ◌>>=◌}
-use Rattle.koika_check.specs.inner.Outcomes.{Ends, Tells}
+use Rattle.koika_check.specs.inner.Outcomes.{Ends, Stop, Tells}
 use Rattle.koika_check.specs.Scopes.{Scope}
 use Rattle.koika_check.specs.inner.Shapes.{part_of}
 use Rattle.koika_check.specs.Types.{TypedPart as TypedPart}
 use Rattle.koika_check.specs.declared.checked.Checked.{Checked}
 use Rattle.koika_check.specs.declared.checker.Checker.{Checker}
 use Rattle.koika_check.specs.declared.checker.Typing.{Typing}
-use Rattle.koika_check.specs.declared.stop.Stop.{Stop}
 use Rattle.koika_check.specs.declared.typed.Typed.{Typed}
 use Rattle.koika_check.proofs.Growth.{grows-refl, grows-trans, same-part}
 use Rattle.koika_check.proofs.Telling.{tells-ok}

@@ -1,5 +1,5 @@
 -- Where names stand in schedulers and declarations, in order.
-use Rattle.std.proofs.Common.{◌≡◌, ℕ, zero, suc, ◌-◌, ◌<◌, List, [], ◌∷◌, ◌++◌, Option, Some, None, refl, ap, sym, ◌∙◌, append_assoc, arith, slice_get, Box, Global}
+use Rattle.std.proofs.Common.{◌≡◌, ℕ, zero, suc, ◌-◌, ◌<◌, List, [], ◌∷◌, ◌++◌, Option, Some, None, refl, ap, sym, ◌∙◌, append_assoc, arith, slice_get}
 use Rattle.std.specs.Option.{option_map}
 use Rattle.koika_syntax.specs.declared.tree.Choice.{Choice, out-Choice, fold_out-Choice}
 use Rattle.koika_syntax.specs.declared.tree.Name.{Name}
@@ -8,10 +8,10 @@ use Rattle.koika_check.specs.Checks.{places_in_choice, places_if, places_of, sch
 use Rattle.koika_check.specs.inner.Checks.{choice_places}
 use Rattle.koika_check.specs.inner.Places.{or_further}
 
-abbrev pub last_places : Option (Box Choice Global) → Option (List ℕ)
-last_places last = option_map (λ (choice : Box Choice Global). choice_places choice.value) last
+abbrev pub last_places : Option Choice → Option (List ℕ)
+last_places last = option_map choice_places last
 
-scheduler_at : (rules : List Name) (last : Option (Box Choice Global)) → scheduler_places (roll-Scheduler (record { rules = rules; last = last })) ≡ places_of rules ++ places_if (last_places last)
+scheduler_at : (rules : List Name) (last : Option Choice) → scheduler_places (roll-Scheduler (record { rules = rules; last = last })) ≡ places_of rules ++ places_if (last_places last)
 unfolding scheduler_places choice_places
 scheduler_at rules None = fold-roll-Scheduler (List ℕ) (List ℕ) places_in_choice places_in_scheduler (record { rules = rules; last = None })
 scheduler_at rules (Some choice) = fold-roll-Scheduler (List ℕ) (List ℕ) places_in_choice places_in_scheduler (record { rules = rules; last = Some choice })

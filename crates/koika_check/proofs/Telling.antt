@@ -1,9 +1,8 @@
 -- What a call answers where the calls that it makes tell what outcomes say.
 use Rattle.std.proofs.Common.{◌≡◌, refl, sym, ◌∙◌, ap, subst, Ok, Err, ℕ, Option, None, Some, Bool, true, false, cond, nat_lt, [], ◌∷◌}
 use Rattle.koika_check.specs.Outcomes.{Condition, Gives, Fails, CheckResult, ◌>>=◌, found, holds, smaller, unless, where_all}
-use Rattle.koika_check.specs.inner.Outcomes.{Passes, Tells}
-use Rattle.koika_check.specs.declared.stop.Stop.{Stop}
-use Rattle.koika_check.specs.declared.stop.Stop.TheVariants as stops
+use Rattle.koika_check.specs.inner.Outcomes.{Passes, Stop, Tells}
+use Rattle.kw_bits.specs.declared.failure.Failure.TheVariants as failures
 use Rattle.koika_check.specs.declared.stop.Wrong.{Wrong}
 
 -- a result is told as a result
@@ -13,9 +12,9 @@ tells-ok is (Fails f) y h = absurd h
 
 -- why a part ends is why the whole ends
 pub tells-err : {X Y X' Y' : Type 0} (is : Y → X → Type 0) (is' : Y' → X' → Type 0) (o : CheckResult X) (f : X → CheckResult X') (e : Stop) → Tells is o (Err e) → Tells is' (o >>= f) (Err e)
-tells-err is is' (Gives x) f (stops.Wrong w) h = absurd h
-tells-err is is' (Fails w') f (stops.Wrong w) h = h
-tells-err is is' o f stops.NoMemory h = h
+tells-err is is' (Gives x) f (failures.Why w) h = absurd h
+tells-err is is' (Fails w') f (failures.Why w) h = h
+tells-err is is' o f failures.NoMemory h = h
 
 -- a condition holds behind a call that goes on; its fault is that of a call that ends
 pub passes-ok : {X : Type 0} (c : Condition) (x : X) → Passes c (Ok x) → c ≡ None
@@ -24,8 +23,8 @@ passes-ok (Some w) x h = absurd h
 
 pub passes-err : (X : Type 0) {Y Z : Type 0} (is : Z → Y → Type 0) (c : Condition) (y : Y) (e : Stop) → Passes {X = X} c (Err e) → Tells is (unless c y) (Err e)
 passes-err X is None y e h = absurd h
-passes-err X is (Some w) y (stops.Wrong w') h = h
-passes-err X is (Some w) y stops.NoMemory h = absurd h
+passes-err X is (Some w) y (failures.Why w') h = h
+passes-err X is (Some w) y failures.NoMemory h = absurd h
 
 smaller-none : (c : Condition) → smaller c None ≡ c
 smaller-none None = refl
@@ -52,9 +51,9 @@ unless-ok is None x y z h = refl
 unless-ok is (Some w) x y z h = absurd h
 
 pub unless-err : {X Y Z Z' : Type 0} (is : Z → X → Type 0) (is' : Z' → Y → Type 0) (c : Condition) (x : X) (y : Y) (e : Stop) → Tells is (unless c x) (Err e) → Tells is' (unless c y) (Err e)
-unless-err is is' c x y stops.NoMemory h = h
-unless-err is is' None x y (stops.Wrong w) h = absurd h
-unless-err is is' (Some v) x y (stops.Wrong w) h = h
+unless-err is is' c x y failures.NoMemory h = h
+unless-err is is' None x y (failures.Why w) h = absurd h
+unless-err is is' (Some v) x y (failures.Why w) h = h
 
 -- what stands for what there is
 pub tells-with : {X Y Y' : Type 0} (is : Y → X → Type 0) (is' : Y' → X → Type 0) (o : CheckResult X) (y : Y) (y' : Y') → ((x : X) → is y x → is' y' x) → Tells is o (Ok y) → Tells is' o (Ok y')
@@ -67,8 +66,8 @@ unless-with is is' None x y y' f h = f h
 unless-with is is' (Some w) x y y' f h = absurd h
 
 -- the fault that a call answers
-pub tells-fault : {X Y : Type 0} (is : Y → X → Type 0) (o : CheckResult X) (w : Wrong) (e : Stop) → e ≡ stops.Wrong w → o ≡ Fails w → Tells is o (Err e)
-tells-fault {X} {Y} is o w e se oe = subst (λ s. Tells is o (Err s)) (sym se) (subst (λ p. Tells is p (Err (stops.Wrong w))) (sym oe) refl)
+pub tells-fault : {X Y : Type 0} (is : Y → X → Type 0) (o : CheckResult X) (w : Wrong) (e : Stop) → e ≡ failures.Why w → o ≡ Fails w → Tells is o (Err e)
+tells-fault {X} {Y} is o w e se oe = subst (λ s. Tells is o (Err s)) (sym se) (subst (λ p. Tells is p (Err (failures.Why w))) (sym oe) refl)
 
 -- conditions as they were joined
 pub one-is : {Y : Type 0} (c c' : Condition) (y : Y) → c ≡ c' → where_all (c' ∷ []) y ≡ unless c y

@@ -2,9 +2,8 @@
 use Rattle.std.proofs.Common.{◌≡◌, ℕ, ◌+◌, ◌<◌, List, [], ◌∷◌, ◌++◌, length, map, take, drop, get_or, zero, suc, None, Some, Err, refl, ap, sym, ◌∙◌, subst, arith}
 use Rattle.std.proofs.lemmas.List.{drop_more, take-append-drop, take_more}
 use Rattle.koika_check.specs.Outcomes.{Condition, Fails, Gives, CheckResult, ◌>>=◌, in_turn, one_by_one, unless}
-use Rattle.koika_check.specs.inner.Outcomes.{Ends, Passes, Tells}
-use Rattle.koika_check.specs.declared.stop.Stop.{Stop}
-use Rattle.koika_check.specs.declared.stop.Stop.TheVariants as stops
+use Rattle.koika_check.specs.inner.Outcomes.{Ends, Passes, Stop, Tells}
+use Rattle.kw_bits.specs.declared.failure.Failure.TheVariants as failures
 
 -- ---- outcomes one after another
 
@@ -19,8 +18,8 @@ bind-bind (Fails w) f g = refl
 -- ---- why checking ends
 
 pub ends-bind : {X Y : Type 0} (o : CheckResult X) (f : X → CheckResult Y) (e : Stop) → Ends o e → Ends (o >>= f) e
-ends-bind o f stops.NoMemory h = tt
-ends-bind o f (stops.Wrong w) h = ap (λ p. p >>= f) h
+ends-bind o f failures.NoMemory h = tt
+ends-bind o f (failures.Why w) h = ap (λ p. p >>= f) h
 
 pub ends-same : {X : Type 0} (o o' : CheckResult X) (e : Stop) → o ≡ o' → Ends o' e → Ends o e
 ends-same o o' e same h = subst (λ p. Ends p e) (sym same) h
@@ -30,14 +29,14 @@ pub ends-behind : {X Y : Type 0} (o : CheckResult X) (f : X → CheckResult Y) (
 ends-behind o f x e gives h = ends-same (o >>= f) (f x) e (ap (λ p. p >>= f) gives) h
 
 pub ends-tells : {X Y : Type 0} (is : Y → X → Type 0) (o : CheckResult X) (e : Stop) → Tells is o (Err e) → Ends o e
-ends-tells is o stops.NoMemory h = tt
-ends-tells is (Gives x) (stops.Wrong w) h = absurd h
-ends-tells is (Fails v) (stops.Wrong w) h = ap Fails (sym h)
+ends-tells is o failures.NoMemory h = tt
+ends-tells is (Gives x) (failures.Why w) h = absurd h
+ends-tells is (Fails v) (failures.Why w) h = ap Fails (sym h)
 
 pub ends-passes : (Y : Type 0) {X : Type 0} (c : Condition) (x : X) (e : Stop) → Passes {X = Y} c (Err e) → Ends (unless c x) e
 ends-passes Y None x e h = absurd h
-ends-passes Y (Some v) x (stops.Wrong w) h = ap Fails (sym h)
-ends-passes Y (Some v) x stops.NoMemory h = absurd h
+ends-passes Y (Some v) x (failures.Why w) h = ap Fails (sym h)
+ends-passes Y (Some v) x failures.NoMemory h = absurd h
 
 -- ---- all in turn
 
@@ -67,8 +66,8 @@ turn-push {X = X} {Y = Y} look xs i x ys y lt is before now =
 
 pub turn-ends : {X Y : Type 0} (look : X → CheckResult Y) (xs : List X) (i : ℕ) (x : X) (ys : List Y) (e : Stop) → i < length xs → x ≡ get_or xs i x →
     in_turn look (take i xs) ≡ Gives ys → Ends (look x) e → Ends (in_turn look xs) e
-turn-ends {X = X} {Y = Y} look xs i x ys stops.NoMemory lt is before h = tt
-turn-ends {X = X} {Y = Y} look xs i x ys (stops.Wrong w) lt is before h = by_front xs i x ys lt is before h
+turn-ends {X = X} {Y = Y} look xs i x ys failures.NoMemory lt is before h = tt
+turn-ends {X = X} {Y = Y} look xs i x ys (failures.Why w) lt is before h = by_front xs i x ys lt is before h
   where
     consed : (o : CheckResult Y) (p : CheckResult (List Y)) (ys : List Y) → (o >>= λ z. p >>= λ zs. Gives (z ∷ zs)) ≡ Gives ys → (z : Y) × (zs : List Y) × (o ≡ Gives z) × (p ≡ Gives zs)
     consed (Gives z) (Gives zs) ys e = (z, zs, refl, refl)

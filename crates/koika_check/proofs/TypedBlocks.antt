@@ -54,7 +54,7 @@ chain-typed scope good (j ∷ rest) first x some sound h e =
 abbrev pub scope_at : Checked → List Local → Scope
 scope_at d locals = record { design = d; locals = locals }
 
-abbrev types_of : List Local → List ValueType
+abbrev pub types_of : List Local → List ValueType
 types_of = map (λ (l : Local). l.of)
 
 -- a statement binds a value in what stands behind it, or is run for its effect

@@ -1,13 +1,12 @@
 -- What constants of the grammar come to is of its type.
 use Rattle.std.proofs.Common.{◌≡◌, ℕ, List, [], ◌∷◌, length, map, replicate, Some, refl, ap, sym, subst, ◌∙◌}
 use Rattle.std.specs.List.{AllByRecursion}
-use Rattle.std.specs.Prelude.{⊤}
 use Rattle.std.proofs.lemmas.List.{length-map}
 use Rattle.std.proofs.lemmas.Option.{same_Some}
 use Rattle.kw_base.specs.declared.fault_number.TheConstants.{UNKNOWN_NAME}
 use Rattle.koika_syntax.specs.Grammar.{IsConstant, IsConstantFieldLayer, IsConstantLayer}
 use Rattle.koika_syntax.specs.declared.tree.Constant.{Constant, Constant-F, map-Constant, roll-Constant, every_held-Constant, every_here-Constant, out-roll-Constant, fold-roll-Constant, ind-Constant}
-use Rattle.koika_syntax.specs.declared.tree.ConstantField.{ConstantField, ConstantField-F, map-ConstantField, roll-ConstantField, every-ConstantField, every_held-ConstantField, out-roll-ConstantField, fold-roll-ConstantField}
+use Rattle.koika_syntax.specs.declared.tree.ConstantField.{ConstantField, ConstantField-F, map-ConstantField, roll-ConstantField, every_held-ConstantField, out-roll-ConstantField, fold-roll-ConstantField}
 use Rattle.koika_syntax.specs.declared.tree.Constant.TheOpen as constant
 use Rattle.koika_types.specs.declared.value.Value.TheOpen.{Value-F}
 use Rattle.koika_types.specs.declared.value.Value.TheVariants as value
@@ -22,7 +21,7 @@ use Rattle.koika_check.specs.declared.checked.CheckedField.{CheckedField}
 use Rattle.koika_check.specs.declared.typed.BaseType.TheVariants as base
 use Rattle.koika_check.specs.declared.typed.ValueType.{ValueType}
 use Rattle.koika_check.proofs.Answering.{bind-gives}
-use Rattle.koika_check.proofs.TreeParts.{Such, firsts}
+use Rattle.koika_syntax.proofs.TreeParts.{Such, EachOfConstant, IsConstantField, each_of_constant}
 use Rattle.koika_check.proofs.TypedComposites.{turn-all}
 use Rattle.koika_check.proofs.TypedParts.{PartsAre, array-known, gives-same, member-known, struct-known}
 use Rattle.koika_check.proofs.TypedSoFar.{IsTypedSoFar, base-type, bits-type}
@@ -86,27 +85,11 @@ struct_sound d good number place close known k h e =
 
 -- ---- the cycle
 
-abbrev IsConstantField : ConstantField → Type 0
-IsConstantField = every-ConstantField IsConstantLayer IsConstantFieldLayer
-
 abbrev Fine : Constant → Type 0
 Fine t = IsConstant t → Sound (constant_of t)
 
 abbrev FineField : ConstantField → Type 0
 FineField t = IsConstantField t → SoundField (constant_field_of t)
-
-module _ (Q : Constant → Type 0) (QField : ConstantField → Type 0) where
-  abbrev EachOfConstant : Constant-F Constant ConstantField → Type 0
-  EachOfConstant (constant.Literal l) = ⊤
-  EachOfConstant (constant.Member of member) = ⊤
-  EachOfConstant (constant.Struct of fields close) = AllByRecursion QField fields.items
-  EachOfConstant (constant.Array place elements) = AllByRecursion Q elements.items
-
-  each_of_constant : (y : Constant-F (Such Q) (Such QField)) → EachOfConstant (map-Constant (Such Q) (Such QField) Constant ConstantField (λ e. e.0) (λ e. e.0) y)
-  each_of_constant (constant.Literal l) = tt
-  each_of_constant (constant.Member of member) = tt
-  each_of_constant (constant.Struct of fields close) = firsts QField fields.items
-  each_of_constant (constant.Array place elements) = firsts Q elements.items
 
 -- what all elements, and all fields, give
 elements_give : (xs : List Constant) (d : Checked) (ks : List Known) → IsTypedSoFar d → AllByRecursion IsConstant xs → AllByRecursion Fine xs → in_turn (λ (m : ConstantMeaning). m d) (map constant_of xs) ≡ Gives ks → AllByRecursion (IsKnown d) ks
@@ -139,12 +122,12 @@ constant_sound (constant.Member of m) here is fine d good k e =
     subst (IsKnown d) (gives-same (known_member of.place it.0) k it.2)
     (t, refl, close-IsOf d v (Value-F.Member it.0.number it.0.bits) (value.rolls-Member it.0.number it.0.bits) t (refl, known.0), base-type d (base.Enum it.0.number) known.1)
 constant_sound (constant.Struct of fields close) here is fine d good k e =
-    let number = bind-gives (found (struct_named d of.text) (wrong UNKNOWN_NAME of.place)) (λ number. in_turn (λ (m : FieldMeaning). m d) (map constant_field_of fields.items) >>= struct_known d number of.place close) k e in
-    let all = bind-gives (in_turn (λ (m : FieldMeaning). m d) (map constant_field_of fields.items)) (struct_known d number.0 of.place close) k number.2 in
-    struct_sound d good number.0 of.place close all.0 k (fields_give fields.items d all.0 good is fine all.1) all.2
+    let number = bind-gives (found (struct_named d of.text) (wrong UNKNOWN_NAME of.place)) (λ number. in_turn (λ (m : FieldMeaning). m d) (map constant_field_of fields) >>= struct_known d number of.place close) k e in
+    let all = bind-gives (in_turn (λ (m : FieldMeaning). m d) (map constant_field_of fields)) (struct_known d number.0 of.place close) k number.2 in
+    struct_sound d good number.0 of.place close all.0 k (fields_give fields d all.0 good is fine all.1) all.2
 constant_sound (constant.Array place elements) here is fine d good k e =
-    let all = bind-gives (in_turn (λ (m : ConstantMeaning). m d) (map constant_of elements.items)) (array_known d place) k e in
-    array_sound d place all.0 k (elements_give elements.items d all.0 good is fine all.1) all.2
+    let all = bind-gives (in_turn (λ (m : ConstantMeaning). m d) (map constant_of elements)) (array_known d place) k e in
+    array_sound d place all.0 k (elements_give elements d all.0 good is fine all.1) all.2
 
 constant_of_layer : (x : Constant-F Constant ConstantField) (y : Constant-F (Such Fine) (Such FineField)) → map-Constant (Such Fine) (Such FineField) Constant ConstantField (λ e. e.0) (λ e. e.0) y ≡ x → Fine (roll-Constant x)
 unfolding IsConstant constant_of constant_field_of

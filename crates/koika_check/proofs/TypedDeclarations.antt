@@ -57,6 +57,7 @@ use Rattle.koika_check.proofs.TypedConstructs.{each-push}
 use Rattle.koika_check.proofs.TypedExpressions.{block-in-typed}
 use Rattle.koika_check.proofs.TypedParts.{agrees-is, both-true, each-none, gives-same, is-width, type-valid, where-all}
 use Rattle.koika_check.proofs.TypedSoFar.{AreDistinct, IsEnumSoFar, IsTypedSoFar, looked-up, some-base}
+use Rattle.koika_check.proofs.TypedBlocks.{types_of}
 
 -- ---- names
 
@@ -244,9 +245,6 @@ host-good hosts d n input output x takes e =
     (find-all (λ (h : HostSpec). TakesWidth h.kind h.in_width) test hosts spec.0 takes there, find_contained test hosts spec.0 there)
 
 -- ---- functions and rules
-
-abbrev types_of : List Local → List ValueType
-types_of = map (λ (l : Local). l.of)
 
 parameters_good : (d : Checked) (written : List WrittenField) (start declared : List Local) → AllByRecursion (IsType d) (types_of start) → one_by_one (add_parameter d) written start ≡ Gives declared → AllByRecursion (IsType d) (types_of declared)
 parameters_good d [] start declared h e = subst (λ ls. AllByRecursion (IsType d) (types_of ls)) (gives-same start declared e) h

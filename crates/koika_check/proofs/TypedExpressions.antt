@@ -1,15 +1,15 @@
 -- What expressions of the grammar come to is well typed.
-use Rattle.std.proofs.Common.{◌≡◌, ℕ, ◌≤◌, inl, inr, Option, None, Some, IfSome, List, [], ◌∷◌, length, map, Vec, Box, Global, arith, refl, sym, subst, ◌∙◌}
+use Rattle.std.proofs.Common.{◌≡◌, ℕ, ◌≤◌, inl, inr, Option, None, Some, IfSome, List, [], ◌∷◌, length, map, arith, refl, sym, subst, ◌∙◌}
 use Rattle.std.specs.List.{AllByRecursion}
 use Rattle.std.proofs.lemmas.List.{length-map}
 use Rattle.koika_syntax.specs.Grammar.{IsArmLayer, IsBlock, IsBlockLayer, IsExpressionLayer, IsFieldValueLayer, IsOperandLayer, IsStatementLayer}
 use Rattle.koika_syntax.specs.inner.Grammar.{IsExpression}
 use Rattle.koika_syntax.specs.declared.tree.Expression.{Expression, Expression-F, map-Expression, roll-Expression, every_held-Expression, every_here-Expression, out-roll-Expression, fold-roll-Expression, ind-Expression}
-use Rattle.koika_syntax.specs.declared.tree.Statement.{Statement, Statement-F, map-Statement, roll-Statement, every-Statement, every_held-Statement, out-roll-Statement, fold-roll-Statement}
-use Rattle.koika_syntax.specs.declared.tree.Arm.{Arm, Arm-F, map-Arm, roll-Arm, every-Arm, every_held-Arm, out-roll-Arm, fold-roll-Arm}
+use Rattle.koika_syntax.specs.declared.tree.Statement.{Statement, Statement-F, map-Statement, roll-Statement, every_held-Statement, out-roll-Statement, fold-roll-Statement}
+use Rattle.koika_syntax.specs.declared.tree.Arm.{Arm, Arm-F, map-Arm, roll-Arm, every_held-Arm, out-roll-Arm, fold-roll-Arm}
 use Rattle.koika_syntax.specs.declared.tree.Block.{Block, Block-F, map-Block, roll-Block, every_held-Block, out-roll-Block, fold-roll-Block, ind-Block}
-use Rattle.koika_syntax.specs.declared.tree.FieldValue.{FieldValue, FieldValue-F, map-FieldValue, roll-FieldValue, every-FieldValue, every_held-FieldValue, out-roll-FieldValue, fold-roll-FieldValue}
-use Rattle.koika_syntax.specs.declared.tree.Operand.{Operand, Operand-F, map-Operand, roll-Operand, every-Operand, every_held-Operand, out-roll-Operand, fold-roll-Operand}
+use Rattle.koika_syntax.specs.declared.tree.FieldValue.{FieldValue, FieldValue-F, map-FieldValue, roll-FieldValue, every_held-FieldValue, out-roll-FieldValue, fold-roll-FieldValue}
+use Rattle.koika_syntax.specs.declared.tree.Operand.{Operand, Operand-F, map-Operand, roll-Operand, every_held-Operand, out-roll-Operand, fold-roll-Operand}
 use Rattle.koika_syntax.specs.declared.tree.Expression.TheOpen as expression
 use Rattle.kw_base.specs.declared.fault_number.TheConstants.{UNKNOWN_NAME}
 use Rattle.koika_check.specs.Constructs.{ArmTyping, FieldTyping, Typing, call, comparison, conditional, extended, array_in, packed, postfix, struct_in, typing, unary, unpacked, updated, written}
@@ -22,7 +22,7 @@ use Rattle.koika_check.specs.Typing.{Binds, HasType, Runs}
 use Rattle.koika_check.specs.declared.typed.BlockStep.TheOpen as opened
 use Rattle.koika_check.specs.declared.typed.BlockStep.TheVariants as step
 use Rattle.koika_check.proofs.Answering.{bind-gives, found-some}
-use Rattle.koika_check.proofs.TreeParts.{EachOfArm, EachOfBlock, EachOfExpression, EachOfFieldValue, EachOfOperand, EachOfStatement, Such, each_of_arm, each_of_block, each_of_expression, each_of_field_value, each_of_operand, each_of_statement}
+use Rattle.koika_syntax.proofs.TreeParts.{EachOfArm, EachOfBlock, EachOfExpression, EachOfFieldValue, EachOfOperand, EachOfStatement, Such, each_of_arm, each_of_block, each_of_expression, each_of_field_value, each_of_operand, each_of_statement, IsArm, IsFieldValue, IsOperand, IsStatement}
 use Rattle.koika_check.proofs.TypedBlocks.{Sound, SoundStep, IsStepped, block-typed, chain-typed, scope_at}
 use Rattle.koika_check.proofs.TypedComposites.{IsArmed, array-typed, call-typed, conditional-typed, struct-typed, turn-all}
 use Rattle.koika_check.proofs.TypedConstructs.{IsTyped, abort-typed, comparison-typed, extended-typed, literal-typed, member-typed, named-typed, packed-typed, postfix-typed, read-typed, unary-typed, unpacked-typed, updated-typed, written-typed}
@@ -43,18 +43,6 @@ abbrev SoundOperand : Joining → Type 0
 SoundOperand j = Sound j.operand
 
 -- the meanings of parts, where the parts are of the grammar
-abbrev IsStatement : Statement → Type 0
-IsStatement = every-Statement IsExpressionLayer IsStatementLayer IsArmLayer IsBlockLayer IsFieldValueLayer IsOperandLayer
-
-abbrev IsArm : Arm → Type 0
-IsArm = every-Arm IsExpressionLayer IsStatementLayer IsArmLayer IsBlockLayer IsFieldValueLayer IsOperandLayer
-
-abbrev IsFieldValue : FieldValue → Type 0
-IsFieldValue = every-FieldValue IsExpressionLayer IsStatementLayer IsArmLayer IsBlockLayer IsFieldValueLayer IsOperandLayer
-
-abbrev IsOperand : Operand → Type 0
-IsOperand = every-Operand IsExpressionLayer IsStatementLayer IsArmLayer IsBlockLayer IsFieldValueLayer IsOperandLayer
-
 abbrev FineExpression : Expression → Type 0
 FineExpression t = IsExpression t → Sound (expression_in t)
 
@@ -116,60 +104,60 @@ expression_layer d = expression_step (map-Expression Expression Statement Arm Bl
 
 expression_sound : (d : Expression-F Expression Statement Arm Block FieldValue Operand) → IsExpressionLayer d → ExpressionIs d → ExpressionFine d → Sound (expression_layer d)
 expression_sound (expression.If arms None) here is fine scope good x e =
-    if_typed (map arm_in arms.items) None scope x good (sounds IsArm SoundArm arm_in arms.items is.0 fine.0) tt e
+    if_typed (map arm_in arms) None scope x good (sounds IsArm SoundArm arm_in arms is.0 fine.0) tt e
 expression_sound (expression.If arms (Some b)) here is fine scope good x e =
-    if_typed (map arm_in arms.items) (Some (block_in b)) scope x good (sounds IsArm SoundArm arm_in arms.items is.0 fine.0) (fine.1 is.1) e
+    if_typed (map arm_in arms) (Some (block_in b)) scope x good (sounds IsArm SoundArm arm_in arms is.0 fine.0) (fine.1 is.1) e
 expression_sound (expression.Chain first rest) here is fine scope good x e =
-    let one = bind-gives (expression_in first.value scope) (chain_in scope (map operand_in rest.items)) x e in
-    chain-typed scope good (map operand_in rest.items) one.0 x (omega (arith, here.0, length-map rest.items operand_in)) (sounds IsOperand SoundOperand operand_in rest.items is.1 fine.1) (fine.0 is.0 scope good one.0 one.1) one.2
+    let one = bind-gives (expression_in first scope) (chain_in scope (map operand_in rest)) x e in
+    chain-typed scope good (map operand_in rest) one.0 x (omega (arith, here.0, length-map rest operand_in)) (sounds IsOperand SoundOperand operand_in rest is.1 fine.1) (fine.0 is.0 scope good one.0 one.1) one.2
 expression_sound (expression.Unary prefixes operand) here is fine scope good x e =
-    let one = bind-gives (expression_in operand.value scope) (unary prefixes) x e in
+    let one = bind-gives (expression_in operand scope) (unary prefixes) x e in
     unary-typed scope prefixes one.0 x (fine is scope good one.0 one.1) one.2
 expression_sound (expression.Postfix primary suffixes) here is fine scope good x e =
-    let one = bind-gives (expression_in primary.value scope) (postfix scope.design suffixes) x e in
+    let one = bind-gives (expression_in primary scope) (postfix scope.design suffixes) x e in
     postfix-typed scope suffixes one.0 x here.1 (fine is scope good one.0 one.1) one.2
 expression_sound (expression.Literal l) here is fine scope good x e = subst (IsTyped scope) (gives-same _ x e) (literal-typed scope l here)
 expression_sound (expression.Name n) here is fine scope good x e = named-typed scope n x e
 expression_sound (expression.Call n arguments) here is fine scope good x e =
-    let c = bind-gives (called scope.design n) (λ c. all_in scope (map expression_in arguments.items) >>= call n c) x e in
-    let all = bind-gives (all_in scope (map expression_in arguments.items)) (call n c.0) x c.2 in
-    call-typed scope n c.0 all.0 x c.1 (gives_all IsTyped (map expression_in arguments.items) scope all.0 good (sounds IsExpression Sound expression_in arguments.items is fine) all.1) all.2
+    let c = bind-gives (called scope.design n) (λ c. all_in scope (map expression_in arguments) >>= call n c) x e in
+    let all = bind-gives (all_in scope (map expression_in arguments)) (call n c.0) x c.2 in
+    call-typed scope n c.0 all.0 x c.1 (gives_all IsTyped (map expression_in arguments) scope all.0 good (sounds IsExpression Sound expression_in arguments is fine) all.1) all.2
 expression_sound (expression.Member of member) here is fine scope good x e = member-typed scope good of member x e
 expression_sound (expression.Struct of fields close) here is fine scope good x e =
-    let number = bind-gives (found (struct_named scope.design of.text) (wrong UNKNOWN_NAME of.place)) (λ number. all_in scope (map field_value_in fields.items) >>= struct_in scope.design number of.place close) x e in
-    let all = bind-gives (all_in scope (map field_value_in fields.items)) (struct_in scope.design number.0 of.place close) x number.2 in
+    let number = bind-gives (found (struct_named scope.design of.text) (wrong UNKNOWN_NAME of.place)) (λ number. all_in scope (map field_value_in fields) >>= struct_in scope.design number of.place close) x e in
+    let all = bind-gives (all_in scope (map field_value_in fields)) (struct_in scope.design number.0 of.place close) x number.2 in
     struct-typed scope good number.0 of.place close all.0 x
-    (gives_all (λ s (f : FieldTyping). IsTyped s f.typing) (map field_value_in fields.items) scope all.0 good (sounds IsFieldValue SoundField field_value_in fields.items is fine) all.1) all.2
+    (gives_all (λ s (f : FieldTyping). IsTyped s f.typing) (map field_value_in fields) scope all.0 good (sounds IsFieldValue SoundField field_value_in fields is fine) all.1) all.2
 expression_sound (expression.Array place elements) here is fine scope good x e =
-    let all = bind-gives (all_in scope (map expression_in elements.items)) (array_in scope.design place) x e in
-    array-typed scope place all.0 x (gives_all IsTyped (map expression_in elements.items) scope all.0 good (sounds IsExpression Sound expression_in elements.items is fine) all.1) all.2
+    let all = bind-gives (all_in scope (map expression_in elements)) (array_in scope.design place) x e in
+    array-typed scope place all.0 x (gives_all IsTyped (map expression_in elements) scope all.0 good (sounds IsExpression Sound expression_in elements is fine) all.1) all.2
 expression_sound (expression.Parentheses place inside) here is fine scope good x e =
-    let one = bind-gives (expression_in inside.value scope) (λ inner. Gives (typing inner.part.of place inner.typed)) x e in
+    let one = bind-gives (expression_in inside scope) (λ inner. Gives (typing inner.part.of place inner.typed)) x e in
     subst (IsTyped scope) (gives-same (typing one.0.part.of place one.0.typed) x one.2) (fine is scope good one.0 one.1)
 expression_sound (expression.Block block) here is fine scope good x e = fine is scope good x e
 expression_sound (expression.Read place port register) here is fine scope good x e = read-typed scope place port register x here.0 e
 expression_sound (expression.Write place port r value) here is fine scope good x e =
-    let number = bind-gives (register scope.design r) (λ number. expression_in value.value scope >>= written scope.design place port number) x e in
-    let one = bind-gives (expression_in value.value scope) (written scope.design place port number.0) x number.2 in
+    let number = bind-gives (register scope.design r) (λ number. expression_in value scope >>= written scope.design place port number) x e in
+    let one = bind-gives (expression_in value scope) (written scope.design place port number.0) x number.2 in
     written-typed scope place port number.0 r one.0 x here.0 number.1 (fine is scope good one.0 one.1) one.2
 expression_sound (expression.Abort place) here is fine scope good x e = subst (IsTyped scope) (gives-same _ x e) (abort-typed scope place)
 expression_sound (expression.Pack place value) here is fine scope good x e =
-    let one = bind-gives (expression_in value.value scope) (packed scope.design place) x e in
+    let one = bind-gives (expression_in value scope) (packed scope.design place) x e in
     packed-typed scope place one.0 x (fine is scope good one.0 one.1) one.2
 expression_sound (expression.Unpack place to value) here is fine scope good x e =
-    let of = bind-gives (type_of scope.design to) (λ of. expression_in value.value scope >>= unpacked scope.design place of) x e in
-    let one = bind-gives (expression_in value.value scope) (unpacked scope.design place of.0) x of.2 in
+    let of = bind-gives (type_of scope.design to) (λ of. expression_in value scope >>= unpacked scope.design place of) x e in
+    let one = bind-gives (expression_in value scope) (unpacked scope.design place of.0) x of.2 in
     unpacked-typed scope place of.0 one.0 x (type-valid scope.design to of.0 of.1) (fine is scope good one.0 one.1) one.2
 expression_sound (expression.Extend place extension value width) here is fine scope good x e =
-    let one = bind-gives (expression_in value.value scope) (extended place extension width) x e in
+    let one = bind-gives (expression_in value scope) (extended place extension width) x e in
     extended-typed scope place extension width one.0 x (fine is scope good one.0 one.1) one.2
 expression_sound (expression.Compare place o left right) here is fine scope good x e =
-    let one = bind-gives (expression_in left.value scope) (λ one. expression_in right.value scope >>= comparison place o one) x e in
-    let two = bind-gives (expression_in right.value scope) (comparison place o one.0) x one.2 in
+    let one = bind-gives (expression_in left scope) (λ one. expression_in right scope >>= comparison place o one) x e in
+    let two = bind-gives (expression_in right scope) (comparison place o one.0) x one.2 in
     comparison-typed scope place o one.0 two.0 x (fine.0 is.0 scope good one.0 one.1) (fine.1 is.1 scope good two.0 two.1) two.2
 expression_sound (expression.Update place whole part value) here is fine scope good x e =
-    let old = bind-gives (expression_in whole.value scope) (λ old. expression_in value.value scope >>= updated scope.design place part old) x e in
-    let new = bind-gives (expression_in value.value scope) (updated scope.design place part old.0) x old.2 in
+    let old = bind-gives (expression_in whole scope) (λ old. expression_in value scope >>= updated scope.design place part old) x e in
+    let new = bind-gives (expression_in value scope) (updated scope.design place part old.0) x old.2 in
     updated-typed scope place part old.0 new.0 x (fine.0 is.0 scope good old.0 old.1) (fine.1 is.1 scope good new.0 new.1) new.2
 
 abbrev statement_layer : Statement-F Expression Statement Arm Block FieldValue Operand → StatementTyping
@@ -217,13 +205,13 @@ block_sound : (d : Block-F Expression Statement Arm Block FieldValue Operand) �
     EachOfBlock FineExpression FineStatement FineArm FineBlock FineFieldValue FineOperand d → Sound (block_layer d)
 block_sound d is fine = of_parts d.place d.statements d.value is fine
   where
-    of_parts : (place : ℕ) (statements : Vec Statement Global) (value : Option (Box Expression Global)) →
+    of_parts : (place : ℕ) (statements : List Statement) (value : Option Expression) →
         EachOfBlock IsExpression IsStatement IsArm IsBlock IsFieldValue IsOperand (record { place = place; statements = statements; value = value }) →
         EachOfBlock FineExpression FineStatement FineArm FineBlock FineFieldValue FineOperand (record { place = place; statements = statements; value = value }) →
         Sound (block_layer (record { place = place; statements = statements; value = value }))
-    of_parts place statements None is fine = block-typed place (map statement_in statements.items) None (sounds IsStatement SoundStep statement_in statements.items is.0 fine.0) tt
+    of_parts place statements None is fine = block-typed place (map statement_in statements) None (sounds IsStatement SoundStep statement_in statements is.0 fine.0) tt
     of_parts place statements (Some b) is fine =
-        block-typed place (map statement_in statements.items) (Some (expression_in b.value)) (sounds IsStatement SoundStep statement_in statements.items is.0 fine.0) (fine.1 is.1)
+        block-typed place (map statement_in statements) (Some (expression_in b)) (sounds IsStatement SoundStep statement_in statements is.0 fine.0) (fine.1 is.1)
 
 abbrev field_value_layer : FieldValue-F Expression Statement Arm Block FieldValue Operand → Fielded
 field_value_layer d = field_value_step (map-FieldValue Expression Statement Arm Block FieldValue Operand ExpressionTyping StatementTyping Armed ExpressionTyping Fielded Joining expression_in statement_in arm_in block_in field_value_in operand_in d)

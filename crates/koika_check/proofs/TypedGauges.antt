@@ -40,7 +40,8 @@ use Rattle.koika_check.specs.declared.typed.ValueType.{ValueType}
 use Rattle.koika_check.proofs.CalledTypes.{answer-width}
 use Rattle.koika_check.proofs.Equations.{size-Apply, size-Block, size-Constant, size-Do, size-Give, size-If, size-Input, size-Let, size-Local}
 use Rattle.koika_check.proofs.GaugeEquations.{gauge-Apply, gauge-Block, gauge-Constant, gauge-If, gauge-Input, gauge-Local, step-Do, step-Give, step-Let}
-use Rattle.koika_check.proofs.TreeParts.{Such, firsts}
+use Rattle.koika_syntax.proofs.TreeParts.{Such}
+use Rattle.koika_check.proofs.TypedTreeParts.{EachOfStep, EachOfTyped, each_of_step, each_of_typed}
 use Rattle.koika_check.proofs.TypedGrowth.{chains-valid, operates-valid}
 use Rattle.koika_check.proofs.TypedSoFar.{all-at, bits-type, bits-width, field-there, item-type}
 use Rattle.koika_check.proofs.TypingLayers.{open-HasType, open-step}
@@ -356,22 +357,6 @@ module _ (d : Checked) (h : IsTypedDesign d) (n : ℕ) (bodies : List Gauge) (we
         squares = omega (arith, ap (λ (g : Gauge). g.squares) same, few, step-cons x xs);
       }
 
-  abbrev EachTyped : Typed-F BlockStep Typed → Type 0
-  EachTyped (opened.Constant v) = Unit {0}
-  EachTyped (opened.Local index) = Unit {0}
-  EachTyped (opened.Input number) = Unit {0}
-  EachTyped (opened.Apply o operands) = AllByRecursion TypedFine operands
-  EachTyped (opened.If conditions arms) = AllByRecursion TypedFine conditions × AllByRecursion TypedFine arms
-  EachTyped (opened.Block steps) = AllByRecursion StepFine steps
-
-  each_typed : (y : Typed-F (Such StepFine) (Such TypedFine)) → EachTyped (map-Typed (Such StepFine) (Such TypedFine) BlockStep Typed (λ e. e.0) (λ e. e.0) y)
-  each_typed (opened.Constant v) = tt
-  each_typed (opened.Local index) = tt
-  each_typed (opened.Input number) = tt
-  each_typed (opened.Apply o operands) = firsts TypedFine operands
-  each_typed (opened.If conditions arms) = (firsts TypedFine conditions, firsts TypedFine arms)
-  each_typed (opened.Block steps) = firsts StepFine steps
-
   -- of an expression whose gauge and size are known
   known : (of : Option ValueType) (x : Typed) (locals : List ValueType) (g : Gauge) (s : Size) → gauge_of B x (at_types locals) ≡ g → size_of R x ≡ s → IsFine d of g s.weight → IsFine d of (gauge_of B x (at_types locals)) (size_of R x).weight
   known of x locals g s eg es fine = subst (λ (k : Gauge). IsFine d of k (size_of R x).weight) (sym eg) (subst (λ (k : Size). IsFine d of g k.weight) (sym es) fine)
@@ -388,7 +373,7 @@ module _ (d : Checked) (h : IsTypedDesign d) (n : ℕ) (bodies : List Gauge) (we
   no_arms [] ws e = refl
   no_arms (x ∷ xs) ws e = absurd (omega arith)
 
-  part-fine : (x : Typed-F BlockStep Typed) → EachTyped x → (locals : List ValueType) (of : Option ValueType) → All (IsType d) locals → PartHasType d n (StepHasType d n) (HasType d n) x locals of →
+  part-fine : (x : Typed-F BlockStep Typed) → EachOfTyped StepFine TypedFine x → (locals : List ValueType) (of : Option ValueType) → All (IsType d) locals → PartHasType d n (StepHasType d n) (HasType d n) x locals of →
       IsFine d of (gauge_of B (roll-Typed x) (at_types locals)) (size_of R (roll-Typed x)).weight
   part-fine (opened.Constant v) each locals of types has =
       rolled of _ (typed.Constant v) locals (typed.rolls-Constant v)
@@ -422,22 +407,12 @@ module _ (d : Checked) (h : IsTypedDesign d) (n : ℕ) (bodies : List Gauge) (we
       (record { valid = fine.valid; width = fine.width; squares = omega (arith, few, total) }))
 
   typed_layer : (x : Typed-F BlockStep Typed) (y : Typed-F (Such StepFine) (Such TypedFine)) → map-Typed (Such StepFine) (Such TypedFine) BlockStep Typed (λ e. e.0) (λ e. e.0) y ≡ x → TypedFine (roll-Typed x)
-  typed_layer x y same locals of types has = part-fine x (subst EachTyped same (each_typed y)) locals of types (open-HasType d n (roll-Typed x) x refl locals of has)
-
-  abbrev EachStep : BlockStep-F BlockStep Typed → Type 0
-  EachStep (opened.Let v) = TypedFine v
-  EachStep (opened.Do v) = TypedFine v
-  EachStep (opened.Give v) = TypedFine v
-
-  each_step : (y : BlockStep-F (Such StepFine) (Such TypedFine)) → EachStep (map-BlockStep (Such StepFine) (Such TypedFine) BlockStep Typed (λ e. e.0) (λ e. e.0) y)
-  each_step (opened.Let v) = v.1
-  each_step (opened.Do v) = v.1
-  each_step (opened.Give v) = v.1
+  typed_layer x y same locals of types has = part-fine x (subst (EachOfTyped StepFine TypedFine) same (each_of_typed StepFine TypedFine y)) locals of types (open-HasType d n (roll-Typed x) x refl locals of has)
 
   rolled_step : (x y : BlockStep) (locals : List ValueType) (doing : Doing) → x ≡ y → StepIs y locals doing → StepIs x locals doing
   rolled_step x y locals doing e is = subst (λ (z : BlockStep). StepIs z locals doing) (sym e) is
 
-  step-does : (x : BlockStep-F BlockStep Typed) → EachStep x → (locals : List ValueType) (doing : Doing) → All (IsType d) locals → StepDoes (HasType d n) x locals doing → StepIs (roll-BlockStep x) locals doing
+  step-does : (x : BlockStep-F BlockStep Typed) → EachOfStep StepFine TypedFine x → (locals : List ValueType) (doing : Doing) → All (IsType d) locals → StepDoes (HasType d n) x locals doing → StepIs (roll-BlockStep x) locals doing
   step-does (opened.Let v) each locals (Binds of) types has =
       let one = each locals (Some of) types has in
       let ws = at_types locals in
@@ -466,7 +441,7 @@ module _ (d : Checked) (h : IsTypedDesign d) (n : ℕ) (bodies : List Gauge) (we
       (gauge_of B v ws, record { valid = one.valid; width = one.width; squares = omega (arith, few, weight) }, λ after. step-Give B v after ws)
 
   step_layer : (x : BlockStep-F BlockStep Typed) (y : BlockStep-F (Such StepFine) (Such TypedFine)) → map-BlockStep (Such StepFine) (Such TypedFine) BlockStep Typed (λ e. e.0) (λ e. e.0) y ≡ x → StepFine (roll-BlockStep x)
-  step_layer x y same locals doing types has = step-does x (subst EachStep same (each_step y)) locals doing types (open-step d n (roll-BlockStep x) x refl locals doing has)
+  step_layer x y same locals doing types has = step-does x (subst (EachOfStep StepFine TypedFine) same (each_of_step StepFine TypedFine y)) locals doing types (open-step d n (roll-BlockStep x) x refl locals doing has)
 
   pub typed-fine : (x : Typed) (locals : List ValueType) (of : Option ValueType) → All (IsType d) locals → HasType d n x locals of → IsFine d of (gauge_of B x (map (width_of d) locals)) (size_of R x).weight
   typed-fine = ind-Typed StepFine TypedFine step_layer typed_layer

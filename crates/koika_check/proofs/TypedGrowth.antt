@@ -5,7 +5,8 @@ use Rattle.std.specs.Prelude.{sum_by}
 use Rattle.std.proofs.lemmas.List.Elements.{All-drop, All-head, All-tail, All-weaker}
 use Rattle.std.proofs.lemmas.List.Sums.{sum_by-cons}
 use Rattle.std.proofs.lemmas.Option.{slice_get_within}
-use Rattle.koika_check.proofs.TreeParts.{Such, firsts}
+use Rattle.koika_syntax.proofs.TreeParts.{Such, firsts}
+use Rattle.koika_check.proofs.TypedTreeParts.{EachOfStep, EachOfTyped, each_of_step, each_of_typed}
 use Rattle.kw_bits.specs.Host as host
 use Rattle.kw_bits.specs.Laws.{HasWidth}
 use Rattle.koika_syntax.specs.declared.operator.BinaryOperator.{BinaryOperator}
@@ -350,23 +351,7 @@ module _ (d e : Checked) (g : Extends d e) (h : IsTypedSoFar d) (n m : ℕ) (le 
   arms_valid conditions bodies of (inl one_more) some = some (omega (arith, one_more))
   arms_valid conditions bodies of (inr unit) some = subst Valid (sym unit.1) tt
 
-  abbrev EachTyped : Typed-F BlockStep Typed → Type 0
-  EachTyped (opened.Constant v) = Unit {0}
-  EachTyped (opened.Local index) = Unit {0}
-  EachTyped (opened.Input number) = Unit {0}
-  EachTyped (opened.Apply o operands) = AllByRecursion TypedStays operands
-  EachTyped (opened.If conditions bodies) = AllByRecursion TypedStays conditions × AllByRecursion TypedStays bodies
-  EachTyped (opened.Block steps) = AllByRecursion StepStays steps
-
-  each_typed : (y : Typed-F (Such StepStays) (Such TypedStays)) → EachTyped (map-Typed (Such StepStays) (Such TypedStays) BlockStep Typed (λ e. e.0) (λ e. e.0) y)
-  each_typed (opened.Constant v) = tt
-  each_typed (opened.Local index) = tt
-  each_typed (opened.Input number) = tt
-  each_typed (opened.Apply o operands) = firsts TypedStays operands
-  each_typed (opened.If conditions bodies) = (firsts TypedStays conditions, firsts TypedStays bodies)
-  each_typed (opened.Block steps) = firsts StepStays steps
-
-  part_has : (x : Typed-F BlockStep Typed) → EachTyped x → (locals : List ValueType) (of : Option ValueType) → All (IsType d) locals → PartHasType d n (StepHasType d n) (HasType d n) x locals of →
+  part_has : (x : Typed-F BlockStep Typed) → EachOfTyped StepStays TypedStays x → (locals : List ValueType) (of : Option ValueType) → All (IsType d) locals → PartHasType d n (StepHasType d n) (HasType d n) x locals of →
       Valid of × PartHasType e m (StepHasType e m) (HasType e m) x locals of
   part_has (opened.Constant v) each locals of types has = (subst Valid (sym has.3) has.2, (has.0, value-stays d e g h v has.0 has.2 has.1, type-stays d e g has.0 has.2, has.3))
   part_has (opened.Local index) each locals of types has = (subst Valid (sym has.2) (all-at (IsType d) locals index has.0 types has.1), has)
@@ -385,20 +370,10 @@ module _ (d e : Checked) (g : Extends d e) (h : IsTypedSoFar d) (n m : ℕ) (le 
   typed_layer : (x : Typed-F BlockStep Typed) (y : Typed-F (Such StepStays) (Such TypedStays)) → map-Typed (Such StepStays) (Such TypedStays) BlockStep Typed (λ e. e.0) (λ e. e.0) y ≡ x → TypedStays (roll-Typed x)
   typed_layer x y same locals of types has =
       let opens = open-HasType d n (roll-Typed x) x refl locals of has in
-      let it = part_has x (subst EachTyped same (each_typed y)) locals of types opens in
+      let it = part_has x (subst (EachOfTyped StepStays TypedStays) same (each_of_typed StepStays TypedStays y)) locals of types opens in
       (it.0, close-HasType e m (roll-Typed x) x refl locals of it.1)
 
-  abbrev EachStep : BlockStep-F BlockStep Typed → Type 0
-  EachStep (opened.Let v) = TypedStays v
-  EachStep (opened.Do v) = TypedStays v
-  EachStep (opened.Give v) = TypedStays v
-
-  each_step : (y : BlockStep-F (Such StepStays) (Such TypedStays)) → EachStep (map-BlockStep (Such StepStays) (Such TypedStays) BlockStep Typed (λ e. e.0) (λ e. e.0) y)
-  each_step (opened.Let v) = v.1
-  each_step (opened.Do v) = v.1
-  each_step (opened.Give v) = v.1
-
-  step_does : (x : BlockStep-F BlockStep Typed) → EachStep x → (locals : List ValueType) (doing : Doing) → All (IsType d) locals → StepDoes (HasType d n) x locals doing → ValidDoing doing × StepDoes (HasType e m) x locals doing
+  step_does : (x : BlockStep-F BlockStep Typed) → EachOfStep StepStays TypedStays x → (locals : List ValueType) (doing : Doing) → All (IsType d) locals → StepDoes (HasType d n) x locals doing → ValidDoing doing × StepDoes (HasType e m) x locals doing
   step_does (opened.Let v) each locals (Binds of) types has = each locals (Some of) types has
   step_does (opened.Let v) each locals Runs types has = absurd has
   step_does (opened.Let v) each locals (Gives of) types has = absurd has
@@ -412,7 +387,7 @@ module _ (d e : Checked) (g : Extends d e) (h : IsTypedSoFar d) (n m : ℕ) (le 
   step_layer : (x : BlockStep-F BlockStep Typed) (y : BlockStep-F (Such StepStays) (Such TypedStays)) → map-BlockStep (Such StepStays) (Such TypedStays) BlockStep Typed (λ e. e.0) (λ e. e.0) y ≡ x → StepStays (roll-BlockStep x)
   step_layer x y same locals doing types has =
       let opens = open-step d n (roll-BlockStep x) x refl locals doing has in
-      let it = step_does x (subst EachStep same (each_step y)) locals doing types opens in
+      let it = step_does x (subst (EachOfStep StepStays TypedStays) same (each_of_step StepStays TypedStays y)) locals doing types opens in
       (it.0, close-step e m (roll-BlockStep x) x refl locals doing it.1)
 
   -- an expression has the type that it had, and the type is valid

@@ -13,14 +13,15 @@ use Rattle.koika_syntax.specs.declared.tree.Name.{Name}
 use Rattle.koika_syntax.specs.declared.tree.Number.{Number}
 use Rattle.koika_syntax.specs.declared.tree.Suffix.{Suffix}
 use Rattle.koika_syntax.specs.declared.tree.Suffix.TheVariants as suffixes
-use Rattle.koika_syntax.specs.declared.tree.TypeExpression.{TypeExpression, Bits, Named, Array'}
+use Rattle.koika_syntax.specs.declared.tree.TypeExpression.{TypeExpression, TypeExpression-F, map-TypeExpression, out-TypeExpression}
+use Rattle.koika_syntax.specs.declared.tree.TypeExpression.TheOpen as type_expression
 use Rattle.koika_types.specs.declared.declarations.EnumDecl.{EnumDecl}
 use Rattle.koika_types.specs.declared.declarations.Member.{Member}
 use Rattle.typed_core.specs.Valid.{IsWidth}
 use Rattle.koika_check.specs.Composites.{Given, MemberOf, agrees_if, array_by, array_of, bits_by_place, field_named, fields_by, fields_of, fits_field, member, member_named, members_by, members_of, names_are, struct_of, type_at, type_of_first}
 use Rattle.koika_check.specs.Outcomes.{Condition, Gives, CheckResult, earlier, found, holds, smallest, unless, where_all, wrong}
 use Rattle.koika_check.specs.Selections.{Items, Selected, as_array, bits_at, field_at, field_if, in_range, index_of, item_at, items_by, replace_field, replace_item, select, select_field, select_slice}
-use Rattle.koika_check.specs.Types.{TypedPart, agrees, array, array_type, as_bits, as_struct, base_width, bits, bits_by, differs_by, each, enum_named, is_bits, is_value, is_width, named_type, of_base, part, same, same_base, same_type, struct_by, type_named, type_of, width_of, wrong_type}
+use Rattle.koika_check.specs.Types.{TypedPart, agrees, array, array_type, as_bits, as_struct, base_width, bits, bits_by, differs_by, each, enum_named, is_bits, is_value, is_width, named_type, of_base, part, same, same_base, same_type, struct_by, type_named, type_of, type_step, width_of, wrong_type}
 use Rattle.koika_check.specs.Typing.{IsType, Pairwise, Replaces, Takes, TakesField}
 use Rattle.koika_check.specs.declared.checked.Checked.{Checked}
 use Rattle.koika_check.specs.declared.checked.CheckedField.{CheckedField}
@@ -31,6 +32,7 @@ use Rattle.koika_check.specs.declared.typed.ValueType.{ValueType}
 use Rattle.koika_check.proofs.Answering.{bind-gives, found-some}
 use Rattle.koika_check.proofs.Positions.{same-is}
 use Rattle.koika_check.proofs.Telling.{holds-true, smaller-both}
+use Rattle.koika_check.proofs.TypeParts.{type-parts}
 use Rattle.koika_check.proofs.TypedSoFar.{IsEnumSoFar, IsTypedSoFar, all-at, base-type, bits-type, lookup}
 
 -- ---- outcomes and conditions
@@ -162,16 +164,19 @@ named-type d n t e =
     subst (IsType d) all.0 (base-type d b.0 (is-width (base_width d b.0) (holds-true (is_width (base_width d b.0)) (wrong WRONG_WIDTH n.place) all.1.0)))
 
 -- what a written type comes to is a type of values
-pub type-valid : (d : Checked) (written : TypeExpression) (t : ValueType) → type_of d written ≡ Gives t → IsType d t
-type-valid d (Bits width) t e =
+step_valid : (d : Checked) (written : TypeExpression-F (CheckResult ValueType)) (t : ValueType) → type_step d written ≡ Gives t → IsType d t
+step_valid d (type_expression.Bits width) t e =
     let all = where-all (holds (is_width width.number.value) (wrong WRONG_WIDTH width.place) ∷ []) (bits width.number.value) t e in
     subst (IsType d) all.0 (bits-type d width.number.value (is-width width.number.value (holds-true (is_width width.number.value) (wrong WRONG_WIDTH width.place) all.1.0)))
-type-valid d (Named n) t e = named-type d n t e
-type-valid d (Array' place q element length) t e =
-    let item = bind-gives (type_of d element) (array_type d length.value place) t e in
+step_valid d (type_expression.Named n) t e = named-type d n t e
+step_valid d (type_expression.Array place element length) t e =
+    let item = bind-gives element (array_type d length.value place) t e in
     let whole = array length.value item.0 in
     let all = where-all (holds (is_width length.value && is_width (width_of d whole)) (wrong WRONG_WIDTH place) ∷ []) whole t item.2 in
     subst (IsType d) all.0 (is-width (width_of d whole) (both-true (is_width length.value) (is_width (width_of d whole)) (holds-true (is_width length.value && is_width (width_of d whole)) (wrong WRONG_WIDTH place) all.1.0)).1)
+
+pub type-valid : (d : Checked) (written : TypeExpression) (t : ValueType) → type_of d written ≡ Gives t → IsType d t
+type-valid d written t e = step_valid d (map-TypeExpression TypeExpression (CheckResult ValueType) (type_of d) (out-TypeExpression written)) t (sym (type-parts d written) ∙ e)
 
 -- ---- members
 

@@ -1,5 +1,5 @@
 -- The nodes of a scheduler of the grammar are nodes of a design, and try no rule twice on a path.
-use Rattle.std.proofs.Common.{◌≡◌, ◌≢◌, ℕ, zero, suc, ◌+◌, ◌<◌, ◌≤◌, ◌⊎◌, inl, inr, Bool, true, false, not, nat_eq, ◌||◌, List, [], ◌∷◌, ◌++◌, length, map, drop, slice_get, Option, Some, None, IfSome, Box, Global, arith, refl, ap, sym, subst, ◌∙◌, append_assoc, append-nil}
+use Rattle.std.proofs.Common.{◌≡◌, ◌≢◌, ℕ, zero, suc, ◌+◌, ◌<◌, ◌≤◌, ◌⊎◌, inl, inr, Bool, true, false, not, nat_eq, ◌||◌, List, [], ◌∷◌, ◌++◌, length, map, drop, slice_get, Option, Some, None, IfSome, arith, refl, ap, sym, subst, ◌∙◌, append_assoc, append-nil}
 use Rattle.std.specs.List.{All}
 use Rattle.std.specs.Prelude.{AllPairs}
 use Rattle.std.proofs.lemmas.List.{length-append, length-map}
@@ -29,7 +29,7 @@ use Rattle.koika_check.proofs.Positions.{number_of-within}
 use Rattle.koika_check.proofs.Schedules.{behind_names, behind_rule, behind_taken, end_of, node_of, nodes-choice, nodes-scheduler}
 use Rattle.koika_check.proofs.Surplus.{last_places, places-choice, places-scheduler}
 use Rattle.koika_check.proofs.Telling.{holds-true}
-use Rattle.koika_check.proofs.TreeParts.{Such}
+use Rattle.koika_syntax.proofs.TreeParts.{Such}
 use Rattle.koika_check.proofs.TypedParts.{gives-same, where-all}
 
 -- ---- ways through nodes
@@ -239,10 +239,10 @@ FineChoice c = (d : Checked) (path : List ℕ) (k : ℕ) (nodes : List Node) →
 abbrev FineScheduler : Scheduler → Type 0
 FineScheduler s = (d : Checked) (path : List ℕ) (k : ℕ) (nodes : List Node) → scheduler_nodes s d path k ≡ Gives nodes → AreFine (length d.rules) path k nodes × (length nodes ≡ length (scheduler_places s))
 
-abbrev LastFine : Option (Box Choice Global) → Type 0
-LastFine last = IfSome last (λ b. FineChoice b.value)
+abbrev LastFine : Option Choice → Type 0
+LastFine last = IfSome last FineChoice
 
-end_fine : (last : Option (Box Choice Global)) → LastFine last → (d : Checked) (path : List ℕ) (k : ℕ) (nodes : List Node) → at_the_end (end_of last) d path k ≡ Gives nodes →
+end_fine : (last : Option Choice) → LastFine last → (d : Checked) (path : List ℕ) (k : ℕ) (nodes : List Node) → at_the_end (end_of last) d path k ≡ Gives nodes →
     AreFine (length d.rules) path k nodes × (length nodes ≡ length (places_if (last_places last)))
 end_fine None fine d path k nodes e = subst (λ ns. AreFine (length d.rules) path k ns × (length ns ≡ 0)) (gives-same [] nodes e) (no_nodes (length d.rules) path k, refl)
 end_fine (Some choice) fine d path k nodes e = fine d path k nodes e
@@ -280,9 +280,9 @@ choice_is_fine c then_fine otherwise_fine d path k nodes e =
 each_last : (y : Scheduler-F (Such FineChoice) (Such FineScheduler)) → LastFine (map-Scheduler (Such FineChoice) (Such FineScheduler) Choice Scheduler (λ e. e.0) (λ e. e.0) y).last
 each_last y = of_parts y.rules y.last
   where
-    of_parts : (rules : List Name) (last : Option (Box (Such FineChoice) Global)) → LastFine (map-Scheduler (Such FineChoice) (Such FineScheduler) Choice Scheduler (λ e. e.0) (λ e. e.0) (record { rules = rules; last = last })).last
+    of_parts : (rules : List Name) (last : Option (Such FineChoice)) → LastFine (map-Scheduler (Such FineChoice) (Such FineScheduler) Choice Scheduler (λ e. e.0) (λ e. e.0) (record { rules = rules; last = last })).last
     of_parts rules None = tt
-    of_parts rules (Some b) = b.value.1
+    of_parts rules (Some b) = b.1
 
 scheduler_of_layer : (x : Scheduler-F Choice Scheduler) (y : Scheduler-F (Such FineChoice) (Such FineScheduler)) → map-Scheduler (Such FineChoice) (Such FineScheduler) Choice Scheduler (λ e. e.0) (λ e. e.0) y ≡ x → FineScheduler (roll-Scheduler x)
 scheduler_of_layer x y same =

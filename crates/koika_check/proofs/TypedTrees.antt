@@ -12,14 +12,13 @@ use Rattle.typed_core.specs.declared.limits.TheConstants.{MAX_INPUTS, MAX_NODES,
 use Rattle.koika_check.specs.Checks.{checked, limits, scheduled, within_limits}
 use Rattle.koika_check.specs.Declarations.{declare, nothing}
 use Rattle.koika_check.specs.Outcomes.{Gives, one_by_one}
-use Rattle.koika_check.specs.inner.Outcomes.{Answers}
+use Rattle.koika_check.specs.inner.Outcomes.{Answers, Stop}
 use Rattle.koika_check.specs.Schedule.{scheduler_nodes}
 use Rattle.koika_check.specs.Sizes.{Size, design_size}
 use Rattle.koika_check.specs.Typing.{IsEnum, IsTypedDesign}
 use Rattle.koika_check.specs.declared.checked.Checked.{Checked}
 use Rattle.koika_check.specs.declared.checked.Host.{Host}
 use Rattle.koika_check.specs.declared.measure.TheConstants.{MAX_DEPTH, MAX_WEIGHT}
-use Rattle.koika_check.specs.declared.stop.Stop.{Stop}
 use Rattle.koika_check.proofs.Answering.{bind-gives}
 use Rattle.koika_check.proofs.TypedDesigns.{IsSoFar, declarations-typed, noted}
 use Rattle.koika_check.proofs.TypedLimits.{IsWithin, limits-kept, parts-counted, same-size}
@@ -28,7 +27,7 @@ use Rattle.koika_check.proofs.TypedSchedules.{nodes-fine}
 use Rattle.koika_check.proofs.TypedSoFar.{IsEnumSoFar, IsTypedSoFar}
 
 -- a design with its nodes, and with its weight
-abbrev with_nodes : Checked → List Node → Checked
+abbrev pub with_nodes : Checked → List Node → Checked
 with_nodes d nodes = record d { nodes = nodes }
 
 abbrev weighed : Checked → Checked

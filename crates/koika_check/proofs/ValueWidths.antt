@@ -20,8 +20,9 @@ use Rattle.koika_check.specs.declared.checked.Struct.{Struct}
 use Rattle.koika_check.specs.declared.typed.BaseType.{BaseType}
 use Rattle.koika_check.specs.declared.typed.BaseType.TheVariants as base
 use Rattle.koika_check.specs.declared.typed.ValueType.{ValueType}
-use Rattle.koika_check.proofs.PackedWidths.{packed_width, width-Fields, width-Items}
-use Rattle.koika_check.proofs.TreeParts.{Such, firsts}
+use Rattle.koika_types.proofs.Parts.{packed_width}
+use Rattle.koika_check.proofs.PackedWidths.{width-Fields, width-Items}
+use Rattle.koika_syntax.proofs.TreeParts.{Such, firsts}
 use Rattle.koika_check.proofs.TypedGrowth.{each-field, each-replicate}
 use Rattle.koika_check.proofs.TypedSoFar.{item-type, lookup, struct-there}
 use Rattle.koika_check.proofs.TypingLayers.{open-IsOf}

@@ -11,14 +11,14 @@ use Rattle.typed_core.specs.declared.design.Node.{Node}
 use Rattle.koika_check.specs.Checks.{checked, counts_within, limits, scheduled, size_within, within_limits}
 use Rattle.koika_check.specs.Declarations.{declare, nothing}
 use Rattle.koika_check.specs.Outcomes.{Condition, Fails, Gives, CheckResult, ◌>>=◌, earlier, holds, one_by_one, unless, wrong}
-use Rattle.koika_check.specs.inner.Outcomes.{Answers, Ends, Passes}
+use Rattle.koika_check.specs.inner.Outcomes.{Answers, Ends, Passes, Stop}
 use Rattle.koika_check.specs.Schedule.{scheduler_nodes}
 use Rattle.koika_check.specs.Sizes.{Size}
 use Rattle.koika_check.specs.declared.checked.Checked.{Checked}
 use Rattle.koika_check.specs.declared.measure.TheConstants.{MAX_WEIGHT}
-use Rattle.koika_check.specs.declared.stop.Stop.{Stop}
-use Rattle.koika_check.specs.declared.stop.Stop.TheVariants as stops
+use Rattle.kw_bits.specs.declared.failure.Failure.TheVariants as failures
 use Rattle.koika_check.proofs.Answering.{ends}
+use Rattle.koika_check.proofs.TypedTrees.{with_nodes}
 
 -- a call answers what a part says, and its value is made of that of the part
 pub answers-bind : {X Y Z : Type 0} (f : X → Z) (z : Z) (o : CheckResult X) (r : Result Y Stop) → Answers (λ (y : Y) (x : X). z ≡ f x) o r → Answers (λ (y : Y) (w : Z). z ≡ w) (o >>= λ x. Gives (f x)) r
@@ -27,9 +27,9 @@ answers-bind f z o (Err e) h = ends (o >>= λ x. Gives (f x)) o (λ x. Gives (f 
 
 -- the fault of a limit ends a call, which goes on where all are kept
 pub limits-end : (X : Type 0) {Y : Type 0} (c c' : Condition) (y : Y) (e : Stop) → c ≡ c' → Passes {X = X} c (Err e) → Ends (unless c' y) e
-limits-end X c c' y stops.NoMemory q h = tt
-limits-end X None c' y (stops.Wrong w) q h = absurd h
-limits-end X (Some f) c' y (stops.Wrong w) q h = ap (λ (k : Condition). unless k y) (sym q) ∙ ap Fails (sym h)
+limits-end X c c' y failures.NoMemory q h = tt
+limits-end X None c' y (failures.Why w) q h = absurd h
+limits-end X (Some f) c' y (failures.Why w) q h = ap (λ (k : Condition). unless k y) (sym q) ∙ ap Fails (sym h)
 
 -- a tree behind its declarations, and behind its scheduler
 begun : (hosts hosts' : List HostSpec) (all : List Declaration) (tree : Tree) (d : Checked) → hosts ≡ hosts' → all ≡ tree.declarations → d ≡ nothing → (one_by_one (declare hosts) all d >>= scheduled tree) ≡ checked hosts' tree
@@ -41,9 +41,6 @@ declared-gives hosts hosts' all tree d d' h a n e = sym (begun hosts hosts' all 
 
 pub declared-ends : (hosts hosts' : List HostSpec) (all : List Declaration) (tree : Tree) (d : Checked) (e : Stop) → hosts ≡ hosts' → all ≡ tree.declarations → d ≡ nothing → Ends (one_by_one (declare hosts) all d) e → Ends (checked hosts' tree) e
 declared-ends hosts hosts' all tree d e h a n end = ends (checked hosts' tree) (one_by_one (declare hosts) all d) (scheduled tree) e (sym (begun hosts hosts' all tree d h a n)) end
-
-abbrev with_nodes : Checked → List Node → Checked
-with_nodes d nodes = record d { nodes = nodes }
 
 pub scheduled-gives : (tree : Tree) (d d' : Checked) (nodes nodes' : List Node) → d' ≡ d → scheduler_nodes tree.scheduler d' [] 0 ≡ Gives nodes → nodes' ≡ nodes → scheduled tree d ≡ within_limits tree (with_nodes d' nodes')
 scheduled-gives tree d d' nodes nodes' e f n =

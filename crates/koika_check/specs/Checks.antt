@@ -2,9 +2,8 @@
 -- of the text, then the schedule, then the limits in their order. This project's own rules.
 use Rattle.std.specs.Prelude.{ℕ, nat_le, List, [], ◌∷◌, ◌++◌, map, Option, Some, None, slice_get}
 use Rattle.std.specs.List.{flat_map}
-use Rattle.std.specs.Option.{option_map}
 use Rattle.kw_base.specs.declared.fault_number.TheConstants.{TOO_MANY_REGISTERS, TOO_MANY_RULES, TOO_MANY_INPUTS, TOO_MANY_NODES, TOO_HEAVY, TOO_DEEP}
-use Rattle.koika_syntax.specs.declared.tree.Choice.{Choice, Choice-F}
+use Rattle.koika_syntax.specs.declared.tree.Choice.{Choice-F}
 use Rattle.koika_syntax.specs.declared.tree.Declaration.{Declaration}
 use Rattle.koika_syntax.specs.declared.tree.Declaration.TheVariants as declarations
 use Rattle.koika_syntax.specs.declared.tree.Name.{Name}
@@ -51,7 +50,7 @@ places_in_choice choice = choice.rule.place ∷ choice.then ++ choice.otherwise
 
 -- the places of the rules in a scheduler
 abbrev pub places_in_scheduler : Scheduler-F (List ℕ) (List ℕ) → List ℕ
-places_in_scheduler scheduler = places_of scheduler.rules ++ places_if (option_map (λ last. last.value) scheduler.last)
+places_in_scheduler scheduler = places_of scheduler.rules ++ places_if scheduler.last
 
 -- the places of all rules that a scheduler names, in order of the text
 unfoldable pub scheduler_places : Scheduler → List ℕ

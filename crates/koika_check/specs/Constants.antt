@@ -4,7 +4,7 @@ use Rattle.kw_base.specs.declared.fault_number.TheConstants.{UNKNOWN_NAME}
 use Rattle.koika_syntax.specs.declared.tree.Name.{Name}
 use Rattle.koika_syntax.specs.declared.tree.Constant.{Constant, Constant-F, fold-Constant}
 use Rattle.koika_syntax.specs.declared.tree.Constant.TheOpen as constant
-use Rattle.koika_syntax.specs.declared.tree.ConstantField.{ConstantField, ConstantField-F}
+use Rattle.koika_syntax.specs.declared.tree.ConstantField.{ConstantField-F}
 use Rattle.koika_types.specs.declared.value.Value.{Value}
 use Rattle.koika_types.specs.declared.value.Value.TheVariants as value
 use Rattle.koika_check.specs.Outcomes.{CheckResult, ◌>>=◌, Gives, in_turn, found, wrong}
@@ -54,8 +54,8 @@ abbrev pub constant_step : Constant-F ConstantMeaning FieldMeaning → ConstantM
 constant_step (constant.Literal l) d = Gives (record { part = part (Some (bits l.bits.width)) l.place; value = value.Number l.bits })
 constant_step (constant.Member of m) d = member d of m >>= λ found. Gives (known_member of.place found)
 constant_step (constant.Struct of fields close) d = found (struct_named d of.text) (wrong UNKNOWN_NAME of.place) >>= λ number.
-    in_turn (λ (field : FieldMeaning). field d) fields.items >>= struct_known d number of.place close
-constant_step (constant.Array place elements) d = in_turn (λ (element : ConstantMeaning). element d) elements.items >>= array_known d place
+    in_turn (λ (field : FieldMeaning). field d) fields >>= struct_known d number of.place close
+constant_step (constant.Array place elements) d = in_turn (λ (element : ConstantMeaning). element d) elements >>= array_known d place
 
 -- what a field of a constant evaluates to, by its value
 abbrev pub constant_field_step : ConstantField-F ConstantMeaning FieldMeaning → FieldMeaning

@@ -4,13 +4,13 @@
 use Rattle.std.specs.Prelude.{ℕ, List, [], ◌∷◌, ◌++◌, Option, Some, None}
 use Rattle.kw_base.specs.declared.fault_number.TheConstants.{UNKNOWN_NAME}
 use Rattle.koika_syntax.specs.declared.operator.BinaryOperator.{BinaryOperator}
-use Rattle.koika_syntax.specs.declared.tree.Arm.{Arm, Arm-F}
+use Rattle.koika_syntax.specs.declared.tree.Arm.{Arm-F}
 use Rattle.koika_syntax.specs.declared.tree.Block.{Block, Block-F, fold-Block}
-use Rattle.koika_syntax.specs.declared.tree.Expression.{Expression, Expression-F}
+use Rattle.koika_syntax.specs.declared.tree.Expression.{Expression-F}
 use Rattle.koika_syntax.specs.declared.tree.Expression.TheOpen as expression
-use Rattle.koika_syntax.specs.declared.tree.FieldValue.{FieldValue, FieldValue-F}
-use Rattle.koika_syntax.specs.declared.tree.Operand.{Operand, Operand-F}
-use Rattle.koika_syntax.specs.declared.tree.Statement.{Statement, Statement-F}
+use Rattle.koika_syntax.specs.declared.tree.FieldValue.{FieldValue-F}
+use Rattle.koika_syntax.specs.declared.tree.Operand.{Operand-F}
+use Rattle.koika_syntax.specs.declared.tree.Statement.{Statement-F}
 use Rattle.koika_check.specs.Outcomes.{CheckResult, ◌>>=◌, Gives, in_turn, one_by_one, found, wrong}
 use Rattle.koika_check.specs.Types.{struct_named, type_of, wrong_type}
 use Rattle.koika_check.specs.Constructs.{ArmTyping, FieldTyping, Joined, Typing, abort_at, array_in, call, chained, comparison, conditional, extended, join, literal, member_in, named, packed, postfix, read_in, struct_in, typing, unary, unpacked, updated, written}
@@ -50,11 +50,6 @@ pub record Joining : Type 0 where
 -- all parts in a scope, from left to right
 abbrev pub all_in : {X : Type 0} → Scope → List (Scope → CheckResult X) → CheckResult (List X)
 all_in scope = in_turn (λ look. look scope)
-
--- what an optional part holds
-abbrev pub held : {M X : Type 0} → Option M → (M → X) → Option X
-held None inside = None
-held (Some part) inside = Some (inside part)
 
 -- a chain, operator by operator
 abbrev pub join_in : Scope → Joining → Joined → CheckResult Joined
@@ -97,24 +92,24 @@ abbrev pub expression_step : Expression-F ExpressionTyping StatementTyping Armed
 expression_step (expression.Literal l) scope = Gives (literal l)
 expression_step (expression.Name n) scope = named scope n
 expression_step (expression.Member of m) scope = member_in scope.design of m
-expression_step (expression.Chain first rest) scope = first.value scope >>= chain_in scope rest.items
-expression_step (expression.Unary prefixes operand) scope = operand.value scope >>= unary prefixes
-expression_step (expression.Postfix primary suffixes) scope = primary.value scope >>= postfix scope.design suffixes
-expression_step (expression.Parentheses place inside) scope = inside.value scope >>= λ inner. Gives (typing inner.part.of place inner.typed)
+expression_step (expression.Chain first rest) scope = first scope >>= chain_in scope rest
+expression_step (expression.Unary prefixes operand) scope = operand scope >>= unary prefixes
+expression_step (expression.Postfix primary suffixes) scope = primary scope >>= postfix scope.design suffixes
+expression_step (expression.Parentheses place inside) scope = inside scope >>= λ inner. Gives (typing inner.part.of place inner.typed)
 expression_step (expression.Block block) scope = block scope
-expression_step (expression.If arms otherwise) scope = all_in scope arms.items >>= λ typed_arms. otherwise_in scope otherwise >>= conditional typed_arms
-expression_step (expression.Call n arguments) scope = called scope.design n >>= λ c. all_in scope arguments.items >>= call n c
+expression_step (expression.If arms otherwise) scope = all_in scope arms >>= λ typed_arms. otherwise_in scope otherwise >>= conditional typed_arms
+expression_step (expression.Call n arguments) scope = called scope.design n >>= λ c. all_in scope arguments >>= call n c
 expression_step (expression.Struct of fields close) scope = found (struct_named scope.design of.text) (wrong UNKNOWN_NAME of.place) >>= λ number.
-    all_in scope fields.items >>= struct_in scope.design number of.place close
-expression_step (expression.Array place elements) scope = all_in scope elements.items >>= array_in scope.design place
+    all_in scope fields >>= struct_in scope.design number of.place close
+expression_step (expression.Array place elements) scope = all_in scope elements >>= array_in scope.design place
 expression_step (expression.Read place port r) scope = read_in scope.design place port r
-expression_step (expression.Write place port r value) scope = register scope.design r >>= λ number. value.value scope >>= written scope.design place port number
+expression_step (expression.Write place port r value) scope = register scope.design r >>= λ number. value scope >>= written scope.design place port number
 expression_step (expression.Abort place) scope = Gives (abort_at place)
-expression_step (expression.Pack place value) scope = value.value scope >>= packed scope.design place
-expression_step (expression.Unpack place to value) scope = type_of scope.design to >>= λ of. value.value scope >>= unpacked scope.design place of
-expression_step (expression.Extend place extension value width) scope = value.value scope >>= extended place extension width
-expression_step (expression.Compare place o left right) scope = left.value scope >>= λ one. right.value scope >>= comparison place o one
-expression_step (expression.Update place whole part value) scope = whole.value scope >>= λ old. value.value scope >>= updated scope.design place part old
+expression_step (expression.Pack place value) scope = value scope >>= packed scope.design place
+expression_step (expression.Unpack place to value) scope = type_of scope.design to >>= λ of. value scope >>= unpacked scope.design place of
+expression_step (expression.Extend place extension value width) scope = value scope >>= extended place extension width
+expression_step (expression.Compare place o left right) scope = left scope >>= λ one. right scope >>= comparison place o one
+expression_step (expression.Update place whole part value) scope = whole scope >>= λ old. value scope >>= updated scope.design place part old
 
 -- `let`: the value isn't unit (22); it is bound in all statements after
 abbrev pub statement_step : Statement-F ExpressionTyping StatementTyping Armed ExpressionTyping Fielded Joining → StatementTyping
@@ -130,7 +125,7 @@ arm_step arm scope = arm.condition scope >>= λ condition. arm.body scope >>= λ
 
 -- what a block evaluates to, by what its statements and its value do
 abbrev pub block_step : Block-F ExpressionTyping StatementTyping Armed ExpressionTyping Fielded Joining → ExpressionTyping
-block_step block = block_from block.place block.statements.items (held block.value (λ last. last.value))
+block_step block = block_from block.place block.statements block.value
 
 -- what a field's value evaluates to
 abbrev pub field_value_step : FieldValue-F ExpressionTyping StatementTyping Armed ExpressionTyping Fielded Joining → Fielded

@@ -3,9 +3,8 @@
 -- its name. After the scheduler of Kôika (Bourgeat et al., PLDI 2020).
 use Rattle.std.specs.Prelude.{ℕ, ◌+◌, not, nat_eq, Bool, List, [], ◌∷◌, ◌++◌, length, drop, Option, Some, None}
 use Rattle.std.specs.List.{list_any}
-use Rattle.std.specs.Option.{option_map}
 use Rattle.kw_base.specs.declared.fault_number.TheConstants.{UNKNOWN_NAME, RULE_TWICE_ON_A_PATH}
-use Rattle.koika_syntax.specs.declared.tree.Choice.{Choice, Choice-F}
+use Rattle.koika_syntax.specs.declared.tree.Choice.{Choice-F}
 use Rattle.koika_syntax.specs.declared.tree.Name.{Name}
 use Rattle.koika_syntax.specs.declared.tree.Scheduler.{Scheduler, Scheduler-F, fold-Scheduler}
 use Rattle.typed_core.specs.declared.design.Next.{Next}
@@ -69,7 +68,7 @@ at_the_end (Some last) d path number = last d path number
 -- rules one after another, and what is after them
 abbrev pub nodes_of_scheduler : Scheduler-F Nodes Nodes → Nodes
 nodes_of_scheduler scheduler d path number = path_behind d scheduler.rules path >>= λ behind.
-    at_the_end (option_map (λ last. last.value) scheduler.last) d behind (number + length scheduler.rules) >>= λ nodes.
+    at_the_end scheduler.last d behind (number + length scheduler.rules) >>= λ nodes.
     Gives (in_a_row number (drop (length path) behind) nodes)
 
 -- the nodes of a scheduler

@@ -6,7 +6,8 @@ use Rattle.std.specs.Str.{bytes_eq}
 use Rattle.kw_base.specs.Names.{number_of}
 use Rattle.kw_base.specs.declared.fault_number.TheConstants.{UNKNOWN_NAME, WRONG_TYPE, WRONG_WIDTH}
 use Rattle.koika_syntax.specs.declared.tree.Name.{Name}
-use Rattle.koika_syntax.specs.declared.tree.TypeExpression.{TypeExpression, Bits, Named, Array'}
+use Rattle.koika_syntax.specs.declared.tree.TypeExpression.{TypeExpression, TypeExpression-F, fold-TypeExpression}
+use Rattle.koika_syntax.specs.declared.tree.TypeExpression.TheOpen as type_expression
 use Rattle.koika_types.specs.declared.declarations.EnumDecl.{EnumDecl}
 use Rattle.koika_check.specs.Outcomes.{CheckResult, ◌>>=◌, Condition, holds, first, where_all, found, wrong}
 use Rattle.koika_check.specs.declared.stop.Wrong.{Wrong}
@@ -90,12 +91,16 @@ abbrev pub array_type : Checked → (length place : ℕ) → ValueType → Check
 array_type d length place item =
     where_all (holds (is_width length && is_width (width_of d (array length item))) (wrong WRONG_WIDTH place) ∷ []) (array length item)
 
--- what a type expression evaluates to
-abbrev pub type_of : Checked → TypeExpression → CheckResult ValueType
-type_of d (Bits width) =
+-- what a type expression evaluates to, by what the type of its items does
+abbrev pub type_step : Checked → TypeExpression-F (CheckResult ValueType) → CheckResult ValueType
+type_step d (type_expression.Bits width) =
     where_all (holds (is_width width.number.value) (wrong WRONG_WIDTH width.place) ∷ []) (bits width.number.value)
-type_of d (Named n) = named_type d n
-type_of d (Array' place _ element length) = type_of d element >>= array_type d length.value place
+type_step d (type_expression.Named n) = named_type d n
+type_step d (type_expression.Array place element length) = element >>= array_type d length.value place
+
+-- what a type expression evaluates to
+unfoldable pub type_of : Checked → TypeExpression → CheckResult ValueType
+type_of d = fold-TypeExpression (CheckResult ValueType) (type_step d)
 
 -- ---- parts
 

@@ -33,7 +33,7 @@ use Rattle.koika_check.specs.declared.typed.Operation.{Operation}
 use Rattle.koika_check.specs.declared.typed.Operation.TheVariants as operation
 use Rattle.koika_check.specs.declared.typed.Selection.{Selection}
 use Rattle.koika_check.specs.declared.typed.Selection.TheVariants as selection
-use Rattle.koika_check.specs.declared.typed.BlockStep.{BlockStep, BlockStep-F}
+use Rattle.koika_check.specs.declared.typed.BlockStep.{BlockStep-F}
 use Rattle.koika_check.specs.declared.typed.BlockStep.TheOpen as typed
 use Rattle.koika_check.specs.declared.typed.Typed.{Typed, Typed-F, rec-Typed}
 use Rattle.koika_check.specs.declared.typed.ValueType.{ValueType}

@@ -25,7 +25,7 @@ use crate::stop::{Stop, Wrong, refuse};
 use host_fn::HostFn;
 use koika_syntax::{Declaration, Tree};
 use kw_base::{Fault, Refusal, place_of};
-use kw_bits::{NoMemory, Sequence};
+use kw_bits::{Failure, NoMemory, Sequence};
 use std::alloc::Global;
 use typed_core::HostSpec;
 
@@ -40,8 +40,8 @@ pub fn check(alloc: Global, text: &[u8], tree: &Tree, hosts: &[HostFn]) -> Resul
 {
     match checked(alloc, text, tree, hosts) {
         Ok(design) => Ok(design),
-        Err(Stop::Wrong(wrong)) => Err(Refusal::Fault(fault(text, wrong))),
-        Err(Stop::NoMemory) => Err(Refusal::NoMemory),
+        Err(Failure::Why(wrong)) => Err(Refusal::Fault(fault(text, wrong))),
+        Err(Failure::NoMemory) => Err(Refusal::NoMemory),
     }
 }
 

@@ -16,7 +16,7 @@ use crate::agreement::Part;
 use crate::checker::{Checker, Known};
 use crate::composites::Given;
 use crate::shapes::Shape;
-use crate::stop::Stop;
+use crate::stop::{Stop, stop_at};
 use crate::things::Thing;
 use koika_syntax::{Constant, ConstantField, Literal, Name};
 use koika_types::Value;
@@ -146,7 +146,7 @@ impl Checker {
         let name = member.text.as_slice();
         match self.parts.find(self.alloc, Thing::Enum(of), name)? {
             Some(position) => Ok(self.design.enums[of as usize].members[position as usize].bits),
-            None => Err(Stop::at(fault_number::WRONG_FIELD, member.place)),
+            None => Err(stop_at(fault_number::WRONG_FIELD, member.place)),
         }
     }
 }

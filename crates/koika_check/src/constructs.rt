@@ -24,7 +24,7 @@ use koika_syntax::{
 };
 use koika_types::Value;
 use kw_base::fault_number;
-use kw_bits::{Bits, Sequence};
+use kw_bits::{Bits, Failure, Sequence};
 use std::alloc::Global;
 
 impl Checker {
@@ -176,7 +176,7 @@ impl Checker {
         ensures { Tells (TypedAs self.now) (types.packed self.now.design place (typing_of self.now inner)) result }
     {
         match inner.part.of {
-            None => Err(Stop::Wrong(wrong_type(inner.part))),
+            None => Err(Failure::Why(wrong_type(inner.part))),
             Some(shape) => {
                 let bits = Some(Shape::Bits(self.width(shape)));
                 apply_one(self.alloc, place, bits, Operation::Pack, inner.typed)

@@ -10,12 +10,12 @@ ghost use Rattle.koika_check.specs.inner.Outcomes.{Answers};
 ghost use Rattle.koika_check.specs.inner.Settled.{IsSettled};
 ghost use Rattle.koika_check.specs.inner.Things.{thing_named};
 ghost use Rattle.koika_check.specs.Types as types;
-ghost use Rattle.koika_check.specs.declared.stop.Stop.TheVariants as stops;
+ghost use Rattle.kw_bits.specs.declared.failure.Failure.TheVariants as failures;
 
 use crate::agreement::agrees;
 use crate::checked::{Host, Input, Register, Table};
 use crate::checker::Checker;
-use crate::stop::{Stop, Wrong, least, refuse, unless};
+use crate::stop::{Stop, Wrong, least, refuse, stop_at, unless};
 use crate::types::is_width;
 use koika_syntax::{Constant, Literal, Name, TypeExpression, Width};
 use kw_base::fault_number;
@@ -146,9 +146,9 @@ impl Checker {
 
 /// The fault of a name that is declared already.
 pub(crate) fn repeated(name: &Name) -> Stop
-    ensures { result ≡ stops.Wrong (wrong REPEATED_NAME name.now.place) }
+    ensures { result ≡ failures.Why (wrong REPEATED_NAME name.now.place) }
 {
-    Stop::at(fault_number::REPEATED_NAME, name.place)
+    stop_at(fault_number::REPEATED_NAME, name.place)
 }
 
 // What is wrong with the widths of a table and its entries.
@@ -234,7 +234,7 @@ fn wanted_host(
             return Ok(*host);
         }
     }
-    Err(Stop::at(fault_number::UNKNOWN_HOST_FUNCTION, name.place))
+    Err(stop_at(fault_number::UNKNOWN_HOST_FUNCTION, name.place))
 }
 
 // Whether a host function has this name and these widths.

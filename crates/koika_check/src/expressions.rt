@@ -30,7 +30,7 @@ use koika_syntax::{
     Arm, Block, Expression, Extension, FieldValue, Name, Number, Operand, Prefix, SignedComparison,
     Statement, Suffix, TypeExpression, UpdatedPart as WrittenPart,
 };
-use kw_bits::{NoMemory, Sequence};
+use kw_bits::{Boxed, Failure, NoMemory, Sequence};
 
 /// The fields of a struct that are well typed, in order.
 #[derive(Drop)]
@@ -59,7 +59,7 @@ impl Checker {
             Expression::Name(name) => self.named(name),
             Expression::Member { of, member } => self.member_typing(of, member),
             Expression::Chain { first, rest } => {
-                let first = self.expression(first)?;
+                let first = self.expression(first.get())?;
                 self.chain(rest.as_slice(), first)
             }
             Expression::If { arms, otherwise } => {
@@ -82,35 +82,38 @@ impl Checker {
                 port,
                 register,
                 value,
-            } => self.write(*place, *port, register, value),
-            Expression::Unary { prefixes, operand } => self.prefixed(prefixes.as_slice(), operand),
+            } => self.write(*place, *port, register, value.get()),
+            Expression::Unary { prefixes, operand } => self.prefixed(
+                prefixes.as_slice(),
+                operand.get(),
+            ),
             Expression::Postfix { primary, suffixes } => self.suffixed(
-                primary,
+                primary.get(),
                 suffixes.as_slice(),
             ),
-            Expression::Parentheses { place, inside } => self.parenthesized(*place, inside),
+            Expression::Parentheses { place, inside } => self.parenthesized(*place, inside.get()),
             Expression::Read {
                 place,
                 port,
                 register,
             } => self.read(*place, *port, register),
             Expression::Abort { place } => Ok(abort_at(self.alloc, *place)),
-            Expression::Pack { place, value } => self.pack(*place, value),
-            Expression::Unpack { place, to, value } => self.unpack(value, *place, to),
+            Expression::Pack { place, value } => self.pack(*place, value.get()),
+            Expression::Unpack { place, to, value } => self.unpack(value.get(), *place, to),
             Expression::Extend {
                 place,
                 extension,
                 value,
                 width,
-            } => self.extend(*place, *extension, *width, value),
+            } => self.extend(*place, *extension, *width, value.get()),
             Expression::Compare {
                 place,
                 comparison,
                 left,
                 right,
             } => {
-                let left = self.expression(left)?;
-                self.compare(right, *place, *comparison, left)
+                let left = self.expression(left.get())?;
+                self.compare(right.get(), *place, *comparison, left)
             }
             Expression::Update {
                 place,
@@ -118,8 +121,8 @@ impl Checker {
                 part,
                 value,
             } => {
-                let whole = self.expression(whole)?;
-                self.update(value, *place, part, whole)
+                let whole = self.expression(whole.get())?;
+                self.update(value.get(), *place, part, whole)
             }
         }
     }
@@ -424,16 +427,16 @@ impl Checker {
     fn closed(
         &mut self,
         place: u32,
-        value: &Option<Box<Expression>>,
+        value: &Option<Boxed<Expression>>,
         mut steps: Sequence<BlockStep>,
     ) -> Result<Typing, Stop>
         requires { IsReady self.old }
-        ensures { Checks (IsTyping (scope_of self.old)) self.old (expressions.close place (option_map (λ e. expression_in e.value) value.now) (record { steps = steps; behind = scope_of self.old })) self.new result }
+        ensures { Checks (IsTyping (scope_of self.old)) self.old (expressions.close place (option_map expression_in value.now) (record { steps = steps; behind = scope_of self.old })) self.new result }
     {
         match value {
             None => Ok(at(place, None, Typed::Block(steps))),
             Some(last) => {
-                let last = self.expression(last)?;
+                let last = self.expression(last.get())?;
                 steps.push(BlockStep::Give(last.typed))?;
                 Ok(at(place, last.part.of, Typed::Block(steps)))
             }
@@ -462,7 +465,7 @@ impl Checker {
         ensures { Checks (IsStep (scope_of self.old)) self.old (bound_step name.now (scope_of self.old) (typing_of self.old value)) self.new result }
     {
         match value.part.of {
-            None => Err(Stop::Wrong(wrong_type(value.part))),
+            None => Err(Failure::Why(wrong_type(value.part))),
             Some(shape) => {
                 self.locals.bind(name.text.as_slice(), shape)?;
                 Ok(BlockStep::Let(value.typed))

@@ -42,5 +42,5 @@ pub use checked::{
     Checked, CheckedField, CheckedFunction, CheckedRule, Host, Input, Register, Struct, Table,
 };
 pub use counts::Counts;
-pub use measure::{MAX_DEPTH, MAX_WEIGHT, Measure, measure_of};
+pub use measure::{MAX_DEPTH, MAX_WEIGHT, Measure, measure_of, rule_measures};
 pub use typed::{BaseType, BlockStep, Operation, Selection, Typed, ValueType};

@@ -14,6 +14,7 @@ use crate::measure::{MAX_DEPTH, MAX_WEIGHT, Measure};
 use crate::stop::{Wrong, unless};
 use koika_syntax::{Choice, Declaration, Name, Scheduler, Tree};
 use kw_base::fault_number;
+use kw_bits::Boxed;
 use typed_core::limits::{MAX_INPUTS, MAX_NODES, MAX_REGISTERS, MAX_RULES};
 
 /// What is declared at most that many times.
@@ -137,12 +138,12 @@ fn in_scheduler(of: &Scheduler, left: &mut usize) -> Option<u32>
 }
 
 #[cycle(places)]
-fn in_last(of: &Option<Box<Choice>>, left: &mut usize) -> Option<u32>
-    ensures { (behind : List ℕ) → slice_get (checks.places_if (option_map (λ last. inner_checks.choice_places last.value) of.now) ++ behind) left.old ≡ or_further result behind left.new }
+fn in_last(of: &Option<Boxed<Choice>>, left: &mut usize) -> Option<u32>
+    ensures { (behind : List ℕ) → slice_get (checks.places_if (option_map inner_checks.choice_places of.now) ++ behind) left.old ≡ or_further result behind left.new }
 {
     match of {
         None => None,
-        Some(choice) => in_choice(choice, left),
+        Some(choice) => in_choice(choice.get(), left),
     }
 }
 

@@ -73,9 +73,16 @@ impl Measure {
 pub fn measure_of(alloc: Global, design: &Checked) -> Result<Measure, NoMemory>
     ensures { IfOk result (λ measure. measure ≡ counts.capped (sizes.design_size design.now)) }
 {
-    let bodies = function_measures(alloc, design)?;
-    let rules = rule_measures(alloc, design, bodies.as_slice())?;
+    let rules = rule_measures(alloc, design)?;
     Ok(all_rules(rules.as_slice()).and(all_nodes(rules.as_slice(), design.nodes.as_slice())))
+}
+
+/// The weight and the depth of each rule's body.
+pub fn rule_measures(alloc: Global, design: &Checked) -> Result<Sequence<Measure>, NoMemory>
+    ensures { IfOk result (λ measures. measures ≡ map counts.capped (sizes.rule_sizes design.now)) }
+{
+    let bodies = function_measures(alloc, design)?;
+    rules_over(alloc, design, bodies.as_slice())
 }
 
 // The weights and depths of the bodies of functions, each of which rests on those before it.
@@ -91,7 +98,7 @@ fn function_measures(alloc: Global, design: &Checked) -> Result<Sequence<Measure
 }
 
 // Those of the bodies of rules.
-fn rule_measures(
+fn rules_over(
     alloc: Global,
     design: &Checked,
     bodies: &[Measure],

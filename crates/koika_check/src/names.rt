@@ -8,10 +8,10 @@ ghost use Rattle.koika_check.specs.Outcomes.{found, wrong};
 ghost use Rattle.koika_check.specs.inner.Outcomes.{Tells};
 ghost use Rattle.koika_check.specs.Scopes as scopes;
 ghost use Rattle.koika_check.specs.Types as types;
-ghost use Rattle.koika_check.specs.declared.stop.Stop.TheVariants as stops;
+ghost use Rattle.kw_bits.specs.declared.failure.Failure.TheVariants as failures;
 
 use crate::checker::Checker;
-use crate::stop::Stop;
+use crate::stop::{Stop, stop_at};
 use crate::things::Thing;
 use koika_syntax::Name;
 use kw_base::fault_number;
@@ -56,9 +56,9 @@ impl Checker {
 
 /// The fault of a name that names nothing of the wanted kind.
 pub(crate) fn unknown(name: &Name) -> Stop
-    ensures { result ≡ stops.Wrong (wrong UNKNOWN_NAME name.now.place) }
+    ensures { result ≡ failures.Why (wrong UNKNOWN_NAME name.now.place) }
 {
-    Stop::at(fault_number::UNKNOWN_NAME, name.place)
+    stop_at(fault_number::UNKNOWN_NAME, name.place)
 }
 
 // The number of what is wanted, if there is such a thing.

@@ -13,7 +13,7 @@ use crate::shapes::Shape;
 use crate::stop::{Stop, Wrong, least, refuse, unless};
 use koika_syntax::BinaryOperator;
 use kw_base::fault_number;
-use kw_bits::Bits;
+use kw_bits::{Bits, Failure};
 
 /// The type of an operator between two operands.
 pub(crate) fn joined(operator: BinaryOperator, left: Part, right: Part) -> Result<Shape, Stop>
@@ -55,7 +55,7 @@ pub(crate) fn width_of_bits(part: Part) -> Result<u32, Stop>
 {
     match part.as_bits() {
         Some(width) => Ok(width),
-        None => Err(Stop::Wrong(wrong_type(part))),
+        None => Err(Failure::Why(wrong_type(part))),
     }
 }
 

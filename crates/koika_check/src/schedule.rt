@@ -11,10 +11,10 @@ ghost use Rattle.typed_core.specs.declared.design.Node.{Node as SpecNode};
 
 use crate::checker::Checker;
 use crate::path::Path;
-use crate::stop::Stop;
+use crate::stop::{Stop, stop_at};
 use koika_syntax::{Choice, Name, Scheduler};
 use kw_base::fault_number;
-use kw_bits::{NoMemory, Sequence};
+use kw_bits::{Boxed, NoMemory, Sequence};
 use typed_core::{Next, Node};
 
 // The nodes as far as they are made, and the path to the next one.
@@ -61,16 +61,16 @@ impl Nodes {
 
     // Makes the nodes of what is at the end of a scheduler.
     #[cycle(scheduler)]
-    fn last(&mut self, checker: &Checker, of: &Option<Box<Choice>>) -> Result<(), Stop>
+    fn last(&mut self, checker: &Checker, of: &Option<Boxed<Choice>>) -> Result<(), Stop>
         requires checker { IsChecker checker.now }
         requires at { IsAt checker.now self.old }
         ensures kept { OnOk result (IsAt checker.now self.new) }
         ensures path { OnOk result (self.new.path.rules ≡ self.old.path.rules) }
-        ensures tells { Answers (λ _ found. self.new.made ≡ self.old.made ++ found) (nodes.at_the_end (option_map (λ last. inner_nodes.choice_nodes last.value) of.now) checker.now.design self.old.path.rules (length self.old.made)) result }
+        ensures tells { Answers (λ _ found. self.new.made ≡ self.old.made ++ found) (nodes.at_the_end (option_map inner_nodes.choice_nodes of.now) checker.now.design self.old.path.rules (length self.old.made)) result }
     {
         match of {
             None => Ok(()),
-            Some(choice) => self.choice(checker, choice),
+            Some(choice) => self.choice(checker, choice.get()),
         }
     }
 
@@ -128,7 +128,7 @@ impl Nodes {
     {
         let rule = checker.rule_named(name)?;
         if self.path.has(rule) {
-            return Err(Stop::at(fault_number::RULE_TWICE_ON_A_PATH, name.place));
+            return Err(stop_at(fault_number::RULE_TWICE_ON_A_PATH, name.place));
         }
         self.path.push(rule)?;
         Ok(rule)

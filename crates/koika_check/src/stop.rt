@@ -3,10 +3,9 @@
 ghost use Rattle.std.specs.Prelude.{◌≡◌};
 ghost use Rattle.koika_check.specs.Outcomes.{holds, smaller, wrong};
 ghost use Rattle.koika_check.specs.inner.Outcomes.{Passes};
-ghost use Rattle.koika_check.specs.declared.stop.Stop.TheVariants as stops;
+ghost use Rattle.kw_bits.specs.declared.failure.Failure.TheVariants as failures;
 
-use kw_bits::NoMemory;
-use std::alloc::{AllocError, AllocFailed};
+use kw_bits::Failure;
 
 /// What is wrong: the number of the fault and the offset of the byte where it stands.
 #[derive(Clone, Copy, Debug, PartialEq, Eq)]
@@ -23,43 +22,14 @@ impl Wrong {
     }
 }
 
-/// Why checking ends.
-#[derive(Clone, Copy, Debug, PartialEq, Eq)]
-pub(crate) enum Stop {
-    Wrong(Wrong),
-    NoMemory,
-}
+/// Why checking ends: what is wrong, or no memory.
+pub(crate) type Stop = Failure<Wrong>;
 
-impl Stop {
-    pub(crate) fn at(number: u32, place: u32) -> Stop
-        ensures { result ≡ stops.Wrong (wrong number place) }
-    {
-        Stop::Wrong(Wrong { number, place })
-    }
-}
-
-impl From<NoMemory> for Stop {
-    ghost from_gives = { λ _ stop. stop ≡ stops.NoMemory };
-
-    fn from(_: NoMemory) -> Stop {
-        Stop::NoMemory
-    }
-}
-
-impl From<AllocError> for Stop {
-    ghost from_gives = { λ _ stop. stop ≡ stops.NoMemory };
-
-    fn from(_: AllocError) -> Stop {
-        Stop::NoMemory
-    }
-}
-
-impl<T: Drop> From<AllocFailed<T>> for Stop {
-    ghost from_gives = { λ _ stop. stop ≡ stops.NoMemory };
-
-    fn from(_: AllocFailed<T>) -> Stop {
-        Stop::NoMemory
-    }
+/// Checking ends with the fault of this number at this place.
+pub(crate) fn stop_at(number: u32, place: u32) -> Stop
+    ensures { result ≡ failures.Why (wrong number place) }
+{
+    Failure::Why(Wrong { number, place })
 }
 
 /// Of the faults of two conditions the one with the smaller number, or the first where both have one number.
@@ -95,7 +65,7 @@ pub(crate) fn refuse(fault: Option<Wrong>) -> Result<(), Stop>
     ensures { Passes fault result }
 {
     match fault {
-        Some(fault) => Err(Stop::Wrong(fault)),
+        Some(fault) => Err(Failure::Why(fault)),
         None => Ok(()),
     }
 }

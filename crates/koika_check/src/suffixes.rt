@@ -15,12 +15,12 @@ ghost use Rattle.koika_check.specs.declared.shapes.Shape.TheVariants as shape;
 use crate::agreement::{Part, agrees, wrong_type};
 use crate::checker::Checker;
 use crate::shapes::Shape;
-use crate::stop::{Stop, Wrong, least, refuse, unless};
+use crate::stop::{Stop, Wrong, least, refuse, stop_at, unless};
 use crate::things::Thing;
 use crate::typed::Selection;
 use koika_syntax::{Name, Number, Suffix};
 use kw_base::fault_number;
-use kw_bits::NoMemory;
+use kw_bits::{Failure, NoMemory};
 
 /// A part of a value, and its type.
 #[derive(Clone, Copy)]
@@ -50,10 +50,10 @@ impl Checker {
         ensures { Tells (Takes self.now) (types.select_field self.now.design (part_of (arrays_of self.now) whole) name.now) result }
     {
         match whole.as_struct() {
-            None => Err(Stop::Wrong(wrong_type(whole))),
+            None => Err(Failure::Why(wrong_type(whole))),
             Some(of) => match self.field_of(of, name)? {
                 Some(number) => Ok(self.field_at(of, number)),
-                None => Err(Stop::at(fault_number::WRONG_FIELD, name.place)),
+                None => Err(stop_at(fault_number::WRONG_FIELD, name.place)),
             },
         }
     }
@@ -78,7 +78,7 @@ impl Checker {
         ensures { Tells (Takes self.now) (types.replace_item self.now.design (part_of (arrays_of self.now) whole) index (part_of (arrays_of self.now) new)) result }
     {
         match whole.as_array() {
-            None => Err(Stop::Wrong(wrong_type(whole))),
+            None => Err(Failure::Why(wrong_type(whole))),
             Some(number) => {
                 let array = self.shapes.array(number);
                 let wrong = agrees(Some(array.element), new);
@@ -169,7 +169,7 @@ pub(crate) fn slice(whole: Part, high: Number, low: Number) -> Result<Selected, 
     ensures { (c : Checking) → IsChecker c → IsPart c whole → Tells (Takes c) (types.select_slice (part_of (arrays_of c) whole) high low) result }
 {
     match whole.as_bits() {
-        None => Err(Stop::Wrong(wrong_type(whole))),
+        None => Err(Failure::Why(wrong_type(whole))),
         Some(width) => {
             let is_within = low.value <= high.value && high.value < width;
             refuse(unless(is_within, fault_number::WRONG_WIDTH, high.place))?;
@@ -183,7 +183,7 @@ fn bit(whole: Part, index: Number) -> Result<Selected, Stop>
     ensures { (c : Checking) → IsChecker c → IsPart c whole → Tells (Takes c) (types.index_of c.design (part_of (arrays_of c) whole) index None (as_bits (part_of (arrays_of c) whole).of)) result }
 {
     match whole.as_bits() {
-        None => Err(Stop::Wrong(wrong_type(whole))),
+        None => Err(Failure::Why(wrong_type(whole))),
         Some(width) => {
             refuse(in_range(index, width))?;
             Ok(bits_at(index.value, index.value))

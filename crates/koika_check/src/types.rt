@@ -9,7 +9,7 @@ ghost use Rattle.koika_check.specs.Types as types;
 
 use crate::checker::Checker;
 use crate::shapes::{ArrayShape, Shape};
-use crate::stop::Stop;
+use crate::stop::{Stop, stop_at};
 use crate::things::Thing;
 use crate::typed::{BaseType, ValueType};
 use koika_syntax::{Name, TypeExpression};
@@ -64,7 +64,7 @@ impl Checker {
         match of {
             TypeExpression::Bits(width) => {
                 if !is_width(width.number.value) {
-                    return Err(Stop::at(fault_number::WRONG_WIDTH, width.place));
+                    return Err(stop_at(fault_number::WRONG_WIDTH, width.place));
                 }
                 Ok(Inner {
                     base: BaseType::Bits(width.number.value),
@@ -78,7 +78,7 @@ impl Checker {
                 length,
             } => {
                 lengths.push(length.value)?;
-                let inner = self.inner(element, lengths)?;
+                let inner = self.inner(element.get(), lengths)?;
                 let shape = self.array_type(inner.shape, length.value, *place)?;
                 Ok(Inner {
                     base: inner.base,
@@ -102,11 +102,11 @@ impl Checker {
         ensures { Tells (λ inner of. (inner.base ≡ of.base) × (of.lengths ≡ []) × Stands self.now inner.shape of) (types.named_type self.now.design name.now) result }
     {
         match self.type_of_name(name.text.as_slice()) {
-            None => Err(Stop::at(fault_number::UNKNOWN_NAME, name.place)),
+            None => Err(stop_at(fault_number::UNKNOWN_NAME, name.place)),
             Some(base) => {
                 let shape = shape_of(base);
                 if !is_width(self.width(shape)) {
-                    return Err(Stop::at(fault_number::WRONG_WIDTH, name.place));
+                    return Err(stop_at(fault_number::WRONG_WIDTH, name.place));
                 }
                 Ok(Inner { base, shape })
             }
@@ -123,11 +123,11 @@ impl Checker {
         ensures tells { Tells (Stands self.new) (types.array_type self.old.design length place (type_of_shape (arrays_of self.old) element)) result }
     {
         if length < 1 || length > MAX_LENGTH {
-            return Err(Stop::at(fault_number::WRONG_WIDTH, place));
+            return Err(stop_at(fault_number::WRONG_WIDTH, place));
         }
         let width = self.width(element) * length;
         if !is_width(width) {
-            return Err(Stop::at(fault_number::WRONG_WIDTH, place));
+            return Err(stop_at(fault_number::WRONG_WIDTH, place));
         }
         Ok(
             self.shapes.array_of(ArrayShape {

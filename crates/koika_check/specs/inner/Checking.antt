@@ -13,7 +13,7 @@ use Rattle.koika_check.specs.Constants as constants
 use Rattle.koika_check.specs.Constructs as constructs
 use Rattle.koika_check.specs.inner.Locals.{AreLocals, locals_of, shapes_of}
 use Rattle.koika_check.specs.Outcomes.{CheckResult, Gives}
-use Rattle.koika_check.specs.inner.Outcomes.{Ends}
+use Rattle.koika_check.specs.inner.Outcomes.{Ends, Stop}
 use Rattle.koika_check.specs.Scopes as scopes
 use Rattle.koika_check.specs.Scopes.{Scope, function_named, host_named, input_named, register_named, rule_named, table_named}
 use Rattle.koika_check.specs.Selections as selections
@@ -40,7 +40,6 @@ use Rattle.koika_check.specs.declared.constants.Knowns.{Knowns}
 use Rattle.koika_check.specs.declared.shapes.ArrayShape.{ArrayShape}
 use Rattle.koika_check.specs.declared.shapes.Shape.{Shape}
 use Rattle.koika_check.specs.declared.shapes.Shape.TheVariants as shape
-use Rattle.koika_check.specs.declared.stop.Stop.{Stop}
 use Rattle.koika_check.specs.declared.suffixes.Selected.{Selected}
 use Rattle.koika_check.specs.declared.things.Thing.{Thing}
 use Rattle.koika_check.specs.declared.things.Thing.TheVariants as thing

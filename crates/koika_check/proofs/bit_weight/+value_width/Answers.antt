@@ -3,7 +3,8 @@ use Rattle.std.proofs.lemmas.List.{take_all}
 use Rattle.std.proofs.lemmas.List.Sums.{sum_by_more}
 use Rattle.koika_types.specs.declared.value.Value.{Value}
 use Rattle.koika_check.specs.inner.Gauges.{cap}
-use Rattle.koika_check.proofs.PackedWidths.{packed_width, width-Fields, width-Items}
+use Rattle.koika_types.proofs.Parts.{packed_width}
+use Rattle.koika_check.proofs.PackedWidths.{width-Fields, width-Items}
 use Rattle.koika_check.proofs.Saturating.{sum-saturates}
 use Rattle.koika_check.proofs.bit_weight.+value_width.Goals as goal
 

@@ -71,7 +71,7 @@ constant-returns-in-Struct t c =
     let struct = found (struct_named d c.in-Struct.of.text) (wrong UNKNOWN_NAME c.in-Struct.of.place) in
     subst (λ o. Checks (IsKnown (scope_of c.args.self.now)) c.args.self.now o c.constant_struct.new.self c.constant_struct.result)
     (sym (ap (λ k. constant_of k d) c.in-Struct.is ∙ constant-Struct c.in-Struct.of c.in-Struct.fields c.in-Struct.close d))
-    (subst (λ xs. Checks (IsKnown (scope_of c.args.self.now)) c.args.self.now (struct >>= λ n. in_turn (λ f. constant_field_of f d) xs >>= struct_known d n c.in-Struct.of.place c.in-Struct.close) c.constant_struct.new.self c.constant_struct.result) c.as_slice.ensures.value c.constant_struct.ensures)
+    (subst (λ xs. Checks (IsKnown (scope_of c.args.self.now)) c.args.self.now (struct >>= λ n. in_turn (λ f. constant_field_of f d) xs >>= struct_known d n c.in-Struct.of.place c.in-Struct.close) c.constant_struct.new.self c.constant_struct.result) c.as_slice.ensures c.constant_struct.ensures)
 
 pub constant-returns-in_err-known-in-Array : goal.constant-returns-in_err-known-in-Array
 constant-returns-in_err-known-in-Array t c =
@@ -79,15 +79,15 @@ constant-returns-in_err-known-in-Array t c =
     let d = c.args.self.now.design in
     rw (p.1, p.2)
     (ends-same _ _ _ (ap (λ k. constant_of k d) c.in-Array.is ∙ constant-Array c.in-Array.place c.in-Array.elements d)
-    (ends-bind (in_turn (λ e. constant_of e d) c.in-Array.elements.items) _ _ (subst (λ xs. Ends (in_turn (λ e. constant_of e d) xs) c.in_err-known-in-Array.field-0.0) c.as_slice-in-Array.ensures.value c.in_err-known-in-Array.ensures)))
+    (ends-bind (in_turn (λ e. constant_of e d) c.in-Array.elements) _ _ (subst (λ xs. Ends (in_turn (λ e. constant_of e d) xs) c.in_err-known-in-Array.field-0.0) c.as_slice-in-Array.ensures c.in_err-known-in-Array.ensures)))
 
 pub constant-returns-in_err-array_of-in-Array : goal.constant-returns-in_err-array_of-in-Array
 constant-returns-in_err-array_of-in-Array t c =
     let p = err_from_is_err_and c.from_residual-in_err-array_of-in-Array.result c.from_residual-in_err-array_of-in-Array.ensures.1 in
     let d = c.args.self.now.design in
     let new = c.constants.new.self in
-    let items = in_turn (λ e. constant_of e d) c.in-Array.elements.items in
-    let h = subst (λ xs. Yields (AreKnown (scope_of c.args.self.now)) c.args.self.now (in_turn (λ e. constant_of e d) xs) new c.in_ok-known-in-Array.known) c.as_slice-in-Array.ensures.value c.in_ok-known-in-Array.ensures in
+    let items = in_turn (λ e. constant_of e d) c.in-Array.elements in
+    let h = subst (λ xs. Yields (AreKnown (scope_of c.args.self.now)) c.args.self.now (in_turn (λ e. constant_of e d) xs) new c.in_ok-known-in-Array.known) c.as_slice-in-Array.ensures c.in_ok-known-in-Array.ensures in
     rw (p.1, p.2)
     (ends-same _ _ _ (ap (λ k. constant_of k d) c.in-Array.is ∙ constant-Array c.in-Array.place c.in-Array.elements d)
     (array-ends c.args.self.now new c.in-Array.place items c.in_ok-known-in-Array.known _ h
@@ -108,8 +108,8 @@ pub constant-returns-in_ok-array_of-in-Array : goal.constant-returns-in_ok-array
 constant-returns-in_ok-array_of-in-Array t c =
     let d = c.args.self.now.design in
     let new = c.constants.new.self in
-    let items = in_turn (λ e. constant_of e d) c.in-Array.elements.items in
-    let h = subst (λ xs. Yields (AreKnown (scope_of c.args.self.now)) c.args.self.now (in_turn (λ e. constant_of e d) xs) new c.in_ok-known-in-Array.known) c.as_slice-in-Array.ensures.value c.in_ok-known-in-Array.ensures in
+    let items = in_turn (λ e. constant_of e d) c.in-Array.elements in
+    let h = subst (λ xs. Yields (AreKnown (scope_of c.args.self.now)) c.args.self.now (in_turn (λ e. constant_of e d) xs) new c.in_ok-known-in-Array.known) c.as_slice-in-Array.ensures c.in_ok-known-in-Array.ensures in
     subst (λ o. Yields (IsKnown (scope_of c.args.self.now)) c.args.self.now o c.array_of.new.self (record { part = c.in_ok-array_of-in-Array.field-0; value = value.Items c.in_ok-known-in-Array.known.values }))
     (sym (ap (λ k. constant_of k d) c.in-Array.is ∙ constant-Array c.in-Array.place c.in-Array.elements d))
     (array-gives c.args.self.now new c.array_of.new.self c.in-Array.place items c.in_ok-known-in-Array.known c.in_ok-array_of-in-Array.field-0 h

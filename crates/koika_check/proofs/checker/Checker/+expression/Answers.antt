@@ -1,10 +1,9 @@
-use Rattle.std.proofs.Common.{◌≡◌, ◌+◌, [], ◌∷◌, ◌++◌, ap, ap₂, arith, Box, Global, length, length-append, map, Ok, refl, subst, sym, ◌∙◌}
+use Rattle.std.proofs.Common.{◌≡◌, ◌+◌, [], ◌∷◌, ◌++◌, ap, ap₂, arith, length, length-append, map, Ok, refl, subst, sym, ◌∙◌}
 use Rattle.std.specs.Option.{option_map}
 use Rattle.std.proofs.lemmas.List.{take_all}
 use Rattle.std.proofs.lemmas.Result.{err_from_is_err_and}
 use Rattle.kw_base.specs.declared.fault_number.TheConstants.{UNKNOWN_NAME}
 use Rattle.koika_syntax.specs.declared.tree.Block.{out-Block}
-use Rattle.koika_syntax.specs.declared.tree.Expression.{Expression}
 use Rattle.koika_syntax.specs.declared.tree.Expression.TheViews as views
 use Rattle.koika_check.specs.inner.Checking.{AreGiven, IsPartIn, IsTyping, Yields, arrays_of, ready, scope_of, typing_of}
 use Rattle.koika_check.specs.Composites.{array_of, fields_of}
@@ -212,13 +211,13 @@ pub block-returns-in_err-steps : goal.block-returns-in_err-steps
 block-returns-in_err-steps t c =
     let p = err_from_is_err_and c.from_residual.result c.from_residual.ensures.1 in
     rw (p.1, p.2)
-    (ends-same _ _ _ (block-parts c.args.block.now (scope_of c.args.self.now)) (ends-bind (one_by_one running (out-Block c.args.block.now).statements.items (run-of [] (scope_of c.args.self.now))) _ _ (subst (λ xs. Ends (one_by_one running xs (run-of [] (scope_of c.args.self.now))) c.in_err-steps.field-0.0) c.as_slice.ensures.value c.in_err-steps.ensures)))
+    (ends-same _ _ _ (block-parts c.args.block.now (scope_of c.args.self.now)) (ends-bind (one_by_one running (out-Block c.args.block.now).statements (run-of [] (scope_of c.args.self.now))) _ _ (subst (λ xs. Ends (one_by_one running xs (run-of [] (scope_of c.args.self.now))) c.in_err-steps.field-0.0) c.as_slice.ensures c.in_err-steps.ensures)))
 
 pub block-returns-in_err-typing : goal.block-returns-in_err-typing
 block-returns-in_err-typing t c =
     let p = err_from_is_err_and c.from_residual-in_err-typing.result c.from_residual-in_err-typing.ensures.1 in
     rw (p.1, p.2)
-    (ends-same _ _ _ (block-parts c.args.block.now (scope_of c.args.self.now)) (block-ends c.args.self.now c.steps.new.self (one_by_one running (out-Block c.args.block.now).statements.items (run-of [] (scope_of c.args.self.now))) (out-Block c.args.block.now).place (option_map (λ (e : Box Expression Global). expression_in e.value) (out-Block c.args.block.now).value) c.in_ok-steps.steps _ (subst (λ xs. Yields (AreSteps (scope_of c.args.self.now)) c.args.self.now (one_by_one running xs (run-of [] (scope_of c.args.self.now))) c.steps.new.self c.in_ok-steps.steps) c.as_slice.ensures.value c.in_ok-steps.ensures) c.in_err-typing.ensures))
+    (ends-same _ _ _ (block-parts c.args.block.now (scope_of c.args.self.now)) (block-ends c.args.self.now c.steps.new.self (one_by_one running (out-Block c.args.block.now).statements (run-of [] (scope_of c.args.self.now))) (out-Block c.args.block.now).place (option_map expression_in (out-Block c.args.block.now).value) c.in_ok-steps.steps _ (subst (λ xs. Yields (AreSteps (scope_of c.args.self.now)) c.args.self.now (one_by_one running xs (run-of [] (scope_of c.args.self.now))) c.steps.new.self c.in_ok-steps.steps) c.as_slice.ensures c.in_ok-steps.ensures) c.in_err-typing.ensures))
 
 pub block-leave-requires-clause-bound : goal.block-leave-requires-clause-bound
 block-leave-requires-clause-bound t c =
@@ -227,21 +226,21 @@ block-leave-requires-clause-bound t c =
 pub block-returns : goal.block-returns
 block-returns t c =
     same-checks (IsTyping (scope_of c.args.self.now)) c.args.self.now _ (block_in c.args.block.now (scope_of c.args.self.now)) _ (Ok c.in_ok-typing.typing) (block-parts c.args.block.now (scope_of c.args.self.now))
-    (block-gives c.args.self.now c.steps.new.self c.closed.new.self (one_by_one running (out-Block c.args.block.now).statements.items (run-of [] (scope_of c.args.self.now))) (out-Block c.args.block.now).place (option_map (λ (e : Box Expression Global). expression_in e.value) (out-Block c.args.block.now).value) c.in_ok-steps.steps c.in_ok-typing.typing c.leave.new.self c.bound-bound.result
-    (subst (λ xs. Yields (AreSteps (scope_of c.args.self.now)) c.args.self.now (one_by_one running xs (run-of [] (scope_of c.args.self.now))) c.steps.new.self c.in_ok-steps.steps) c.as_slice.ensures.value c.in_ok-steps.ensures) c.in_ok-typing.ensures c.bound-bound.ensures c.leave.ensures.kept c.leave.ensures.left c.leave.ensures.shapes)
+    (block-gives c.args.self.now c.steps.new.self c.closed.new.self (one_by_one running (out-Block c.args.block.now).statements (run-of [] (scope_of c.args.self.now))) (out-Block c.args.block.now).place (option_map expression_in (out-Block c.args.block.now).value) c.in_ok-steps.steps c.in_ok-typing.typing c.leave.new.self c.bound-bound.result
+    (subst (λ xs. Yields (AreSteps (scope_of c.args.self.now)) c.args.self.now (one_by_one running xs (run-of [] (scope_of c.args.self.now))) c.steps.new.self c.in_ok-steps.steps) c.as_slice.ensures c.in_ok-steps.ensures) c.in_ok-typing.ensures c.bound-bound.ensures c.leave.ensures.kept c.leave.ensures.left c.leave.ensures.shapes)
 
 pub closed-returns-in-None : goal.closed-returns-in-None
 closed-returns-in-None t c =
     let s = c.args.steps in
-    subst (λ v. Yields (IsTyping (scope_of c.args.self.now)) c.args.self.now (close c.args.place (option_map (λ (e : Box Expression Global). expression_in e.value) v) (run-of s (scope_of c.args.self.now))) c.args.self.now c.at.result) (sym c.in-None.is)
+    subst (λ v. Yields (IsTyping (scope_of c.args.self.now)) c.args.self.now (close c.args.place (option_map expression_in v) (run-of s (scope_of c.args.self.now))) c.args.self.now c.at.result) (sym c.in-None.is)
     (closed-none c.args.self.now (checker-of c.args.self.now c.requires) c.args.place s c.at.result c.at.ensures)
 
 pub closed-returns-in_ok-push-in-Some : goal.closed-returns-in_ok-push-in-Some
 closed-returns-in_ok-push-in-Some t c =
     let s = c.args.steps in
-    let y = subst (λ e. Yields (IsTyping (scope_of c.args.self.now)) c.args.self.now (expression_in e (scope_of c.args.self.now)) c.expression.new.self c.in_ok-last-in-Some.last) c.deref.ensures c.in_ok-last-in-Some.ensures in
-    subst (λ v. Yields (IsTyping (scope_of c.args.self.now)) c.args.self.now (close c.args.place (option_map (λ (e : Box Expression Global). expression_in e.value) v) (run-of s (scope_of c.args.self.now))) c.expression.new.self c.at-in-Some.result) (sym c.in-Some.is)
-    (closed-gives c.args.self.now c.expression.new.self c.args.place s c.push.new.self c.in-Some.last.value c.in_ok-last-in-Some.last c.at-in-Some.result y c.in_ok-push-in-Some.ensures.ok c.at-in-Some.ensures)
+    let y = subst (λ e. Yields (IsTyping (scope_of c.args.self.now)) c.args.self.now (expression_in e (scope_of c.args.self.now)) c.expression.new.self c.in_ok-last-in-Some.last) c.get.ensures c.in_ok-last-in-Some.ensures in
+    subst (λ v. Yields (IsTyping (scope_of c.args.self.now)) c.args.self.now (close c.args.place (option_map expression_in v) (run-of s (scope_of c.args.self.now))) c.expression.new.self c.at-in-Some.result) (sym c.in-Some.is)
+    (closed-gives c.args.self.now c.expression.new.self c.args.place s c.push.new.self c.in-Some.last c.in_ok-last-in-Some.last c.at-in-Some.result y c.in_ok-push-in-Some.ensures.ok c.at-in-Some.ensures)
 
 pub statement-returns-in_err-value-in-Let : goal.statement-returns-in_err-value-in-Let
 statement-returns-in_err-value-in-Let t c =
@@ -299,39 +298,39 @@ pub expression-returns-in_err-first-in-Chain : goal.expression-returns-in_err-fi
 expression-returns-in_err-first-in-Chain t c =
     let p = err_from_is_err_and c.from_residual.result c.from_residual.ensures.1 in
     rw (p.1, p.2)
-    (ends-same _ _ _ (ap (λ e. expression_in e (scope_of c.args.self.now)) c.in-Chain.is ∙ expression-Chain c.in-Chain.first c.in-Chain.rest (scope_of c.args.self.now) ∙ ap (λ e. expression_in e (scope_of c.args.self.now) >>= chain_in (scope_of c.args.self.now) (map operand_in c.in-Chain.rest.items)) (sym c.deref.ensures)) (ends-bind (expression_in c.deref.result.now (scope_of c.args.self.now)) _ _ c.in_err-first-in-Chain.ensures))
+    (ends-same _ _ _ (ap (λ e. expression_in e (scope_of c.args.self.now)) c.in-Chain.is ∙ expression-Chain c.in-Chain.first c.in-Chain.rest (scope_of c.args.self.now) ∙ ap (λ e. expression_in e (scope_of c.args.self.now) >>= chain_in (scope_of c.args.self.now) (map operand_in c.in-Chain.rest)) (sym c.get.ensures)) (ends-bind (expression_in c.get.result.now (scope_of c.args.self.now)) _ _ c.in_err-first-in-Chain.ensures))
 
 pub expression-returns-in_ok-first-in-Chain : goal.expression-returns-in_ok-first-in-Chain
 expression-returns-in_ok-first-in-Chain t c =
     same-checks (IsTyping (scope_of c.args.self.now)) c.args.self.now c.chain.new.self _ _ c.chain.result
-    (ap (λ e. expression_in e (scope_of c.args.self.now)) c.in-Chain.is ∙ expression-Chain c.in-Chain.first c.in-Chain.rest (scope_of c.args.self.now) ∙ ap₂ (λ e os. expression_in e (scope_of c.args.self.now) >>= chain_in (scope_of c.args.self.now) (map operand_in os)) (sym c.deref.ensures) (sym c.as_slice.ensures.value))
-    (then-in IsTyping c.args.self.now c.expression.new.self c.chain.new.self (expression_in c.deref.result.now (scope_of c.args.self.now)) (λ s. chain_in s (map operand_in c.as_slice.result.now)) c.in_ok-first-in-Chain.first c.chain.result c.in_ok-first-in-Chain.ensures c.chain.ensures)
+    (ap (λ e. expression_in e (scope_of c.args.self.now)) c.in-Chain.is ∙ expression-Chain c.in-Chain.first c.in-Chain.rest (scope_of c.args.self.now) ∙ ap₂ (λ e os. expression_in e (scope_of c.args.self.now) >>= chain_in (scope_of c.args.self.now) (map operand_in os)) (sym c.get.ensures) (sym c.as_slice.ensures))
+    (then-in IsTyping c.args.self.now c.expression.new.self c.chain.new.self (expression_in c.get.result.now (scope_of c.args.self.now)) (λ s. chain_in s (map operand_in c.as_slice.result.now)) c.in_ok-first-in-Chain.first c.chain.result c.in_ok-first-in-Chain.ensures c.chain.ensures)
 
 pub expression-returns-in_err-arms-in-If : goal.expression-returns-in_err-arms-in-If
 expression-returns-in_err-arms-in-If t c =
     let p = err_from_is_err_and c.from_residual-in_err-arms-in-If.result c.from_residual-in_err-arms-in-If.ensures.1 in
     rw (p.1, p.2)
-    (ends-same _ _ _ (ap (λ e. expression_in e (scope_of c.args.self.now)) c.in-If.is ∙ expression-If c.in-If.arms c.in-If.otherwise (scope_of c.args.self.now) ∙ ap (λ xs. in_turn (λ a. arm_in a (scope_of c.args.self.now)) xs >>= λ ys. otherwise_in (scope_of c.args.self.now) (option_map block_in c.in-If.otherwise) >>= conditional ys) (sym c.as_slice-in-If.ensures.value)) (ends-bind (in_turn (λ a. arm_in a (scope_of c.args.self.now)) c.as_slice-in-If.result.now) _ _ c.in_err-arms-in-If.ensures))
+    (ends-same _ _ _ (ap (λ e. expression_in e (scope_of c.args.self.now)) c.in-If.is ∙ expression-If c.in-If.arms c.in-If.otherwise (scope_of c.args.self.now) ∙ ap (λ xs. in_turn (λ a. arm_in a (scope_of c.args.self.now)) xs >>= λ ys. otherwise_in (scope_of c.args.self.now) (option_map block_in c.in-If.otherwise) >>= conditional ys) (sym c.as_slice-in-If.ensures)) (ends-bind (in_turn (λ a. arm_in a (scope_of c.args.self.now)) c.as_slice-in-If.result.now) _ _ c.in_err-arms-in-If.ensures))
 
 pub expression-returns-in_ok-arms-in-If : goal.expression-returns-in_ok-arms-in-If
 expression-returns-in_ok-arms-in-If t c =
-    same-checks (IsTyping (scope_of c.args.self.now)) c.args.self.now c.choice.new.self _ _ c.choice.result (ap (λ e. expression_in e (scope_of c.args.self.now)) c.in-If.is ∙ expression-If c.in-If.arms c.in-If.otherwise (scope_of c.args.self.now) ∙ ap (λ xs. in_turn (λ a. arm_in a (scope_of c.args.self.now)) xs >>= λ ys. otherwise_in (scope_of c.args.self.now) (option_map block_in c.in-If.otherwise) >>= conditional ys) (sym c.as_slice-in-If.ensures.value))
+    same-checks (IsTyping (scope_of c.args.self.now)) c.args.self.now c.choice.new.self _ _ c.choice.result (ap (λ e. expression_in e (scope_of c.args.self.now)) c.in-If.is ∙ expression-If c.in-If.arms c.in-If.otherwise (scope_of c.args.self.now) ∙ ap (λ xs. in_turn (λ a. arm_in a (scope_of c.args.self.now)) xs >>= λ ys. otherwise_in (scope_of c.args.self.now) (option_map block_in c.in-If.otherwise) >>= conditional ys) (sym c.as_slice-in-If.ensures))
     (choice-checks c.args.self.now c.arms.new.self c.choice.new.self (in_turn (λ a. arm_in a (scope_of c.args.self.now)) c.as_slice-in-If.result.now) (option_map block_in c.in-If.otherwise) c.in_ok-arms-in-If.arms c.choice.result c.in_ok-arms-in-If.ensures c.choice.ensures)
 
 pub expression-returns-in-Call : goal.expression-returns-in-Call
 expression-returns-in-Call t c =
     same-checks (IsTyping (scope_of c.args.self.now)) c.args.self.now c.called_with.new.self _ _ c.called_with.result
-    (ap (λ e. expression_in e (scope_of c.args.self.now)) c.in-Call.is ∙ expression-Call c.in-Call.called c.in-Call.arguments (scope_of c.args.self.now) ∙ ap (λ xs. called c.args.self.now.design c.in-Call.called >>= λ k. in_turn (λ e. expression_in e (scope_of c.args.self.now)) xs >>= call c.in-Call.called k) (sym c.as_slice-in-Call.ensures.value)) c.called_with.ensures
+    (ap (λ e. expression_in e (scope_of c.args.self.now)) c.in-Call.is ∙ expression-Call c.in-Call.called c.in-Call.arguments (scope_of c.args.self.now) ∙ ap (λ xs. called c.args.self.now.design c.in-Call.called >>= λ k. in_turn (λ e. expression_in e (scope_of c.args.self.now)) xs >>= call c.in-Call.called k) (sym c.as_slice-in-Call.ensures)) c.called_with.ensures
 
 pub expression-returns-in-Struct : goal.expression-returns-in-Struct
 expression-returns-in-Struct t c =
     same-checks (IsTyping (scope_of c.args.self.now)) c.args.self.now c.structure.new.self _ _ c.structure.result
-    (ap (λ e. expression_in e (scope_of c.args.self.now)) c.in-Struct.is ∙ expression-Struct c.in-Struct.of c.in-Struct.fields c.in-Struct.close (scope_of c.args.self.now) ∙ ap (λ xs. found (struct_named c.args.self.now.design c.in-Struct.of.text) (wrong UNKNOWN_NAME c.in-Struct.of.place) >>= λ n. in_turn (λ f. field_value_in f (scope_of c.args.self.now)) xs >>= struct_in c.args.self.now.design n c.in-Struct.of.place c.in-Struct.close) (sym c.as_slice-in-Struct.ensures.value)) c.structure.ensures
+    (ap (λ e. expression_in e (scope_of c.args.self.now)) c.in-Struct.is ∙ expression-Struct c.in-Struct.of c.in-Struct.fields c.in-Struct.close (scope_of c.args.self.now) ∙ ap (λ xs. found (struct_named c.args.self.now.design c.in-Struct.of.text) (wrong UNKNOWN_NAME c.in-Struct.of.place) >>= λ n. in_turn (λ f. field_value_in f (scope_of c.args.self.now)) xs >>= struct_in c.args.self.now.design n c.in-Struct.of.place c.in-Struct.close) (sym c.as_slice-in-Struct.ensures)) c.structure.ensures
 
 pub expression-returns-in-Array : goal.expression-returns-in-Array
 expression-returns-in-Array t c =
     same-checks (IsTyping (scope_of c.args.self.now)) c.args.self.now c.array.new.self _ _ c.array.result
-    (ap (λ e. expression_in e (scope_of c.args.self.now)) c.in-Array.is ∙ expression-Array c.in-Array.place c.in-Array.elements (scope_of c.args.self.now) ∙ ap (λ xs. in_turn (λ e. expression_in e (scope_of c.args.self.now)) xs >>= array_in c.args.self.now.design c.in-Array.place) (sym c.as_slice-in-Array.ensures.value)) c.array.ensures
+    (ap (λ e. expression_in e (scope_of c.args.self.now)) c.in-Array.is ∙ expression-Array c.in-Array.place c.in-Array.elements (scope_of c.args.self.now) ∙ ap (λ xs. in_turn (λ e. expression_in e (scope_of c.args.self.now)) xs >>= array_in c.args.self.now.design c.in-Array.place) (sym c.as_slice-in-Array.ensures)) c.array.ensures
 
 pub expression-returns-in-Block : goal.expression-returns-in-Block
 expression-returns-in-Block t c =
@@ -341,22 +340,22 @@ expression-returns-in-Block t c =
 pub expression-returns-in-Write : goal.expression-returns-in-Write
 expression-returns-in-Write t c =
     same-checks (IsTyping (scope_of c.args.self.now)) c.args.self.now c.write.new.self _ _ c.write.result
-    (ap (λ e. expression_in e (scope_of c.args.self.now)) c.in-Write.is ∙ expression-Write c.in-Write.place c.in-Write.port c.in-Write.register c.in-Write.value (scope_of c.args.self.now) ∙ ap (λ e. register c.args.self.now.design c.in-Write.register >>= λ n. expression_in e (scope_of c.args.self.now) >>= written c.args.self.now.design c.in-Write.place c.in-Write.port n) (sym c.deref-in-Write.ensures)) c.write.ensures
+    (ap (λ e. expression_in e (scope_of c.args.self.now)) c.in-Write.is ∙ expression-Write c.in-Write.place c.in-Write.port c.in-Write.register c.in-Write.value (scope_of c.args.self.now) ∙ ap (λ e. register c.args.self.now.design c.in-Write.register >>= λ n. expression_in e (scope_of c.args.self.now) >>= written c.args.self.now.design c.in-Write.place c.in-Write.port n) (sym c.get-in-Write.ensures)) c.write.ensures
 
 pub expression-returns-in-Unary : goal.expression-returns-in-Unary
 expression-returns-in-Unary t c =
     same-checks (IsTyping (scope_of c.args.self.now)) c.args.self.now c.prefixed.new.self _ _ c.prefixed.result
-    (ap (λ e. expression_in e (scope_of c.args.self.now)) c.in-Unary.is ∙ expression-Unary c.in-Unary.prefixes c.in-Unary.operand (scope_of c.args.self.now) ∙ ap₂ (λ e ps. expression_in e (scope_of c.args.self.now) >>= unary ps) (sym c.deref-in-Unary.ensures) (sym c.as_slice-in-Unary.ensures)) c.prefixed.ensures
+    (ap (λ e. expression_in e (scope_of c.args.self.now)) c.in-Unary.is ∙ expression-Unary c.in-Unary.prefixes c.in-Unary.operand (scope_of c.args.self.now) ∙ ap₂ (λ e ps. expression_in e (scope_of c.args.self.now) >>= unary ps) (sym c.get-in-Unary.ensures) (sym c.as_slice-in-Unary.ensures)) c.prefixed.ensures
 
 pub expression-returns-in-Postfix : goal.expression-returns-in-Postfix
 expression-returns-in-Postfix t c =
     same-checks (IsTyping (scope_of c.args.self.now)) c.args.self.now c.suffixed.new.self _ _ c.suffixed.result
-    (ap (λ e. expression_in e (scope_of c.args.self.now)) c.in-Postfix.is ∙ expression-Postfix c.in-Postfix.primary c.in-Postfix.suffixes (scope_of c.args.self.now) ∙ ap₂ (λ e ps. expression_in e (scope_of c.args.self.now) >>= postfix c.args.self.now.design ps) (sym c.deref-in-Postfix.ensures) (sym c.as_slice-in-Postfix.ensures)) c.suffixed.ensures
+    (ap (λ e. expression_in e (scope_of c.args.self.now)) c.in-Postfix.is ∙ expression-Postfix c.in-Postfix.primary c.in-Postfix.suffixes (scope_of c.args.self.now) ∙ ap₂ (λ e ps. expression_in e (scope_of c.args.self.now) >>= postfix c.args.self.now.design ps) (sym c.get-in-Postfix.ensures) (sym c.as_slice-in-Postfix.ensures)) c.suffixed.ensures
 
 pub expression-returns-in-Parentheses : goal.expression-returns-in-Parentheses
 expression-returns-in-Parentheses t c =
     same-checks (IsTyping (scope_of c.args.self.now)) c.args.self.now c.parenthesized.new.self _ _ c.parenthesized.result
-    (ap (λ e. expression_in e (scope_of c.args.self.now)) c.in-Parentheses.is ∙ expression-Parentheses c.in-Parentheses.place c.in-Parentheses.inside (scope_of c.args.self.now) ∙ ap (λ e. expression_in e (scope_of c.args.self.now) >>= λ inner. Gives (typing inner.part.of c.in-Parentheses.place inner.typed)) (sym c.deref-in-Parentheses.ensures)) c.parenthesized.ensures
+    (ap (λ e. expression_in e (scope_of c.args.self.now)) c.in-Parentheses.is ∙ expression-Parentheses c.in-Parentheses.place c.in-Parentheses.inside (scope_of c.args.self.now) ∙ ap (λ e. expression_in e (scope_of c.args.self.now) >>= λ inner. Gives (typing inner.part.of c.in-Parentheses.place inner.typed)) (sym c.get-in-Parentheses.ensures)) c.parenthesized.ensures
 
 pub expression-returns-in-Read : goal.expression-returns-in-Read
 expression-returns-in-Read t c =
@@ -370,45 +369,45 @@ expression-returns-in-Abort t c =
 pub expression-returns-in-Pack : goal.expression-returns-in-Pack
 expression-returns-in-Pack t c =
     same-checks (IsTyping (scope_of c.args.self.now)) c.args.self.now c.pack.new.self _ _ c.pack.result
-    (ap (λ e. expression_in e (scope_of c.args.self.now)) c.in-Pack.is ∙ expression-Pack c.in-Pack.place c.in-Pack.value (scope_of c.args.self.now) ∙ ap (λ e. expression_in e (scope_of c.args.self.now) >>= packed c.args.self.now.design c.in-Pack.place) (sym c.deref-in-Pack.ensures)) c.pack.ensures
+    (ap (λ e. expression_in e (scope_of c.args.self.now)) c.in-Pack.is ∙ expression-Pack c.in-Pack.place c.in-Pack.value (scope_of c.args.self.now) ∙ ap (λ e. expression_in e (scope_of c.args.self.now) >>= packed c.args.self.now.design c.in-Pack.place) (sym c.get-in-Pack.ensures)) c.pack.ensures
 
 pub expression-returns-in-Unpack : goal.expression-returns-in-Unpack
 expression-returns-in-Unpack t c =
     same-checks (IsTyping (scope_of c.args.self.now)) c.args.self.now c.unpack.new.self _ _ c.unpack.result
-    (ap (λ e. expression_in e (scope_of c.args.self.now)) c.in-Unpack.is ∙ expression-Unpack c.in-Unpack.place c.in-Unpack.to c.in-Unpack.value (scope_of c.args.self.now) ∙ ap (λ e. type_of c.args.self.now.design c.in-Unpack.to >>= λ of. expression_in e (scope_of c.args.self.now) >>= unpacked c.args.self.now.design c.in-Unpack.place of) (sym c.deref-in-Unpack.ensures)) c.unpack.ensures
+    (ap (λ e. expression_in e (scope_of c.args.self.now)) c.in-Unpack.is ∙ expression-Unpack c.in-Unpack.place c.in-Unpack.to c.in-Unpack.value (scope_of c.args.self.now) ∙ ap (λ e. type_of c.args.self.now.design c.in-Unpack.to >>= λ of. expression_in e (scope_of c.args.self.now) >>= unpacked c.args.self.now.design c.in-Unpack.place of) (sym c.get-in-Unpack.ensures)) c.unpack.ensures
 
 pub expression-returns-in-Extend : goal.expression-returns-in-Extend
 expression-returns-in-Extend t c =
     same-checks (IsTyping (scope_of c.args.self.now)) c.args.self.now c.extend.new.self _ _ c.extend.result
-    (ap (λ e. expression_in e (scope_of c.args.self.now)) c.in-Extend.is ∙ expression-Extend c.in-Extend.place c.in-Extend.extension c.in-Extend.value c.in-Extend.width (scope_of c.args.self.now) ∙ ap (λ e. expression_in e (scope_of c.args.self.now) >>= extended c.in-Extend.place c.in-Extend.extension c.in-Extend.width) (sym c.deref-in-Extend.ensures)) c.extend.ensures
+    (ap (λ e. expression_in e (scope_of c.args.self.now)) c.in-Extend.is ∙ expression-Extend c.in-Extend.place c.in-Extend.extension c.in-Extend.value c.in-Extend.width (scope_of c.args.self.now) ∙ ap (λ e. expression_in e (scope_of c.args.self.now) >>= extended c.in-Extend.place c.in-Extend.extension c.in-Extend.width) (sym c.get-in-Extend.ensures)) c.extend.ensures
 
 pub expression-returns-in_err-left-in-Compare : goal.expression-returns-in_err-left-in-Compare
 expression-returns-in_err-left-in-Compare t c =
     let p = err_from_is_err_and c.from_residual-in_err-left-in-Compare.result c.from_residual-in_err-left-in-Compare.ensures.1 in
     rw (p.1, p.2)
-    (ends-same _ _ _ (ap (λ e. expression_in e (scope_of c.args.self.now)) c.in-Compare.is ∙ expression-Compare c.in-Compare.place c.in-Compare.comparison c.in-Compare.left c.in-Compare.right (scope_of c.args.self.now) ∙ ap (λ e. expression_in e (scope_of c.args.self.now) >>= λ one. expression_in c.in-Compare.right.value (scope_of c.args.self.now) >>= comparison c.in-Compare.place c.in-Compare.comparison one) (sym c.deref-in-Compare.ensures)) (ends-bind (expression_in c.deref-in-Compare.result.now (scope_of c.args.self.now)) _ _ c.in_err-left-in-Compare.ensures))
+    (ends-same _ _ _ (ap (λ e. expression_in e (scope_of c.args.self.now)) c.in-Compare.is ∙ expression-Compare c.in-Compare.place c.in-Compare.comparison c.in-Compare.left c.in-Compare.right (scope_of c.args.self.now) ∙ ap (λ e. expression_in e (scope_of c.args.self.now) >>= λ one. expression_in c.in-Compare.right (scope_of c.args.self.now) >>= comparison c.in-Compare.place c.in-Compare.comparison one) (sym c.get-in-Compare.ensures)) (ends-bind (expression_in c.get-in-Compare.result.now (scope_of c.args.self.now)) _ _ c.in_err-left-in-Compare.ensures))
 
 pub expression-returns-in_ok-left-in-Compare : goal.expression-returns-in_ok-left-in-Compare
 expression-returns-in_ok-left-in-Compare t c =
     same-checks (IsTyping (scope_of c.args.self.now)) c.args.self.now c.compare.new.self _ _ c.compare.result
-    (ap (λ e. expression_in e (scope_of c.args.self.now)) c.in-Compare.is ∙ expression-Compare c.in-Compare.place c.in-Compare.comparison c.in-Compare.left c.in-Compare.right (scope_of c.args.self.now) ∙ ap₂ (λ a b. expression_in a (scope_of c.args.self.now) >>= λ one. expression_in b (scope_of c.args.self.now) >>= comparison c.in-Compare.place c.in-Compare.comparison one) (sym c.deref-in-Compare.ensures) (sym c.deref-in-Compare-2.ensures))
-    (then-in IsTyping c.args.self.now c.expression-in-Compare.new.self c.compare.new.self (expression_in c.deref-in-Compare.result.now (scope_of c.args.self.now)) (λ s one. expression_in c.deref-in-Compare-2.result.now s >>= comparison c.in-Compare.place c.in-Compare.comparison one) c.in_ok-left-in-Compare.left c.compare.result c.in_ok-left-in-Compare.ensures c.compare.ensures)
+    (ap (λ e. expression_in e (scope_of c.args.self.now)) c.in-Compare.is ∙ expression-Compare c.in-Compare.place c.in-Compare.comparison c.in-Compare.left c.in-Compare.right (scope_of c.args.self.now) ∙ ap₂ (λ a b. expression_in a (scope_of c.args.self.now) >>= λ one. expression_in b (scope_of c.args.self.now) >>= comparison c.in-Compare.place c.in-Compare.comparison one) (sym c.get-in-Compare.ensures) (sym c.get-in-Compare-2.ensures))
+    (then-in IsTyping c.args.self.now c.expression-in-Compare.new.self c.compare.new.self (expression_in c.get-in-Compare.result.now (scope_of c.args.self.now)) (λ s one. expression_in c.get-in-Compare-2.result.now s >>= comparison c.in-Compare.place c.in-Compare.comparison one) c.in_ok-left-in-Compare.left c.compare.result c.in_ok-left-in-Compare.ensures c.compare.ensures)
 
 pub expression-returns-in_err-whole-in-Update : goal.expression-returns-in_err-whole-in-Update
 expression-returns-in_err-whole-in-Update t c =
     let p = err_from_is_err_and c.from_residual-in_err-whole-in-Update.result c.from_residual-in_err-whole-in-Update.ensures.1 in
     rw (p.1, p.2)
-    (ends-same _ _ _ (ap (λ e. expression_in e (scope_of c.args.self.now)) c.in-Update.is ∙ expression-Update c.in-Update.place c.in-Update.whole c.in-Update.part c.in-Update.value (scope_of c.args.self.now) ∙ ap (λ e. expression_in e (scope_of c.args.self.now) >>= λ one. expression_in c.in-Update.value.value (scope_of c.args.self.now) >>= updated c.args.self.now.design c.in-Update.place c.in-Update.part one) (sym c.deref-in-Update.ensures)) (ends-bind (expression_in c.deref-in-Update.result.now (scope_of c.args.self.now)) _ _ c.in_err-whole-in-Update.ensures))
+    (ends-same _ _ _ (ap (λ e. expression_in e (scope_of c.args.self.now)) c.in-Update.is ∙ expression-Update c.in-Update.place c.in-Update.whole c.in-Update.part c.in-Update.value (scope_of c.args.self.now) ∙ ap (λ e. expression_in e (scope_of c.args.self.now) >>= λ one. expression_in c.in-Update.value (scope_of c.args.self.now) >>= updated c.args.self.now.design c.in-Update.place c.in-Update.part one) (sym c.get-in-Update.ensures)) (ends-bind (expression_in c.get-in-Update.result.now (scope_of c.args.self.now)) _ _ c.in_err-whole-in-Update.ensures))
 
 pub expression-returns-in_ok-whole-in-Update : goal.expression-returns-in_ok-whole-in-Update
 expression-returns-in_ok-whole-in-Update t c =
     same-checks (IsTyping (scope_of c.args.self.now)) c.args.self.now c.update.new.self _ _ c.update.result
-    (ap (λ e. expression_in e (scope_of c.args.self.now)) c.in-Update.is ∙ expression-Update c.in-Update.place c.in-Update.whole c.in-Update.part c.in-Update.value (scope_of c.args.self.now) ∙ ap₂ (λ a b. expression_in a (scope_of c.args.self.now) >>= λ one. expression_in b (scope_of c.args.self.now) >>= updated c.args.self.now.design c.in-Update.place c.in-Update.part one) (sym c.deref-in-Update.ensures) (sym c.deref-in-Update-2.ensures))
-    (then-in IsTyping c.args.self.now c.expression-in-Update.new.self c.update.new.self (expression_in c.deref-in-Update.result.now (scope_of c.args.self.now)) (λ s one. expression_in c.deref-in-Update-2.result.now s >>= updated s.design c.in-Update.place c.in-Update.part one) c.in_ok-whole-in-Update.whole c.update.result c.in_ok-whole-in-Update.ensures c.update.ensures)
+    (ap (λ e. expression_in e (scope_of c.args.self.now)) c.in-Update.is ∙ expression-Update c.in-Update.place c.in-Update.whole c.in-Update.part c.in-Update.value (scope_of c.args.self.now) ∙ ap₂ (λ a b. expression_in a (scope_of c.args.self.now) >>= λ one. expression_in b (scope_of c.args.self.now) >>= updated c.args.self.now.design c.in-Update.place c.in-Update.part one) (sym c.get-in-Update.ensures) (sym c.get-in-Update-2.ensures))
+    (then-in IsTyping c.args.self.now c.expression-in-Update.new.self c.update.new.self (expression_in c.get-in-Update.result.now (scope_of c.args.self.now)) (λ s one. expression_in c.get-in-Update-2.result.now s >>= updated s.design c.in-Update.place c.in-Update.part one) c.in_ok-whole-in-Update.whole c.update.result c.in_ok-whole-in-Update.ensures c.update.ensures)
 
 pub expression-chain-requires : goal.expression-chain-requires
 expression-chain-requires t c =
     let whole : c.args.of.now ≡ views.Chain c.in-Chain.first c.in-Chain.rest = c.in-Chain.is in (
-      rw c.as_slice.ensures.value (omega (arith, c.decreases, ap views.size-Expression whole, views.sized-Chain c.in-Chain.first c.in-Chain.rest)),
+      rw c.as_slice.ensures (omega (arith, c.decreases, ap views.size-Expression whole, views.sized-Chain c.in-Chain.first c.in-Chain.rest)),
       (ready c.in_ok-first-in-Chain.ensures.kept, c.in_ok-first-in-Chain.ensures.means.type),
     )
