@@ -24,7 +24,7 @@ use Rattle.koika_lower.proofs.GuardedOperations.{Body}
 use Rattle.koika_lower.proofs.Progress.{fine}
 use Rattle.koika_lower.proofs.Values.{all-get}
 
-get-middle : {X : Type 0} (xs : List X) (x : X) (ys : List X) → slice_get (xs ++ x ∷ ys) (length xs) ≡ Some x
+pub get-middle : {X : Type 0} (xs : List X) (x : X) (ys : List X) → slice_get (xs ++ x ∷ ys) (length xs) ≡ Some x
 get-middle [] x ys = refl
 get-middle (y ∷ xs) x ys = get-middle xs x ys
 

@@ -21,7 +21,8 @@ use Rattle.koika_check.specs.declared.typed.BlockStep.{BlockStep, BlockStep-F, f
 use Rattle.koika_check.specs.declared.typed.BlockStep.TheOpen as opened
 use Rattle.koika_check.specs.declared.typed.Typed.{Typed, Typed-F, fold-roll-Typed, ind-Typed, map-Typed, roll-Typed}
 use Rattle.koika_check.specs.declared.typed.ValueType.{ValueType}
-use Rattle.koika_check.proofs.TreeParts.{Such, firsts}
+use Rattle.koika_syntax.proofs.TreeParts.{Such}
+use Rattle.koika_check.proofs.TypedTreeParts.{EachOfStep, EachOfTyped, each_of_step, each_of_typed}
 use Rattle.koika_check.proofs.TypingLayers.{open-HasType, open-step}
 use Rattle.koika_lower.specs.inner.Expressions.{step_meaning}
 use Rattle.koika_lower.specs.Guarded.{Cause, by_bit, guarded_apply, guarded_choose, guarded_in_turn, guarded_meaning, guarded_part, guarded_step, unpacked_if, with_some}
@@ -37,7 +38,7 @@ use Rattle.koika_lower.proofs.Values.{all-get}
 unfoldable guarded_steps : RuleSetting Cause → BlockStep → StepMeaning Cause
 guarded_steps g = fold-BlockStep (StepMeaning Cause) (Meaning Cause) guarded_step (guarded_part g)
 
-meaning-roll : (s : RuleSetting Stopped) (x : Typed-F BlockStep Typed) → meaning s (roll-Typed x) ≡ typed_step s (map-Typed BlockStep Typed (StepMeaning Stopped) (Meaning Stopped) (step_meaning s) (meaning s) x)
+pub meaning-roll : (s : RuleSetting Stopped) (x : Typed-F BlockStep Typed) → meaning s (roll-Typed x) ≡ typed_step s (map-Typed BlockStep Typed (StepMeaning Stopped) (Meaning Stopped) (step_meaning s) (meaning s) x)
 unfolding meaning step_meaning
 meaning-roll s x = fold-roll-Typed (StepMeaning Stopped) (Meaning Stopped) step_step (typed_step s) x
 
@@ -154,23 +155,7 @@ module _ (d : Checked) (is : IsTypedDesign d) (n : ℕ) (inputs : List BitVector
       (subst (λ (o : Option BitVector). Agrees regs (HasIf d of) (input_as d (Some i) o) (with_some (λ x. with_some gives (unpacked_if d i.of x)) o)) (sym found)
       (unpacks d is n inputs ports fit bodies guarded callable of i.of x same ok.of (width.0, width.1 ∙ ok.width)))
 
-  abbrev EachFine : Typed-F BlockStep Typed → Type 0
-  EachFine (opened.Constant v) = Unit {0}
-  EachFine (opened.Local index) = Unit {0}
-  EachFine (opened.Input number) = Unit {0}
-  EachFine (opened.Apply o operands) = AllByRecursion Fine operands
-  EachFine (opened.If conditions bodies) = AllByRecursion Fine conditions × AllByRecursion Fine bodies
-  EachFine (opened.Block steps) = AllByRecursion FineStep steps
-
-  each-fine : (y : Typed-F (Such FineStep) (Such Fine)) → EachFine (map-Typed (Such FineStep) (Such Fine) BlockStep Typed (λ e. e.0) (λ e. e.0) y)
-  each-fine (opened.Constant v) = tt
-  each-fine (opened.Local index) = tt
-  each-fine (opened.Input number) = tt
-  each-fine (opened.Apply o operands) = firsts Fine operands
-  each-fine (opened.If conditions bodies) = (firsts Fine conditions, firsts Fine bodies)
-  each-fine (opened.Block steps) = firsts FineStep steps
-
-  part-fine : (x : Typed-F BlockStep Typed) (types : List ValueType) (of : Option ValueType) (values : List Value) → EachFine x → AllHave d values types → PartHasType d n (StepHasType d n) (HasType d n) x types of →
+  part-fine : (x : Typed-F BlockStep Typed) (types : List ValueType) (of : Option ValueType) (values : List Value) → EachOfTyped FineStep Fine x → AllHave d values types → PartHasType d n (StepHasType d n) (HasType d n) x types of →
       Agrees regs (HasIf d of) (typed_step s (map-Typed BlockStep Typed (StepMeaning Stopped) (Meaning Stopped) (step_meaning s) (meaning s) x) values)
       (guarded_part g (map-Typed BlockStep Typed (StepMeaning Cause) (Meaning Cause) (guarded_steps g) (guarded_meaning g) x) values)
   part-fine (opened.Constant v) types of values fine have h = comes d is n inputs ports fit bodies guarded callable of h.0 v h.3 (h.1, h.2)
@@ -187,23 +172,13 @@ module _ (d : Checked) (is : IsTypedDesign d) (n : ℕ) (inputs : List BitVector
 
   typed_layer : (x : Typed-F BlockStep Typed) (y : Typed-F (Such FineStep) (Such Fine)) → map-Typed (Such FineStep) (Such Fine) BlockStep Typed (λ e. e.0) (λ e. e.0) y ≡ x → Fine (roll-Typed x)
   typed_layer x y same types of values have has =
-      let it = part-fine x types of values (subst EachFine same (each-fine y)) have (open-HasType d n (roll-Typed x) x refl types of has) in
+      let it = part-fine x types of values (subst (EachOfTyped FineStep Fine) same (each_of_typed FineStep Fine y)) have (open-HasType d n (roll-Typed x) x refl types of has) in
       subst (λ (m : Meaning Stopped). Agrees regs (HasIf d of) (m values) (guarded_meaning g (roll-Typed x) values)) (sym (meaning-roll s x))
       (subst (λ (m : Meaning Cause). Agrees regs (HasIf d of) (typed_step s (map-Typed BlockStep Typed (StepMeaning Stopped) (Meaning Stopped) (step_meaning s) (meaning s) x) values) (m values)) (sym (guarded-roll g x)) it)
 
   -- ---- and of a step
 
-  abbrev EachFineStep : BlockStep-F BlockStep Typed → Type 0
-  EachFineStep (opened.Let v) = Fine v
-  EachFineStep (opened.Do v) = Fine v
-  EachFineStep (opened.Give v) = Fine v
-
-  each-fine-step : (y : BlockStep-F (Such FineStep) (Such Fine)) → EachFineStep (map-BlockStep (Such FineStep) (Such Fine) BlockStep Typed (λ e. e.0) (λ e. e.0) y)
-  each-fine-step (opened.Let v) = v.1
-  each-fine-step (opened.Do v) = v.1
-  each-fine-step (opened.Give v) = v.1
-
-  step-fine : (x : BlockStep-F BlockStep Typed) (types : List ValueType) (doing : Doing) (of : Option ValueType) (values : List Value) (after : Meaning Stopped) (behind : Meaning Cause) → EachFineStep x → AllHave d values types →
+  step-fine : (x : BlockStep-F BlockStep Typed) (types : List ValueType) (doing : Doing) (of : Option ValueType) (values : List Value) (after : Meaning Stopped) (behind : Meaning Cause) → EachOfStep FineStep Fine x → AllHave d values types →
       StepDoes (HasType d n) x types doing → AfterFine doing types of after behind →
       Agrees regs (HasIf d of) (step_step (map-BlockStep BlockStep Typed (StepMeaning Stopped) (Meaning Stopped) (step_meaning s) (meaning s) x) after values)
       (guarded_step (map-BlockStep BlockStep Typed (StepMeaning Cause) (Meaning Cause) (guarded_steps g) (guarded_meaning g) x) behind values)
@@ -223,7 +198,7 @@ module _ (d : Checked) (is : IsTypedDesign d) (n : ℕ) (inputs : List BitVector
 
   step_layer : (x : BlockStep-F BlockStep Typed) (y : BlockStep-F (Such FineStep) (Such Fine)) → map-BlockStep (Such FineStep) (Such Fine) BlockStep Typed (λ e. e.0) (λ e. e.0) y ≡ x → FineStep (roll-BlockStep x)
   step_layer x y same types doing of values after behind have has next =
-      let it = step-fine x types doing of values after behind (subst EachFineStep same (each-fine-step y)) have (open-step d n (roll-BlockStep x) x refl types doing has) next in
+      let it = step-fine x types doing of values after behind (subst (EachOfStep FineStep Fine) same (each_of_step FineStep Fine y)) have (open-step d n (roll-BlockStep x) x refl types doing has) next in
       subst (λ (m : StepMeaning Stopped). Agrees regs (HasIf d of) (m after values) (guarded_steps g (roll-BlockStep x) behind values)) (sym (step-roll s x))
       (subst (λ (m : StepMeaning Cause). Agrees regs (HasIf d of) (step_step (map-BlockStep BlockStep Typed (StepMeaning Stopped) (Meaning Stopped) (step_meaning s) (meaning s) x) after values) (m behind values)) (sym (guarded-step-roll g x)) it)
 

@@ -11,6 +11,7 @@ use Rattle.koika_types.specs.declared.value.Value.TheOpen.{Value-F}
 use Rattle.koika_types.specs.declared.value.Value.TheViews.{roll-Value}
 use Rattle.koika_types.proofs.Layers.{packed-roll}
 use Rattle.koika_types.proofs.Stacks.{IsSized, concat-IsSized, concat-parts}
+use Rattle.koika_types.proofs.Sizes.{joined_width}
 use Rattle.koika_check.specs.Composites.{fields_by, fields_of}
 use Rattle.koika_check.specs.Meaning.{unpacked}
 use Rattle.koika_check.specs.Types.{of_base, width_of}
@@ -21,14 +22,10 @@ use Rattle.koika_check.specs.declared.checked.Struct.{Struct}
 use Rattle.koika_check.specs.declared.typed.BaseType.{BaseType}
 use Rattle.koika_check.specs.declared.typed.BaseType.TheVariants as base
 use Rattle.koika_check.specs.declared.typed.ValueType.{ValueType}
-use Rattle.koika_check.proofs.TreeParts.{Such}
+use Rattle.koika_syntax.proofs.TreeParts.{Such}
 use Rattle.koika_check.proofs.TypingLayers.{open-IsOf}
 use Rattle.koika_lower.proofs.TypedNumbers.{base_of, lengths_of}
 use Rattle.koika_lower.proofs.Values.{all-each, array-width, constant-stands, declared-struct, first_of, item-type, same_types, total, types_of, unpacked-stands}
-
-joined_width : (a b : BitVector) → (concat a b).width ≡ a.width + b.width
-unfolding concat
-joined_width a b = refl
 
 struct_of : BaseType → ℕ
 struct_of (base.Struct number) = number

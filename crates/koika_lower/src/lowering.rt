@@ -40,11 +40,11 @@ fn lower_parts(alloc: Global, checked: &Checked) -> Result<Parts, NoMemory>
     let hosts = lower_hosts(alloc, checked.hosts.as_slice())?;
     let nodes = Sequence::from_slice(alloc, checked.nodes.as_slice())?;
     Ok(Parts {
+        rules,
         regs,
         inputs,
         tables,
         hosts,
-        rules,
         nodes,
     })
 }
