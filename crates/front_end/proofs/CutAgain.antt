@@ -7,7 +7,8 @@ use Rattle.std.proofs.lemmas.Bool.{false≢true, le-ltb, lt-ltb, ltb-true}
 use Rattle.std.proofs.lemmas.List.Elements.{All-from_recursion}
 use Rattle.std.proofs.lemmas.List.Splits.{join_with_byte-slice_split, slice_split_at}
 use Rattle.kw_base.specs.Place.{capped}
-use Rattle.stim_report.specs.Cuts.{cut_at, ends_line, is_mark, parts_of, with_line_feed}
+use Rattle.kw_base.specs.Texts.{ends_line}
+use Rattle.stim_report.specs.Cuts.{cut_at, is_mark, parts_of, with_line_feed}
 use Rattle.front_end.specs.Certified.{end_line, line_after_mark}
 use Rattle.front_end.specs.Sources.{design_part}
 

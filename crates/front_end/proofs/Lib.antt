@@ -1,8 +1,5 @@
-pub mod Senses
-pub mod SensesOfTypes
-pub mod SensesOfExpressions
-pub mod SameChecked
 pub mod Results
+pub mod Either
 pub mod OneSource
 pub mod SomeSource
 pub mod WordNames
@@ -18,3 +15,6 @@ pub mod Blasted
 pub mod FirstValues
 pub mod Told
 pub mod Promises
+pub mod FoundRows
+pub mod GivenFew
+pub mod GivenValues

@@ -26,7 +26,8 @@ use Rattle.koika_parse.specs.Faults.{StandsBetween}
 use Rattle.koika_check.specs.Checks.{checked}
 use Rattle.koika_check.specs.Outcomes.{Fails, Gives}
 use Rattle.koika_check.specs.declared.stop.Wrong.{Wrong}
-use Rattle.stim_report.specs.Cuts.{lines_of, parts_of}
+use Rattle.kw_base.specs.Texts.{lines_of}
+use Rattle.stim_report.specs.Cuts.{parts_of}
 use Rattle.stim_report.specs.Shapes.{widths_of}
 use Rattle.stim_report.specs.Stimuli.{after, cycles_from, stimulus_of}
 use Rattle.stim_report.specs.declared.shape.Shape.{Shape}

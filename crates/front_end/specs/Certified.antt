@@ -9,6 +9,7 @@ use Rattle.kw_base.specs.declared.fault.Fault.{Fault}
 use Rattle.kw_bits.specs.declared.host.HostSpec.{HostSpec}
 use Rattle.one_rule.specs.Stimulus.{InputVectors}
 use Rattle.koika_check.specs.declared.checked.Checked.{Checked}
+use Rattle.kw_base.specs.Texts as texts
 use Rattle.stim_report.specs.Cuts as cuts
 use Rattle.stim_report.specs.Stimuli.{stimulus_of}
 use Rattle.front_end.specs.Sources.{IsIllTyped, SpellsDesign, fault_of_source, longest_source, shape_of}
@@ -30,11 +31,11 @@ pub record CertifiedParts : Type 0 where
 
 -- there is a line `%%`
 abbrev pub has_mark : List ℕ → Bool
-has_mark bytes = is_some (position cuts.is_mark (slice_split cuts.ends_line bytes))
+has_mark bytes = is_some (position cuts.is_mark (slice_split texts.ends_line bytes))
 
 -- the number of the line after the last one of a source
 abbrev pub end_line : List ℕ → ℕ
-end_line source = capped (1 + length (cuts.lines_of source))
+end_line source = capped (1 + length (texts.lines_of source))
 
 -- the number of the line with which the bytes after the next mark begin, where the bytes before and after it begin with
 -- the line of this number; without a mark it is the line after the last

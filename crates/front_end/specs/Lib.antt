@@ -6,6 +6,8 @@ pub mod Aigs
 pub mod Marks
 pub mod Names
 pub mod Lengths
+pub mod Given
+pub mod GivenOnce
 pub mod NumberWords
 pub mod Numbers
 pub mod Streams

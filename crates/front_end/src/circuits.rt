@@ -6,7 +6,6 @@ ghost use Rattle.front_end.specs.Aigs.{IsAigOf};
 ghost use Rattle.front_end.specs.Circuits.{IsWiredAs};
 
 use crate::lowered::Lowered;
-use crate::recall::is_valid;
 use aig_blast::{Aig, blast};
 use circuit_eval::Circuit;
 use kw_bits::NoMemory;
@@ -23,7 +22,7 @@ pub fn circuit_of(alloc: Global, lowered: &Lowered) -> Result<Circuit, NoMemory>
 {
     let design: &Design = &lowered.design;
     let externs: &Externs = &lowered.externs;
-    is_valid(design);
+    design.recall();
     let built = build(alloc, design, externs)?;
     let simple = simplify(alloc, &built)?;
     Ok(simple)

@@ -11,5 +11,5 @@ build-requires c = record { externs = ap kept c.deref-externs.ensures ∙ c.args
 pub returns-clause-wired : goal.returns-clause-wired
 returns-clause-wired c =
     let it = c.args.lowered.now in
-    wired it.checked c.deref-design.result.now c.in_ok-built.built c.in_ok-simple.simple (subst (IsLowered it.checked) (sym c.deref-design.ensures) it.lowered) c.is_valid.ensures
+    wired it.checked c.deref-design.result.now c.in_ok-built.built c.in_ok-simple.simple (subst (IsLowered it.checked) (sym c.deref-design.ensures) it.lowered) c.recall.ensures
     c.in_ok-built.ensures.parts c.in_ok-built.ensures.run c.in_ok-simple.ensures.kept c.in_ok-simple.ensures.run
