@@ -11,7 +11,8 @@ use Rattle.typed_core.specs.declared.outcome.Alone.{Alone}
 use Rattle.typed_core.specs.declared.outcome.Outcome.{Outcome}
 use Rattle.typed_core.specs.declared.outcome.Outcome.TheVariants as outcome
 use Rattle.one_rule.specs.Cycle.{System, begin, fire, fires}
-use Rattle.one_rule.specs.Walk.{Walk, is_at, pass, start}
+use Rattle.one_rule.specs.Walk.{Walk, pass, start}
+use Rattle.typed_core.specs.Continuations.{is_at}
 use Rattle.one_rule.specs.declared.cycle.Fired.{Fired}
 use Rattle.one_rule.specs.declared.cycle.State.{State}
 use Rattle.attempt_log.specs.Verdict.{clash}

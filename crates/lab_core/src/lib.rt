@@ -17,7 +17,6 @@ mod trial;
 mod tried;
 mod walk;
 mod why;
-mod words;
 
 pub use laws::{
     a_run_is_shown_cycle_by_cycle, a_verdict_is_that_on_the_attempt,

@@ -19,7 +19,7 @@ use crate::shown::{push_assert, push_cycles, push_rules};
 use crate::table::verdicts_of;
 use crate::trial::TrialVerdict;
 use crate::walk::trials;
-use crate::words::name_of;
+use journal_check::name_of;
 use kw_bits::{NoMemory, Text};
 use one_rule::{Externs, Inputs, Regs};
 use std::alloc::Global;

@@ -8,9 +8,9 @@ ghost use Rattle.lab_core.specs.Profiles.{assert_counts, assert_line, counts_lin
 
 use crate::counts::RuleCounts;
 use crate::refusal::Seen;
-use crate::words::{name_of, push_access, push_number, push_token};
 use attempt_log::Cause;
 use itoa::Buffer;
+use journal_check::{name_of, push_access, push_number, push_token};
 use kw_bits::{NoMemory, Text};
 use typed_core::Design;
 

@@ -3,9 +3,8 @@
 ghost use Rattle.std.specs.Prelude.{◌≡◌, ◌<◌, ◌++◌, ◌∷◌, [], IfOk, OnOk, length};
 ghost use Rattle.one_rule.specs.Cycle.{cycle, fire, system_of};
 ghost use Rattle.one_rule.specs.Externs.{kept};
-ghost use Rattle.one_rule.specs.Walk.{goes_on, is_at, pass, root};
-ghost use Rattle.typed_core.specs.Alone.{after, after_one};
-ghost use Rattle.typed_core.specs.Fits.{EventsFit};
+ghost use Rattle.one_rule.specs.Walk.{goes_on, pass};
+ghost use Rattle.typed_core.specs.Continuations.{is_at, root};
 ghost use Rattle.typed_core.specs.Valid.{externs_of};
 ghost use Rattle.typed_core.specs.Widths.{HaveWidths, input_widths, register_widths};
 ghost use Rattle.lab_core.specs.Trials.{trial_at, trial_of, trials};
@@ -17,7 +16,7 @@ use crate::tried::Tried;
 use kw_bits::{NoMemory, Sequence};
 use one_rule::{Environment, Externs, Inputs, Regs, alone};
 use std::alloc::Global;
-use typed_core::{Design, Event, Events, Next, Node};
+use typed_core::{Design, Next, Node, apply};
 
 /// The trials of a cycle, in the order of the walk. It leaves the registers of the cycle's row; an `Err` leaves any.
 pub fn trials(
@@ -85,30 +84,11 @@ fn walk(
 {
     let design = env.design;
     let nodes = design.nodes.as_slice();
-    let mut at = root(nodes);
+    let mut at = design.root();
     for (number, node) in nodes.iter().enumerate() {
         at = pass(alloc, env, number, node, at, regs, tried)?;
     }
     Ok(())
-}
-
-fn root(nodes: &[Node]) -> Next
-    ensures { result ≡ root nodes.now }
-{
-    if nodes.is_empty() {
-        Next::End
-    } else {
-        Next::Node(0)
-    }
-}
-
-fn is_at(number: usize, at: Next) -> bool
-    ensures { result ≡ is_at number at }
-{
-    match at {
-        Next::Node(to) => number == to as usize,
-        Next::End => false,
-    }
 }
 
 // Tries the rule of the node of this number if the walk is at it, and returns where the walk is then.
@@ -129,7 +109,7 @@ fn pass(
     ensures trials { OnOk result (tried.new ≡ tried.old ++ trial_at (system_of env.now.design.now) env.now.inputs.now number node.now (walk_at regs.old tried.old at)) }
     ensures fits { OnOk result (HaveWidths (register_widths env.now.design.now) regs.new) }
 {
-    if is_at(number, at) {
+    if at.is_at(number) {
         visit(alloc, env, node, regs, tried)
     } else {
         Ok(at)
@@ -163,7 +143,7 @@ fn visit(
     };
     match judged.verdict {
         TrialVerdict::Fired => {
-            apply(env.design, &trial.events, regs);
+            apply(regs, &trial.events);
             tried.push(trial)?;
             Ok(node.yes)
         }
@@ -171,25 +151,5 @@ fn visit(
             tried.push(trial)?;
             Ok(node.no)
         }
-    }
-}
-
-// Gives each register that was written the value of its last write.
-fn apply(design: &Design, events: &Events, regs: &mut Regs)
-    requires events { EventsFit (register_widths design.now) events.now }
-    requires registers { HaveWidths (register_widths design.now) regs.old }
-    ensures { regs.new ≡ after events.now regs.old }
-{
-    for event in events.as_slice() {
-        apply_one(event, regs);
-    }
-}
-
-fn apply_one(event: &Event, regs: &mut Regs)
-    requires { event.now.access.register < length regs.old }
-    ensures { regs.new ≡ after_one regs.old event.now }
-{
-    if event.access.write {
-        regs.set(event.access.register as usize, event.value);
     }
 }

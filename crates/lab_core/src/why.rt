@@ -18,7 +18,9 @@ ghost use Rattle.lab_core.specs.Why.{cycle_line, cycle_text, is_asked, trial_lin
 use crate::table::verdicts_of;
 use crate::trial::{Trial, TrialVerdict};
 use crate::walk::trials;
-use crate::words::{name_of, push_cause, push_events, push_number, push_token, push_value};
+use journal_check::{
+    name_of, position_of_rule, push_cause, push_events, push_number, push_token, push_value,
+};
 use kw_bits::{Bits, NoMemory, Text};
 use one_rule::{Externs, Inputs, Regs};
 use std::alloc::Global;
@@ -55,13 +57,7 @@ pub fn why_cycle(
 pub fn rule_named(design: &Design, name: &[u8]) -> Option<u32>
     ensures { result ≡ texts.rule_named design.now name.now }
 {
-    let rules = design.rules.as_slice();
-    for number in 0..rules.len() {
-        if name == rules[number].name.as_slice() {
-            return Some(number as u32);
-        }
-    }
-    None
+    position_of_rule(design, name)
 }
 
 // Adds the line of a cycle.

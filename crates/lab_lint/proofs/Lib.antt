@@ -1,7 +1,6 @@
 pub mod Among
 pub mod Bodies
 pub mod Clashes
-pub mod Counting
 pub mod Does
 pub mod Filtered
 pub mod Layers

@@ -16,8 +16,10 @@ use Rattle.koika_check.specs.declared.typed.Operation.TheVariants as operation
 use Rattle.koika_check.specs.declared.typed.BlockStep.{BlockStep, BlockStep-F, map-BlockStep, roll-BlockStep, fold-roll-BlockStep}
 use Rattle.koika_check.specs.declared.typed.BlockStep.TheOpen as opened
 use Rattle.koika_check.specs.declared.typed.Typed.{Typed, Typed-F, map-Typed, roll-Typed, fold-roll-Typed, ind-Typed}
-use Rattle.koika_check.proofs.TreeParts.{Such, firsts}
+use Rattle.koika_syntax.proofs.TreeParts.{Such}
+use Rattle.koika_check.proofs.TypedTreeParts.{EachOfStep, EachOfTyped, each_of_step, each_of_typed}
 use Rattle.koika_lower.specs.inner.Expressions.{step_meaning}
+use Rattle.koika_lower.proofs.Progress.{meaning-roll}
 use Rattle.lab_lint.specs.Occurrences as parts
 use Rattle.lab_lint.specs.Occurrences.{Part, choice, either, in_order, nothing, one, own, part_if, part_of}
 use Rattle.lab_lint.specs.inner.Occurrences.{part_of_step}
@@ -26,10 +28,6 @@ use Rattle.lab_lint.proofs.Does.{Does, DoesRun, IsWithin, PortsDo, first-within,
 use Rattle.lab_lint.proofs.Layers.{part-roll, step-roll}
 
 -- ---- one layer
-
-meaning-roll : (s : RuleSetting Stopped) (x : Typed-F BlockStep Typed) → meaning s (roll-Typed x) ≡ typed_step s (map-Typed BlockStep Typed (StepMeaning Stopped) (Meaning Stopped) (step_meaning s) (meaning s) x)
-unfolding meaning step_meaning
-meaning-roll s x = fold-roll-Typed (StepMeaning Stopped) (Meaning Stopped) step_step (typed_step s) x
 
 stepped-roll : (s : RuleSetting Stopped) (x : BlockStep-F BlockStep Typed) → step_meaning s (roll-BlockStep x) ≡ step_step (map-BlockStep BlockStep Typed (StepMeaning Stopped) (Meaning Stopped) (step_meaning s) (meaning s) x)
 unfolding meaning step_meaning
@@ -117,23 +115,7 @@ module _ (ps : List Part) (s : RuleSetting Stopped) (ports : PortsDo s.ports) (b
   input-does number (Some i) None = run-value _ _
   input-does number (Some i) (Some bits) = run-value _ _
 
-  abbrev EachFine : Typed-F BlockStep Typed → Type 0
-  EachFine (opened.Constant v) = Unit {0}
-  EachFine (opened.Local index) = Unit {0}
-  EachFine (opened.Input number) = Unit {0}
-  EachFine (opened.Apply o operands) = AllByRecursion Fine operands
-  EachFine (opened.If conditions arms) = AllByRecursion Fine conditions × AllByRecursion Fine arms
-  EachFine (opened.Block steps) = AllByRecursion FineStep steps
-
-  each-fine : (y : Typed-F (Such FineStep) (Such Fine)) → EachFine (map-Typed (Such FineStep) (Such Fine) BlockStep Typed (λ e. e.0) (λ e. e.0) y)
-  each-fine (opened.Constant v) = tt
-  each-fine (opened.Local index) = tt
-  each-fine (opened.Input number) = tt
-  each-fine (opened.Apply o operands) = firsts Fine operands
-  each-fine (opened.If conditions arms) = (firsts Fine conditions, firsts Fine arms)
-  each-fine (opened.Block steps) = firsts FineStep steps
-
-  part-does : (x : Typed-F BlockStep Typed) → EachFine x →
+  part-does : (x : Typed-F BlockStep Typed) → EachOfTyped FineStep Fine x →
       DoesAs (parts.typed_step ps (map-Typed BlockStep Typed Part Part (part_of_step ps) (part_of ps) x)) (typed_step s (map-Typed BlockStep Typed (StepMeaning Stopped) (Meaning Stopped) (step_meaning s) (meaning s) x))
   part-does (opened.Constant v) fine locals = run-value nothing _
   part-does (opened.Local index) fine locals = run-value nothing _
@@ -145,23 +127,13 @@ module _ (ps : List Part) (s : RuleSetting Stopped) (ports : PortsDo s.ports) (b
 
   typed_layer : (x : Typed-F BlockStep Typed) (y : Typed-F (Such FineStep) (Such Fine)) → map-Typed (Such FineStep) (Such Fine) BlockStep Typed (λ e. e.0) (λ e. e.0) y ≡ x → Fine (roll-Typed x)
   typed_layer x y same =
-      let it = part-does x (subst EachFine same (each-fine y)) in
+      let it = part-does x (subst (EachOfTyped FineStep Fine) same (each_of_typed FineStep Fine y)) in
       subst (λ (m : Meaning Stopped). DoesAs (part_of ps (roll-Typed x)) m) (sym (meaning-roll s x))
       (subst (λ (p : Part). DoesAs p (typed_step s (map-Typed BlockStep Typed (StepMeaning Stopped) (Meaning Stopped) (step_meaning s) (meaning s) x))) (sym (part-roll ps x)) it)
 
   -- ---- and of a step
 
-  abbrev EachFineStep : BlockStep-F BlockStep Typed → Type 0
-  EachFineStep (opened.Let v) = Fine v
-  EachFineStep (opened.Do v) = Fine v
-  EachFineStep (opened.Give v) = Fine v
-
-  each-fine-step : (y : BlockStep-F (Such FineStep) (Such Fine)) → EachFineStep (map-BlockStep (Such FineStep) (Such Fine) BlockStep Typed (λ e. e.0) (λ e. e.0) y)
-  each-fine-step (opened.Let v) = v.1
-  each-fine-step (opened.Do v) = v.1
-  each-fine-step (opened.Give v) = v.1
-
-  step-does : (x : BlockStep-F BlockStep Typed) → EachFineStep x → (rest : Part) (behind : Meaning Stopped) → DoesAs rest behind →
+  step-does : (x : BlockStep-F BlockStep Typed) → EachOfStep FineStep Fine x → (rest : Part) (behind : Meaning Stopped) → DoesAs rest behind →
       DoesAs (in_order (parts.step_step (map-BlockStep BlockStep Typed Part Part (part_of_step ps) (part_of ps) x)) rest) (step_step (map-BlockStep BlockStep Typed (StepMeaning Stopped) (Meaning Stopped) (step_meaning s) (meaning s) x) behind)
   step-does (opened.Let v) fine rest behind next locals =
       run-bind (part_of ps v) rest (meaning s v locals) (λ bound. behind (with_value bound locals)) (fine locals) (λ bound. next (with_value bound locals))
@@ -170,7 +142,7 @@ module _ (ps : List Part) (s : RuleSetting Stopped) (ports : PortsDo s.ports) (b
 
   step_layer : (x : BlockStep-F BlockStep Typed) (y : BlockStep-F (Such FineStep) (Such Fine)) → map-BlockStep (Such FineStep) (Such Fine) BlockStep Typed (λ e. e.0) (λ e. e.0) y ≡ x → FineStep (roll-BlockStep x)
   step_layer x y same rest behind next =
-      let it = step-does x (subst EachFineStep same (each-fine-step y)) rest behind next in
+      let it = step-does x (subst (EachOfStep FineStep Fine) same (each_of_step FineStep Fine y)) rest behind next in
       subst (λ (m : StepMeaning Stopped). DoesAs (in_order (part_of_step ps (roll-BlockStep x)) rest) (m behind)) (sym (stepped-roll s x))
       (subst (λ (p : Part). DoesAs (in_order p rest) (step_step (map-BlockStep BlockStep Typed (StepMeaning Stopped) (Meaning Stopped) (step_meaning s) (meaning s) x) behind)) (sym (step-roll ps x)) it)
 

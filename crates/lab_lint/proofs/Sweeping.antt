@@ -9,7 +9,7 @@ use Rattle.typed_core.specs.Valid.{IsContinuation, LeadsTo}
 use Rattle.typed_core.specs.declared.design.Next.{Next}
 use Rattle.typed_core.specs.declared.design.Next.TheVariants as next
 use Rattle.typed_core.specs.declared.design.Node.{Node}
-use Rattle.one_rule.specs.Walk.{root}
+use Rattle.typed_core.specs.Continuations.{root}
 use Rattle.lab_lint.specs.Order.{ComesPast, Begins, Passes, MayBeUntried, MayHaveFired, Fires, GoesOn}
 use Rattle.lab_lint.specs.inner.Sweeps.{IsReached, IsSwept, Given, ByRule, ByYes, ByNo, marked_if, marks_no, marks_yes, passed, place_of}
 use Rattle.lab_lint.specs.declared.order.Sweep.{Sweep}

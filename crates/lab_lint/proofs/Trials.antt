@@ -25,7 +25,8 @@ use Rattle.typed_core.specs.declared.outcome.Stopped.{Stopped}
 use Rattle.typed_core.specs.declared.outcome.Stopped.TheVariants as stopped
 use Rattle.koika_types.specs.declared.value.Value.{Value}
 use Rattle.one_rule.specs.Cycle.{System, alone_if, begin, environment, fire, fires, join, system_of}
-use Rattle.one_rule.specs.Walk.{Walk, goes_on, is_at, pass, root, start, visit}
+use Rattle.one_rule.specs.Walk.{Walk, goes_on, pass, start, visit}
+use Rattle.typed_core.specs.Continuations.{is_at, root}
 use Rattle.one_rule.specs.declared.cycle.Fired.{Fired}
 use Rattle.one_rule.specs.declared.cycle.State.{State}
 use Rattle.one_rule.proofs.Fitting.{fire_fits}

@@ -16,7 +16,9 @@ use Rattle.koika_check.specs.declared.typed.BlockStep.{BlockStep, BlockStep-F, m
 use Rattle.koika_check.specs.declared.typed.BlockStep.TheOpen as opened
 use Rattle.koika_check.specs.declared.typed.Typed.{Typed, Typed-F, ind-Typed, map-Typed, roll-Typed}
 use Rattle.koika_check.specs.declared.typed.ValueType.{ValueType}
-use Rattle.koika_check.proofs.TreeParts.{Such, firsts}
+use Rattle.koika_syntax.proofs.TreeParts.{Such}
+use Rattle.koika_check.proofs.TypedTreeParts.{EachOfStep, EachOfTyped, each_of_step, each_of_typed}
+use Rattle.koika_lower.proofs.GuardedBodies.{get-middle}
 use Rattle.koika_lower.proofs.Values.{all-get}
 use Rattle.koika_check.proofs.TypingLayers.{open-HasType, open-step}
 use Rattle.lab_lint.specs.Occurrences as parts
@@ -87,23 +89,7 @@ module _ (d : Checked) (n : ℕ) (ps : List Part) (bodies : (number : ℕ) → A
   own-right (operation.Write port register) (t ∷ u ∷ ts) of h = absurd h
   own-right operation.Abort ts of h = tt
 
-  abbrev EachRight : Typed-F BlockStep Typed → Type 0
-  EachRight (opened.Constant v) = Unit {0}
-  EachRight (opened.Local index) = Unit {0}
-  EachRight (opened.Input number) = Unit {0}
-  EachRight (opened.Apply o operands) = AllByRecursion Right operands
-  EachRight (opened.If conditions arms) = AllByRecursion Right conditions × AllByRecursion Right arms
-  EachRight (opened.Block steps) = AllByRecursion RightStep steps
-
-  each-right : (y : Typed-F (Such RightStep) (Such Right)) → EachRight (map-Typed (Such RightStep) (Such Right) BlockStep Typed (λ e. e.0) (λ e. e.0) y)
-  each-right (opened.Constant v) = tt
-  each-right (opened.Local index) = tt
-  each-right (opened.Input number) = tt
-  each-right (opened.Apply o operands) = firsts Right operands
-  each-right (opened.If conditions arms) = (firsts Right conditions, firsts Right arms)
-  each-right (opened.Block steps) = firsts RightStep steps
-
-  part-right : (x : Typed-F BlockStep Typed) (types : List ValueType) (of : Option ValueType) → EachRight x → PartHasType d n (StepHasType d n) (HasType d n) x types of →
+  part-right : (x : Typed-F BlockStep Typed) (types : List ValueType) (of : Option ValueType) → EachOfTyped RightStep Right x → PartHasType d n (StepHasType d n) (HasType d n) x types of →
       AreRight d (parts.typed_step ps (map-Typed BlockStep Typed Part Part (part_of_step ps) (part_of ps) x))
   part-right (opened.Constant v) types of right h = tt
   part-right (opened.Local index) types of right h = tt
@@ -115,19 +101,9 @@ module _ (d : Checked) (n : ℕ) (ps : List Part) (bodies : (number : ℕ) → A
 
   typed_layer : (x : Typed-F BlockStep Typed) (y : Typed-F (Such RightStep) (Such Right)) → map-Typed (Such RightStep) (Such Right) BlockStep Typed (λ e. e.0) (λ e. e.0) y ≡ x → Right (roll-Typed x)
   typed_layer x y same types of has =
-      subst (AreRight d) (sym (part-roll ps x)) (part-right x types of (subst EachRight same (each-right y)) (open-HasType d n (roll-Typed x) x refl types of has))
+      subst (AreRight d) (sym (part-roll ps x)) (part-right x types of (subst (EachOfTyped RightStep Right) same (each_of_typed RightStep Right y)) (open-HasType d n (roll-Typed x) x refl types of has))
 
-  abbrev EachRightStep : BlockStep-F BlockStep Typed → Type 0
-  EachRightStep (opened.Let v) = Right v
-  EachRightStep (opened.Do v) = Right v
-  EachRightStep (opened.Give v) = Right v
-
-  each-right-step : (y : BlockStep-F (Such RightStep) (Such Right)) → EachRightStep (map-BlockStep (Such RightStep) (Such Right) BlockStep Typed (λ e. e.0) (λ e. e.0) y)
-  each-right-step (opened.Let v) = v.1
-  each-right-step (opened.Do v) = v.1
-  each-right-step (opened.Give v) = v.1
-
-  step-right : (x : BlockStep-F BlockStep Typed) (types : List ValueType) (doing : Doing) → EachRightStep x → StepDoes (HasType d n) x types doing →
+  step-right : (x : BlockStep-F BlockStep Typed) (types : List ValueType) (doing : Doing) → EachOfStep RightStep Right x → StepDoes (HasType d n) x types doing →
       AreRight d (parts.step_step (map-BlockStep BlockStep Typed Part Part (part_of_step ps) (part_of ps) x))
   step-right (opened.Let v) types (Binds t) right h = right types (Some t) h
   step-right (opened.Let v) types Runs right h = absurd h
@@ -141,7 +117,7 @@ module _ (d : Checked) (n : ℕ) (ps : List Part) (bodies : (number : ℕ) → A
 
   step_layer : (x : BlockStep-F BlockStep Typed) (y : BlockStep-F (Such RightStep) (Such Right)) → map-BlockStep (Such RightStep) (Such Right) BlockStep Typed (λ e. e.0) (λ e. e.0) y ≡ x → RightStep (roll-BlockStep x)
   step_layer x y same types doing has =
-      subst (AreRight d) (sym (step-roll ps x)) (step-right x types doing (subst EachRightStep same (each-right-step y)) (open-step d n (roll-BlockStep x) x refl types doing has))
+      subst (AreRight d) (sym (step-roll ps x)) (step-right x types doing (subst (EachOfStep RightStep Right) same (each_of_step RightStep Right y)) (open-step d n (roll-BlockStep x) x refl types doing has))
 
   pub expression-right : (e : Typed) (types : List ValueType) (of : Option ValueType) → HasType d n e types of → AreRight d (part_of ps e)
   expression-right = ind-Typed RightStep Right step_layer typed_layer
@@ -155,10 +131,6 @@ all-at : (d : Checked) (ps : List Part) → AllRight d ps → (number : ℕ) →
 all-at d [] all number = tt
 all-at d (p ∷ ps) all zero = all.0
 all-at d (p ∷ ps) all (suc number) = all-at d ps all.1 number
-
-get-middle : {X : Type 0} (xs : List X) (x : X) (ys : List X) → slice_get (xs ++ x ∷ ys) (length xs) ≡ Some x
-get-middle [] x ys = refl
-get-middle (y ∷ xs) x ys = get-middle xs x ys
 
 bodies-right : (d : Checked) → IsTypedDesign d → (fs done : List CheckedFunction) (ps : List Part) → d.functions ≡ done ++ fs → AllRight d ps → AllRight d (parts.bodies_behind ps fs)
 bodies-right d is [] done ps e all = all

@@ -14,7 +14,8 @@ use Rattle.one_rule.specs.Cycle.{System, begin, fire, system_of}
 use Rattle.one_rule.specs.Rows.{RowsFit}
 use Rattle.one_rule.specs.Run.{first_values, last_registers, run_of}
 use Rattle.one_rule.specs.Stimulus.{InputVectors, inputs_of}
-use Rattle.one_rule.specs.Walk.{Walk, goes_on, is_at, pass, start, visit, walk_from, walk_past}
+use Rattle.one_rule.specs.Walk.{Walk, goes_on, pass, start, visit, walk_from, walk_past}
+use Rattle.typed_core.specs.Continuations.{is_at}
 use Rattle.one_rule.specs.declared.cycle.State.{State}
 use Rattle.one_rule.specs.declared.rows.Row.{Row}
 use Rattle.one_rule.proofs.Fitting.{first_values_fit}
@@ -83,7 +84,7 @@ module _ (system : System) (inputs : List BitVector) (rule : ℕ) where
 
 -- ---- what there is some of
 
-any-of : {X : Type 0} (xs : List X) (x : X) → Contains xs x → has_any xs ≡ true
+pub any-of : {X : Type 0} (xs : List X) (x : X) → Contains xs x → has_any xs ≡ true
 any-of [] x has = absurd (omega (arith, has.1))
 any-of (y ∷ xs) x has = refl
 
@@ -101,7 +102,7 @@ in-range k zero from h = absurd (omega (arith, h))
 in-range zero (suc n) from h = inl (omega arith)
 in-range (suc k) (suc n) from h = inr (subst (λ m. Among m (range_with_len (from + 1) n)) (omega arith) (in-range k n (from + 1) (omega (arith, h))))
 
-numbered : {X : Type 0} (xs : List X) (k : ℕ) → k < length xs → Among k (numbers xs)
+pub numbered : {X : Type 0} (xs : List X) (k : ℕ) → k < length xs → Among k (numbers xs)
 numbered xs k h = subst (λ m. Among m (numbers xs)) (omega arith) (in-range k (length xs) 0 h)
 
 -- ---- trials

@@ -7,7 +7,7 @@ use Rattle.typed_core.specs.declared.design.Next.{Next}
 use Rattle.typed_core.specs.declared.design.Next.TheVariants as next
 use Rattle.typed_core.specs.declared.design.Node.{Node}
 use Rattle.one_rule.specs.Laws.{Tries}
-use Rattle.one_rule.specs.Walk.{root}
+use Rattle.typed_core.specs.Continuations.{root}
 
 -- some node tries the rule
 abbrev pub is_scheduled : List Node → (rule : ℕ) → Bool

@@ -9,7 +9,6 @@
 mod body;
 mod laws;
 mod made;
-mod measure;
 mod meeting;
 mod occurrence;
 mod order;
@@ -17,6 +16,5 @@ mod order;
 pub use body::{all_occurrences, occurrences};
 pub use laws::{others_are_watched, refusals_are_listed};
 pub use made::{clashed, clashing, made_accesses, own_writes};
-pub use measure::rule_measures;
 pub use occurrence::Occurrence;
 pub use order::{is_scheduled, may_be_untried, preceded};

@@ -14,7 +14,7 @@ use Rattle.lint_text.specs.declared.note.Use.{Use}
 abbrev pub uses_by : Checked → Use → (number rule : ℕ) → Bool
 uses_by d kind number rule = is_scheduled d.nodes rule && list_any (is_of kind number) (rule_part d rule).all
 
-or-true : (b : Bool) → (b || true) ≡ true
+pub or-true : (b : Bool) → (b || true) ≡ true
 or-true true = refl
 or-true false = refl
 

@@ -18,23 +18,13 @@ use Rattle.circuit_eval.specs.Circuits.{AreBits, IsCircuit, input_widths, state_
 use Rattle.circuit_eval.specs.Run.{first_row, first_states, flags, is_one, is_one_bit, row_after, rows_after}
 use Rattle.circuit_eval.specs.declared.circuit.OutputWire.{OutputWire}
 use Rattle.circuit_eval.specs.declared.circuit.Wires.{Wires}
+use Rattle.circuit_eval.proofs.Flags.{flags_of}
 use Rattle.circuit_eval.proofs.Fitting.{first_states-AreBits, next_states-AreBits, step_feeds}
 use Rattle.circuit_eval.proofs.Stimuli.{HaveWidths-AreBits}
 use Rattle.lint_text.specs.Never.{HasFlags, IsNeverOne}
 use Rattle.lint_text.specs.inner.Zeros.{is_zero, is_zero_node, is_zero_op}
 
 -- ---- flags
-
--- outputs of one bit are all flags
-flags_of : (value : OutputWire → BitVector) (outputs : List OutputWire)
-    → All (λ (wire : OutputWire). (value wire).width ≡ 1) outputs
-    → flags (map value outputs) ≡ map (λ (wire : OutputWire). is_one (value wire)) outputs
-flags_of value [] bits = refl
-flags_of value (wire ∷ outputs) bits =
-    let own : is_one_bit (value wire) ≡ true = ap (λ (n : ℕ). nat_eq n 1) (bits 0 wire (omega arith)) in
-    let rest = flags_of value outputs (λ k d within. bits (suc k) d (omega (arith, within))) in
-    ap (λ (b : Bool). map is_one (cond b (value wire ∷ filter is_one_bit (map value outputs)) (filter is_one_bit (map value outputs)))) own
-    ∙ ap (λ (bs : List Bool). is_one (value wire) ∷ bs) rest
 
 -- a flag of an output that is marked
 flag_at : (z g : OutputWire → Bool) (outputs : List OutputWire) (k : ℕ)

@@ -10,27 +10,14 @@ use Rattle.lab_lint.specs.Refusals.{clashed, clashing, own_writes}
 use Rattle.lab_lint.specs.Rules.{has_any, may_be_refused, numbers}
 use Rattle.lab_lint.proofs.Among.{Among, among-flat_map, among-left, among-right}
 use Rattle.lab_lint.proofs.Listed.{contained, contains}
+use Rattle.lab_lint.proofs.Watched.{any-of, numbered}
 use Rattle.lint_text.specs.Notes.{assert_notes, if_scheduled, last_notes, may_note, may_notes, may_notes_between, never_note, note_if, notes, own_note, own_notes, pair_notes, rule_notes, sizes_from, unscheduled_note}
 use Rattle.lint_text.specs.declared.note.Note.{Note}
 use Rattle.lint_text.specs.declared.note.Note.TheVariants as note
 
--- ---- lists
-
-in-range : (k n from : ℕ) → k < n → Among (from + k) (range_with_len from n)
-in-range k zero from h = absurd (omega (arith, h))
-in-range zero (suc n) from h = inl (omega arith)
-in-range (suc k) (suc n) from h = inr (subst (λ m. Among m (range_with_len (from + 1) n)) (omega arith) (in-range k n (from + 1) (omega (arith, h))))
-
-numbered : {X : Type 0} (xs : List X) (k : ℕ) → k < length xs → Among k (numbers xs)
-numbered xs k h = subst (λ m. Among m (numbers xs)) (omega arith) (in-range k (length xs) 0 h)
-
 if-true : (b : Bool) (xs : List Note) (n : Note) → b ≡ true → Among n xs → Among n (if b then xs else [])
 if-true true xs n h among = among
 if-true false xs n h among = absurd cc
-
-any-of : {X : Type 0} (xs : List X) (x : X) → Contains xs x → has_any xs ≡ true
-any-of [] x has = absurd (omega (arith, has.1))
-any-of (y ∷ xs) x has = refl
 
 module _ (order : Order) (is_never : ℕ → Bool) (d : Checked) where
   abbrev all : List Note

@@ -10,7 +10,7 @@ use Rattle.typed_core.specs.Valid.{AreNodes, IsContinuation}
 use Rattle.typed_core.specs.declared.design.Next.{Next}
 use Rattle.typed_core.specs.declared.design.Next.TheVariants as next
 use Rattle.typed_core.specs.declared.design.Node.{Node}
-use Rattle.one_rule.specs.Walk.{root}
+use Rattle.typed_core.specs.Continuations.{root}
 use Rattle.lab_lint.specs.Order.{Begins, ComesPast, Fires, GoesOn, MayBeUntried, MayHaveFired, MayPrecede, Passes}
 
 no_node : Node

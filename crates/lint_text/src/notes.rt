@@ -18,9 +18,9 @@ ghost use Rattle.lint_text.specs.inner.Measured.{measures_from};
 use crate::findings::Findings;
 use crate::flags::{flag_or, is_set};
 use crate::note::{Note, Use};
-use koika_check::{Checked, Measure};
+use koika_check::{Checked, Measure, rule_measures};
 use kw_bits::{NoMemory, Sequence};
-use lab_lint::{clashed, clashing, rule_measures};
+use lab_lint::{clashed, clashing};
 use std::alloc::Global;
 use typed_core::Access;
 

@@ -7,7 +7,8 @@ ghost use Rattle.lint_text.specs.Text.{assert_tokens, host_name, input_name, may
 
 use crate::note::{Note, Use};
 use crate::places::Places;
-use crate::words::{push_accesses, push_number, push_place, push_token};
+use crate::words::{push_accesses, push_place};
+use journal_check::{push_number, push_token};
 use koika_check::Checked;
 use kw_base::Place;
 use kw_bits::{NoMemory, Sequence, Text};

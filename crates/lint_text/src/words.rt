@@ -1,4 +1,4 @@
-//! Lint's text: words of a line.
+//! Lint's text: the words of a line that are its own.
 
 ghost use Rattle.std.specs.Prelude.{◌≡◌, ◌++◌, ◌∷◌, OnOk, decimal, if◌then◌else◌};
 ghost use Rattle.std.specs.List.{flat_map};
@@ -9,21 +9,6 @@ use itoa::Buffer;
 use kw_base::Place;
 use kw_bits::{NoMemory, Sequence, Text};
 use typed_core::Access;
-
-/// Adds a space and a token.
-pub(crate) fn push_token(text: &mut Text, token: &[u8]) -> Result<(), NoMemory>
-    ensures { OnOk result (text.new ≡ text.old ++ spaced token.now) }
-{
-    text.push(b' ')?;
-    text.extend_from_slice(token)
-}
-
-/// Adds a space and a number.
-pub(crate) fn push_number(text: &mut Text, number: u32) -> Result<(), NoMemory>
-    ensures { OnOk result (text.new ≡ text.old ++ spaced (decimal number)) }
-{
-    push_token(text, Buffer::new().format(number).as_bytes())
-}
 
 /// Adds a space and the line and the column of a place, if there is one of the number.
 pub(crate) fn push_place(
