@@ -6,7 +6,6 @@ ghost use Rattle.kw_base.specs.Fault.{IfFault};
 ghost use Rattle.koika_check.specs.Typing.{IsTypedDesign};
 ghost use Rattle.koika_lower.specs.Lowering.{IsLowered};
 ghost use Rattle.one_rule.specs.Hosts.{host_specs};
-ghost use Rattle.aig_blast.specs.Aigs.{IsAig};
 ghost use Rattle.front_end.specs.Certified.{HasNoParts, longest_certified};
 ghost use Rattle.front_end.specs.Sources as sources;
 ghost use Rattle.clause_check.specs.Refutations.{fault_of};
@@ -60,7 +59,7 @@ impl Claimed {
         let design: &Design = &lowered.design;
         let rules = claimed_rules(alloc, &lowered.checked, design, name)?;
         let aig = aig_of(alloc, &lowered)?;
-        has_valid_parts(&aig);
+        aig.recall();
         let invariant = read_invariant(alloc, &aig, invariant, first_line)?;
         Ok(Claimed {
             design: lowered.checked,
@@ -157,13 +156,6 @@ fn lower_light(alloc: Global, hosts: &[HostFn], source: &[u8]) -> Result<Lowered
     has_few_bits(&spelled.design)?;
     let lowered = Lowered::new(alloc, spelled, hosts)?;
     Ok(lowered)
-}
-
-// A bit-level circuit is made of valid parts. It computes nothing that is used.
-fn has_valid_parts(aig: &Aig)
-    ensures { IsAig aig.now }
-{
-    let _gates = &aig.gates;
 }
 
 // The rules that are claimed never to fire, where a name that is given is one's.

@@ -6,7 +6,7 @@ use Rattle.std.proofs.lemmas.Bool.{le-ltb, lt-ltb}
 use Rattle.kw_bits.specs.BitVector.{BitVector}
 use Rattle.kw_base.specs.declared.fault.Fault.{Fault}
 use Rattle.one_rule.specs.Stimulus.{Assignment, inputs_by}
-use Rattle.stim_report.specs.Cuts.{but_empty_last, without_return}
+use Rattle.kw_base.specs.Texts.{but_empty_last, without_return}
 use Rattle.stim_report.specs.Shapes.{widths_of}
 use Rattle.stim_report.specs.Stimuli.{after, line_of}
 use Rattle.stim_report.specs.declared.shape.NameWidth.{NameWidth}

@@ -5,7 +5,8 @@ use Rattle.std.proofs.lemmas.List.{length-take-le, take_all}
 use Rattle.std.proofs.lemmas.List.Splits.{join_with_byte-slice_split, length-slice_split, slice_split-cons_no, slice_split_at, slice_split_none}
 use Rattle.std.proofs.Math.Seq.{take-append_seam}
 use Rattle.kw_base.specs.Place.{capped}
-use Rattle.stim_report.specs.Cuts.{SourceParts, but_empty_last, ends_line, is_mark, parts_of}
+use Rattle.kw_base.specs.Texts.{but_empty_last, ends_line}
+use Rattle.stim_report.specs.Cuts.{SourceParts, is_mark, parts_of}
 use Rattle.stim_report.proofs.SourceInTurn.{HasPassed, is_next, none_passed, one_passed, parts_marked, parts_unmarked, pieces}
 use Rattle.stream_run.specs.Lines.{head_of}
 use Rattle.stream_run.specs.inner.Reading.{HasHead, IsOneLine}

@@ -4,7 +4,8 @@ use Rattle.std.specs.List.{zip}
 use Rattle.one_rule.specs.declared.rows.Row.{Row}
 use Rattle.stim_report.specs.Batches.{joined, last_cycle}
 use Rattle.koika_assert.specs.Violations.{Watched, first_from, first_violated, watched, watched_on}
-use Rattle.koika_assert.proofs.FirstsJoined.{cycles_joined, first_joined}
+use Rattle.stim_report.proofs.TotalsOfBatches.{cycles_joined}
+use Rattle.koika_assert.proofs.FirstsJoined.{first_joined}
 
 -- a list beside what a function gives of it
 beside : {X : Type 0} (f : ℕ → X) (g : X × ℕ → X) (h : ℕ → X) (marks : List ℕ) → ((mark : ℕ) → g (f mark, mark) ≡ h mark) → map g (zip (map f marks) marks) ≡ map h marks

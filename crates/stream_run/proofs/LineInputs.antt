@@ -3,12 +3,12 @@ use Rattle.std.proofs.Common.{◌≡◌, ℕ, ◌≤◌, List, [], ◌∷◌, le
 use Rattle.kw_base.specs.declared.fault.Fault.{Fault}
 use Rattle.kw_bits.specs.BitVector.{BitVector}
 use Rattle.one_rule.specs.Stimulus.{Assignment, InputVectors, inputs_by, inputs_of}
-use Rattle.stim_report.specs.Cuts.{lines_of, without_return, words_from}
+use Rattle.kw_base.specs.Texts.{lines_of, without_return, words_from}
 use Rattle.stim_report.specs.Shapes.{widths_of}
 use Rattle.stim_report.specs.Stimuli.{after, cycles_from, line_of, stimulus_of}
 use Rattle.stim_report.specs.declared.shape.NameWidth.{NameWidth}
 use Rattle.stim_report.specs.declared.shape.Shape.{Shape}
-use Rattle.stim_report.proofs.CutsInTurn.{lines_of-last, lines_of-nil, words_from-nil}
+use Rattle.kw_base.proofs.Cutting.{lines_of-last, lines_of-nil, words_from-nil}
 use Rattle.front_end.specs.Sources.{longest_source}
 use Rattle.stream_run.specs.Lines.{inputs_on, most_cycles}
 use Rattle.stream_run.specs.inner.Reading.{IsOneLine}

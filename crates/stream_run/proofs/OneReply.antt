@@ -5,7 +5,8 @@ use Rattle.kw_base.specs.declared.fault.Fault.{Fault}
 use Rattle.kw_bits.specs.declared.host.HostSpec.{HostSpec}
 use Rattle.koika_check.specs.declared.checked.Checked.{Checked}
 use Rattle.front_end.specs.Sources.{IsIllTyped, IsTooLong, SpellsDesign, fault_of_source, longest_source}
-use Rattle.front_end.proofs.OneSource.{ill-same, ill-short, long_or_spelled, not_both_lengths, same_design, typed_or_not}
+use Rattle.front_end.proofs.Either.{IsOne}
+use Rattle.front_end.proofs.OneSource.{ill-same, ill-short, long_or_spelled, same_design, too_long-same, typed_or_not}
 use Rattle.front_end.proofs.SomeSource.{design_or_fault}
 use Rattle.stream_run.specs.Lines.{head_of, heard}
 use Rattle.stream_run.specs.Replies.{Answers, Reply, refusal, reply_to}
@@ -17,11 +18,8 @@ module _ (hosts : List HostSpec) (bytes : List ℕ) where
   abbrev IsRefused : Fault → Type 0
   IsRefused fault = IsTooLong head fault ⊎ IsIllTyped hosts head fault
 
-  refused-same : (f g : Fault) → IsRefused f → IsRefused g → f ≡ g
-  refused-same f g (inl a) (inl b) = a.0 ∙ sym b.0
-  refused-same f g (inl a) (inr b) = absurd (not_both_lengths (length head) a.1 (ill-short hosts head g b))
-  refused-same f g (inr a) (inl b) = absurd (not_both_lengths (length head) b.1 (ill-short hosts head f a))
-  refused-same f g (inr a) (inr b) = ill-same hosts head f g a b
+  refused-same : IsOne IsRefused
+  refused-same = too_long-same head (IsIllTyped hosts head) (ill-same hosts head) (ill-short hosts head)
 
   refused_or_run : (f : Fault) (d : Checked) → IsRefused f → SpellsDesign hosts head d → ⊥
   refused_or_run f d (inl a) spelled = long_or_spelled hosts head f d a spelled

@@ -8,7 +8,7 @@ use Rattle.std.proofs.lemmas.Bool.{eqb-true, ltb-true, ltb-false}
 use Rattle.std.proofs.lemmas.List.{drop-drop, drop-take, get_or-take, length-take-le}
 use Rattle.std.proofs.lemmas.List.Elements.{All-append}
 use Rattle.std.proofs.lemmas.List.Sums.{fails_before_first, passes_at_first, split_at_first}
-use Rattle.stim_report.specs.Cuts.{ends_line}
+use Rattle.kw_base.specs.Texts.{ends_line}
 use Rattle.stream_run.specs.inner.Reading.{IsOneLine, TakesLine, to_come}
 
 -- ---- where a line ends

@@ -7,7 +7,8 @@ use Rattle.kw_base.specs.declared.fault.Fault.{Fault}
 use Rattle.kw_bits.specs.BitVector.{BitVector}
 use Rattle.koika_check.specs.declared.checked.Checked.{Checked}
 use Rattle.one_rule.specs.Stimulus.{Assignment, inputs_by}
-use Rattle.stim_report.specs.Cuts.{but_empty_last, ends_line, parts_of, without_return}
+use Rattle.kw_base.specs.Texts.{but_empty_last, ends_line, without_return}
+use Rattle.stim_report.specs.Cuts.{parts_of}
 use Rattle.stim_report.specs.Shapes.{widths_of}
 use Rattle.stim_report.specs.Stimuli.{after, line_of, next_line}
 use Rattle.stim_report.specs.declared.shape.NameWidth.{NameWidth}

@@ -10,6 +10,7 @@ use crate::reader::Reader;
 use crate::stop::Stop;
 use front_end::fault_of_source;
 use kw_base::fault_number::SOURCE_TOO_LONG;
+use kw_base::texts::without_return;
 use kw_io::Source;
 use std::alloc::Global;
 
@@ -66,14 +67,4 @@ fn is_mark(line: &[u8]) -> bool
     ensures { result ≡ cuts.is_mark line.now }
 {
     without_return(line) == b"%%".as_slice()
-}
-
-// A line without the carriage return at its end.
-fn without_return(line: &[u8]) -> &[u8]
-    ensures { result.now ≡ cuts.without_return line.now }
-{
-    match line.split_last() {
-        Some((b'\r', front)) => front,
-        _ => line,
-    }
 }

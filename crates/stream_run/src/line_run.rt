@@ -22,9 +22,7 @@ ghost use Rattle.stream_run.specs.inner.Reading.{IsOneLine};
 
 use crate::head::LONGEST;
 use crate::stop::Stop;
-use front_end::{
-    Lowered, Untold, always_fits, fault_of_source, is_valid, marked_names, write_text,
-};
+use front_end::{Lowered, Untold, fault_of_source, marked_names, write_text};
 use koika_assert::Watch;
 use kw_base::Refusal;
 use kw_base::fault_number::{RUN_TOO_LONG, SOURCE_TOO_LONG};
@@ -226,8 +224,8 @@ impl LineRun {
     {
         let design: &Design = &lowered.design;
         let externs: &Externs = &lowered.externs;
-        is_valid(design);
-        always_fits(alloc, stimulus);
+        design.recall();
+        stimulus.recall();
         run_from(alloc, design, externs, stimulus, &self.regs, 0, 1)
     }
 }

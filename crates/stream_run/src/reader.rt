@@ -4,7 +4,7 @@ ghost use Rattle.std.specs.Prelude.{◌≡◌, ◌≤◌, ◌<◌, ◌+◌, ◌+
 ghost use Rattle.std.specs.Prelude.{vec_len, IfOk, OnErr, OnOk, OnSome, IsErrOf};
 ghost use Rattle.std.specs.Io.KnownBytes.{Consumes, IsAtEnd};
 ghost use Rattle.kw_bits.specs.Faults.{Rose};
-ghost use Rattle.stim_report.specs.Cuts.{ends_line};
+ghost use Rattle.kw_base.specs.Texts.{ends_line};
 ghost use Rattle.stream_run.specs.inner.Reading.{IsOneLine, TakesLine, to_come, with_end};
 
 use crate::stop::Stop;

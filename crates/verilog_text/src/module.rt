@@ -21,27 +21,27 @@ pub enum Prefix {
     RedXor,
 }
 
-/// The expressions over two operands.
+/// The expressions over two operands, those that bind tighter in Verilog first.
 #[derive(Clone, Copy)]
 pub enum Infix {
-    And,
-    Or,
-    Xor,
-    Nand,
-    Nor,
-    Xnor,
+    Mul,
     Add,
     Sub,
-    Mul,
     ShiftLeft,
     ShiftRight,
     ShiftSigned,
-    Equal,
-    Unequal,
     Below,
     AtMost,
     SignedBelow,
     SignedAtMost,
+    Equal,
+    Unequal,
+    And,
+    Nand,
+    Xor,
+    Xnor,
+    Or,
+    Nor,
     Join,
 }
 

@@ -2,7 +2,8 @@
 use Rattle.std.specs.Prelude.{◌≡◌, ℕ, ◌≤◌, Bool, true, false, All, List, [], ◌∷◌, ◌++◌, length, Option, OnSome, ⊤}
 use Rattle.std.specs.Io.KnownBytes.{Consumes, IsAtEnd, prepend_known}
 use Rattle.kw_base.specs.declared.fault.Fault.{Fault}
-use Rattle.stim_report.specs.Cuts.{ends_line, parts_of}
+use Rattle.kw_base.specs.Texts.{ends_line}
+use Rattle.stim_report.specs.Cuts.{parts_of}
 use Rattle.front_end.specs.Sources.{IsTooLong}
 use Rattle.stream_run.specs.Lines.{head_of}
 use Rattle.stream_run.specs.Sessions.{MayGive}

@@ -21,7 +21,7 @@ returns-clause-ready g c =
     let read = c.in_ok-invariant.ensures in
     record {
       typed = c.in_ok-lowered.ensures.typed;
-      valid = c.has_valid_parts.ensures;
+      valid = c.recall.ensures;
       circuit = c.in_ok-aig.ensures;
       rules = c.in_ok-rules.ensures.within;
       bits = read.variables;

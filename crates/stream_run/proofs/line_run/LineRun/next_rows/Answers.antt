@@ -23,13 +23,13 @@ pub returns-clause-rows : goal.returns-clause-rows
 returns-clause-rows c =
     let it = c.args.lowered.now in
     let design = arc_value it.design in
-    let valid : IsValid design = subst IsValid c.deref-design.ensures c.is_valid.ensures in
+    let valid : IsValid design = subst IsValid c.deref-design.ensures c.recall.ensures in
     let inputs = inputs_of c.args.stimulus.now in
     let regs = c.args.self.now.regs in
     IfOk-weaker c.run_from.result (λ (rows : List Row). rows ≡ run (system_of c.deref-design.result.now) inputs regs 0 1) _
     (λ rows same.
     same ∙ ap (λ (parts : Parts). run (system_of parts) inputs regs 0 1) c.deref-design.ensures
-    ∙ one-cycle it.checked design it.lowered valid c.args.stimulus.now c.requires.widths c.always_fits.ensures regs c.requires.fits)
+    ∙ one-cycle it.checked design it.lowered valid c.args.stimulus.now c.requires.widths c.recall-2.ensures regs c.requires.fits)
     c.run_from.ensures.run
 
 pub returns-clause-fit : goal.returns-clause-fit

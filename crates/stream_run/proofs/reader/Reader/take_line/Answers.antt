@@ -1,7 +1,7 @@
 use Rattle.std.proofs.Common.{◌≡◌, ℕ, ◌+◌, ◌-◌, ◌≤◌, List, [], ◌∷◌, ◌++◌, length, take, drop, vec_len, sym, ap, subst, ◌∙◌, arith}
 use Rattle.std.specs.Prelude.{position}
 use Rattle.std.proofs.lemmas.List.{length-take}
-use Rattle.stim_report.specs.Cuts.{ends_line}
+use Rattle.kw_base.specs.Texts.{ends_line}
 use Rattle.stream_run.specs.inner.Reading.{IsOneLine}
 use Rattle.stream_run.proofs.Taking.{EndsAt, ends-at, ends-nowhere, part-behind}
 use Rattle.stream_run.proofs.reader.Reader.take_line.Goals as goal
