@@ -5,11 +5,9 @@
 #![tactic(auto)]
 
 use attempt_log::NoGate;
-use host_fn::offered::{BITS_OF_ONE, BITS_OF_TWO};
-use host_fn::{HostFn, offered};
+use host_fn::offered_functions;
 use koika_top::{Status, run};
-use kw_bits::HostKind;
-use kw_io::{Sink, Source, StdSink, StdSource};
+use kw_io::{NO_ARGUMENTS, Sink, Source, StdSink, StdSource};
 use std::alloc::Global;
 use std::env::{Env, args};
 use std::io;
@@ -17,10 +15,6 @@ use std::io::ErrorKind;
 use std::process::ExitCode;
 use std::sync::Wait;
 use std::thread::Threads;
-
-// The exit status where the arguments can't be taken and memory isn't the cause, as where they aren't UTF-8.
-// `run` never answers it.
-const NO_ARGUMENTS: u8 = 6;
 
 fn main(rt: HostRuntime) -> ExitCode {
     match arguments(&rt) {
@@ -46,16 +40,7 @@ fn run_with_hosts<S: Source, K: Sink, R: Threads + Wait + Sync>(
     source: &mut S,
     sink: &mut K,
 ) -> Status {
-    let hosts = [
-        HostFn::new(HostKind::Popcount, BITS_OF_ONE, offered::popcount).unwrap(),
-        HostFn::new(HostKind::Parity, BITS_OF_ONE, offered::parity).unwrap(),
-        HostFn::new(HostKind::Reverse, BITS_OF_ONE, offered::reverse).unwrap(),
-        HostFn::new(HostKind::LeadingZeros, BITS_OF_ONE, offered::leading_zeros).unwrap(),
-        HostFn::new(HostKind::Gray, BITS_OF_ONE, offered::gray).unwrap(),
-        HostFn::new_two(HostKind::Hamming, BITS_OF_TWO, offered::hamming).unwrap(),
-        HostFn::new_two(HostKind::Morton, BITS_OF_TWO, offered::morton).unwrap(),
-        HostFn::new_two(HostKind::SatAdd, BITS_OF_TWO, offered::sat_add).unwrap(),
-    ];
+    let hosts = offered_functions!();
     run(rt, alloc, words, &hosts, &NoGate, source, sink)
 }
 

@@ -5,18 +5,19 @@ use Rattle.std.proofs.lemmas.List.{length-map, length_push}
 use Rattle.std.proofs.lemmas.List.Splits.{length-slice_split}
 use Rattle.std.proofs.lemmas.List.Sums.{length-filter}
 use Rattle.std.specs.List.{slice_split}
+use Rattle.kw_base.specs.Texts.{but_empty_last, ends_line}
 use Rattle.kw_base.specs.declared.fault.Fault.{Fault}
 use Rattle.aig_blast.specs.Aigs.{AigParts}
 use Rattle.aig_blast.specs.declared.aig.InputWord.{InputWord}
 use Rattle.aig_blast.specs.declared.gate.Gate.{Gate}
-use Rattle.aiger_text.specs.Cuts.{but_empty_last, ends_line, lines_of, decimal_number, numbers_of, without_returns}
+use Rattle.aiger_text.specs.Cuts.{lines_of, decimal_number, numbers_of, without_returns}
 use Rattle.aiger_text.specs.Cuts as cuts
 use Rattle.aiger_text.specs.Drafts.{Draft, defined, draft_by, draft_from, draft_in, draft_of, ended, fault_in, flaw_of, has_above, in_line, is_end, more_gates, more_inputs, more_latches, more_outputs, name_after, named_at, no_lines, output_by, put_symbol, section_of, symbol_at, symbol_by, symbol_of, unless, with_gate, with_input, with_latch, with_line, with_line_in, with_output, word_before}
 use Rattle.aiger_text.specs.Headers.{header_of, numbers_by}
 use Rattle.aiger_text.specs.Reading.{aig_by, aig_of, gates_of, lits_of, nexts_of, parts_by}
 use Rattle.aiger_text.specs.Runs.{WordRun, begun, goes_on, wider, words_from, words_of_bits}
 use Rattle.aiger_text.proofs.Lines.{aig_by-parts, parts_from}
-use Rattle.btor2_net.proofs.FewLines.{filter-fewer}
+use Rattle.btor2_net.proofs.FewLines.{filter-fewer, count-fewer}
 use Rattle.stim_report.specs.Stimuli.{after, next_line}
 
 -- ---- one line
@@ -163,9 +164,6 @@ fewer-pieces [] = omega arith
 fewer-pieces ([] ∷ []) = omega arith
 fewer-pieces ([] ∷ (piece ∷ pieces)) = omega (arith, fewer-pieces (piece ∷ pieces))
 fewer-pieces ((b ∷ bytes) ∷ pieces) = omega (arith, fewer-pieces pieces)
-
-count-fewer : (p : ℕ → Bool) (xs : List ℕ) → count_by p xs ≤ length xs
-count-fewer p xs = omega (arith, length-filter p xs, filter-fewer p xs)
 
 few-lines : (text : List ℕ) → length (lines_of text) ≤ length text + 1
 unfolding lines_of

@@ -22,7 +22,8 @@ use Rattle.koika_check.specs.declared.checked.Checked.{Checked}
 use Rattle.koika_check.specs.declared.stop.Wrong.{Wrong}
 use Rattle.koika_print.specs.Printed.{printed}
 use Rattle.one_rule.specs.Stimulus.{InputVectors, inputs_of}
-use Rattle.stim_report.specs.Cuts.{cut_at, ends_line, is_mark, parts_of, with_line_feed}
+use Rattle.kw_base.specs.Texts.{ends_line}
+use Rattle.stim_report.specs.Cuts.{cut_at, is_mark, parts_of, with_line_feed}
 use Rattle.kw_bits.specs.declared.host.HostSpec.{HostSpec}
 use Rattle.front_end.specs.Aigs.{most_bits}
 use Rattle.front_end.specs.Certified.{SpellsBoth}

@@ -22,6 +22,7 @@ use Rattle.circuit_eval.specs.Circuits.{input_widths}
 use Rattle.circuit_eval.specs.declared.circuit.OutputWire.{OutputWire}
 use Rattle.circuit_eval.specs.declared.circuit.Wires.{Wires}
 use Rattle.koika_assert.specs.Bads.{bads_as_outputs, turned}
+use Rattle.kw_base.specs.Texts as texts
 use Rattle.stim_report.specs.Cuts as cuts
 use Rattle.stim_report.specs.Shapes.{widths_of}
 use Rattle.stim_report.specs.Stimuli.{after, cycles_from, stimulus_of}
@@ -120,7 +121,7 @@ widths-after shape (Err fault) stimulus e = absurd cc
 -- a stimulus has the widths of the shape's inputs
 pub stimulus-widths : (shape : Shape) (line : ℕ) (bytes : List ℕ) (stimulus : InputVectors) → stimulus_of shape line bytes ≡ Ok stimulus → stimulus.widths ≡ widths_of shape.inputs
 unfolding stimulus_of
-stimulus-widths shape line bytes stimulus e = widths-after shape (cycles_from shape.inputs line (cuts.lines_of bytes)) stimulus e
+stimulus-widths shape line bytes stimulus e = widths-after shape (cycles_from shape.inputs line (texts.lines_of bytes)) stimulus e
 
 -- and so those of the circuit's
 pub stimulus-fits : (c : Wires) (shape : Shape) (line : ℕ) (bytes : List ℕ) (stimulus : InputVectors) → shape ≡ circuit.shape_of c → stimulus_of shape line bytes ≡ Ok stimulus → stimulus.widths ≡ input_widths c.inputs

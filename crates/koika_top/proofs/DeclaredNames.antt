@@ -46,7 +46,7 @@ use Rattle.koika_check.specs.declared.checked.CheckedRule.{CheckedRule}
 use Rattle.koika_lower.specs.Lowering.{IsLowered, register_of as lowered_register}
 use Rattle.front_end.proofs.LoweredRuns.{twice}
 use Rattle.front_end.proofs.WordNames.{GivesSuch, behind, behind-any, given, unless-such}
-use Rattle.koika_top.proofs.PlainNames.{and-left, and-right}
+use Rattle.kw_base.proofs.Conjunction.{and-left, and-right}
 
 -- ---- names one after another
 

@@ -4,7 +4,7 @@ use Rattle.std.proofs.lemmas.List.{append-nil}
 use Rattle.kw_base.specs.declared.fault.Fault.{Fault}
 use Rattle.kw_bits.specs.BitVector.{BitVector}
 use Rattle.one_rule.specs.Stimulus.{AreSame, Assignment, InputVectors, inputs_by, inputs_of}
-use Rattle.stim_report.specs.Cuts.{lines_of, words_from}
+use Rattle.kw_base.specs.Texts.{lines_of, words_from}
 use Rattle.stim_report.specs.Shapes.{widths_of}
 use Rattle.stim_report.specs.Stimuli.{after, cycles_from, line_of, next_line, stimulus_of}
 use Rattle.stim_report.specs.declared.shape.NameWidth.{NameWidth}

@@ -2,14 +2,14 @@
 use Rattle.std.proofs.Common.{◌≡◌, ◌≢◌, ℕ, zero, suc, ◌+◌, ◌<◌, ◌≤◌, ◌^◌, Bool, true, false, nat_eq, ◌&&◌, cond, ◌⊎◌, inl, inr, None, List, [], ◌∷◌, ◌++◌, length, map, codes, decimal, refl, sym, ap, ap₂, ◌∙◌, subst, arith, append_assoc, lit≤, lit<}
 use Rattle.std.specs.Prelude.{nat_le, slice_index_or}
 use Rattle.std.specs.Fmt.{digits}
-use Rattle.std.specs.List.{AllByRecursion, filter, list_all}
+use Rattle.std.specs.List.{AllByRecursion, AllZip, filter, list_all}
 use Rattle.std.proofs.lemmas.Bool.{cases_lt, eq-eqb, eqb-true, false≢true, leb-true}
 use Rattle.kw_bits.specs.BitVector.{IsBitVector}
 use Rattle.koika_syntax.specs.Grammar.{Derives, tree_leaves}
 use Rattle.koika_syntax.specs.Keywords.{keyword_text}
 use Rattle.koika_syntax.specs.Lexemes.{continues_word}
 use Rattle.koika_syntax.specs.Tokens.{AreTokensOf, IsToken}
-use Rattle.koika_syntax.specs.Tree.{Leaf, Terminal, keyword, literal, name, number, symbol, terminal_of}
+use Rattle.koika_syntax.specs.Tree.{IsLeafAt, Leaf, Terminal, keyword, literal, name, number, symbol, terminal_of}
 use Rattle.koika_syntax.specs.declared.keyword.Keyword.{Keyword}
 use Rattle.koika_syntax.specs.declared.keyword.Keyword.TheVariants as keywords
 use Rattle.koika_syntax.specs.declared.symbol.Symbol.TheVariants as symbols
@@ -20,7 +20,6 @@ use Rattle.koika_syntax.proofs.Cuts.{one_list}
 use Rattle.koika_print.specs.Printed.{AreWritable, IsLexedAs, IsWritable, blank_after, printed, written}
 use Rattle.koika_print.proofs.Lexed.{lexed_text}
 use Rattle.koika_top.specs.Generator.{ascending, descending, drain, fill, filled, move_on, other_registers, pipeline, stage_registers}
-use Rattle.koika_top.proofs.SamePrinted.{printed-of, terminals_text}
 
 -- ---- tokens
 
@@ -90,10 +89,14 @@ pub terminals-so : (ts : List Terminal) → map (λ (leaf : Leaf). leaf.terminal
 terminals-so [] = refl
 terminals-so (t ∷ ts) = ap (λ (rest : List Terminal). t ∷ rest) (terminals-so ts)
 
-text-so : (ts : List Terminal) → terminals_text ts ≡ text_of ts
-unfolding terminals_text
-text-so [] = refl
-text-so (t ∷ ts) = append_assoc (written t) (blank_after t ∷ []) (terminals_text ts) ∙ ap (λ (rest : List ℕ). written t ++ (blank_after t ∷ rest)) (text-so ts)
+-- leaves are printed as the tokens that are theirs
+printed-of : (text : List ℕ) (leaves : List Leaf) (tokens : List Token) → AllZip (IsLeafAt text) leaves tokens → printed leaves ≡ text_of (map (terminal_of text) tokens)
+printed-of text [] [] each = refl
+printed-of text [] (token ∷ tokens) each = absurd each
+printed-of text (leaf ∷ leaves) [] each = absurd each
+printed-of text (leaf ∷ leaves) (token ∷ tokens) each =
+    append_assoc (written leaf.terminal) (blank_after leaf.terminal ∷ []) (printed leaves)
+    ∙ ap₂ (λ (t : Terminal) (rest : List ℕ). written t ++ (blank_after t ∷ rest)) each.0.0 (printed-of text leaves tokens each.1)
 
 -- ---- names
 
@@ -458,4 +461,4 @@ generated stages tokens tree most are derived =
     let lexed : IsLexedAs (pipeline stages) (leaves_of ts) = pipeline-lexed stages most in
     let same : map (terminal_of (pipeline stages)) tokens ≡ ts =
     ap (map (terminal_of (pipeline stages))) (one_list (pipeline stages) tokens lexed.tokens are lexed.are) ∙ lexed.same ∙ terminals-so ts in
-    text ∙ sym (printed-of (pipeline stages) (tree_leaves tree) tokens derived.leaves ∙ ap terminals_text same ∙ text-so ts)
+    text ∙ sym (printed-of (pipeline stages) (tree_leaves tree) tokens derived.leaves ∙ ap text_of same)

@@ -7,7 +7,8 @@ use Rattle.std.proofs.lemmas.Bool.{false≢true}
 use Rattle.std.proofs.lemmas.List.Quantifiers.{position-Some}
 use Rattle.koika_syntax.specs.Grammar.{Derives}
 use Rattle.koika_syntax.specs.Tokens.{AreTokensOf}
-use Rattle.stim_report.specs.Cuts.{cut_at, ends_line, is_mark, parts_of}
+use Rattle.kw_base.specs.Texts.{ends_line}
+use Rattle.stim_report.specs.Cuts.{cut_at, is_mark, parts_of}
 use Rattle.front_end.specs.Sources.{design_part}
 use Rattle.koika_top.specs.Generator.{pipeline}
 use Rattle.koika_top.specs.Reads.{ShowsTree}

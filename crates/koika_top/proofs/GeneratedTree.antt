@@ -1,15 +1,15 @@
 -- A tree of the grammar with the tokens of the pipeline design: part by part, the leaves of each spelled out. Its places
 -- are all 0, since what is read of the text has its own.
-use Rattle.std.proofs.Common.{◌≡◌, ℕ, zero, suc, ◌+◌, ◌<◌, ◌≤◌, ◌^◌, None, Some, List, [], ◌∷◌, ◌++◌, length, map, codes, decimal, refl, sym, ap, ap₂, ◌∙◌, subst, arith, append_assoc, append-nil, lit<, Box, Global, Vec}
+use Rattle.std.proofs.Common.{◌≡◌, ℕ, zero, suc, ◌+◌, ◌<◌, ◌≤◌, ◌^◌, Option, None, Some, List, [], ◌∷◌, ◌++◌, length, map, codes, decimal, refl, sym, ap, ap₂, ◌∙◌, subst, arith, append_assoc, append-nil, lit<}
 use Rattle.std.specs.List.{All, flat_map}
 use Rattle.std.proofs.lemmas.List.{map-append}
 use Rattle.std.proofs.lemmas.List.Elements.{All-append, All-cons, All-nil}
 use Rattle.std.proofs.lemmas.Grind.{flat_map-append}
 use Rattle.kw_bits.specs.BitVector.{IsBitVector}
-use Rattle.koika_syntax.specs.Grammar.{IsBlock, IsDeclaration, IsDesign, IsName, block_leaves, declaration_leaves, level, level_of, rule_leaves, scheduler_leaves, tree_leaves, type_leaves}
+use Rattle.koika_syntax.specs.Grammar.{IsBlock, IsDeclaration, IsDesign, IsName, block_leaves, declaration_leaves, level, level_of, rule_leaves, scheduler_leaves, tree_leaves}
 use Rattle.koika_syntax.specs.inner.Grammar.{arm_leaves, operand_leaves, statement_leaves}
 use Rattle.koika_syntax.specs.Tokens.{IsToken}
-use Rattle.koika_syntax.specs.Tree.{Leaf, Terminal, binary_symbol, in_braces, in_parentheses, keyword, literal_leaves, name, name_leaves, placed, read_word, sign, symbol, with_between, word, write_word}
+use Rattle.koika_syntax.specs.Tree.{Leaf, Terminal, binary_symbol, in_braces, in_parentheses, keyword, literal_leaves, name, name_leaves, placed, read_word, sign, symbol, width_leaves, with_between, word, write_word}
 use Rattle.koika_syntax.specs.declared.keyword.Keyword.TheVariants as keywords
 use Rattle.koika_syntax.specs.declared.operator.BinaryOperator.{BinaryOperator}
 use Rattle.koika_syntax.specs.declared.operator.BinaryOperator.TheVariants as binary
@@ -30,15 +30,15 @@ use Rattle.koika_syntax.specs.declared.tree.Prefix.{Prefix}
 use Rattle.koika_syntax.specs.declared.tree.Scheduler.{roll-Scheduler}
 use Rattle.koika_syntax.specs.declared.tree.Statement.{Statement}
 use Rattle.koika_syntax.specs.declared.tree.Tree.{Tree}
-use Rattle.koika_syntax.specs.declared.tree.TypeExpression.{TypeExpression, Bits}
+use Rattle.koika_syntax.specs.declared.tree.TypeExpression.TheViews as type_views
+use Rattle.koika_syntax.specs.declared.tree.Width.{Width}
 use Rattle.koika_syntax.proofs.Leaves.{chain_expression, if_expression}
 use Rattle.koika_parse.specs.inner.Expected.{Part}
 use Rattle.koika_parse.specs.inner.ExpressionWords.{LevelWord}
 use Rattle.koika_parse.specs.inner.Parts.{IsArm, IsOperandIn, IsStatement}
-use Rattle.koika_parse.proofs.Calls.{all_of_map, leaves_abort, leaves_arm, leaves_block, leaves_constant_literal, leaves_do, leaves_literal, leaves_operand, leaves_read, leaves_scheduler, leaves_unary, leaves_write}
+use Rattle.koika_parse.proofs.Calls.{all_of_map, leaves_abort, leaves_arm, leaves_block, leaves_constant_literal, leaves_do, leaves_literal, leaves_operand, leaves_read, leaves_scheduler, leaves_unary, leaves_width_type, leaves_write}
 use Rattle.koika_parse.proofs.MadeExpressions.{looser}
-use Rattle.koika_parse.proofs.Parts.{is_abort, is_arm, is_block, is_chain_of, is_constant_literal, is_do, is_if, is_literal, is_operand, is_operand_at, is_read, is_scheduler, is_unary, is_write, level_abort, level_chain_of, level_literal, level_read, level_unary, level_write}
-use Rattle.koika_parse.proofs.Witnesses.{boxed, vector}
+use Rattle.koika_parse.proofs.Parts.{is_abort, is_arm, is_block, is_chain_of, is_constant_literal, is_do, is_if, is_literal, is_operand, is_operand_at, is_read, is_scheduler, is_unary, is_width_type, is_write, level_abort, level_chain_of, level_literal, level_read, level_unary, level_write}
 use Rattle.koika_top.proofs.Generated.{ascending_of, d-fine, d0-fine, descending_of, drain-fine, drain_at, feed-fine, fill-fine, fill_rule, flag, move-fine, move_at, others, registers_at, schedule_begin, schedule_end, scheduled_at, tokens_at, total-fine, v-fine, v0-fine, word_of}
 
 -- ---- expressions
@@ -62,12 +62,12 @@ value width number is = (views.made-Literal (valued width number), (is_literal (
 -- two operands of an operator
 joined : (k : ℕ) (operator : BinaryOperator) (a b : List Leaf) → level_of operator ≡ k → LevelWord (k + 1) a → LevelWord (k + 1) b → LevelWord k (a ++ (sign (binary_symbol operator) ++ b))
 joined k operator a b at left right =
-    let first : Box Expression Global = boxed left.0 in
+    let first : Expression = left.0 in
     let other : Operand = roll-Operand (record { operator = operator; operand = right.0 }) in
-    let rest : Vec Operand Global = vector (other ∷ []) (lit< tt) in
-    let above : k < level first.value = omega (arith, left.1.1) in
-    let all : All (IsOperandIn k) (other ∷ []) = All-cons (IsOperandIn k) other [] (is_operand operator right.0 right.1.0, is_operand_at k operator right.0 at (omega (arith, right.1.1))) (All-nil (IsOperandIn k)) in
-    let some : 0 < length (other ∷ []) = lit< tt in (
+    let rest : List Operand = other ∷ [] in
+    let above : k < level first = omega (arith, left.1.1) in
+    let all : All (IsOperandIn k) rest = All-cons (IsOperandIn k) other [] (is_operand operator right.0 right.1.0, is_operand_at k operator right.0 at (omega (arith, right.1.1))) (All-nil (IsOperandIn k)) in
+    let some : 0 < length rest = lit< tt in (
       views.Chain first rest,
       (is_chain_of k first rest some all above left.1.0, omega (arith, level_chain_of k first rest some all above)),
       sym (chain_expression first rest ∙ ap₂ (λ (x y : List Leaf). x ++ y) (sym left.2) (append-nil (operand_leaves other) ∙ leaves_operand operator right.0 ∙ ap (λ (t : List Leaf). sign (binary_symbol operator) ++ t) (sym right.2))),
@@ -80,7 +80,7 @@ negation = record { operator = unary.Not; place = 0 }
 negated : (a : List Leaf) → LevelWord 11 a → LevelWord 10 (placed (symbol symbols.Tilde) 0 ++ a)
 unfolding negation
 negated a made =
-    let operand : Box Expression Global = boxed made.0 in
+    let operand : Expression = made.0 in
     let prefixes : List Prefix = negation ∷ [] in (
       views.Unary prefixes operand,
       (is_unary prefixes operand made.1.0 (lit< tt, omega (arith, made.1.1)), omega (arith, level_unary prefixes operand)),
@@ -93,7 +93,7 @@ writing port register a = placed (keyword (write_word port)) 0 ++ in_parentheses
 
 write : (port : ℕ) (register : List ℕ) (a : List Leaf) → port < 4 → IsToken kinds.Name register → LevelWord 0 a → LevelWord 12 (writing port register a)
 write port register a low is made =
-    let what : Box Expression Global = boxed made.0 in (
+    let what : Expression = made.0 in (
       views.Write 0 port (named register) what,
       (is_write 0 port (named register) what made.1.0 (low, is), omega (arith, level_write 0 port (named register) what)),
       sym (leaves_write 0 port (named register) what ∙ ap (writing port register) (sym made.2)),
@@ -101,46 +101,42 @@ write port register a low is made =
 
 -- ---- blocks
 
--- statements, that many
-record Statements (n : ℕ) (u : List Leaf) : Type 0 where
+-- statements with these tokens
+record Statements (u : List Leaf) : Type 0 where
   all : List Statement
   are : All IsStatement all
-  many : length all ≡ n
   leaves : flat_map statement_leaves all ≡ u
 
-none : Statements 0 []
-none = record { all = []; are = All-nil IsStatement; many = refl; leaves = refl }
+none : Statements []
+none = record { all = []; are = All-nil IsStatement; leaves = refl }
 
-one : (a : List Leaf) → LevelWord 0 a → Statements 1 (a ++ sign symbols.Semicolon)
+one : (a : List Leaf) → LevelWord 0 a → Statements (a ++ sign symbols.Semicolon)
 one a made =
     let s : Statement = views.made-Do made.0 in
     record {
       all = s ∷ [];
       are = All-cons IsStatement s [] (is_do made.0 made.1.0) (All-nil IsStatement);
-      many = refl;
       leaves = append-nil (statement_leaves s) ∙ leaves_do made.0 ∙ ap (λ (t : List Leaf). t ++ sign symbols.Semicolon) (sym made.2);
     }
 
-more : (n : ℕ) (a u : List Leaf) → LevelWord 0 a → Statements n u → Statements (1 + n) ((a ++ sign symbols.Semicolon) ++ u)
-more n a u made rest =
+more : (a u : List Leaf) → LevelWord 0 a → Statements u → Statements ((a ++ sign symbols.Semicolon) ++ u)
+more a u made rest =
     let s : Statement = views.made-Do made.0 in
     record {
       all = s ∷ rest.all;
       are = All-cons IsStatement s rest.all (is_do made.0 made.1.0) rest.are;
-      many = omega (arith, rest.many);
       leaves = ap₂ (λ (x y : List Leaf). x ++ y) (leaves_do made.0 ∙ ap (λ (t : List Leaf). t ++ sign symbols.Semicolon) (sym made.2)) rest.leaves;
     }
 
 abbrev BlockWord : List Leaf → Type 0
 BlockWord = Part IsBlock block_leaves
 
-block : (n : ℕ) (u a : List Leaf) → n < 8 → Statements n u → LevelWord 0 a → BlockWord (placed (symbol symbols.LeftBrace) 0 ++ u ++ a ++ sign symbols.RightBrace)
-block n u a few statements made =
-    let held : Vec Statement Global = vector statements.all (omega (arith, few, statements.many)) in
-    let last : Box Expression Global = boxed made.0 in (
-      roll-Block (record { place = 0; statements = held; value = Some last }),
-      is_block 0 held (Some last) statements.are made.1.0,
-      sym (leaves_block 0 held (Some last)
+block : (u a : List Leaf) → Statements u → LevelWord 0 a → BlockWord (placed (symbol symbols.LeftBrace) 0 ++ u ++ a ++ sign symbols.RightBrace)
+block u a statements made =
+    let last : Option Expression = Some made.0 in (
+      roll-Block (record { place = 0; statements = statements.all; value = last }),
+      is_block 0 statements.all last statements.are made.1.0,
+      sym (leaves_block 0 statements.all last
           ∙ ap₂ (λ (x y : List Leaf). placed (symbol symbols.LeftBrace) 0 ++ x ++ y ++ sign symbols.RightBrace) (sym (all_of_map statement_leaves statements.all) ∙ statements.leaves) (sym made.2)),
     )
 
@@ -149,7 +145,7 @@ abbrev aborting : List Leaf
 aborting = placed (symbol symbols.LeftBrace) 0 ++ [] ++ placed (keyword keywords.Abort) 0 ++ sign symbols.RightBrace
 
 abort : BlockWord aborting
-abort = block 0 [] (placed (keyword keywords.Abort) 0) (lit< tt) none (views.made-Abort 0, (is_abort 0 tt, omega (arith, level_abort 0)), sym (leaves_abort 0))
+abort = block [] (placed (keyword keywords.Abort) 0) none (views.made-Abort 0, (is_abort 0 tt, omega (arith, level_abort 0)), sym (leaves_abort 0))
 
 -- `if c b else d`
 if_one : (arm : List Leaf) (block : List Leaf) → with_between (word keywords.Else) (arm ∷ []) ++ block ≡ arm ++ block
@@ -159,7 +155,7 @@ if_one arm block = ap (λ (t : List Leaf). t ++ block) (append-nil arm)
 choice : (c b other : List Leaf) → LevelWord 1 c → BlockWord b → BlockWord other → LevelWord 0 ((placed (keyword keywords.If) 0 ++ c ++ b) ++ (word keywords.Else ++ other))
 choice c b other condition body otherwise =
     let arm : Arm = roll-Arm (record { place = 0; condition = condition.0; body = body.0 }) in
-    let arms : Vec Arm Global = vector (arm ∷ []) (lit< tt) in (
+    let arms : List Arm = arm ∷ [] in (
       views.If arms (Some otherwise.0),
       (is_if arms (Some otherwise.0) (All-cons IsArm arm [] (is_arm 0 condition.0 body.0 condition.1.0 (omega (arith, condition.1.1)) body.1) (All-nil IsArm)) otherwise.1 (lit< tt), omega arith),
       sym (if_expression arms (Some otherwise.0) ∙ if_one (arm_leaves arm) (word keywords.Else ++ block_leaves otherwise.0)
@@ -193,18 +189,21 @@ single u part = record {
   same = ap (map (λ (leaf : Leaf). leaf.terminal)) (append-nil (declaration_leaves part.0) ∙ sym part.2);
 }
 
+-- `bits W`
+abbrev sized : ℕ → Width
+sized width = record { place = 0; number = record { value = width; place = 0 } }
+
 -- `reg N : bits W = L ;`
 abbrev register_of : List ℕ → ℕ → List Leaf
 register_of bytes width =
-    word keywords.Reg ++ name_leaves (named bytes) ++ sign symbols.Colon ++ type_leaves (Bits (record { place = 0; number = record { value = width; place = 0 } })) ++ sign symbols.Equals ++ literal_leaves (valued width 0) ++ sign symbols.Semicolon
+    word keywords.Reg ++ name_leaves (named bytes) ++ sign symbols.Colon ++ width_leaves (sized width) ++ sign symbols.Equals ++ literal_leaves (valued width 0) ++ sign symbols.Semicolon
 
 register : (bytes : List ℕ) (width : ℕ) → IsToken kinds.Name bytes → width < 2 ^ 32 → IsBitVector width 0 → Declares (map (λ leaf. leaf.terminal) (register_of bytes width))
 register bytes width is low fits =
-    let of : TypeExpression = Bits (record { place = 0; number = record { value = width; place = 0 } }) in
     single (register_of bytes width) (
-      declarations.Register (named bytes) of (constant_views.made-Literal (valued width 0)),
-      (is, low, is_constant_literal (valued width 0) fits),
-      ap (λ (t : List Leaf). word keywords.Reg ++ name_leaves (named bytes) ++ sign symbols.Colon ++ type_leaves of ++ sign symbols.Equals ++ t ++ sign symbols.Semicolon) (sym (leaves_constant_literal (valued width 0))),
+      declarations.Register (named bytes) (type_views.made-Bits (sized width)) (constant_views.made-Literal (valued width 0)),
+      (is, is_width_type (sized width) low, is_constant_literal (valued width 0) fits),
+      ap₂ (λ (of first : List Leaf). word keywords.Reg ++ name_leaves (named bytes) ++ sign symbols.Colon ++ of ++ sign symbols.Equals ++ first ++ sign symbols.Semicolon) (sym (leaves_width_type (sized width))) (sym (leaves_constant_literal (valued width 0))),
     )
 
 -- `rule N { e }`
@@ -213,7 +212,7 @@ rule_of bytes a = word keywords.Rule ++ name_leaves (named bytes) ++ (placed (sy
 
 ruled : (bytes : List ℕ) (a : List Leaf) → IsToken kinds.Name bytes → LevelWord 0 a → Declares (map (λ leaf. leaf.terminal) (rule_of bytes a))
 ruled bytes a is made =
-    let body = block 0 [] a (lit< tt) none made in
+    let body = block [] a none made in
     single (rule_of bytes a) (declarations.Rule (named bytes) body.0, (is, body.1), ap (λ (t : List Leaf). word keywords.Rule ++ name_leaves (named bytes) ++ t) body.2)
 
 -- ---- the declarations of the pipeline
@@ -256,7 +255,7 @@ drain-declared k most =
     let total = codes "total" in
     let empties = put 0 (v_name k) _ (lit< tt) (v-fine k most) (digit 0 1 0 (omega arith) (flag 0 (lit< tt))) in
     let adds = put 0 total _ (lit< tt) total-fine (sum _ _ (held 9 0 total (omega arith) (lit< tt) total-fine) (held 9 0 (d_name k) (omega arith) (lit< tt) (d-fine k most))) in
-    ruled (codes "drain") _ drain-fine (choice _ _ _ (held 1 0 (v_name k) (omega arith) (lit< tt) (v-fine k most)) (block 1 _ _ (lit< tt) (one _ empties) adds) abort)
+    ruled (codes "drain") _ drain-fine (choice _ _ _ (held 1 0 (v_name k) (omega arith) (lit< tt) (v-fine k most)) (block _ _ (one _ empties) adds) abort)
 
 move-declared : (k : ℕ) → k < 101 → Declares (move_at k)
 unfolding move_at
@@ -269,7 +268,7 @@ move-declared k most =
     let fills = put 1 (v_name (k + 1)) _ (lit< tt) (v-fine (k + 1) next) (digit 0 1 1 (omega arith) (flag 1 (lit< tt))) in
     let counts = sum _ _ (held 9 0 (d_name k) (omega arith) (lit< tt) (d-fine k here)) (digit 9 32 1 (omega arith) (word_of 1 (lit< tt))) in
     let passes = put 1 (d_name (k + 1)) _ (lit< tt) (d-fine (k + 1) next) counts in
-    ruled (move_name k) _ (move-fine k here) (choice _ _ _ (looser 1 3 (omega arith) _ condition) (block 2 _ _ (lit< tt) (more 1 _ _ empties (one _ fills)) passes) abort)
+    ruled (move_name k) _ (move-fine k here) (choice _ _ _ (looser 1 3 (omega arith) _ condition) (block _ _ (more _ _ empties (one _ fills)) passes) abort)
 
 fill-declared : Declares fill_rule
 unfolding fill_rule
@@ -279,7 +278,7 @@ fill-declared =
     let fills = put 1 (codes "v0") _ (lit< tt) v0-fine (digit 0 1 1 (omega arith) (flag 1 (lit< tt))) in
     let feeds = put 1 (codes "d0") _ (lit< tt) d0-fine (held 0 0 feed (omega arith) (lit< tt) feed-fine) in
     let counts = put 0 feed _ (lit< tt) feed-fine (sum _ _ (held 9 0 feed (omega arith) (lit< tt) feed-fine) (digit 9 32 1 (omega arith) (word_of 1 (lit< tt)))) in
-    ruled (codes "fill") _ fill-fine (choice _ _ _ (looser 1 10 (omega arith) _ free) (block 2 _ _ (lit< tt) (more 1 _ _ fills (one _ feeds)) counts) abort)
+    ruled (codes "fill") _ fill-fine (choice _ _ _ (looser 1 10 (omega arith) _ free) (block _ _ (more _ _ fills (one _ feeds)) counts) abort)
 
 ascending-declared : (f : ℕ → List Terminal) (n : ℕ) → ((k : ℕ) → k < n → Declares (f k)) → Declares (ascending_of f n)
 unfolding ascending_of

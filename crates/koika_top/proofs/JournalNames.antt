@@ -8,14 +8,16 @@ use Rattle.btor2_text.specs.Printable.{IsPlainToken, is_plain}
 use Rattle.typed_core.specs.declared.design.Parts.{Parts}
 use Rattle.typed_core.specs.declared.design.RegDecl.{RegDecl}
 use Rattle.journal_check.specs.Reading as reading
-use Rattle.journal_check.specs.Tokens.{is_space, register_names}
+use Rattle.journal_check.specs.Tokens.{register_names}
+use Rattle.kw_base.specs.Texts.{is_space}
 use Rattle.koika_check.specs.declared.checked.Checked.{Checked}
 use Rattle.koika_check.specs.declared.checked.Register.{Register}
 use Rattle.koika_check.specs.declared.checked.CheckedRule.{CheckedRule}
 use Rattle.koika_lower.specs.Lowering.{IsLowered, register_of}
 use Rattle.front_end.specs.Names.{HasWordNames}
 use Rattle.front_end.proofs.LoweredRuns.{twice}
-use Rattle.koika_top.proofs.PlainNames.{and-left, and-right, words-tokens}
+use Rattle.koika_top.proofs.PlainNames.{words-tokens}
+use Rattle.kw_base.proofs.Conjunction.{and-left, and-right}
 
 -- a plain byte is no space
 byte-plain : (b : ℕ) → is_plain b ≡ true → not (b == 32) ≡ true

@@ -1,8 +1,8 @@
-pub mod SamePrinted
 pub mod Generated
 pub mod GeneratedTree
 pub mod GeneratedText
 pub mod GeneratedSource
+pub mod AnswerCases
 pub mod OneAnswer
 pub mod OneRecheck
 pub mod OneOfWords

@@ -19,7 +19,8 @@ use Rattle.koika_syntax.specs.declared.token.TokenKind.{TokenKind}
 use Rattle.koika_syntax.specs.declared.token.TokenKind.TheVariants as kinds
 use Rattle.koika_syntax.specs.declared.tree.Tree.{Tree}
 use Rattle.koika_syntax.proofs.LexemeKinds.{continues-from_begins, length-lexeme}
-use Rattle.koika_syntax.proofs.Runs.{and-left, and-right, and-true, list_all-from_digits}
+use Rattle.koika_syntax.proofs.Runs.{list_all-from_digits}
+use Rattle.kw_base.proofs.Conjunction.{and-left, and-right, and-true}
 use Rattle.koika_syntax.proofs.Spans.{tokens_stand}
 use Rattle.koika_syntax.proofs.UniquePieces.{kind_of_piece}
 

@@ -5,7 +5,7 @@ use Rattle.kw_bits.specs.declared.host.HostSpec.{HostSpec}
 use Rattle.typed_core.specs.Widths.{HaveWidths}
 use Rattle.typed_core.specs.declared.design.Parts.{Parts as Core}
 use Rattle.one_rule.specs.Stimulus.{InputVectors, inputs_of}
-use Rattle.stim_report.specs.Cuts.{lines_of}
+use Rattle.kw_base.specs.Texts.{lines_of}
 use Rattle.journal_check.specs.Checking.{IsFirstJournalFault, IsGood}
 use Rattle.journal_check.specs.Reading as reading
 use Rattle.journal_check.specs.Reading.{IsFirstMalformed, IsJournal}
@@ -16,18 +16,20 @@ use Rattle.journal_check.proofs.OneJournal.{no_malformed, one_journal, one_malfo
 use Rattle.journal_check.proofs.Twins.{twins_fail_alike, twins_pass_alike, twins_read_alike, twins_stop_alike}
 use Rattle.koika_check.specs.declared.checked.Checked.{Checked}
 use Rattle.koika_lower.specs.Lowering.{IsLowered, typed_input_widths}
-use Rattle.koika_top.specs.Answer.{IsSameAnswer, text_of}
+use Rattle.koika_top.specs.Answer.{IsSameAnswer}
 use Rattle.koika_top.specs.Journal.{is_too_heavy}
 use Rattle.koika_top.specs.Recheck.{AnswersRecheck, HasNoLength, HasNoLines, IsRefusedBefore, IsWrong, MayHaveJournal, ShowsChecked}
-use Rattle.front_end.specs.Certified.{SpellsBoth, SpellsFirst, parts_of}
+use Rattle.front_end.specs.Certified.{HasNoParts, SpellsBoth, SpellsFirst, parts_of}
 use Rattle.front_end.specs.Lengths.{is_too_long_for}
 use Rattle.koika_top.specs.Sim.{text_of_run}
 use Rattle.front_end.specs.Sources.{shape_of}
 use Rattle.front_end.specs.declared.answer.Answer.{Answer}
-use Rattle.front_end.specs.declared.answer.Answer.TheVariants.{Usage, Refused, Written}
+use Rattle.front_end.specs.declared.answer.Answer.TheVariants.{Refused}
 use Rattle.koika_top.specs.declared.shown.Shown.TheVariants.{Report}
+use Rattle.koika_top.proofs.AnswerCases.{same_answer}
 use Rattle.koika_top.proofs.JournalNames.{lowered-plain}
 use Rattle.koika_top.proofs.LoweredTwins.{lowered-twins}
+use Rattle.front_end.proofs.Either.{IsOne, either}
 use Rattle.front_end.proofs.OneCertified.{no_parts-same, one_design, one_stimulus, parts_or_not}
 use Rattle.front_end.proofs.WordNames.{word-names}
 use Rattle.front_end.proofs.Reading.{stimulus-fits}
@@ -55,11 +57,8 @@ module _ (hosts : List HostSpec) (cycles : ℕ) (bytes : List ℕ) where
   no_length-same f g (d, s, h, inr a) (e, r, k, inl b) = absurd (long_or_within e d k.first h.first b.1 a.1)
   no_length-same f g (d, s, h, inr a) (e, r, k, inr b) = a.0 ∙ sym b.0
 
-  before-same : (f g : Fault) → IsRefusedBefore hosts cycles bytes f → IsRefusedBefore hosts cycles bytes g → f ≡ g
-  before-same f g (inl a) (inl b) = no_parts-same hosts bytes f g a b
-  before-same f g (inl a) (inr b) = absurd (parts_or_not hosts bytes f b.0 b.1 a b.2)
-  before-same f g (inr a) (inl b) = absurd (parts_or_not hosts bytes g a.0 a.1 b a.2)
-  before-same f g (inr a) (inr b) = no_length-same f g a b
+  before-same : IsOne (IsRefusedBefore hosts cycles bytes)
+  before-same = either (HasNoParts hosts bytes) (HasNoLength hosts cycles bytes) (no_parts-same hosts bytes) no_length-same (λ f g a b. parts_or_not hosts bytes f b.0 b.1 a b.2)
 
   -- no source both may have a journal and is refused before it
   pub before_or_may : (f : Fault) (d : Checked) (s : InputVectors) → MayHaveJournal hosts cycles bytes d s → IsRefusedBefore hosts cycles bytes f → ⊥
@@ -140,11 +139,8 @@ module _ (hosts : List HostSpec) (cycles : ℕ) (bytes : List ℕ) where
     fail-same : (f g : Fault) → Fails f → Fails g → f ≡ g
     fail-same f g h k = one_first_fault core s cycles k.0 f g (subst (λ (j : Journal). IsFirstJournalFault core s cycles j f) (one_read h.0 k.0 h.1 k.1) h.2) k.2
 
-    looked-same : (f g : Fault) → Stops f ⊎ Fails f → Stops g ⊎ Fails g → f ≡ g
-    looked-same f g (inl h) (inl k) = stop-same f g h k
-    looked-same f g (inl h) (inr k) = absurd (read_or_stop k.0 f k.1 h)
-    looked-same f g (inr h) (inl k) = absurd (read_or_stop h.0 g h.1 k)
-    looked-same f g (inr h) (inr k) = fail-same f g h k
+    looked-same : IsOne (λ f. Stops f ⊎ Fails f)
+    looked-same = either Stops Fails stop-same fail-same (λ f g h k. read_or_stop k.0 f k.1 h)
 
     pub here : (f : Fault) → HasNoLines hosts cycles bytes f ⊎ IsWrong hosts cycles bytes f → Stops f ⊎ Fails f
     here f (inl h) = inl (stops-here f h)
@@ -182,21 +178,10 @@ module _ (hosts : List HostSpec) (cycles : ℕ) (bytes : List ℕ) where
       ∙ ap₂ (λ (d : Checked) (s : InputVectors). text_of_run d s cycles Report) (one_design hosts bytes h.design k.design mine.first other.first) (one_stimulus hosts bytes h.design k.design h.stimulus k.stimulus mine other)
       ∙ sym k.told
 
-  refused-same : (f g : Fault) → AnswersRecheck hosts cycles bytes (Refused f) → AnswersRecheck hosts cycles bytes (Refused g) → f ≡ g
-  refused-same f g (inl a) (inl b) = before-same f g a b
-  refused-same f g (inl a) (inr b) = absurd (before_or_after f g a b)
-  refused-same f g (inr a) (inl b) = absurd (before_or_after g f b a)
-  refused-same f g (inr a) (inr b) = after-same f g a b
-
   shown_or_refused : (f : Fault) (told : List ℕ) → AnswersRecheck hosts cycles bytes (Refused f) → ShowsChecked hosts cycles bytes told → ⊥
   shown_or_refused f told (inl before) h = before_or_may f h.design h.stimulus h.spelled.spelled before
   shown_or_refused f told (inr after) h = shown_or_not f told h after
 
   pub recheck-same : (a b : Answer) → AnswersRecheck hosts cycles bytes a → AnswersRecheck hosts cycles bytes b → IsSameAnswer a b
-  recheck-same Usage b h k = absurd h
-  recheck-same (Refused f) Usage h k = absurd k
-  recheck-same (Refused f) (Refused g) h k = record { status = refl; text = ap (λ fault. text_of (Refused fault)) (refused-same f g h k) }
-  recheck-same (Refused f) (Written told) h k = absurd (shown_or_refused f told h k)
-  recheck-same (Written told) Usage h k = absurd k
-  recheck-same (Written told) (Refused g) h k = absurd (shown_or_refused g told k h)
-  recheck-same (Written told) (Written other) h k = record { status = refl; text = shown-same told other h k }
+  recheck-same =
+      same_answer (AnswersRecheck hosts cycles bytes) (λ none. none) (either (IsRefusedBefore hosts cycles bytes) Looked before-same after-same before_or_after) shown_or_refused shown-same

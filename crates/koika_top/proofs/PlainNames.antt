@@ -5,6 +5,7 @@ use Rattle.std.specs.List.{list_all}
 use Rattle.std.proofs.lemmas.Bool.{false≢true}
 use Rattle.std.proofs.lemmas.Bool.Decides.{eqb_tells}
 use Rattle.std.proofs.lemmas.List.Elements.{All-weaker}
+use Rattle.kw_base.proofs.Conjunction.{and-left, and-right}
 use Rattle.koika_syntax.specs.Lexemes.{IsWord, continues_word}
 use Rattle.koika_syntax.proofs.LexemeKinds.{continues-from_begins}
 use Rattle.btor2_text.specs.Printable.{IsPlainToken, is_plain}
@@ -22,14 +23,6 @@ plain-byte b goes =
     let comment = other-byte 59 b refl goes in
     let line = other-byte 10 b refl goes in
     rw (space, tab, carriage, comment, line) refl
-
-pub and-left : (a b : Bool) → (a && b) ≡ true → a ≡ true
-and-left true b h = refl
-and-left false b h = h
-
-pub and-right : (a b : Bool) → (a && b) ≡ true → b ≡ true
-and-right true b h = h
-and-right false b h = absurd (false≢true h)
 
 plain-bytes : (bytes : List ℕ) → list_all continues_word bytes ≡ true → list_all is_plain bytes ≡ true
 plain-bytes [] all = refl

@@ -12,7 +12,7 @@ use Rattle.kw_bits.specs.BitVector.{BitVector}
 use Rattle.one_rule.specs.Stimulus.{AlwaysFits, Assignment, Assigns, InputVectors, inputs_by, inputs_of}
 use Rattle.one_rule.proofs.Inputs.{inputs_by_fits}
 use Rattle.stim_report.specs.Assignments.{assigned_by, assigned_to, assignment_of, input_by_name, is_assigned, name_and_number}
-use Rattle.stim_report.specs.Cuts.{lines_of, words_from}
+use Rattle.kw_base.specs.Texts.{is_blank, lines_of, words_from}
 use Rattle.stim_report.specs.Shapes.{widths_of}
 use Rattle.stim_report.specs.Stimuli.{after, at_place, cycles_from, line_from, line_of, next_line, place, stimulus_of}
 use Rattle.stim_report.specs.declared.shape.NameWidth.{NameWidth}
@@ -54,7 +54,7 @@ module _ (inputs : List NameWidth) where
       in
       let found = after-ok (line_of inputs l line) (rest l) cycles e in
       let others = after-ok (cycles_from inputs (next_line l) lines) (λ (cs : List (List BitVector)). Ok (inputs_by (widths_of inputs) found.0 ∷ cs)) cycles found.2 in
-      ap (λ (r : Result (List Assignment) Fault). after r (rest m)) (line-free l m [] (words_from 1 line) found.0 found.1)
+      ap (λ (r : Result (List Assignment) Fault). after r (rest m)) (line-free l m [] (words_from is_blank 1 line) found.0 found.1)
       ∙ ap (λ (r : Result (List (List BitVector)) Fault). after r (λ (cs : List (List BitVector)). Ok (inputs_by (widths_of inputs) found.0 ∷ cs))) (cycles-free (next_line l) (next_line m) lines others.0 others.1)
       ∙ others.2
 
@@ -108,7 +108,7 @@ module _ (inputs : List NameWidth) where
         let same : first ∷ others.0 ≡ cycles = cc (others.2) in
         let nothing : All (Assigns (widths_of inputs)) [] = All-from_recursion (Assigns (widths_of inputs)) [] tt in
         subst (AllByRecursion (HaveWidths (widths_of inputs))) same
-        (inputs_by_fits (widths_of inputs) found.0 all (line-fits l [] (words_from 1 line) found.0 nothing found.1), cycles-fit (next_line l) lines others.0 others.1)
+        (inputs_by_fits (widths_of inputs) found.0 all (line-fits l [] (words_from is_blank 1 line) found.0 nothing found.1), cycles-fit (next_line l) lines others.0 others.1)
 
 -- a stimulus that a text gives is the same whatever number its first line has
 pub stimulus-free : (shape : Shape) (l m : ℕ) (text : List ℕ) (stimulus : InputVectors) → stimulus_of shape l text ≡ Ok stimulus → stimulus_of shape m text ≡ Ok stimulus

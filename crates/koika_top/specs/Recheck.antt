@@ -11,6 +11,7 @@ use Rattle.journal_check.specs.Reading.{IsFirstMalformed, IsJournal}
 use Rattle.journal_check.specs.declared.journal.Journal.{Journal}
 use Rattle.koika_check.specs.declared.checked.Checked.{Checked}
 use Rattle.koika_lower.specs.Lowering.{IsLowered}
+use Rattle.kw_base.specs.Texts as texts
 use Rattle.stim_report.specs.Cuts as cuts
 use Rattle.koika_top.specs.Journal.{ShowsJournal, is_too_heavy}
 use Rattle.front_end.specs.Lengths.{is_too_long_for}
@@ -89,7 +90,7 @@ pub record HasPartsOf (source other : List ℕ) : Type 0 where
   pub line_feeds : ℕ
   pub design : (parts_of other).design ≡ (cuts.parts_of source).design ++ replicate line_feeds 10
   pub empty_lines : ℕ
-  pub stimulus : cuts.lines_of (parts_of other).stimulus ≡ cuts.lines_of (cuts.parts_of source).stimulus ++ replicate empty_lines []
+  pub stimulus : texts.lines_of (parts_of other).stimulus ≡ texts.lines_of (cuts.parts_of source).stimulus ++ replicate empty_lines []
   pub short : length other ≤ longest_certified
   pub design_short : length (parts_of other).design ≤ longest_source
 

@@ -10,7 +10,7 @@ use Rattle.koika_syntax.specs.declared.token.Token.{Token}
 use Rattle.koika_syntax.specs.declared.tree.Tree.{Tree}
 use Rattle.koika_parse.specs.Brackets.{AreFewOpen}
 use Rattle.koika_parse.specs.Laws.{ReadsBack}
-use Rattle.koika_parse.specs.Outline.{SameUpToPlaces}
+use Rattle.koika_parse.specs.Places.{SameUpToPlaces}
 use Rattle.koika_print.specs.Printed.{printed}
 
 -- the text of a tree has tokens; each tree that derives them is this one up to places, and so is what is read of them

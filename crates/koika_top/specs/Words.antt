@@ -1,6 +1,7 @@
 -- Which arguments are valid, as words of the command line, and what they ask for. The program's own name isn't among them.
 use Rattle.std.specs.Prelude.{ℕ, ◌&&◌, ◌||◌, nat_le, Bool, true, false, List, [], ◌∷◌, codes, take, drop, Option, Some, None, if◌then◌else◌}
 use Rattle.std.specs.Str.{bytes_eq}
+use Rattle.front_end.specs.GivenOnce.{asked_flag, given_once}
 use Rattle.front_end.specs.NumberWords.{number_of_word}
 use Rattle.koika_top.specs.declared.engine_kind.EngineKind.{EngineKind}
 use Rattle.koika_top.specs.declared.engine_kind.EngineKind.TheVariants.{Plain, Circuit, Workers}
@@ -17,12 +18,6 @@ engine_of word = if bytes_eq word (codes "plain") then Some Plain else if bytes_
 -- no option is given
 abbrev pub no_options : Options
 no_options = record { cycles = None; engine = None; workers = None; shown = Report; journal = false }
-
--- options with a value that is given once, and is valid: there is no earlier one, and there is this one
-abbrev pub given_once : {X : Type 0} → Option X → (X → Options) → Option X → Option Options
-given_once None put None = None
-given_once None put (Some value) = Some (put value)
-given_once (Some earlier) put value = None
 
 -- options, if they are valid, with a value of `--cycles`
 abbrev pub with_cycles : List ℕ → Option Options → Option Options
@@ -48,11 +43,6 @@ asked_for Summary = Some Summary
 abbrev pub with_summary : Option Options → Option Options
 with_summary None = None
 with_summary (Some options) = given_once (asked_for options.shown) (λ shown. record options { shown = shown }) (Some Summary)
-
--- no journal is made where nothing is asked for
-abbrev pub asked_flag : Bool → Option Bool
-asked_flag false = None
-asked_flag true = Some true
 
 -- options, if they are valid, with a journal
 abbrev pub with_journal : Option Options → Option Options

@@ -14,7 +14,6 @@ ghost use Rattle.front_end.specs.Told.{Told};
 
 use crate::circuit_run::fits;
 use crate::machine_run::tell_shown;
-use crate::recall::has_valid_parts;
 use crate::shown::Shown;
 use aig_blast::{Aig, AigSim};
 use aiger_text::{aig_shape, read_aiger};
@@ -63,7 +62,7 @@ impl AigRun {
         ensures { Told (shown_graph self.now.shown self.now.aig self.now.stimulus self.now.cycles)
             (stream K.written K.faults sink.old sink.new) result }
     {
-        has_valid_parts(&self.aig);
+        self.aig.recall();
         let sim = AigSim::begin(alloc, &self.aig)?;
         tell_shown(
             alloc,
@@ -96,7 +95,7 @@ fn run_of(
     ensures refused { IfFault result (λ fault.
         HasNoStimulus source.now fault ⊎ RunsTooLong cycles source.now fault) }
 {
-    has_valid_parts(&aig);
+    aig.recall();
     let shape = aig_shape(alloc, &aig)?;
     let stimulus = read_stimulus(alloc, parts.stimulus, parts.first_line, &shape)?;
     fits(cycles, &shape)?;

@@ -22,14 +22,13 @@ ghost use Rattle.front_end.specs.Told.{Told};
 use crate::bad_flags::{BadFlags, bad_watch};
 use crate::circuit_shapes::circuit_shape;
 use crate::machine_run::{tell_machine, tell_shown};
-use crate::recall::has_valid_wires;
 use crate::shown::Shown;
 use crate::teller::Teller;
 use btor2_model::{Btor, accept};
 use btor2_net::to_circuit;
 use btor2_text::read_lines;
 use circuit_eval::{Circuit, Sim};
-use front_end::{Untold, always_fits, fault_of_source, is_too_long};
+use front_end::{Untold, fault_of_source, is_too_long};
 use kw_base::{Refusal, fault_number};
 use kw_io::Sink;
 use one_rule::Stimulus;
@@ -79,7 +78,7 @@ impl CircuitRun {
             → Told (shown_run self.now.shown lines (inputs_of self.now.stimulus) self.now.cycles)
             (stream K.written K.faults sink.old sink.new) result }
     {
-        always_fits(alloc, &self.stimulus);
+        self.stimulus.recall();
         self.write_rows(alloc, sink)?;
         self.write_violations(alloc, sink)
     }
@@ -90,8 +89,8 @@ impl CircuitRun {
             (wired.run_of self.now.circuit (inputs_of self.now.stimulus) self.now.cycles))
             (stream K.written K.faults sink.old sink.new) result }
     {
-        has_valid_wires(&self.circuit);
-        always_fits(alloc, &self.stimulus);
+        self.circuit.recall();
+        self.stimulus.recall();
         let sim = Sim::begin(alloc, &self.circuit)?;
         tell_shown(
             alloc,
@@ -128,8 +127,8 @@ impl CircuitRun {
             (wired.run_of bads.now.circuit (inputs_of self.now.stimulus) self.now.cycles))
             (stream K.written K.faults sink.old sink.new) result }
     {
-        has_valid_wires(&bads.circuit);
-        always_fits(alloc, &self.stimulus);
+        bads.circuit.recall();
+        self.stimulus.recall();
         let shape = circuit_shape(alloc, &bads.circuit)?;
         let watch = bad_watch(alloc, bads.names.as_slice())?;
         let teller = Teller::new(alloc, &shape, None, watch)?;
@@ -168,7 +167,7 @@ fn run_of(
         HasNoStimulus source.now fault ⊎ RunsTooLong cycles source.now fault) }
 {
     let circuit = to_circuit(alloc, &text)?;
-    has_valid_wires(&circuit);
+    circuit.recall();
     let shape = circuit_shape(alloc, &circuit)?;
     let stimulus = read_stimulus(alloc, parts.stimulus, parts.first_line, &shape)?;
     fits(cycles, &shape)?;

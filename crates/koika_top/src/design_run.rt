@@ -26,9 +26,7 @@ use crate::watch::watch_of;
 use crate::workers_engine::WorkersEngine;
 use attempt_log::{Gate, NoGate};
 use circuit_eval::Sim;
-use front_end::{
-    Lowered, Untold, always_fits, fault_of_source, is_too_long_for, is_valid, read_source,
-};
+use front_end::{Lowered, Untold, fault_of_source, is_too_long_for, read_source};
 use host_fn::HostFn;
 use kw_base::{Refusal, fault_number};
 use kw_io::Sink;
@@ -90,8 +88,8 @@ impl Run {
         let design: &Design = &self.lowered.design;
         let externs: &Externs = &self.lowered.externs;
         let stimulus: &Stimulus = &self.lowered.stimulus;
-        is_valid(design);
-        always_fits(alloc, stimulus);
+        design.recall();
+        stimulus.recall();
         let mut engine = PlainEngine::begin(alloc, design, externs, stimulus)?;
         self.write_by(alloc, &NoGate, &mut engine, sink)
     }
@@ -104,7 +102,7 @@ impl Run {
             (stream K.written K.faults sink.old sink.new) result }
     {
         let stimulus: &Stimulus = &self.lowered.stimulus;
-        always_fits(alloc, stimulus);
+        stimulus.recall();
         let lines = lines_of(alloc, &self.lowered)?;
         let circuit = read_again(alloc, &lines)?;
         let sim = Sim::begin(alloc, &circuit)?;
@@ -131,8 +129,8 @@ impl Run {
         let lowered = &self.lowered;
         let design: &Design = &lowered.design;
         let stimulus: &Stimulus = &lowered.stimulus;
-        is_valid(design);
-        always_fits(alloc, stimulus);
+        design.recall();
+        stimulus.recall();
         let mut engine = WorkersEngine::begin(
             rt,
             alloc,
@@ -164,8 +162,8 @@ impl Run {
         let lowered = &self.lowered;
         let design: &Design = &lowered.design;
         let stimulus: &Stimulus = &lowered.stimulus;
-        is_valid(design);
-        always_fits(alloc, stimulus);
+        design.recall();
+        stimulus.recall();
         let watch = watch_of(alloc, &lowered.checked)?;
         let teller = Teller::new(alloc, &lowered.shape, Some(self.shown), watch)?;
         tell(

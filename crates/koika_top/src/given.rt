@@ -1,17 +1,16 @@
 //! Program: the options of valid arguments.
 
-ghost use Rattle.std.specs.Prelude.{◌≡◌, false, true, map, string_bytes, IfOk, is_some, Some};
-ghost use Rattle.clap.specs.Words.{app_of, found_of, kind_of, rows_of, rule_of};
-ghost use Rattle.koika_top.specs.inner.Given.{Give, bare, engine_in, flag_rule, number_in, run_app, valued_rule};
+ghost use Rattle.std.specs.Prelude.{◌≡◌, true, map, string_bytes, IfOk, is_some, Some};
+ghost use Rattle.clap.specs.Words.{app_of, found_of, rows_of};
+ghost use Rattle.koika_top.specs.inner.Given.{Give, engine_in, run_app};
 ghost use Rattle.koika_top.specs.Words.{gen_by, gen_of, options_of, sim_of};
 ghost use Rattle.koika_top.specs.declared.words.Options.{Options as AnyOptions};
 
 use crate::engine_kind::EngineKind;
 use crate::shown::Shown;
 use crate::words::{Options, engine_of};
-use clap::error::ErrorKind;
-use clap::{Arg, ArgAction, ArgMatches, Command, Error};
-use front_end::number_of;
+use clap::{Arg, ArgMatches, Command};
+use front_end::given::{bare, flag, number_in, valued, want_of_memory};
 use kw_bits::NoMemory;
 use std::alloc::Global;
 
@@ -54,31 +53,6 @@ fn run_app<'a>(alloc: Global, name: &'a str) -> Result<Command<'a>, NoMemory>
     Ok(command)
 }
 
-// An option that has a value.
-fn valued<'a>(alloc: Global, name: &'a str) -> Arg<'a>
-    ensures rule { rule_of result ≡ valued_rule name.entry.now }
-    ensures own { result.global ≡ false }
-{
-    Arg::new(alloc, name).long(name)
-}
-
-// An option that has none.
-fn flag<'a>(alloc: Global, name: &'a str) -> Arg<'a>
-    ensures rule { rule_of result ≡ flag_rule name.entry.now }
-    ensures own { result.global ≡ false }
-{
-    Arg::new(alloc, name).long(name).action(ArgAction::SetTrue)
-}
-
-// A command to which all words belong, and that knows no word of its own.
-fn bare<'a>(alloc: Global, name: &'a str) -> Command<'a>
-    ensures { app_of result ≡ bare name.entry.now }
-{
-    Command::new(alloc, name)
-        .no_binary_name(true)
-        .disable_help_flag(true)
-}
-
 // The options of a run that were found.
 fn options_in(matches: &ArgMatches<'_>) -> Options
     ensures { (options : AnyOptions) → Give (rows_of (found_of matches.now)) options → result ≡ options }
@@ -97,16 +71,6 @@ fn options_in(matches: &ArgMatches<'_>) -> Options
     }
 }
 
-// The number that the first value of an argument writes.
-fn number_in(matches: &ArgMatches<'_>, id: &str) -> Option<u32>
-    ensures { result ≡ number_in id.now (rows_of (found_of matches.now)) }
-{
-    match matches.get_str(id) {
-        Some(word) => number_of(word.as_bytes()),
-        None => None,
-    }
-}
-
 // The engine that the first value of an argument names.
 fn engine_in(matches: &ArgMatches<'_>, id: &str) -> Option<EngineKind>
     ensures { result ≡ engine_in id.now (rows_of (found_of matches.now)) }
@@ -114,15 +78,5 @@ fn engine_in(matches: &ArgMatches<'_>, id: &str) -> Option<EngineKind>
     match matches.get_str(id) {
         Some(word) => engine_of(word.as_bytes()),
         None => None,
-    }
-}
-
-// Why valid words were refused.
-fn want_of_memory(error: &Error) -> NoMemory
-    requires { kind_of error.now ≡ ErrorKind.OutOfMemory }
-{
-    match error.kind() {
-        ErrorKind::OutOfMemory => NoMemory,
-        _ => unreachable!(),
     }
 }

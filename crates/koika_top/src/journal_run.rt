@@ -9,7 +9,7 @@ ghost use Rattle.koika_check.specs.Typing.{IsTypedDesign};
 ghost use Rattle.one_rule.specs.Hosts.{host_specs};
 ghost use Rattle.one_rule.specs.Cycle.{system_of};
 ghost use Rattle.one_rule.specs.Rows.{RowsFit};
-ghost use Rattle.one_rule.specs.Run.{last_registers, run};
+ghost use Rattle.one_rule.specs.Run.{run};
 ghost use Rattle.one_rule.specs.Stimulus.{AlwaysFits, StimulusFits, inputs_of};
 ghost use Rattle.koika_top.specs.Histories.{board_of};
 ghost use Rattle.koika_top.specs.inner.Histories.{IsWhole};
@@ -22,16 +22,15 @@ ghost use Rattle.front_end.specs.Streams.{stream};
 use crate::journaled::{Journaled, run_journal};
 use attempt_log::{Entry, Gate};
 use front_end::{
-    BATCH, Lowered, Untold, always_fits, fault_of_source, is_too_long_for, is_valid, read_source,
-    write_text,
+    BATCH, Lowered, Untold, fault_of_source, is_too_long_for, read_source, write_text,
 };
 use host_fn::HostFn;
-use journal_check::{Batch, print_batch, print_begin};
+use journal_check::{Batch, last_regs, print_batch, print_begin};
 use koika_check::Checked;
 use kw_base::{Refusal, fault_number};
 use kw_bits::{NoMemory, Sequence};
 use kw_io::Sink;
-use one_rule::{Regs, Rows, first_values};
+use one_rule::{Regs, first_values};
 use std::alloc::Global;
 use std::sync::{Arc, Wait};
 use std::thread::Threads;
@@ -96,7 +95,7 @@ impl JournalRun {
         ensures { WritesJournal (arc_value self.now.lowered.design) (arc_value self.now.lowered.stimulus)
             self.now.cycles self.now.workers (stream K.written K.faults sink.old sink.new) result }
     {
-        self.fits(alloc);
+        self.fits();
         let begin = print_begin(alloc, self.workers)?;
         write_text(sink, begin.as_slice())?;
         let mut regs = first_values(alloc, &self.lowered.design)?;
@@ -128,9 +127,9 @@ impl JournalRun {
             self.now.workers regs from to (stream K.written K.faults sink.old sink.new) result }
         ensures widths { IfOk result (HaveWidths (register_widths (arc_value self.now.lowered.design))) }
     {
-        self.fits(alloc);
+        self.fits();
         let made = self.make_batch(rt, alloc, gate, regs, from, to)?;
-        let left = last_registers(alloc, &made.rows)?;
+        let left = last_regs(alloc, &made.rows)?;
         let batch = batch_of(alloc, from, to, made.entries);
         let text = print_batch(alloc, &self.lowered.design, &batch)?;
         write_text(sink, text.as_slice())?;
@@ -156,7 +155,7 @@ impl JournalRun {
         ensures whole { IfOk result (λ made. IsWhole self.now.workers
             (board_of (arc_value self.now.lowered.design) (arc_value self.now.lowered.stimulus) regs from to) made.entries) }
     {
-        self.fits(alloc);
+        self.fits();
         let design = Arc::try_clone(&self.lowered.design)?;
         let externs = Arc::try_clone(&self.lowered.externs)?;
         let stimulus = Arc::try_clone(&self.lowered.stimulus)?;
@@ -175,14 +174,14 @@ impl JournalRun {
     }
 
     // The design is valid, the stimulus is for its inputs, and a board can have that many cycles.
-    fn fits(&self, alloc: Global)
+    fn fits(&self)
         ensures design { IsValid (arc_value self.now.lowered.design) }
         ensures stimulus { StimulusFits (arc_value self.now.lowered.design) (arc_value self.now.lowered.stimulus) }
         ensures always { AlwaysFits (arc_value self.now.lowered.stimulus) }
         ensures few { self.now.cycles ≤ 16777216 }
     {
-        is_valid(&self.lowered.design);
-        always_fits(alloc, &self.lowered.stimulus);
+        self.lowered.design.recall();
+        self.lowered.stimulus.recall();
     }
 }
 
@@ -205,13 +204,4 @@ pub(crate) fn is_too_heavy(cycles: u32, design: &Checked) -> bool
     ensures { result ≡ is_too_heavy cycles design.now }
 {
     u64::from(cycles) * (u64::from(design.counts().weight) + 1) > MOST_WORK
-}
-
-// The registers of the last row.
-fn last_registers(alloc: Global, rows: &Rows) -> Result<Regs, NoMemory>
-    requires { 0 < length rows.now }
-    ensures { IfOk result (λ regs. regs ≡ last_registers [] rows.now) }
-{
-    let last = rows.get(rows.len() - 1);
-    Regs::from_slice(alloc, last.regs.as_slice())
 }

@@ -9,7 +9,6 @@ ghost use Rattle.one_rule.specs.Externs.{kept};
 ghost use Rattle.one_rule.specs.Rows.{RowsFit};
 ghost use Rattle.one_rule.specs.Run.{run};
 ghost use Rattle.one_rule.specs.Stimulus.{StimulusFits, inputs_of};
-ghost use Rattle.attempt_log.specs.Attempt.{IsAttempt};
 ghost use Rattle.attempt_log.specs.Entries.{goes_on, settle_entry};
 ghost use Rattle.attempt_log.specs.Setting.{IsFor};
 ghost use Rattle.board_core.specs.Board.{setting_of, settle, submit};
@@ -112,7 +111,7 @@ fn go_on(
     ensures less { IfOk result (λ more. more ≡ true → left core.new < left core.old) }
     ensures finished { IfOk result (λ more. more ≡ false → core.new.opening.to < core.new.cycle) }
 {
-    is_plain(core);
+    core.recall();
     match settle_head(core, entries, worker)? {
         Settled::Committed { .. } | Settled::Skipped { .. } | Settled::CycleClosed { .. } => {
             Ok(true)
@@ -123,13 +122,6 @@ fn go_on(
         }
         Settled::Finished => Ok(false),
     }
-}
-
-// A core is at a plain position, by its type.
-fn is_plain(core: &Core)
-    ensures { AtPlain core.now }
-{
-    let _rows = core.rows();
 }
 
 // Does the job of the head, submits its attempt and settles it.
@@ -201,7 +193,7 @@ fn hand_in(
     ensures step { IfOk result (λ told. Does (λ o board. submit o board made) core.old (answer.Submit told) core.new) }
     ensures left { OnOk result (left core.new ≡ left core.old) }
 {
-    is_attempt(&made);
+    made.recall();
     let cycle = made.cycle();
     let rule = made.rule();
     let inputs = Inputs::from_slice(alloc, made.inputs().as_slice())?;
@@ -212,19 +204,10 @@ fn hand_in(
         worker,
         cycle,
         rule,
+        answer: answer.taken(),
+        outcome,
         inputs,
         events,
-        outcome,
-        answer: answer.taken(),
     })?;
     Ok(answer)
-}
-
-// What any attempt is: a trace of a rule that its design has.
-fn is_attempt(attempt: &Attempt)
-    ensures { IsAttempt attempt.now }
-{
-    let _rule = attempt.rule();
-    let _inputs = attempt.inputs();
-    let _events = attempt.events();
 }

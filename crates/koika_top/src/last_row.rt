@@ -4,7 +4,6 @@ ghost use Rattle.std.specs.Prelude.{◌≡◌, ◌-◌, ◌<◌, IfOk, OnOk, len
 ghost use Rattle.one_rule.specs.Stimulus.{InputVectors};
 ghost use Rattle.koika_top.specs.inner.Engines.{HasRun};
 
-use front_end::is_valid;
 use kw_bits::NoMemory;
 use one_rule::{FiredSet, Regs, Row, Rows, first_values, opening};
 use std::alloc::Global;
@@ -14,7 +13,7 @@ use typed_core::Design;
 pub(crate) fn first_row(alloc: Global, design: &Design) -> Result<Row, NoMemory>
     ensures { IfOk result (λ last. (stimulus : InputVectors) → HasRun design.now stimulus 0 last) }
 {
-    is_valid(design);
+    design.recall();
     let regs = first_values(alloc, design)?;
     let last = opening(alloc, design, regs)?;
     Ok(last)

@@ -28,7 +28,6 @@ mod machine_run;
 mod plain_engine;
 mod program;
 mod reads;
-mod recall;
 mod recheck;
 mod shown;
 mod tell;

@@ -21,8 +21,7 @@ use crate::shown::Shown;
 use crate::teller::Teller;
 use crate::watch::watch_of;
 use front_end::{
-    CertifiedParts, Lowered, always_fits, certified_parts, fault_of_source, is_too_long_for,
-    is_valid, spell_parts,
+    CertifiedParts, Lowered, certified_parts, fault_of_source, is_too_long_for, spell_parts,
 };
 use host_fn::HostFn;
 use journal_check::{Journal, read_journal, recheck};
@@ -104,8 +103,8 @@ fn certified_rows(
 {
     let core: &Design = &lowered.design;
     let inputs: &Stimulus = &lowered.stimulus;
-    is_valid(core);
-    always_fits(alloc, inputs);
+    core.recall();
+    inputs.recall();
     let design = Arc::try_clone(&lowered.design)?;
     let externs = Arc::try_clone(&lowered.externs)?;
     let stimulus = Arc::try_clone(&lowered.stimulus)?;

@@ -41,6 +41,7 @@ use crate::spelled::spelled;
 use crate::tables::{cell, code};
 use crate::transcripts::run_transcript;
 use koika_top::Status;
+use kw_io::print_ended;
 use std::io::Write;
 use std::sync::Wait;
 use std::thread::Threads;
@@ -357,7 +358,12 @@ fn run_failing(
     for call in 1..u64::MAX {
         let ended = run(rt, threads, words.as_slice(), source, piece, &[call], &[])?;
         print!(rt; "read {call}: ")?;
-        tell(rt, &ended, whole.written.as_slice())?;
+        print_ended(
+            rt,
+            ended.status.number(),
+            ended.written.as_slice(),
+            whole.written.as_slice(),
+        )?;
         if ended.status == whole.status {
             break;
         }
@@ -365,25 +371,15 @@ fn run_failing(
     for call in 1..u64::MAX {
         let ended = run(rt, threads, words.as_slice(), source, piece, &[], &[call])?;
         print!(rt; "write {call}: ")?;
-        tell(rt, &ended, whole.written.as_slice())?;
+        print_ended(
+            rt,
+            ended.status.number(),
+            ended.written.as_slice(),
+            whole.written.as_slice(),
+        )?;
         if ended.status == whole.status {
             break;
         }
     }
     Ok(())
-}
-
-// Tells the status of a run, and how many bytes of a whole answer it wrote.
-fn tell(rt: &HostRuntime, ended: &Ended, whole: &[u8]) -> io::Result<()> {
-    let status = ended.status.number();
-    let written = ended.written.as_slice();
-    if whole.starts_with(written) {
-        println!(rt;
-            "status {status}, {} of {} bytes",
-            written.len(),
-            whole.len()
-        )
-    } else {
-        println!(rt; "status {status}, other bytes")
-    }
 }

@@ -1,10 +1,9 @@
 //! One call of the program on a source, and what it returned and wrote.
 
 use attempt_log::{Gate, NoGate};
-use host_fn::offered::{BITS_OF_ONE, BITS_OF_TWO};
-use host_fn::{HostFn, offered};
+use host_fn::offered_functions;
 use koika_top::Status;
-use kw_bits::{HostKind, NoMemory};
+use kw_bits::NoMemory;
 use kw_io::{MemSink, MemSource};
 use std::alloc::Global;
 use std::io;
@@ -63,16 +62,7 @@ pub(crate) fn run_at_gate(
     let mut source = MemSource::new(source, piece, Vec::from_slice(alloc, failing_reads)?);
     let failing = Vec::from_slice(alloc, failing_writes)?;
     let mut sink = MemSink::new(alloc, ROOM, piece, failing).map_err(out_of_memory)?;
-    let hosts = [
-        HostFn::new(HostKind::Popcount, BITS_OF_ONE, offered::popcount).unwrap(),
-        HostFn::new(HostKind::Parity, BITS_OF_ONE, offered::parity).unwrap(),
-        HostFn::new(HostKind::Reverse, BITS_OF_ONE, offered::reverse).unwrap(),
-        HostFn::new(HostKind::LeadingZeros, BITS_OF_ONE, offered::leading_zeros).unwrap(),
-        HostFn::new(HostKind::Gray, BITS_OF_ONE, offered::gray).unwrap(),
-        HostFn::new_two(HostKind::Hamming, BITS_OF_TWO, offered::hamming).unwrap(),
-        HostFn::new_two(HostKind::Morton, BITS_OF_TWO, offered::morton).unwrap(),
-        HostFn::new_two(HostKind::SatAdd, BITS_OF_TWO, offered::sat_add).unwrap(),
-    ];
+    let hosts = offered_functions!();
     let status = koika_top::run(threads, alloc, words, &hosts, gate, &mut source, &mut sink);
     Ok(Ended {
         status,

@@ -1,26 +1,14 @@
 -- What the reader of command lines is told of the options of a run and of the word of `gen`, and which options the rows
 -- that it finds give. Only contracts of private functions cite it.
-use Rattle.std.specs.Prelude.{◌≡◌, ℕ, Bool, true, false, List, codes, Option, Some, option_and_then}
+use Rattle.std.specs.Prelude.{◌≡◌, true, List, codes, Option, Some, option_and_then}
 use Rattle.clap.specs.Walk.{Row, Rule, Text, first_of, one_of}
-use Rattle.clap.specs.Simple.{App, new_app, new_rule, on_top, with_rule}
-use Rattle.clap.specs.declared.builder.action.ArgAction.TheVariants.{SetTrue}
+use Rattle.clap.specs.Simple.{App, new_rule, with_rule}
 use Rattle.koika_top.specs.Words.{engine_of}
-use Rattle.front_end.specs.NumberWords.{number_of_word}
+use Rattle.front_end.specs.Given.{bare, flag_rule, flag_text, number_in, valued_rule}
 use Rattle.koika_top.specs.declared.engine_kind.EngineKind.{EngineKind}
 use Rattle.koika_top.specs.declared.shown.Shown.{Shown}
 use Rattle.koika_top.specs.declared.shown.Shown.TheVariants.{Report, Summary}
 use Rattle.koika_top.specs.declared.words.Options.{Options}
-
--- a command to which all words belong, and that knows no word of its own
-abbrev pub bare : Text → App
-bare name = on_top (λ s. record s { no_binary_name = true; disable_help_flag = true }) (new_app name)
-
--- an option that has a value, and one that has none
-abbrev pub valued_rule : Text → Rule
-valued_rule name = record (new_rule name) { long = Some name }
-
-abbrev pub flag_rule : Text → Rule
-flag_rule name = record (new_rule name) { long = Some name; action = Some SetTrue }
 
 abbrev pub cycles_rule : Rule
 cycles_rule = record (valued_rule (codes "cycles")) { required = true }
@@ -48,10 +36,6 @@ stages_rule = record (new_rule (codes "stages")) { required = true }
 abbrev pub gen_app : App
 gen_app = with_rule (bare (codes "gen")) stages_rule
 
--- the number that the first value of an argument writes
-abbrev pub number_in : Text → List Row → Option ℕ
-number_in id rows = option_and_then number_of_word (first_of id rows)
-
 -- the engine that the first value of an argument names
 abbrev pub engine_in : Text → List Row → Option EngineKind
 engine_in id rows = option_and_then engine_of (first_of id rows)
@@ -60,11 +44,6 @@ engine_in id rows = option_and_then engine_of (first_of id rows)
 abbrev pub flag_of : Shown → Text
 flag_of Report = codes "false"
 flag_of Summary = codes "true"
-
--- how a flag tells whether a journal is wanted
-abbrev pub flag_text : Bool → Text
-flag_text false = codes "false"
-flag_text true = codes "true"
 
 -- the rows give these options
 pub record Give (rows : List Row) (options : Options) : Type 0 where

@@ -9,7 +9,7 @@ pub read_stimulus-requires-clause-few : goal.read_stimulus-requires-clause-few
 read_stimulus-requires-clause-few c = few-inputs-told c.args.aig c.in_ok-shape.shape c.requires.few c.in_ok-shape.ensures
 
 pub read_stimulus-requires-clause-widths : goal.read_stimulus-requires-clause-widths
-read_stimulus-requires-clause-widths c = aig-widths-valid c.args.aig c.in_ok-shape.shape c.has_valid_parts.ensures.inputs c.in_ok-shape.ensures
+read_stimulus-requires-clause-widths c = aig-widths-valid c.args.aig c.in_ok-shape.shape c.recall.ensures.inputs c.in_ok-shape.ensures
 
 pub returns-in_err-stimulus-clause-refused : goal.returns-in_err-stimulus-clause-refused
 returns-in_err-stimulus-clause-refused c =

@@ -21,7 +21,7 @@ read_stimulus-requires-clause-few c =
 
 pub read_stimulus-requires-clause-widths : goal.read_stimulus-requires-clause-widths
 read_stimulus-requires-clause-widths c =
-    subst (λ (s : Shape). All IsWidth (widths_of s.inputs)) (sym c.in_ok-shape.ensures) (widths-valid c.in_ok-circuit.circuit.inputs c.has_valid_wires.ensures.inputs)
+    subst (λ (s : Shape). All IsWidth (widths_of s.inputs)) (sym c.in_ok-shape.ensures) (widths-valid c.in_ok-circuit.circuit.inputs c.recall.ensures.inputs)
 
 pub of-requires : goal.of-requires
 of-requires c = c.requires.few

@@ -1,6 +1,7 @@
 use Rattle.std.proofs.Common.{rules, ◌≡◌, ◌∙◌, ap, codes, map, string_bytes, sym}
 use Rattle.clap.specs.Words.{is_simple, matches_of, rule_of, takes}
-use Rattle.koika_top.specs.inner.Given.{number_in, stages_rule}
+use Rattle.front_end.specs.Given.{number_in}
+use Rattle.koika_top.specs.inner.Given.{stages_rule}
 use Rattle.koika_top.specs.Words.{gen_by}
 use Rattle.koika_top.proofs.ReadWords.{gen_app-is, gen_is_simple, stages_are_read}
 use Rattle.koika_top.proofs.given.read_stages.Goals as goal

@@ -10,5 +10,5 @@ returns-clause-record c =
     (sym (noted c.args.entries.now c.push.new.self c.args.worker c.args.made c.submit-answer.result _ _ _ _ _ _ c.in_ok-push.ensures.ok c.cycle-cycle.ensures c.rule-rule.ensures.rule
     (c.in_ok-inputs.ensures ∙ c.as_slice.ensures ∙ c.inputs.ensures.inputs) (c.in_ok-events.ensures ∙ c.as_slice-2.ensures ∙ c.events.ensures.events) c.outcome-outcome.ensures c.taken.ensures))
     (submitted c.args.worker c.args.entries.now c.args.core.now c.submit-answer.new.self c.args.made c.submit-answer.result c.requires.record
-    c.is_attempt.ensures
+    c.recall.ensures
     c.requires.is_for c.requires.in_run c.submit-answer.ensures.step c.submit-answer.ensures.opening)

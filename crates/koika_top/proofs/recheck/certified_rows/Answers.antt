@@ -30,13 +30,13 @@ returns-clause-good c = good-at _ _ _ _ c.in_ok-design.ensures c.in_ok-stimulus.
 pub returns-clause-run : goal.returns-clause-run
 returns-clause-run c =
     let it = c.args.lowered.now in
-    run-at _ _ _ _ c.in_ok-design.ensures c.in_ok-stimulus.ensures c.args.cycles c.args.journal c.recheck.result it.checked it.lowered (subst IsValid c.deref-core.ensures c.is_valid.ensures) it.stimulus_fits (subst AlwaysFits c.deref-inputs.ensures c.always_fits.ensures)
+    run-at _ _ _ _ c.in_ok-design.ensures c.in_ok-stimulus.ensures c.args.cycles c.args.journal c.recheck.result it.checked it.lowered (subst IsValid c.deref-core.ensures c.recall.ensures) it.stimulus_fits (subst AlwaysFits c.deref-inputs.ensures c.recall-2.ensures)
     c.recheck.ensures.run
 
 pub returns-clause-fit : goal.returns-clause-fit
 returns-clause-fit c =
     let it = c.args.lowered.now in
-    fit-at _ _ _ _ c.in_ok-design.ensures c.in_ok-stimulus.ensures c.args.cycles c.args.journal c.recheck.result it.checked it.lowered (subst IsValid c.deref-core.ensures c.is_valid.ensures) it.stimulus_fits (subst AlwaysFits c.deref-inputs.ensures c.always_fits.ensures)
+    fit-at _ _ _ _ c.in_ok-design.ensures c.in_ok-stimulus.ensures c.args.cycles c.args.journal c.recheck.result it.checked it.lowered (subst IsValid c.deref-core.ensures c.recall.ensures) it.stimulus_fits (subst AlwaysFits c.deref-inputs.ensures c.recall-2.ensures)
     c.recheck.ensures.run it.shape it.shape_fits
 
 pub returns-clause-fault : goal.returns-clause-fault

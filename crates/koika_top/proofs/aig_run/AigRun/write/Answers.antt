@@ -25,7 +25,7 @@ pub tell_shown-requires-clause-fit : goal.tell_shown-requires-clause-fit
 tell_shown-requires-clause-fit g c n =
     let run = c.args.self.now in
     subst (RowsFit run.shape) (sym (aig-rows run.aig c.in_ok-sim.sim (inputs_of run.stimulus) n c.in_ok-sim.ensures))
-    (subst (λ (s : Shape). RowsFit s (run_of run.aig (inputs_of run.stimulus) n)) (sym run.shape_fits) (aig-rows-fit run.aig c.has_valid_parts.ensures (inputs_of run.stimulus) n))
+    (subst (λ (s : Shape). RowsFit s (run_of run.aig (inputs_of run.stimulus) n)) (sym run.shape_fits) (aig-rows-fit run.aig c.recall.ensures (inputs_of run.stimulus) n))
 
 pub returns : goal.returns
 returns g c =

@@ -46,7 +46,7 @@ tell_machine-requires-clause-fit g c n =
     let circuit = c.args.bads.now.circuit in
     subst (RowsFit c.in_ok-shape.shape) (sym (circuit-rows circuit c.in_ok-sim.sim (inputs_of stimulus) n c.in_ok-sim.ensures))
     (subst (λ (s : Shape). RowsFit s (run_of circuit (inputs_of stimulus) n)) (sym c.in_ok-shape.ensures)
-    (rows-fit circuit stimulus c.has_valid_wires.ensures c.requires.widths c.always_fits.ensures n))
+    (rows-fit circuit stimulus c.recall.ensures c.requires.widths c.recall-2.ensures n))
 
 pub tell_machine-requires-clause-none : goal.tell_machine-requires-clause-none
 tell_machine-requires-clause-none g c =

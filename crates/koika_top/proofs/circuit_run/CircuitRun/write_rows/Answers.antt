@@ -26,7 +26,7 @@ tell_shown-requires-clause-fit g c n =
     let run = c.args.self.now in
     subst (RowsFit run.shape) (sym (circuit-rows run.circuit c.in_ok-sim.sim (inputs_of run.stimulus) n c.in_ok-sim.ensures))
     (subst (λ (s : Shape). RowsFit s (run_of run.circuit (inputs_of run.stimulus) n)) (sym run.shape_fits)
-    (rows-fit run.circuit run.stimulus c.has_valid_wires.ensures run.stimulus_fits c.always_fits.ensures n))
+    (rows-fit run.circuit run.stimulus c.recall.ensures run.stimulus_fits c.recall-2.ensures n))
 
 pub returns : goal.returns
 returns g c =

@@ -40,7 +40,7 @@ tell-requires-clause-fit g c n =
     let stimulus = arc_value it.stimulus in
     subst (RowsFit it.shape) (sym (c.requires.run n))
     (subst (λ (s : Shape). RowsFit s (run_of it.checked (inputs_of stimulus) n)) (sym it.shape_fits)
-    (typed-fit it.checked design it.lowered (subst IsValid c.deref-design.ensures c.is_valid.ensures) stimulus it.stimulus_fits (subst AlwaysFits c.deref-stimulus.ensures c.always_fits.ensures) n))
+    (typed-fit it.checked design it.lowered (subst IsValid c.deref-design.ensures c.recall.ensures) stimulus it.stimulus_fits (subst AlwaysFits c.deref-stimulus.ensures c.recall-2.ensures) n))
 
 pub tell-requires-clause-none : goal.tell-requires-clause-none
 tell-requires-clause-none g c =

@@ -27,7 +27,7 @@ write_by-requires-clause-run g c n =
     let stimulus = engine.stimulus ∙ c.deref-stimulus.ensures in
     (λ i. rows_of after_step row_at (inputs_of (stimulus i)) (beginning (first i).circuit) n)
     ∙ circuit-rows c.in_ok-circuit.circuit (beginning c.in_ok-circuit.circuit) (inputs_of (arc_value it.stimulus)) n refl
-    ∙ wired.run (arc_value it.stimulus) n (record { widths = it.stimulus_fits; fits = subst AlwaysFits c.deref-stimulus.ensures c.always_fits.ensures })
+    ∙ wired.run (arc_value it.stimulus) n (record { widths = it.stimulus_fits; fits = subst AlwaysFits c.deref-stimulus.ensures c.recall.ensures })
 
 pub returns-in_err-lines : goal.returns-in_err-lines
 returns-in_err-lines g c =

@@ -12,8 +12,8 @@ use Rattle.koika_top.proofs.JournalBatches.{left_wide, some-row, wrote, wrote_fr
 use Rattle.front_end.proofs.Told.{told-none}
 use Rattle.koika_top.proofs.journal_run.JournalRun.write_batch.Goals as goal
 
-pub last_registers-requires : goal.last_registers-requires
-last_registers-requires g c =
+pub last_regs-requires : goal.last_regs-requires
+last_regs-requires g c =
     let run = c.args.self.now in
     some-row (system_of (arc_value run.lowered.design)) (inputs_of (arc_value run.lowered.stimulus)) c.args.regs c.args.from c.args.to _ c.in_ok-made.ensures.run
 
