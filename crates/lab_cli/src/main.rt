@@ -4,20 +4,14 @@
 //! It has no definition of its own: what it answers is the contract of `lab`. Nothing calls it.
 #![tactic(auto)]
 
-use host_fn::offered::{BITS_OF_ONE, BITS_OF_TWO};
-use host_fn::{HostFn, offered};
-use kw_bits::HostKind;
-use kw_io::{Sink, Source, StdSink, StdSource};
+use host_fn::offered_functions;
+use kw_io::{NO_ARGUMENTS, Sink, Source, StdSink, StdSource};
 use lab_top::{LabStatus, lab};
 use std::alloc::Global;
 use std::env::{Env, args};
 use std::io;
 use std::io::ErrorKind;
 use std::process::ExitCode;
-
-// The exit status where the arguments can't be taken and memory isn't the cause, as where they aren't UTF-8.
-// `lab` never answers it.
-const NO_ARGUMENTS: u8 = 6;
 
 fn main(rt: HostRuntime) -> ExitCode {
     match arguments(&rt) {
@@ -42,16 +36,7 @@ fn lab_with_hosts<S: Source, K: Sink>(
     source: &mut S,
     sink: &mut K,
 ) -> LabStatus {
-    let hosts = [
-        HostFn::new(HostKind::Popcount, BITS_OF_ONE, offered::popcount).unwrap(),
-        HostFn::new(HostKind::Parity, BITS_OF_ONE, offered::parity).unwrap(),
-        HostFn::new(HostKind::Reverse, BITS_OF_ONE, offered::reverse).unwrap(),
-        HostFn::new(HostKind::LeadingZeros, BITS_OF_ONE, offered::leading_zeros).unwrap(),
-        HostFn::new(HostKind::Gray, BITS_OF_ONE, offered::gray).unwrap(),
-        HostFn::new_two(HostKind::Hamming, BITS_OF_TWO, offered::hamming).unwrap(),
-        HostFn::new_two(HostKind::Morton, BITS_OF_TWO, offered::morton).unwrap(),
-        HostFn::new_two(HostKind::SatAdd, BITS_OF_TWO, offered::sat_add).unwrap(),
-    ];
+    let hosts = offered_functions!();
     lab(alloc, words, &hosts, source, sink)
 }
 

@@ -22,7 +22,7 @@ use crate::watched::run_watching;
 use host_fn::offered::BITS_OF_ONE;
 use host_fn::{HostFn, offered};
 use kw_bits::{HostKind, NoMemory};
-use kw_io::{MemSink, MemSource};
+use kw_io::{MemSink, MemSource, print_ended};
 use lab_top::lab;
 use std::alloc::Global;
 use std::io;
@@ -103,7 +103,12 @@ fn run_failing(rt: &HostRuntime, words: &str, source: &[u8]) -> io::Result<()> {
     for call in 1..u64::MAX {
         let ended = run(alloc, words, source, &[call], &[])?;
         print!(rt; "read {call}: ")?;
-        write_ended(rt, &ended, whole.written.as_slice())?;
+        print_ended(
+            rt,
+            ended.status,
+            ended.written.as_slice(),
+            whole.written.as_slice(),
+        )?;
         if ended.status == whole.status {
             break;
         }
@@ -111,27 +116,17 @@ fn run_failing(rt: &HostRuntime, words: &str, source: &[u8]) -> io::Result<()> {
     for call in 1..u64::MAX {
         let ended = run(alloc, words, source, &[], &[call])?;
         print!(rt; "write {call}: ")?;
-        write_ended(rt, &ended, whole.written.as_slice())?;
+        print_ended(
+            rt,
+            ended.status,
+            ended.written.as_slice(),
+            whole.written.as_slice(),
+        )?;
         if ended.status == whole.status {
             break;
         }
     }
     Ok(())
-}
-
-// Writes the status of a run, and how many bytes of a whole answer it wrote.
-fn write_ended(rt: &HostRuntime, ended: &Ended, whole: &[u8]) -> io::Result<()> {
-    let status = ended.status;
-    let written = ended.written.as_slice();
-    if whole.starts_with(written) {
-        println!(rt;
-            "status {status}, {} of {} bytes",
-            written.len(),
-            whole.len()
-        )
-    } else {
-        println!(rt; "status {status}, other bytes")
-    }
 }
 
 // Runs the lab over memory, where these calls of the source and of the sink fail.

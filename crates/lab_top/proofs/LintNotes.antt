@@ -34,6 +34,7 @@ use Rattle.lint_text.specs.Never.{AreNeverOne}
 use Rattle.lint_text.specs.Notes.{notes}
 use Rattle.lint_text.specs.declared.note.Note.{Note}
 use Rattle.lint_text.proofs.Noted.{clash-noted, own-noted, refused-noted, untried-noted}
+use Rattle.lint_text.proofs.Marked.{or-true}
 use Rattle.lab_top.specs.Lint.{AreComplete, ClashesAreNoted, IsTrialIn, OthersAreWatched, OwnsAreNoted}
 use Rattle.lab_top.specs.Runs.{trials_in}
 use Rattle.lab_top.specs.inner.Lint.{NeverFire}
@@ -70,10 +71,6 @@ of-made d p rule register a has = found (slice_get d.rules rule) refl
     found None none =
         let empty : Contains (filter p []) a = subst (λ (accesses : List Access). Contains (filter p accesses) a) (made-none d rule register none) has in
         absurd (omega (arith, empty.1))
-
-or-true : (b : Bool) → (b || true) ≡ true
-or-true true = refl
-or-true false = refl
 
 -- a rule that a node tries is scheduled
 tried-scheduled : (nodes : List Node) (rule number : ℕ) (node : Node) → slice_get nodes number ≡ Some node → node.rule ≡ rule → is_scheduled nodes rule ≡ true

@@ -10,7 +10,8 @@ use Rattle.one_rule.specs.Stimulus.{InputVectors, inputs_of}
 use Rattle.front_end.specs.Lengths.{HasNoRun, is_too_long_for}
 use Rattle.front_end.specs.Sources.{IsTooLong, IsUnspelled, Spells}
 use Rattle.front_end.specs.declared.answer.Answer.TheVariants as plain_answers
-use Rattle.front_end.proofs.OneSource.{long_or_no_run, long_or_spelled, long_or_unspelled, no_run-same, run_or_long, same_design, same_stimulus, spelled_or_not, unspelled-same}
+use Rattle.front_end.proofs.Either.{IsOne}
+use Rattle.front_end.proofs.OneSource.{long_or_spelled, no_run-same, no_run-short, run_or_long, same_design, same_stimulus, spelled_or_not, too_long-same, unspelled-same, unspelled-short}
 use Rattle.lab_certify.specs.Claims.{last_part}
 use Rattle.lab_certify.proofs.OneClaim.{certified-same, no_claim-same, obligation_or_not, obligations-same, refuted_or_not, uncertified-same}
 use Rattle.lab_top.specs.Answer.{Answers, IsLikeAnswer, answered, has_one_text, plain}
@@ -39,11 +40,9 @@ module _ (hosts : List HostSpec) (source : List ℕ) where
     abbrev IsRefused : Fault → Type 0
     IsRefused f = IsTooLong source f ⊎ HasNoRun hosts cycles source f
 
-    refused-same : (f g : Fault) → IsRefused f → IsRefused g → f ≡ g
-    refused-same f g (inl a) (inl b) = a.0 ∙ sym b.0
-    refused-same f g (inl a) (inr b) = absurd (long_or_no_run hosts source cycles f g a b)
-    refused-same f g (inr a) (inl b) = absurd (long_or_no_run hosts source cycles g f b a)
-    refused-same f g (inr a) (inr b) = no_run-same hosts source cycles f g a b
+    refused-same : IsOne IsRefused
+    refused-same =
+        too_long-same source (HasNoRun hosts cycles source) (no_run-same hosts source cycles) (no_run-short hosts source cycles)
 
     -- no source both has a run of that many cycles and is refused
     refused_or_run : (f : Fault) (d : Checked) (s : InputVectors) → IsRefused f → Spells hosts source d s → is_too_long_for cycles d ≡ false → ⊥
@@ -141,11 +140,8 @@ module _ (hosts : List HostSpec) (source : List ℕ) where
   abbrev IsUntold : Fault → Type 0
   IsUntold f = IsTooLong source f ⊎ IsUnspelled hosts source f
 
-  untold-same : (f g : Fault) → IsUntold f → IsUntold g → f ≡ g
-  untold-same f g (inl a) (inl b) = a.0 ∙ sym b.0
-  untold-same f g (inl a) (inr b) = absurd (long_or_unspelled hosts source f g a b)
-  untold-same f g (inr a) (inl b) = absurd (long_or_unspelled hosts source g f b a)
-  untold-same f g (inr a) (inr b) = unspelled-same hosts source f g a b
+  untold-same : IsOne IsUntold
+  untold-same = too_long-same source (IsUnspelled hosts source) (unspelled-same hosts source) (unspelled-short hosts source)
 
   -- no source both spells a design and a stimulus and is refused
   pub spelled_or_untold : (f : Fault) (d : Checked) (s : InputVectors) → IsUntold f → Spells hosts source d s → ⊥

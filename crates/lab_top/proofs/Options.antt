@@ -2,101 +2,67 @@
 use Rattle.std.proofs.Common.{◌≡◌, ℕ, ◌+◌, ◌<◌, ◌≤◌, Bool, true, false, List, [], ◌∷◌, length, Option, Some, None, refl, arith, take, drop}
 use Rattle.std.specs.Prelude.{codes, if◌then◌else◌}
 use Rattle.std.specs.Str.{bytes_eq}
+use Rattle.front_end.specs.GivenOnce.{asked_flag, given_once}
+use Rattle.front_end.proofs.GivenFew.{Takes, either-takes, fewer, flag_few, flag_words, once-takes, value_few, value_words}
 use Rattle.front_end.specs.NumberWords.{number_of_word}
-use Rattle.lab_top.specs.Words.{asked_flag, given_once, name_of, no_options, options_of, with_cycle, with_cycles, with_rule, with_strict, with_word}
+use Rattle.lab_top.specs.Words.{name_of, no_options, options_of, with_cycle, with_cycles, with_rule, with_strict, with_word}
 use Rattle.lab_top.specs.declared.words.Options.{Options}
-
--- how many words options take at the most
-abbrev value_words : {X : Type 0} → Option X → ℕ
-value_words None = 0
-value_words (Some x) = 2
-
-abbrev flag_words : Bool → ℕ
-flag_words false = 0
-flag_words true = 1
 
 abbrev pub words_of : Options → ℕ
 words_of o = value_words o.cycle + value_words o.cycles + value_words o.rule + flag_words o.is_strict
 
-value_few : {X : Type 0} (o : Option X) → value_words o ≤ 2
-value_few None = omega arith
-value_few (Some x) = omega arith
-
-flag_few : (b : Bool) → flag_words b ≤ 1
-flag_few false = omega arith
-flag_few true = omega arith
-
--- options that may be there take so many words, or more
-abbrev pub Takes : ℕ → Option Options → Type 0
-Takes n None = Unit {0}
-Takes n (Some o) = n ≤ words_of o
-
--- a value that is given once is one more
-once-takes : {X : Type 0} (earlier : Option X) (put : X → Options) (value : Option X) (n : ℕ) → ((v : X) → earlier ≡ None → n ≤ words_of (put v)) → Takes n (given_once earlier put value)
-once-takes None put None n f = tt
-once-takes None put (Some v) n f = f v refl
-once-takes (Some x) put value n f = tt
-
-with_cycle-takes : (word : List ℕ) (others : Option Options) (m : ℕ) → Takes m others → Takes (m + 2) (with_cycle word others)
+with_cycle-takes : (word : List ℕ) (others : Option Options) (m : ℕ) → Takes words_of m others → Takes words_of (m + 2) (with_cycle word others)
 with_cycle-takes word None m h = tt
 with_cycle-takes word (Some o) m h =
-    once-takes o.cycle _ (number_of_word word) (m + 2) (λ n none. let few : m ≤ 0 + value_words o.cycles + value_words o.rule + flag_words o.is_strict = rw none at h in omega (arith, few))
+    once-takes words_of o.cycle _ (number_of_word word) (m + 2) (λ n none. let few : m ≤ 0 + value_words o.cycles + value_words o.rule + flag_words o.is_strict = rw none at h in omega (arith, few))
 
-with_cycles-takes : (word : List ℕ) (others : Option Options) (m : ℕ) → Takes m others → Takes (m + 2) (with_cycles word others)
+with_cycles-takes : (word : List ℕ) (others : Option Options) (m : ℕ) → Takes words_of m others → Takes words_of (m + 2) (with_cycles word others)
 with_cycles-takes word None m h = tt
 with_cycles-takes word (Some o) m h =
-    once-takes o.cycles _ (number_of_word word) (m + 2) (λ n none. let few : m ≤ value_words o.cycle + 0 + value_words o.rule + flag_words o.is_strict = rw none at h in omega (arith, few))
+    once-takes words_of o.cycles _ (number_of_word word) (m + 2) (λ n none. let few : m ≤ value_words o.cycle + 0 + value_words o.rule + flag_words o.is_strict = rw none at h in omega (arith, few))
 
-with_rule-takes : (word : List ℕ) (others : Option Options) (m : ℕ) → Takes m others → Takes (m + 2) (with_rule word others)
+with_rule-takes : (word : List ℕ) (others : Option Options) (m : ℕ) → Takes words_of m others → Takes words_of (m + 2) (with_rule word others)
 with_rule-takes word None m h = tt
 with_rule-takes word (Some o) m h =
-    once-takes o.rule _ (name_of word) (m + 2) (λ n none. let few : m ≤ value_words o.cycle + value_words o.cycles + 0 + flag_words o.is_strict = rw none at h in omega (arith, few))
+    once-takes words_of o.rule _ (name_of word) (m + 2) (λ n none. let few : m ≤ value_words o.cycle + value_words o.cycles + 0 + flag_words o.is_strict = rw none at h in omega (arith, few))
 
-with_strict-takes : (others : Option Options) (m : ℕ) → Takes m others → Takes (m + 1) (with_strict others)
+with_strict-takes : (others : Option Options) (m : ℕ) → Takes words_of m others → Takes words_of (m + 1) (with_strict others)
 with_strict-takes None m h = tt
 with_strict-takes (Some o) m h = of o.is_strict refl
   where
-    of : (b : Bool) → o.is_strict ≡ b → Takes (m + 1) (given_once (asked_flag b) (λ strict. record o { is_strict = strict }) (Some true))
+    of : (b : Bool) → o.is_strict ≡ b → Takes words_of (m + 1) (given_once (asked_flag b) (λ strict. record o { is_strict = strict }) (Some true))
     of false is = let few : m ≤ value_words o.cycle + value_words o.cycles + value_words o.rule + 0 = rw is at h in omega (arith, few)
     of true is = tt
 
-fewer : (others : Option Options) (m n : ℕ) → n ≤ m → Takes m others → Takes n others
-fewer None m n h t = tt
-fewer (Some o) m n h t = omega (arith, h, t)
-
-either-takes : (b : Bool) (x y : Option Options) (m : ℕ) → Takes m x → Takes m y → Takes m (if b then x else y)
-either-takes true x y m h k = h
-either-takes false x y m h k = k
-
-with_word-takes : (word : List ℕ) (others : Option Options) (m : ℕ) → Takes m others → Takes (m + 1) (with_word word others)
+with_word-takes : (word : List ℕ) (others : Option Options) (m : ℕ) → Takes words_of m others → Takes words_of (m + 1) (with_word word others)
 with_word-takes word others m h =
     let one : m + 1 ≤ m + 2 = omega arith in
-    either-takes (bytes_eq word (codes "--strict")) _ _ (m + 1)
+    either-takes words_of (bytes_eq word (codes "--strict")) _ _ (m + 1)
     (with_strict-takes others m h)
-    (either-takes (bytes_eq (take 8 word) (codes "--cycle=")) _ _ (m + 1)
-    (fewer (with_cycle (drop 8 word) others) (m + 2) (m + 1) one (with_cycle-takes (drop 8 word) others m h))
-    (either-takes (bytes_eq (take 9 word) (codes "--cycles=")) _ _ (m + 1)
-    (fewer (with_cycles (drop 9 word) others) (m + 2) (m + 1) one (with_cycles-takes (drop 9 word) others m h))
-    (either-takes (bytes_eq (take 7 word) (codes "--rule=")) _ None (m + 1)
-    (fewer (with_rule (drop 7 word) others) (m + 2) (m + 1) one (with_rule-takes (drop 7 word) others m h))
+    (either-takes words_of (bytes_eq (take 8 word) (codes "--cycle=")) _ _ (m + 1)
+    (fewer words_of (with_cycle (drop 8 word) others) (m + 2) (m + 1) one (with_cycle-takes (drop 8 word) others m h))
+    (either-takes words_of (bytes_eq (take 9 word) (codes "--cycles=")) _ _ (m + 1)
+    (fewer words_of (with_cycles (drop 9 word) others) (m + 2) (m + 1) one (with_cycles-takes (drop 9 word) others m h))
+    (either-takes words_of (bytes_eq (take 7 word) (codes "--rule=")) _ None (m + 1)
+    (fewer words_of (with_rule (drop 7 word) others) (m + 2) (m + 1) one (with_rule-takes (drop 7 word) others m h))
     tt)))
 
 -- options take as many words as they are given by
-pub options-take : (words : List (List ℕ)) → Takes (length words) (options_of words)
+pub options-take : (words : List (List ℕ)) → Takes words_of (length words) (options_of words)
 options-take [] = omega arith
 options-take (word ∷ []) = with_word-takes word (Some no_options) 0 (omega arith)
 options-take (word ∷ value ∷ rest) =
-    fewer (options_of (word ∷ value ∷ rest)) (length rest + 2) (length (word ∷ value ∷ rest)) (omega arith)
-    (either-takes (bytes_eq word (codes "--cycle")) (with_cycle value (options_of rest)) _ (length rest + 2)
+    fewer words_of (options_of (word ∷ value ∷ rest)) (length rest + 2) (length (word ∷ value ∷ rest)) (omega arith)
+    (either-takes words_of (bytes_eq word (codes "--cycle")) (with_cycle value (options_of rest)) _ (length rest + 2)
     (with_cycle-takes value (options_of rest) (length rest) (options-take rest))
-    (either-takes (bytes_eq word (codes "--cycles")) (with_cycles value (options_of rest)) _ (length rest + 2)
+    (either-takes words_of (bytes_eq word (codes "--cycles")) (with_cycles value (options_of rest)) _ (length rest + 2)
     (with_cycles-takes value (options_of rest) (length rest) (options-take rest))
-    (either-takes (bytes_eq word (codes "--rule")) (with_rule value (options_of rest)) _ (length rest + 2)
+    (either-takes words_of (bytes_eq word (codes "--rule")) (with_rule value (options_of rest)) _ (length rest + 2)
     (with_rule-takes value (options_of rest) (length rest) (options-take rest))
-    (fewer (with_word word (options_of (value ∷ rest))) (length (value ∷ rest) + 1) (length rest + 2) (omega arith)
+    (fewer words_of (with_word word (options_of (value ∷ rest))) (length (value ∷ rest) + 1) (length rest + 2) (omega arith)
     (with_word-takes word (options_of (value ∷ rest)) (length (value ∷ rest)) (options-take (value ∷ rest)))))))
 
-too_many : (options : Option Options) (n : ℕ) → 7 < n → Takes n options → options ≡ None
+too_many : (options : Option Options) (n : ℕ) → 7 < n → Takes words_of n options → options ≡ None
 too_many None n h t = refl
 too_many (Some o) n h t = absurd (omega (arith, h, t, value_few o.cycle, value_few o.cycles, value_few o.rule, flag_few o.is_strict))
 

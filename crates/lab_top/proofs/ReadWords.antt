@@ -19,13 +19,14 @@ use Rattle.clap.specs.declared.parser.matches.ValueSource.TheVariants.{CommandLi
 use Rattle.clap.specs.declared.builder.value_parser.Reading.{Reading}
 use Rattle.clap.specs.Takes.{settle_passes, takes, turn_passes, walk_passes}
 use Rattle.clap.proofs.OnLiterals.{clap_on_literals}
+use Rattle.front_end.specs.Given.{bare, flag_text}
+use Rattle.front_end.specs.GivenOnce.{asked_flag, given_once}
+use Rattle.front_end.proofs.GivenValues.{IsPlain, both-true, first_as, flag-none, none-there, number-plain, once-is, some_is}
+use Rattle.front_end.proofs.FoundRows.{Known, found-other, found-own, has-found, none-used, or-none, row_for, row_of_id, used_by, with_given, with_row-is}
 use Rattle.front_end.specs.NumberWords.{number_of_word, value_of}
-use Rattle.lab_top.specs.Words.{asked_flag, given_once, name_of, no_options, options_of, with_cycle, with_cycles, with_rule as with_named, with_strict, with_word}
-use Rattle.lab_top.specs.inner.Given.{Give, bare, cycle_rule, cycles_rule, flag_text, name_rule, options_app, strict_rule}
+use Rattle.lab_top.specs.Words.{name_of, no_options, options_of, with_cycle, with_cycles, with_rule as with_named, with_strict, with_word}
+use Rattle.lab_top.specs.inner.Given.{Give, cycle_rule, cycles_rule, name_rule, options_app, strict_rule}
 use Rattle.lab_top.specs.declared.words.Options.{Options}
-
-some_is : {X : Type 0} (x y : X) → Some x ≡ Some y → x ≡ y
-some_is x y e = ap (λ o. unwrap_or o x) e
 
 -- ---- words, as options one after another
 
@@ -118,12 +119,6 @@ Gives (next key v ∷ steps) o = (rest : Options) × Gives steps rest × Puts ke
 Gives (equals key v ∷ steps) o = (rest : Options) × Gives steps rest × Puts key v rest o
 Gives (alone f ∷ steps) o = (rest : Options) × Gives steps rest × Sets f rest o
 
--- a value that was given once
-once-is : {X : Type 0} (earlier : Option X) (put : X → Options) (value : Option X) (o : Options) → given_once earlier put value ≡ Some o → (v : X) × (earlier ≡ None) × (value ≡ Some v) × (put v ≡ o)
-once-is None put None o e = absurd (none-some o e)
-once-is None put (Some v) o e = (v, refl, refl, some_is _ o e)
-once-is (Some x) put value o e = absurd (none-some o e)
-
 -- options with one more, if they are valid
 abbrev with_key : Key → Text → Option Options → Option Options
 with_key of_cycle v others = with_cycle v others
@@ -155,10 +150,6 @@ with_key-is of_name v (Some rest) o e =
       refl,
       record { name = found.0; named = found.2; fresh = found.1; cycle = ap (λ (p : Options). p.cycle) put; cycles = ap (λ (p : Options). p.cycles) put; rule = ap (λ (p : Options). p.rule) put; strict = ap (λ (p : Options). p.is_strict) put },
     )
-
-flag-none : (b : Bool) → asked_flag b ≡ None → b ≡ false
-flag-none false e = refl
-flag-none true e = absurd (none-some true (sym e))
 
 with_strict-is : (others : Option Options) (o : Options) → with_strict others ≡ Some o → (rest : Options) × (others ≡ Some rest) × IsStrict rest o
 with_strict-is None o e = absurd (none-some o e)
@@ -239,31 +230,6 @@ steps_of (word ∷ value ∷ words) o e = with_first-is word value words o (λ r
 
 -- ---- values begin with no hyphen
 
-no_dash : (a b c : Bool) (value n : ℕ) → (if (a && b && false) && c then Some value else None) ≡ Some n → ⊥
-no_dash true true c value n e = none-some n e
-no_dash true false c value n e = none-some n e
-no_dash false b c value n e = none-some n e
-
-dash-first : (d : ℕ) (ds : Text) (n : ℕ) → number_of_word (d ∷ ds) ≡ Some n → (d == 45) ≡ false
-dash-first d ds n e = go (d == 45) refl
-  where
-    go : (b : Bool) → (d == 45) ≡ b → b ≡ false
-    go false is = refl
-    go true is = absurd (no_dash (nat_le 1 (length (45 ∷ ds))) (nat_le (length (45 ∷ ds)) 10) (nat_le (value_of (45 ∷ ds)) 4294967295) (value_of (45 ∷ ds)) n (subst (λ x. number_of_word (x ∷ ds) ≡ Some n) (eqb-true d 45 is) e))
-
-no_number : (n : ℕ) → number_of_word [] ≡ Some n → ⊥
-no_number n e = none-some n e
-
-record IsPlain (v : Text) : Type 0 where
-  d : ℕ
-  ds : Text
-  is : v ≡ d ∷ ds
-  dash : (d == 45) ≡ false
-
-number-plain : (v : Text) (n : ℕ) → number_of_word v ≡ Some n → IsPlain v
-number-plain [] n e = absurd (no_number n e)
-number-plain (d ∷ ds) n e = record { d = d; ds = ds; is = refl; dash = dash-first d ds n e }
-
 -- a name begins with no hyphen
 no_hyphen : (b c : Bool) (word name : Text) → (if (false && b) && c then Some word else None) ≡ Some name → ⊥
 no_hyphen b c word name e = none-some name e
@@ -303,106 +269,27 @@ reading_of_slot (of_value of_cycles) = reading_by (filled cycles_rule)
 reading_of_slot (of_value of_name) = reading_by (filled name_rule)
 reading_of_slot (of_flag of_strict) = reading_by (filled strict_rule)
 
-abbrev row_for : Slot → List Text → Row
-row_for slot values = record { id = id_of slot; values = values; count = None; source = Some CommandLine; reading = reading_of_slot slot }
-
-or-none : {X : Type 0} (found : Option X) → option_or found None ≡ found
-or-none None = refl
-or-none (Some x) = refl
-
-abbrev row_of_id : Text → List Row → Option Row
-row_of_id id rows = find (λ (r : Row). bytes_eq r.id id) rows
-
--- a row more, where there is none of its id
-module _ (id : Text) where
-  row-behind : (change : Row → List Row) (missing rows : List Row) → row_of_id id rows ≡ None → at_row id change missing rows ≡ rows ++ missing
-  row-behind change missing [] none = refl
-  row-behind change missing (r ∷ rows) none = go (bytes_eq r.id id) refl none (λ none. row-behind change missing rows none)
-    where
-      go : (b : Bool) → bytes_eq r.id id ≡ b → cond b (Some r) (row_of_id id rows) ≡ None → (row_of_id id rows ≡ None → at_row id change missing rows ≡ rows ++ missing)
-          → at_row id change missing (r ∷ rows) ≡ (r ∷ rows) ++ missing
-      go true is none later = absurd (none-some r (sym none))
-      go false is none later = rw is (ap (λ rest. r ∷ rest) (later none))
-
-  has-found : (rows : List Row) → has_row id rows ≡ is_some (row_of_id id rows)
-  has-found [] = refl
-  has-found (r ∷ rows) = go (bytes_eq r.id id) refl (has-found rows)
-    where
-      go : (b : Bool) → bytes_eq r.id id ≡ b → has_row id rows ≡ is_some (row_of_id id rows) → has_row id (r ∷ rows) ≡ is_some (row_of_id id (r ∷ rows))
-      go true is later = rw is refl
-      go false is later = rw is later
-
-  with_row-is : (how : Reading) (source : ValueSource) (values : List Text) (rows : List Row) → row_of_id id rows ≡ None
-      → with_values id how source values rows ≡ rows ++ (record { id = id; values = values; count = None; source = Some source; reading = how } ∷ [])
-  with_row-is how source values rows none = row-behind (more_values source values) _ rows none
-
-  without-none : (rows : List Row) → row_of_id id rows ≡ None → without id rows ≡ rows
-  without-none rows none = row-behind (λ r. []) [] rows none ∙ append-nil rows
-
--- what is known of rows: the values of each option
-abbrev Known : List Row → (Slot → Option (List Text)) → Type 0
-Known rows values = (slot : Slot) → row_of_id (id_of slot) rows ≡ option_map (row_for slot) (values slot)
-
-abbrev put : Slot → List Text → (Slot → Option (List Text)) → Slot → Option (List Text)
-put slot given values other = if bytes_eq (id_of slot) (id_of other) then Some given else values other
-
-abbrev used_by : Slot → List Text → List Row → List Row
-used_by slot given rows = with_values (id_of slot) (reading_of_slot slot) CommandLine given (without (id_of slot) rows)
-
-module _ (rows : List Row) (values : Slot → Option (List Text)) (known : Known rows values) (slot : Slot) (given : List Text) (fresh : values slot ≡ None) where
-  no-row : row_of_id (id_of slot) rows ≡ None
-  no-row = known slot ∙ ap (option_map (row_for slot)) fresh
-
-  used-is : used_by slot given rows ≡ rows ++ (row_for slot given ∷ [])
-  used-is =
-      ap (with_values (id_of slot) (reading_of_slot slot) CommandLine given) (without-none (id_of slot) rows no-row)
-      ∙ with_row-is (id_of slot) (reading_of_slot slot) CommandLine given rows no-row
-
-  found-behind : (other : Slot) → row_of_id (id_of other) (used_by slot given rows) ≡ option_or (option_map (row_for other) (values other)) (cond (bytes_eq (id_of slot) (id_of other)) (Some (row_for slot given)) None)
-  found-behind other =
-      ap (row_of_id (id_of other)) used-is
-      ∙ find-append (λ (r : Row). bytes_eq r.id (id_of other)) rows (row_for slot given ∷ [])
-      ∙ ap (λ found. option_or found (cond (bytes_eq (id_of slot) (id_of other)) (Some (row_for slot given)) None)) (known other)
-
-module _ (rows : List Row) (values : Slot → Option (List Text)) (known : Known rows values) where
-  found-own : (slot : Slot) (given : List Text) → values slot ≡ None → bytes_eq (id_of slot) (id_of slot) ≡ true → row_of_id (id_of slot) (used_by slot given rows) ≡ Some (row_for slot given)
-  found-own slot given fresh same =
-      found-behind rows values known slot given fresh slot
-      ∙ ap₂ (λ found b. option_or (option_map (row_for slot) found) (cond b (Some (row_for slot given)) None)) fresh same
-
-  found-other : (slot other : Slot) (given : List Text) → values slot ≡ None → bytes_eq (id_of slot) (id_of other) ≡ false → row_of_id (id_of other) (used_by slot given rows) ≡ option_map (row_for other) (values other)
-  found-other slot other given fresh differ =
-      found-behind rows values known slot given fresh other
-      ∙ ap (λ b. option_or (option_map (row_for other) (values other)) (cond b (Some (row_for slot given)) None)) differ
-      ∙ or-none (option_map (row_for other) (values other))
-
+module _ (rows : List Row) (values : Slot → Option (List Text)) (known : Known id_of reading_of_slot rows values) where
   -- rows with one more
-  known-used : (slot : Slot) (given : List Text) → values slot ≡ None → Known (used_by slot given rows) (put slot given values)
-  known-used (of_value of_cycle) given fresh (of_value of_cycle) = found-own (of_value of_cycle) given fresh refl
-  known-used (of_value of_cycle) given fresh (of_value of_cycles) = found-other (of_value of_cycle) (of_value of_cycles) given fresh refl
-  known-used (of_value of_cycle) given fresh (of_value of_name) = found-other (of_value of_cycle) (of_value of_name) given fresh refl
-  known-used (of_value of_cycle) given fresh (of_flag of_strict) = found-other (of_value of_cycle) (of_flag of_strict) given fresh refl
-  known-used (of_value of_cycles) given fresh (of_value of_cycle) = found-other (of_value of_cycles) (of_value of_cycle) given fresh refl
-  known-used (of_value of_cycles) given fresh (of_value of_cycles) = found-own (of_value of_cycles) given fresh refl
-  known-used (of_value of_cycles) given fresh (of_value of_name) = found-other (of_value of_cycles) (of_value of_name) given fresh refl
-  known-used (of_value of_cycles) given fresh (of_flag of_strict) = found-other (of_value of_cycles) (of_flag of_strict) given fresh refl
-  known-used (of_value of_name) given fresh (of_value of_cycle) = found-other (of_value of_name) (of_value of_cycle) given fresh refl
-  known-used (of_value of_name) given fresh (of_value of_cycles) = found-other (of_value of_name) (of_value of_cycles) given fresh refl
-  known-used (of_value of_name) given fresh (of_value of_name) = found-own (of_value of_name) given fresh refl
-  known-used (of_value of_name) given fresh (of_flag of_strict) = found-other (of_value of_name) (of_flag of_strict) given fresh refl
-  known-used (of_flag of_strict) given fresh (of_value of_cycle) = found-other (of_flag of_strict) (of_value of_cycle) given fresh refl
-  known-used (of_flag of_strict) given fresh (of_value of_cycles) = found-other (of_flag of_strict) (of_value of_cycles) given fresh refl
-  known-used (of_flag of_strict) given fresh (of_value of_name) = found-other (of_flag of_strict) (of_value of_name) given fresh refl
-  known-used (of_flag of_strict) given fresh (of_flag of_strict) = found-own (of_flag of_strict) given fresh refl
-
-  none-used : (slot : Slot) → values slot ≡ None → has_row (id_of slot) rows ≡ false
-  none-used slot fresh = has-found (id_of slot) rows ∙ ap is_some (known slot) ∙ ap (λ found. is_some (option_map (row_for slot) found)) fresh
+  known-used : (slot : Slot) (given : List Text) → values slot ≡ None → Known id_of reading_of_slot (used_by id_of reading_of_slot slot given rows) (with_given id_of reading_of_slot slot given values)
+  known-used (of_value of_cycle) given fresh (of_value of_cycle) = found-own id_of reading_of_slot rows values known (of_value of_cycle) given fresh refl
+  known-used (of_value of_cycle) given fresh (of_value of_cycles) = found-other id_of reading_of_slot rows values known (of_value of_cycle) (of_value of_cycles) given fresh refl
+  known-used (of_value of_cycle) given fresh (of_value of_name) = found-other id_of reading_of_slot rows values known (of_value of_cycle) (of_value of_name) given fresh refl
+  known-used (of_value of_cycle) given fresh (of_flag of_strict) = found-other id_of reading_of_slot rows values known (of_value of_cycle) (of_flag of_strict) given fresh refl
+  known-used (of_value of_cycles) given fresh (of_value of_cycle) = found-other id_of reading_of_slot rows values known (of_value of_cycles) (of_value of_cycle) given fresh refl
+  known-used (of_value of_cycles) given fresh (of_value of_cycles) = found-own id_of reading_of_slot rows values known (of_value of_cycles) given fresh refl
+  known-used (of_value of_cycles) given fresh (of_value of_name) = found-other id_of reading_of_slot rows values known (of_value of_cycles) (of_value of_name) given fresh refl
+  known-used (of_value of_cycles) given fresh (of_flag of_strict) = found-other id_of reading_of_slot rows values known (of_value of_cycles) (of_flag of_strict) given fresh refl
+  known-used (of_value of_name) given fresh (of_value of_cycle) = found-other id_of reading_of_slot rows values known (of_value of_name) (of_value of_cycle) given fresh refl
+  known-used (of_value of_name) given fresh (of_value of_cycles) = found-other id_of reading_of_slot rows values known (of_value of_name) (of_value of_cycles) given fresh refl
+  known-used (of_value of_name) given fresh (of_value of_name) = found-own id_of reading_of_slot rows values known (of_value of_name) given fresh refl
+  known-used (of_value of_name) given fresh (of_flag of_strict) = found-other id_of reading_of_slot rows values known (of_value of_name) (of_flag of_strict) given fresh refl
+  known-used (of_flag of_strict) given fresh (of_value of_cycle) = found-other id_of reading_of_slot rows values known (of_flag of_strict) (of_value of_cycle) given fresh refl
+  known-used (of_flag of_strict) given fresh (of_value of_cycles) = found-other id_of reading_of_slot rows values known (of_flag of_strict) (of_value of_cycles) given fresh refl
+  known-used (of_flag of_strict) given fresh (of_value of_name) = found-other id_of reading_of_slot rows values known (of_flag of_strict) (of_value of_name) given fresh refl
+  known-used (of_flag of_strict) given fresh (of_flag of_strict) = found-own id_of reading_of_slot rows values known (of_flag of_strict) given fresh refl
 
 -- ---- the reader goes on by an option
-
-both-true : (a b : Bool) → (a && b) ≡ true → (a ≡ true) × (b ≡ true)
-both-true true b e = (refl, e)
-both-true false b e = absurd (true≢false (sym e))
 
 abbrev run_shape : Text → Shape
 run_shape name = (built (options_app name)).top
@@ -423,7 +310,7 @@ record Stands (values : Slot → Option (List Text)) (w : Walk) : Type 0 where
   pending : Option (Text × List Text)
   is : w ≡ between rows pending
   passes : settle_passes run_rules false (held_with rows pending) ≡ true
-  known : Known (settled_rows run_rules pending rows) values
+  known : Known id_of reading_of_slot (settled_rows run_rules pending rows) values
 
 -- the words pass, and behind them the reader stands so
 record Reads (name : Text) (values : Slot → Option (List Text)) (w : Walk) (words : List Text) : Type 0 where
@@ -435,7 +322,7 @@ module _ (name : Text) (rows : List Row) (pending : Option (Text × List Text)) 
   so_far = settled_rows run_rules pending rows
 
   module _ (v : Text) where
-    equals_walked : (key : Key) → walked run_rules [] (between rows pending) (front_word key ++ v) ≡ between (used_by (of_value key) (v ∷ []) so_far) None
+    equals_walked : (key : Key) → walked run_rules [] (between rows pending) (front_word key ++ v) ≡ between (used_by id_of reading_of_slot (of_value key) (v ∷ []) so_far) None
     unfolding clap_on_literals
     equals_walked of_cycle = refl
     equals_walked of_cycles = refl
@@ -447,7 +334,7 @@ module _ (name : Text) (rows : List Row) (pending : Option (Text × List Text)) 
     equals_passes of_cycles none = simp (settles, none)
     equals_passes of_name none = simp (settles, none)
 
-  flag_walked : (f : Flag) → walked run_rules [] (between rows pending) (own_word f) ≡ between (used_by (of_flag f) (codes "true" ∷ []) so_far) None
+  flag_walked : (f : Flag) → walked run_rules [] (between rows pending) (own_word f) ≡ between (used_by id_of reading_of_slot (of_flag f) (codes "true" ∷ []) so_far) None
   unfolding clap_on_literals
   flag_walked of_strict = refl
 
@@ -474,7 +361,7 @@ module _ (name : Text) (rows : List Row) (pending : Option (Text × List Text)) 
   next_settles of_cycles v none = simp none
   next_settles of_name v none = simp none
 
-  next_used : (key : Key) (v : Text) → settled_rows run_rules (Some (id_of (of_value key), v ∷ [])) so_far ≡ used_by (of_value key) (v ∷ []) so_far
+  next_used : (key : Key) (v : Text) → settled_rows run_rules (Some (id_of (of_value key), v ∷ [])) so_far ≡ used_by id_of reading_of_slot (of_value key) (v ∷ []) so_far
   next_used of_cycle v = refl
   next_used of_cycles v = refl
   next_used of_name v = refl
@@ -492,39 +379,39 @@ module _ (name : Text) (values : Slot → Option (List Text)) where
   -- the words of an option, from where the reader stands
   module _ (steps : List Step) (w : Walk) (stands : Stands values w) where
     equals-read : (key : Key) (v : Text) (others : Slot → Option (List Text)) → values (of_value key) ≡ None
-        → ((after : Walk) → Stands (put (of_value key) (v ∷ []) values) after → Reads name others after (words_of steps)) → Reads name others w (words_of (equals key v ∷ steps))
+        → ((after : Walk) → Stands (with_given id_of reading_of_slot (of_value key) (v ∷ []) values) after → Reads name others after (words_of steps)) → Reads name others w (words_of (equals key v ∷ steps))
     equals-read key v others fresh later =
-        let none = none-used (settled_rows run_rules stands.pending stands.rows) values stands.known (of_value key) fresh in
+        let none = none-used id_of reading_of_slot (settled_rows run_rules stands.pending stands.rows) values stands.known (of_value key) fresh in
         let so_far = settled_rows run_rules stands.pending stands.rows in
         subst (λ (from : Walk). Reads name others from (words_of (equals key v ∷ steps))) (sym stands.is)
         (word-read (between stands.rows stands.pending) _ (front_word key ++ v) (words_of steps) others (equals_walked name stands.rows stands.pending stands.passes v key) (equals_passes name stands.rows stands.pending stands.passes v key none)
-        (later _ (record { rows = used_by (of_value key) (v ∷ []) so_far; pending = None; is = refl; passes = refl; known = known-used so_far values stands.known (of_value key) (v ∷ []) fresh })))
+        (later _ (record { rows = used_by id_of reading_of_slot (of_value key) (v ∷ []) so_far; pending = None; is = refl; passes = refl; known = known-used so_far values stands.known (of_value key) (v ∷ []) fresh })))
 
     flag-read : (f : Flag) (others : Slot → Option (List Text)) → values (of_flag f) ≡ None
-        → ((after : Walk) → Stands (put (of_flag f) (codes "true" ∷ []) values) after → Reads name others after (words_of steps)) → Reads name others w (words_of (alone f ∷ steps))
+        → ((after : Walk) → Stands (with_given id_of reading_of_slot (of_flag f) (codes "true" ∷ []) values) after → Reads name others after (words_of steps)) → Reads name others w (words_of (alone f ∷ steps))
     flag-read f others fresh later =
-        let none = none-used (settled_rows run_rules stands.pending stands.rows) values stands.known (of_flag f) fresh in
+        let none = none-used id_of reading_of_slot (settled_rows run_rules stands.pending stands.rows) values stands.known (of_flag f) fresh in
         let so_far = settled_rows run_rules stands.pending stands.rows in
         subst (λ (from : Walk). Reads name others from (words_of (alone f ∷ steps))) (sym stands.is)
         (word-read (between stands.rows stands.pending) _ (own_word f) (words_of steps) others (flag_walked name stands.rows stands.pending stands.passes f) (flag_passes name stands.rows stands.pending stands.passes f none)
-        (later _ (record { rows = used_by (of_flag f) (codes "true" ∷ []) so_far; pending = None; is = refl; passes = refl; known = known-used so_far values stands.known (of_flag f) (codes "true" ∷ []) fresh })))
+        (later _ (record { rows = used_by id_of reading_of_slot (of_flag f) (codes "true" ∷ []) so_far; pending = None; is = refl; passes = refl; known = known-used so_far values stands.known (of_flag f) (codes "true" ∷ []) fresh })))
 
     next-read : (key : Key) (v : Text) (others : Slot → Option (List Text)) → IsPlain v → values (of_value key) ≡ None
-        → ((after : Walk) → Stands (put (of_value key) (v ∷ []) values) after → Reads name others after (words_of steps)) → Reads name others w (words_of (next key v ∷ steps))
+        → ((after : Walk) → Stands (with_given id_of reading_of_slot (of_value key) (v ∷ []) values) after → Reads name others after (words_of steps)) → Reads name others w (words_of (next key v ∷ steps))
     next-read key v others plain fresh later =
-        let none = none-used (settled_rows run_rules stands.pending stands.rows) values stands.known (of_value key) fresh in
+        let none = none-used id_of reading_of_slot (settled_rows run_rules stands.pending stands.rows) values stands.known (of_value key) fresh in
         let so_far = settled_rows run_rules stands.pending stands.rows in
         let start = between stands.rows stands.pending in
         let text = plain.d ∷ plain.ds in
         let both = both-true _ _ (next_passes name stands.rows stands.pending stands.passes plain.d plain.ds plain.dash key) in
-        let after : Stands (put (of_value key) (v ∷ []) values) (between so_far (Some (id_of (of_value key), text ∷ []))) =
-        subst (λ (t : Text). Stands (put (of_value key) (v ∷ []) values) (between so_far (Some (id_of (of_value key), t ∷ [])))) plain.is
+        let after : Stands (with_given id_of reading_of_slot (of_value key) (v ∷ []) values) (between so_far (Some (id_of (of_value key), text ∷ []))) =
+        subst (λ (t : Text). Stands (with_given id_of reading_of_slot (of_value key) (v ∷ []) values) (between so_far (Some (id_of (of_value key), t ∷ [])))) plain.is
         (record {
           rows = so_far;
           pending = Some (id_of (of_value key), v ∷ []);
           is = refl;
           passes = next_settles name stands.rows stands.pending stands.passes key v none;
-          known = subst (λ (rows : List Row). Known rows (put (of_value key) (v ∷ []) values)) (sym (next_used name stands.rows stands.pending stands.passes key v)) (known-used so_far values stands.known (of_value key) (v ∷ []) fresh);
+          known = subst (λ (rows : List Row). Known id_of reading_of_slot rows (with_given id_of reading_of_slot (of_value key) (v ∷ []) values)) (sym (next_used name stands.rows stands.pending stands.passes key v)) (known-used so_far values stands.known (of_value key) (v ∷ []) fresh);
         }) in
         subst (λ (from : Walk). Reads name others from (words_of (next key v ∷ steps))) (sym stands.is)
         (subst (λ (t : Text). Reads name others start (flag_word key ∷ t ∷ words_of steps)) (sym plain.is)
@@ -537,9 +424,9 @@ module _ (name : Text) (values : Slot → Option (List Text)) where
 -- the values that steps give, behind those that there are
 abbrev all_values : List Step → (Slot → Option (List Text)) → Slot → Option (List Text)
 all_values [] values = values
-all_values (next key v ∷ steps) values = all_values steps (put (of_value key) (v ∷ []) values)
-all_values (equals key v ∷ steps) values = all_values steps (put (of_value key) (v ∷ []) values)
-all_values (alone f ∷ steps) values = all_values steps (put (of_flag f) (codes "true" ∷ []) values)
+all_values (next key v ∷ steps) values = all_values steps (with_given id_of reading_of_slot (of_value key) (v ∷ []) values)
+all_values (equals key v ∷ steps) values = all_values steps (with_given id_of reading_of_slot (of_value key) (v ∷ []) values)
+all_values (alone f ∷ steps) values = all_values steps (with_given id_of reading_of_slot (of_flag f) (codes "true" ∷ []) values)
 
 -- nothing is there yet of what options give
 record AreFree (o : Options) (values : Slot → Option (List Text)) : Type 0 where
@@ -548,16 +435,13 @@ record AreFree (o : Options) (values : Slot → Option (List Text)) : Type 0 whe
   rule : is_some o.rule ≡ true → values (of_value of_name) ≡ None
   strict : o.is_strict ≡ true → values (of_flag of_strict) ≡ None
 
-none-there : {X : Type 0} (o : Option X) → o ≡ None → is_some o ≡ true → ⊥
-none-there o e s = true≢false (sym s ∙ ap is_some e)
-
 module _ (values : Slot → Option (List Text)) (rest o : Options) (free : AreFree o values) where
   key-fresh : (key : Key) (v : Text) → Puts key v rest o → values (of_value key) ≡ None
   key-fresh of_cycle v put = free.cycle (ap is_some put.cycle)
   key-fresh of_cycles v put = free.cycles (ap is_some put.cycles)
   key-fresh of_name v put = free.rule (ap is_some put.rule)
 
-  key-free : (key : Key) (v : Text) → Puts key v rest o → AreFree rest (put (of_value key) (v ∷ []) values)
+  key-free : (key : Key) (v : Text) → Puts key v rest o → AreFree rest (with_given id_of reading_of_slot (of_value key) (v ∷ []) values)
   key-free of_cycle v put = record {
     cycle = λ s. absurd (none-there rest.cycle put.fresh s);
     cycles = λ s. free.cycles (ap is_some put.cycles ∙ s);
@@ -580,7 +464,7 @@ module _ (values : Slot → Option (List Text)) (rest o : Options) (free : AreFr
   flag-fresh : (f : Flag) → Sets f rest o → values (of_flag f) ≡ None
   flag-fresh of_strict put = free.strict put.strict
 
-  flag-free : (f : Flag) → Sets f rest o → AreFree rest (put (of_flag f) (codes "true" ∷ []) values)
+  flag-free : (f : Flag) → Sets f rest o → AreFree rest (with_given id_of reading_of_slot (of_flag f) (codes "true" ∷ []) values)
   flag-free of_strict put = record {
     cycle = λ s. free.cycle (ap is_some put.cycle ∙ s);
     cycles = λ s. free.cycles (ap is_some put.cycles ∙ s);
@@ -602,9 +486,6 @@ all-read name (alone f ∷ steps) o values w gives free stands =
     (λ after stands'. all-read name steps gives.0 _ after gives.1 (flag-free values gives.0 o free f gives.2) stands')
 
 -- ---- what they are read as
-
-abbrev first_as : {X : Type 0} → (Text → Option X) → Option (List Text) → Option X
-first_as read given = option_and_then (λ (texts : List Text). option_and_then read (slice_get texts 0)) given
 
 abbrev flag_values : Bool → Option (List Text) → Option (List Text)
 flag_values false given = given
@@ -630,7 +511,7 @@ module _ (rest o : Options) (before values : Slot → Option (List Text)) where
   abbrev strict-own : Bool → Option (List Text)
   strict-own own = flag_values own (before (of_flag of_strict))
 
-  key-read : (key : Key) (v : Text) → Puts key v rest o → AreReadAs rest (put (of_value key) (v ∷ []) before) values → AreReadAs o before values
+  key-read : (key : Key) (v : Text) → Puts key v rest o → AreReadAs rest (with_given id_of reading_of_slot (of_value key) (v ∷ []) before) values → AreReadAs o before values
   key-read of_cycle v put read = record {
     cycle = read.cycle ∙ ap₂ option_or put.fresh put.number ∙ ap cycle-own (sym put.cycle);
     cycles = read.cycles ∙ ap cycles-own (sym put.cycles);
@@ -650,7 +531,7 @@ module _ (rest o : Options) (before values : Slot → Option (List Text)) where
     strict = read.strict ∙ ap strict-own (sym put.strict);
   }
 
-  flag-read-as : (f : Flag) → Sets f rest o → AreReadAs rest (put (of_flag f) (codes "true" ∷ []) before) values → AreReadAs o before values
+  flag-read-as : (f : Flag) → Sets f rest o → AreReadAs rest (with_given id_of reading_of_slot (of_flag f) (codes "true" ∷ []) before) values → AreReadAs o before values
   flag-read-as of_strict put read = record {
     cycle = read.cycle ∙ ap cycle-own (sym put.cycle);
     cycles = read.cycles ∙ ap cycles-own (sym put.cycles);
@@ -665,9 +546,9 @@ all-read-as [] o before gives = record {
   rule = ap (λ (p : Options). option_or p.rule (first_as name_of (before (of_value of_name)))) (sym gives);
   strict = ap (λ (p : Options). flag_values p.is_strict (before (of_flag of_strict))) (sym gives);
 }
-all-read-as (next key v ∷ steps) o before gives = key-read gives.0 o before _ key v gives.2 (all-read-as steps gives.0 (put (of_value key) (v ∷ []) before) gives.1)
-all-read-as (equals key v ∷ steps) o before gives = key-read gives.0 o before _ key v gives.2 (all-read-as steps gives.0 (put (of_value key) (v ∷ []) before) gives.1)
-all-read-as (alone f ∷ steps) o before gives = flag-read-as gives.0 o before _ f gives.2 (all-read-as steps gives.0 (put (of_flag f) (codes "true" ∷ []) before) gives.1)
+all-read-as (next key v ∷ steps) o before gives = key-read gives.0 o before _ key v gives.2 (all-read-as steps gives.0 (with_given id_of reading_of_slot (of_value key) (v ∷ []) before) gives.1)
+all-read-as (equals key v ∷ steps) o before gives = key-read gives.0 o before _ key v gives.2 (all-read-as steps gives.0 (with_given id_of reading_of_slot (of_value key) (v ∷ []) before) gives.1)
+all-read-as (alone f ∷ steps) o before gives = flag-read-as gives.0 o before _ f gives.2 (all-read-as steps gives.0 (with_given id_of reading_of_slot (of_flag f) (codes "true" ∷ []) before) gives.1)
 
 pub options_are_simple : (name : Text) → is_simple (options_app name) ≡ true
 options_are_simple name = refl
@@ -730,10 +611,10 @@ module _ (rows : List Row) where
   own-text : (f : Flag) → row_text (default_row f) ≡ Some (codes "false")
   own-text of_strict = refl
 
-  given-text : (f : Flag) → row_text (row_for (of_flag f) (codes "true" ∷ [])) ≡ Some (codes "true")
+  given-text : (f : Flag) → row_text (row_for id_of reading_of_slot (of_flag f) (codes "true" ∷ [])) ≡ Some (codes "true")
   given-text of_strict = refl
 
-  defaulted : (f : Flag) (given : Bool) → row_of_id (id_of (of_flag f)) rows ≡ option_map (row_for (of_flag f)) (flag_values given None) → Defaults f rows (with_default rows (flag_filled f)) given
+  defaulted : (f : Flag) (given : Bool) → row_of_id (id_of (of_flag f)) rows ≡ option_map (row_for id_of reading_of_slot (of_flag f)) (flag_values given None) → Defaults f rows (with_default rows (flag_filled f)) given
   defaulted f false none =
       let is = default-none f none in
       let found : (id : Text) → row_of_id id (with_default rows (flag_filled f)) ≡ option_or (row_of_id id rows) (row_of_id id (default_row f ∷ [])) =
@@ -757,10 +638,10 @@ record IsFinished (rows final : List Row) (strict : Bool) : Type 0 where
 abbrev all_defaults : List Row → List Row
 all_defaults rows = with_default rows (flag_filled of_strict)
 
-module _ (rows : List Row) (values : Slot → Option (List Text)) (known : Known rows values) where
+module _ (rows : List Row) (values : Slot → Option (List Text)) (known : Known id_of reading_of_slot rows values) where
   finish : (strict : Bool) → values (of_flag of_strict) ≡ flag_values strict None → IsFinished rows (all_defaults rows) strict
   finish strict told =
-      let first = defaulted rows of_strict strict (known (of_flag of_strict) ∙ ap (option_map (row_for (of_flag of_strict))) told) in
+      let first = defaulted rows of_strict strict (known (of_flag of_strict) ∙ ap (option_map (row_for id_of reading_of_slot (of_flag of_strict))) told) in
       record { values = λ key. first.others (of_value key) (not-strict key); flag = first.own }
     where
       not-strict : (key : Key) → bytes_eq (codes "strict") (id_of (of_value key)) ≡ false
@@ -776,7 +657,7 @@ module _ (rows : List Row) (values : Slot → Option (List Text)) (known : Known
       ∙ ap (λ (third : List Row). all_defaults third) (plain-default rows (filled name_rule) refl))
 
 -- what is read of a row is read of its values
-read-through : {X : Type 0} (read : Text → Option X) (slot : Slot) (found : Option (List Text)) → option_and_then read (option_and_then (λ (r : Row). slice_get r.values 0) (option_map (row_for slot) found)) ≡ first_as read found
+read-through : {X : Type 0} (read : Text → Option X) (slot : Slot) (found : Option (List Text)) → option_and_then read (option_and_then (λ (r : Row). slice_get r.values 0) (option_map (row_for id_of reading_of_slot slot) found)) ≡ first_as read found
 read-through read slot None = refl
 read-through read slot (Some texts) = refl
 
@@ -786,7 +667,7 @@ nothing slot = None
 all-free : (o : Options) → AreFree o nothing
 all-free o = record { cycle = λ s. refl; cycles = λ s. refl; rule = λ s. refl; strict = λ s. refl }
 
-none-known : Known [] nothing
+none-known : Known id_of reading_of_slot [] nothing
 none-known (of_value of_cycle) = refl
 none-known (of_value of_cycles) = refl
 none-known (of_value of_name) = refl
@@ -808,7 +689,7 @@ module _ (name : Text) (words : List Text) (o : Options) (values : Slot → Opti
   is-finished : IsFinished so final o.is_strict
   is-finished = finish so values reads.stands.known o.is_strict told.strict
 
-  row-is : (key : Key) → row_of_id (id_of (of_value key)) final ≡ option_map (row_for (of_value key)) (values (of_value key))
+  row-is : (key : Key) → row_of_id (id_of (of_value key)) final ≡ option_map (row_for id_of reading_of_slot (of_value key)) (values (of_value key))
   row-is key = is-finished.values key ∙ reads.stands.known (of_value key)
 
   are-taken : takes (options_app name) words ≡ true

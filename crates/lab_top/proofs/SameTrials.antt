@@ -9,7 +9,8 @@ use Rattle.typed_core.specs.declared.outcome.Alone.{Alone}
 use Rattle.typed_core.proofs.Events.{after_fits}
 use Rattle.one_rule.specs.Cycle.{System, begin, fire, fires, join}
 use Rattle.one_rule.specs.Laws.{DoTheSameAlone}
-use Rattle.one_rule.specs.Walk.{Walk, goes_on, is_at, pass, start}
+use Rattle.one_rule.specs.Walk.{Walk, goes_on, pass, start}
+use Rattle.typed_core.specs.Continuations.{is_at}
 use Rattle.one_rule.specs.declared.cycle.State.{State}
 use Rattle.one_rule.proofs.WalkLaws.{walk_past_keeps}
 use Rattle.lab_core.specs.Trials.{trial_at, trial_of, trials, trials_past, unclashed, verdict_of}

@@ -5,6 +5,7 @@ use Rattle.std.specs.Prelude.{List, [], ◌∷◌, codes, fold, take, drop, Opti
 use Rattle.std.specs.List.{list_all}
 use Rattle.std.specs.Char.{is_ascii_alphabetic, is_ascii_digit}
 use Rattle.std.specs.Str.{bytes_eq}
+use Rattle.front_end.specs.GivenOnce.{asked_flag, given_once}
 use Rattle.front_end.specs.NumberWords.{number_of_word}
 use Rattle.verilog_text.specs.declared.verilog.Options.{Options as Ports}
 use Rattle.lab_top.specs.declared.words.Command.{Command}
@@ -32,12 +33,6 @@ name_of word = if is_name word then Some word else None
 abbrev pub no_options : Options
 no_options = record { cycle = None; cycles = None; rule = None; is_strict = false }
 
--- options with a value that is given once, and is valid: there is no earlier one, and there is this one
-abbrev pub given_once : {X : Type 0} → Option X → (X → Options) → Option X → Option Options
-given_once None put None = None
-given_once None put (Some value) = Some (put value)
-given_once (Some earlier) put value = None
-
 -- options, if they are valid, with a value of `--cycle`
 abbrev pub with_cycle : List ℕ → Option Options → Option Options
 with_cycle word None = None
@@ -56,11 +51,6 @@ with_name name (Some options) = given_once options.rule (λ given. record option
 -- options, if they are valid, with a value of `--rule`
 abbrev pub with_rule : List ℕ → Option Options → Option Options
 with_rule word others = with_name (name_of word) others
-
--- nothing is strict where nothing is asked for
-abbrev pub asked_flag : Bool → Option Bool
-asked_flag false = None
-asked_flag true = Some true
 
 -- options, if they are valid, with `--strict`
 abbrev pub with_strict : Option Options → Option Options

@@ -1,15 +1,14 @@
 //! Program: the options of valid arguments.
 
-ghost use Rattle.std.specs.Prelude.{◌≡◌, false, true, map, string_bytes, IfOk, is_some, Some};
-ghost use Rattle.clap.specs.Words.{app_of, found_of, kind_of, rows_of, rule_of};
+ghost use Rattle.std.specs.Prelude.{◌≡◌, true, map, string_bytes, IfOk, is_some, Some};
+ghost use Rattle.clap.specs.Words.{app_of, found_of, rows_of};
 ghost use Rattle.lab_top.specs.Words.{options_of};
-ghost use Rattle.lab_top.specs.inner.Given.{Give, bare, flag_rule, name_in, number_in, options_app, valued_rule};
+ghost use Rattle.lab_top.specs.inner.Given.{Give, name_in, options_app};
 ghost use Rattle.lab_top.specs.declared.words.Options.{Options as AnyOptions};
 
 use crate::words::{Options, name_of};
-use clap::error::ErrorKind;
-use clap::{Arg, ArgAction, ArgMatches, Command, Error};
-use front_end::number_of;
+use clap::{ArgMatches, Command};
+use front_end::given::{bare, flag, number_in, valued, want_of_memory};
 use kw_bits::{NoMemory, Text};
 use std::alloc::Global;
 
@@ -37,31 +36,6 @@ fn options_app<'a>(alloc: Global, name: &'a str) -> Result<Command<'a>, NoMemory
     Ok(command)
 }
 
-// An option that has a value.
-fn valued<'a>(alloc: Global, name: &'a str) -> Arg<'a>
-    ensures rule { rule_of result ≡ valued_rule name.entry.now }
-    ensures own { result.global ≡ false }
-{
-    Arg::new(alloc, name).long(name)
-}
-
-// An option that has none.
-fn flag<'a>(alloc: Global, name: &'a str) -> Arg<'a>
-    ensures rule { rule_of result ≡ flag_rule name.entry.now }
-    ensures own { result.global ≡ false }
-{
-    Arg::new(alloc, name).long(name).action(ArgAction::SetTrue)
-}
-
-// A command to which all words belong, and that knows no word of its own.
-fn bare<'a>(alloc: Global, name: &'a str) -> Command<'a>
-    ensures { app_of result ≡ bare name.entry.now }
-{
-    Command::new(alloc, name)
-        .no_binary_name(true)
-        .disable_help_flag(true)
-}
-
 // The options that were found.
 fn options_in(alloc: Global, matches: &ArgMatches<'_>) -> Result<Options, NoMemory>
     ensures { IfOk result (λ found.
@@ -75,16 +49,6 @@ fn options_in(alloc: Global, matches: &ArgMatches<'_>) -> Result<Options, NoMemo
     })
 }
 
-// The number that the first value of an argument writes.
-fn number_in(matches: &ArgMatches<'_>, id: &str) -> Option<u32>
-    ensures { result ≡ number_in id.now (rows_of (found_of matches.now)) }
-{
-    match matches.get_str(id) {
-        Some(word) => number_of(word.as_bytes()),
-        None => None,
-    }
-}
-
 // The name that the first value of an argument is.
 fn name_in(alloc: Global, matches: &ArgMatches<'_>, id: &str) -> Result<Option<Text>, NoMemory>
     ensures { IfOk result (λ name. name ≡ name_in id.now (rows_of (found_of matches.now))) }
@@ -92,15 +56,5 @@ fn name_in(alloc: Global, matches: &ArgMatches<'_>, id: &str) -> Result<Option<T
     match matches.get_str(id) {
         Some(word) => name_of(alloc, word.as_bytes()),
         None => Ok(None),
-    }
-}
-
-// Why valid words were refused.
-fn want_of_memory(error: &Error) -> NoMemory
-    requires { kind_of error.now ≡ ErrorKind.OutOfMemory }
-{
-    match error.kind() {
-        ErrorKind::OutOfMemory => NoMemory,
-        _ => unreachable!(),
     }
 }

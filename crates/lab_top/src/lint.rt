@@ -11,7 +11,7 @@ ghost use Rattle.front_end.specs.Told.{Told};
 ghost use Rattle.lint_text.specs.Findings.{AreFindings, order_of};
 ghost use Rattle.lab_top.specs.inner.Lint.{AreNoted, NeverFire, lint_text, pairs_of, pairs_to};
 
-use front_end::{Lowered, Untold, circuit_of, is_valid, read_source, read_tree, write_text};
+use front_end::{Lowered, Untold, circuit_of, read_source, read_tree, write_text};
 use host_fn::HostFn;
 use kw_base::Refusal;
 use kw_bits::{NoMemory, Sequence};
@@ -45,7 +45,7 @@ impl LintRun {
         let places = places_in(alloc, parts.design, &tree)?;
         let lowered = Lowered::new(alloc, spelled, hosts)?;
         let design: &Design = &lowered.design;
-        is_valid(design);
+        design.recall();
         let never = never_fire(alloc, &lowered)?;
         let findings = Findings::new(alloc, &lowered.checked, never)?;
         Ok(LintRun {

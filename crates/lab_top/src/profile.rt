@@ -13,7 +13,6 @@ ghost use Rattle.lab_top.specs.Profile.{CountsRun};
 ghost use Rattle.lab_top.specs.Runs.{numbers_in};
 
 use crate::runs::read_run;
-use front_end::{always_fits, is_valid};
 use host_fn::HostFn;
 use koika_check::Checked;
 use kw_base::Refusal;
@@ -79,8 +78,8 @@ fn count(
     ensures { IfOk result (λ profile. profile ≡ numbers_in checked.now (inputs_of stimulus.now) cycles) }
 {
     let _checked = checked;
-    is_valid(design);
-    always_fits(alloc, stimulus);
+    design.recall();
+    stimulus.recall();
     let mut regs = first_values(alloc, design)?;
     let mut profile = Profile::new(alloc, design)?;
     for before in 0..cycles {

@@ -63,7 +63,7 @@ pub(crate) fn registers_after(
     let mut at = 0;
     while at < cycles {
         let to = cycles.min(at + BATCH);
-        regs = left_by_batch(alloc, design, externs, stimulus, &regs, at, to)?;
+        regs = left_by_batch(alloc, design, externs, &regs, stimulus, at, to)?;
         at = to;
     }
     Ok(regs)
@@ -74,8 +74,8 @@ fn left_by_batch(
     alloc: Global,
     design: &Design,
     externs: &Externs,
-    stimulus: &Stimulus,
     regs: &Regs,
+    stimulus: &Stimulus,
     from: u32,
     to: u32,
 ) -> Result<Regs, NoMemory>

@@ -11,6 +11,8 @@ use front_end::Status;
 pub enum LabStatus {
     /// The answer was written.
     Done,
+    /// The answer was written, and it says that an assertion was violated or not watched.
+    Failed,
     /// The arguments were invalid; the usage line was written.
     Usage,
     /// The source was refused; the line of its fault was written.
@@ -21,8 +23,6 @@ pub enum LabStatus {
     WriteFault,
     /// Memory ran out.
     NoMemory,
-    /// The answer was written, and it says that an assertion was violated or not watched.
-    Failed,
 }
 
 impl LabStatus {
@@ -32,12 +32,12 @@ impl LabStatus {
     {
         match self {
             LabStatus::Done => 0,
+            LabStatus::Failed => 8,
             LabStatus::Usage => 1,
             LabStatus::Refused => 2,
             LabStatus::ReadFault => 3,
             LabStatus::WriteFault => 4,
             LabStatus::NoMemory => 5,
-            LabStatus::Failed => 8,
         }
     }
 

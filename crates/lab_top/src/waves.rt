@@ -14,7 +14,7 @@ ghost use Rattle.lab_top.specs.inner.Registers.{registers_after};
 ghost use Rattle.lab_top.specs.inner.Waves.{HasTaken, edges_to};
 
 use crate::runs::read_run;
-use front_end::{BATCH, Lowered, Untold, always_fits, is_valid, write_text};
+use front_end::{BATCH, Lowered, Untold, write_text};
 use host_fn::HostFn;
 use kw_base::Refusal;
 use kw_bits::{NoMemory, Text};
@@ -74,8 +74,8 @@ impl WavesRun {
         let design: &Design = &self.lowered.design;
         let externs: &Externs = &self.lowered.externs;
         let stimulus: &Stimulus = &self.lowered.stimulus;
-        is_valid(design);
-        always_fits(alloc, stimulus);
+        design.recall();
+        stimulus.recall();
         let regs = first_values(alloc, design)?;
         let rows = run_from(alloc, design, externs, stimulus, &regs, 0, 0)?;
         let mut waves = Waves::new(alloc, &self.lowered.shape)?;
@@ -136,8 +136,8 @@ impl WavesRun {
         let design: &Design = &self.lowered.design;
         let externs: &Externs = &self.lowered.externs;
         let stimulus: &Stimulus = &self.lowered.stimulus;
-        is_valid(design);
-        always_fits(alloc, stimulus);
+        design.recall();
+        stimulus.recall();
         let rows = run_from(alloc, design, externs, stimulus, regs, from, to)?;
         let text = waves.take(alloc, &self.lowered.shape, stimulus, &rows)?;
         let last = rows.get(rows.len() - 1);

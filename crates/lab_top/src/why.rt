@@ -19,7 +19,7 @@ ghost use Rattle.lab_top.specs.declared.answer.LabAnswer.TheVariants.{Refused};
 
 use crate::fault_number::NO_SUCH_RULE;
 use crate::runs::{read_run, registers_after};
-use front_end::{Lowered, Untold, always_fits, fault_of_source, is_valid, write_text};
+use front_end::{Lowered, Untold, fault_of_source, write_text};
 use host_fn::HostFn;
 use kw_base::Refusal;
 use kw_bits::{NoMemory, Text};
@@ -120,8 +120,8 @@ impl WhyRun {
         let design: &Design = &self.lowered.design;
         let externs: &Externs = &self.lowered.externs;
         let stimulus: &Stimulus = &self.lowered.stimulus;
-        is_valid(design);
-        always_fits(alloc, stimulus);
+        design.recall();
+        stimulus.recall();
         let inputs = stimulus.inputs(cycle)?;
         let text = why_cycle(alloc, design, externs, self.only, cycle, &inputs, regs)?;
         write_text(sink, text.as_slice())

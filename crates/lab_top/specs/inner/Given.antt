@@ -1,22 +1,10 @@
 -- What the reader of command lines is told of the options, and which options the rows that it finds give.
-use Rattle.std.specs.Prelude.{◌≡◌, ℕ, Bool, true, false, List, codes, Option, Some, option_and_then}
+use Rattle.std.specs.Prelude.{◌≡◌, ℕ, List, codes, Option, Some, option_and_then}
 use Rattle.clap.specs.Walk.{Row, Rule, Text, first_of, one_of}
-use Rattle.clap.specs.Simple.{App, new_app, new_rule, on_top, with_rule}
-use Rattle.clap.specs.declared.builder.action.ArgAction.TheVariants.{SetTrue}
-use Rattle.front_end.specs.NumberWords.{number_of_word}
+use Rattle.clap.specs.Simple.{App, with_rule}
+use Rattle.front_end.specs.Given.{bare, flag_rule, flag_text, number_in, valued_rule}
 use Rattle.lab_top.specs.Words.{name_of}
 use Rattle.lab_top.specs.declared.words.Options.{Options}
-
--- a command to which all words belong, and that knows no word of its own
-abbrev pub bare : Text → App
-bare name = on_top (λ s. record s { no_binary_name = true; disable_help_flag = true }) (new_app name)
-
--- an option that has a value, and one that has none
-abbrev pub valued_rule : Text → Rule
-valued_rule name = record (new_rule name) { long = Some name }
-
-abbrev pub flag_rule : Text → Rule
-flag_rule name = record (new_rule name) { long = Some name; action = Some SetTrue }
 
 abbrev pub cycle_rule : Rule
 cycle_rule = valued_rule (codes "cycle")
@@ -35,18 +23,9 @@ abbrev pub options_app : Text → App
 options_app name =
     with_rule (with_rule (with_rule (with_rule (bare name) cycle_rule) cycles_rule) name_rule) strict_rule
 
--- the number that the first value of an argument writes
-abbrev pub number_in : Text → List Row → Option ℕ
-number_in id rows = option_and_then number_of_word (first_of id rows)
-
 -- the name that the first value of an argument is
 abbrev pub name_in : Text → List Row → Option (List ℕ)
 name_in id rows = option_and_then name_of (first_of id rows)
-
--- how a flag tells whether it is given
-abbrev pub flag_text : Bool → Text
-flag_text false = codes "false"
-flag_text true = codes "true"
 
 -- the rows give these options
 pub record Give (rows : List Row) (options : Options) : Type 0 where

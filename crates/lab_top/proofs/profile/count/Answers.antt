@@ -26,9 +26,9 @@ add_cycle-requires-clause-registers c =
     let d = c.args.checked.now in
     let design = c.args.design.now in
     let inputs = inputs_of c.args.stimulus.now in
-    let fit = stimulus-fit d c.args.stimulus.now c.requires.stimulus c.always_fits.ensures in
+    let fit = stimulus-fit d c.args.stimulus.now c.requires.stimulus c.recall-2.ensures in
     subst (HaveWidths (register_widths design)) (sym c.loop-before.invariant.left)
-    (left-fit design c.is_valid.ensures inputs (core-fit d design c.requires.lowered c.is_valid.ensures inputs fit) c.loop-before.before)
+    (left-fit design c.recall.ensures inputs (core-fit d design c.requires.lowered c.recall.ensures inputs fit) c.loop-before.before)
 
 pub add_cycle-requires-clause-next : goal.add_cycle-requires-clause-next
 add_cycle-requires-clause-next c = omega (arith, numbers-cycles c.args.checked.now (inputs_of c.args.stimulus.now) c.loop-before.before _ c.loop-before.invariant.numbers)
@@ -43,11 +43,11 @@ loop-before-preserved c =
     let design = c.args.design.now in
     let inputs = inputs_of c.args.stimulus.now in
     let before = c.loop-before.invariant in
-    let fit = stimulus-fit d c.args.stimulus.now c.requires.stimulus c.always_fits.ensures in
+    let fit = stimulus-fit d c.args.stimulus.now c.requires.stimulus c.recall-2.ensures in
     let step = c.in_ok-add_cycle.ensures.numbers in
     let given : c.in_ok-inputs.inputs ≡ inputs (c.loop-before.before + 1) = c.in_ok-inputs.ensures.inputs in
     record {
-      numbers = numbers-next d design c.requires.lowered c.is_valid.ensures inputs fit c.loop-before.before _ _ before.numbers
+      numbers = numbers-next d design c.requires.lowered c.recall.ensures inputs fit c.loop-before.before _ _ before.numbers
           (λ cycles is. step cycles is ∙ (λ i. numbers_of (length design.rules) (cycles ++ trials (system_of design) (given i) (before.left i) ∷ [])));
       left = c.in_ok-add_cycle.ensures.registers ∙ (λ i. (cycle (system_of design) (given i) (before.left i)).regs) ∙ left-next (system_of design) inputs (first_values design) c.loop-before.before;
     }

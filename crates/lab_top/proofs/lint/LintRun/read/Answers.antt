@@ -13,7 +13,7 @@ pub returns-clause-spelled : goal.returns-clause-spelled
 returns-clause-spelled g c = rw (c.in_ok-lowered.ensures.checked, c.in_ok-lowered.ensures.stimulus) c.in_ok-spelled.ensures.spelled
 
 pub returns-clause-valid : goal.returns-clause-valid
-returns-clause-valid g c = subst IsValid c.deref-design.ensures c.is_valid.ensures
+returns-clause-valid g c = subst IsValid c.deref-design.ensures c.recall.ensures
 
 pub returns-clause-noted : goal.returns-clause-noted
 returns-clause-noted g c = record {

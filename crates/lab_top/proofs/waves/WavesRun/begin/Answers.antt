@@ -19,8 +19,8 @@ take-requires-clause-few c =
 
 pub take-requires-clause-rows : goal.take-requires-clause-rows
 take-requires-clause-rows c =
-    made-fit c.args.self.now.lowered _ _ c.deref-design.ensures c.deref-stimulus.ensures c.is_valid.ensures
-    c.always_fits.ensures c.in_ok-rows.rows c.in_ok-rows.ensures.fit
+    made-fit c.args.self.now.lowered _ _ c.deref-design.ensures c.deref-stimulus.ensures c.recall.ensures
+    c.recall-2.ensures c.in_ok-rows.rows c.in_ok-rows.ensures.fit
 
 pub take-requires-clause-inputs : goal.take-requires-clause-inputs
 take-requires-clause-inputs c =
@@ -29,6 +29,6 @@ take-requires-clause-inputs c =
 pub returns : goal.returns
 returns c =
     let inputs = inputs_of c.deref-stimulus.result.now in
-    first-taken c.args.self.now.lowered _ _ c.deref-design.ensures c.deref-stimulus.ensures c.is_valid.ensures
-    c.always_fits.ensures c.in_ok-regs.regs c.in_ok-rows.rows c.in_ok-regs.ensures.values c.in_ok-rows.ensures.run _ _
+    first-taken c.args.self.now.lowered _ _ c.deref-design.ensures c.deref-stimulus.ensures c.recall.ensures
+    c.recall-2.ensures c.in_ok-regs.regs c.in_ok-rows.rows c.in_ok-regs.ensures.values c.in_ok-rows.ensures.run _ _
     (c.in_ok-take.ensures.takes [] (c.in_ok-waves.ensures.none inputs) tt) c.in_ok-take.ensures.fits

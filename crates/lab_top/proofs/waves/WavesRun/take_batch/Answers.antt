@@ -18,8 +18,8 @@ run_from-requires-clause-stimulus c =
 
 pub run_from-requires-clause-registers : goal.run_from-requires-clause-registers
 run_from-requires-clause-registers c =
-    registers-fit c.args.self.now.lowered _ _ c.deref-design.ensures c.deref-stimulus.ensures c.is_valid.ensures
-    c.always_fits.ensures c.args.from c.args.regs.now c.requires.registers
+    registers-fit c.args.self.now.lowered _ _ c.deref-design.ensures c.deref-stimulus.ensures c.recall.ensures
+    c.recall-2.ensures c.args.from c.args.regs.now c.requires.registers
 
 pub take-requires-clause-fits : goal.take-requires-clause-fits
 take-requires-clause-fits c = levels-of c.args.self.now.lowered c.args.from c.args.waves.now c.requires.taken
@@ -42,8 +42,8 @@ take-requires-clause-few c =
 
 pub take-requires-clause-rows : goal.take-requires-clause-rows
 take-requires-clause-rows c =
-    made-fit c.args.self.now.lowered _ _ c.deref-design.ensures c.deref-stimulus.ensures c.is_valid.ensures
-    c.always_fits.ensures c.in_ok-rows.rows c.in_ok-rows.ensures.fit
+    made-fit c.args.self.now.lowered _ _ c.deref-design.ensures c.deref-stimulus.ensures c.recall.ensures
+    c.recall-2.ensures c.in_ok-rows.rows c.in_ok-rows.ensures.fit
 
 pub take-requires-clause-inputs : goal.take-requires-clause-inputs
 take-requires-clause-inputs c =
@@ -51,8 +51,8 @@ take-requires-clause-inputs c =
 
 pub returns-clause-text : goal.returns-clause-text
 returns-clause-text c =
-    batch-written c.args.self.now.lowered _ _ c.deref-design.ensures c.deref-stimulus.ensures c.is_valid.ensures
-    c.always_fits.ensures c.args.from c.args.to c.requires.order c.args.regs.now c.in_ok-rows.rows c.requires.registers
+    batch-written c.args.self.now.lowered _ _ c.deref-design.ensures c.deref-stimulus.ensures c.recall.ensures
+    c.recall-2.ensures c.args.from c.args.to c.requires.order c.args.regs.now c.in_ok-rows.rows c.requires.registers
     c.in_ok-rows.ensures.run c.args.waves.now _ c.in_ok-text.text c.requires.taken c.in_ok-text.ensures.takes
 
 pub returns-clause-registers : goal.returns-clause-registers
@@ -78,7 +78,7 @@ returns-clause-registers c =
 
 pub returns-clause-taken : goal.returns-clause-taken
 returns-clause-taken c =
-    batch-taken c.args.self.now.lowered _ _ c.deref-design.ensures c.deref-stimulus.ensures c.is_valid.ensures
-    c.always_fits.ensures c.args.from c.args.to c.requires.order c.args.regs.now c.in_ok-rows.rows c.requires.registers
+    batch-taken c.args.self.now.lowered _ _ c.deref-design.ensures c.deref-stimulus.ensures c.recall.ensures
+    c.recall-2.ensures c.args.from c.args.to c.requires.order c.args.regs.now c.in_ok-rows.rows c.requires.registers
     c.in_ok-rows.ensures.run c.args.waves.now _ c.in_ok-text.text c.requires.taken c.in_ok-text.ensures.takes
     c.in_ok-text.ensures.fits

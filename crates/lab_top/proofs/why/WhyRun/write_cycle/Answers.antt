@@ -25,8 +25,8 @@ why_cycle-requires-clause-registers g c =
     let it = c.args.self.now.lowered in
     let design = arc_value it.design in
     let stimulus = arc_value it.stimulus in
-    let valid : IsValid design = subst IsValid c.deref-design.ensures c.is_valid.ensures in
-    let fit = stimulus-fit it.checked stimulus it.stimulus_fits (subst AlwaysFits c.deref-stimulus.ensures c.always_fits.ensures) in
+    let valid : IsValid design = subst IsValid c.deref-design.ensures c.recall.ensures in
+    let fit = stimulus-fit it.checked stimulus it.stimulus_fits (subst AlwaysFits c.deref-stimulus.ensures c.recall-2.ensures) in
     subst (λ (d : Parts). HaveWidths (register_widths d) c.args.regs.now) (sym c.deref-design.ensures)
     (subst (HaveWidths (register_widths design)) (sym c.requires.registers)
     (left-fit design valid (inputs_of stimulus) (core-fit it.checked design it.lowered valid (inputs_of stimulus) fit) (c.args.cycle - 1)))
@@ -37,8 +37,8 @@ returns-clause-told g c =
     let only = c.args.self.now.only in
     let design = arc_value it.design in
     let stimulus = arc_value it.stimulus in
-    let valid : IsValid design = subst IsValid c.deref-design.ensures c.is_valid.ensures in
-    let fit = stimulus-fit it.checked stimulus it.stimulus_fits (subst AlwaysFits c.deref-stimulus.ensures c.always_fits.ensures) in
+    let valid : IsValid design = subst IsValid c.deref-design.ensures c.recall.ensures in
+    let fit = stimulus-fit it.checked stimulus it.stimulus_fits (subst AlwaysFits c.deref-stimulus.ensures c.recall-2.ensures) in
     let given : c.in_ok-inputs.inputs ≡ inputs_of stimulus c.args.cycle = c.in_ok-inputs.ensures.inputs ∙ ap (λ (s : InputVectors). inputs_of s c.args.cycle) c.deref-stimulus.ensures in
     told-as _ _ _ c.write_text.result
     (c.as_slice.ensures ∙ c.in_ok-text.ensures.text
