@@ -243,6 +243,11 @@ def of_rust(tree):
         text = tree.texts[path]
         has[at] = set(re.findall(rf"^ *(?:pub(?:\([a-z ]+\))? )?(?:const |unsafe )*{words} (\w+)", text, re.M))
         has[at] |= set(re.findall(r"\bmacro_rules! (\w+)", text)) | {alias or used[-1] for used, alias in tree.uses[at]}
+    # An exported macro is in its crate's root.
+    for at, path in tree.modules.items():
+        exported = re.findall(r"#\[macro_export\]\s*macro_rules! (\w+)", tree.texts[path])
+        if exported and (at[0], ()) in has:
+            has[at[0], ()] |= set(exported)
     for at, uses in tree.uses.items():
         for used, _ in uses:
             there = tree.place(at, used[:-1]) if len(used) > 1 else None
