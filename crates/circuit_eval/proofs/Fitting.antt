@@ -19,7 +19,7 @@ all_bits b bs own rest zero d h = own
 all_bits b bs own rest (suc k) d h = rest k d (omega arith)
 
 -- values that are made of states and have their widths
-made : (f : StateWire → BitVector) (states : List StateWire) → All (λ wire. HasWidth (f wire) wire.width) states → AreBits (map f states) (state_widths states)
+pub made : (f : StateWire → BitVector) (states : List StateWire) → All (λ wire. HasWidth (f wire) wire.width) states → AreBits (map f states) (state_widths states)
 made f [] fit = record { widths = refl; bits = λ k d h. absurd (omega arith) }
 made f (wire ∷ wires) fit =
     let own : HasWidth (f wire) wire.width = fit 0 wire (omega arith) in

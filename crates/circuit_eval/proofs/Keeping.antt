@@ -7,8 +7,8 @@ use Rattle.kw_bits.specs.BitVector.{BitVector}
 use Rattle.kw_bits.specs.Laws.{HasWidth}
 use Rattle.net_graph.specs.Values.{no_bits, value_at}
 use Rattle.net_graph.specs.declared.node.NetOp.{NetOp}
-use Rattle.circuit_eval.specs.Programs.{IsNarrow, node_width}
-use Rattle.circuit_eval.specs.inner.Programs.{Keeps, KeepsAt, word_at}
+use Rattle.circuit_eval.specs.Programs.{IsNarrow, node_width, word_at}
+use Rattle.circuit_eval.specs.inner.Programs.{Keeps, KeepsAt}
 
 module _ (net : List NetOp) (words : List ℕ) (wides values : List BitVector) (id : ℕ) (before : Keeps net words wides values id) where
   -- one node more, where nothing of the nodes before it changes

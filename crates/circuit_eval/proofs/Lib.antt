@@ -1,6 +1,7 @@
 pub mod Fitting
 pub mod Flags
 pub mod Keeping
+pub mod Kept
 pub mod MachineWords
 pub mod NodeWords
 pub mod Programs

@@ -17,8 +17,8 @@ use Rattle.net_graph.specs.declared.node.NetTwo.TheVariants.{Concat}
 use Rattle.net_graph.specs.declared.node.NetOp.{NetOp}
 use Rattle.net_graph.specs.declared.node.NetOp.TheVariants.{Const, Input, State, One, Two, Slice, Uext, Ite}
 use Rattle.net_graph.proofs.OperatorWidths.{width-value_at}
-use Rattle.circuit_eval.specs.Programs.{Has, HasNarrow, IsNarrow, node_width}
-use Rattle.circuit_eval.specs.inner.Programs.{Keeps, word_at}
+use Rattle.circuit_eval.specs.Programs.{Has, HasNarrow, IsNarrow, node_width, word_at}
+use Rattle.circuit_eval.specs.inner.Programs.{Keeps}
 use Rattle.circuit_eval.specs.Words.{IsMask}
 use Rattle.circuit_eval.specs.inner.Words.{ChosenWord, JoinedWord, MaskedWord, OneWord, SlicedWord, TwoWord}
 use Rattle.circuit_eval.proofs.Programs.{by_operator, fits, IsOperand, of_ite, of_one, of_slice, of_two, of_uext}

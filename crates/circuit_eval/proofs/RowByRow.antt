@@ -24,6 +24,14 @@ module _ {M : Type 0} (step : M → List BitVector → M) (inputs : InputsByCycl
       let count : n - last ≡ 0 = omega arith in
       ap (λ (k : ℕ). rows ++ machines.rows_after step row_at inputs k last m) count ∙ append-nil rows
 
+  -- the row of a step more comes after all the others
+  pub rows-more : (row_at : M → Row) (count last : ℕ) (m : M)
+      → machines.rows_after step row_at inputs (suc count) last m ≡ machines.rows_after step row_at inputs count last m ++ row_at (machines.after_steps step inputs (suc count) last m) ∷ []
+  rows-more row_at zero last m = refl
+  rows-more row_at (suc count) last m =
+      let next : M = step m (inputs (last + 1)) in
+      ap (λ (rows : List Row). row_at next ∷ rows) (rows-more row_at count (last + 1) next)
+
   -- a step more is made after all the others
   steps-more : (count last : ℕ) (m : M)
       → machines.after_steps step inputs (suc count) last m ≡ step (machines.after_steps step inputs count last m) (inputs (last + count + 1))

@@ -1,13 +1,15 @@
 -- A net that is laid out to run on words of the machine, a step for each node. A node of up to 64 bits has its value's number
 -- as its word, and the values of wider nodes are kept apart. This serves private functions alone.
-use Rattle.std.specs.Prelude.{◌≡◌, ◌⊎◌, ℕ, ◌+◌, ◌-◌, ◌<◌, ◌≤◌, List, length, Some, slice_get}
+use Rattle.std.specs.Prelude.{◌≡◌, ◌⊎◌, ℕ, ◌+◌, ◌-◌, ◌<◌, ◌≤◌, List, [], ◌∷◌, if◌then◌else◌, length, nat_le, Some, slice_get, slice_index_or}
 use Rattle.kw_bits.specs.BitVector.{BitVector}
 use Rattle.net_graph.specs.Nets.{IsNet, width_at, widths_of}
+use Rattle.net_graph.specs.Values.{value_at}
 use Rattle.net_graph.specs.declared.node.NetOne.TheVariants.{Not}
 use Rattle.net_graph.specs.declared.node.NetTwo.TheVariants.{And, Or, Xor, Add, Sub, Mul, EqBits, Neq, Ult, Ulte, Concat}
 use Rattle.net_graph.specs.declared.node.NetTwo.{NetTwo}
 use Rattle.net_graph.specs.declared.node.NetOp.{NetOp}
 use Rattle.net_graph.specs.declared.node.NetOp.TheVariants.{Const, Input, State, One, Two, Slice, Uext, Sext, Ite}
+use Rattle.circuit_eval.specs.Circuits.{AreBits}
 use Rattle.circuit_eval.specs.Words.{IsMask}
 use Rattle.circuit_eval.specs.declared.program.Step.{Step}
 use Rattle.circuit_eval.specs.declared.program.Step.TheVariants.{Constant, TakeInput, TakeState, Copy, Invert, Both, Either, OneOf, Sum, Difference, Product, Equal, Unequal, Below, AtMost, Join, Cut, Choose, Wide, Other}
@@ -89,3 +91,24 @@ pub record IsLaidOut (net : List NetOp) (steps : List Step) : Type 0 where
 pub record HasRoom (net : List NetOp) (words : List ℕ) (wides : List BitVector) : Type 0 where
   pub each : length words ≡ length net
   pub wide : (id : ℕ) → id < length net → 64 < node_width net id → id < length wides
+
+-- the number at a place
+abbrev pub word_at : List ℕ → ℕ → ℕ
+word_at words id = slice_index_or words id 0
+
+-- the value that is kept as a word where it has up to 64 bits, and as itself where it has more
+abbrev pub kept_value : (width word : ℕ) → BitVector → BitVector
+kept_value width word wide = if nat_le width 64 then record { width = width; number = word } else wide
+
+-- the values of these widths that are kept from a place on
+unfoldable pub kept_from : (widths words : List ℕ) → List BitVector → ℕ → List BitVector
+kept_from [] words wides place = []
+kept_from (width ∷ widths) words wides place =
+    kept_value width (word_at words place) (value_at wides place) ∷ kept_from widths words wides (place + 1)
+
+-- values of these widths are kept: a word for each, and a place in a list, which is no longer, for each wide one
+pub record AreKept (widths words : List ℕ) (wides : List BitVector) : Type 0 where
+  pub fit : AreBits (kept_from widths words wides 0) widths
+  pub each : length words ≡ length widths
+  pub few : length wides ≤ length widths
+  pub wide : (place : ℕ) → place < length widths → 64 < width_at widths place → place < length wides

@@ -31,6 +31,10 @@ is_one value = nat_eq value.number 1
 abbrev pub flags : List BitVector → List Bool
 flags values = map is_one (filter is_one_bit values)
 
+-- the nodes of the outputs of one bit, by the widths of the nodes
+abbrev pub flag_nodes : List ℕ → List OutputWire → List ℕ
+flag_nodes nodes outputs = map (λ (wire : OutputWire). wire.id) (filter (λ (wire : OutputWire). nat_eq (width_at nodes wire.id) 1) outputs)
+
 -- the row after a step
 abbrev pub row_after : Wires → List BitVector → List BitVector → Row
 row_after c inputs states =

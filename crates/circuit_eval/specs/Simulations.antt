@@ -1,10 +1,10 @@
 -- A circuit at a moment between two steps, and its rows from there on.
-use Rattle.std.specs.Prelude.{ℕ, ◌-◌, List, ◌∷◌}
+use Rattle.std.specs.Prelude.{ℕ, ◌-◌, List, ◌∷◌, length}
 use Rattle.kw_bits.specs.BitVector.{BitVector}
 use Rattle.net_graph.specs.Nets.{widths_of}
 use Rattle.circuit_eval.specs.declared.circuit.Wires.{Wires}
 use Rattle.circuit_eval.specs.Machines as machines
-use Rattle.circuit_eval.specs.Run.{first_states, flags, next_states, outputs_in, rows_after, values_in, zero_outputs}
+use Rattle.circuit_eval.specs.Run.{first_states, flag_nodes, flags, next_states, outputs_in, rows_after, values_in, zero_outputs}
 use Rattle.one_rule.specs.Run.{InputsByCycle}
 use Rattle.one_rule.specs.declared.rows.Row.{Row}
 
@@ -31,6 +31,10 @@ after_steps inputs count last s = machines.after_steps after_step inputs count l
 -- some of that many steps were made, from the first on
 abbrev pub MadeSome : InputsByCycle → (count last : ℕ) → Simulation → Simulation → Type 0
 MadeSome inputs count last old new = machines.MadeSome after_step inputs count last old new
+
+-- how many flags its rows have
+abbrev pub flag_count : Simulation → ℕ
+flag_count s = length (flag_nodes (widths_of s.circuit.net) s.circuit.outputs)
 
 -- the row of a moment, and those of the cycles from one to another after it
 abbrev pub row_at : Simulation → Row

@@ -11,7 +11,7 @@ use crate::circuit::Circuit;
 use crate::machine::Machine;
 use crate::sim::Sim;
 use kw_bits::NoMemory;
-use one_rule::{FiredSet, Regs, Row, Rows, Stimulus};
+use one_rule::{FiredSet, Row, Rows, Stimulus};
 use std::alloc::Global;
 
 /// The rows of a circuit's run of n cycles, whose flags are the outputs of one bit. The stimulus is for its inputs.
@@ -76,7 +76,7 @@ fn row_of<M: Machine>(alloc: Global, machine: &M) -> Result<Row, NoMemory>
     ensures { IfOk result (λ row. row ≡ M.row_at machine.now) }
 {
     Ok(Row {
-        regs: Regs::from_slice(alloc, machine.states().as_slice())?,
+        regs: machine.regs(alloc)?,
         fired: FiredSet::from_vec(machine.flags(alloc)?),
     })
 }

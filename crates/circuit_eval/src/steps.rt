@@ -6,10 +6,11 @@ ghost use Rattle.kw_bits.specs.Laws.{HasWidth};
 ghost use Rattle.net_graph.specs.Laws.{Feeds};
 ghost use Rattle.net_graph.specs.Nets.{IsNet, width_at, widths_of};
 ghost use Rattle.net_graph.specs.Values.{node_value, value_at, values_of};
-ghost use Rattle.circuit_eval.specs.Programs.{HasRoom, IsLaidOut, IsNarrow, Makes};
-ghost use Rattle.circuit_eval.specs.inner.Programs.{Keeps, KeepsAt, MakesNoWord, word_at};
+ghost use Rattle.circuit_eval.specs.Programs.{HasRoom, IsLaidOut, IsNarrow, Makes, word_at};
+ghost use Rattle.circuit_eval.specs.inner.Programs.{Keeps, KeepsAt, MakesNoWord};
 
 use crate::program::Step;
+use crate::state_words::StateWords;
 use crate::words::{
     add, and, at_most, below, concat, differ, equal, ite, mul, not, or, slice, sub, xor,
 };
@@ -21,7 +22,7 @@ pub(crate) fn run_steps(
     net: &Net,
     steps: &[Step],
     inputs: &[Bits],
-    states: &[Bits],
+    states: &StateWords,
     words: &mut [u64],
     wides: &mut [Bits],
 )
@@ -47,7 +48,7 @@ fn word_of(
     id: usize,
     step: &Step,
     inputs: &[Bits],
-    states: &[Bits],
+    states: &StateWords,
     words: &[u64],
     wides: &[Bits],
 ) -> Option<u64>
@@ -63,7 +64,7 @@ fn word_of(
     match *step {
         Step::Constant(word) => Some(word),
         Step::TakeInput(number) => Some(inputs[number as usize].number() as u64),
-        Step::TakeState(number) => Some(states[number as usize].number() as u64),
+        Step::TakeState(number) => Some(states.word(number as usize)),
         Step::Copy(a) => Some(at(words, a)),
         Step::Invert(a, mask) => Some(not(at(words, a), mask)),
         Step::Both(a, b) => Some(and(at(words, a), at(words, b))),
@@ -102,7 +103,7 @@ fn make_other(
     id: usize,
     step: &Step,
     inputs: &[Bits],
-    states: &[Bits],
+    states: &StateWords,
     words: &mut [u64],
     wides: &mut [Bits],
 )
@@ -131,7 +132,7 @@ fn value_by_step(
     id: usize,
     step: &Step,
     inputs: &[Bits],
-    states: &[Bits],
+    states: &StateWords,
     words: &[u64],
     wides: &[Bits],
 ) -> Bits
@@ -144,9 +145,7 @@ fn value_by_step(
     ensures { result ≡ node_value (record { inputs = inputs.now; states = states.now }) net.now id }
 {
     match *step {
-        Step::Wide(operator, a, b) => {
-            value_of(&NetOp::Two(operator, a, b), inputs, states, wides)
-        }
+        Step::Wide(operator, a, b) => { value_of(&NetOp::Two(operator, a, b), inputs, &[], wides) }
         _ => value_by_operator(net, id, inputs, states, words, wides),
     }
 }
@@ -156,7 +155,7 @@ fn value_by_operator(
     net: &Net,
     id: usize,
     inputs: &[Bits],
-    states: &[Bits],
+    states: &StateWords,
     words: &[u64],
     wides: &[Bits],
 ) -> Bits
@@ -170,23 +169,23 @@ fn value_by_operator(
     match op {
         NetOp::Const(value) => value,
         NetOp::Input(number, _) => inputs[number as usize],
-        NetOp::State(number, _) => states[number as usize],
+        NetOp::State(number, _) => states.value(number as usize),
         NetOp::One(operator, a) => {
             let operands = [node(net, a, words, wides)];
-            value_of(&NetOp::One(operator, 0), inputs, states, &operands)
+            value_of(&NetOp::One(operator, 0), inputs, &[], &operands)
         }
         NetOp::Two(operator, a, b) => {
             let operands = [node(net, a, words, wides), node(net, b, words, wides)];
-            value_of(&NetOp::Two(operator, 0, 1), inputs, states, &operands)
+            value_of(&NetOp::Two(operator, 0, 1), inputs, &[], &operands)
         }
         NetOp::Slice(a, upper, lower) => node(net, a, words, wides).slice(upper, lower),
         NetOp::Uext(a, added) => {
             let operands = [node(net, a, words, wides)];
-            value_of(&NetOp::Uext(0, added), inputs, states, &operands)
+            value_of(&NetOp::Uext(0, added), inputs, &[], &operands)
         }
         NetOp::Sext(a, added) => {
             let operands = [node(net, a, words, wides)];
-            value_of(&NetOp::Sext(0, added), inputs, states, &operands)
+            value_of(&NetOp::Sext(0, added), inputs, &[], &operands)
         }
         NetOp::Ite(condition, a, b) => {
             if at(words, condition) == 1 {

@@ -102,10 +102,15 @@ returns-in-Input c =
     let h : Has c.args.net.now c.args.id (variant.Input c.in-Input.number c.in-Input.field-1) = here c.args.net.now c.ops.result.now c.args.id c.index-ops-id.result (variant.Input c.in-Input.number c.in-Input.field-1) c.ops.ensures.ops c.requires.node c.index-ops-id.is c.in-Input.is in
     get_or_read c.args.inputs.now c.in-Input.number c.index-inputs-number.result (input_there (record { inputs = c.args.inputs.now; states = c.args.states.now }) c.args.net.now c.args.words.now c.args.wides.now c.args.id c.ops.ensures.net c.requires.feeds c.requires.keeps c.in-Input.number c.in-Input.field-1 h).0 c.index-inputs-number.is no_bits ∙ sym (by_operator (record { inputs = c.args.inputs.now; states = c.args.states.now }) c.args.net.now c.args.id (variant.Input c.in-Input.number c.in-Input.field-1) c.ops.ensures.net h)
 
+pub value-requires : goal.value-requires
+value-requires c =
+    let h : Has c.args.net.now c.args.id (variant.State c.in-State.number c.in-State.field-1) = here c.args.net.now c.ops.result.now c.args.id c.index-ops-id.result (variant.State c.in-State.number c.in-State.field-1) c.ops.ensures.ops c.requires.node c.index-ops-id.is c.in-State.is in
+    (state_there (record { inputs = c.args.inputs.now; states = c.args.states.now }) c.args.net.now c.args.words.now c.args.wides.now c.args.id c.ops.ensures.net c.requires.feeds c.requires.keeps c.in-State.number c.in-State.field-1 h).0
+
 pub returns-in-State : goal.returns-in-State
 returns-in-State c =
     let h : Has c.args.net.now c.args.id (variant.State c.in-State.number c.in-State.field-1) = here c.args.net.now c.ops.result.now c.args.id c.index-ops-id.result (variant.State c.in-State.number c.in-State.field-1) c.ops.ensures.ops c.requires.node c.index-ops-id.is c.in-State.is in
-    get_or_read c.args.states.now c.in-State.number c.index-states-number.result (state_there (record { inputs = c.args.inputs.now; states = c.args.states.now }) c.args.net.now c.args.words.now c.args.wides.now c.args.id c.ops.ensures.net c.requires.feeds c.requires.keeps c.in-State.number c.in-State.field-1 h).0 c.index-states-number.is no_bits ∙ sym (by_operator (record { inputs = c.args.inputs.now; states = c.args.states.now }) c.args.net.now c.args.id (variant.State c.in-State.number c.in-State.field-1) c.ops.ensures.net h)
+    c.value.ensures ∙ sym (by_operator (record { inputs = c.args.inputs.now; states = c.args.states.now }) c.args.net.now c.args.id (variant.State c.in-State.number c.in-State.field-1) c.ops.ensures.net h)
 
 pub returns-in-One : goal.returns-in-One
 returns-in-One c =

@@ -248,10 +248,16 @@ returns-in-Choose-clause-word c =
     let m = subst (λ (it : Step). Makes c.args.net.now c.args.id it) c.in-Choose.is c.requires.makes in
     chosen (record { inputs = c.args.inputs.now; states = c.args.states.now }) c.args.net.now c.args.words.now c.args.wides.now c.args.id c.requires.net c.requires.feeds c.requires.keeps c.in-Choose.condition c.in-Choose.a c.in-Choose.b c.at-in-Choose.result c.at-in-Choose-2.result c.at-in-Choose-3.result c.ite.result m.0 m.1 c.at-in-Choose.ensures c.at-in-Choose-2.ensures c.at-in-Choose-3.ensures c.ite.ensures
 
-pub bounds-states-number : goal.bounds-states-number
-bounds-states-number c =
+pub word-requires-clause-state : goal.word-requires-clause-state
+word-requires-clause-state c =
     let m = subst (λ (it : Step). Makes c.args.net.now c.args.id it) c.in-TakeState.is c.requires.makes in
     (state_there (record { inputs = c.args.inputs.now; states = c.args.states.now }) c.args.net.now c.args.words.now c.args.wides.now c.args.id c.requires.net c.requires.feeds c.requires.keeps c.in-TakeState.number m.0 m.1).0
+
+pub word-requires-clause-narrow : goal.word-requires-clause-narrow
+word-requires-clause-narrow c =
+    let m = subst (λ (it : Step). Makes c.args.net.now c.args.id it) c.in-TakeState.is c.requires.makes in
+    let at = state_there (record { inputs = c.args.inputs.now; states = c.args.states.now }) c.args.net.now c.args.words.now c.args.wides.now c.args.id c.requires.net c.requires.feeds c.requires.keeps c.in-TakeState.number m.0 m.1 in
+    omega (arith, at.1, m.2)
 
 pub overflow_cast-result : goal.overflow_cast-result
 overflow_cast-result c =
@@ -267,16 +273,7 @@ returns-in-TakeInput-clause-word c =
     let same : c.index-inputs-number.result ≡ get_or c.args.inputs.now c.in-TakeInput.number no_bits = get_or_read c.args.inputs.now c.in-TakeInput.number c.index-inputs-number.result at.0 c.index-inputs-number.is no_bits in
     of_input (record { inputs = c.args.inputs.now; states = c.args.states.now }) c.args.net.now c.args.words.now c.args.wides.now c.args.id c.requires.net c.requires.feeds c.requires.keeps c.in-TakeInput.number m.0 c.number.result m.1 m.2 (c.number.ensures.number ∙ ap (λ (v : BitVector). v.number) same)
 
-pub overflow_cast-result-in-TakeState : goal.overflow_cast-result-in-TakeState
-overflow_cast-result-in-TakeState c =
-    let m = subst (λ (it : Step). Makes c.args.net.now c.args.id it) c.in-TakeState.is c.requires.makes in
-    let at = state_there (record { inputs = c.args.inputs.now; states = c.args.states.now }) c.args.net.now c.args.words.now c.args.wides.now c.args.id c.requires.net c.requires.feeds c.requires.keeps c.in-TakeState.number m.0 m.1 in
-    let same : c.index-states-number.result ≡ get_or c.args.states.now c.in-TakeState.number no_bits = get_or_read c.args.states.now c.in-TakeState.number c.index-states-number.result at.0 c.index-states-number.is no_bits in
-    word_fits c.number-in-TakeState.result c.index-states-number.result c.number-in-TakeState.ensures.number c.number-in-TakeState.ensures.bits (omega (arith, ap (λ (v : BitVector). v.width) same, at.1, m.2))
-
 pub returns-in-TakeState-clause-word : goal.returns-in-TakeState-clause-word
 returns-in-TakeState-clause-word c =
     let m = subst (λ (it : Step). Makes c.args.net.now c.args.id it) c.in-TakeState.is c.requires.makes in
-    let at = state_there (record { inputs = c.args.inputs.now; states = c.args.states.now }) c.args.net.now c.args.words.now c.args.wides.now c.args.id c.requires.net c.requires.feeds c.requires.keeps c.in-TakeState.number m.0 m.1 in
-    let same : c.index-states-number.result ≡ get_or c.args.states.now c.in-TakeState.number no_bits = get_or_read c.args.states.now c.in-TakeState.number c.index-states-number.result at.0 c.index-states-number.is no_bits in
-    of_state (record { inputs = c.args.inputs.now; states = c.args.states.now }) c.args.net.now c.args.words.now c.args.wides.now c.args.id c.requires.net c.requires.feeds c.requires.keeps c.in-TakeState.number m.0 c.number-in-TakeState.result m.1 m.2 (c.number-in-TakeState.ensures.number ∙ ap (λ (v : BitVector). v.number) same)
+    of_state (record { inputs = c.args.inputs.now; states = c.args.states.now }) c.args.net.now c.args.words.now c.args.wides.now c.args.id c.requires.net c.requires.feeds c.requires.keeps c.in-TakeState.number m.0 c.word.result m.1 m.2 c.word.ensures
