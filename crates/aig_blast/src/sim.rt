@@ -78,7 +78,8 @@ impl<'a> AigSim<'a> {
 
     /// The outputs in the last step, zeros before the first.
     pub fn outputs(&self) -> &[Bits]
-        ensures { result.now ≡ self.now.outputs }
+        ensures outputs { result.now ≡ self.now.outputs }
+        ensures count { length self.now.outputs ≡ length self.now.aig.outputs }
     {
         self.outputs.as_slice()
     }
