@@ -1,10 +1,12 @@
 pub mod AssignmentsRead
 pub mod BatchesJoined
 pub mod BitsOfNumbers
+pub mod CountedCycles
 pub mod Digits
 pub mod Equals
 pub mod FiredRules
 pub mod FirstOfNames
+pub mod FlagsBeyond
 pub mod GivenInputs
 pub mod Hex
 pub mod LineParts

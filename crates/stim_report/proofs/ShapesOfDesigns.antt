@@ -1,5 +1,5 @@
--- Rows that fit a design fit its shape.
-use Rattle.std.proofs.Common.{◌≡◌, ℕ, List, [], ◌∷◌, map, length, refl, sym, ap, ◌∙◌, subst}
+-- Rows that fit a design match its shape, and fit it.
+use Rattle.std.proofs.Common.{◌≡◌, ℕ, List, [], ◌∷◌, map, length, refl, sym, ap, ◌∙◌, subst, arith}
 use Rattle.std.specs.List.{AllByRecursion}
 use Rattle.std.proofs.lemmas.List.{length-map}
 use Rattle.typed_core.specs.Widths.{HaveWidths}
@@ -14,14 +14,23 @@ widths_named : (decls : List RegDecl) → map (λ (decl : RegDecl). decl.width) 
 widths_named [] = refl
 widths_named (decl ∷ decls) = ap (λ (widths : List ℕ). decl.width ∷ widths) (widths_named decls)
 
-row_fits : (design : Parts) (registers : List NameWidth) (rules : List (List ℕ)) → registers ≡ map shapes.of_register design.regs → rules ≡ map shapes.name_of design.rules
-    → (row : Row) → rows.RowFits design row → shapes.RowFits registers rules row
-row_fits design registers rules is named row fits = record {
+row_matches : (design : Parts) (registers : List NameWidth) (rules : List (List ℕ)) → registers ≡ map shapes.of_register design.regs → rules ≡ map shapes.name_of design.rules
+    → (row : Row) → rows.RowFits design row → shapes.RowMatches registers rules row
+row_matches design registers rules is named row fits = record {
   values = subst (λ (widths : List ℕ). HaveWidths widths row.regs) (widths_named design.regs ∙ ap shapes.widths_of (sym is)) fits.registers;
   flags = fits.flags ∙ sym (length-map design.rules shapes.name_of) ∙ ap length (sym named);
 }
 
+pub rows_match : (design : Parts) (registers : List NameWidth) (rules : List (List ℕ)) → registers ≡ map shapes.of_register design.regs → rules ≡ map shapes.name_of design.rules
+    → (run : List Row) → rows.RowsFit design run → AllByRecursion (shapes.RowMatches registers rules) run
+rows_match design registers rules is named [] fit = tt
+rows_match design registers rules is named (row ∷ run) fit = (row_matches design registers rules is named row fit.0, rows_match design registers rules is named run fit.1)
+
+-- texts can show rows that match
+pub match_fit : (registers : List NameWidth) (rules : List (List ℕ)) (run : List Row) → AllByRecursion (shapes.RowMatches registers rules) run → AllByRecursion (shapes.RowFits registers rules) run
+match_fit registers rules [] all = tt
+match_fit registers rules (row ∷ run) all = (record { values = all.0.values; flags = omega (arith, all.0.flags) }, match_fit registers rules run all.1)
+
 pub rows_fit : (design : Parts) (registers : List NameWidth) (rules : List (List ℕ)) → registers ≡ map shapes.of_register design.regs → rules ≡ map shapes.name_of design.rules
     → (run : List Row) → rows.RowsFit design run → AllByRecursion (shapes.RowFits registers rules) run
-rows_fit design registers rules is named [] fit = tt
-rows_fit design registers rules is named (row ∷ run) fit = (row_fits design registers rules is named row fit.0, rows_fit design registers rules is named run fit.1)
+rows_fit design registers rules is named run fit = match_fit registers rules run (rows_match design registers rules is named run fit)

@@ -1,5 +1,5 @@
 -- What texts show of a system, its shape, and which rows of a run fit it.
-use Rattle.std.specs.Prelude.{◌≡◌, ℕ, List, length, map}
+use Rattle.std.specs.Prelude.{◌≡◌, ℕ, ◌≤◌, List, length, map, take}
 use Rattle.std.specs.List.{AllByRecursion}
 use Rattle.typed_core.specs.Widths.{HaveWidths}
 use Rattle.typed_core.specs.declared.design.InputDecl.{InputDecl}
@@ -30,11 +30,24 @@ shape_of design = record { inputs = map of_input design.inputs; registers = map 
 abbrev pub widths_of : List NameWidth → List ℕ
 widths_of named = map (λ (one : NameWidth). one.width) named
 
--- one value of its width for each register, and one flag for each rule
+-- one value of its width for each register, and a flag for each rule; no text shows further flags
 pub record RowFits (registers : List NameWidth) (rules : List (List ℕ)) (row : Row) : Type 0 where
+  pub values : HaveWidths (widths_of registers) row.regs
+  pub flags : length rules ≤ length row.fired
+
+-- rows that texts of a system of this shape can show
+abbrev pub RowsFit : Shape → List Row → Type 0
+RowsFit shape rows = AllByRecursion (RowFits shape.registers shape.rules) rows
+
+-- one value of its width for each register, and one flag for each rule
+pub record RowMatches (registers : List NameWidth) (rules : List (List ℕ)) (row : Row) : Type 0 where
   pub values : HaveWidths (widths_of registers) row.regs
   pub flags : length row.fired ≡ length rules
 
 -- rows of a system of this shape
-abbrev pub RowsFit : Shape → List Row → Type 0
-RowsFit shape rows = AllByRecursion (RowFits shape.registers shape.rules) rows
+abbrev pub RowsMatch : Shape → List Row → Type 0
+RowsMatch shape rows = AllByRecursion (RowMatches shape.registers shape.rules) rows
+
+-- a row without the flags beyond this many rules
+abbrev pub restricted : ℕ → Row → Row
+restricted rules row = record { regs = row.regs; fired = take rules row.fired }

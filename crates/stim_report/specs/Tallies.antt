@@ -1,7 +1,8 @@
 -- How a tally keeps totals: a count for each rule, none above the number of cycles, and a value of its width for each
 -- register, or none yet.
-use Rattle.std.specs.Prelude.{◌≡◌, ℕ, ◌+◌, ◌-◌, ◌≤◌, ◌<◌, List, [], ◌∷◌, length, map, slice_get, slice_index, slice_index_or, Some}
-use Rattle.std.specs.List.{range_with_len}
+use Rattle.std.specs.Prelude.{◌≡◌, ℕ, Bool, false, ◌+◌, ◌-◌, ◌≤◌, ◌<◌, List, [], ◌∷◌, length, map, slice_get, slice_index, slice_index_or, Some}
+use Rattle.std.specs.Int.{from_bool}
+use Rattle.std.specs.List.{fold, range_with_len}
 use Rattle.kw_bits.specs.BitVector.{BitVector}
 use Rattle.kw_bits.specs.Laws.{HasWidth}
 use Rattle.typed_core.specs.Evaluation.{unit}
@@ -36,4 +37,32 @@ totals_on totals batch = record {
   cycles = totals.cycles + (length batch - 1);
   counts = map (λ rule. slice_index totals.counts rule + fired_count batch rule) (range_with_len 0 (length totals.counts));
   last = kept totals.last batch;
+}
+
+-- the count of a rule after a cycle more, in which the rules of these flags fired
+abbrev pub count_after : List ℕ → List Bool → ℕ → ℕ
+count_after counts fired rule = slice_index counts rule + from_bool (slice_index_or fired rule false)
+
+-- the totals after a cycle more, in which the rules of these flags fired; the registers stay those of before
+unfoldable pub counted : Totals → List Bool → Totals
+counted totals fired = record {
+  registers = totals.registers;
+  rules = totals.rules;
+  cycles = totals.cycles + 1;
+  counts = map (count_after totals.counts fired) (range_with_len 0 (length totals.counts));
+  last = totals.last;
+}
+
+-- the totals after the cycles of rows, each counted by its flags
+abbrev pub counted_all : Totals → List Row → Totals
+counted_all totals rows = fold (λ (t : Totals) (row : Row). counted t row.fired) totals rows
+
+-- the totals with these last registers
+unfoldable pub closed : Totals → List BitVector → Totals
+closed totals regs = record {
+  registers = totals.registers;
+  rules = totals.rules;
+  cycles = totals.cycles;
+  counts = totals.counts;
+  last = regs;
 }

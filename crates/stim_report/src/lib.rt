@@ -10,6 +10,7 @@ mod fired;
 mod given;
 mod laws;
 mod lines;
+mod named;
 mod names;
 mod page;
 mod registers;
@@ -22,6 +23,7 @@ mod value;
 
 pub use laws::a_report_is_made_in_parts;
 pub use lines::{report, report_part};
+pub use named::try_map;
 pub use shape::{NameWidth, Shape, shape_of};
 pub use source::{SourceParts, source_parts};
 pub use stimulus::read_stimulus;

@@ -6,12 +6,13 @@ ghost use Rattle.kw_bits.specs.Laws.{HasWidth};
 ghost use Rattle.one_rule.specs.declared.rows.Row.{Row as RowOf};
 ghost use Rattle.stim_report.specs.Batches.{joined};
 ghost use Rattle.stim_report.specs.Report.{hex};
-ghost use Rattle.stim_report.specs.Shapes.{RowFits, RowsFit};
+ghost use Rattle.stim_report.specs.Shapes.{RowFits, RowsFit, widths_of};
 ghost use Rattle.stim_report.specs.Summary as texts;
 ghost use Rattle.stim_report.specs.Summary.{fired_line, fired_lines, has_fired, last_values, totals_of, totals_text, value_line, value_lines};
-ghost use Rattle.stim_report.specs.Tallies.{AreOf, kept, totals_on};
-ghost use Rattle.stim_report.specs.inner.Tallies.{AddsCounts};
+ghost use Rattle.stim_report.specs.Tallies.{AreOf, closed, counted, kept, totals_on};
+ghost use Rattle.stim_report.specs.inner.Tallies.{AddsCounts, AddsFired};
 ghost use Rattle.stim_report.specs.declared.shape.Shape.{Shape as ShapeOf};
+ghost use Rattle.typed_core.specs.Widths.{HaveWidths};
 
 use crate::registers::push_hex;
 use crate::shape::{copy_named, copy_names};
@@ -72,6 +73,25 @@ impl Tally {
         self.cycles = u64::from(from) + (rows.len() - 1) as u64;
     }
 
+    /// Adds one cycle, in which the rules of these flags fired. Flags beyond the rules count for nothing. The registers
+    /// stay those of before until `close`. It allocates nothing.
+    pub fn count(&mut self, fired: &[bool])
+        requires flags { length self.old.rules ≤ length fired.now }
+        requires few { self.old.cycles + 1 < 2 ^ 64 }
+        ensures { self.new ≡ counted self.old fired.now }
+    {
+        add_fired(&mut self.counts, fired);
+        self.cycles += 1;
+    }
+
+    /// Takes the registers after the cycles that were counted. It allocates nothing.
+    pub fn close(&mut self, regs: &[Bits])
+        requires { HaveWidths (widths_of self.old.registers) regs.now }
+        ensures { self.new ≡ closed self.old regs.now }
+    {
+        replace(&mut self.last, regs);
+    }
+
     /// The summary of the rows so far.
     pub fn text(&self) -> Result<Text, NoMemory>
         ensures { IfOk result (λ text. text ≡ totals_text self.now) }
@@ -119,6 +139,17 @@ fn add_counts(counts: &mut Vec<u64>, rows: &[Row], cycles: u64)
     for rule in 0..counts.len() {
         let more = fired_count(rows, rule);
         counts[rule] += more;
+    }
+}
+
+// Adds 1 to the count of each rule that fired.
+fn add_fired(counts: &mut [u64], fired: &[bool])
+    requires flags { length counts.old ≤ length fired.now }
+    requires few { (rule : ℕ) → rule < length counts.old → slice_index counts.old rule + 1 < 2 ^ 64 }
+    ensures { AddsFired counts.old counts.new fired.now }
+{
+    for rule in 0..counts.len() {
+        counts[rule] += u64::from(fired[rule]);
     }
 }
 
