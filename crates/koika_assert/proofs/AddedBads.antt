@@ -32,7 +32,7 @@ use Rattle.btor2_net.proofs.Asking.{asked-one, four, value-given}
 use Rattle.btor2_model.proofs.Declared.{fine-lines}
 use Rattle.btor2_net.proofs.Keeping.{Good, Keeps, Names, continued-by, keeps-all, keeps-both, known-by, names-keep, not-picked, picked, put-good, put-keeps, set_by, set_of, value-keep}
 use Rattle.koika_assert.specs.Bads.{bad_line, bad_lines}
-use Rattle.koika_assert.proofs.TurnedValues.{SameGiven, given-head, given-tail}
+use Rattle.koika_assert.proofs.SameRuns.{SameGiven, given-head, given-tail}
 
 -- what is known at the end and wasn't before stands on a line
 declared-here : (lines : List Line) (scope : DeclaredIds) (id : ℕ) (m : IdMeaning) → scope.meanings id ≡ None → (behind_all scope lines).meanings id ≡ Some m → (place : ℕ) × (line : Line) × (slice_get lines place ≡ Some line) × (line.id ≡ id)

@@ -1,5 +1,5 @@
 -- The first cycle of a rule in the rows so far and in a batch that goes on from them.
-use Rattle.std.proofs.Common.{◌≡◌, ℕ, ◌+◌, ◌-◌, ◌<◌, Bool, true, false, cond, List, [], ◌∷◌, ◌++◌, length, length-append, map, replicate, take, drop, get_or, Option, None, Some, refl, sym, ap, ◌∙◌, subst, arith}
+use Rattle.std.proofs.Common.{◌≡◌, ℕ, ◌+◌, ◌-◌, ◌<◌, Bool, true, false, cond, List, [], ◌∷◌, ◌++◌, length, map, replicate, take, drop, get_or, Option, None, Some, refl, sym, ap, ◌∙◌, subst, arith}
 use Rattle.std.specs.List.{position_from, zip}
 use Rattle.std.specs.Option.{option_or}
 use Rattle.std.proofs.lemmas.List.{ext_get_or, get_or-map, length-map, take_all}
@@ -55,7 +55,8 @@ watched_joined names marks before batch known firsts cycles is some adds more =
     ∙ ap (λ (fs : List (Option ℕ)). record { names = names; marks = marks; cycles = last_cycle (joined before batch); firsts = fs }) (firsts_joined before batch marks firsts adds))
     adds more
 
-zip_count : (xs : List (Option ℕ)) (ys : List ℕ) → length xs ≡ length ys → length (zip xs ys) ≡ length xs
+-- there is a pair for each
+pub zip_count : (xs : List (Option ℕ)) (ys : List ℕ) → length xs ≡ length ys → length (zip xs ys) ≡ length xs
 zip_count [] ys same = refl
 zip_count (x ∷ xs) [] same = absurd (omega (arith, same))
 zip_count (x ∷ xs) (y ∷ ys) same = let rest = zip_count xs ys (omega (arith, same)) in omega (arith, rest)

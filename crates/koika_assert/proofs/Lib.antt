@@ -1,4 +1,5 @@
 pub mod AddedBads
+pub mod CountedMarks
 pub mod FirstsJoined
 pub mod LaidOutBads
 pub mod MarkedRuns
@@ -6,7 +7,5 @@ pub mod MoreBads
 pub mod NarrowOutputs
 pub mod SameRuns
 pub mod TidyBads
+pub mod TurnedLines
 pub mod TurnedRuns
-pub mod TurnedScopes
-pub mod TurnedTexts
-pub mod TurnedValues

@@ -1,5 +1,5 @@
 -- A text has the run of another where it has its lines of inputs, states and what sets them, and its values.
-use Rattle.std.proofs.Common.{◌≡◌, ℕ, zero, suc, ◌+◌, nat_eq, Bool, false, List, Option, None, Some, get_or, map, refl, sym, ap, ap₂, ◌∙◌, subst, All}
+use Rattle.std.proofs.Common.{◌≡◌, ℕ, zero, suc, ◌+◌, nat_eq, Bool, true, false, cond, List, ◌∷◌, Option, None, Some, get_or, map, refl, sym, ap, ap₂, ◌∙◌, subst, All}
 use Rattle.std.specs.Prelude.{slice_get}
 use Rattle.std.specs.List.{find, zip}
 use Rattle.std.specs.Map.{lookup}
@@ -9,7 +9,7 @@ use Rattle.kw_bits.specs.BitVector.{BitVector, zero_at}
 use Rattle.one_rule.specs.Run.{InputsByCycle}
 use Rattle.btor2_text.specs.declared.line.Line.{Line}
 use Rattle.btor2_model.specs.Acceptance.{IsAccepted, lines_fault}
-use Rattle.btor2_model.specs.Rules.{is_init, is_input, is_next, is_state}
+use Rattle.btor2_model.specs.Rules.{is_init, is_input, is_next, is_state, rule_of}
 use Rattle.btor2_model.specs.Run.{StepValues, Values, first_state_values, ids_of, input_values, lines_by_rule, next_values, no_bits, states_at, value_set, values_at, values_in, width_in}
 use Rattle.btor2_model.specs.Scope.{DeclaredIds, behind_all, id_at, no_lines}
 use Rattle.btor2_model.specs.inner.SlowRun.{sets}
@@ -18,7 +18,25 @@ use Rattle.btor2_model.specs.declared.rule.FormRule.TheVariants as forms
 use Rattle.btor2_model.proofs.Ends.{SameWidth, init-found}
 use Rattle.btor2_model.proofs.Selections.{set-by}
 use Rattle.btor2_model.proofs.Declared.{IsValue, all-passing, fine-lines, next-of, own-value, state-values}
-use Rattle.koika_assert.proofs.TurnedValues.{SameGiven}
+
+-- both steps give inputs and the states of these lines the same values
+pub record SameGiven (step other : StepValues) (lines : List Line) : Type 0 where
+  pub inputs : other.inputs ≡ step.inputs
+  pub states : (place id : ℕ) → slice_get (ids_of is_state lines) place ≡ Some id → other.states id ≡ step.states id
+
+ids-kept : (line : Line) (lines : List Line) (b : Bool) → is_state (rule_of line.keyword) ≡ b → ids_of is_state (line ∷ lines) ≡ cond b (line.id ∷ ids_of is_state lines) (ids_of is_state lines)
+ids-kept line lines true is = ap (λ (b : Bool). map (λ (l : Line). l.id) (cond b (line ∷ lines_by_rule is_state lines) (lines_by_rule is_state lines))) is
+ids-kept line lines false is = ap (λ (b : Bool). map (λ (l : Line). l.id) (cond b (line ∷ lines_by_rule is_state lines) (lines_by_rule is_state lines))) is
+
+pub given-head : (step other : StepValues) (line : Line) (lines : List Line) → SameGiven step other (line ∷ lines) → is_state (rule_of line.keyword) ≡ true → other.states line.id ≡ step.states line.id
+given-head step other line lines g is = g.states 0 line.id (ap (λ (ids : List ℕ). slice_get ids 0) (ids-kept line lines true is))
+
+pub given-tail : (step other : StepValues) (line : Line) (lines : List Line) → SameGiven step other (line ∷ lines) → SameGiven step other lines
+given-tail step other line lines g = record { inputs = g.inputs; states = by (is_state (rule_of line.keyword)) refl }
+  where
+    by : (b : Bool) → is_state (rule_of line.keyword) ≡ b → (place id : ℕ) → slice_get (ids_of is_state lines) place ≡ Some id → other.states id ≡ step.states id
+    by true is place id at = g.states (suc place) id (ap (λ (ids : List ℕ). slice_get ids (suc place)) (ids-kept line lines true is) ∙ at)
+    by false is place id at = g.states place id (ap (λ (ids : List ℕ). slice_get ids place) (ids-kept line lines false is) ∙ at)
 
 -- what holds of each line holds of the one at a place
 at-place : (P : ℕ → Type 0) (lines : List Line) (place id : ℕ) → All (λ (line : Line). P line.id) lines → slice_get (map (λ (line : Line). line.id) lines) place ≡ Some id → P id

@@ -1,15 +1,16 @@
 -- The `bad` lines of a BTOR2 file (Niemetz et al., CAV 2018): each marks a value of one bit, and is violated
 -- in a cycle in which that value is 1. The text that shows them is this project's own.
-use Rattle.std.specs.Prelude.{◌≡◌, ◌==◌, ℕ, ◌+◌, not, Bool, false, List, [], ◌∷◌, ◌++◌, length, map, filter, slice_get, slice_index_or}
-use Rattle.std.specs.List.{filter_map}
+use Rattle.std.specs.Prelude.{◌≡◌, ◌==◌, ℕ, ◌+◌, ◌||◌, Bool, false, List, [], ◌∷◌, ◌++◌, length, map, filter, slice_get, slice_index_or}
+use Rattle.std.specs.List.{AllByRecursion, filter_map}
 use Rattle.kw_base.specs.Place.{capped}
 use Rattle.one_rule.specs.Run.{InputsByCycle}
 use Rattle.btor2_text.specs.declared.keyword.Keyword.{Keyword}
 use Rattle.btor2_text.specs.declared.keyword.Keyword.TheVariants as keywords
 use Rattle.btor2_text.specs.declared.line.Line.{Line}
-use Rattle.btor2_model.specs.Rules.{is_bad, is_input, is_output, is_state, rule_of}
-use Rattle.btor2_model.specs.Run.{first_row, ids_of, lines_by_rule, row_behind, run_of, values_in, width_in}
+use Rattle.btor2_model.specs.Rules.{is_bad, is_input, is_output, is_state}
+use Rattle.btor2_model.specs.Run.{first_row, lines_by_rule, row_behind, run_of, values_in, width_in}
 use Rattle.btor2_model.specs.Scope.{id_at}
+use Rattle.btor2_model.specs.declared.rule.FormRule.{FormRule}
 use Rattle.btor2_net.specs.Translations.{names_of, output_widths, widths_in}
 
 -- a bad line becomes an output
@@ -20,21 +21,33 @@ as_output other = other
 abbrev pub turned : Line → Line
 turned line = record { id = line.id; keyword = as_output line.keyword; arguments = line.arguments; symbol = line.symbol; number = line.number }
 
--- the lines without the outputs, each bad line an output
-abbrev pub bads_as_outputs : List Line → List Line
-bads_as_outputs lines = map turned (filter (λ line. not (is_output (rule_of line.keyword))) lines)
+-- the lines, each bad line an output in its place
+abbrev pub bads_beside_outputs : List Line → List Line
+bads_beside_outputs lines = map turned lines
+
+-- a line of an output, or a bad line
+abbrev pub is_shown : FormRule → Bool
+is_shown rule = is_output rule || is_bad rule
 
 -- the line is violated in the cycle of a step
 abbrev pub is_violated : List Line → InputsByCycle → ℕ → Line → Bool
 is_violated lines inputs step line = (values_in lines inputs step (id_at line.arguments 0)).number == 1
 
--- the flags of one text are the violations of the other's bad lines, in order, and none before all steps; both have
--- inputs of the same widths
-pub record ShowsViolations (lines shown : List Line) : Type 0 where
-  pub inputs : map (width_in shown) (ids_of is_input shown) ≡ map (width_in lines) (ids_of is_input lines)
-  pub names : lines_by_rule is_output shown ≡ map turned (lines_by_rule is_bad lines)
-  pub first : (first_row shown).fired ≡ map (λ _. false) (lines_by_rule is_bad lines)
-  pub flags : (inputs : InputsByCycle) (step : ℕ) → (row_behind shown inputs step).fired ≡ map (is_violated lines inputs step) (lines_by_rule is_bad lines)
+-- one text has the inputs and states of the other, of the same names and widths, and the same states in each step. It has an
+-- output for each output and each bad line of the other, in order, of the same value in each step. A bad line's has one bit
+pub record ShowsBeside (lines shown : List Line) : Type 0 where
+  pub inputs : names_of is_input shown ≡ names_of is_input lines
+  pub input_widths : widths_in is_input shown ≡ widths_in is_input lines
+  pub states : names_of is_state shown ≡ names_of is_state lines
+  pub state_widths : widths_in is_state shown ≡ widths_in is_state lines
+  pub outputs : lines_by_rule is_output shown ≡ map turned (lines_by_rule is_shown lines)
+  pub widths : output_widths shown ≡ map (λ (line : Line). width_in lines (id_at line.arguments 0)) (lines_by_rule is_shown lines)
+  pub one_bit : AllByRecursion (λ (bad : Line). width_in lines (id_at bad.arguments 0) ≡ 1) (lines_by_rule is_bad lines)
+  pub first : (first_row shown).regs ≡ (first_row lines).regs
+  pub later : (given : InputsByCycle) (step : ℕ) → (row_behind shown given step).regs ≡ (row_behind lines given step).regs
+  pub values : (given : InputsByCycle) (step : ℕ)
+      → map (λ (line : Line). values_in shown given step (id_at line.arguments 0)) (lines_by_rule is_output shown)
+      ≡ map (λ (line : Line). values_in lines given step (id_at line.arguments 0)) (lines_by_rule is_shown lines)
 
 -- the outputs of one bit, in order
 abbrev pub flag_lines : List Line → List Line

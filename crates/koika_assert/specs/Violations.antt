@@ -1,7 +1,7 @@
 -- Violations of assertions: a rule may be marked, and a cycle in which a marked rule fires violates its assertion. The
 -- text of violations is this project's own.
-use Rattle.std.specs.Prelude.{ℕ, ◌+◌, Option, None, Some, List, [], ◌∷◌, ◌++◌, map, length, drop, codes, decimal}
-use Rattle.std.specs.List.{position_from, zip}
+use Rattle.std.specs.Prelude.{ℕ, ◌+◌, Bool, false, if◌then◌else◌, Option, None, Some, List, [], ◌∷◌, ◌++◌, map, length, drop, slice_index_or, codes, decimal}
+use Rattle.std.specs.List.{fold, position_from, zip}
 use Rattle.std.specs.Option.{option_or}
 use Rattle.one_rule.specs.declared.rows.Row.{Row}
 use Rattle.stim_report.specs.Batches.{last_cycle}
@@ -36,6 +36,24 @@ watched_on known batch =
       cycles = known.cycles + length (drop 1 batch);
       firsts = map (first_from (known.cycles + 1) (drop 1 batch)) (zip known.firsts known.marks);
     }
+
+-- the first cycle of a mark, and where there is none yet, this one if its rule fired in it
+abbrev pub first_after : ℕ → List Bool → Option ℕ × ℕ → Option ℕ
+first_after cycle fired mark = option_or mark.0 (if slice_index_or fired mark.1 false then Some cycle else None)
+
+-- what is known after a cycle more, in which the rules of these flags fired
+unfoldable pub counted : Watched → List Bool → Watched
+counted known fired =
+    record {
+      names = known.names;
+      marks = known.marks;
+      cycles = known.cycles + 1;
+      firsts = map (first_after (known.cycles + 1) fired) (zip known.firsts known.marks);
+    }
+
+-- and after the cycles of rows, each counted by its flags
+abbrev pub counted_all : Watched → List Row → Watched
+counted_all known rows = fold (λ (k : Watched) (row : Row). counted k row.fired) known rows
 
 -- the line of a mark that was violated
 abbrev pub violated_line : List ℕ → Option ℕ → List ℕ

@@ -1,4 +1,4 @@
-//! Reports: a BTOR2 file whose outputs are the `bad` lines of another.
+//! Reports: a BTOR2 file that has the `bad` lines of another as outputs too.
 
 // The `bad` lines of a BTOR2 file.
 ghost use Rattle.std.specs.Prelude.{◌≡◌, IfOk, None};
@@ -7,16 +7,17 @@ ghost use Rattle.btor2_model.specs.Acceptance.{first_fault};
 ghost use Rattle.koika_assert.specs.Bads as bads;
 
 use crate::copies::{copied_arguments, copied_symbol};
-use btor2_model::{Btor, FormRule, accept};
+use btor2_model::{Btor, accept};
 use btor2_text::{Keyword, Line, Lines};
 use kw_base::Refusal;
 use kw_bits::NoMemory;
 use std::alloc::Global;
 
-/// The text without its outputs, each bad line an output. Its flags are the violations of the bad lines.
-pub fn bads_as_outputs(alloc: Global, text: &Btor) -> Result<Btor, NoMemory>
-    ensures lines { IfOk result (λ shown. shown ≡ bads.bads_as_outputs text.now) }
-    ensures violations { IfOk result (bads.ShowsViolations text.now) }
+/// The text with each bad line an output in its place. Its outputs show those of the text, and which bad lines are
+/// violated.
+pub fn bads_beside_outputs(alloc: Global, text: &Btor) -> Result<Btor, NoMemory>
+    ensures lines { IfOk result (λ shown. shown ≡ bads.bads_beside_outputs text.now) }
+    ensures beside { IfOk result (bads.ShowsBeside text.now) }
 {
     let lines = turned_lines(alloc, text.lines().as_slice())?;
     accepted(alloc, lines)
@@ -35,15 +36,13 @@ fn accepted(alloc: Global, lines: Lines) -> Result<Btor, NoMemory>
     }
 }
 
-// The lines without the outputs, each bad line an output.
+// The lines, each bad line an output.
 fn turned_lines(alloc: Global, lines: &[Line]) -> Result<Lines, NoMemory>
-    ensures { IfOk result (λ shown. shown ≡ bads.bads_as_outputs lines.now) }
+    ensures { IfOk result (λ shown. shown ≡ bads.bads_beside_outputs lines.now) }
 {
     let mut shown = Lines::new(alloc);
     for line in lines {
-        if !FormRule::of(line.keyword).is_output() {
-            shown.push(turned(alloc, line)?)?;
-        }
+        shown.push(turned(alloc, line)?)?;
     }
     Ok(shown)
 }

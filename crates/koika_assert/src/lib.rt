@@ -2,8 +2,8 @@
 //!
 //! `specs/Violations.antt` says in which cycle a marked rule is violated first, and which bytes say so. `koika_top`
 //! passes the rows of a run with marks to a `Watch`, batch by batch, and writes its text after the report or the
-//! summary. `specs/Bads.antt` says which text shows the violations of a BTOR2 file's `bad` lines as flags, which
-//! `koika_top` runs, and which `bad` lines show marked flags, which it adds to the text that it compiles a design to.
+//! summary. `specs/Bads.antt` says which text shows a BTOR2 file's `bad` lines beside its outputs, which `koika_top` runs,
+//! and which `bad` lines show marked flags, which it adds to the text that it compiles a design to.
 #![tactic(auto)]
 
 mod bads;
@@ -11,6 +11,6 @@ mod copies;
 mod marks;
 mod watch;
 
-pub use bads::bads_as_outputs;
+pub use bads::bads_beside_outputs;
 pub use marks::add_bads;
 pub use watch::Watch;

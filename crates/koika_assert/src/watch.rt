@@ -1,9 +1,9 @@
 //! Reports: the first violated cycle of each marked rule, in the batches of a run.
 
-ghost use Rattle.std.specs.Prelude.{◌≡◌, ◌+◌, ◌<◌, ◌++◌, ◌^◌, ℕ, List, [], IfOk, OnOk, None, Some, length, replicate};
+ghost use Rattle.std.specs.Prelude.{◌≡◌, ◌+◌, ◌<◌, ◌++◌, ◌^◌, ℕ, List, [], IfOk, OnOk, None, Some, false, if◌then◌else◌, length, replicate, slice_index_or};
 ghost use Rattle.std.specs.List.{position_from};
-ghost use Rattle.koika_assert.specs.inner.Marks.{AddsFirsts};
-ghost use Rattle.koika_assert.specs.Violations.{violated_line, violated_lines, watched, watched_on, watched_text};
+ghost use Rattle.koika_assert.specs.inner.Marks.{AddsCycle, AddsFirsts};
+ghost use Rattle.koika_assert.specs.Violations.{counted, violated_line, violated_lines, watched, watched_on, watched_text};
 ghost use Rattle.one_rule.specs.declared.rows.Row.{Row as RowOf};
 ghost use Rattle.stim_report.specs.Batches.{joined};
 ghost use Rattle.stim_report.specs.Summary as summaries;
@@ -70,6 +70,15 @@ impl Watch {
         self.cycles = from + later.len() as u64;
     }
 
+    /// Adds one cycle, in which the rules of these flags fired. It allocates nothing.
+    pub fn count(&mut self, fired: &[bool])
+        requires { self.old.cycles + 1 < 2 ^ 64 }
+        ensures { self.new ≡ counted self.old fired.now }
+    {
+        self.cycles += 1;
+        add_cycle(&mut self.firsts, self.marks.as_slice(), fired, self.cycles);
+    }
+
     /// A line for each mark that was violated, with the first cycle.
     pub fn text(&self) -> Result<Text, NoMemory>
         ensures { IfOk result (λ text. text ≡ watched_text self.now) }
@@ -97,6 +106,31 @@ fn add_firsts(firsts: &mut Vec<Option<u64>>, marks: &[u32], rows: &[Row], cycle:
         if firsts[number].is_none() {
             firsts[number] = first_fired(rows, marks[number], cycle);
         }
+    }
+}
+
+// Gives the marks that have no cycle yet this one, where their rules fired.
+fn add_cycle(firsts: &mut Vec<Option<u64>>, marks: &[u32], fired: &[bool], cycle: u64)
+    requires { length firsts.old.items ≡ length marks.now }
+    ensures { AddsCycle marks.now cycle fired.now firsts.old.items firsts.new.items }
+{
+    for number in 0..firsts.len() {
+        let has_none = firsts[number].is_none();
+        if has_none {
+            firsts[number] = cycle_if_fired(fired, marks[number], cycle);
+        }
+    }
+}
+
+// The cycle, where the rule fired.
+fn cycle_if_fired(fired: &[bool], rule: u32, cycle: u64) -> Option<u64>
+    ensures { result ≡ if slice_index_or fired.now rule false then Some cycle else None }
+{
+    let rule = rule as usize;
+    if rule < fired.len() && fired[rule] {
+        Some(cycle)
+    } else {
+        None
     }
 }
 
