@@ -1,9 +1,10 @@
 -- How an AIGER text is cut: into lines at its line feeds, without the carriage returns at their ends, and a line into
 -- words at spaces and tabs. AIGER ASCII (Biere, Heljanko and Wieringa, 2011), as this project reads it.
-use Rattle.std.specs.Prelude.{ℕ, ◌^◌, ◌&&◌, not, Bool, if◌then◌else◌, nat_lt, List, [], ◌∷◌, map, Option, None, Some}
+use Rattle.std.specs.Prelude.{◌≡◌, ℕ, ◌<◌, ◌^◌, ◌&&◌, not, Bool, if◌then◌else◌, nat_lt, List, [], ◌∷◌, length, map, Option, None, Some}
 use Rattle.std.specs.Str.Parse.{digits_value}
 use Rattle.kw_base.specs.Texts as texts
 use Rattle.kw_base.specs.Texts.{is_blank, is_numeral, is_return, rest_of, whole_lines}
+use Rattle.kw_base.specs.declared.texts.Line.{Line}
 
 -- a byte before a line's other bytes: a carriage return that nothing follows is left out
 abbrev pub before_bytes : ℕ → List ℕ → List ℕ
@@ -18,6 +19,11 @@ without_returns (b ∷ bytes) = before_bytes b (without_returns bytes)
 -- the lines of a text
 unfoldable pub lines_of : List ℕ → List (List ℕ)
 lines_of text = map without_returns (whole_lines text)
+
+-- the first line of a text, with what comes after it
+pub record IsCutFrom (text : List ℕ) (line : Line) : Type 0 where
+  pub first : lines_of text ≡ line.bytes.now ∷ lines_of line.rest.now
+  pub shorter : length line.rest.now < length text
 
 -- the words of a line
 abbrev pub words_of : List ℕ → List (List ℕ)

@@ -1,9 +1,9 @@
 //! AIGER texts cut into lines and words.
 
-ghost use Rattle.std.specs.Prelude.{◌≡◌, ◌<◌, ◌∷◌, [], length, IfSome, IfNone};
+ghost use Rattle.std.specs.Prelude.{◌≡◌, [], IfSome, IfNone};
 ghost use Rattle.kw_base.specs.Texts.{front_of, is_blank, rest_of};
 ghost use Rattle.aiger_text.specs.Cuts as cuts;
-ghost use Rattle.aiger_text.specs.Cuts.{lines_of, not_blank};
+ghost use Rattle.aiger_text.specs.Cuts.{IsCutFrom, lines_of, not_blank};
 
 use kw_base::texts::{Line, Separator, next_whole_line, split_before, without_blanks};
 
@@ -23,8 +23,7 @@ fn without_returns(line: &[u8]) -> &[u8]
 
 /// The first line of a text, if it has a byte, without the carriage returns at its end.
 pub(crate) fn next_stripped_line(text: &[u8]) -> Option<Line<'_>>
-    ensures found { IfSome result (λ line. lines_of text.now ≡ line.bytes.now ∷ lines_of line.rest.now) }
-    ensures shorter { IfSome result (λ line. length line.rest.now < length text.now) }
+    ensures found { IfSome result (IsCutFrom text.now) }
     ensures absent { IfNone result (lines_of text.now ≡ []) }
 {
     let Some(line) = next_whole_line(text) else {

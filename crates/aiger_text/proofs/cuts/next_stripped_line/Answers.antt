@@ -8,4 +8,7 @@ returns-in_default-clause-absent c = ap (map without_returns) c.in_default.ensur
 
 pub returns-clause-found : goal.returns-clause-found
 unfolding lines_of
-returns-clause-found c = ap (map without_returns) c.in-Some.ensures.found ∙ ap (λ (bytes : List ℕ). bytes ∷ lines_of c.in-Some.line.rest.now) (sym c.without_returns.ensures)
+returns-clause-found c = record {
+  first = ap (map without_returns) c.in-Some.ensures.found ∙ ap (λ (bytes : List ℕ). bytes ∷ lines_of c.in-Some.line.rest.now) (sym c.without_returns.ensures);
+  shorter = c.in-Some.ensures.shorter;
+}

@@ -13,19 +13,19 @@ loop-line-init c = ap (λ (d : Draft). draft_from c.args.header.now d 2 (lines_o
 
 pub returns-then-is_end-clause-draft : goal.returns-then-is_end-clause-draft
 returns-then-is_end-clause-draft c =
-    read_stop c.args.header.now (parts_of c.loop-line.draft) c.loop-line.number c.loop-line.rest.now c.in-Some.line.bytes.now c.in-Some.line.rest.now _ c.in-Some.ensures.found
+    read_stop c.args.header.now (parts_of c.loop-line.draft) c.loop-line.number c.loop-line.rest.now c.in-Some.line.bytes.now c.in-Some.line.rest.now _ c.in-Some.ensures.found.first
     (ap (λ (s : Section). is_end s c.in-Some.line.bytes.now) (sym c.section-section.ensures) ∙ sym c.is_end.ensures ∙ c.if-is_end.true) c.loop-line.invariant
 
 pub returns-in_err-add_line-clause-fault : goal.returns-in_err-add_line-clause-fault
 returns-in_err-add_line-clause-fault c =
     let p = err_from_is_err_and c.from_residual.result c.from_residual.ensures.1 in
     rw (p.1, p.2) (faults_pass c.in_err-add_line.field-0.0 _ _ c.in_err-add_line.ensures.fault (λ fault reads.
-    read_fault c.args.header.now (parts_of c.loop-line.draft) c.loop-line.number c.loop-line.rest.now c.in-Some.line.bytes.now c.in-Some.line.rest.now fault _ c.in-Some.ensures.found
+    read_fault c.args.header.now (parts_of c.loop-line.draft) c.loop-line.number c.loop-line.rest.now c.in-Some.line.bytes.now c.in-Some.line.rest.now fault _ c.in-Some.ensures.found.first
     (ap (λ (s : Section). is_end s c.in-Some.line.bytes.now) (sym c.section-section.ensures) ∙ sym c.is_end.ensures ∙ c.if-is_end.false) reads c.loop-line.invariant))
 
 pub loop-line-preserved : goal.loop-line-preserved
 loop-line-preserved c =
-    read_more c.args.header.now (parts_of c.loop-line.draft) (parts_of c.add_line.new.draft) c.loop-line.number c.saturating_add-number.result c.loop-line.rest.now c.in-Some.line.bytes.now c.in-Some.line.rest.now _ c.in-Some.ensures.found
+    read_more c.args.header.now (parts_of c.loop-line.draft) (parts_of c.add_line.new.draft) c.loop-line.number c.saturating_add-number.result c.loop-line.rest.now c.in-Some.line.bytes.now c.in-Some.line.rest.now _ c.in-Some.ensures.found.first
     (ap (λ (s : Section). is_end s c.in-Some.line.bytes.now) (sym c.section-section.ensures) ∙ sym c.is_end.ensures ∙ c.if-is_end.false) c.in_ok-add_line.ensures.ok c.saturating_add-number.ensures c.loop-line.invariant
 
 pub returns-in-Symbol-clause-draft : goal.returns-in-Symbol-clause-draft
