@@ -6,7 +6,7 @@ use Rattle.kw_bits.specs.BitVector.{BitVector}
 use Rattle.typed_core.specs.Widths.{HaveWidths}
 use Rattle.one_rule.specs.Run.{InputsByCycle}
 use Rattle.one_rule.specs.declared.rows.Row.{Row}
-use Rattle.stim_report.specs.Shapes.{RowFits, RowsFit, widths_of}
+use Rattle.stim_report.specs.Shapes.{RowMatches, RowsMatch, widths_of}
 use Rattle.stim_report.specs.declared.shape.NameWidth.{NameWidth}
 use Rattle.stim_report.specs.declared.shape.Shape.{Shape}
 use Rattle.wave_text.specs.Parts.{last_of, moments_before_last}
@@ -66,9 +66,9 @@ rest_fits P xs i x h all = (subst (AllByRecursion P) (drop_more xs i x h) all).1
 
 -- there is a value for each variable
 pub count_levels : (shape : Shape) (widths : List ℕ) (inputs : List BitVector) (rows : List Row) (i : ℕ) (row next : Row) → i + 1 < length rows → row ≡ get_or rows i row → next ≡ get_or rows (i + 1) next
-    → RowsFit shape (drop i rows) → widths ≡ widths_of shape.inputs → HaveWidths widths inputs → (now : List Level) → now ≡ levels inputs row.regs next.fired → length now ≡ length (variables shape)
+    → RowsMatch shape (drop i rows) → widths ≡ widths_of shape.inputs → HaveWidths widths inputs → (now : List Level) → now ≡ levels inputs row.regs next.fired → length now ≡ length (variables shape)
 count_levels shape widths inputs rows i row next h row_is next_is fit are have now is =
-    let P = RowFits shape.registers shape.rules in
+    let P = RowMatches shape.registers shape.rules in
     let some : i < length rows = omega (arith, h) in
     let first : P row = next_fits P rows i row some row_is fit in
     let second : P next = next_fits P rows (i + 1) next h next_is (rest_fits P rows i row some fit) in

@@ -11,7 +11,7 @@ use Rattle.kw_bits.specs.Laws.{HasWidth}
 use Rattle.typed_core.specs.Widths.{HaveWidths}
 use Rattle.one_rule.specs.Run.{InputsByCycle}
 use Rattle.one_rule.specs.declared.rows.Row.{Row}
-use Rattle.stim_report.specs.Shapes.{RowFits, RowsFit, widths_of}
+use Rattle.stim_report.specs.Shapes.{RowMatches, RowsMatch, widths_of}
 use Rattle.stim_report.specs.declared.shape.NameWidth.{NameWidth}
 use Rattle.stim_report.specs.declared.shape.Shape.{Shape}
 use Rattle.wave_text.specs.Reading.{ClockReadsBack, ReadsBack, value_at}
@@ -159,7 +159,7 @@ module _ (shape : Shape) (few : length (variables shape) ≤ 2 ^ 32) where
       (length-append (numbered Input 0 shape.inputs) (numbered Register 0 shape.registers) ∙ ap₂ (λ (x y : ℕ). x + y) first second ∙ sym (length-append a b))
       (fine_append (numbered Input 0 shape.inputs) (numbered Register 0 shape.registers) a b first i r) f
 
-  inner_moment : (inputs : List BitVector) (row next : Row) → HaveWidths (widths_of shape.inputs) inputs → RowFits shape.registers shape.rules row → RowFits shape.registers shape.rules next
+  inner_moment : (inputs : List BitVector) (row next : Row) → HaveWidths (widths_of shape.inputs) inputs → RowMatches shape.registers shape.rules row → RowMatches shape.registers shape.rules next
       → IsMoment (variables shape) (levels inputs row.regs next.fired)
   inner_moment inputs row next have fits next_fits =
       let count_i : length inputs ≡ length shape.inputs = have.count ∙ length-map shape.inputs (λ (one : NameWidth). one.width) in
@@ -170,7 +170,7 @@ module _ (shape : Shape) (few : length (variables shape) ≤ 2 ^ 32) where
             (fine_known Input 0 shape.inputs inputs have few_inputs) (fine_known Register 0 shape.registers row.regs fits.values few_registers) (fine_flags 0 shape.rules next.fired few_rules);
       }
 
-  last_moment : (row : Row) → RowFits shape.registers shape.rules row → IsMoment (variables shape) (last_levels shape row.regs)
+  last_moment : (row : Row) → RowMatches shape.registers shape.rules row → IsMoment (variables shape) (last_levels shape row.regs)
   last_moment row fits =
       let count_r : length row.regs ≡ length shape.registers = fits.values.count ∙ length-map shape.registers (λ (one : NameWidth). one.width) in
       record {
@@ -180,7 +180,7 @@ module _ (shape : Shape) (few : length (variables shape) ≤ 2 ^ 32) where
             (fine_unknown Rule 0 (map of_rule shape.rules) (length shape.rules) (omega (arith, few_rules, length-map shape.rules of_rule)));
       }
 
-  are_moments : (inputs : InputsByCycle) (cycle : ℕ) (rows : List Row) → ((c : ℕ) → HaveWidths (widths_of shape.inputs) (inputs c)) → RowsFit shape rows → AllByRecursion (IsMoment (variables shape)) (moments shape inputs cycle rows)
+  are_moments : (inputs : InputsByCycle) (cycle : ℕ) (rows : List Row) → ((c : ℕ) → HaveWidths (widths_of shape.inputs) (inputs c)) → RowsMatch shape rows → AllByRecursion (IsMoment (variables shape)) (moments shape inputs cycle rows)
   are_moments inputs cycle [] have fit = tt
   are_moments inputs cycle (row ∷ []) have fit = (last_moment row fit.0, tt)
   are_moments inputs cycle (row ∷ next ∷ rows) have fit =

@@ -6,7 +6,7 @@ use Rattle.std.specs.Str.Parse.{digits_value}
 use Rattle.typed_core.specs.Widths.{HaveWidths}
 use Rattle.one_rule.specs.Run.{InputsByCycle}
 use Rattle.one_rule.specs.declared.rows.Row.{Row}
-use Rattle.stim_report.specs.Shapes.{RowsFit, widths_of}
+use Rattle.stim_report.specs.Shapes.{RowsMatch, widths_of}
 use Rattle.stim_report.specs.declared.shape.Shape.{Shape}
 use Rattle.wave_text.specs.Waves.{body, code, moments, variables}
 use Rattle.wave_text.specs.declared.level.Level.{Level}
@@ -79,7 +79,7 @@ value_at text code at = value_by code at None (slice_split (λ b. b == 10) text)
 
 -- a run of a system of this shape, with inputs that fit it, of at most 2^32 rows and variables
 pub record IsRun (shape : Shape) (inputs : InputsByCycle) (rows : List Row) : Type 0 where
-  pub rows_fit : RowsFit shape rows
+  pub rows_fit : RowsMatch shape rows
   pub inputs_fit : (cycle : ℕ) → HaveWidths (widths_of shape.inputs) (inputs cycle)
   pub few_rows : length rows ≤ 2 ^ 32
   pub few_variables : length (variables shape) ≤ 2 ^ 32

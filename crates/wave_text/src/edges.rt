@@ -2,7 +2,7 @@
 
 ghost use Rattle.std.specs.Prelude.{◌≡◌, ◌++◌, ◌+◌, ◌≤◌, ◌^◌, length, IfOk, OnOk};
 ghost use Rattle.one_rule.specs.Stimulus.{inputs_of};
-ghost use Rattle.stim_report.specs.Shapes.{RowsFit, widths_of};
+ghost use Rattle.stim_report.specs.Shapes.{RowsMatch, widths_of};
 ghost use Rattle.wave_text.specs.Parts.{last_of, moments_before_last};
 ghost use Rattle.wave_text.specs.Waves as texts;
 
@@ -92,7 +92,7 @@ pub(crate) fn edges(
     requires inputs { stimulus.now.widths ≡ widths_of shape.now.inputs }
     requires some { 1 ≤ length rows.now }
     requires few { cycle + length rows.now ≤ 2 ^ 32 }
-    requires rows { RowsFit shape.now rows.now }
+    requires rows { RowsMatch shape.now rows.now }
     ensures text { IfOk result (λ written. written.text ≡ texts.edges (texts.variables shape.now) cycle before.now
         (moments_before_last (inputs_of stimulus.now) cycle rows.now)) }
     ensures levels { IfOk result (λ written. written.levels ≡ last_of before.now

@@ -6,7 +6,7 @@ ghost use Rattle.wave_text.specs.Waves as texts;
 
 use kw_bits::{NoMemory, Sequence, Text};
 use std::alloc::Global;
-use stim_report::{NameWidth, Shape};
+use stim_report::{NameWidth, Shape, try_map};
 
 /// What a variable shows.
 #[derive(Clone, Copy, Debug)]
@@ -64,12 +64,11 @@ pub(crate) fn variables(alloc: Global, shape: &Shape) -> Result<Sequence<Variabl
 pub(crate) fn named_rules(alloc: Global, rules: &[Text]) -> Result<Sequence<NameWidth>, NoMemory>
     ensures { IfOk result (λ named. named ≡ map texts.of_rule rules.now) }
 {
-    let mut named = Sequence::new(alloc);
-    for rule in rules {
-        let name = Text::from_slice(alloc, rule.as_slice())?;
-        named.push(NameWidth { name, width: 1 })?;
-    }
-    Ok(named)
+    try_map(
+        alloc,
+        rules,
+        |rule| NameWidth::of(alloc, rule.as_slice(), 1),
+    )
 }
 
 // Adds the variables of these names and widths, numbered from 0.

@@ -4,7 +4,7 @@ ghost use Rattle.std.specs.Prelude.{◌≡◌, ◌+◌, ◌≤◌, ◌^◌, List
 ghost use Rattle.one_rule.specs.Run.{InputsByCycle};
 ghost use Rattle.one_rule.specs.Stimulus.{inputs_of};
 ghost use Rattle.one_rule.specs.declared.rows.Row.{Row as RowOf};
-ghost use Rattle.stim_report.specs.Shapes.{RowsFit, widths_of};
+ghost use Rattle.stim_report.specs.Shapes.{RowsMatch, widths_of};
 ghost use Rattle.wave_text.specs.Parts as parts;
 ghost use Rattle.wave_text.specs.Parts.{GoesOn, TakesRows, progress};
 ghost use Rattle.wave_text.specs.Waves as texts;
@@ -61,7 +61,7 @@ impl Waves {
         requires fits { length self.old.levels ≡ length (texts.variables shape.now) }
         requires some { 1 ≤ length rows.now }
         requires few { self.old.cycle + length rows.now ≤ 2 ^ 32 }
-        requires rows { RowsFit shape.now rows.now }
+        requires rows { RowsMatch shape.now rows.now }
         requires inputs { stimulus.now.widths ≡ widths_of shape.now.inputs }
         ensures takes { IfOk result (λ text. (before : List RowOf)
             → self.old ≡ progress shape.now (inputs_of stimulus.now) before → GoesOn before rows.now

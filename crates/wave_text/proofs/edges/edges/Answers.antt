@@ -1,6 +1,6 @@
 use Rattle.std.proofs.Common.{◌+◌, ◌<◌, ◌++◌, length, ap, sym, ◌∙◌, arith}
 use Rattle.one_rule.specs.Stimulus.{inputs_of}
-use Rattle.stim_report.specs.Shapes.{RowFits}
+use Rattle.stim_report.specs.Shapes.{RowMatches}
 use Rattle.wave_text.specs.Parts.{last_of}
 use Rattle.wave_text.specs.Waves as texts
 use Rattle.wave_text.specs.Waves.{variables}
@@ -36,7 +36,7 @@ loop-number-preserved c =
       last = last_more inputs rows c.args.cycle i row.result next.result h row.is next.is c.loop-number.last c.in_ok-now.now is _ c.loop-number.invariant.last;
       count = count_levels c.args.shape.now c.args.stimulus.now.widths c.in_ok-inputs.inputs rows i row.result next.result h row.is next.is c.loop-number.invariant.fit c.requires.inputs c.in_ok-inputs.ensures.fits
           c.in_ok-now.now given;
-      fit = rest_fits (RowFits c.args.shape.now.registers c.args.shape.now.rules) rows i row.result (omega (arith, h)) c.loop-number.invariant.fit;
+      fit = rest_fits (RowMatches c.args.shape.now.registers c.args.shape.now.rules) rows i row.result (omega (arith, h)) c.loop-number.invariant.fit;
     }
 
 pub returns-clause-text : goal.returns-clause-text

@@ -1,6 +1,6 @@
 use Rattle.std.proofs.Common.{◌≡◌, ◌+◌, ◌++◌, drop, length}
 use Rattle.one_rule.specs.Stimulus.{inputs_of}
-use Rattle.stim_report.specs.Shapes.{RowsFit}
+use Rattle.stim_report.specs.Shapes.{RowsMatch}
 use Rattle.wave_text.specs.Parts.{last_of, moments_before_last}
 use Rattle.wave_text.specs.Waves as texts
 use Rattle.wave_text.specs.Waves.{variables}
@@ -14,5 +14,5 @@ invariant-loop-number l =
       written : l.text ++ texts.edges (variables l.shape) (l.cycle + l.number) l.last left ≡ texts.edges (variables l.shape) l.cycle l.before all;
       last : last_of l.last left ≡ last_of l.before all;
       count : length l.last ≡ length (variables l.shape);
-      fit : RowsFit l.shape (drop l.number l.rows);
+      fit : RowsMatch l.shape (drop l.number l.rows);
     }
